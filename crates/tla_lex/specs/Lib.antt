@@ -1,0 +1,16 @@
+pub mod Codes
+pub mod Bytes
+pub mod Places
+pub mod Gap
+pub mod GapSize
+pub mod Words
+pub mod Symbols
+pub mod Longest
+pub mod Strings
+pub mod Lexeme
+pub mod LexemeSize
+pub mod Reads
+pub mod FrontSize
+pub mod Module
+pub mod RegionSize
+pub mod Tokens

@@ -1,0 +1,70 @@
+//! Refusals of a text.
+
+ghost use Rattle.std.specs.Prelude.{◌≡◌, Some};
+ghost use Rattle.tla_lex.specs.Codes.{code_name};
+
+use crate::token::Place;
+
+/// What is wrong with a text.
+#[derive(Clone, Copy, Debug, PartialEq, Eq)]
+pub enum LexCode {
+    /// L1: the text is not UTF-8.
+    NotUtf8,
+    /// L2: a character that begins no token, a run of digits and `_` that is none, or an unknown escape.
+    Unknown,
+    /// L3: a string that its line does not close.
+    OpenString,
+    /// L4: a comment that stays open.
+    OpenComment,
+    /// L5: a number above 9223372036854775807.
+    NumberTooLarge,
+    /// L6: a module without a header.
+    NoHeader,
+    /// L7: a module without a closing line.
+    NoClosingLine,
+    /// L8: want of memory.
+    NoMemory,
+}
+
+impl LexCode {
+    /// The code in a report, as `L1`.
+    pub fn name(self) -> &'static str
+        ensures { result.now ≡ code_name self }
+    {
+        match self {
+            LexCode::NotUtf8 => "L1",
+            LexCode::Unknown => "L2",
+            LexCode::OpenString => "L3",
+            LexCode::OpenComment => "L4",
+            LexCode::NumberTooLarge => "L5",
+            LexCode::NoHeader => "L6",
+            LexCode::NoClosingLine => "L7",
+            LexCode::NoMemory => "L8",
+        }
+    }
+}
+
+/// A fault of a text, and where it stands: nowhere for want of memory.
+#[derive(Clone, Copy, Debug, PartialEq, Eq)]
+pub struct LexError {
+    pub code: LexCode,
+    pub place: Option<Place>,
+}
+
+impl LexError {
+    /// Want of memory.
+    pub const NO_MEMORY: LexError = LexError {
+        code: LexCode::NoMemory,
+        place: None,
+    };
+
+    /// A fault at a place.
+    pub fn at(code: LexCode, place: Place) -> LexError
+        ensures { result ≡ record { code = code; place = Some place } }
+    {
+        LexError {
+            code,
+            place: Some(place),
+        }
+    }
+}

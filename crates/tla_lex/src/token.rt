@@ -1,0 +1,207 @@
+//! Tokens, with their kinds and places.
+
+/// A line and a column, both from 1. A column counts characters, and a tab leads to the next column of the form 8n + 1.
+#[derive(Clone, Copy, Debug, PartialEq, Eq)]
+pub struct Place {
+    pub line: u64,
+    pub column: u128,
+}
+
+impl Place {
+    /// The place of the first byte.
+    pub const FIRST: Place = Place { line: 1, column: 1 };
+}
+
+/// A token: its kind, its slice of the text in bytes, from `start` up to `end`, and the place of its first character.
+#[derive(Clone, Copy, Debug, PartialEq, Eq)]
+pub struct Token {
+    pub kind: Kind,
+    pub start: usize,
+    pub end: usize,
+    pub place: Place,
+}
+
+/// What a token is. Spellings that mean the same are one kind.
+#[derive(Clone, Copy, Debug, PartialEq, Eq)]
+pub enum Kind {
+    /// An identifier, which is no reserved word.
+    Name,
+    /// Digits of a module, with their value, at most 9223372036854775807.
+    Number(u64),
+    /// Digits of a configuration, of any length.
+    Digits,
+    /// A string, with its quotes.
+    Text,
+    /// `_`
+    Underscore,
+    /// Four or more dashes.
+    Separator,
+    /// The closing line of a module, four or more `=`.
+    Closing,
+    /// `WF_`
+    WeakFairness,
+    /// `SF_`
+    StrongFairness,
+
+    // Brackets and punctuation.
+    /// `(`
+    LeftParen,
+    /// `)`
+    RightParen,
+    /// `[`
+    LeftBracket,
+    /// `]`
+    RightBracket,
+    /// `]_`
+    RightBracketSubscript,
+    /// `{`
+    LeftBrace,
+    /// `}`
+    RightBrace,
+    /// `<<`
+    LeftTuple,
+    /// `>>`
+    RightTuple,
+    /// `>>_`
+    RightTupleSubscript,
+    /// `,`
+    Comma,
+    /// `:`
+    Colon,
+    /// `.`
+    Dot,
+    /// `!`
+    Bang,
+    /// `@`
+    At,
+    /// `'`
+    Prime,
+    /// `==`
+    Define,
+    /// `|->`
+    MapsTo,
+    /// `->`
+    Arrow,
+    /// `<-`
+    Substitute,
+
+    // Operators.
+    /// `[]`
+    Box,
+    /// `<>`
+    Diamond,
+    /// `~>`
+    LeadsTo,
+    /// `=>`
+    Implies,
+    /// `<=>`, `\equiv`
+    Equivalent,
+    /// `/\`, `\land`
+    And,
+    /// `\/`, `\lor`
+    Or,
+    /// `~`, `\lnot`, `\neg`
+    Not,
+    /// `=`
+    Equal,
+    /// `#`, `/=`
+    NotEqual,
+    /// `<`
+    Less,
+    /// `>`
+    Greater,
+    /// `<=`, `=<`, `\leq`
+    AtMost,
+    /// `>=`, `\geq`
+    AtLeast,
+    /// `\in`
+    Member,
+    /// `\notin`
+    NotMember,
+    /// `\subseteq`
+    SubsetEqual,
+    /// `\cup`, `\union`
+    Cup,
+    /// `\cap`, `\intersect`
+    Cap,
+    /// `\`
+    Difference,
+    /// `\X`, `\times`
+    Product,
+    /// `@@`
+    Override,
+    /// `:>`
+    Pair,
+    /// `..`
+    Range,
+    /// `+`
+    Plus,
+    /// `-`
+    Minus,
+    /// `*`
+    Times,
+    /// `\div`
+    Quotient,
+    /// `%`
+    Remainder,
+    /// `^`
+    Power,
+    /// `\o`, `\circ`
+    Concatenation,
+    /// `\A`
+    ForAll,
+    /// `\E`
+    Exists,
+
+    // Operators that are left out of the language.
+    /// `\AA`
+    TemporalForAll,
+    /// `\EE`
+    TemporalExists,
+    /// `\cdot`
+    Composition,
+    /// `--`
+    MinusMinus,
+    /// `-+->`
+    Guarantees,
+
+    // Reserved words.
+    /// `ASSUME`, `ASSUMPTION`, `AXIOM`
+    Assume,
+    Boolean,
+    Case,
+    Choose,
+    /// `CONSTANT`, `CONSTANTS`
+    Constant,
+    Domain,
+    Else,
+    Except,
+    Extends,
+    False,
+    If,
+    In,
+    Let,
+    Local,
+    Module,
+    Other,
+    String,
+    Subset,
+    Then,
+    Theorem,
+    True,
+    Unchanged,
+    Union,
+    /// `VARIABLE`, `VARIABLES`
+    Variable,
+
+    // Reserved words that are left out of the language.
+    Enabled,
+    Instance,
+    Lambda,
+    Recursive,
+    With,
+    Proof,
+    By,
+    Obvious,
+    Omitted,
+}
