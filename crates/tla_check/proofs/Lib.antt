@@ -1,0 +1,6 @@
+pub mod EntryLemmas
+pub mod ChainLemmas
+pub mod LineLemmas
+pub mod InputLemmas
+mod Lines
+mod Joins

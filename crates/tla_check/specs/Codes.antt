@@ -1,0 +1,60 @@
+-- The codes of refusals and faults. They are this project's own choice.
+use Rattle.std.specs.Prelude.{ℕ, Bool, true, false, List, codes}
+use Rattle.tla_check.specs.declared.checked.RefusalCode.{RefusalCode}
+use Rattle.tla_check.specs.declared.checked.RefusalCode.TheVariants as refusal
+use Rattle.tla_eval.specs.declared.fault.FaultCode.{FaultCode}
+use Rattle.tla_eval.specs.declared.fault.FaultCode.TheVariants as fault
+
+-- the codes whose refusal names something
+abbrev pub is_named_code : RefusalCode → Bool
+is_named_code refusal.FormLeftOut = true
+is_named_code refusal.UnknownName = true
+is_named_code refusal.DefinedTwice = true
+is_named_code refusal.ArgumentCount = true
+is_named_code refusal.ConstantWithoutValue = true
+is_named_code refusal.CircularReplacement = true
+is_named_code refusal.StatementLeftOut = true
+is_named_code _ = false
+
+abbrev pub refusal_code : RefusalCode → List ℕ
+refusal_code refusal.NotUtf8 = codes "L1"
+refusal_code refusal.UnknownCharacter = codes "L2"
+refusal_code refusal.OpenString = codes "L3"
+refusal_code refusal.OpenComment = codes "L4"
+refusal_code refusal.NumberTooLarge = codes "L5"
+refusal_code refusal.NoHeader = codes "L6"
+refusal_code refusal.NoClosingLine = codes "L7"
+refusal_code refusal.UnexpectedToken = codes "P1"
+refusal_code refusal.PrecedenceConflict = codes "P2"
+refusal_code refusal.LeftOfJunction = codes "P3"
+refusal_code refusal.NestedTooDeep = codes "P4"
+refusal_code refusal.FormLeftOut = codes "P5"
+refusal_code refusal.ConfigurationText = codes "C1"
+refusal_code refusal.UnknownName = codes "C2"
+refusal_code refusal.DefinedTwice = codes "C3"
+refusal_code refusal.ArgumentCount = codes "C4"
+refusal_code refusal.Level = codes "C5"
+refusal_code refusal.ConstantWithoutValue = codes "C6"
+refusal_code refusal.CircularReplacement = codes "C7"
+refusal_code refusal.SpecificationForm = codes "C8"
+refusal_code refusal.BehaviourCount = codes "C9"
+refusal_code refusal.StatementLeftOut = codes "C10"
+refusal_code refusal.ExpansionTooLarge = codes "C11"
+
+abbrev pub fault_code : FaultCode → List ℕ
+fault_code fault.WrongKind = codes "E1"
+fault_code fault.Overflow = codes "E2"
+fault_code fault.SmallDivisor = codes "E3"
+fault_code fault.NegativeExponent = codes "E4"
+fault_code fault.OutsideDomain = codes "E5"
+fault_code fault.NoField = codes "E6"
+fault_code fault.NoChoice = codes "E7"
+fault_code fault.NoArm = codes "E8"
+fault_code fault.Endless = codes "E9"
+fault_code fault.TooMany = codes "E10"
+fault_code fault.TooDeep = codes "E11"
+fault_code fault.EmptySequence = codes "E12"
+fault_code fault.NotSet = codes "E13"
+fault_code fault.AssertFalse = codes "E14"
+fault_code fault.Lacking = codes "E15"
+fault_code fault.Memory = codes "E16"

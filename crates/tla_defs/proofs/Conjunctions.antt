@@ -1,0 +1,17 @@
+-- A conjunction in memory, and the one that it stands for.
+use Rattle.std.proofs.Common.{rules, ◌≡◌, map, refl, ap, Vec, Global}
+use Rattle.tla_eval.specs.declared.fault.Place.{Place}
+use Rattle.tla_eval.specs.declared.expression.Core.{Core, Row_of-Core, end_of-Core, more_of-Core, items-the_row-Core}
+use Rattle.tla_eval.specs.declared.expression.Core.TheViews as views
+use Rattle.tla_eval.specs.declared.expression.Core.TheViews.{the_lemmas}
+use Rattle.tla_eval.specs.Expr.{conjunction, more_exprs}
+use Rattle.tla_eval.specs.ExprOf.{expr_of, exprs_of}
+use Rattle.tla_defs.specs.Lists.{exprs}
+use mathlib.Core.Former.{Count}
+
+exprs_row : (n : Count) (row : Row_of-Core n) → exprs_of row ≡ exprs (map expr_of (items-the_row-Core n row))
+exprs_row n end_of-Core = refl
+exprs_row n (more_of-Core e rest) = ap (λ x. more_exprs (expr_of e) x) (exprs_row _ rest)
+
+pub expr_conjunction : (at : Place) (parts : Vec Core Global) → expr_of (views.Conjunction at parts) ≡ conjunction at (exprs (map expr_of parts.items))
+expr_conjunction at parts = search (rules, the_lemmas, exprs_row)

@@ -1,0 +1,17 @@
+use Rattle.tla_defs.proofs.Worked as worked
+use Rattle.tla_defs.proofs.laws.models.Goals as goal
+
+pub returns-clause-counter_of_three : goal.returns-clause-counter_of_three
+returns-clause-counter_of_three c = worked.counter_of_three
+
+pub returns-clause-counter_of_five : goal.returns-clause-counter_of_five
+returns-clause-counter_of_five c = worked.counter_of_five
+
+pub returns-clause-bounded_steps : goal.returns-clause-bounded_steps
+returns-clause-bounded_steps c = worked.bounded_steps
+
+pub returns-clause-bounded_steps_may_end : goal.returns-clause-bounded_steps_may_end
+returns-clause-bounded_steps_may_end c = worked.bounded_steps_may_end
+
+pub returns-clause-largest_number : goal.returns-clause-largest_number
+returns-clause-largest_number c = worked.largest_number

@@ -1,0 +1,14 @@
+pub mod Maybe
+pub mod Names
+pub mod Statements
+pub mod Configuration
+pub mod Primes
+pub mod Size
+pub mod Operators
+pub mod Expand
+pub mod Known
+pub mod Model
+pub mod Laws
+pub mod Rows
+pub mod Lists
+pub mod Gives

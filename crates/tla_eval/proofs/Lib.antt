@@ -1,0 +1,13 @@
+pub mod Stays
+pub mod Stability
+pub mod Members
+pub mod TwoSets
+pub mod Products
+pub mod Records
+pub mod SetLaw
+pub mod Numbers
+pub mod Known
+pub mod Made
+pub mod Loops
+pub mod Parts
+pub mod Rows

@@ -1,0 +1,28 @@
+-- What a call that makes a set answers, as the value of an expression.
+use Rattle.std.proofs.Common.{◌≡◌, ◌⊎◌, ℕ, ◌<◌, ◌≤◌, List, length, Ok, Err, arith, inl, inr}
+use Rattle.std.proofs.lemmas.Bool.Decides.{nat_tests}
+use Rattle.tla_value.specs.Tree.{Tree, set, trees, deepest, members-trees}
+use Rattle.tla_value.specs.IsValue.{IsValue, IsSetList}
+use Rattle.tla_value.specs.Sets.{RefusesSet}
+use Rattle.tla_value.specs.declared.error.ValueError.{ValueError}
+use Rattle.tla_value.specs.declared.error.ValueError.TheVariants.{TooMany, TooDeep, Memory}
+use Rattle.tla_eval.specs.Fault.{Place, Fault, FaultCode, fault, out_of_memory}
+use Rattle.tla_eval.specs.Kinds.{within, rising_set}
+use Rattle.tla_eval.specs.Gives.{IsRefusal}
+
+pub within_many : (p : Place) (n d : ℕ) (t : Tree) → 1000000 < n → within p n d t ≡ fault FaultCode.TooMany p
+within_many p n d t many = grind (arith, nat_tests)
+
+pub within_deep : (p : Place) (n d : ℕ) (t : Tree) → n ≤ 1000000 → 64 ≤ d → within p n d t ≡ fault FaultCode.TooDeep p
+within_deep p n d t few deep = grind (arith, nat_tests)
+
+pub within_ok : (p : Place) (n d : ℕ) (t : Tree) → n ≤ 1000000 → d < 64 → within p n d t ≡ Ok t
+within_ok p n d t few shallow = grind (arith, nat_tests)
+
+pub set_made : (p : Place) (ts : List Tree) → IsValue (set (trees ts)) → rising_set p ts ≡ Ok (set (trees ts))
+set_made p ts h = let list : IsSetList ts = rw members-trees at h.1 in within_ok p (length ts) (deepest (trees ts)) (set (trees ts)) list.few list.shallow
+
+pub set_refused : (e : ValueError) (p : Place) (f : Fault) (ts : List Tree) → IsRefusal e p f → RefusesSet ts e → (f ≡ out_of_memory) ⊎ (rising_set p ts ≡ Err f)
+set_refused TooMany p f ts h r = inr (rw h (within_many p (length ts) (deepest (trees ts)) (set (trees ts)) r))
+set_refused TooDeep p f ts h r = inr (rw h (within_deep p (length ts) (deepest (trees ts)) (set (trees ts)) r.0 r.1))
+set_refused Memory p f ts h r = inl h

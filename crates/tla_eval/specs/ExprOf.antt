@@ -1,0 +1,76 @@
+-- The expression that a core stands for: its pointers forgotten, its values as trees.
+use Rattle.std.specs.Prelude.{List, [], ◌∷◌}
+use Rattle.tla_value.specs.TreeOf.{tree_of}
+use Rattle.tla_eval.specs.Meaning.{Meaning}
+use Rattle.tla_eval.specs.Value.{means}
+use Rattle.tla_eval.specs.Expr.{Expr, Exprs, constant, bound, now, next, unary, binary, equal, conjunction, disjunction, implies, conditional, assert, for_all, for_some, choose, member, not_member, subset, kind_set, booleans, cup, cap, no_exprs, more_exprs}
+use Rattle.tla_eval.specs.Expr as expr
+use Rattle.tla_eval.specs.declared.expression.Unary.{Unary}
+use Rattle.tla_eval.specs.declared.expression.Unary.TheVariants.{Not, Negate, IsFinite, Cardinality}
+use Rattle.tla_eval.specs.declared.expression.Binary.{Binary}
+use Rattle.tla_eval.specs.declared.expression.Binary.TheVariants.{Iff, Unequal, Add, Subtract, Multiply, Divide, Modulo, Power, LessThan, GreaterThan, AtMost, AtLeast}
+use Rattle.tla_eval.specs.declared.expression.Kind.{Kind}
+use Rattle.tla_eval.specs.declared.expression.Kind.TheVariants.{Naturals, Integers, Strings}
+use Rattle.tla_eval.specs.declared.expression.Core.{Core, Row_of-Core, end_of-Core, more_of-Core}
+use Rattle.tla_eval.specs.declared.expression.Core.TheVariants.{Constant, Bound, Now, Next, Unary', Binary', Apply', Equal', Conjunction', Disjunction', Implies', If', Assert', ForAll', ForSome', Choose', Member', NotMember', Subset', KindSet, Booleans, Cup', Cap'}
+
+-- the operators
+abbrev pub unary_of : Unary → expr.Unary
+unary_of Not = expr.Not
+unary_of Negate = expr.Negate
+unary_of IsFinite = expr.IsFinite
+unary_of Cardinality = expr.Cardinality
+
+abbrev pub binary_of : Binary → expr.Binary
+binary_of Iff = expr.Iff
+binary_of Unequal = expr.Unequal
+binary_of Add = expr.Add
+binary_of Subtract = expr.Subtract
+binary_of Multiply = expr.Multiply
+binary_of Divide = expr.Divide
+binary_of Modulo = expr.Modulo
+binary_of Power = expr.Power
+binary_of LessThan = expr.LessThan
+binary_of GreaterThan = expr.GreaterThan
+binary_of AtMost = expr.AtMost
+binary_of AtLeast = expr.AtLeast
+
+abbrev pub kind_of : Kind → expr.Kind
+kind_of Naturals = expr.Naturals
+kind_of Integers = expr.Integers
+kind_of Strings = expr.Strings
+
+abbrev mutual
+  pub expr_of : Core → Expr
+  expr_of (Constant at v) = constant at (tree_of v)
+  expr_of (Bound at i) = bound at i
+  expr_of (Now at i) = now at i
+  expr_of (Next at i) = next at i
+  expr_of (Unary' at op _ a) = unary at (unary_of op) (expr_of a)
+  expr_of (Binary' at op _ a _ c) = binary at (binary_of op) (expr_of a) (expr_of c)
+  expr_of (Apply' at _ a _ c) = binary at expr.Apply (expr_of a) (expr_of c)
+  expr_of (Equal' at _ a _ c) = equal at (expr_of a) (expr_of c)
+  expr_of (Conjunction' at _ parts) = conjunction at (exprs_of parts)
+  expr_of (Disjunction' at _ parts) = disjunction at (exprs_of parts)
+  expr_of (Implies' at _ a _ c) = implies at (expr_of a) (expr_of c)
+  expr_of (If' at _ a _ c _ d) = conditional at (expr_of a) (expr_of c) (expr_of d)
+  expr_of (Assert' at _ a _ c) = assert at (expr_of a) (expr_of c)
+  expr_of (ForAll' at _ a _ e) = for_all at (expr_of a) (expr_of e)
+  expr_of (ForSome' at _ a _ e) = for_some at (expr_of a) (expr_of e)
+  expr_of (Choose' at _ a _ e) = choose at (expr_of a) (expr_of e)
+  expr_of (Member' at _ a _ c) = member at (expr_of a) (expr_of c)
+  expr_of (NotMember' at _ a _ c) = not_member at (expr_of a) (expr_of c)
+  expr_of (Subset' at _ a _ c) = subset at (expr_of a) (expr_of c)
+  expr_of (KindSet at k) = kind_set at (kind_of k)
+  expr_of (Booleans at) = booleans at
+  expr_of (Cup' at _ a _ c) = cup at (expr_of a) (expr_of c)
+  expr_of (Cap' at _ a _ c) = cap at (expr_of a) (expr_of c)
+
+  pub exprs_of : {m : _} → Row_of-Core m → Exprs
+  exprs_of end_of-Core = no_exprs
+  exprs_of (more_of-Core e rest) = more_exprs (expr_of e) (exprs_of rest)
+
+-- what the parts of a list mean
+abbrev pub parts_of_cores : List Core → List Meaning
+parts_of_cores [] = []
+parts_of_cores (c ∷ cs) = means (expr_of c) ∷ parts_of_cores cs

@@ -1,0 +1,45 @@
+-- What a call answers: the value or the fault that the definition gives, unless memory ran out. (This project's own choice.)
+use Rattle.std.specs.Prelude.{◌≡◌, Bool, ◌⊎◌, ℤ, Some, None, Result, Ok, Err}
+use Rattle.tla_value.specs.Tree.{Tree}
+use Rattle.tla_value.specs.TreeOf.{tree_of}
+use Rattle.tla_value.specs.declared.value.Value.{Value}
+use Rattle.std.proofs.Common.{Bor}
+use Rattle.tla_value.specs.Sets.{is_member}
+use Rattle.tla_value.specs.declared.error.ValueError.{ValueError}
+use Rattle.tla_value.specs.declared.error.ValueError.TheVariants.{TooMany, TooDeep, Memory}
+use Rattle.tla_eval.specs.Fault.{Place, Fault, FaultCode, Outcome, ◌>>=◌, out_of_memory}
+use Rattle.tla_eval.specs.Kinds.{as_int, as_set}
+
+abbrev pub GivesBy : {X A : Type 0} → (X → A) → Result X Fault → Outcome A → Type 0
+GivesBy view (Ok x) o = o ≡ Ok (view x)
+GivesBy view (Err f) o = (f ≡ out_of_memory) ⊎ (o ≡ Err f)
+
+-- a value, and a truth value
+abbrev pub Gives : Result Value Fault → Outcome Tree → Type 0
+Gives r o = GivesBy tree_of r o
+
+abbrev pub GivesTruth : Result Bool Fault → Outcome Bool → Type 0
+GivesTruth r o = GivesBy (λ (b : Bool). b) r o
+
+-- a value that is lent
+abbrev pub GivesBorrowed : Result (Bor Value) Fault → Outcome Tree → Type 0
+GivesBorrowed r o = GivesBy (λ (v : Bor Value). tree_of v.now) r o
+
+-- two values that are numbers
+abbrev pub two_ints : Place → Tree → Tree → Outcome (ℤ × ℤ)
+two_ints p x y = do
+  a ← as_int p x
+  b ← as_int p y
+  Ok (a, b)
+
+-- whether a value that is a set has a member
+abbrev pub contains_rule : Place → Tree → Tree → Outcome Bool
+contains_rule p x v = do
+  xs ← as_set p x
+  Ok (is_member v xs)
+
+-- the fault for a limit that a value would pass
+abbrev pub IsRefusal : ValueError → Place → Fault → Type 0
+IsRefusal TooMany p f = f ≡ record { code = FaultCode.TooMany; place = Some p; variable = None }
+IsRefusal TooDeep p f = f ≡ record { code = FaultCode.TooDeep; place = Some p; variable = None }
+IsRefusal Memory p f = f ≡ out_of_memory

@@ -1,0 +1,129 @@
+//! What an expression is evaluated in, and values that are borrowed or owned.
+ghost use Rattle.std.specs.Prelude.{◌≡◌, ◌≤◌, length, IfOk, IfErr, Ok, Some, false, get_or, option_map, slice_get};
+ghost use Rattle.tla_value.specs.Tree.{truth};
+ghost use Rattle.tla_value.specs.TreeOf.{tree_of};
+ghost use Rattle.tla_eval.specs.Meaning.{if_set, variable_of};
+ghost use Rattle.tla_eval.specs.Environment.{bound_of, tree_of_evaluated, Evaluates};
+
+use crate::fault::{Fault, FaultCode, Place};
+use crate::partial::Partial;
+use crate::rules::{copied, fault_at};
+use std::alloc::Global;
+use tla_value::{State, Value};
+
+/// The values of the bound names: those of the caller, and then one for each form that binds.
+#[derive(Clone, Copy)]
+pub(crate) enum Scope<'a> {
+    Outer(&'a [Value]),
+    Inner(&'a Scope<'a>, &'a Value),
+}
+
+/// The values of the bound names and of the variables.
+#[derive(Clone, Copy)]
+pub(crate) struct Environment<'a> {
+    pub(crate) scope: &'a Scope<'a>,
+    pub(crate) now: Option<&'a State>,
+    pub(crate) next: &'a Partial,
+}
+
+/// A value that stands in the expression or its environment, or one that was made.
+#[derive(Drop)]
+pub(crate) enum Evaluated<'a> {
+    Borrowed(&'a Value),
+    Owned(Value),
+}
+
+impl<'a> Evaluated<'a> {
+    ghost use Rattle.tla_eval.specs.Gives.{Gives};
+
+    /// A truth value.
+    pub(crate) fn truth(holds: bool) -> Evaluated<'a>
+        ensures { tree_of_evaluated result ≡ truth holds }
+    {
+        Evaluated::Owned(Value::Truth(holds))
+    }
+
+    /// The value.
+    pub(crate) fn value(&self) -> &Value
+        ensures { tree_of result.now ≡ tree_of_evaluated self.now }
+    {
+        match self {
+            Evaluated::Borrowed(value) => value,
+            Evaluated::Owned(value) => value,
+        }
+    }
+
+    /// The value, copied where it was borrowed.
+    pub(crate) fn into_value(self, alloc: Global) -> Result<Value, Fault>
+        ensures { Gives result (Ok (tree_of_evaluated self.entry)) }
+    {
+        match self {
+            Evaluated::Borrowed(value) => copied(alloc, value),
+            Evaluated::Owned(value) => Ok(value),
+        }
+    }
+}
+
+/// The value of a bound name, or how many names are bound.
+fn bound_name<'a>(scope: &'a Scope<'a>, index: usize) -> Result<&'a Value, usize>
+    ensures found { IfOk result (λ v. slice_get (bound_of scope.entry.now) index ≡ Some (tree_of v.now)) }
+    ensures absent { IfErr result (λ n. (n ≡ length (bound_of scope.entry.now)) × (n ≤ index)) }
+{
+    match scope {
+        Scope::Outer(values) => match values.get(index) {
+            Some(value) => Ok(value),
+            None => Err(values.len()),
+        },
+        Scope::Inner(outer, value) => match bound_name(outer, index) {
+            Ok(value) => Ok(value),
+            Err(count) => {
+                if count == index {
+                    Ok(value)
+                } else {
+                    Err(count + 1)
+                }
+            }
+        },
+    }
+}
+
+/// The value of a bound name; FALSE for one that isn't there.
+pub(crate) fn bound_value<'a>(scope: &'a Scope<'a>, index: usize) -> Evaluated<'a>
+    ensures { tree_of_evaluated result ≡ get_or (bound_of scope.entry.now) index (truth false) }
+{
+    match bound_name(scope, index) {
+        Ok(value) => Evaluated::Borrowed(value),
+        Err(_) => Evaluated::Owned(Value::Truth(false)),
+    }
+}
+
+/// The present value of a variable; FALSE for one that isn't there.
+pub(crate) fn now_value<'a>(now: Option<&'a State>, variable: usize) -> Evaluated<'a>
+    ensures { tree_of_evaluated result ≡ variable_of (option_map (λ s. s.now) now.entry) variable }
+{
+    match now {
+        Some(state) => match state.values().get(variable) {
+            Some(value) => Evaluated::Borrowed(value),
+            None => Evaluated::Owned(Value::Truth(false)),
+        },
+        None => Evaluated::Owned(Value::Truth(false)),
+    }
+}
+
+/// The next value of a variable, where it is set.
+pub(crate) fn next_value<'a>(
+    place: Place,
+    next: &'a Partial,
+    variable: usize,
+) -> Result<Evaluated<'a>, Fault>
+    ensures { Evaluates result (if_set place (slice_get next.now variable)) }
+{
+    if variable < next.variables() {
+        match next.get(variable) {
+            Some(value) => Ok(Evaluated::Borrowed(value)),
+            None => Err(fault_at(FaultCode::NotSet, place)),
+        }
+    } else {
+        Err(fault_at(FaultCode::NotSet, place))
+    }
+}

@@ -1,0 +1,130 @@
+//! Expressions after expansion.
+ghost use Rattle.std.specs.Prelude.{◌≡◌};
+
+use crate::fault::Place;
+use tla_value::Value;
+
+/// An operator on one value.
+#[derive(Clone, Copy, Debug, PartialEq, Eq)]
+pub enum Unary {
+    /// `~`
+    Not,
+    /// prefix `-`
+    Negate,
+    IsFinite,
+    Cardinality,
+}
+
+/// An operator on two values.
+#[derive(Clone, Copy, Debug, PartialEq, Eq)]
+pub enum Binary {
+    /// `<=>`
+    Iff,
+    /// `#`
+    Unequal,
+    Add,
+    Subtract,
+    Multiply,
+    /// `\div`
+    Divide,
+    /// `%`
+    Modulo,
+    /// `^`
+    Power,
+    LessThan,
+    GreaterThan,
+    /// `<=`
+    AtMost,
+    /// `>=`
+    AtLeast,
+}
+
+/// A set that is known by the kind of its members.
+#[derive(Clone, Copy, Debug, PartialEq, Eq)]
+pub enum Kind {
+    /// `Nat`
+    Naturals,
+    /// `Int`
+    Integers,
+    /// `STRING`
+    Strings,
+}
+
+/// An expression in which definitions are expanded and primes are pushed down to the variables.
+/// Each node has the place of the first token of the expression that it stands for.
+#[derive(Drop)]
+pub enum Core {
+    Constant(Place, Value),
+    /// A bound name. The outermost is 0.
+    Bound(Place, usize),
+    /// A variable's present value.
+    Now(Place, usize),
+    /// A variable's next value.
+    Next(Place, usize),
+    Unary(Place, Unary, Box<Core>),
+    Binary(Place, Binary, Box<Core>, Box<Core>),
+    /// `f[e]`
+    Apply(Place, Box<Core>, Box<Core>),
+    Equal(Place, Box<Core>, Box<Core>),
+    /// `/\`, and a list of its bullets
+    Conjunction(Place, Vec<Core>),
+    /// `\/`, and a list of its bullets
+    Disjunction(Place, Vec<Core>),
+    Implies(Place, Box<Core>, Box<Core>),
+    /// The condition, and the arms for TRUE and FALSE.
+    If(Place, Box<Core>, Box<Core>, Box<Core>),
+    /// The condition, and the message.
+    Assert(Place, Box<Core>, Box<Core>),
+    /// The set, and the body, in which the element is the next bound name.
+    ForAll(Place, Box<Core>, Box<Core>),
+    ForSome(Place, Box<Core>, Box<Core>),
+    Choose(Place, Box<Core>, Box<Core>),
+    /// The element, and the set.
+    Member(Place, Box<Core>, Box<Core>),
+    NotMember(Place, Box<Core>, Box<Core>),
+    /// `\subseteq`
+    Subset(Place, Box<Core>, Box<Core>),
+    KindSet(Place, Kind),
+    /// `BOOLEAN`
+    Booleans(Place),
+    /// `\cup`
+    Cup(Place, Box<Core>, Box<Core>),
+    /// `\cap`
+    Cap(Place, Box<Core>, Box<Core>),
+}
+
+impl Core {
+    ghost use Rattle.tla_eval.specs.Value.{means};
+    ghost use Rattle.tla_eval.specs.ExprOf.{expr_of};
+
+    /// The place of the expression.
+    pub fn place(&self) -> Place
+        ensures { result ≡ (means (expr_of self.now)).place }
+    {
+        match self {
+            Core::Constant(place, _) => *place,
+            Core::Bound(place, _) => *place,
+            Core::Now(place, _) => *place,
+            Core::Next(place, _) => *place,
+            Core::Unary(place, _, _) => *place,
+            Core::Binary(place, _, _, _) => *place,
+            Core::Apply(place, _, _) => *place,
+            Core::Equal(place, _, _) => *place,
+            Core::Conjunction(place, _) => *place,
+            Core::Disjunction(place, _) => *place,
+            Core::Implies(place, _, _) => *place,
+            Core::If(place, _, _, _) => *place,
+            Core::Assert(place, _, _) => *place,
+            Core::ForAll(place, _, _) => *place,
+            Core::ForSome(place, _, _) => *place,
+            Core::Choose(place, _, _) => *place,
+            Core::Member(place, _, _) => *place,
+            Core::NotMember(place, _, _) => *place,
+            Core::Subset(place, _, _) => *place,
+            Core::KindSet(place, _) => *place,
+            Core::Booleans(place) => *place,
+            Core::Cup(place, _, _) => *place,
+            Core::Cap(place, _, _) => *place,
+        }
+    }
+}

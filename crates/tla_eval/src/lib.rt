@@ -1,0 +1,22 @@
+//! Expressions after expansion: their values, and membership in them.
+#![tactic(auto)]
+
+mod arithmetic;
+mod environment;
+mod evaluation;
+mod expression;
+mod fault;
+pub mod laws;
+mod names;
+mod operators;
+mod partial;
+mod rules;
+mod sets;
+
+pub use evaluation::{eval, member};
+pub use expression::{Binary, Core, Kind, Unary};
+pub use fault::{Fault, FaultCode, Place};
+pub use partial::Partial;
+
+#[cfg(test)]
+mod tests;

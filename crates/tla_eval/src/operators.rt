@@ -1,0 +1,193 @@
+//! What an operator gives of the values of its operands.
+ghost use Rattle.std.specs.Prelude.{◌≡◌, ℤ, pos, length};
+ghost use Rattle.tla_value.specs.TreeOf.{tree_of};
+ghost use Rattle.tla_eval.specs.Expr.{IsFinite, Cardinality, Iff, Apply};
+ghost use Rattle.tla_eval.specs.Kinds.{as_int};
+ghost use Rattle.tla_eval.specs.Operators.{unary_rule, binary_rule};
+ghost use Rattle.tla_eval.specs.ExprOf.{unary_of, binary_of, kind_of};
+ghost use Rattle.tla_eval.specs.Environment.{Evaluates, tree_of_evaluated};
+ghost use Rattle.tla_eval.specs.Membership.{is_of_kind, is_truth};
+ghost use Rattle.tla_eval.specs.Gives.{Gives, GivesBy, GivesBorrowed, two_ints};
+
+use crate::arithmetic::{add, divide, modulo, multiply, negate, power, subtract};
+use crate::environment::Evaluated;
+use crate::expression::{Binary, Kind, Unary};
+use crate::fault::{Fault, FaultCode, Place};
+use crate::rules::{as_truth, copied, fault_at};
+use std::alloc::Global;
+use tla_value::{SetValue, Value};
+
+/// An operator on one value.
+pub(crate) fn unary(place: Place, operator: Unary, operand: &Value) -> Result<Value, Fault>
+    ensures { Gives result (unary_rule (unary_of operator) place (tree_of operand.now)) }
+{
+    match operator {
+        Unary::Not => Ok(Value::Truth(!as_truth(operand, place)?)),
+        Unary::Negate => negate(place, as_int(place, operand)?),
+        Unary::IsFinite => is_finite(place, operand),
+        Unary::Cardinality => cardinality(place, operand),
+    }
+}
+
+/// The number that a value is.
+fn as_int(place: Place, operand: &Value) -> Result<i64, Fault>
+    ensures { GivesBy (λ (z : ℤ). z) result (as_int place (tree_of operand.now)) }
+{
+    match operand {
+        Value::Int(number) => Ok(*number),
+        _ => Err(fault_at(FaultCode::WrongKind, place)),
+    }
+}
+
+fn is_finite(place: Place, operand: &Value) -> Result<Value, Fault>
+    ensures { Gives result (unary_rule IsFinite place (tree_of operand.now)) }
+{
+    match operand {
+        Value::Set(_) => Ok(Value::Truth(true)),
+        _ => Err(fault_at(FaultCode::WrongKind, place)),
+    }
+}
+
+#[tactic(auto, using(crate::proofs::Known::as_set_known))]
+fn cardinality(place: Place, operand: &Value) -> Result<Value, Fault>
+    ensures { Gives result (unary_rule Cardinality place (tree_of operand.now)) }
+{
+    match operand {
+        Value::Set(set) => Ok(Value::Int(count_of(set))),
+        _ => Err(fault_at(FaultCode::WrongKind, place)),
+    }
+}
+
+/// How many members a set has.
+fn count_of(set: &SetValue) -> i64
+    ensures { result ≡ pos (length set.now) }
+{
+    set.items().len() as i64
+}
+
+/// An operator on two values.
+pub(crate) fn binary(
+    place: Place,
+    operator: Binary,
+    left: &Value,
+    right: &Value,
+) -> Result<Value, Fault>
+    ensures { Gives result (binary_rule (binary_of operator) place (tree_of left.now) (tree_of right.now)) }
+{
+    match operator {
+        Binary::Iff => iff(place, left, right),
+        Binary::Unequal => Ok(Value::Truth(left != right)),
+        Binary::Add => {
+            let (left, right) = two_ints(place, left, right)?;
+            add(place, left, right)
+        }
+        Binary::Subtract => {
+            let (left, right) = two_ints(place, left, right)?;
+            subtract(place, left, right)
+        }
+        Binary::Multiply => {
+            let (left, right) = two_ints(place, left, right)?;
+            multiply(place, left, right)
+        }
+        Binary::Divide => {
+            let (left, right) = two_ints(place, left, right)?;
+            divide(place, left, right)
+        }
+        Binary::Modulo => {
+            let (left, right) = two_ints(place, left, right)?;
+            modulo(place, left, right)
+        }
+        Binary::Power => {
+            let (left, right) = two_ints(place, left, right)?;
+            power(place, left, right)
+        }
+        Binary::LessThan => {
+            let (left, right) = two_ints(place, left, right)?;
+            Ok(Value::Truth(left < right))
+        }
+        Binary::GreaterThan => {
+            let (left, right) = two_ints(place, left, right)?;
+            Ok(Value::Truth(left > right))
+        }
+        Binary::AtMost => {
+            let (left, right) = two_ints(place, left, right)?;
+            Ok(Value::Truth(left <= right))
+        }
+        Binary::AtLeast => {
+            let (left, right) = two_ints(place, left, right)?;
+            Ok(Value::Truth(left >= right))
+        }
+    }
+}
+
+/// The numbers that two values are.
+fn two_ints(place: Place, left: &Value, right: &Value) -> Result<(i64, i64), Fault>
+    ensures { GivesBy (λ (n : ℤ × ℤ). n) result (two_ints place (tree_of left.now) (tree_of right.now)) }
+{
+    match (left, right) {
+        (Value::Int(left), Value::Int(right)) => Ok((*left, *right)),
+        (_, _) => Err(fault_at(FaultCode::WrongKind, place)),
+    }
+}
+
+fn iff(place: Place, left: &Value, right: &Value) -> Result<Value, Fault>
+    ensures { Gives result (binary_rule Iff place (tree_of left.now) (tree_of right.now)) }
+{
+    match (left, right) {
+        (Value::Truth(left), Value::Truth(right)) => Ok(Value::Truth(*left == *right)),
+        (_, _) => Err(fault_at(FaultCode::WrongKind, place)),
+    }
+}
+
+/// The value of a function at an argument.
+pub(crate) fn apply<'a>(
+    alloc: Global,
+    place: Place,
+    function: Evaluated<'a>,
+    argument: &Value,
+) -> Result<Evaluated<'a>, Fault>
+    ensures { Evaluates result (binary_rule Apply place (tree_of_evaluated function.entry) (tree_of argument.now)) }
+{
+    match function {
+        Evaluated::Borrowed(function) => Ok(Evaluated::Borrowed(value_at(
+            place, function, argument,
+        )?)),
+        Evaluated::Owned(function) => {
+            let value = value_at(place, &function, argument)?;
+            Ok(Evaluated::Owned(copied(alloc, value)?))
+        }
+    }
+}
+
+/// The value of a function at an argument, lent.
+#[tactic(auto, using(crate::proofs::Known::as_fun_known))]
+fn value_at<'a>(place: Place, function: &'a Value, argument: &Value) -> Result<&'a Value, Fault>
+    ensures { GivesBorrowed result (binary_rule Apply place (tree_of function.now) (tree_of argument.now)) }
+{
+    match function {
+        Value::Fun(fun) => match fun.apply(argument) {
+            Some(value) => Ok(value),
+            None => Err(fault_at(FaultCode::OutsideDomain, place)),
+        },
+        _ => Err(fault_at(FaultCode::WrongKind, place)),
+    }
+}
+
+/// Whether a value is of a kind.
+pub(crate) fn has_kind(kind: Kind, value: &Value) -> bool
+    ensures { result ≡ is_of_kind (kind_of kind) (tree_of value.now) }
+{
+    match (kind, value) {
+        (Kind::Naturals, Value::Int(number)) => *number >= 0,
+        (Kind::Integers, Value::Int(_)) => true,
+        (Kind::Strings, Value::Text(_)) => true,
+        (_, _) => false,
+    }
+}
+
+/// Whether a value is a truth value.
+pub(crate) fn is_truth(value: &Value) -> bool
+    ensures { result ≡ is_truth (tree_of value.now) }
+{
+    matches!(value, Value::Truth(_))
+}

@@ -1,0 +1,13 @@
+pub mod Classes
+pub mod Complete
+pub mod Deeper
+pub mod Follow
+pub mod Inversion
+pub mod Shapes
+pub mod Slices
+pub mod Sound
+pub mod Steps
+pub mod UnitsComplete
+pub mod UnitsSound
+pub mod UnitsSteps
+pub mod Whole

@@ -1,0 +1,113 @@
+-- How the readings of units go on, and stop.
+use Rattle.std.proofs.Common.{◌≡◌, ℕ, ◌+◌, max, Bool, true, false, not, ◌&&◌, ◌||◌, if◌then◌else◌, length, map, List, [], ◌∷◌, ◌++◌, Some, None, Ok, Err, refl, ap, sym, subst, add-one, arith}
+use Rattle.tla_lex.specs.declared.token.Token.{Token}
+use Rattle.tla_lex.specs.declared.token.Kind.{Kind}
+use Rattle.tla_lex.specs.declared.token.Kind.TheVariants as k
+use Rattle.tla_parse.specs.LeftOut.{KindAt, IsExtended}
+use Rattle.tla_parse.specs.declared.word.Written.{Written}
+use Rattle.tla_parse.specs.declared.refusal.Refusal.{Refusal}
+use Rattle.tla_parse.specs.Gives.{Fails}
+use Rattle.tla_parse.proofs.Steps.{fails_bind}
+use Rattle.tla_parse.specs.declared.units.Unit.{Unit}
+use Rattle.tla_parse.specs.UnitsView.{unit_view}
+use Rattle.tla_parse.specs.Modules.{is_module}
+use Rattle.tla_parse.specs.Tokens.{seen, word_of, written}
+use Rattle.tla_parse.specs.Kinds.{kind_at}
+use Rattle.tla_parse.specs.Reading.{Outcome, Refused, ◌>>=◌, need, name_at}
+use Rattle.tla_parse.specs.Units.{UnitTree, is_extends, is_separator, unit_depth, units_depth}
+use Rattle.tla_parse.specs.UnitsReading.{names, modules, unit_by, unit, units}
+
+module _ (text : List ℕ) (ts : List Token) where
+  pub names_more : (n m : ℕ) (front : List Written) (column at : ℕ) (t : Token) → n ≡ m + 1 → name_at (seen ts column at) ≡ Some t → kind_at k.Comma (seen ts column (at + 1)) ≡ true
+      → names text ts n front column at ≡ names text ts m (front ++ written text t ∷ []) column (at + 2)
+  unfolding names
+  names_more n m front column at t h p q = rw (h, add-one, p, q) refl
+
+  pub names_last : (n m : ℕ) (front : List Written) (column at : ℕ) (t : Token) → n ≡ m + 1 → name_at (seen ts column at) ≡ Some t → kind_at k.Comma (seen ts column (at + 1)) ≡ false
+      → names text ts n front column at ≡ Ok (front ++ written text t ∷ [], at + 1)
+  unfolding names
+  names_last n m front column at t h p q = rw (h, add-one, p, q) refl
+
+  pub names_none : (n m : ℕ) (front : List Written) (column at : ℕ) → n ≡ m + 1 → name_at (seen ts column at) ≡ None → names text ts n front column at ≡ Err Refused
+  unfolding names
+  names_none n m front column at h p = rw (h, add-one, p) refl
+
+  pub names_full : (n : ℕ) (front : List Written) (column at : ℕ) → n ≡ 0 → names text ts n front column at ≡ Err Refused
+  unfolding names
+  names_full n front column at z = rw z refl
+
+  pub modules_more : (n m : ℕ) (front : List Written) (at : ℕ) (t : Token) → n ≡ m + 1 → name_at (seen ts 0 at) ≡ Some t → is_module (word_of text t) ≡ true
+      → kind_at k.Comma (seen ts 0 (at + 1)) ≡ true → modules text ts n front at ≡ modules text ts m (front ++ written text t ∷ []) (at + 2)
+  unfolding modules
+  modules_more n m front at t h p i q = rw (h, add-one, p, i, q) refl
+
+  pub modules_last : (n m : ℕ) (front : List Written) (at : ℕ) (t : Token) → n ≡ m + 1 → name_at (seen ts 0 at) ≡ Some t → is_module (word_of text t) ≡ true
+      → kind_at k.Comma (seen ts 0 (at + 1)) ≡ false → modules text ts n front at ≡ Ok (front ++ written text t ∷ [], at + 1)
+  unfolding modules
+  modules_last n m front at t h p i q = rw (h, add-one, p, i, q) refl
+
+  pub modules_none : (n m : ℕ) (front : List Written) (at : ℕ) → n ≡ m + 1 → name_at (seen ts 0 at) ≡ None → modules text ts n front at ≡ Err Refused
+  unfolding modules
+  modules_none n m front at h p = rw (h, add-one, p) refl
+
+  pub modules_unknown : (n m : ℕ) (front : List Written) (at : ℕ) (t : Token) → n ≡ m + 1 → name_at (seen ts 0 at) ≡ Some t → is_module (word_of text t) ≡ false
+      → modules text ts n front at ≡ Err Refused
+  unfolding modules
+  modules_unknown n m front at t h p i = rw (h, add-one, p, i) refl
+
+  pub modules_full : (n : ℕ) (front : List Written) (at : ℕ) → n ≡ 0 → modules text ts n front at ≡ Err Refused
+  unfolding modules
+  modules_full n front at z = rw z refl
+
+  other_by : (n : ℕ) (t : Token) (at : ℕ) (kind : Kind) → (kind ≡ k.Name → ⊥) → (kind ≡ k.Separator → ⊥) → (kind ≡ k.Extends → ⊥) → (kind ≡ k.Variable → ⊥) → unit_by text ts n t at kind ≡ Err Refused
+  other_by n t at k.Name a b c d = absurd (a refl)
+  other_by n t at k.Separator a b c d = absurd (b refl)
+  other_by n t at k.Extends a b c d = absurd (c refl)
+  other_by n t at k.Variable a b c d = absurd (d refl)
+  other_by n t at _ a b c d = refl
+
+  -- a token that begins no unit
+  pub unit_other : (n : ℕ) (t : Token) (at : ℕ) → seen ts 0 at ≡ Some t → (t.kind ≡ k.Name → ⊥) → (t.kind ≡ k.Separator → ⊥) → (t.kind ≡ k.Extends → ⊥) → (t.kind ≡ k.Variable → ⊥)
+      → unit text ts n at ≡ Err Refused
+  unfolding unit
+  unit_other n t at h a b c d = rw h (other_by n t at t.kind a b c d)
+
+  -- one name more under EXTENDS
+  pub extended_more : (n m at : ℕ) → m ≡ n + 1 → IsExtended ts n at → KindAt ts at k.Name → KindAt ts (at + 1) k.Comma → IsExtended ts m (at + 2)
+  extended_more n m at h x y z = rw (h, add-one) (at, x, y, z, refl)
+
+  pub units_done : (n m l : ℕ) (front : List UnitTree) (first : Bool) (at : ℕ) → m ≡ l + 1 → kind_at k.Closing (seen ts 0 at) ≡ true → units text ts n m front first at ≡ Ok (front, at)
+  unfolding units
+  units_done n m l front first at h p = rw (h, add-one, p) refl
+
+  pub units_is : (n m l : ℕ) (front : List UnitTree) (first : Bool) (at : ℕ) → m ≡ l + 1 → kind_at k.Closing (seen ts 0 at) ≡ false
+      → units text ts n m front first at ≡ (unit text ts n at >>= λ u end. need (first || not (is_extends u)) (units text ts n l (front ++ u ∷ []) (first && is_separator u) end))
+  unfolding units
+  units_is n m l front first at h p = rw (h, add-one, p) refl
+
+  pub units_more : (n m l : ℕ) (front : List UnitTree) (first : Bool) (at : ℕ) (u : UnitTree) (end : ℕ) → m ≡ l + 1 → kind_at k.Closing (seen ts 0 at) ≡ false
+      → unit text ts n at ≡ Ok (u, end) → (first || not (is_extends u)) ≡ true
+      → units text ts n m front first at ≡ units text ts n l (front ++ u ∷ []) (first && is_separator u) end
+  units_more n m l front first at u end h p q e = rw (units_is n m l front first at h p, q, e) refl
+
+  pub units_late : (n m l : ℕ) (front : List UnitTree) (first : Bool) (at : ℕ) (u : UnitTree) (end : ℕ) → m ≡ l + 1 → kind_at k.Closing (seen ts 0 at) ≡ false
+      → unit text ts n at ≡ Ok (u, end) → (first || not (is_extends u)) ≡ false → units text ts n m front first at ≡ Err Refused
+  units_late n m l front first at u end h p q e = rw (units_is n m l front first at h p, q, e) refl
+
+  pub units_fails : (x : Refusal) (n m l : ℕ) (front : List UnitTree) (first : Bool) (at : ℕ) → m ≡ l + 1 → kind_at k.Closing (seen ts 0 at) ≡ false
+      → Fails text ts x (unit text ts n at) → Fails text ts x (units text ts n m front first at)
+  units_fails x n m l front first at h p f =
+      let P : Outcome (List UnitTree) → Type 0 = λ y. Fails text ts x y in
+      subst P (sym (units_is n m l front first at h p)) (fails_bind text ts x (unit text ts n at) _ f)
+
+  pub units_full : (n m : ℕ) (front : List UnitTree) (first : Bool) (at : ℕ) → m ≡ 0 → units text ts n m front first at ≡ Err Refused
+  unfolding units
+  units_full n m front first at z = rw z refl
+
+pub units_depth_snoc : (front : List UnitTree) (u : UnitTree) → units_depth (front ++ u ∷ []) ≡ max (units_depth front) (unit_depth u)
+units_depth_snoc [] u = grind arith
+units_depth_snoc (v ∷ front) u = let h = units_depth_snoc front u in grind (arith, h)
+
+pub map_snoc : (xs : List Unit) (x : Unit) → map unit_view (xs ++ x ∷ []) ≡ map unit_view xs ++ unit_view x ∷ []
+map_snoc [] x = refl
+map_snoc (y ∷ xs) x = ap (λ zs. unit_view y ∷ zs) (map_snoc xs x)

@@ -1,0 +1,15 @@
+use Rattle.std.proofs.Common.{◌≡◌, ◌-◌, ◌≤◌, ◌<◌, length, map, []}
+use Rattle.tla_parse.specs.View.{view}
+use Rattle.tla_parse.specs.Tree.{trees}
+use Rattle.tla_parse.specs.Edges.{depths}
+use Rattle.tla_parse.specs.Reading.{items, expr}
+use Rattle.tla_parse.proofs.grammar.Grammar.items.Given as goal
+
+abbrev pub invariant-loop-turn : goal.invariant-loop-turn
+invariant-loop-turn g l = record {
+  same : items l.text l.tokens (expr l.text l.tokens l.self.depth) (length l.tokens - l._turn) (map view l.items.items) l.scope l.bullet l.at
+      ≡ items l.text l.tokens (expr l.text l.tokens l.self.depth) (length l.tokens) [] l.scope l.bullet l.fn.from;
+  depth : l.depth ≡ depths (trees (map view l.items.items));
+  shallow : l.depth ≤ l.self.depth;
+  within : l.at < length l.tokens;
+}

@@ -1,0 +1,24 @@
+use Rattle.std.proofs.Common.{◌≡◌, ◌+◌, ◌-◌, ◌++◌, ◌∷◌, [], Some, None, false, arith, sym, ap, ◌∙◌, length}
+use Rattle.tla_lex.specs.declared.token.Kind.TheVariants as k
+use Rattle.tla_parse.specs.Tokens.{seen, written}
+use Rattle.tla_parse.specs.Kinds.{kind_at}
+use Rattle.tla_parse.specs.Reading.{name_at}
+use Rattle.tla_parse.proofs.Steps.{refuses_fails}
+use Rattle.tla_parse.proofs.UnitsSteps.{names_none, names_last}
+use Rattle.tla_parse.proofs.units.names.Goals as goal
+
+pub returns-in_default : goal.returns-in_default
+returns-in_default c =
+    let h : length c.args.tokens.now - c.loop-turn._turn ≡ (length c.args.tokens.now - (c.loop-turn._turn + 1)) + 1 = omega arith in
+    let p : name_at (seen c.args.tokens.now c.args.column c.loop-turn.at) ≡ None = cc in
+    let n = names_none c.args.text.now c.args.tokens.now (length c.args.tokens.now - c.loop-turn._turn) (length c.args.tokens.now - (c.loop-turn._turn + 1)) c.loop-turn.names.items c.args.column c.loop-turn.at h p in
+    refuses_fails c.args.text.now c.args.tokens.now c.refused.result c.refused.ensures _ (sym c.loop-turn.invariant.same ∙ n)
+
+pub returns-then-not-is_kind : goal.returns-then-not-is_kind
+returns-then-not-is_kind c =
+    let h : length c.args.tokens.now - c.loop-turn._turn ≡ (length c.args.tokens.now - (c.loop-turn._turn + 1)) + 1 = omega arith in
+    let p : name_at (seen c.args.tokens.now c.args.column c.loop-turn.at) ≡ Some c.in-Some.name = cc in
+    let q : kind_at k.Comma (seen c.args.tokens.now c.args.column (c.loop-turn.at + 1)) ≡ false = cc in
+    let n = names_last c.args.text.now c.args.tokens.now (length c.args.tokens.now - c.loop-turn._turn) (length c.args.tokens.now - (c.loop-turn._turn + 1)) c.loop-turn.names.items c.args.column c.loop-turn.at c.in-Some.name h p q in
+    let e : c.push_name.new.names.items ≡ c.loop-turn.names.items ++ written c.args.text.now c.in-Some.name ∷ [] = c.in_ok-push_name.ensures.ok ∙ ap (λ x. c.loop-turn.names.items ++ x ∷ []) c.in_ok-name.ensures.ok in
+    rw e (sym c.loop-turn.invariant.same ∙ n)

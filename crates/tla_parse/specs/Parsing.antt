@@ -1,0 +1,40 @@
+-- What the answer to a module's tokens says.
+use Rattle.std.specs.Prelude.{◌≡◌, ℕ, ◌≤◌, ◌⊎◌, List, Option, Some, None, slice_get}
+use Rattle.tla_lex.specs.declared.token.Place.{Place}
+use Rattle.tla_lex.specs.declared.token.Token.{Token}
+use Rattle.tla_parse.specs.declared.error.ParseCode.{ParseCode}
+use Rattle.tla_parse.specs.declared.error.ParseCode.TheVariants as code
+use Rattle.tla_parse.specs.Tokens.{word_of}
+use Rattle.tla_parse.specs.LeftOut.{BeginsLeftOut, IsUnknownModule}
+use Rattle.tla_parse.specs.Units.{UnitTree, units_depth, SpellsModule}
+
+module _ (text : List ℕ) (ts : List Token) where
+  -- no units of any depth
+  abbrev pub NoneSpells : Type 0
+  NoneSpells = (us : List UnitTree) → SpellsModule text ts us → ⊥
+
+  abbrev pub NoneSpellsWithin : ℕ → Type 0
+  NoneSpellsWithin most = (us : List UnitTree) → units_depth us ≤ most → SpellsModule text ts us → ⊥
+
+  -- the place and the name are those of a form that is left out
+  abbrev pub IsLeftOut : Option Place → Option (List ℕ) → Type 0
+  IsLeftOut p x = (at : ℕ) × (t : Token) × (slice_get ts at ≡ Some t) × (p ≡ Some t.place) × (x ≡ Some (word_of text t)) × (BeginsLeftOut ts at ⊎ IsUnknownModule ts text at)
+
+  -- what each refusal says of the text; want of memory says nothing
+  abbrev pub Justified : ParseCode → Option Place → Option (List ℕ) → Type 0
+  Justified code.Unexpected p x = NoneSpells
+  Justified code.Precedence p x = NoneSpells
+  Justified code.Column p x = NoneSpells
+  Justified code.Nesting p x = NoneSpellsWithin 200
+  Justified code.LeftOut p x = IsLeftOut p x
+  Justified code.NoMemory p x = Unit {0}
+
+-- there is a place but for want of memory, and a name with a form left out alone
+abbrev pub IsLocated : ParseCode → Option Place → Option (List ℕ) → Type 0
+IsLocated code.LeftOut (Some p) (Some x) = Unit {0}
+IsLocated code.NoMemory None None = Unit {0}
+IsLocated code.Unexpected (Some p) None = Unit {0}
+IsLocated code.Precedence (Some p) None = Unit {0}
+IsLocated code.Column (Some p) None = Unit {0}
+IsLocated code.Nesting (Some p) None = Unit {0}
+IsLocated _ _ _ = ⊥

@@ -1,0 +1,48 @@
+//! Refusals of a module's tokens.
+
+ghost use Rattle.std.specs.Prelude.{◌≡◌};
+ghost use Rattle.tla_parse.specs.Codes.{code_name};
+
+use crate::word::Word;
+use tla_lex::Place;
+
+/// What is wrong with a module's tokens.
+#[derive(Clone, Copy, Debug, PartialEq, Eq)]
+pub enum ParseCode {
+    /// P1: a token that has no place there.
+    Unexpected,
+    /// P2: two operators that may not stand together without brackets.
+    Precedence,
+    /// P3: a token at or left of its junction list's column, where the item must go on.
+    Column,
+    /// P4: a form nested more than 200 deep.
+    Nesting,
+    /// P5: a form that is left out of the language.
+    LeftOut,
+    /// P6: want of memory.
+    NoMemory,
+}
+
+impl ParseCode {
+    /// The code in a report, as `P1`.
+    pub fn name(self) -> &'static str
+        ensures { result.now ≡ code_name self }
+    {
+        match self {
+            ParseCode::Unexpected => "P1",
+            ParseCode::Precedence => "P2",
+            ParseCode::Column => "P3",
+            ParseCode::Nesting => "P4",
+            ParseCode::LeftOut => "P5",
+            ParseCode::NoMemory => "P6",
+        }
+    }
+}
+
+/// Why a module has no tree: where, but for want of memory, and for a form left out its word or symbol as written, or the module's name.
+#[derive(Drop)]
+pub struct ParseError {
+    pub code: ParseCode,
+    pub place: Option<Place>,
+    pub name: Option<Word>,
+}

@@ -1,0 +1,107 @@
+//! The tree of a module.
+
+ghost use Rattle.std.specs.Prelude.{◌≡◌, ◌≤◌, ◌⊎◌, List, map, IfOk, IfErr};
+ghost use Rattle.tla_parse.specs.Units.{UnitTree, units_depth, SpellsModule};
+ghost use Rattle.tla_parse.specs.UnitsView.{unit_view};
+ghost use Rattle.tla_parse.specs.UnitsReading.{whole};
+ghost use Rattle.tla_parse.specs.LeftOut.{BeginsLeftOut, IsUnknownModule};
+ghost use Rattle.tla_parse.specs.Parsing.{NoneSpells, Justified, IsLocated};
+ghost use Rattle.tla_parse.specs.Gives.{Fails};
+
+use crate::error::{ParseCode, ParseError};
+use crate::refusal::Refusal;
+use crate::tokens::written;
+use crate::units::{Unit, module_units};
+use std::alloc::Global;
+use tla_lex::{Place, Token};
+
+/// The units of a module, in order.
+#[derive(Drop)]
+pub struct Module {
+    pub units: Vec<Unit>,
+}
+
+/// The place of the token, or of the last one where there are fewer.
+fn place_of(tokens: &[Token], at: usize) -> Place {
+    match tokens.get(at) {
+        Some(t) => t.place,
+        None => match tokens.last() {
+            Some(t) => t.place,
+            None => Place { line: 1, column: 1 },
+        },
+    }
+}
+
+fn error_at(code: ParseCode, place: Place) -> ParseError
+    ensures { result ≡ record { code = code; place = Some place; name = None } }
+{
+    ParseError {
+        code,
+        place: Some(place),
+        name: None,
+    }
+}
+
+fn no_memory() -> ParseError
+    ensures { result ≡ record { code = ParseCode.NoMemory; place = None; name = None } }
+{
+    ParseError {
+        code: ParseCode::NoMemory,
+        place: None,
+        name: None,
+    }
+}
+
+/// The refusal of a form left out, named by its first token.
+fn left_out(alloc: Global, text: &[u8], tokens: &[Token], at: usize) -> ParseError
+    requires none { NoneSpells text.now tokens.now }
+    requires form { BeginsLeftOut tokens.now at ⊎ IsUnknownModule tokens.now text.now at }
+    ensures justified { Justified text.now tokens.now result.code result.place result.name }
+    ensures located { IsLocated result.code result.place result.name }
+{
+    let Some(t) = tokens.get(at) else {
+        return error_at(ParseCode::Unexpected, place_of(tokens, at));
+    };
+    match written(alloc, text, *t) {
+        Ok(first) => ParseError {
+            code: ParseCode::LeftOut,
+            place: Some(t.place),
+            name: Some(first.word),
+        },
+        Err(_) => no_memory(),
+    }
+}
+
+/// A refusal as callers see it.
+fn error_of(alloc: Global, text: &[u8], tokens: &[Token], refusal: Refusal) -> ParseError
+    requires { Fails text.now tokens.now refusal (whole text.now tokens.now 200) }
+    ensures justified { Justified text.now tokens.now result.code result.place result.name }
+    ensures located { IsLocated result.code result.place result.name }
+{
+    match refusal {
+        Refusal::Unexpected(at) => error_at(ParseCode::Unexpected, place_of(tokens, at)),
+        Refusal::Precedence(at) => error_at(ParseCode::Precedence, place_of(tokens, at)),
+        Refusal::Column(at) => error_at(ParseCode::Column, place_of(tokens, at)),
+        Refusal::Nesting(at) => error_at(ParseCode::Nesting, place_of(tokens, at)),
+        Refusal::LeftOut(at) => left_out(alloc, text, tokens, at),
+        Refusal::UnknownModule(at) => left_out(alloc, text, tokens, at),
+        Refusal::NoMemory => no_memory(),
+    }
+}
+
+/// The tree of a module, from its tokens, which end with the closing line. Only their kinds, columns and slices of the text count.
+pub fn parse_module(alloc: Global, text: &[u8], tokens: &[Token]) -> Result<Module, ParseError>
+    // The units spell the tokens, and their expressions are no deeper than the limit.
+    ensures found { IfOk result (λ m. SpellsModule text.now tokens.now (map unit_view m.units.items)) }
+    ensures shallow { IfOk result (λ m. units_depth (map unit_view m.units.items) ≤ 200) }
+    // No other units spell them.
+    ensures only { IfOk result (λ m. (us : List UnitTree) → SpellsModule text.now tokens.now us → us ≡ map unit_view m.units.items) }
+    // Tokens are refused only where no units spell them, or for nesting none within the limit; a form left out is on the list.
+    ensures justified { IfErr result (λ e. Justified text.now tokens.now e.code e.place e.name) }
+    ensures located { IfErr result (λ e. IsLocated e.code e.place e.name) }
+{
+    match module_units(alloc, text, tokens) {
+        Ok(found) => Ok(Module { units: found.units }),
+        Err(refusal) => Err(error_of(alloc, text, tokens, refusal)),
+    }
+}

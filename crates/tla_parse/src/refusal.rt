@@ -1,0 +1,19 @@
+//! Why a reading stops.
+
+/// Why there is no tree, and at which token by its number.
+#[derive(Clone, Copy, Debug)]
+pub enum Refusal {
+    /// The token has no place here.
+    Unexpected(usize),
+    /// The operator and one beside it may not stand together without brackets.
+    Precedence(usize),
+    /// The token stands at or left of its junction list's column, and the item must go on.
+    Column(usize),
+    /// The form that begins here is nested too deep.
+    Nesting(usize),
+    /// The form that begins here is left out of the language.
+    LeftOut(usize),
+    /// The module, a name under EXTENDS, is not known.
+    UnknownModule(usize),
+    NoMemory,
+}

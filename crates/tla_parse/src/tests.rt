@@ -1,0 +1,331 @@
+//! Worked rows, over tokens that a small reader of words makes.
+
+use crate::error::ParseError;
+use crate::parse::{Module, parse_module};
+use crate::tree::{Bullet, Constant, Expr, Infix, Prefix, Quantifier};
+use crate::units::Unit;
+use crate::word::Word;
+use std::alloc::{AllocError, Global};
+use std::test::Fail;
+use tla_lex::{Kind, Place, Token};
+
+fn kind_of(word: &str) -> Kind {
+    match word {
+        "----" => Kind::Separator,
+        "====" => Kind::Closing,
+        "==" => Kind::Define,
+        "/\\" => Kind::And,
+        "\\/" => Kind::Or,
+        "=>" => Kind::Implies,
+        "<=>" => Kind::Equivalent,
+        "=" => Kind::Equal,
+        "<" => Kind::Less,
+        "\\in" => Kind::Member,
+        "\\cup" => Kind::Cup,
+        "+" => Kind::Plus,
+        "-" => Kind::Minus,
+        "%" => Kind::Remainder,
+        "*" => Kind::Times,
+        "\\div" => Kind::Quotient,
+        "^" => Kind::Power,
+        "~" => Kind::Not,
+        "(" => Kind::LeftParen,
+        ")" => Kind::RightParen,
+        "," => Kind::Comma,
+        "'" => Kind::Prime,
+        "\\A" => Kind::ForAll,
+        ":" => Kind::Colon,
+        "UNCHANGED" => Kind::Unchanged,
+        "DOMAIN" => Kind::Domain,
+        "SUBSET" => Kind::Subset,
+        "TRUE" => Kind::True,
+        "IF" => Kind::If,
+        "THEN" => Kind::Then,
+        "ELSE" => Kind::Else,
+        "EXTENDS" => Kind::Extends,
+        "VARIABLE" => Kind::Variable,
+        "ENABLED" => Kind::Enabled,
+        "MODULE" => Kind::Module,
+        other => match other.as_bytes().first() {
+            Some(b'0'..=b'9') => Kind::Number(0),
+            _ => Kind::Name,
+        },
+    }
+}
+
+/// The tokens of a text in which blanks stand between all of them.
+fn tokens_of(alloc: Global, text: &str) -> Result<Vec<Token>, AllocError> {
+    let mut tokens = Vec::new(alloc);
+    let mut line: u64 = 1;
+    let mut start: usize = 0;
+    for row in text.split('\n') {
+        let mut column: u128 = 1;
+        for word in row.split(' ') {
+            let end = start.wrapping_add(word.len());
+            if !word.is_empty() {
+                tokens.push(Token {
+                    kind: kind_of(word),
+                    start,
+                    end,
+                    place: Place { line, column },
+                })?;
+            }
+            column = column.wrapping_add(word.len() as u128 + 1);
+            start = end.wrapping_add(1);
+        }
+        line = line.wrapping_add(1);
+    }
+    Ok(tokens)
+}
+
+fn push_word(word: &Word, out: &mut String) -> Result<(), AllocError> {
+    for b in word.as_bytes() {
+        out.push(char::from(*b))?;
+    }
+    Ok(())
+}
+
+fn show(e: &Expr, out: &mut String) -> Result<(), AllocError> {
+    match e {
+        Expr::Name(name) => push_word(&name.word, out)?,
+        Expr::Number(_, _) => out.push('0')?,
+        Expr::Constant(_, c) => out.push_str(match c {
+            Constant::True => "TRUE",
+            Constant::False => "FALSE",
+            Constant::Boolean => "BOOLEAN",
+            Constant::String => "STRING",
+        })?,
+        Expr::At(_) => out.push('@')?,
+        Expr::Paren(_, e) => {
+            out.push('(')?;
+            show(e, out)?;
+            out.push(')')?;
+        }
+        Expr::Prime(_, e) => {
+            out.push('{')?;
+            show(e, out)?;
+            out.push_str("'}")?;
+        }
+        Expr::Unary(_, op, e) => {
+            out.push('{')?;
+            out.push_str(match op {
+                Prefix::Not => "~",
+                Prefix::Negate => "-",
+                Prefix::Always => "[]",
+                Prefix::Eventually => "<>",
+                Prefix::Unchanged => "UNCHANGED ",
+                Prefix::Subset => "SUBSET ",
+                Prefix::Union => "UNION ",
+                Prefix::Domain => "DOMAIN ",
+            })?;
+            show(e, out)?;
+            out.push('}')?;
+        }
+        Expr::Binary(_, op, sign, l, r) => {
+            out.push('{')?;
+            show(l, out)?;
+            if let Infix::Power = op {
+                out.push('^')?;
+            } else {
+                push_word(&sign.word, out)?;
+            }
+            show(r, out)?;
+            out.push('}')?;
+        }
+        Expr::Quantified(_, q, name, s, e) => {
+            out.push_str(match q {
+                Quantifier::ForAll => "{A ",
+                Quantifier::Exists => "{E ",
+            })?;
+            push_word(&name.word, out)?;
+            out.push(' ')?;
+            show(s, out)?;
+            out.push(':')?;
+            show(e, out)?;
+            out.push('}')?;
+        }
+        Expr::If(_, a, b, e) => {
+            out.push_str("{IF ")?;
+            show(a, out)?;
+            out.push('?')?;
+            show(b, out)?;
+            out.push(':')?;
+            show(e, out)?;
+            out.push('}')?;
+        }
+        Expr::Junction(_, b, es) => {
+            out.push('[')?;
+            for e in es.as_slice() {
+                out.push_str(match b {
+                    Bullet::And => "&",
+                    Bullet::Or => "|",
+                })?;
+                show(e, out)?;
+            }
+            out.push(']')?;
+        }
+    }
+    Ok(())
+}
+
+/// The code, with its line, its column and its name.
+fn show_error(alloc: Global, e: &ParseError) -> Result<String, AllocError> {
+    let mut out = String::from_str(alloc, e.code.name())?;
+    if let Some(place) = e.place {
+        let at = format!(in alloc; " {}:{}", place.line, place.column)?;
+        out.push_str(at.as_str())?;
+    }
+    if let Some(name) = &e.name {
+        out.push(' ')?;
+        push_word(name, &mut out)?;
+    }
+    Ok(out)
+}
+
+fn read(alloc: Global, text: &str) -> Result<Result<Module, String>, AllocError> {
+    let tokens = tokens_of(alloc, text)?;
+    match parse_module(alloc, text.as_bytes(), &tokens) {
+        Ok(module) => Ok(Ok(module)),
+        Err(e) => Ok(Err(show_error(alloc, &e)?)),
+    }
+}
+
+/// The trees of the definitions of a module, or its refusal.
+fn trees(alloc: Global, text: &str) -> Result<String, AllocError> {
+    match read(alloc, text)? {
+        Err(e) => Ok(e),
+        Ok(module) => {
+            let mut out = String::new(alloc);
+            for unit in module.units.as_slice() {
+                if let Unit::Operator(name, body) = unit {
+                    push_word(&name.word, &mut out)?;
+                    out.push(' ')?;
+                    show(body, &mut out)?;
+                }
+            }
+            Ok(out)
+        }
+    }
+}
+
+/// The tree of a body, which stands on line 2 from column 8 on.
+fn body(alloc: Global, text: &str) -> Result<String, AllocError> {
+    let module = format!(in alloc; "M ----\nOp ==  {text}\n====")?;
+    trees(alloc, module.as_str())
+}
+
+#[test]
+fn table(rt: HostRuntime) -> Result<(), Fail> {
+    let rows = [
+        ("a - b + c", "Op {{a-b}+c}"),
+        ("a + b - c", "Op {a+{b-c}}"),
+        ("~ a /\\ b", "Op {{~a}/\\b}"),
+        ("~ a = b", "Op {~{a=b}}"),
+        ("DOMAIN f \\cup g", "Op {{DOMAIN f}\\cupg}"),
+        ("- a ^ b", "Op {-{a^b}}"),
+        ("a => b <=> c", "Op {a=>{b<=>c}}"),
+        ("p /\\ \\A i \\in S : q \\/ r", "Op {p/\\{A i S:{q\\/r}}}"),
+        ("UNCHANGED x /\\ y", "Op {{UNCHANGED x}/\\y}"),
+        ("a /\\ b \\/ c", "P2 2:15"),
+        ("a = b = c", "P2 2:14"),
+        ("a ^ b ^ c", "P2 2:14"),
+        ("a * b \\div c", "P2 2:14"),
+        ("SUBSET a \\cup b", "P2 2:17"),
+        ("UNCHANGED a = b", "P2 2:20"),
+        ("1 + 2 % 3", "P2 2:14"),
+        ("a ' = ( b ' ) '", "Op {{a'}={({b'})'}}"),
+        ("IF a THEN b ELSE c + 1", "Op {IF a?b:{c+0}}"),
+        ("a b", "P1 3:1"),
+        ("", "P1 3:1"),
+        ("ENABLED TRUE", "P5 2:8 ENABLED"),
+        ("\\A v : v = v", "P5 2:8 \\A"),
+        ("~ /\\ x = a\n         /\\ x = b", "Op {~[&{x=a}&{x=b}]}"),
+        ("~ /\\ x = a\n        /\\ x = b", "Op {{~[&{x=a}]}/\\{x=b}}"),
+        ("/\\ ( a\n  )", "P3 3:3"),
+        (
+            "/\\ a\n       /\\ \\/ b\n          \\/ c\n       /\\ d",
+            "Op [&a&[|b|c]&d]",
+        ),
+        ("/\\ a /\\ b\n       /\\ c", "Op [&{a/\\b}&c]"),
+        ("/\\ a\n       + b", "Op {[&a]+b}"),
+    ];
+    for (text, tree) in rows {
+        let got = body(rt.alloc(), text)?;
+        assert_eq!(rt; got.as_str(), tree);
+    }
+    Ok(())
+}
+
+#[test]
+fn modules(rt: HostRuntime) -> Result<(), Fail> {
+    let rows = [
+        (
+            "M ----\nEXTENDS Integers , TLC\nVARIABLE x , y\n----\nOp == x\nAt == y\n====",
+            "Op xAt y",
+        ),
+        ("M ----\nEXTENDS Integers , Bags\n====", "P5 2:20 Bags"),
+        ("M ----\n----\nEXTENDS TLC\nEXTENDS TLC\n====", "P1 4:1"),
+        ("M ----\nVARIABLE x\nEXTENDS TLC\n====", "P1 3:1"),
+        ("M ----\n---- MODULE N ----\n====", "P5 2:6 MODULE"),
+        ("M ----\nVARIABLE x ,\n====", "P1 3:1"),
+        ("M ----\nOp == a , b\n====", "P1 2:9"),
+        ("M ====", "P1 1:3"),
+    ];
+    for (text, answer) in rows {
+        let got = trees(rt.alloc(), text)?;
+        assert_eq!(rt; got.as_str(), answer);
+    }
+    Ok(())
+}
+
+/// A definition of TRUE in so many brackets, which stand from column 8 of line 4 on.
+fn nested(alloc: Global, brackets: usize) -> Result<Vec<Token>, AllocError> {
+    let mut kinds = Vec::new(alloc);
+    for kind in [Kind::Name, Kind::Separator, Kind::Name, Kind::Define] {
+        kinds.push(kind)?;
+    }
+    for _ in 0..brackets {
+        kinds.push(Kind::LeftParen)?;
+    }
+    kinds.push(Kind::True)?;
+    for _ in 0..brackets {
+        kinds.push(Kind::RightParen)?;
+    }
+    kinds.push(Kind::Closing)?;
+    let mut tokens = Vec::new(alloc);
+    for (index, kind) in kinds.iter().enumerate() {
+        let column = (index as u128).wrapping_add(4);
+        tokens.push(Token {
+            kind: *kind,
+            start: 0,
+            end: 0,
+            place: Place { line: 4, column },
+        })?;
+    }
+    Ok(tokens)
+}
+
+#[test]
+fn depth(rt: HostRuntime) -> Result<(), Fail> {
+    for (brackets, answer) in [(199, "read"), (200, "P4 4:208")] {
+        let tokens = nested(rt.alloc(), brackets)?;
+        let got = match parse_module(rt.alloc(), b"", &tokens) {
+            Ok(_) => String::from_str(rt.alloc(), "read")?,
+            Err(e) => show_error(rt.alloc(), &e)?,
+        };
+        assert_eq!(rt; got.as_str(), answer);
+    }
+    Ok(())
+}
+
+#[test]
+fn prefixes(rt: HostRuntime) -> Result<(), Fail> {
+    let text =
+        "M ----\nEXTENDS Integers\nVARIABLE x\nInit == x = 0\nNext == /\\ x ' = ( x + 1 ) % 3\n        /\\ \\A y \\in S : IF y THEN x ELSE ~ y\n====";
+    let tokens = tokens_of(rt.alloc(), text)?;
+    for (length, _) in tokens.iter().enumerate() {
+        assert!(rt; parse_module(rt.alloc(), text.as_bytes(), &tokens[..length]).is_err());
+    }
+    assert!(rt; parse_module(rt.alloc(), text.as_bytes(), &tokens).is_ok());
+    Ok(())
+}

@@ -1,0 +1,252 @@
+//! Tokens as the grammar reads them: by their number in the list, and only right of a column.
+
+ghost use Rattle.std.specs.Prelude.{◌≡◌, ◌+◌, ◌^◌, ◌<◌, length, slice_get, IfOk, IfErr, OnSome, IsTrue};
+ghost use Rattle.tla_parse.specs.Tokens as spec;
+ghost use Rattle.tla_parse.specs.Kinds as kinds;
+ghost use Rattle.tla_parse.specs.Ending as ending;
+ghost use Rattle.tla_parse.specs.LeftOut as left_out;
+ghost use Rattle.tla_parse.specs.Reading as reading;
+ghost use Rattle.tla_parse.specs.Gives.{Refuses};
+
+use crate::operators::{bullet_of, infix_of, low, quantifier_of};
+use crate::refusal::Refusal;
+use crate::tree::{Bullet, Infix};
+use crate::word::{Word, Written};
+use std::alloc::Global;
+use tla_lex::{Kind, Token};
+
+/// The token of this number, where it stands right of the column.
+pub fn seen(tokens: &[Token], column: u128, at: usize) -> Option<Token>
+    ensures value { result ≡ spec.seen tokens.now column at }
+    ensures within { OnSome result (at < length tokens.now) }
+{
+    match tokens.get(at) {
+        Some(t) => {
+            if column < t.place.column {
+                Some(*t)
+            } else {
+                None
+            }
+        }
+        None => None,
+    }
+}
+
+/// Whether it is a token of this kind, of the kinds that stand between parts.
+pub fn is_kind(kind: Kind, token: Option<Token>) -> bool
+    ensures { result ≡ kinds.kind_at kind token }
+{
+    let Some(t) = token else {
+        return false;
+    };
+    match (kind, t.kind) {
+        (Kind::Name, Kind::Name) => true,
+        (Kind::Separator, Kind::Separator) => true,
+        (Kind::Closing, Kind::Closing) => true,
+        (Kind::RightParen, Kind::RightParen) => true,
+        (Kind::Comma, Kind::Comma) => true,
+        (Kind::Colon, Kind::Colon) => true,
+        (Kind::Prime, Kind::Prime) => true,
+        (Kind::Define, Kind::Define) => true,
+        (Kind::Module, Kind::Module) => true,
+        (Kind::Member, Kind::Member) => true,
+        (Kind::Then, Kind::Then) => true,
+        (Kind::Else, Kind::Else) => true,
+        _ => false,
+    }
+}
+
+/// Whether this bullet stands here, in the column.
+pub fn is_bullet_at(tokens: &[Token], column: u128, bullet: Bullet, at: usize) -> bool
+    ensures { result ≡ spec.is_bullet_at column bullet (slice_get tokens.now at) }
+{
+    match tokens.get(at) {
+        Some(t) => {
+            t.place.column == column
+                && match (bullet, bullet_of(t.kind)) {
+                    (Bullet::And, Some(Bullet::And)) => true,
+                    (Bullet::Or, Some(Bullet::Or)) => true,
+                    _ => false,
+                }
+        }
+        None => false,
+    }
+}
+
+/// Whether the token may follow a junction list in this column.
+pub fn may_follow(tokens: &[Token], column: u128, at: usize) -> bool
+    ensures { result ≡ spec.may_follow column (slice_get tokens.now at) }
+{
+    match tokens.get(at) {
+        Some(t) => {
+            if column < t.place.column {
+                !goes_on(t.kind)
+            } else {
+                true
+            }
+        }
+        None => true,
+    }
+}
+
+/// Whether a token of this kind begins an infix operator or a postfix form.
+fn goes_on(kind: Kind) -> bool
+    ensures { result ≡ spec.goes_on kind }
+{
+    match kind {
+        Kind::Prime => true,
+        other => infix_of(other).is_some(),
+    }
+}
+
+/// The infix operator that the token writes, where it is above the floor.
+pub fn operator_at(token: Option<Token>, floor: u8) -> Option<Infix>
+    ensures { result ≡ ending.above floor (ending.infix_at token) }
+{
+    match token {
+        None => None,
+        Some(t) => match infix_of(t.kind) {
+            None => None,
+            Some(op) => { if floor < low(op) { Some(op) } else { None } }
+        },
+    }
+}
+
+/// The token, where it is a name.
+pub fn name_at(token: Option<Token>) -> Option<Token>
+    ensures { result ≡ reading.name_at token }
+{
+    match token {
+        Some(t) if matches!(t.kind, Kind::Name) => Some(t),
+        _ => None,
+    }
+}
+
+/// The token's slice of the text.
+#[tactic(auto, using(crate::proofs::Slices::drop_min, crate::proofs::Slices::take_min))]
+fn slice_of(text: &[u8], token: Token) -> &[u8]
+    ensures { result.now ≡ spec.word_of text.now token }
+{
+    let rest = &text[token.start.min(text.len())..];
+    let length = token.end.saturating_sub(token.start);
+    &rest[..length.min(rest.len())]
+}
+
+/// The token as it is written, and where.
+pub fn written(alloc: Global, text: &[u8], token: Token) -> Result<Written, Refusal>
+    ensures ok { IfOk result (λ w. w ≡ spec.written text.now token) }
+    ensures err { IfErr result (λ e. e ≡ Refusal.NoMemory) }
+{
+    match slice_of(text, token).to_vec(alloc) {
+        Ok(bytes) => Ok(Written {
+            place: token.place,
+            word: Word::new(bytes),
+        }),
+        Err(_) => Err(Refusal::NoMemory),
+    }
+}
+
+/// Whether a token of this kind begins a form that is left out, wherever it stands.
+fn is_left_out(kind: Kind) -> bool
+    ensures { result ≡ left_out.is_left_out kind }
+{
+    match kind {
+        Kind::Enabled
+        | Kind::Instance
+        | Kind::Lambda
+        | Kind::Recursive
+        | Kind::With
+        | Kind::Proof
+        | Kind::By
+        | Kind::Obvious
+        | Kind::Omitted
+        | Kind::TemporalForAll
+        | Kind::TemporalExists
+        | Kind::Composition
+        | Kind::MinusMinus
+        | Kind::Guarantees
+        | Kind::Bang => true,
+        _ => false,
+    }
+}
+
+/// Whether a token of this kind begins a form that is left out for now.
+fn is_not_yet_read(kind: Kind) -> bool
+    ensures { result ≡ left_out.is_not_yet_read kind }
+{
+    match kind {
+        Kind::Text
+        | Kind::WeakFairness
+        | Kind::StrongFairness
+        | Kind::LeftBracket
+        | Kind::LeftBrace
+        | Kind::LeftTuple
+        | Kind::Dot
+        | Kind::Product
+        | Kind::Case
+        | Kind::Choose
+        | Kind::Let
+        | Kind::Assume
+        | Kind::Constant
+        | Kind::Local
+        | Kind::Theorem => true,
+        _ => false,
+    }
+}
+
+/// The refusal of a token that doesn't go on with what was read: a form left out, else one at or left of its list's column, else an unexpected one.
+pub fn refused(tokens: &[Token], column: u128, at: usize) -> Refusal
+    ensures { Refuses tokens.now result }
+{
+    match tokens.get(at) {
+        None => Refusal::Unexpected(at),
+        Some(t) => {
+            if is_left_out(t.kind) || is_not_yet_read(t.kind) {
+                Refusal::LeftOut(at)
+            } else if t.place.column <= column {
+                Refusal::Column(at)
+            } else {
+                Refusal::Unexpected(at)
+            }
+        }
+    }
+}
+
+/// Whether a quantifier stands here over a name without a set.
+fn is_unbounded(tokens: &[Token], at: usize) -> bool
+    requires { at + 2 < 2 ^ 64 }
+    ensures { IsTrue result → left_out.IsUnbounded tokens.now at }
+{
+    let Some(t) = tokens.get(at) else {
+        return false;
+    };
+    quantifier_of(t.kind).is_some()
+        && is_kind(Kind::Name, tokens.get(at + 1).copied())
+        && is_kind(Kind::Colon, tokens.get(at + 2).copied())
+}
+
+/// The refusal of a token in the binder of the form at `from`: the form, where it is left out, else the token.
+pub fn refused_binder(tokens: &[Token], column: u128, from: usize, at: usize) -> Refusal
+    requires { from + 2 < 2 ^ 64 }
+    ensures { Refuses tokens.now result }
+{
+    if is_unbounded(tokens, from) {
+        Refusal::LeftOut(from)
+    } else {
+        refused(tokens, column, at)
+    }
+}
+
+/// The refusal of a token that begins no unit.
+pub fn refused_unit(tokens: &[Token], at: usize) -> Refusal
+    ensures { Refuses tokens.now result }
+{
+    if 0 < at
+        && is_kind(Kind::Separator, tokens.get(at - 1).copied())
+        && is_kind(Kind::Module, tokens.get(at).copied())
+    {
+        Refusal::LeftOut(at)
+    } else {
+        refused(tokens, 0, at)
+    }
+}

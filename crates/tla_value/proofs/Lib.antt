@@ -1,0 +1,13 @@
+pub mod Parts
+pub mod Sorts
+pub mod Entries
+pub mod FunSorts
+pub mod Merges
+pub mod Ranges
+pub mod Ways
+pub mod Choosing
+pub mod Subsets
+pub mod Shown
+pub mod Exceptions
+pub mod Records
+pub mod Sequences

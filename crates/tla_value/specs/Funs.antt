@@ -1,0 +1,59 @@
+-- Functions as lists of pairs that rise by argument.
+use Rattle.std.specs.Prelude.{◌≡◌, ℕ, ◌+◌, pos, ◌<◌, ◌≤◌, Bool, true, false, cond, List, [], ◌∷◌, map, Option, Some, None, Result, Ok, Err, length}
+use Rattle.std.specs.BTreeMap.{insert_entry}
+use Rattle.std.specs.declared.cmp.Ordering.TheVariants.{Less, Greater}
+use Rattle.std.specs.List.Sorted.{IsPartitionPoint}
+use Rattle.std.specs.Map.{lookup}
+use Rattle.tla_value.specs.Tree.{Tree, int, fun, pairs, deepest_pair}
+use Rattle.tla_value.specs.IsValue.{IsValue}
+use Rattle.tla_value.specs.declared.error.ValueError.{ValueError}
+use Rattle.tla_value.specs.declared.error.ValueError.TheVariants.{TooMany, TooDeep, Memory}
+use Rattle.tla_value.specs.Order.{tree_cmp, tree_eq}
+use Rattle.tla_value.specs.ValueOrder.{value_cmp}
+use Rattle.tla_value.specs.declared.value.Value.{Value}
+
+-- the arguments of some pairs
+abbrev pub arguments : List (Tree × Tree) → List Tree
+arguments ps = map (λ (p : Tree × Tree). p.0) ps
+
+-- the value beside the first pair with this argument
+abbrev pub value_at : Tree → List (Tree × Tree) → Option Tree
+value_at t ps = lookup (tree_eq t) ps
+
+-- the place between the arguments below x and those above it
+abbrev pub IsPlace : Value → List (Value × Value) → ℕ → Type 0
+IsPlace x ps i = IsPartitionPoint (λ (p : Value × Value). value_cmp p.0 x ≡ Less) (λ (p : Value × Value). value_cmp p.0 x ≡ Greater) ps i
+
+-- the pairs in rising order, and of those with one argument the first
+abbrev pub fun_of : List (Tree × Tree) → List (Tree × Tree)
+fun_of [] = []
+fun_of (p ∷ ps) = insert_entry tree_cmp (fun_of ps) p.0 p.1
+
+-- another value at one argument. Outside the domain nothing changes. (Book, chapter 16: EXCEPT.)
+abbrev pub except_of : Tree → Tree → List (Tree × Tree) → List (Tree × Tree)
+except_of a v ps = map (λ (p : Tree × Tree). (p.0, cond (tree_eq a p.0) v p.1)) ps
+
+-- one item before the others, where there are any others to stand before
+abbrev pub with_item : Bool → Tree → Option (List Tree) → Option (List Tree)
+with_item true t (Some ts) = Some (t ∷ ts)
+with_item _ t _ = None
+
+-- the values, where the arguments are k, k + 1, ..
+abbrev pub items_from : ℕ → List (Tree × Tree) → Option (List Tree)
+items_from k [] = Some []
+items_from k (p ∷ ps) = with_item (tree_eq p.0 (int (pos k))) p.1 (items_from (k + 1) ps)
+
+-- the items of a sequence: a function on 1 to n
+abbrev pub items_of : List (Tree × Tree) → Option (List Tree)
+items_of ps = items_from 1 ps
+
+-- why these pairs make no function: the first limit that they pass. Memory may be refused at any time.
+abbrev pub RefusesFun : List (Tree × Tree) → ValueError → Type 0
+RefusesFun ps TooMany = 1000000 < length ps
+RefusesFun ps TooDeep = (length ps ≤ 1000000) × (64 ≤ deepest_pair (pairs ps))
+RefusesFun ps Memory = Unit {0}
+
+-- the answer is the function of these pairs, or says why there is none
+abbrev pub MakesFun : List (Tree × Tree) → Result (List (Tree × Tree)) ValueError → Type 0
+MakesFun ps (Ok f) = (f ≡ ps) × IsValue (fun (pairs ps))
+MakesFun ps (Err e) = RefusesFun ps e

@@ -1,0 +1,353 @@
+// Sets given by all ways to choose.
+ghost use Rattle.std.specs.Prelude.{◌≡◌, ◌==◌, ◌^◌, ◌<◌, ◌≤◌, false, max, [], ◌++◌, length, map, zip, slice_index_or, IsTrue, IfOk, IfErr, OnOk, MatchOption};
+ghost use Rattle.std.specs.List.{AllByRecursion};
+ghost use Rattle.std.specs.List.Sorted.{IsStrictlySortedBy};
+ghost use Rattle.tla_value.specs.Order.{tree_cmp};
+ghost use Rattle.tla_value.specs.IsValue.{IsValue};
+ghost use Rattle.tla_value.specs.Tree.{Tree, truth, set, trees, pairs as pairs_of, depth, deepest, deepest_pair};
+ghost use Rattle.tla_value.specs.Funs.{fun_of};
+ghost use Rattle.tla_value.specs.Sets.{set_of, MakesSet, MakesSetOfFunctions};
+ghost use Rattle.tla_value.specs.TreeOf.{tree_of, pair_of};
+ghost use Rattle.tla_value.specs.Choices.{ways, choice_of, functions_by, functions_of, tuples_of, subsets_of, sublist_of, keys_of, keyed, with_list, lists_of, records_of, is_each_once};
+ghost use Rattle.tla_value.specs.declared.error.ValueError.TheVariants.{Memory};
+
+use crate::error::ValueError;
+use crate::fun::{copy_arguments, drop_repeats, fun_within, sort_pairs};
+use crate::merge::keep_copy;
+use crate::set::{MAX_ELEMENTS, count_up, set_from_rising, set_within};
+use crate::text::Text;
+use crate::value::{SetValue, Value};
+use std::alloc::Global;
+
+// The most members whose subsets are at most a million.
+const MAX_POWER: usize = 19;
+
+// Whether there is no way to choose a member of each set.
+fn has_empty(sets: &[&SetValue]) -> bool
+    ensures empty { result ≡ (ways (map (λ s. s.now) sets.now) == 0) }
+    ensures rising { AllByRecursion (IsStrictlySortedBy tree_cmp) (map (λ s. s.now) sets.now) }
+{
+    let mut found = false;
+    for set in sets {
+        found |= set.items().is_empty();
+    }
+    found
+}
+
+// How many ways there are to choose a member of each set, where there are at most a million.
+fn count_of(sets: &[&SetValue]) -> Option<usize>
+    ensures count { MatchOption result (1000000 < ways (map (λ s. s.now) sets.now)) (λ n. (n ≡ ways (map (λ s. s.now) sets.now)) × (n ≤ 1000000)) }
+    ensures rising { AllByRecursion (IsStrictlySortedBy tree_cmp) (map (λ s. s.now) sets.now) }
+{
+    if has_empty(sets) {
+        return Some(0);
+    }
+    let mut count = 1;
+    for set in sets {
+        count *= set.len();
+        if count > MAX_ELEMENTS {
+            return None;
+        }
+    }
+    Some(count)
+}
+
+// An argument, and the member of a set at a place.
+fn pick(
+    alloc: Global,
+    argument: &Value,
+    set: &SetValue,
+    at: usize,
+) -> Result<(Value, Value), ValueError>
+    requires at { at < length set.now }
+    requires shallow { depth (tree_of argument.now) < 64 }
+    ensures ok { IfOk result (λ p. pair_of p ≡ (tree_of argument.now, slice_index_or set.now at (truth false))) }
+    ensures shallow { IfOk result (λ p. max (depth (tree_of p.0)) (depth (tree_of p.1)) < 64) }
+    ensures err { IfErr result (λ e. e ≡ Memory) }
+{
+    let member = &set.items()[at];
+    Ok((argument.copy(alloc)?, member.copy(alloc)?))
+}
+
+// The choice with this number: at each argument a member of the set beside it.
+fn choice_at(
+    alloc: Global,
+    arguments: &[Value],
+    sets: &[&SetValue],
+    count: usize,
+    number: usize,
+) -> Result<Vec<(Value, Value)>, ValueError>
+    requires sets { length arguments.now ≡ length sets.now }
+    requires count { count ≡ ways (map (λ s. s.now) sets.now) }
+    requires number { number < count }
+    requires shallow { deepest (trees (map tree_of arguments.now)) < 64 }
+    ensures ok { IfOk result (λ v. map pair_of v.items ≡ zip (map tree_of arguments.now) (choice_of (map (λ s. s.now) sets.now) number)) }
+    ensures shallow { IfOk result (λ v. deepest_pair (pairs_of (map pair_of v.items)) < 64) }
+    ensures err { IfErr result (λ e. e ≡ Memory) }
+{
+    let mut pairs = Vec::with_capacity(alloc, arguments.len())?;
+    let mut ways = count;
+    let mut left = number;
+    for i in 0..sets.len() {
+        let set = sets[i];
+        ways /= set.len();
+        pairs.push(pick(alloc, &arguments[i], set, left / ways)?)?;
+        left %= ways;
+    }
+    Ok(pairs)
+}
+
+// All functions with these arguments and, at each, a member of the set beside it, in rising order.
+fn functions(
+    alloc: Global,
+    arguments: &[Value],
+    sets: &[&SetValue],
+    count: usize,
+) -> Result<Vec<Value>, ValueError>
+    requires sets { length arguments.now ≡ length sets.now }
+    requires count { count ≡ ways (map (λ s. s.now) sets.now) }
+    requires few { length arguments.now ≤ 1000000 }
+    requires rising { IsStrictlySortedBy tree_cmp (map tree_of arguments.now) }
+    requires shallow { deepest (trees (map tree_of arguments.now)) < 64 }
+    ensures ok { IfOk result (λ v. map tree_of v.items ≡ functions_by (map tree_of arguments.now) (map (λ s. s.now) sets.now)) }
+    ensures err { IfErr result (λ e. e ≡ Memory) }
+{
+    let mut functions = Vec::with_capacity(alloc, count)?;
+    for number in 0..count {
+        let pairs = choice_at(alloc, arguments, sets, count, number)?;
+        functions.push(Value::Fun(fun_within(pairs)))?;
+    }
+    Ok(functions)
+}
+
+// A reference to each set.
+fn each_of(alloc: Global, sets: &[SetValue]) -> Result<Vec<&SetValue>, ValueError>
+    ensures ok { IfOk result (λ v. map (λ s. s.now) v.items ≡ sets.now) }
+    ensures err { IfErr result (λ e. e ≡ Memory) }
+{
+    let mut parts = Vec::with_capacity(alloc, sets.len())?;
+    for set in sets {
+        parts.push(set)?;
+    }
+    Ok(parts)
+}
+
+// A reference to one set for each of some values.
+fn repeated<'a>(
+    alloc: Global,
+    set: &'a SetValue,
+    items: &[Value],
+) -> Result<Vec<&'a SetValue>, ValueError>
+    ensures ok { IfOk result (λ v. map (λ s. s.now) v.items ≡ map (λ (t : Tree). set.now) (map tree_of items.now)) }
+    ensures err { IfErr result (λ e. e ≡ Memory) }
+{
+    let mut parts = Vec::with_capacity(alloc, items.len())?;
+    for i in 0..items.len() {
+        let _item = &items[i];
+        parts.push(set)?;
+    }
+    Ok(parts)
+}
+
+// The set of all functions with these arguments and, at each, a member of the set beside it.
+fn set_of_functions(
+    alloc: Global,
+    arguments: &[Value],
+    sets: &[&SetValue],
+    count: usize,
+) -> Result<SetValue, ValueError>
+    requires sets { length arguments.now ≡ length sets.now }
+    requires count { count ≡ ways (map (λ s. s.now) sets.now) }
+    requires few { length arguments.now ≤ 1000000 }
+    requires rising { IsStrictlySortedBy tree_cmp (map tree_of arguments.now) }
+    requires shallow { deepest (trees (map tree_of arguments.now)) < 64 }
+    requires lists { AllByRecursion (IsStrictlySortedBy tree_cmp) (map (λ s. s.now) sets.now) }
+    ensures { MakesSet (set_of (functions_by (map tree_of arguments.now) (map (λ s. s.now) sets.now))) result }
+{
+    set_from_rising(functions(alloc, arguments, sets, count)?)
+}
+
+// The tuples with one part of each set, in their order.
+fn set_of_tuples(alloc: Global, sets: &[&SetValue]) -> Result<SetValue, ValueError>
+    ensures { MakesSetOfFunctions (set_of (tuples_of (map (λ s. s.now) sets.now))) result }
+{
+    if has_empty(sets) {
+        return Ok(SetValue::empty(alloc));
+    }
+    if sets.len() > MAX_ELEMENTS {
+        return Err(ValueError::TooMany);
+    }
+    match count_of(sets) {
+        None => Err(ValueError::TooMany),
+        Some(count) => {
+            let numbers = count_up(alloc, 1, sets.len() as i64, sets.len() as u64)?;
+            set_of_functions(alloc, numbers.as_slice(), sets, count)
+        }
+    }
+}
+
+// The members of a list whose bits are set in a number, the first member's bit on top.
+fn sublist_at(
+    alloc: Global,
+    items: &[Value],
+    count: usize,
+    number: usize,
+) -> Result<Vec<Value>, ValueError>
+    requires count { count ≡ 2 ^ length items.now }
+    ensures ok { IfOk result (λ v. map tree_of v.items ≡ sublist_of (map tree_of items.now) number) }
+    ensures err { IfErr result (λ e. e ≡ Memory) }
+{
+    let mut kept = Vec::new(alloc);
+    let mut half = count;
+    let mut left = number;
+    for item in items {
+        half /= 2;
+        keep_copy(alloc, &mut kept, item, left >= half)?;
+        left %= half;
+    }
+    Ok(kept)
+}
+
+// All subsets of a rising list.
+fn subsets(alloc: Global, items: &[Value], count: usize) -> Result<Vec<Value>, ValueError>
+    requires count { count ≡ 2 ^ length items.now }
+    requires value { IsValue (set (trees (map tree_of items.now))) }
+    ensures ok { IfOk result (λ v. map tree_of v.items ≡ subsets_of (map tree_of items.now)) }
+    ensures err { IfErr result (λ e. e ≡ Memory) }
+{
+    let mut subsets = Vec::with_capacity(alloc, count)?;
+    for number in 0..count {
+        let items = sublist_at(alloc, items, count, number)?;
+        subsets.push(Value::Set(set_within(items)))?;
+    }
+    Ok(subsets)
+}
+
+// The fields by name, each with a copy of its set.
+fn keyed_fields(
+    alloc: Global,
+    fields: &[(Text, SetValue)],
+) -> Result<Vec<(Value, Value)>, ValueError>
+    ensures ok { IfOk result (λ v. map pair_of v.items ≡ keyed fields.now) }
+    ensures err { IfErr result (λ e. e ≡ Memory) }
+{
+    let mut pairs = Vec::with_capacity(alloc, fields.len())?;
+    for field in fields {
+        let name = field.0.copy(alloc)?;
+        let set = field.1.copy(alloc)?;
+        pairs.push((Value::Text(name), Value::Set(set)))?;
+    }
+    Ok(pairs)
+}
+
+// The fields in the order of their names.
+fn sorted_fields(
+    alloc: Global,
+    fields: &[(Text, SetValue)],
+) -> Result<Vec<(Value, Value)>, ValueError>
+    ensures ok { IfOk result (λ v. map pair_of v.items ≡ fun_of (keyed fields.now)) }
+    ensures err { IfErr result (λ e. e ≡ Memory) }
+{
+    let mut pairs = keyed_fields(alloc, fields)?;
+    sort_pairs(&mut pairs)?;
+    drop_repeats(&mut pairs);
+    Ok(pairs)
+}
+
+// Adds a reference to a set at the end.
+fn push_set<'a>(sets: &mut Vec<&'a SetValue>, value: &'a Value) -> Result<(), ValueError>
+    ensures ok { OnOk result (map (λ s. s.now) sets.new.items ≡ map (λ s. s.now) sets.old.items ++ with_list (tree_of value.now) []) }
+    ensures err { IfErr result (λ e. e ≡ Memory) }
+{
+    match value {
+        Value::Set(set) => sets.push(set)?,
+        Value::Truth(_) | Value::Int(_) | Value::Text(_) | Value::Model(_) | Value::Fun(_) => {}
+    }
+    Ok(())
+}
+
+// References to the sets among the values of some pairs.
+fn sets_among(alloc: Global, pairs: &[(Value, Value)]) -> Result<Vec<&SetValue>, ValueError>
+    ensures ok { IfOk result (λ v. map (λ s. s.now) v.items ≡ lists_of (map pair_of pairs.now)) }
+    ensures err { IfErr result (λ e. e ≡ Memory) }
+{
+    let mut sets = Vec::new(alloc);
+    for pair in pairs {
+        push_set(&mut sets, &pair.1)?;
+    }
+    Ok(sets)
+}
+
+// The records with these names, in order, and the sets beside them.
+fn set_of_records(
+    alloc: Global,
+    names: &[Value],
+    sets: &[&SetValue],
+) -> Result<SetValue, ValueError>
+    requires sets { length names.now ≡ length sets.now }
+    requires rising { IsStrictlySortedBy tree_cmp (map tree_of names.now) }
+    requires shallow { deepest (trees (map tree_of names.now)) < 64 }
+    ensures made { MakesSetOfFunctions (set_of (functions_by (map tree_of names.now) (map (λ s. s.now) sets.now))) result }
+    ensures rising { AllByRecursion (IsStrictlySortedBy tree_cmp) (map (λ s. s.now) sets.now) }
+{
+    if has_empty(sets) {
+        return Ok(SetValue::empty(alloc));
+    }
+    if sets.len() > MAX_ELEMENTS {
+        return Err(ValueError::TooMany);
+    }
+    match count_of(sets) {
+        None => Err(ValueError::TooMany),
+        Some(count) => set_of_functions(alloc, names, sets, count),
+    }
+}
+
+impl SetValue {
+    /// All subsets: `SUBSET S`.
+    pub fn power(&self, alloc: Global) -> Result<SetValue, ValueError>
+        ensures { MakesSet (set_of (subsets_of self.now)) result }
+    {
+        let items = self.items();
+        if items.len() > MAX_POWER {
+            return Err(ValueError::TooMany);
+        }
+        SetValue::from_values(subsets(alloc, items, 1 << items.len())?)
+    }
+
+    /// The functions from `domain` to `range`: `[domain -> range]`.
+    pub fn function_set(
+        alloc: Global,
+        domain: &SetValue,
+        range: &SetValue,
+    ) -> Result<SetValue, ValueError>
+        ensures { MakesSet (set_of (functions_of domain.now range.now)) result }
+    {
+        let arguments = domain.items();
+        let ranges = repeated(alloc, range, arguments)?;
+        match count_of(ranges.as_slice()) {
+            None => Err(ValueError::TooMany),
+            Some(count) => set_of_functions(alloc, arguments, ranges.as_slice(), count),
+        }
+    }
+
+    /// The tuples with one part of each set, in their order: `S \X T`. Where a tuple would have over a million parts,
+    /// there are too many as well.
+    pub fn product(alloc: Global, sets: &[SetValue]) -> Result<SetValue, ValueError>
+        ensures { MakesSetOfFunctions (set_of (tuples_of sets.now)) result }
+    {
+        let parts = each_of(alloc, sets)?;
+        set_of_tuples(alloc, parts.as_slice())
+    }
+
+    /// The records with these fields, each with a member of the set beside its name: `[a : S, ..]`. Where a record
+    /// would have over a million fields, there are too many as well.
+    pub fn record_set(alloc: Global, fields: &[(Text, SetValue)]) -> Result<SetValue, ValueError>
+        requires { IsTrue (is_each_once (keys_of fields.now)) }
+        ensures { MakesSetOfFunctions (set_of (records_of fields.now)) result }
+    {
+        let pairs = sorted_fields(alloc, fields)?;
+        let names = copy_arguments(alloc, pairs.as_slice())?;
+        let sets = sets_among(alloc, pairs.as_slice())?;
+        set_of_records(alloc, names.as_slice(), sets.as_slice())
+    }
+}

@@ -1,0 +1,365 @@
+// The text of values.
+ghost use Rattle.std.specs.Prelude.{◌≡◌, ◌++◌, codes, map, is_some, OnOk, IfErr};
+ghost use Rattle.std.specs.Io.KnownBytes.{Appends};
+ghost use Rattle.std.specs.List.{list_all, list_any};
+ghost use Rattle.std.specs.Str.{bytes_eq};
+ghost use Rattle.std.specs.Char.{is_ascii_alphabetic};
+ghost use Rattle.counted_writer.specs.Puts.{Puts, AddsFirst};
+ghost use Rattle.tla_value.specs.Tree.{Tree, trees, pairs as pairs_of, set, fun};
+ghost use Rattle.tla_value.specs.TreeOf.{tree_of, pair_of};
+ghost use Rattle.tla_value.specs.Funs.{arguments, items_of};
+ghost use Rattle.tla_value.specs.TextNames.{is_word_byte, begins_fairness, is_identifier, is_reserved, is_field_name};
+ghost use Rattle.tla_value.specs.Text.{text_of, escaped, quoted, field_name, is_field, listed, separator_before, value_texts, field_texts, pair_texts};
+
+use crate::order::compare;
+use crate::value::{FunValue, SetValue, Value};
+use counted_writer::{ShortWrite, put, put_number};
+use std::cmp::Ordering;
+use std::io::Write;
+
+/// A write failed or took no byte, so the text of a value was not written whole.
+#[derive(Clone, Copy, Debug, PartialEq, Eq)]
+pub struct TextFault {
+    /// The count of bytes that were written; `u64::MAX` stands for that many or more.
+    pub written: u64,
+}
+
+impl Value {
+    /// Writes the text of the value.
+    ///
+    /// The first write that fails, or that takes no byte, ends the call. Takes no memory.
+    pub fn write_text<W: Write>(&self, out: &mut W) -> Result<(), TextFault>
+        ensures ok { OnOk result (Appends (W.contents out.old) (W.contents out.new) (text_of (tree_of self.now))) }
+        ensures err { IfErr result (λ e. AddsFirst (W.contents out.old) (W.contents out.new) (text_of (tree_of self.now)) e.written) }
+    {
+        match self.put_text(out, 0) {
+            Ok(_) => Ok(()),
+            Err(ShortWrite { written }) => Err(TextFault { written }),
+        }
+    }
+
+    /// Writes the text of the value as [`Value::write_text`] does, after `written` bytes, and
+    /// answers the count after it, which stays at `u64::MAX`.
+    pub fn put_text<W: Write>(&self, out: &mut W, written: u64) -> Result<u64, ShortWrite>
+        ensures { Puts (W.contents out.old) (W.contents out.new) written (text_of (tree_of self.now)) result }
+    {
+        put_value(self, out, written)
+    }
+}
+
+#[cycle(show)]
+fn put_value<W: Write>(value: &Value, out: &mut W, written: u64) -> Result<u64, ShortWrite>
+    ensures { Puts (W.contents out.old) (W.contents out.new) written (text_of (tree_of value.now)) result }
+{
+    match value {
+        Value::Truth(true) => put(out, written, b"TRUE"),
+        Value::Truth(false) => put(out, written, b"FALSE"),
+        Value::Int(number) => put_number(out, written, *number),
+        Value::Text(text) => put_quoted(text.as_str().as_bytes(), out, written),
+        Value::Model(name) => put(out, written, name.as_str().as_bytes()),
+        Value::Set(set) => put_set(set, out, written),
+        Value::Fun(fun) => put_function(fun, out, written),
+    }
+}
+
+fn put_quoted<W: Write>(bytes: &[u8], out: &mut W, written: u64) -> Result<u64, ShortWrite>
+    ensures { Puts (W.contents out.old) (W.contents out.new) written (quoted bytes.now) result }
+{
+    let mut written = put(out, written, b"\"")?;
+    for byte in bytes {
+        written = put_escaped(*byte, out, written)?;
+    }
+    put(out, written, b"\"")
+}
+
+fn put_escaped<W: Write>(byte: u8, out: &mut W, written: u64) -> Result<u64, ShortWrite>
+    ensures { Puts (W.contents out.old) (W.contents out.new) written (escaped byte) result }
+{
+    match byte {
+        b'"' => put(out, written, b"\\\""),
+        b'\\' => put(out, written, b"\\\\"),
+        b'\t' => put(out, written, b"\\t"),
+        b'\n' => put(out, written, b"\\n"),
+        b'\x0C' => put(out, written, b"\\f"),
+        b'\r' => put(out, written, b"\\r"),
+        _ => put(out, written, &[byte]),
+    }
+}
+
+#[cycle(show)]
+fn put_set<W: Write>(of: &SetValue, out: &mut W, written: u64) -> Result<u64, ShortWrite>
+    ensures { Puts (W.contents out.old) (W.contents out.new) written (text_of (set (trees of.now))) result }
+{
+    let items = of.items();
+    let mut written = put(out, written, b"{")?;
+    for i in 0..items.len() {
+        written = put_item(&items[i], i, out, written)?;
+    }
+    put(out, written, b"}")
+}
+
+// Writes the item at an index, behind a comma unless it is the first.
+#[cycle(show)]
+fn put_item<W: Write>(
+    item: &Value,
+    index: usize,
+    out: &mut W,
+    written: u64,
+) -> Result<u64, ShortWrite>
+    ensures { Puts (W.contents out.old) (W.contents out.new) written (separator_before index (codes ", ") ++ text_of (tree_of item.now)) result }
+{
+    let written = put_between(index, b", ", out, written)?;
+    put_value(item, out, written)
+}
+
+// Writes the separator that stands before what is at an index.
+fn put_between<W: Write>(
+    index: usize,
+    separator: &[u8],
+    out: &mut W,
+    written: u64,
+) -> Result<u64, ShortWrite>
+    ensures { Puts (W.contents out.old) (W.contents out.new) written (separator_before index separator.now) result }
+{
+    if index == 0 {
+        Ok(written)
+    } else {
+        put(out, written, separator)
+    }
+}
+
+#[cycle(show)]
+fn put_function<W: Write>(of: &FunValue, out: &mut W, written: u64) -> Result<u64, ShortWrite>
+    ensures { Puts (W.contents out.old) (W.contents out.new) written (text_of (fun (pairs_of of.now))) result }
+{
+    let pairs = of.pairs();
+    // No argument is a number and a string, so one of the two walks ends at the first pair.
+    if pairs.is_empty() {
+        put(out, written, b"<< >>")
+    } else if is_sequence(pairs) {
+        put_sequence(pairs, out, written)
+    } else if is_record(pairs) {
+        put_record(pairs, out, written)
+    } else {
+        put_pairs(pairs, out, written)
+    }
+}
+
+#[cycle(show)]
+fn put_sequence<W: Write>(
+    pairs: &[(Value, Value)],
+    out: &mut W,
+    written: u64,
+) -> Result<u64, ShortWrite>
+    ensures { Puts (W.contents out.old) (W.contents out.new) written
+        (listed (codes "<<") (codes ", ") (codes ">>") (value_texts (pairs_of (map pair_of pairs.now)))) result }
+{
+    let mut written = put(out, written, b"<<")?;
+    for i in 0..pairs.len() {
+        written = put_item(&pairs[i].1, i, out, written)?;
+    }
+    put(out, written, b">>")
+}
+
+#[cycle(show)]
+fn put_record<W: Write>(
+    pairs: &[(Value, Value)],
+    out: &mut W,
+    written: u64,
+) -> Result<u64, ShortWrite>
+    ensures { Puts (W.contents out.old) (W.contents out.new) written
+        (listed (codes "[") (codes ", ") (codes "]") (field_texts (pairs_of (map pair_of pairs.now)))) result }
+{
+    let mut written = put(out, written, b"[")?;
+    for i in 0..pairs.len() {
+        written = put_field(&pairs[i], i, out, written)?;
+    }
+    put(out, written, b"]")
+}
+
+#[cycle(show)]
+fn put_field<W: Write>(
+    field: &(Value, Value),
+    index: usize,
+    out: &mut W,
+    written: u64,
+) -> Result<u64, ShortWrite>
+    ensures { Puts (W.contents out.old) (W.contents out.new) written
+        (separator_before index (codes ", ") ++ (field_name (tree_of field.now.0) ++ (codes " |-> " ++ text_of (tree_of field.now.1)))) result }
+{
+    let written = put_between(index, b", ", out, written)?;
+    let written = put_name(&field.0, out, written)?;
+    let written = put(out, written, b" |-> ")?;
+    put_value(&field.1, out, written)
+}
+
+// Writes a string without quotes, and nothing for another value.
+fn put_name<W: Write>(name: &Value, out: &mut W, written: u64) -> Result<u64, ShortWrite>
+    ensures { Puts (W.contents out.old) (W.contents out.new) written (field_name (tree_of name.now)) result }
+{
+    match name {
+        Value::Text(text) => put(out, written, text.as_str().as_bytes()),
+        _ => Ok(written),
+    }
+}
+
+#[cycle(show)]
+fn put_pairs<W: Write>(
+    pairs: &[(Value, Value)],
+    out: &mut W,
+    written: u64,
+) -> Result<u64, ShortWrite>
+    ensures { Puts (W.contents out.old) (W.contents out.new) written
+        (listed (codes "(") (codes " @@ ") (codes ")") (pair_texts (pairs_of (map pair_of pairs.now)))) result }
+{
+    let mut written = put(out, written, b"(")?;
+    for i in 0..pairs.len() {
+        written = put_pair(&pairs[i], i, out, written)?;
+    }
+    put(out, written, b")")
+}
+
+#[cycle(show)]
+fn put_pair<W: Write>(
+    pair: &(Value, Value),
+    index: usize,
+    out: &mut W,
+    written: u64,
+) -> Result<u64, ShortWrite>
+    ensures { Puts (W.contents out.old) (W.contents out.new) written
+        (separator_before index (codes " @@ ") ++ (text_of (tree_of pair.now.0) ++ (codes " :> " ++ text_of (tree_of pair.now.1)))) result }
+{
+    let written = put_between(index, b" @@ ", out, written)?;
+    let written = put_value(&pair.0, out, written)?;
+    let written = put(out, written, b" :> ")?;
+    put_value(&pair.1, out, written)
+}
+
+// Whether the arguments are 1, 2, and so on.
+fn is_sequence(pairs: &[(Value, Value)]) -> bool
+    ensures { result ≡ is_some (items_of (map pair_of pairs.now)) }
+{
+    for i in 0..pairs.len() {
+        if compare(&pairs[i].0, &Value::Int(i as i64 + 1)) != Ordering::Equal {
+            return false;
+        }
+    }
+    true
+}
+
+// Whether each argument is the name of a field.
+fn is_record(pairs: &[(Value, Value)]) -> bool
+    ensures { result ≡ list_all is_field (arguments (map pair_of pairs.now)) }
+{
+    for pair in pairs {
+        if !names_field(&pair.0) {
+            return false;
+        }
+    }
+    true
+}
+
+fn names_field(argument: &Value) -> bool
+    ensures { result ≡ is_field (tree_of argument.now) }
+{
+    match argument {
+        Value::Text(text) => {
+            let name = text.as_str();
+            is_identifier(name.as_bytes()) && !is_reserved(name)
+        }
+        _ => false,
+    }
+}
+
+fn is_identifier(name: &[u8]) -> bool
+    ensures { result ≡ is_identifier name.now }
+{
+    has_word_bytes(name) && has_letter(name) && !begins_fairness(name)
+}
+
+fn has_word_bytes(bytes: &[u8]) -> bool
+    ensures { result ≡ list_all is_word_byte bytes.now }
+{
+    for byte in bytes {
+        if !byte.is_ascii_alphanumeric() && *byte != b'_' {
+            return false;
+        }
+    }
+    true
+}
+
+fn has_letter(bytes: &[u8]) -> bool
+    ensures { result ≡ list_any is_ascii_alphabetic bytes.now }
+{
+    for byte in bytes {
+        if byte.is_ascii_alphabetic() {
+            return true;
+        }
+    }
+    false
+}
+
+// Whether a word begins with a token of its own, `WF_` or `SF_`.
+fn begins_fairness(word: &[u8]) -> bool
+    ensures { result ≡ begins_fairness word.now }
+{
+    word.starts_with(b"WF_") || word.starts_with(b"SF_")
+}
+
+const RESERVED: [&str; 37] = [
+    "ASSUME",
+    "ASSUMPTION",
+    "AXIOM",
+    "BOOLEAN",
+    "CASE",
+    "CHOOSE",
+    "CONSTANT",
+    "CONSTANTS",
+    "DOMAIN",
+    "ELSE",
+    "EXCEPT",
+    "EXTENDS",
+    "FALSE",
+    "IF",
+    "IN",
+    "LET",
+    "LOCAL",
+    "MODULE",
+    "OTHER",
+    "STRING",
+    "SUBSET",
+    "THEN",
+    "THEOREM",
+    "TRUE",
+    "UNCHANGED",
+    "UNION",
+    "VARIABLE",
+    "VARIABLES",
+    "ENABLED",
+    "INSTANCE",
+    "LAMBDA",
+    "RECURSIVE",
+    "WITH",
+    "PROOF",
+    "BY",
+    "OBVIOUS",
+    "OMITTED",
+];
+
+fn is_reserved(word: &str) -> bool
+    ensures { result ≡ is_reserved word.now }
+{
+    stands_in(word, &RESERVED)
+}
+
+// Whether a word is one of some words.
+fn stands_in(word: &str, words: &[&str]) -> bool
+    ensures { result ≡ list_any (λ w. bytes_eq word.now w.now) words.now }
+{
+    for known in words {
+        if word == *known {
+            return true;
+        }
+    }
+    false
+}

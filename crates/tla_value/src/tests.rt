@@ -1,0 +1,343 @@
+use super::*;
+use std::alloc::Global;
+use std::hash::{DefaultHasher, Hash, Hasher};
+use std::io::Write;
+use std::test::Fail;
+use std::{io, thread};
+
+fn numbers(alloc: Global, list: &[i64]) -> Result<SetValue, ValueError> {
+    let mut values = Vec::new(alloc);
+    for number in list {
+        values.push(Value::Int(*number))?;
+    }
+    SetValue::from_values(values)
+}
+
+fn sequence(alloc: Global, list: &[i64]) -> Result<FunValue, ValueError> {
+    let mut pairs = Vec::new(alloc);
+    let mut next: i64 = 1;
+    for number in list {
+        pairs.push((Value::Int(next), Value::Int(*number)))?;
+        next = next.wrapping_add(1);
+    }
+    FunValue::from_pairs(pairs)
+}
+
+fn string(alloc: Global, text: &str) -> Result<Value, ValueError> {
+    Ok(Value::Text(Text::new(String::from_str(alloc, text)?)))
+}
+
+fn single(alloc: Global, value: Value) -> Result<SetValue, ValueError> {
+    let mut values = Vec::new(alloc);
+    values.push(value)?;
+    SetValue::from_values(values)
+}
+
+fn shown(alloc: Global, value: &Value) -> Result<Vec<u8>, Fail> {
+    let mut out = Vec::new(alloc);
+    value.write_text(&mut out)?;
+    Ok(out)
+}
+
+// A set that is nested so deep round 1.
+fn nested(alloc: Global, braces: u64) -> Result<Value, ValueError> {
+    let mut value = Value::Int(1);
+    for _ in 0..braces {
+        value = Value::Set(single(alloc, value)?);
+    }
+    Ok(value)
+}
+
+#[test]
+fn ranges_and_powers(rt: HostRuntime) -> Result<(), Fail> {
+    let alloc = rt.alloc();
+    assert_eq!(rt; SetValue::range(alloc, 1, 1_000_000)?.len(), 1_000_000);
+    assert_eq!(rt;
+        SetValue::range(alloc, 0, 1_000_000).err(),
+        Some(ValueError::TooMany)
+    );
+    assert_eq!(rt;
+        SetValue::range(alloc, i64::MIN, i64::MAX).err(),
+        Some(ValueError::TooMany)
+    );
+    assert!(rt; SetValue::range(alloc, 5, 4)?.is_empty());
+    let nineteen = SetValue::range(alloc, 1, 19)?;
+    assert_eq!(rt; nineteen.power(alloc)?.len(), 524_288);
+    let twenty = SetValue::range(alloc, 1, 20)?;
+    assert_eq!(rt; twenty.power(alloc).err(), Some(ValueError::TooMany));
+    Ok(())
+}
+
+#[test]
+fn products_and_function_sets(rt: HostRuntime) -> Result<(), Fail> {
+    let alloc = rt.alloc();
+    let none = SetValue::empty(alloc);
+    let one = numbers(alloc, &[1])?;
+    let two = numbers(alloc, &[1, 2])?;
+    let text = shown(
+        alloc,
+        &Value::Set(SetValue::function_set(alloc, &none, &two)?),
+    )?;
+    assert_eq!(rt; text.as_slice(), b"{<< >>}".as_slice());
+    assert!(rt; SetValue::function_set(alloc, &one, &none)?.is_empty());
+    let text = shown(alloc, &Value::Set(SetValue::product(alloc, &[])?))?;
+    assert_eq!(rt; text.as_slice(), b"{<< >>}".as_slice());
+    let mut parts = Vec::new(alloc);
+    parts.push(two)?;
+    parts.push(one)?;
+    let text = shown(alloc, &Value::Set(SetValue::product(alloc, &parts)?))?;
+    assert_eq!(rt; text.as_slice(), b"{<<1, 1>>, <<2, 1>>}".as_slice());
+    parts.push(none)?;
+    assert!(rt; SetValue::product(alloc, &parts)?.is_empty());
+    let mut fields = Vec::new(alloc);
+    fields.push((
+        Text::new(String::from_str(alloc, "a")?),
+        numbers(alloc, &[1])?,
+    ))?;
+    let records = SetValue::record_set(alloc, &fields)?;
+    let text = shown(alloc, &Value::Set(records))?;
+    assert_eq!(rt; text.as_slice(), b"{[a |-> 1]}".as_slice());
+    Ok(())
+}
+
+#[test]
+fn nesting_is_bounded(rt: HostRuntime) -> Result<(), Fail> {
+    let alloc = rt.alloc();
+    let deepest = nested(alloc, 64)?;
+    assert_eq!(rt; deepest.nesting(), 64);
+    assert_eq!(rt; nested(alloc, 65).err(), Some(ValueError::TooDeep));
+    let mut set = numbers(alloc, &[7])?;
+    assert_eq!(rt; set.insert(deepest).err(), Some(ValueError::TooDeep));
+    let text = shown(alloc, &Value::Set(set))?;
+    assert_eq!(rt; text.as_slice(), b"{7}".as_slice());
+    Ok(())
+}
+
+#[test]
+fn texts(rt: HostRuntime) -> Result<(), Fail> {
+    let alloc = rt.alloc();
+    let mut pairs = Vec::new(alloc);
+    pairs.push((string(alloc, "b")?, Value::Int(2)))?;
+    pairs.push((string(alloc, "a")?, Value::Int(1)))?;
+    let record = Value::Fun(FunValue::from_pairs(pairs)?);
+    assert_eq!(rt;
+        shown(alloc, &record)?.as_slice(),
+        b"[a |-> 1, b |-> 2]".as_slice()
+    );
+    let mut pairs = Vec::new(alloc);
+    pairs.push((string(alloc, "IN")?, Value::Int(1)))?;
+    let reserved = Value::Fun(FunValue::from_pairs(pairs)?);
+    assert_eq!(rt;
+        shown(alloc, &reserved)?.as_slice(),
+        b"(\"IN\" :> 1)".as_slice()
+    );
+    let mut pairs = Vec::new(alloc);
+    pairs.push((string(alloc, "WF_x")?, Value::Int(1)))?;
+    let fairness = Value::Fun(FunValue::from_pairs(pairs)?);
+    assert_eq!(rt;
+        shown(alloc, &fairness)?.as_slice(),
+        b"(\"WF_x\" :> 1)".as_slice()
+    );
+    let mut pairs = Vec::new(alloc);
+    pairs.push((Value::Int(7), Value::Int(6)))?;
+    pairs.push((Value::Int(0), Value::Int(5)))?;
+    let other = Value::Fun(FunValue::from_pairs(pairs)?);
+    assert_eq!(rt;
+        shown(alloc, &other)?.as_slice(),
+        b"(0 :> 5 @@ 7 :> 6)".as_slice()
+    );
+    let mut mixed = Vec::new(alloc);
+    mixed.push(Value::Fun(sequence(alloc, &[1])?))?;
+    mixed.push(string(alloc, "b")?)?;
+    mixed.push(Value::Int(3))?;
+    mixed.push(Value::Truth(true))?;
+    mixed.push(Value::Set(SetValue::empty(alloc)))?;
+    let mixed = Value::Set(SetValue::from_values(mixed)?);
+    assert_eq!(rt;
+        shown(alloc, &mixed)?.as_slice(),
+        b"{TRUE, 3, \"b\", {}, <<1>>}".as_slice()
+    );
+    let escapes = string(alloc, "\"\\\t\n\u{c}\r")?;
+    assert_eq!(rt;
+        shown(alloc, &escapes)?.as_slice(),
+        b"\"\\\"\\\\\\t\\n\\f\\r\"".as_slice()
+    );
+    let model = Value::Model(Text::new(String::from_str(alloc, "m1")?));
+    assert_eq!(rt; shown(alloc, &model)?.as_slice(), b"m1".as_slice());
+    Ok(())
+}
+
+#[test]
+fn set_operations(rt: HostRuntime) -> Result<(), Fail> {
+    let alloc = rt.alloc();
+    let left = numbers(alloc, &[1, 2])?;
+    let right = numbers(alloc, &[3, 2])?;
+    let text = shown(alloc, &Value::Set(left.union(alloc, &right)?))?;
+    assert_eq!(rt; text.as_slice(), b"{1, 2, 3}".as_slice());
+    let text = shown(alloc, &Value::Set(left.intersect(alloc, &right)?))?;
+    assert_eq!(rt; text.as_slice(), b"{2}".as_slice());
+    let text = shown(alloc, &Value::Set(left.minus(alloc, &right)?))?;
+    assert_eq!(rt; text.as_slice(), b"{1}".as_slice());
+    assert!(rt; !left.is_subset(&right));
+    assert!(rt; left.is_subset(&left.copy(alloc)?));
+    assert!(rt; left.contains(&Value::Int(2)));
+    assert_eq!(rt; left.get(1), Some(&Value::Int(2)));
+    assert_eq!(rt; left.get(2), None);
+    let mut one = numbers(alloc, &[1])?;
+    assert!(rt; one.insert(Value::Int(2))?);
+    assert!(rt; !one.insert(Value::Int(2))?);
+    assert!(rt; Value::Set(one) == Value::Set(left));
+    Ok(())
+}
+
+#[test]
+fn function_operations(rt: HostRuntime) -> Result<(), Fail> {
+    let alloc = rt.alloc();
+    let one = sequence(alloc, &[1])?;
+    let text = shown(alloc, &Value::Set(one.domain(alloc)?))?;
+    assert_eq!(rt; text.as_slice(), b"{1}".as_slice());
+    let changed = Value::Fun(one.except(alloc, &Value::Int(1), Value::Int(2))?);
+    assert_eq!(rt; shown(alloc, &changed)?.as_slice(), b"<<2>>".as_slice());
+    let same = Value::Fun(one.except(alloc, &Value::Int(2), Value::Int(2))?);
+    assert_eq!(rt; shown(alloc, &same)?.as_slice(), b"<<1>>".as_slice());
+    let both = one.override_with(alloc, &sequence(alloc, &[3, 4])?)?;
+    assert_eq!(rt; both.as_sequence(), Some(2));
+    assert_eq!(rt; both.apply(&Value::Int(2)), Some(&Value::Int(4)));
+    assert_eq!(rt; both.apply(&Value::Int(3)), None);
+    assert_eq!(rt;
+        shown(alloc, &Value::Fun(both))?.as_slice(),
+        b"<<1, 4>>".as_slice()
+    );
+    let copy = Value::Fun(one).copy(alloc)?;
+    assert_eq!(rt; shown(alloc, &copy)?.as_slice(), b"<<1>>".as_slice());
+    Ok(())
+}
+
+// A writer that takes so many bytes, at most `most` a call, and then fails once, or takes nothing.
+#[derive(Drop)]
+struct Narrow {
+    room: usize,
+    most: usize,
+    fails: bool,
+    calls_after: u64,
+    taken: Vec<u8>,
+}
+
+impl Write for Narrow {
+    fn write(&mut self, buf: &[u8]) -> io::Result<usize> {
+        if self.room == 0 {
+            self.calls_after = self.calls_after.saturating_add(1);
+            if self.fails {
+                return Err(io::Error::from(io::ErrorKind::Interrupted));
+            }
+            return Ok(0);
+        }
+        let count = buf.len().min(self.most).min(self.room);
+        self.taken.extend_from_slice(&buf[..count])?;
+        self.room -= count;
+        Ok(count)
+    }
+
+    fn flush(&mut self) -> io::Result<()> {
+        Ok(())
+    }
+}
+
+#[test]
+fn texts_that_are_cut(rt: HostRuntime) -> Result<(), Fail> {
+    let alloc = rt.alloc();
+    let mut pairs = Vec::new(alloc);
+    pairs.push((
+        string(alloc, "a\n")?,
+        Value::Fun(sequence(alloc, &[10, -2])?),
+    ))?;
+    pairs.push((Value::Int(3), Value::Set(numbers(alloc, &[1, 2])?)))?;
+    let value = Value::Fun(FunValue::from_pairs(pairs)?);
+    let whole = shown(alloc, &value)?;
+    for most in [1, 3, 100] {
+        for fails in [false, true] {
+            for room in 0..whole.len() {
+                let mut narrow = Narrow {
+                    room,
+                    most,
+                    fails,
+                    calls_after: 0,
+                    taken: Vec::new(alloc),
+                };
+                let fault = value.write_text(&mut narrow).err().ok_or("written whole")?;
+                assert_eq!(rt; fault.written, room as u64);
+                assert_eq!(rt; narrow.calls_after, 1);
+                assert_eq!(rt; narrow.taken.as_slice(), &whole[..room]);
+            }
+        }
+    }
+    Ok(())
+}
+
+#[test]
+fn states_and_shards(rt: HostRuntime) -> Result<(), Fail> {
+    let alloc = rt.alloc();
+    let mut seen = [false; 7];
+    for number in 0..65536 {
+        let mut values = Vec::new(alloc);
+        values.push(Value::Int(number))?;
+        let state = State::new(values);
+        let shard = state.shard(7);
+        assert_eq!(rt; state.copy(alloc)?.shard(7), shard);
+        if let Some(place) = seen.get_mut(shard as usize) {
+            *place = true;
+        }
+    }
+    assert!(rt; seen == [true; 7]);
+    Ok(())
+}
+
+fn large_set(alloc: Global) -> Result<(), ValueError> {
+    let made = SetValue::range(alloc, 1, 1_000_000)?;
+    let mut backwards = Vec::new(alloc);
+    for number in 0..1_000_000 {
+        backwards.push(Value::Int(1_000_000_i64.wrapping_sub(number)))?;
+    }
+    let other = Value::Set(SetValue::from_values(backwards)?);
+    let made = Value::Set(made);
+    let copy = made.copy(alloc)?;
+    let mut first = DefaultHasher::new();
+    copy.hash(&mut first);
+    let mut second = DefaultHasher::new();
+    other.hash(&mut second);
+    let mut text = Vec::new(alloc);
+    let written = copy.write_text(&mut text);
+    if copy == other
+        && first.finish() == second.finish()
+        && written.is_ok()
+        && text.len() == 7_888_896
+    {
+        Ok(())
+    } else {
+        Err(ValueError::TooMany)
+    }
+}
+
+#[test]
+fn a_large_set_on_a_worker(rt: HostRuntime) -> Result<(), Fail> {
+    let alloc = rt.alloc();
+    let worker = thread::spawn(&rt, move || large_set(alloc))?;
+    let outcome = worker.join(&rt);
+    assert!(rt; outcome.is_ok());
+    Ok(())
+}
+
+#[test]
+fn error_texts(rt: HostRuntime) -> Result<(), Fail> {
+    let alloc = rt.alloc();
+    assert_eq!(rt;
+        format!(in alloc; "{}", ValueError::TooMany)?.as_str(),
+        "V1"
+    );
+    assert_eq!(rt;
+        format!(in alloc; "{}", ValueError::TooDeep)?.as_str(),
+        "V2"
+    );
+    assert_eq!(rt; format!(in alloc; "{}", ValueError::Memory)?.as_str(), "V3");
+    Ok(())
+}
