@@ -48,23 +48,28 @@ fn nested(alloc: Global, braces: u64) -> Result<Value, ValueError> {
     Ok(value)
 }
 
+// How many numbers stand in a range.
+fn count_in_range(alloc: Global, low: i64, high: i64) -> Result<usize, ValueError> {
+    Ok(SetValue::range(alloc, low, high)?.len())
+}
+
+// How many subsets the numbers of a range have.
+fn count_of_subsets(alloc: Global, low: i64, high: i64) -> Result<usize, ValueError> {
+    Ok(SetValue::range(alloc, low, high)?.power(alloc)?.len())
+}
+
 #[test]
 fn ranges_and_powers(rt: HostRuntime) -> Result<(), Fail> {
     let alloc = rt.alloc();
-    assert_eq!(rt; SetValue::range(alloc, 1, 1_000_000)?.len(), 1_000_000);
-    assert_eq!(rt;
-        SetValue::range(alloc, 0, 1_000_000).err(),
-        Some(ValueError::TooMany)
-    );
-    assert_eq!(rt;
-        SetValue::range(alloc, i64::MIN, i64::MAX).err(),
-        Some(ValueError::TooMany)
-    );
-    assert!(rt; SetValue::range(alloc, 5, 4)?.is_empty());
-    let nineteen = SetValue::range(alloc, 1, 19)?;
-    assert_eq!(rt; nineteen.power(alloc)?.len(), 524_288);
-    let twenty = SetValue::range(alloc, 1, 20)?;
-    assert_eq!(rt; twenty.power(alloc).err(), Some(ValueError::TooMany));
+    assert_eq!(rt; count_in_range(alloc, 1, 1_000_000), Ok(1_000_000));
+    let too_many = Err(ValueError::TooMany);
+    assert_eq!(rt; count_in_range(alloc, 0, 1_000_000), too_many);
+    let too_many = Err(ValueError::TooMany);
+    assert_eq!(rt; count_in_range(alloc, i64::MIN, i64::MAX), too_many);
+    assert_eq!(rt; count_in_range(alloc, 5, 4), Ok(0));
+    assert_eq!(rt; count_of_subsets(alloc, 1, 19), Ok(524_288));
+    let too_many = Err(ValueError::TooMany);
+    assert_eq!(rt; count_of_subsets(alloc, 1, 20), too_many);
     Ok(())
 }
 

@@ -73,39 +73,6 @@ fn texts_of_simple_values(rt: HostRuntime) -> Result<(), Fail> {
     Ok(())
 }
 
-#[test]
-fn texts_of_sets_and_functions(rt: HostRuntime) -> Result<(), Fail> {
-    let alloc = rt.alloc();
-    let mut values = Vec::new(alloc);
-    values.push(pair_of(alloc, Value::Int(1), Value::Int(1))?)?;
-    values.push(string(alloc, "b")?)?;
-    values.push(Value::Int(3))?;
-    values.push(Value::Truth(true))?;
-    values.push(Value::Set(SetValue::empty(alloc)))?;
-    let mixed = Value::Set(SetValue::from_values(values)?);
-    let expected = b"{TRUE, 3, \"b\", {}, <<1>>}".as_slice();
-    assert_eq!(rt; shown(alloc, &mixed)?.as_slice(), expected);
-    let mut pairs = Vec::new(alloc);
-    pairs.push((string(alloc, "b")?, Value::Int(2)))?;
-    pairs.push((string(alloc, "a")?, Value::Int(1)))?;
-    let record = Value::Fun(FunValue::from_pairs(pairs)?);
-    assert_eq!(rt;
-        shown(alloc, &record)?.as_slice(),
-        b"[a |-> 1, b |-> 2]".as_slice()
-    );
-    let reserved = pair_of(alloc, string(alloc, "IN")?, Value::Int(1))?;
-    assert_eq!(rt;
-        shown(alloc, &reserved)?.as_slice(),
-        b"(\"IN\" :> 1)".as_slice()
-    );
-    let fairness = pair_of(alloc, string(alloc, "WF_x")?, Value::Int(1))?;
-    assert_eq!(rt;
-        shown(alloc, &fairness)?.as_slice(),
-        b"(\"WF_x\" :> 1)".as_slice()
-    );
-    Ok(())
-}
-
 // Each count of bytes that go out, also where a value is cut.
 #[test]
 fn ends_at_the_first_refusal(rt: HostRuntime) -> Result<(), Fail> {
