@@ -34,12 +34,6 @@ fn string(alloc: Global, text: &str) -> Result<Value, Fail> {
     Ok(Value::Text(Text::new(String::from_str(alloc, text)?)))
 }
 
-fn pair_of(alloc: Global, argument: Value, value: Value) -> Result<Value, Fail> {
-    let mut pairs = Vec::new(alloc);
-    pairs.push((argument, value))?;
-    Ok(Value::Fun(FunValue::from_pairs(pairs)?))
-}
-
 // (0 :> "A" @@ 1 :> "Done")
 fn steps(alloc: Global) -> Result<Value, Fail> {
     let mut pairs = Vec::new(alloc);
