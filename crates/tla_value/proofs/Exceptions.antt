@@ -1,18 +1,17 @@
 -- Another value at one argument, and the domain.
-use Rattle.std.proofs.Common.{◌≡◌, ℕ, zero, suc, ◌<◌, ◌≤◌, max, cond, true, false, Option, Some, None, List, [], ◌∷◌, length, map, get_or, set, refl, sym, ap, subst, ◌∙◌, arith, ⊎_elim, Ordering, Less, Equal, Greater}
-use Rattle.std.specs.List.{AllByRecursion}
+use Rattle.std.proofs.Common.{◌≡◌, ℕ, zero, suc, ◌<◌, ◌≤◌, cond, false, List, [], ◌∷◌, length, map, get_or, set, refl, sym, ap, subst, ◌∙◌, arith, ⊎_elim, Less, Equal, Greater}
 use Rattle.std.specs.List.Sorted.{IsStrictlySortedBy}
-use Rattle.std.specs.Ordering.{is_eq, ordering_reverse}
+use Rattle.std.specs.Ordering.{is_eq}
 use Rattle.std.specs.Cmp.{alike_right}
-use Rattle.std.proofs.lemmas.Cmp.{eq_by_cmp_equiv}
 use Rattle.std.proofs.lemmas.Bool.{cases_lt}
 use Rattle.std.proofs.lemmas.List.{length-map}
-use Rattle.tla_value.specs.Tree.{Tree, fun, trees, pairs, entries, entries-pairs, depth, deepest, deepest_pair}
+use Rattle.tla_value.specs.Tree.{Tree, fun, trees, pairs, entries-pairs, deepest, deepest_pair}
 use Rattle.tla_value.specs.TreeOf.{tree_of, pair_of}
-use Rattle.tla_value.specs.Order.{tree_cmp, tree_eq}
+use Rattle.tla_value.specs.Order.{tree_cmp}
 use Rattle.tla_value.specs.IsValue.{IsValue, IsSetList, IsFunList}
 use Rattle.tla_value.specs.ValueOrder.{value_cmp, value_eq, value_cmp-total}
-use Rattle.tla_value.specs.Funs.{arguments, except_of, IsPlace}
+use Rattle.tla_value.specs.Funs.{arguments, except_of}
+use Rattle.tla_value.specs.Inner.{IsPlace}
 use Rattle.tla_value.proofs.Entries.{Entry, argument_of, alike-way, rising-entries}
 use Rattle.tla_value.specs.declared.value.Value.{Value}
 
@@ -59,9 +58,3 @@ is-domain ps ts rising h is =
       few = let few = whole.few in omega (arith, length-map ps (λ (p : Tree × Tree). p.0));
       shallow = let shallow = whole.shallow in omega (arith, deepest-arguments ps);
     })
-
-pub few_pairs : (ps : List (Tree × Tree)) (es : List Entry) → map pair_of es ≡ ps → IsValue (fun (pairs ps)) → length es ≤ 1000000
-few_pairs ps es e h =
-    let whole : IsFunList ps = subst IsFunList (entries-pairs ps) h.1 in
-    let few = whole.few in
-    omega (arith, length-map es pair_of, ap length e)

@@ -1,10 +1,10 @@
 -- Numbers that are counted up: one more, how many, and that they rise.
-use Rattle.std.proofs.Common.{◌≡◌, ℕ, zero, suc, ◌+◌, ◌<◌, ◌≤◌, ℤ, pos, ◌+ℤ◌, ◌-ℤ◌, ◌<ℤ◌, ◌≤ℤ◌, cond, int_le, int_lt, unsigned_abs, true, false, List, [], ◌∷◌, ◌++◌, length, map, refl, sym, ap, ◌∙◌, arith, add-one, Ordering, Less}
+use Rattle.std.proofs.Common.{◌≡◌, ℕ, zero, suc, ◌+◌, ℤ, pos, ◌+ℤ◌, ◌-ℤ◌, ◌<ℤ◌, ◌≤ℤ◌, cond, int_le, unsigned_abs, true, false, List, [], ◌∷◌, ◌++◌, length, map, refl, sym, ap, ◌∙◌, arith, Less}
 use Rattle.std.specs.List.{AllByRecursion}
 use Rattle.std.specs.List.Sorted.{IsStrictlySortedBy}
 use Rattle.std.specs.Ordering.{int_cmp}
 use Rattle.std.proofs.lemmas.Int.{ints}
-use Rattle.tla_value.specs.Tree.{Tree, int}
+use Rattle.tla_value.specs.Tree.{int}
 use Rattle.tla_value.specs.Order.{tree_cmp}
 use Rattle.std.proofs.lemmas.List.{map-append}
 use Rattle.tla_value.specs.TreeOf.{tree_of}

@@ -1,7 +1,6 @@
 -- How long a sequence is.
 use Rattle.std.proofs.Common.{◌≡◌, ℕ, suc, ap, ◌+◌, Bool, true, false, Option, Some, None, is_some, option_map, List, [], ◌∷◌, length, refl}
 use Rattle.tla_value.specs.Tree.{Tree}
-use Rattle.tla_value.specs.Order.{tree_eq}
 use Rattle.tla_value.specs.Funs.{items_from, with_item}
 
 length-with_item : (b : Bool) (t : Tree) (r : Option (List Tree)) (n : ℕ) → (is_some r ≡ true → option_map length r ≡ Some n) → is_some (with_item b t r) ≡ true → option_map length (with_item b t r) ≡ Some (suc n)

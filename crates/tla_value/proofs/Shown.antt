@@ -1,14 +1,15 @@
 -- Lists of texts, written one after another.
-use Rattle.std.proofs.Common.{◌≡◌, ◌==◌, codes, Bool, true, false, is_some, ℕ, zero, suc, ◌<◌, ◌≤◌, Option, Result, Ok, Err, List, [], ◌∷◌, ◌++◌, append_assoc, append-nil, length, map, get_or, take, drop, refl, ap, sym, ◌∙◌, arith}
+use Rattle.std.proofs.Common.{◌≡◌, ◌==◌, codes, true, false, is_some, ℕ, zero, suc, ◌<◌, ◌≤◌, Option, Result, Ok, Err, List, [], ◌∷◌, ◌++◌, append_assoc, append-nil, length, map, get_or, take, drop, refl, ap, sym, ◌∙◌, arith}
 use Rattle.std.proofs.lemmas.List.{length-map, take_all}
 use Rattle.std.specs.List.{flat_map, list_all}
 use Rattle.counted_writer.specs.declared.ShortWrite.{ShortWrite}
 use Rattle.counted_writer.specs.Puts.{Puts}
 use Rattle.counted_writer.specs.PutsLaws.{puts_then, puts_short}
 use Rattle.tla_value.specs.Funs.{arguments, items_of}
-use Rattle.tla_value.specs.Tree.{Tree, fun, trees, pairs, entries-pairs}
+use Rattle.tla_value.specs.Tree.{fun, trees, pairs, entries-pairs}
 use Rattle.tla_value.specs.TreeOf.{tree_of, pair_of}
-use Rattle.tla_value.specs.Text.{text_of, escaped, quoted, field_name, is_field, joined, listed, separator_before, member_texts, value_texts, field_texts, pair_texts}
+use Rattle.tla_value.specs.Text.{text_of, escaped, quoted, field_name, is_field, joined, listed, member_texts, value_texts, field_texts, pair_texts}
+use Rattle.tla_value.specs.Inner.{separator_before}
 use Rattle.tla_value.specs.declared.value.Value.{Value}
 
 flat_more : {X : Type 0} (f : X → List ℕ) (xs : List X) (i : ℕ) (d : X) → i < length xs → flat_map f (take (suc i) xs) ≡ flat_map f (take i xs) ++ f (get_or xs i d)

@@ -1,7 +1,7 @@
 -- Sets given by all ways to choose: SUBSET, products, sets of functions and of records, ranges. (Book, chapter 16.)
-use Rattle.std.specs.Prelude.{◌≡◌, ℕ, zero, suc, ◌+◌, ◌*◌, ◌/◌, ◌%◌, ◌^◌, nat_le, ℤ, pos, ◌+ℤ◌, ◌-ℤ◌, int_le, unsigned_abs, Bool, true, false, not, ◌&&◌, List, [], ◌∷◌, ◌++◌, map, filter, zip, length, slice_index_or, Option, Some, None, if◌then◌else◌}
+use Rattle.std.specs.Prelude.{ℕ, zero, suc, ◌+◌, ℤ, pos, ◌+ℤ◌, ◌-ℤ◌, int_le, unsigned_abs, Bool, true, false, not, ◌&&◌, List, [], ◌∷◌, ◌++◌, map, filter, zip, Option, Some, None, if◌then◌else◌}
 use Rattle.std.specs.List.{list_all, flat_map}
-use Rattle.tla_value.specs.Tree.{Tree, truth, int, text, set, fun, trees, members, pairs, entries}
+use Rattle.tla_value.specs.Tree.{Tree, int, text, set, fun, trees, pairs, entries}
 use Rattle.tla_value.specs.Sets.{is_member, set_of}
 use Rattle.tla_value.specs.Funs.{value_at}
 
@@ -9,15 +9,6 @@ use Rattle.tla_value.specs.Funs.{value_at}
 abbrev pub choices : List (List Tree) → List (List Tree)
 choices [] = [] ∷ []
 choices (xs ∷ rest) = flat_map (λ x. map (λ c. x ∷ c) (choices rest)) xs
-
--- how many such lists there are, and the one with this number, counted from 0
-abbrev pub ways : List (List Tree) → ℕ
-ways [] = 1
-ways (xs ∷ rest) = length xs * ways rest
-
-abbrev pub choice_of : List (List Tree) → ℕ → List Tree
-choice_of [] k = []
-choice_of (xs ∷ rest) k = slice_index_or xs (k / ways rest) (truth false) ∷ choice_of rest (k % ways rest)
 
 -- all functions with these arguments and, at each, one of the values of the list beside it
 abbrev pub functions_by : List Tree → List (List Tree) → List Tree
@@ -27,11 +18,6 @@ functions_by xs lists = map (λ c. fun (pairs (zip xs c))) (choices lists)
 abbrev pub sublists : List Tree → List (List Tree)
 sublists [] = [] ∷ []
 sublists (x ∷ xs) = sublists xs ++ map (λ c. x ∷ c) (sublists xs)
-
--- the one of them with a number, counted from 0
-abbrev pub sublist_of : List Tree → ℕ → List Tree
-sublist_of [] k = []
-sublist_of (x ∷ xs) k = let rest = sublist_of xs (k % 2 ^ length xs) in if nat_le (2 ^ length xs) k then x ∷ rest else rest
 
 -- SUBSET S: the sets of these lists
 abbrev pub set_tree : List Tree → Tree
@@ -73,18 +59,6 @@ fields_fit fs _ = false
 
 abbrev pub records_of : List (List ℕ × List Tree) → List Tree
 records_of fs = filter (fields_fit fs) (functions_of (set_of (keys_of fs)) (flat_map (λ (f : List ℕ × List Tree). f.1) fs))
-
--- the fields by name, and the lists of the sets among some values
-abbrev pub keyed : List (List ℕ × List Tree) → List (Tree × Tree)
-keyed fs = map (λ (f : List ℕ × List Tree). (text f.0, set (trees f.1))) fs
-
-abbrev pub with_list : Tree → List (List Tree) → List (List Tree)
-with_list (set ts) lists = members ts ∷ lists
-with_list _ lists = lists
-
-abbrev pub lists_of : List (Tree × Tree) → List (List Tree)
-lists_of [] = []
-lists_of (p ∷ ps) = with_list p.1 (lists_of ps)
 
 -- whether no tree of a list stands in it twice
 abbrev pub is_each_once : List Tree → Bool

@@ -1,16 +1,12 @@
 -- Functions as lists of pairs that rise by argument.
-use Rattle.std.specs.Prelude.{◌≡◌, ℕ, ◌+◌, pos, ◌<◌, ◌≤◌, Bool, true, false, cond, List, [], ◌∷◌, map, Option, Some, None, Result, Ok, Err, length}
+use Rattle.std.specs.Prelude.{◌≡◌, ℕ, ◌+◌, pos, ◌<◌, ◌≤◌, Bool, true, cond, List, [], ◌∷◌, map, Option, Some, None, Result, Ok, Err, length}
 use Rattle.std.specs.BTreeMap.{insert_entry}
-use Rattle.std.specs.declared.cmp.Ordering.TheVariants.{Less, Greater}
-use Rattle.std.specs.List.Sorted.{IsPartitionPoint}
 use Rattle.std.specs.Map.{lookup}
 use Rattle.tla_value.specs.Tree.{Tree, int, fun, pairs, deepest_pair}
 use Rattle.tla_value.specs.IsValue.{IsValue}
 use Rattle.tla_value.specs.declared.error.ValueError.{ValueError}
 use Rattle.tla_value.specs.declared.error.ValueError.TheVariants.{TooMany, TooDeep, Memory}
 use Rattle.tla_value.specs.Order.{tree_cmp, tree_eq}
-use Rattle.tla_value.specs.ValueOrder.{value_cmp}
-use Rattle.tla_value.specs.declared.value.Value.{Value}
 
 -- the arguments of some pairs
 abbrev pub arguments : List (Tree × Tree) → List Tree
@@ -19,10 +15,6 @@ arguments ps = map (λ (p : Tree × Tree). p.0) ps
 -- the value beside the first pair with this argument
 abbrev pub value_at : Tree → List (Tree × Tree) → Option Tree
 value_at t ps = lookup (tree_eq t) ps
-
--- the place between the arguments below x and those above it
-abbrev pub IsPlace : Value → List (Value × Value) → ℕ → Type 0
-IsPlace x ps i = IsPartitionPoint (λ (p : Value × Value). value_cmp p.0 x ≡ Less) (λ (p : Value × Value). value_cmp p.0 x ≡ Greater) ps i
 
 -- the pairs in rising order, and of those with one argument the first
 abbrev pub fun_of : List (Tree × Tree) → List (Tree × Tree)

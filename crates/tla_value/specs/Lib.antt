@@ -7,6 +7,9 @@ pub mod IsValue
 pub mod Sets
 pub mod Rising
 pub mod SetLaws
+pub mod OrderTurned
+pub mod OrderExact
+pub mod OrderChains
 pub mod OrderLaws
 pub mod ValueOrder
 pub mod Funs
@@ -16,3 +19,4 @@ pub mod Hashed
 pub mod StateOrder
 pub mod TextNames
 pub mod Text
+pub mod Inner

@@ -1,5 +1,5 @@
 -- Sets as rising lists: who is a member, the rising list of some trees, and what a call that makes a set answers.
-use Rattle.std.specs.Prelude.{◌≡◌, ℕ, ◌<◌, ◌≤◌, Bool, cond, not, List, [], ◌∷◌, filter, length, max, Result, Ok, Err}
+use Rattle.std.specs.Prelude.{◌≡◌, ℕ, ◌<◌, ◌≤◌, Bool, List, [], ◌∷◌, length, max, Result, Ok, Err}
 use Rattle.std.specs.List.{list_any}
 use Rattle.std.specs.BTreeSet.{insert_key}
 use Rattle.tla_value.specs.Tree.{Tree, trees, set, fun, pair_count, deepest}
@@ -16,10 +16,6 @@ is_member t ts = list_any (tree_eq t) ts
 abbrev pub set_of : List Tree → List Tree
 set_of [] = []
 set_of (t ∷ ts) = insert_key tree_cmp (set_of ts) t
-
--- of the trees of one list, those that stand in another, or those that don't
-abbrev pub chosen_of : Bool → List Tree → List Tree → List Tree
-chosen_of shared others ts = filter (λ t. cond shared (is_member t others) (not (is_member t others))) ts
 
 -- why these members make no set: the first limit that is passed, where `size` is the greatest number of members or
 -- pairs in it. Memory may be refused at any time.

@@ -1,5 +1,5 @@
 -- The text of a value, as bytes. (Book, chapter 15; `:>` and `@@` are operators of its module TLC.)
-use Rattle.std.specs.Prelude.{ℕ, zero, suc, Bool, true, false, List, [], ◌∷◌, ◌++◌, codes, is_some, if◌then◌else◌, ◌==◌}
+use Rattle.std.specs.Prelude.{ℕ, Bool, true, false, List, [], ◌∷◌, ◌++◌, codes, is_some, if◌then◌else◌, ◌==◌}
 use Rattle.std.specs.Fmt.{signed_decimal}
 use Rattle.std.specs.List.{list_all, flat_map, join_by}
 use Rattle.tla_value.specs.Tree.{Tree, Trees, Pairs, truth, int, text, model, set, fun, no_trees, more_trees, no_pairs, more_pairs, entries}
@@ -23,11 +23,6 @@ quoted s = codes "\"" ++ (flat_map escaped s ++ codes "\"")
 -- some texts with a separator between them
 abbrev pub joined : List ℕ → List (List ℕ) → List ℕ
 joined separator texts = join_by (λ s. s) separator texts
-
--- what stands before the text at an index
-abbrev pub separator_before : ℕ → List ℕ → List ℕ
-separator_before zero separator = []
-separator_before (suc n) separator = separator
 
 -- a list of texts: what opens it, what stands between two, and what closes it
 abbrev pub listed : (opening separator closing : List ℕ) → List (List ℕ) → List ℕ

@@ -8,7 +8,8 @@ ghost use Rattle.tla_value.specs.Tree.{Tree, truth, set, trees, pairs as pairs_o
 ghost use Rattle.tla_value.specs.Funs.{fun_of};
 ghost use Rattle.tla_value.specs.Sets.{set_of, MakesSet, MakesSetOfFunctions};
 ghost use Rattle.tla_value.specs.TreeOf.{tree_of, pair_of};
-ghost use Rattle.tla_value.specs.Choices.{ways, choice_of, functions_by, functions_of, tuples_of, subsets_of, sublist_of, keys_of, keyed, with_list, lists_of, records_of, is_each_once};
+ghost use Rattle.tla_value.specs.Choices.{functions_by, functions_of, tuples_of, subsets_of, keys_of, records_of, is_each_once};
+ghost use Rattle.tla_value.specs.Inner.{ways, choice_of, sublist_of, keyed, with_list, lists_of};
 ghost use Rattle.tla_value.specs.declared.error.ValueError.TheVariants.{Memory};
 
 use crate::error::ValueError;
@@ -323,6 +324,10 @@ impl SetValue {
         ensures { MakesSet (set_of (functions_of domain.now range.now)) result }
     {
         let arguments = domain.items();
+        // Twenty arguments with two values each already have over a million functions.
+        if arguments.len() > MAX_POWER && range.items().len() > 1 {
+            return Err(ValueError::TooMany);
+        }
         let ranges = repeated(alloc, range, arguments)?;
         match count_of(ranges.as_slice()) {
             None => Err(ValueError::TooMany),

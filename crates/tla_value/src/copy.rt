@@ -1,6 +1,5 @@
 // Copies of values.
-ghost use Rattle.std.specs.Prelude.{◌≡◌, map, IfOk, IfErr};
-ghost use Rattle.tla_value.specs.TreeOf.{tree_of, pair_of};
+ghost use Rattle.std.specs.Prelude.{◌≡◌, IfOk, IfErr};
 ghost use Rattle.tla_value.specs.declared.error.ValueError.TheVariants.{Memory};
 
 use crate::error::ValueError;

@@ -1,16 +1,16 @@
 // Functions, as lists of pairs that rise by argument.
-ghost use Rattle.std.specs.Prelude.{◌≡◌, ◌≤◌, pos, is_some, ◌++◌, OnOk, OnErr};
+ghost use Rattle.std.specs.Prelude.{◌≡◌, is_some, ◌++◌, length, map, option_map, IfOk, IfErr, OnOk};
 ghost use Rattle.std.specs.declared.cmp.Ordering.TheVariants.{Equal};
 ghost use Rattle.std.specs.List.{HoldsAt, dedup};
 ghost use Rattle.std.specs.List.Sorted.{IsStrictlySortedBy, IsSearchInRange, IsSortedBy, IsStableBy, IsPermutation};
 ghost use Rattle.std.specs.Ordering.{is_lt};
-ghost use Rattle.std.specs.Prelude.{length, map, option_map, IfOk, IfErr};
 ghost use Rattle.tla_value.specs.declared.error.ValueError.TheVariants.{Memory};
 ghost use Rattle.tla_value.specs.TreeOf.{tree_of, pair_of};
-ghost use Rattle.tla_value.specs.Tree.{Tree, int, deepest_pair, pairs as pairs_of};
+ghost use Rattle.tla_value.specs.Tree.{Tree, deepest_pair, pairs as pairs_of};
 ghost use Rattle.tla_value.specs.IsValue.{ArePairs, IsFunList};
-ghost use Rattle.tla_value.specs.Order.{tree_cmp, tree_eq};
-ghost use Rattle.tla_value.specs.Funs.{arguments, value_at, fun_of, except_of, items_of, MakesFun, IsPlace};
+ghost use Rattle.tla_value.specs.Order.{tree_cmp};
+ghost use Rattle.tla_value.specs.Funs.{arguments, value_at, fun_of, except_of, items_of, MakesFun};
+ghost use Rattle.tla_value.specs.Inner.{IsPlace};
 ghost use Rattle.tla_value.specs.ValueOrder.{value_cmp, value_eq};
 ghost use Rattle.tla_value.specs.declared.value.Value.{Value};
 
@@ -96,21 +96,12 @@ fn fun_from_rising(pairs: Vec<(Value, Value)>) -> Result<FunValue, ValueError>
     Ok(FunValue::from_parts(pairs, deepest + 1))
 }
 
-// Whether a value is this number.
-fn is_number(value: &Value, number: u64) -> bool
-    requires { number ≤ 1000000 }
-    ensures { result ≡ tree_eq (tree_of value.now) (int (pos number)) }
-{
-    compare(value, &Value::Int(number as i64)) == Ordering::Equal
-}
-
 // Whether the arguments are 1, 2, and so on.
 pub(crate) fn is_sequence(pairs: &[(Value, Value)]) -> bool
-    requires { length pairs.now ≤ 1000000 }
     ensures { result ≡ is_some (items_of (map pair_of pairs.now)) }
 {
     for i in 0..pairs.len() {
-        if !is_number(&pairs[i].0, i as u64 + 1) {
+        if compare(&pairs[i].0, &Value::Int(i as i64 + 1)) != Ordering::Equal {
             return false;
         }
     }

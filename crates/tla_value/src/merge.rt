@@ -6,7 +6,8 @@ ghost use Rattle.std.specs.declared.cmp.Ordering.TheVariants.{Less};
 ghost use Rattle.tla_value.specs.Tree.{Tree};
 ghost use Rattle.tla_value.specs.TreeOf.{tree_of};
 ghost use Rattle.tla_value.specs.Order.{tree_cmp};
-ghost use Rattle.tla_value.specs.Sets.{is_member, set_of, chosen_of};
+ghost use Rattle.tla_value.specs.Sets.{is_member, set_of};
+ghost use Rattle.tla_value.specs.Inner.{chosen_of};
 ghost use Rattle.tla_value.specs.declared.error.ValueError.TheVariants.{Memory};
 
 use crate::error::ValueError;

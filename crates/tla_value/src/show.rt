@@ -1,20 +1,20 @@
 // The text of values.
-ghost use Rattle.std.specs.Prelude.{◌≡◌, ◌++◌, codes, map, is_some, OnOk, IfErr};
+ghost use Rattle.std.specs.Prelude.{◌≡◌, ◌++◌, codes, map, OnOk, IfErr};
 ghost use Rattle.std.specs.Io.KnownBytes.{Appends};
 ghost use Rattle.std.specs.List.{list_all, list_any};
 ghost use Rattle.std.specs.Str.{bytes_eq};
 ghost use Rattle.std.specs.Char.{is_ascii_alphabetic};
 ghost use Rattle.counted_writer.specs.Puts.{Puts, AddsFirst};
-ghost use Rattle.tla_value.specs.Tree.{Tree, trees, pairs as pairs_of, set, fun};
+ghost use Rattle.tla_value.specs.Tree.{trees, pairs as pairs_of, set, fun};
 ghost use Rattle.tla_value.specs.TreeOf.{tree_of, pair_of};
-ghost use Rattle.tla_value.specs.Funs.{arguments, items_of};
-ghost use Rattle.tla_value.specs.TextNames.{is_word_byte, begins_fairness, is_identifier, is_reserved, is_field_name};
-ghost use Rattle.tla_value.specs.Text.{text_of, escaped, quoted, field_name, is_field, listed, separator_before, value_texts, field_texts, pair_texts};
+ghost use Rattle.tla_value.specs.Funs.{arguments};
+ghost use Rattle.tla_value.specs.TextNames.{is_word_byte, begins_fairness, is_identifier, is_reserved};
+ghost use Rattle.tla_value.specs.Text.{text_of, escaped, quoted, field_name, is_field, listed, value_texts, field_texts, pair_texts};
+ghost use Rattle.tla_value.specs.Inner.{separator_before};
 
-use crate::order::compare;
+use crate::fun::is_sequence;
 use crate::value::{FunValue, SetValue, Value};
 use counted_writer::{ShortWrite, put, put_number};
-use std::cmp::Ordering;
 use std::io::Write;
 
 /// A write failed or took no byte, so the text of a value was not written whole.
@@ -233,18 +233,6 @@ fn put_pair<W: Write>(
     let written = put_value(&pair.0, out, written)?;
     let written = put(out, written, b" :> ")?;
     put_value(&pair.1, out, written)
-}
-
-// Whether the arguments are 1, 2, and so on.
-fn is_sequence(pairs: &[(Value, Value)]) -> bool
-    ensures { result ≡ is_some (items_of (map pair_of pairs.now)) }
-{
-    for i in 0..pairs.len() {
-        if compare(&pairs[i].0, &Value::Int(i as i64 + 1)) != Ordering::Equal {
-            return false;
-        }
-    }
-    true
 }
 
 // Whether each argument is the name of a field.

@@ -1,9 +1,9 @@
+// Calls with ample memory, and what no clause says.
 use super::*;
 use std::alloc::Global;
 use std::hash::{DefaultHasher, Hash, Hasher};
-use std::io::Write;
 use std::test::Fail;
-use std::{io, thread};
+use std::thread;
 
 fn numbers(alloc: Global, list: &[i64]) -> Result<SetValue, ValueError> {
     let mut values = Vec::new(alloc);
@@ -13,7 +13,7 @@ fn numbers(alloc: Global, list: &[i64]) -> Result<SetValue, ValueError> {
     SetValue::from_values(values)
 }
 
-fn sequence(alloc: Global, list: &[i64]) -> Result<FunValue, ValueError> {
+pub(crate) fn sequence(alloc: Global, list: &[i64]) -> Result<FunValue, ValueError> {
     let mut pairs = Vec::new(alloc);
     let mut next: i64 = 1;
     for number in list {
@@ -23,7 +23,7 @@ fn sequence(alloc: Global, list: &[i64]) -> Result<FunValue, ValueError> {
     FunValue::from_pairs(pairs)
 }
 
-fn string(alloc: Global, text: &str) -> Result<Value, ValueError> {
+pub(crate) fn string(alloc: Global, text: &str) -> Result<Value, ValueError> {
     Ok(Value::Text(Text::new(String::from_str(alloc, text)?)))
 }
 
@@ -33,7 +33,7 @@ fn single(alloc: Global, value: Value) -> Result<SetValue, ValueError> {
     SetValue::from_values(values)
 }
 
-fn shown(alloc: Global, value: &Value) -> Result<Vec<u8>, Fail> {
+pub(crate) fn shown(alloc: Global, value: &Value) -> Result<Vec<u8>, Fail> {
     let mut out = Vec::new(alloc);
     value.write_text(&mut out)?;
     Ok(out)
@@ -59,7 +59,7 @@ fn count_of_subsets(alloc: Global, low: i64, high: i64) -> Result<usize, ValueEr
 }
 
 #[test]
-fn ranges_and_powers(rt: HostRuntime) -> Result<(), Fail> {
+fn ranges(rt: HostRuntime) -> Result<(), Fail> {
     let alloc = rt.alloc();
     assert_eq!(rt; count_in_range(alloc, 1, 1_000_000), Ok(1_000_000));
     let too_many = Err(ValueError::TooMany);
@@ -67,6 +67,12 @@ fn ranges_and_powers(rt: HostRuntime) -> Result<(), Fail> {
     let too_many = Err(ValueError::TooMany);
     assert_eq!(rt; count_in_range(alloc, i64::MIN, i64::MAX), too_many);
     assert_eq!(rt; count_in_range(alloc, 5, 4), Ok(0));
+    Ok(())
+}
+
+#[test]
+fn powers(rt: HostRuntime) -> Result<(), Fail> {
+    let alloc = rt.alloc();
     assert_eq!(rt; count_of_subsets(alloc, 1, 19), Ok(524_288));
     let too_many = Err(ValueError::TooMany);
     assert_eq!(rt; count_of_subsets(alloc, 1, 20), too_many);
@@ -102,12 +108,16 @@ fn products_and_function_sets(rt: HostRuntime) -> Result<(), Fail> {
     let records = SetValue::record_set(alloc, &fields)?;
     let text = shown(alloc, &Value::Set(records))?;
     assert_eq!(rt; text.as_slice(), b"{[a |-> 1]}".as_slice());
+    let text = shown(alloc, &Value::Set(SetValue::record_set(alloc, &[])?))?;
+    assert_eq!(rt; text.as_slice(), b"{<< >>}".as_slice());
     Ok(())
 }
 
 #[test]
 fn nesting_is_bounded(rt: HostRuntime) -> Result<(), Fail> {
     let alloc = rt.alloc();
+    assert_eq!(rt; SetValue::empty(alloc).nesting(), 1);
+    assert_eq!(rt; FunValue::from_pairs(Vec::new(alloc))?.nesting(), 1);
     let deepest = nested(alloc, 64)?;
     assert_eq!(rt; deepest.nesting(), 64);
     assert_eq!(rt; nested(alloc, 65).err(), Some(ValueError::TooDeep));
@@ -115,60 +125,6 @@ fn nesting_is_bounded(rt: HostRuntime) -> Result<(), Fail> {
     assert_eq!(rt; set.insert(deepest).err(), Some(ValueError::TooDeep));
     let text = shown(alloc, &Value::Set(set))?;
     assert_eq!(rt; text.as_slice(), b"{7}".as_slice());
-    Ok(())
-}
-
-#[test]
-fn texts(rt: HostRuntime) -> Result<(), Fail> {
-    let alloc = rt.alloc();
-    let mut pairs = Vec::new(alloc);
-    pairs.push((string(alloc, "b")?, Value::Int(2)))?;
-    pairs.push((string(alloc, "a")?, Value::Int(1)))?;
-    let record = Value::Fun(FunValue::from_pairs(pairs)?);
-    assert_eq!(rt;
-        shown(alloc, &record)?.as_slice(),
-        b"[a |-> 1, b |-> 2]".as_slice()
-    );
-    let mut pairs = Vec::new(alloc);
-    pairs.push((string(alloc, "IN")?, Value::Int(1)))?;
-    let reserved = Value::Fun(FunValue::from_pairs(pairs)?);
-    assert_eq!(rt;
-        shown(alloc, &reserved)?.as_slice(),
-        b"(\"IN\" :> 1)".as_slice()
-    );
-    let mut pairs = Vec::new(alloc);
-    pairs.push((string(alloc, "WF_x")?, Value::Int(1)))?;
-    let fairness = Value::Fun(FunValue::from_pairs(pairs)?);
-    assert_eq!(rt;
-        shown(alloc, &fairness)?.as_slice(),
-        b"(\"WF_x\" :> 1)".as_slice()
-    );
-    let mut pairs = Vec::new(alloc);
-    pairs.push((Value::Int(7), Value::Int(6)))?;
-    pairs.push((Value::Int(0), Value::Int(5)))?;
-    let other = Value::Fun(FunValue::from_pairs(pairs)?);
-    assert_eq!(rt;
-        shown(alloc, &other)?.as_slice(),
-        b"(0 :> 5 @@ 7 :> 6)".as_slice()
-    );
-    let mut mixed = Vec::new(alloc);
-    mixed.push(Value::Fun(sequence(alloc, &[1])?))?;
-    mixed.push(string(alloc, "b")?)?;
-    mixed.push(Value::Int(3))?;
-    mixed.push(Value::Truth(true))?;
-    mixed.push(Value::Set(SetValue::empty(alloc)))?;
-    let mixed = Value::Set(SetValue::from_values(mixed)?);
-    assert_eq!(rt;
-        shown(alloc, &mixed)?.as_slice(),
-        b"{TRUE, 3, \"b\", {}, <<1>>}".as_slice()
-    );
-    let escapes = string(alloc, "\"\\\t\n\u{c}\r")?;
-    assert_eq!(rt;
-        shown(alloc, &escapes)?.as_slice(),
-        b"\"\\\"\\\\\\t\\n\\f\\r\"".as_slice()
-    );
-    let model = Value::Model(Text::new(String::from_str(alloc, "m1")?));
-    assert_eq!(rt; shown(alloc, &model)?.as_slice(), b"m1".as_slice());
     Ok(())
 }
 
@@ -191,7 +147,36 @@ fn set_operations(rt: HostRuntime) -> Result<(), Fail> {
     let mut one = numbers(alloc, &[1])?;
     assert!(rt; one.insert(Value::Int(2))?);
     assert!(rt; !one.insert(Value::Int(2))?);
+    assert_eq!(rt; one.items(), left.items());
     assert!(rt; Value::Set(one) == Value::Set(left));
+    assert_eq!(rt; right.into_items().len(), 2);
+    Ok(())
+}
+
+// Grows a set member by member. Where a growth is refused, the set has to be as it was.
+fn grown(alloc: Global, count: i64) -> Result<SetValue, ValueError> {
+    let mut set = SetValue::empty(alloc);
+    for number in 0..count {
+        let before = set.copy(alloc)?;
+        if let Err(error) = set.insert(Value::Int(number)) {
+            let unchanged = set.items() == before.items();
+            return Err(if unchanged {
+                error
+            } else {
+                ValueError::TooMany
+            });
+        }
+    }
+    Ok(set)
+}
+
+// Passes too where some allocation is made to fail.
+#[test]
+fn a_refused_growth_changes_nothing(rt: HostRuntime) -> Result<(), Fail> {
+    match grown(rt.alloc(), 20) {
+        Ok(set) => assert_eq!(rt; set.len(), 20),
+        Err(error) => assert_eq!(rt; error, ValueError::Memory),
+    }
     Ok(())
 }
 
@@ -213,69 +198,21 @@ fn function_operations(rt: HostRuntime) -> Result<(), Fail> {
         shown(alloc, &Value::Fun(both))?.as_slice(),
         b"<<1, 4>>".as_slice()
     );
-    let copy = Value::Fun(one).copy(alloc)?;
-    assert_eq!(rt; shown(alloc, &copy)?.as_slice(), b"<<1>>".as_slice());
     Ok(())
 }
 
-// A writer that takes so many bytes, at most `most` a call, and then fails once, or takes nothing.
-#[derive(Drop)]
-struct Narrow {
-    room: usize,
-    most: usize,
-    fails: bool,
-    calls_after: u64,
-    taken: Vec<u8>,
-}
-
-impl Write for Narrow {
-    fn write(&mut self, buf: &[u8]) -> io::Result<usize> {
-        if self.room == 0 {
-            self.calls_after = self.calls_after.saturating_add(1);
-            if self.fails {
-                return Err(io::Error::from(io::ErrorKind::Interrupted));
-            }
-            return Ok(0);
-        }
-        let count = buf.len().min(self.most).min(self.room);
-        self.taken.extend_from_slice(&buf[..count])?;
-        self.room -= count;
-        Ok(count)
-    }
-
-    fn flush(&mut self) -> io::Result<()> {
-        Ok(())
-    }
-}
-
 #[test]
-fn texts_that_are_cut(rt: HostRuntime) -> Result<(), Fail> {
+fn copies_of_functions(rt: HostRuntime) -> Result<(), Fail> {
     let alloc = rt.alloc();
-    let mut pairs = Vec::new(alloc);
-    pairs.push((
-        string(alloc, "a\n")?,
-        Value::Fun(sequence(alloc, &[10, -2])?),
-    ))?;
-    pairs.push((Value::Int(3), Value::Set(numbers(alloc, &[1, 2])?)))?;
-    let value = Value::Fun(FunValue::from_pairs(pairs)?);
-    let whole = shown(alloc, &value)?;
-    for most in [1, 3, 100] {
-        for fails in [false, true] {
-            for room in 0..whole.len() {
-                let mut narrow = Narrow {
-                    room,
-                    most,
-                    fails,
-                    calls_after: 0,
-                    taken: Vec::new(alloc),
-                };
-                let fault = value.write_text(&mut narrow).err().ok_or("written whole")?;
-                assert_eq!(rt; fault.written, room as u64);
-                assert_eq!(rt; narrow.calls_after, 1);
-                assert_eq!(rt; narrow.taken.as_slice(), &whole[..room]);
-            }
-        }
-    }
+    let one = sequence(alloc, &[1])?;
+    let changed = Value::Fun(one.copy(alloc)?.with_value(&Value::Int(1), Value::Int(2))?);
+    assert_eq!(rt; shown(alloc, &changed)?.as_slice(), b"<<2>>".as_slice());
+    assert_eq!(rt; one.len(), 1);
+    assert!(rt; !one.is_empty());
+    assert_eq!(rt; one.pairs().len(), 1);
+    let copy = Value::Fun(one.copy(alloc)?).copy(alloc)?;
+    assert_eq!(rt; shown(alloc, &copy)?.as_slice(), b"<<1>>".as_slice());
+    assert_eq!(rt; one.into_pairs().len(), 1);
     Ok(())
 }
 
@@ -288,7 +225,9 @@ fn states_and_shards(rt: HostRuntime) -> Result<(), Fail> {
         values.push(Value::Int(number))?;
         let state = State::new(values);
         let shard = state.shard(7);
-        assert_eq!(rt; state.copy(alloc)?.shard(7), shard);
+        let copy = state.copy(alloc)?;
+        assert_eq!(rt; copy.values(), state.values());
+        assert_eq!(rt; copy.shard(7), shard);
         if let Some(place) = seen.get_mut(shard as usize) {
             *place = true;
         }

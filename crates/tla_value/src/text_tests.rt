@@ -1,4 +1,5 @@
 // Texts of values, into memory and into writers that take few bytes.
+use crate::tests::{sequence, shown, string};
 use crate::{FunValue, SetValue, Text, TextFault, Value};
 use std::alloc::Global;
 use std::io;
@@ -12,13 +13,17 @@ struct Narrow {
     step: usize,
     room: usize,
     fails: bool,
+    refusals: u64,
 }
 
 impl Write for Narrow {
     fn write(&mut self, buf: &[u8]) -> io::Result<usize> {
         let count = buf.len().min(self.step).min(self.room);
-        if count == 0 && self.fails {
-            return Err(io::Error::from(ErrorKind::BrokenPipe));
+        if count == 0 {
+            self.refusals = self.refusals.saturating_add(1);
+            if self.fails {
+                return Err(io::Error::from(ErrorKind::Interrupted));
+            }
         }
         self.taken.extend_from_slice(&buf[..count])?;
         self.room -= count;
@@ -30,10 +35,6 @@ impl Write for Narrow {
     }
 }
 
-fn string(alloc: Global, text: &str) -> Result<Value, Fail> {
-    Ok(Value::Text(Text::new(String::from_str(alloc, text)?)))
-}
-
 // (0 :> "A" @@ 1 :> "Done")
 fn steps(alloc: Global) -> Result<Value, Fail> {
     let mut pairs = Vec::new(alloc);
@@ -42,10 +43,11 @@ fn steps(alloc: Global) -> Result<Value, Fail> {
     Ok(Value::Fun(FunValue::from_pairs(pairs)?))
 }
 
-fn shown(alloc: Global, value: &Value) -> Result<Vec<u8>, Fail> {
-    let mut out = Vec::new(alloc);
-    value.write_text(&mut out)?;
-    Ok(out)
+// The function that gives 1 at a string.
+fn on_name(alloc: Global, name: &str) -> Result<Value, Fail> {
+    let mut pairs = Vec::new(alloc);
+    pairs.push((string(alloc, name)?, Value::Int(1)))?;
+    Ok(Value::Fun(FunValue::from_pairs(pairs)?))
 }
 
 #[test]
@@ -67,13 +69,56 @@ fn texts_of_simple_values(rt: HostRuntime) -> Result<(), Fail> {
     Ok(())
 }
 
+#[test]
+fn texts_of_functions(rt: HostRuntime) -> Result<(), Fail> {
+    let alloc = rt.alloc();
+    let mut pairs = Vec::new(alloc);
+    pairs.push((string(alloc, "b")?, Value::Int(2)))?;
+    pairs.push((string(alloc, "a")?, Value::Int(1)))?;
+    let record = Value::Fun(FunValue::from_pairs(pairs)?);
+    assert_eq!(rt;
+        shown(alloc, &record)?.as_slice(),
+        b"[a |-> 1, b |-> 2]".as_slice()
+    );
+    let reserved = shown(alloc, &on_name(alloc, "IN")?)?;
+    assert_eq!(rt; reserved.as_slice(), b"(\"IN\" :> 1)".as_slice());
+    let fairness = shown(alloc, &on_name(alloc, "WF_x")?)?;
+    assert_eq!(rt; fairness.as_slice(), b"(\"WF_x\" :> 1)".as_slice());
+    let mut pairs = Vec::new(alloc);
+    pairs.push((Value::Int(7), Value::Int(6)))?;
+    pairs.push((Value::Int(0), Value::Int(5)))?;
+    let other = Value::Fun(FunValue::from_pairs(pairs)?);
+    assert_eq!(rt;
+        shown(alloc, &other)?.as_slice(),
+        b"(0 :> 5 @@ 7 :> 6)".as_slice()
+    );
+    Ok(())
+}
+
+#[test]
+fn text_of_a_mixed_set(rt: HostRuntime) -> Result<(), Fail> {
+    let alloc = rt.alloc();
+    let mut mixed = Vec::new(alloc);
+    mixed.push(Value::Fun(sequence(alloc, &[1])?))?;
+    mixed.push(string(alloc, "b")?)?;
+    mixed.push(Value::Int(3))?;
+    mixed.push(Value::Truth(true))?;
+    mixed.push(Value::Set(SetValue::empty(alloc)))?;
+    let mixed = Value::Set(SetValue::from_values(mixed)?);
+    assert_eq!(rt;
+        shown(alloc, &mixed)?.as_slice(),
+        b"{TRUE, 3, \"b\", {}, <<1>>}".as_slice()
+    );
+    Ok(())
+}
+
 // Each count of bytes that go out, also where a value is cut.
 #[test]
 fn ends_at_the_first_refusal(rt: HostRuntime) -> Result<(), Fail> {
     let value = steps(rt.alloc())?;
     let text = b"(0 :> \"A\" @@ 1 :> \"Done\")".as_slice();
     for fails in [true, false] {
-        for step in [1, 90] {
+        for step in [1, 3, 90] {
             for room in 0..26 {
                 let taken = Vec::new(rt.alloc());
                 let mut out = Narrow {
@@ -81,15 +126,18 @@ fn ends_at_the_first_refusal(rt: HostRuntime) -> Result<(), Fail> {
                     step,
                     room,
                     fails,
+                    refusals: 0,
                 };
                 let result = value.write_text(&mut out);
-                let expected = match room {
-                    25 => Ok(()),
-                    _ => Err(TextFault {
-                        written: room as u64,
-                    }),
+                let (expected, refusals) = match room {
+                    25 => (Ok(()), 0),
+                    _ => {
+                        let written = room as u64;
+                        (Err(TextFault { written }), 1)
+                    }
                 };
                 assert!(rt; result == expected, "{step} a call, {room} in all");
+                assert_eq!(rt; out.refusals, refusals);
                 assert_eq!(rt; out.taken.as_slice(), &text[..room]);
             }
         }

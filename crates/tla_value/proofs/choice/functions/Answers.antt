@@ -1,8 +1,7 @@
-use Rattle.std.proofs.Common.{map, ap, sym, ◌∙◌, arith, add-one}
+use Rattle.std.proofs.Common.{map, ◌∙◌, arith, add-one}
 use Rattle.std.proofs.lemmas.List.{length-map, take_all}
 use Rattle.tla_value.specs.TreeOf.{tree_of}
-use Rattle.tla_value.specs.Choices.{functions_by}
-use Rattle.tla_value.proofs.Choosing.{is-fun_list, function_more, length-functions_by}
+use Rattle.tla_value.proofs.FunctionSets.{is-fun_list, function_more, length-functions_by}
 use Rattle.tla_value.proofs.choice.functions.Goals as goal
 
 pub fun_within-requires : goal.fun_within-requires

@@ -1,4 +1,4 @@
-use Rattle.tla_value.proofs.Records.{pushed_set}
+use Rattle.tla_value.proofs.FieldLists.{pushed_set}
 use Rattle.tla_value.proofs.choice.push_set.Goals as goal
 
 pub returns-in_ok-push-in-Set-clause-ok : goal.returns-in_ok-push-in-Set-clause-ok

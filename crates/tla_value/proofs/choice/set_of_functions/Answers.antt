@@ -2,7 +2,8 @@ use Rattle.std.proofs.Common.{map, sym, ◌∙◌, subst, arith}
 use Rattle.std.proofs.lemmas.List.{length-map}
 use Rattle.tla_value.specs.TreeOf.{tree_of}
 use Rattle.tla_value.specs.Sets.{MakesSet}
-use Rattle.tla_value.proofs.Choosing.{rising-functions_by, set_of-functions_by}
+use Rattle.tla_value.proofs.Choosing.{rising-functions_by}
+use Rattle.tla_value.proofs.FunctionSets.{set_of-functions_by}
 use Rattle.tla_value.proofs.choice.set_of_functions.Goals as goal
 
 pub set_from_rising-requires : goal.set_from_rising-requires

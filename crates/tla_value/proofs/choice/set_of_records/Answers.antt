@@ -1,7 +1,7 @@
 use Rattle.std.proofs.Common.{map, sym, arith}
 use Rattle.std.proofs.lemmas.List.{length-map}
 use Rattle.tla_value.specs.TreeOf.{tree_of}
-use Rattle.tla_value.proofs.Choosing.{makes_no_records, too_long_records, too_many_records, makes_functions}
+use Rattle.tla_value.proofs.FunctionSets.{makes_no_records, too_long_records, too_many_records, makes_functions}
 use Rattle.tla_value.proofs.choice.set_of_records.Goals as goal
 
 pub returns-then-has_empty-clause-made : goal.returns-then-has_empty-clause-made

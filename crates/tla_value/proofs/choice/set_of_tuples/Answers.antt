@@ -1,11 +1,9 @@
-use Rattle.std.proofs.Common.{◌≡◌, pos, length, map, ap, sym, ◌∙◌, subst, arith}
+use Rattle.std.proofs.Common.{pos, length, map, ap, sym, ◌∙◌, arith}
 use Rattle.std.proofs.lemmas.List.{length-map}
-use Rattle.std.proofs.lemmas.Int.{ints}
-use Rattle.tla_value.specs.Tree.{Tree, trees, deepest}
 use Rattle.tla_value.specs.TreeOf.{tree_of}
 use Rattle.tla_value.specs.Choices.{counted_up}
 use Rattle.tla_value.proofs.Ranges.{rising-counted_up, length-counted_up}
-use Rattle.tla_value.proofs.Choosing.{makes_no_tuples, too_long_tuples, too_many_tuples, makes_tuples, deepest-counted_up}
+use Rattle.tla_value.proofs.Tuples.{makes_no_tuples, too_long_tuples, too_many_tuples, makes_tuples, deepest-counted_up}
 use Rattle.tla_value.proofs.choice.set_of_tuples.Goals as goal
 
 pub returns-then-has_empty : goal.returns-then-has_empty

@@ -1,4 +1,4 @@
-use Rattle.tla_value.proofs.Records.{lists_next}
+use Rattle.tla_value.proofs.FieldLists.{lists_next}
 use Rattle.tla_value.proofs.choice.sets_among.Goals as goal
 
 pub loop-pair-preserved : goal.loop-pair-preserved

@@ -1,6 +1,6 @@
 use Rattle.std.proofs.Common.{◌≡◌, ◌++◌, drop, map}
 use Rattle.tla_value.specs.TreeOf.{pair_of}
-use Rattle.tla_value.specs.Choices.{lists_of}
+use Rattle.tla_value.specs.Inner.{lists_of}
 use Rattle.tla_value.proofs.choice.sets_among.Given as goal
 
 abbrev pub invariant-loop-pair : goal.invariant-loop-pair

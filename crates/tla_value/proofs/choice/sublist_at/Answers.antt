@@ -1,9 +1,9 @@
-use Rattle.std.proofs.Common.{drop, length, map, ap, sym, ◌∙◌, add-one, arith, suc, ◌^◌}
-use Rattle.std.proofs.lemmas.List.{length-map, length-drop}
+use Rattle.std.proofs.Common.{drop, length, ap, sym, ◌∙◌, add-one, suc, ◌^◌}
+use Rattle.std.proofs.lemmas.List.{length-map}
 use Rattle.tla_value.specs.TreeOf.{tree_of}
 use Rattle.tla_value.proofs.Ways.{from_place}
-use Rattle.tla_value.proofs.Merges.{map-drop}
-use Rattle.tla_value.proofs.Subsets.{half_of, positive_half, kept_more}
+use Rattle.tla_value.proofs.Passes.{map-drop}
+use Rattle.tla_value.proofs.Sublists.{half_of, positive_half, kept_more}
 use Rattle.tla_value.proofs.choice.sublist_at.Goals as goal
 
 pub nonzero_rem-left : goal.nonzero_rem-left

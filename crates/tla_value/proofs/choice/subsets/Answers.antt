@@ -1,7 +1,7 @@
-use Rattle.std.proofs.Common.{length, map, ap, ◌∙◌, ◌^◌, add-one, arith}
+use Rattle.std.proofs.Common.{map, ap, ◌∙◌, ◌^◌, add-one, arith}
 use Rattle.std.proofs.lemmas.List.{length-map, take_all}
 use Rattle.tla_value.specs.TreeOf.{tree_of}
-use Rattle.tla_value.proofs.Subsets.{is-set_list, subset_more, length-subsets_of}
+use Rattle.tla_value.proofs.Sublists.{is-set_list, subset_more, length-subsets_of}
 use Rattle.tla_value.proofs.choice.subsets.Goals as goal
 
 pub set_within-requires : goal.set_within-requires

@@ -1,5 +1,4 @@
-use Rattle.std.proofs.Common.{map, ap, sym, ◌∙◌}
-use Rattle.tla_value.proofs.Entries.{same-at}
+use Rattle.std.proofs.Common.{ap}
 use Rattle.tla_value.proofs.Exceptions.{except_found, except_absent}
 use Rattle.tla_value.proofs.fun.put_value.Goals as goal
 

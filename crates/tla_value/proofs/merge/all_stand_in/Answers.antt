@@ -1,6 +1,6 @@
 use Rattle.std.proofs.Common.{drop, map, sym, ◌∙◌, add-one}
 use Rattle.tla_value.specs.TreeOf.{tree_of}
-use Rattle.tla_value.proofs.Merges.{ahead_more, ahead_here, all_more}
+use Rattle.tla_value.proofs.Passes.{ahead_more, ahead_here, all_more}
 use Rattle.tla_value.proofs.merge.all_stand_in.Goals as goal
 
 pub loop-item-preserved : goal.loop-item-preserved

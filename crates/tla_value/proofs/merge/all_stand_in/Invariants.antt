@@ -2,7 +2,7 @@ use Rattle.std.proofs.Common.{◌≡◌, ◌≤◌, drop, length, map}
 use Rattle.std.specs.List.{list_all}
 use Rattle.tla_value.specs.TreeOf.{tree_of}
 use Rattle.tla_value.specs.Sets.{is_member}
-use Rattle.tla_value.proofs.Merges.{IsAhead}
+use Rattle.tla_value.proofs.Passes.{IsAhead}
 use Rattle.tla_value.proofs.merge.all_stand_in.Given as goal
 
 abbrev pub invariant-loop-item : goal.invariant-loop-item

@@ -1,6 +1,6 @@
 use Rattle.std.proofs.Common.{cond, not, drop, map, sym, ap, ◌∙◌, add-one}
 use Rattle.tla_value.specs.TreeOf.{tree_of}
-use Rattle.tla_value.proofs.Merges.{ahead_more, ahead_here, chosen_more, as_wanted}
+use Rattle.tla_value.proofs.Passes.{ahead_more, ahead_here, chosen_more, as_wanted}
 use Rattle.tla_value.proofs.merge.chosen.Goals as goal
 
 pub loop-item-preserved : goal.loop-item-preserved

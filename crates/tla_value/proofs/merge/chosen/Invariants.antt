@@ -1,7 +1,7 @@
 use Rattle.std.proofs.Common.{◌≡◌, ◌≤◌, drop, take, length, map}
 use Rattle.tla_value.specs.TreeOf.{tree_of}
-use Rattle.tla_value.specs.Sets.{chosen_of}
-use Rattle.tla_value.proofs.Merges.{IsAhead}
+use Rattle.tla_value.specs.Inner.{chosen_of}
+use Rattle.tla_value.proofs.Passes.{IsAhead}
 use Rattle.tla_value.proofs.merge.chosen.Given as goal
 
 abbrev pub invariant-loop-item : goal.invariant-loop-item

@@ -2,7 +2,8 @@ use Rattle.std.proofs.Common.{◌≡◌, ◌⊎◌, ℕ, ◌-◌, List, [], ◌+
 use Rattle.tla_value.specs.Tree.{Tree}
 use Rattle.tla_value.specs.declared.value.Value.{Value}
 use Rattle.tla_value.specs.TreeOf.{tree_of}
-use Rattle.tla_value.proofs.Merges.{from_here, takes_left, takes_right, takes_both, ends, rest_of, none_left}
+use Rattle.tla_value.proofs.Merges.{takes_left, takes_right, takes_both, ends, rest_of, none_left}
+use Rattle.tla_value.proofs.Passes.{from_here}
 use Rattle.tla_value.proofs.merge.merged.Goals as goal
 use Rattle.tla_value.proofs.merge.merged.Goals.{then-loop-i-test+else-j-right, else-loop-i-test}
 

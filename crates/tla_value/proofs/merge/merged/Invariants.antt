@@ -1,4 +1,4 @@
-use Rattle.std.proofs.Common.{◌≡◌, ◌≤◌, ◌+◌, ◌-◌, ◌++◌, drop, length, map}
+use Rattle.std.proofs.Common.{◌≤◌, ◌+◌, ◌-◌, ◌++◌, drop, length, map}
 use Rattle.tla_value.specs.TreeOf.{tree_of}
 use Rattle.tla_value.proofs.Merges.{IsMerge}
 use Rattle.tla_value.proofs.merge.merged.Given as goal

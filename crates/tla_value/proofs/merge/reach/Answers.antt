@@ -1,7 +1,7 @@
 use Rattle.std.proofs.Common.{sym, ◌∙◌, add-one, arith}
 use Rattle.tla_value.specs.OrderLaws.{tree_cmp-total}
 use Rattle.tla_value.specs.TreeOf.{tree_of}
-use Rattle.tla_value.proofs.Merges.{passed, stands_here, stands_below}
+use Rattle.tla_value.proofs.Passes.{passed, stands_here, stands_below}
 use Rattle.tla_value.proofs.merge.reach.Goals as goal
 
 pub loop-at-preserved : goal.loop-at-preserved

@@ -1,6 +1,6 @@
 use Rattle.std.proofs.Common.{codes, ◌++◌, map, ap, sym, ◌∙◌, arith, add-one}
 use Rattle.counted_writer.specs.PutsLaws.{puts_exit, puts_then, puts_short}
-use Rattle.tla_value.specs.Tree.{trees, pairs, deepest, deepest_pair}
+use Rattle.tla_value.specs.Tree.{trees, pairs, deepest}
 use Rattle.tla_value.specs.TreeOf.{tree_of, pair_of}
 use Rattle.tla_value.specs.Text.{text_of, member_texts, value_texts, field_texts, pair_texts}
 use Rattle.tla_value.proofs.Parts.{depth-member-is, depth-argument-is, depth-value, depth-value-is}

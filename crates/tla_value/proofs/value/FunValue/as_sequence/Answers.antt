@@ -2,12 +2,8 @@ use Rattle.std.proofs.Common.{map, length, option_map, Some, sym, ap, ◌∙◌}
 use Rattle.std.proofs.lemmas.List.{length-map}
 use Rattle.tla_value.specs.TreeOf.{pair_of}
 use Rattle.tla_value.specs.Funs.{items_of}
-use Rattle.tla_value.proofs.Exceptions.{few_pairs}
 use Rattle.tla_value.proofs.Sequences.{length-items_from}
 use Rattle.tla_value.proofs.value.FunValue.as_sequence.Goals as goal
-
-pub is_sequence-requires : goal.is_sequence-requires
-is_sequence-requires c = few_pairs c.args.self.now c.pairs-pairs.result.now c.pairs-pairs.ensures.pairs c.pairs-pairs.ensures.value
 
 pub returns-then-is_sequence : goal.returns-then-is_sequence
 returns-then-is_sequence c =

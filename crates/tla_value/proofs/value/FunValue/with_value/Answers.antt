@@ -1,5 +1,3 @@
-use Rattle.std.proofs.Common.{map, ap, sym, ◌∙◌}
-use Rattle.tla_value.specs.TreeOf.{pair_of}
 use Rattle.tla_value.proofs.Entries.{rising-arguments}
 use Rattle.tla_value.proofs.Exceptions.{arguments-except_of}
 use Rattle.tla_value.proofs.value.FunValue.with_value.Goals as goal

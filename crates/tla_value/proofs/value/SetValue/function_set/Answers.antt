@@ -1,11 +1,16 @@
-use Rattle.std.proofs.Common.{map, ap, sym, ◌∙◌, subst, arith, ◌<◌, length}
+use Rattle.std.proofs.Common.{map, ap, sym, ◌∙◌, arith, length}
 use Rattle.std.proofs.lemmas.List.{length-map}
 use Rattle.tla_value.specs.Tree.{Tree}
 use Rattle.tla_value.specs.TreeOf.{tree_of}
-use Rattle.tla_value.specs.Sets.{set_of}
-use Rattle.tla_value.specs.Choices.{functions_of, functions_by, ways}
-use Rattle.tla_value.proofs.Choosing.{few_members, shallow_members, too_many_functions}
+use Rattle.tla_value.proofs.FunctionSets.{few_members, shallow_members, too_many_functions, many_functions}
 use Rattle.tla_value.proofs.value.SetValue.function_set.Goals as goal
+
+pub returns-then-items-gt1 : goal.returns-then-items-gt1
+returns-then-items-gt1 c =
+    many_functions c.args.domain.now c.args.range.now
+    (omega (arith, length-map c.items-arguments.result.now tree_of, ap length c.items-arguments.ensures.items))
+    (omega (arith, length-map c.items.result.now tree_of, ap length c.items.ensures.items))
+    c.items.ensures.rising
 
 pub returns-in-None : goal.returns-in-None
 returns-in-None c =

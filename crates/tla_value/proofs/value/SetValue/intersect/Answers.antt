@@ -1,6 +1,6 @@
 use Rattle.std.proofs.Common.{true, map}
 use Rattle.tla_value.specs.TreeOf.{tree_of}
-use Rattle.tla_value.proofs.Merges.{rising_chosen}
+use Rattle.tla_value.proofs.Passes.{rising_chosen}
 use Rattle.tla_value.proofs.value.SetValue.intersect.Goals as goal
 
 pub set_from_rising-requires : goal.set_from_rising-requires

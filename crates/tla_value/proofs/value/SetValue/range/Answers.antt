@@ -1,6 +1,6 @@
-use Rattle.std.proofs.Common.{length, map, ap, sym, ◌∙◌, subst, arith, ℕ, ◌<◌}
+use Rattle.std.proofs.Common.{arith}
 use Rattle.std.proofs.lemmas.Int.{ints}
-use Rattle.tla_value.proofs.Ranges.{range_is, range_none, range_last, rising-counted_up, length-counted_up}
+use Rattle.tla_value.proofs.Ranges.{range_is, rising-counted_up, length-counted_up}
 use Rattle.tla_value.proofs.value.SetValue.range.Goals as goal
 
 pub returns-then-steps : goal.returns-then-steps

@@ -2,8 +2,9 @@ use Rattle.std.proofs.Common.{map, ap, ◌∙◌, arith}
 use Rattle.std.proofs.lemmas.List.{length-map}
 use Rattle.tla_value.specs.TreeOf.{tree_of, pair_of}
 use Rattle.tla_value.specs.Funs.{arguments}
-use Rattle.tla_value.specs.Choices.{lists_of}
-use Rattle.tla_value.proofs.Records.{as-many-names, rising-names, shallow-names, makes_records}
+use Rattle.tla_value.specs.Inner.{lists_of}
+use Rattle.tla_value.proofs.Records.{as-many-names, rising-names, makes_records}
+use Rattle.tla_value.proofs.FieldLists.{shallow-names}
 use Rattle.tla_value.proofs.value.SetValue.record_set.Goals as goal
 
 pub set_of_records-requires-clause-sets : goal.set_of_records-requires-clause-sets

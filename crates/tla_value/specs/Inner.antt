@@ -1,0 +1,47 @@
+-- Words of private contracts: places, numbers of choices, fields as pairs. No public clause cites them.
+use Rattle.std.specs.Prelude.{◌≡◌, ℕ, Bool, false, cond, List, [], ◌∷◌, map, length, not, filter, zero, suc, ◌*◌, ◌/◌, ◌%◌, ◌^◌, nat_le, slice_index_or, if◌then◌else◌}
+use Rattle.std.specs.declared.cmp.Ordering.TheVariants.{Less, Greater}
+use Rattle.std.specs.List.Sorted.{IsPartitionPoint}
+use Rattle.tla_value.specs.Tree.{Tree, trees, set, truth, text, members}
+use Rattle.tla_value.specs.ValueOrder.{value_cmp}
+use Rattle.tla_value.specs.declared.value.Value.{Value}
+use Rattle.tla_value.specs.Sets.{is_member}
+
+-- the place between the arguments below x and those above it
+abbrev pub IsPlace : Value → List (Value × Value) → ℕ → Type 0
+IsPlace x ps i = IsPartitionPoint (λ (p : Value × Value). value_cmp p.0 x ≡ Less) (λ (p : Value × Value). value_cmp p.0 x ≡ Greater) ps i
+
+-- of the trees of one list, those that stand in another, or those that don't
+abbrev pub chosen_of : Bool → List Tree → List Tree → List Tree
+chosen_of shared others ts = filter (λ t. cond shared (is_member t others) (not (is_member t others))) ts
+
+-- how many lists there are with one tree of each list, and the one of them with a number, counted from 0
+abbrev pub ways : List (List Tree) → ℕ
+ways [] = 1
+ways (xs ∷ rest) = length xs * ways rest
+
+abbrev pub choice_of : List (List Tree) → ℕ → List Tree
+choice_of [] k = []
+choice_of (xs ∷ rest) k = slice_index_or xs (k / ways rest) (truth false) ∷ choice_of rest (k % ways rest)
+
+-- the sublist with a number, counted from 0
+abbrev pub sublist_of : List Tree → ℕ → List Tree
+sublist_of [] k = []
+sublist_of (x ∷ xs) k = let rest = sublist_of xs (k % 2 ^ length xs) in if nat_le (2 ^ length xs) k then x ∷ rest else rest
+
+-- the fields by name, and the lists of the sets among some values
+abbrev pub keyed : List (List ℕ × List Tree) → List (Tree × Tree)
+keyed fs = map (λ (f : List ℕ × List Tree). (text f.0, set (trees f.1))) fs
+
+abbrev pub with_list : Tree → List (List Tree) → List (List Tree)
+with_list (set ts) lists = members ts ∷ lists
+with_list _ lists = lists
+
+abbrev pub lists_of : List (Tree × Tree) → List (List Tree)
+lists_of [] = []
+lists_of (p ∷ ps) = with_list p.1 (lists_of ps)
+
+-- what stands before the text at an index
+abbrev pub separator_before : ℕ → List ℕ → List ℕ
+separator_before zero separator = []
+separator_before (suc n) separator = separator
