@@ -5,3 +5,13 @@ pub mod Slices
 pub mod Spans
 pub mod Module
 pub mod LongestLemmas
+pub mod Runs
+pub mod Shapes
+pub mod LongestWord
+pub mod LongestOther
+pub mod LongestOperator
+pub mod LongestTokens
+pub mod Plain
+pub mod GapInCode
+pub mod InCode
+pub mod ClosingFirst

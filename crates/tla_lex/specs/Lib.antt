@@ -10,7 +10,9 @@ pub mod Strings
 pub mod Lexeme
 pub mod LexemeSize
 pub mod Reads
+pub mod LongestToken
 pub mod FrontSize
 pub mod Module
 pub mod RegionSize
 pub mod Tokens
+pub mod InCode

@@ -1,8 +1,25 @@
 //! Laws of the definitions.
 
+ghost use Rattle.tla_lex.specs.InCode.{ClosingIsFirst, TokensInCode};
 ghost use Rattle.tla_lex.specs.Longest.{LongestSymbol};
+ghost use Rattle.tla_lex.specs.LongestToken.{LongestTokens};
 
 /// A symbol is the longest at its place.
 pub fn longest_symbol()
     ensures { LongestSymbol }
+{}
+
+/// Each token that is read is the longest at its place.
+pub fn longest_tokens()
+    ensures { LongestTokens }
+{}
+
+/// The search for the closing line and the reading of tokens agree on what lies outside comments and strings.
+pub fn tokens_in_code()
+    ensures { TokensInCode }
+{}
+
+/// The closing line begins at the first `====` outside comments and strings.
+pub fn closing_is_first()
+    ensures { ClosingIsFirst }
 {}

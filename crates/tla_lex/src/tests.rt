@@ -635,7 +635,7 @@ fn repeated(alloc: Global, mark: &[u8], times: u32) -> Result<Vec<u8>, Fail> {
 
 #[test]
 fn reads_many_open_comments(rt: HostRuntime) -> Result<(), Fail> {
-    let text = repeated(rt.alloc(), b"(*", 100000)?;
+    let text = repeated(rt.alloc(), b"(*", 1_000_000)?;
     let open = LexError::at(
         LexCode::OpenComment,
         Place {
@@ -655,6 +655,34 @@ fn reads_a_long_line(rt: HostRuntime) -> Result<(), Fail> {
         Place {
             line: 1,
             column: 400019,
+        },
+    );
+    assert_eq!(rt; refusal(rt.alloc(), &text), Some(end));
+    Ok(())
+}
+
+#[test]
+fn reads_a_name_of_64_mebibytes(rt: HostRuntime) -> Result<(), Fail> {
+    let text = repeated(rt.alloc(), b"x", 67_108_864)?;
+    let end = LexError::at(
+        LexCode::NoClosingLine,
+        Place {
+            line: 1,
+            column: 67_108_883,
+        },
+    );
+    assert_eq!(rt; refusal(rt.alloc(), &text), Some(end));
+    Ok(())
+}
+
+#[test]
+fn reads_comments_of_64_mebibytes(rt: HostRuntime) -> Result<(), Fail> {
+    let text = repeated(rt.alloc(), b"\\*  \n  ", 8_388_608)?;
+    let end = LexError::at(
+        LexCode::NoClosingLine,
+        Place {
+            line: 8_388_609,
+            column: 3,
         },
     );
     assert_eq!(rt; refusal(rt.alloc(), &text), Some(end));

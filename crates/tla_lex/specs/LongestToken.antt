@@ -1,0 +1,57 @@
+-- The law that each token is the longest at its place (book, chapter 15).
+use Rattle.std.specs.Prelude.{◌≡◌, ◌<◌, ◌≤◌, ◌-◌, ◌⊎◌, ℕ, Bool, IsTrue, ◌||◌, false, List, [], ◌∷◌, nat_eq, take, drop, length, codes}
+use Rattle.std.specs.List.{list_all, list_any, starts_with}
+use Rattle.tla_lex.specs.Bytes.{Bytes, first, is_word, is_letter, is_digit, is_dash, is_quote}
+use Rattle.tla_lex.specs.Reads.{Reads}
+use Rattle.tla_lex.specs.Strings.{string}
+use Rattle.tla_lex.specs.Symbols.{symbols, operators}
+use Rattle.tla_lex.specs.Words.{Spellings, lookup, name_kind, number, reserved_words}
+use Rattle.tla_lex.specs.declared.lexeme.Lexeme.TheVariants.{Found}
+use Rattle.tla_lex.specs.declared.lexeme.Source.{Source}
+use Rattle.tla_lex.specs.declared.scan.Stop.{Stop}
+use Rattle.tla_lex.specs.declared.token.Kind.{Kind}
+use Rattle.tla_lex.specs.declared.token.Kind.TheVariants as kinds
+use Rattle.tla_lex.specs.declared.token.Token.{Token}
+
+-- the spelling stands in the table with this kind
+abbrev pub IsListed : Bytes → Kind → Spellings → Type 0
+IsListed w kind [] = ⊥
+IsListed w kind (e ∷ es) = ((e.0 ≡ w) × (e.1 ≡ kind)) ⊎ IsListed w kind es
+
+-- what stands before the subscript of a fairness condition, which is read anew
+abbrev pub fairness_marks : Spellings
+fairness_marks = (codes "WF_", kinds.WeakFairness) ∷ (codes "SF_", kinds.StrongFairness) ∷ []
+
+abbrev pub begins_fairness : Bytes → Bool
+begins_fairness w = starts_with nat_eq w (codes "WF_") || starts_with nat_eq w (codes "SF_")
+
+-- These bytes, behind which the byte `next` stands, are one token of this kind.
+pub data IsToken (source : Source) (w : Bytes) (next : ℕ) (kind : Kind) : Type 0 where
+  -- a name or a reserved word
+  name : IsTrue (list_all is_word w) → IsTrue (list_any is_letter w) → begins_fairness w ≡ false → kind ≡ name_kind (lookup reserved_words w) → IsToken source w next kind
+  digits : IsTrue (list_all is_digit w) → number source w ≡ Found kind (length w) → IsToken source w next kind
+  underscore : w ≡ codes "_" → kind ≡ kinds.Underscore → IsToken source w next kind
+  fairness : IsListed w kind fairness_marks → IsToken source w next kind
+  -- quotes, and nothing behind the closing one
+  quoted : IsTrue (is_quote (first w)) → string w ≡ Found kind (length w) → IsToken source w next kind
+  separator : IsTrue (list_all is_dash w) → 4 ≤ length w → kind ≡ kinds.Separator → IsToken source w next kind
+  -- a backslash and a whole run of letters
+  operator : IsListed w kind operators → is_letter next ≡ false → IsToken source w next kind
+  symbol : IsListed w kind symbols → IsToken source w next kind
+
+-- the first n bytes of the text are one token of this kind
+abbrev pub BeginsWith : Source → Bytes → Kind → ℕ → Type 0
+BeginsWith source text kind n = IsToken source (take n text) (first (drop n text)) kind
+
+-- the token is one at its place, and no longer one stands there
+pub record IsLongest (source : Source) (text : Bytes) (t : Token) : Type 0 where
+  pub begins : BeginsWith source (drop t.start text) t.kind (t.end - t.start)
+  pub none_longer : (m : ℕ) (kind : Kind) → t.end - t.start < m → m ≤ length (drop t.start text) → BeginsWith source (drop t.start text) kind m → ⊥
+
+abbrev pub AreLongest : Source → Bytes → List Token → Type 0
+AreLongest source text [] = Unit {0}
+AreLongest source text (t ∷ ts) = IsLongest source text t × AreLongest source text ts
+
+-- each token that is read is the longest at its place
+abbrev pub LongestTokens : Type 0
+LongestTokens = (source : Source) (text : Bytes) (at : ℕ) (ts : List Token) (stop : Stop) → Reads source text at ts stop → AreLongest source text ts
