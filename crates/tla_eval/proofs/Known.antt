@@ -1,5 +1,5 @@
 -- Values whose kind is known.
-use Rattle.std.proofs.Common.{◌≡◌, List, Bool, filter, ◌∙◌, ap, Ok}
+use Rattle.std.proofs.Common.{◌≡◌, List, ◌++◌, Bool, filter, ◌∙◌, ap, Ok}
 use Rattle.std.specs.List.Sorted.{IsStrictlySortedBy}
 use Rattle.std.proofs.lemmas.List.Kept.{IsStrictlySortedBy-filter}
 use Rattle.tla_value.specs.Order.{tree_cmp}
@@ -9,7 +9,9 @@ use Rattle.tla_value.specs.TreeOf.{tree_of}
 use Rattle.tla_value.specs.declared.value.Value.{Value}
 use Rattle.tla_value.specs.declared.value.Value.TheVariants.{Set, Fun}
 use Rattle.tla_eval.specs.Fault.{Place, Outcome, ◌>>=◌}
-use Rattle.tla_eval.specs.Kinds.{as_set, as_fun, make_set, rising_set}
+use Rattle.tla_eval.specs.Expr.{Override}
+use Rattle.tla_eval.specs.Kinds.{as_set, as_fun, make_set, make_fun, rising_set}
+use Rattle.tla_eval.specs.Operators.{binary_rule}
 use Rattle.tla_eval.specs.SetForms.{on_sets}
 
 pub as_set_known : (p : Place) (v : Value) (ts : List Tree) → v ≡ Set ts → as_set p (tree_of v) ≡ Ok ts
@@ -26,3 +28,8 @@ on_sets_known p rule x y xs ys e f =
 -- what is kept of a rising list rises
 pub set_of_kept : (p : Place) (keep : Tree → Bool) (ts : List Tree) → IsStrictlySortedBy tree_cmp ts → make_set p (filter keep ts) ≡ rising_set p (filter keep ts)
 set_of_kept p keep ts h = ap (rising_set p) (set_of-rising (filter keep ts) (IsStrictlySortedBy-filter tree_cmp keep ts h))
+
+pub override_known : (p : Place) (x y : Value) (ps qs : List (Tree × Tree)) → x ≡ Fun ps → y ≡ Fun qs → binary_rule Override p (tree_of x) (tree_of y) ≡ make_fun p (ps ++ qs)
+override_known p x y ps qs e f =
+    ap (λ (o : Outcome (List (Tree × Tree))). o >>= λ us. as_fun p (tree_of y) >>= λ vs. make_fun p (us ++ vs)) (as_fun_known p x ps e)
+    ∙ ap (λ (o : Outcome (List (Tree × Tree))). o >>= λ vs. make_fun p (ps ++ vs)) (as_fun_known p y qs f)

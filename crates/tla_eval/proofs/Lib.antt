@@ -9,5 +9,7 @@ pub mod Numbers
 pub mod Known
 pub mod Made
 pub mod Loops
+pub mod Numbered
+pub mod Collected
 pub mod Parts
 pub mod Rows

@@ -1,13 +1,14 @@
--- What a call that makes a set answers, as the value of an expression.
+-- What a call that makes a set or a function answers, as the value of an expression.
 use Rattle.std.proofs.Common.{◌≡◌, ◌⊎◌, ℕ, ◌<◌, ◌≤◌, List, length, Ok, Err, arith, inl, inr}
 use Rattle.std.proofs.lemmas.Bool.Decides.{nat_tests}
-use Rattle.tla_value.specs.Tree.{Tree, set, trees, deepest, members-trees}
-use Rattle.tla_value.specs.IsValue.{IsValue, IsSetList}
+use Rattle.tla_value.specs.Tree.{Tree, set, fun, trees, pairs, deepest, deepest_pair, members-trees, entries-pairs}
+use Rattle.tla_value.specs.IsValue.{IsValue, IsSetList, IsFunList}
 use Rattle.tla_value.specs.Sets.{RefusesSet}
+use Rattle.tla_value.specs.Funs.{RefusesFun}
 use Rattle.tla_value.specs.declared.error.ValueError.{ValueError}
 use Rattle.tla_value.specs.declared.error.ValueError.TheVariants.{TooMany, TooDeep, Memory}
 use Rattle.tla_eval.specs.Fault.{Place, Fault, FaultCode, fault, out_of_memory}
-use Rattle.tla_eval.specs.Kinds.{within, rising_set}
+use Rattle.tla_eval.specs.Kinds.{within, rising_set, rising_fun}
 use Rattle.tla_eval.specs.Gives.{IsRefusal}
 
 pub within_many : (p : Place) (n d : ℕ) (t : Tree) → 1000000 < n → within p n d t ≡ fault FaultCode.TooMany p
@@ -26,3 +27,11 @@ pub set_refused : (e : ValueError) (p : Place) (f : Fault) (ts : List Tree) → 
 set_refused TooMany p f ts h r = inr (rw h (within_many p (length ts) (deepest (trees ts)) (set (trees ts)) r))
 set_refused TooDeep p f ts h r = inr (rw h (within_deep p (length ts) (deepest (trees ts)) (set (trees ts)) r.0 r.1))
 set_refused Memory p f ts h r = inl h
+
+pub fun_made : (p : Place) (ps : List (Tree × Tree)) → IsValue (fun (pairs ps)) → rising_fun p ps ≡ Ok (fun (pairs ps))
+fun_made p ps h = let list : IsFunList ps = rw entries-pairs at h.1 in within_ok p (length ps) (deepest_pair (pairs ps)) (fun (pairs ps)) list.few list.shallow
+
+pub fun_refused : (e : ValueError) (p : Place) (f : Fault) (ps : List (Tree × Tree)) → IsRefusal e p f → RefusesFun ps e → (f ≡ out_of_memory) ⊎ (rising_fun p ps ≡ Err f)
+fun_refused TooMany p f ps h r = inr (rw h (within_many p (length ps) (deepest_pair (pairs ps)) (fun (pairs ps)) r))
+fun_refused TooDeep p f ps h r = inr (rw h (within_deep p (length ps) (deepest_pair (pairs ps)) (fun (pairs ps)) r.0 r.1))
+fun_refused Memory p f ps h r = inl h

@@ -1,13 +1,14 @@
 -- What the parts of a node mean, from the list of its parts.
-use Rattle.std.proofs.Common.{rules, ◌≡◌, ℕ, Bool, ◌&&◌, ◌∷◌, map, refl, ap, ◌∙◌, Vec, Global}
+use Rattle.std.proofs.Common.{rules, ◌≡◌, ℕ, Bool, true, false, ◌&&◌, List, [], ◌∷◌, Option, Some, None, map, refl, ap, ◌∙◌, Vec, Box, Global}
 use Rattle.std.specs.List.{list_all}
-use Rattle.tla_eval.specs.Expr.{Expr}
-use Rattle.tla_eval.specs.Fits.{fits, fits_all}
+use Rattle.tla_eval.specs.Expr.{Expr, Arms}
+use Rattle.tla_eval.specs.Fits.{fits, fits_all, fits_fields, fits_arms}
 use Rattle.tla_eval.specs.Fault.{Place}
-use Rattle.tla_eval.specs.ExprOf.{expr_of, exprs_of, parts_of_cores}
-use Rattle.tla_eval.specs.Value.{means, mean_all}
-use Rattle.tla_eval.specs.Logic.{means-conjunction, means-disjunction}
-use Rattle.tla_eval.specs.declared.expression.Core.{Core, Row_of-Core, end_of-Core, more_of-Core, items-the_row-Core}
+use Rattle.tla_eval.specs.ExprOf.{expr_of, exprs_of, fields_of, arms_of, exprs_of_arm, parts_of_cores, fields_of_cores, arms_of_cores}
+use Rattle.tla_eval.specs.Value.{means, mean_all, mean_fields, mean_arms, means_other}
+use Rattle.tla_eval.specs.Meaning.{means-enumerated, means-tuple, means-record_of}
+use Rattle.tla_eval.specs.Logic.{means-conjunction, means-disjunction, means-cases}
+use Rattle.tla_eval.specs.declared.expression.Core.{Core, Row_of-Core, end_of-Core, more_of-Core, items-the_row-Core, Row_of-Core-Record-1-2, end_of-Core-Record-1-2, more_of-Core-Record-1-2, items-the_row-Core-Record-1-2, Row_of-Core-Cases-1-2, end_of-Core-Cases-1-2, more_of-Core-Cases-1-2, items-the_row-Core-Cases-1-2}
 use Rattle.tla_eval.specs.declared.expression.Core.TheViews as views
 use Rattle.tla_eval.specs.declared.expression.Core.TheViews.{the_lemmas}
 use mathlib.Core.Former.{Count}
@@ -28,6 +29,87 @@ disjunction_parts at parts = search (rules, the_lemmas, row_parts)
 pub means_disjunction : (core : Core) (at : Place) (parts : Vec Core Global) → core ≡ views.Disjunction at parts → means (expr_of core) ≡ means-disjunction at (parts_of_cores parts.items)
 means_disjunction core at parts e = ap (λ k. means (expr_of k)) e ∙ disjunction_parts at parts
 
+pub enumerated_parts : (at : Place) (parts : Vec Core Global) → means (expr_of (views.Enumerated at parts)) ≡ means-enumerated at (parts_of_cores parts.items)
+enumerated_parts at parts = search (rules, the_lemmas, row_parts)
+
+pub means_enumerated : (core : Core) (at : Place) (parts : Vec Core Global) → core ≡ views.Enumerated at parts → means (expr_of core) ≡ means-enumerated at (parts_of_cores parts.items)
+means_enumerated core at parts e = ap (λ k. means (expr_of k)) e ∙ enumerated_parts at parts
+
+pub tuple_parts : (at : Place) (parts : Vec Core Global) → means (expr_of (views.Tuple at parts)) ≡ means-tuple at (parts_of_cores parts.items)
+tuple_parts at parts = search (rules, the_lemmas, row_parts)
+
+pub means_tuple : (core : Core) (at : Place) (parts : Vec Core Global) → core ≡ views.Tuple at parts → means (expr_of core) ≡ means-tuple at (parts_of_cores parts.items)
+means_tuple core at parts e = ap (λ k. means (expr_of k)) e ∙ tuple_parts at parts
+
+pub row_fields : (n : Count) (row : Row_of-Core-Record-1-2 n) → mean_fields (fields_of row) ≡ fields_of_cores (items-the_row-Core-Record-1-2 n row)
+row_fields n end_of-Core-Record-1-2 = refl
+row_fields n (more_of-Core-Record-1-2 name e rest) = ap (λ ms. (name, means (expr_of e)) ∷ ms) (row_fields _ rest)
+
+pub record_parts : (at : Place) (fields : Vec (List ℕ × Core) Global) → means (expr_of (views.Record at fields)) ≡ means-record_of at (fields_of_cores fields.items)
+record_parts at fields = search (rules, the_lemmas, row_fields)
+
+pub means_record : (core : Core) (at : Place) (fields : Vec (List ℕ × Core) Global) → core ≡ views.Record at fields → means (expr_of core) ≡ means-record_of at (fields_of_cores fields.items)
+means_record core at fields e = ap (λ k. means (expr_of k)) e ∙ record_parts at fields
+
+pub row_arms : (n : Count) (row : Row_of-Core-Cases-1-2 n) (last : Arms) → mean_arms last ≡ [] → mean_arms (arms_of row last) ≡ arms_of_cores (items-the_row-Core-Cases-1-2 n row)
+row_arms n end_of-Core-Cases-1-2 last e = e
+row_arms n (more_of-Core-Cases-1-2 c e rest) last h = ap (λ arms. (means (expr_of c), means (expr_of e)) ∷ arms) (row_arms _ rest last h)
+
+pub row_other : (n : Count) (row : Row_of-Core-Cases-1-2 n) (last : Arms) → means_other (arms_of row last) ≡ means_other last
+row_other n end_of-Core-Cases-1-2 last = refl
+row_other n (more_of-Core-Cases-1-2 c e rest) last = row_other _ rest last
+
+pub cases_parts : (at : Place) (arms : Vec (Core × Core) Global) → means (expr_of (views.Cases at arms None)) ≡ means-cases at (arms_of_cores arms.items) None
+cases_parts at arms = search (rules, the_lemmas, row_arms, row_other)
+
+pub cases_or_parts : (at : Place) (arms : Vec (Core × Core) Global) (other : Box Core Global) → means (expr_of (views.Cases at arms (Some other))) ≡ means-cases at (arms_of_cores arms.items) (Some (means (expr_of other.value)))
+cases_or_parts at arms other = search (rules, the_lemmas, row_arms, row_other)
+
+row_fields_fit : (b n : ℕ) (now : Bool) (k : Count) (row : Row_of-Core-Record-1-2 k) → fits_fields (fields_of row) b n now ≡ list_all (λ (e : Expr). fits e b n now) (map (λ (f : List ℕ × Core). expr_of f.1) (items-the_row-Core-Record-1-2 k row))
+row_fields_fit b n now k end_of-Core-Record-1-2 = refl
+row_fields_fit b n now k (more_of-Core-Record-1-2 name e rest) = ap (λ x. fits (expr_of e) b n now && x) (row_fields_fit b n now _ rest)
+
+pub record_fits : (at : Place) (fields : Vec (List ℕ × Core) Global) (b n : ℕ) (now : Bool) → fits (expr_of (views.Record at fields)) b n now ≡ list_all (λ (e : Expr). fits e b n now) (map (λ (f : List ℕ × Core). expr_of f.1) fields.items)
+record_fits at fields b n now = search (rules, the_lemmas, row_fields_fit b n now)
+
+four : (a b c d : Bool) → (a && (b && (c && d))) ≡ (((a && b) && c) && d)
+four true true c d = refl
+four true false c d = refl
+four false b c d = refl
+
+and_true : (a : Bool) → (a && true) ≡ a
+and_true true = refl
+and_true false = refl
+
+abbrev pub arm_fits : ℕ → ℕ → Bool → (Expr × Expr) → Bool
+arm_fits b n now a = fits a.0 b n now && fits a.1 b n now
+
+row_arms_fit : (b n : ℕ) (now : Bool) (k : Count) (row : Row_of-Core-Cases-1-2 k) (last : Arms) → fits_arms (arms_of row last) b n now ≡ (list_all (arm_fits b n now) (map exprs_of_arm (items-the_row-Core-Cases-1-2 k row)) && fits_arms last b n now)
+row_arms_fit b n now k end_of-Core-Cases-1-2 last = refl
+row_arms_fit b n now k (more_of-Core-Cases-1-2 c e rest) last =
+    ap (λ x. fits (expr_of c) b n now && (fits (expr_of e) b n now && x)) (row_arms_fit b n now _ rest last)
+    ∙ four (fits (expr_of c) b n now) (fits (expr_of e) b n now) (list_all (arm_fits b n now) (map exprs_of_arm (items-the_row-Core-Cases-1-2 _ rest))) (fits_arms last b n now)
+
+cases_fit_so : (at : Place) (arms : Vec (Core × Core) Global) (b n : ℕ) (now : Bool) → fits (expr_of (views.Cases at arms None)) b n now ≡ (list_all (arm_fits b n now) (map exprs_of_arm arms.items) && true)
+cases_fit_so at arms b n now = search (rules, the_lemmas, row_arms_fit b n now)
+
+pub cases_fit : (core : Core) (at : Place) (arms : Vec (Core × Core) Global) (o : Option (Box Core Global)) → core ≡ views.Cases at arms o → o ≡ None → (b n : ℕ) (now : Bool) → fits (expr_of core) b n now ≡ list_all (arm_fits b n now) (map exprs_of_arm arms.items)
+cases_fit core at arms o e h b n now =
+    ap (λ k. fits (expr_of k) b n now) e ∙ ap (λ x. fits (expr_of (views.Cases at arms x)) b n now) h ∙ cases_fit_so at arms b n now ∙ and_true (list_all (arm_fits b n now) (map exprs_of_arm arms.items))
+
+cases_or_fit_so : (at : Place) (arms : Vec (Core × Core) Global) (other : Box Core Global) (b n : ℕ) (now : Bool) → fits (expr_of (views.Cases at arms (Some other))) b n now ≡ (list_all (arm_fits b n now) (map exprs_of_arm arms.items) && fits (expr_of other.value) b n now)
+cases_or_fit_so at arms other b n now = search (rules, the_lemmas, row_arms_fit b n now)
+
+pub cases_or_fit : (core : Core) (at : Place) (arms : Vec (Core × Core) Global) (o : Option (Box Core Global)) (other : Box Core Global) → core ≡ views.Cases at arms o → o ≡ Some other → (b n : ℕ) (now : Bool) → fits (expr_of core) b n now ≡ (list_all (arm_fits b n now) (map exprs_of_arm arms.items) && fits (expr_of other.value) b n now)
+cases_or_fit core at arms o other e h b n now =
+    ap (λ k. fits (expr_of k) b n now) e ∙ ap (λ x. fits (expr_of (views.Cases at arms x)) b n now) h ∙ cases_or_fit_so at arms other b n now
+
+pub means_cases : (core : Core) (at : Place) (arms : Vec (Core × Core) Global) (o : Option (Box Core Global)) → core ≡ views.Cases at arms o → o ≡ None → means (expr_of core) ≡ means-cases at (arms_of_cores arms.items) None
+means_cases core at arms o e h = ap (λ k. means (expr_of k)) e ∙ ap (λ x. means (expr_of (views.Cases at arms x))) h ∙ cases_parts at arms
+
+pub means_cases_or : (core : Core) (at : Place) (arms : Vec (Core × Core) Global) (o : Option (Box Core Global)) (other : Box Core Global) → core ≡ views.Cases at arms o → o ≡ Some other → means (expr_of core) ≡ means-cases at (arms_of_cores arms.items) (Some (means (expr_of other.value)))
+means_cases_or core at arms o other e h = ap (λ k. means (expr_of k)) e ∙ ap (λ x. means (expr_of (views.Cases at arms x))) h ∙ cases_or_parts at arms other
+
 pub row_fits : (b n : ℕ) (now : Bool) (k : Count) (row : Row_of-Core k) → fits_all (exprs_of row) b n now ≡ list_all (λ (e : Expr). fits e b n now) (map expr_of (items-the_row-Core k row))
 row_fits b n now k end_of-Core = refl
 row_fits b n now k (more_of-Core e rest) = ap (λ x. fits (expr_of e) b n now && x) (row_fits b n now _ rest)
@@ -37,3 +119,9 @@ conjunction_fits at parts b n now = search (rules, the_lemmas, row_fits b n now)
 
 pub disjunction_fits : (at : Place) (parts : Vec Core Global) (b n : ℕ) (now : Bool) → fits (expr_of (views.Disjunction at parts)) b n now ≡ list_all (λ (e : Expr). fits e b n now) (map expr_of parts.items)
 disjunction_fits at parts b n now = search (rules, the_lemmas, row_fits b n now)
+
+pub enumerated_fits : (at : Place) (parts : Vec Core Global) (b n : ℕ) (now : Bool) → fits (expr_of (views.Enumerated at parts)) b n now ≡ list_all (λ (e : Expr). fits e b n now) (map expr_of parts.items)
+enumerated_fits at parts b n now = search (rules, the_lemmas, row_fits b n now)
+
+pub tuple_fits : (at : Place) (parts : Vec Core Global) (b n : ℕ) (now : Bool) → fits (expr_of (views.Tuple at parts)) b n now ≡ list_all (λ (e : Expr). fits e b n now) (map expr_of parts.items)
+tuple_fits at parts b n now = search (rules, the_lemmas, row_fits b n now)

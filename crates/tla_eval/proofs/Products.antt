@@ -5,7 +5,7 @@ use Rattle.tla_value.specs.Tree.{Tree, truth, int, text, model, set, fun, pairs,
 use Rattle.tla_value.specs.Sets.{is_member, set_of}
 use Rattle.tla_value.specs.IsValue.{IsValue, ArePairs}
 use Rattle.tla_value.specs.Order.{tree_eq}
-use Rattle.tla_eval.specs.Kinds.{size_of_choices, as_set, sized_set, items}
+use Rattle.tla_eval.specs.Kinds.{size_of_functions, as_set, make_function_set, items}
 use Rattle.tla_value.specs.Funs.{items_from, with_item}
 use Rattle.tla_value.specs.Choices.{tuples_of, numbered, sequence, choices}
 use Rattle.tla_eval.specs.Meaning.{Meaning, Bound, Present, Next, elements}
@@ -136,8 +136,8 @@ items-values v vs iv h = go 1 vs (subst IsValue (sequence-items v vs h) iv).0
 pub knows-product : (at : Place) (ms : List Meaning) → AllKnow ms → KnowsItsMembers (means-product at ms)
 knows-product at ms hs = record {
   by = λ v iv b s p ts e.
-      let lists = bind-ok (sets_of at ms b s p) (λ sets. sized_set at (size_of_choices (choices sets)) (set_of (tuples_of sets))) (set ts) e in
-      in_product b s p lists.0 (gives-sets at b s p ms lists.0 lists.1) v iv (items v) refl ∙ ap (λ (x : Bool). Ok x) (sym (made-sized at (size_of_choices (choices lists.0)) (tuples_of lists.0) ts lists.2 v));
+      let lists = bind-ok (sets_of at ms b s p) (λ sets. make_function_set at (tuples_of sets)) (set ts) e in
+      in_product b s p lists.0 (gives-sets at b s p ms lists.0 lists.1) v iv (items v) refl ∙ ap (λ (x : Bool). Ok x) (sym (made-sized at (size_of_functions (set_of (tuples_of lists.0))) (tuples_of lists.0) ts lists.2 v));
 }
   where
     check : (l : Bool) (x : Bool) (o : Outcome Bool) → (x ≡ true → l ≡ true) → o ≡ Ok x → cond l o (Ok false) ≡ Ok x

@@ -12,7 +12,7 @@ use Rattle.tla_value.specs.Sets.{is_member, set_of}
 use Rattle.tla_value.specs.SetLaws.{rising-set_of, is_member-set_of}
 use Rattle.tla_value.specs.IsValue.{IsValue, ArePairs}
 use Rattle.tla_value.specs.Order.{tree_eq}
-use Rattle.tla_eval.specs.Kinds.{size_of_choices, sized_set, pairs_of}
+use Rattle.tla_eval.specs.Kinds.{size_of_functions, make_function_set, pairs_of}
 use Rattle.tla_value.specs.Funs.{arguments, value_at}
 use Rattle.tla_value.specs.Choices.{is_each_once, fields_fit, if_there, records_of, keys_of, parts_of, choices, functions_of}
 use Rattle.tla_eval.specs.Meaning.{Meaning, Bound, Present, Next, elements}
@@ -130,9 +130,9 @@ parts-know (f ∷ fs) hs = (hs.0, parts-know fs hs.1)
 pub knows-records : (at : Place) (fs : List (List ℕ × Meaning)) → FieldsKnow fs → KnowsItsMembers (means-records at fs)
 knows-records at fs hs = record {
   by = λ v iv b s p ts e.
-      let lists = bind-ok (sets_of at (parts_of fs) b s p) (λ sets. cond (is_each_once (keys_of fs)) (sized_set at (size_of_choices (choices sets)) (set_of (records_of (zip (names_of fs) sets)))) (fault NoField at)) (set ts) e in
-      let some = cond-first (is_each_once (keys_of fs)) (sized_set at (size_of_choices (choices lists.0)) (set_of (records_of (zip (names_of fs) lists.0)))) (record { code = NoField; place = Some at; variable = None }) (set ts) lists.2 in
-      in_records b s p lists.0 (gives-sets at b s p (parts_of fs) lists.0 lists.1) v iv ∙ ap (λ (x : Bool). Ok x) (sym (made-sized at (size_of_choices (choices lists.0)) (records_of (zip (names_of fs) lists.0)) ts some v));
+      let lists = bind-ok (sets_of at (parts_of fs) b s p) (λ sets. cond (is_each_once (keys_of fs)) (make_function_set at (records_of (zip (names_of fs) sets))) (fault NoField at)) (set ts) e in
+      let some = cond-first (is_each_once (keys_of fs)) (make_function_set at (records_of (zip (names_of fs) lists.0))) (record { code = NoField; place = Some at; variable = None }) (set ts) lists.2 in
+      in_records b s p lists.0 (gives-sets at b s p (parts_of fs) lists.0 lists.1) v iv ∙ ap (λ (x : Bool). Ok x) (sym (made-sized at (size_of_functions (set_of (records_of (zip (names_of fs) lists.0)))) (records_of (zip (names_of fs) lists.0)) ts some v));
 }
   where
     in_records : (b : Bound) (s : Present) (p : Next) (lists : List (List Tree)) → Gives at (parts_of fs) b s p lists → (v : Tree) → IsValue v

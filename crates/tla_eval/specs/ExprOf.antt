@@ -1,23 +1,28 @@
 -- The expression that a core stands for: its pointers forgotten, its values as trees.
-use Rattle.std.specs.Prelude.{List, [], ◌∷◌}
+use Rattle.std.specs.Prelude.{ℕ, List, [], ◌∷◌, map}
 use Rattle.tla_value.specs.TreeOf.{tree_of}
 use Rattle.tla_eval.specs.Meaning.{Meaning}
 use Rattle.tla_eval.specs.Value.{means}
-use Rattle.tla_eval.specs.Expr.{Expr, Exprs, constant, bound, now, next, unary, binary, equal, conjunction, disjunction, implies, conditional, assert, for_all, for_some, choose, member, not_member, subset, kind_set, booleans, cup, cap, no_exprs, more_exprs}
+use Rattle.tla_eval.specs.Expr.{Expr, Exprs, Fields, Arms, constant, bound, now, next, unary, binary, equal, sub_seq, enumerated, tuple, record_of, conjunction, disjunction, implies, conditional, cases, assert, for_all, for_some, choose, image, function, member, not_member, subset, kind_set, booleans, cup, cap, minus, no_exprs, more_exprs, no_fields, more_fields, no_arms, other, more_arms}
 use Rattle.tla_eval.specs.Expr as expr
 use Rattle.tla_eval.specs.declared.expression.Unary.{Unary}
-use Rattle.tla_eval.specs.declared.expression.Unary.TheVariants.{Not, Negate, IsFinite, Cardinality}
+use Rattle.tla_eval.specs.declared.expression.Unary.TheVariants.{Not, Negate, Union, Domain, Len, Head, Tail, IsFinite, Cardinality}
 use Rattle.tla_eval.specs.declared.expression.Binary.{Binary}
-use Rattle.tla_eval.specs.declared.expression.Binary.TheVariants.{Iff, Unequal, Add, Subtract, Multiply, Divide, Modulo, Power, LessThan, GreaterThan, AtMost, AtLeast}
+use Rattle.tla_eval.specs.declared.expression.Binary.TheVariants.{Iff, Unequal, Add, Subtract, Multiply, Divide, Modulo, Power, LessThan, GreaterThan, AtMost, AtLeast, Range, Single, Override, Concat, Append}
 use Rattle.tla_eval.specs.declared.expression.Kind.{Kind}
 use Rattle.tla_eval.specs.declared.expression.Kind.TheVariants.{Naturals, Integers, Strings}
-use Rattle.tla_eval.specs.declared.expression.Core.{Core, Row_of-Core, end_of-Core, more_of-Core}
-use Rattle.tla_eval.specs.declared.expression.Core.TheVariants.{Constant, Bound, Now, Next, Unary', Binary', Apply', Equal', Conjunction', Disjunction', Implies', If', Assert', ForAll', ForSome', Choose', Member', NotMember', Subset', KindSet, Booleans, Cup', Cap'}
+use Rattle.tla_eval.specs.declared.expression.Core.{Core, Row_of-Core, end_of-Core, more_of-Core, Row_of-Core-Record-1-2, end_of-Core-Record-1-2, more_of-Core-Record-1-2, Row_of-Core-Cases-1-2, end_of-Core-Cases-1-2, more_of-Core-Cases-1-2, Held-Core-Cases-2, None', Some'}
+use Rattle.tla_eval.specs.declared.expression.Core.TheVariants.{Constant, Bound, Now, Next, Unary', Binary', Apply', Equal', Field', SubSeq', Enumerated', Tuple', Record', Conjunction', Disjunction', Implies', If', Cases', Assert', ForAll', ForSome', Choose', Image', Function', Member', NotMember', Subset', KindSet, Booleans, Cup', Cap', Minus'}
 
 -- the operators
 abbrev pub unary_of : Unary → expr.Unary
 unary_of Not = expr.Not
 unary_of Negate = expr.Negate
+unary_of Union = expr.Union
+unary_of Domain = expr.Domain
+unary_of Len = expr.Len
+unary_of Head = expr.Head
+unary_of Tail = expr.Tail
 unary_of IsFinite = expr.IsFinite
 unary_of Cardinality = expr.Cardinality
 
@@ -34,6 +39,11 @@ binary_of LessThan = expr.LessThan
 binary_of GreaterThan = expr.GreaterThan
 binary_of AtMost = expr.AtMost
 binary_of AtLeast = expr.AtLeast
+binary_of Range = expr.Range
+binary_of Single = expr.Single
+binary_of Override = expr.Override
+binary_of Concat = expr.Concat
+binary_of Append = expr.Append
 
 abbrev pub kind_of : Kind → expr.Kind
 kind_of Naturals = expr.Naturals
@@ -50,14 +60,22 @@ abbrev mutual
   expr_of (Binary' at op _ a _ c) = binary at (binary_of op) (expr_of a) (expr_of c)
   expr_of (Apply' at _ a _ c) = binary at expr.Apply (expr_of a) (expr_of c)
   expr_of (Equal' at _ a _ c) = equal at (expr_of a) (expr_of c)
+  expr_of (Field' at name _ a) = unary at (expr.Field name) (expr_of a)
+  expr_of (SubSeq' at _ a _ c _ d) = sub_seq at (expr_of a) (expr_of c) (expr_of d)
+  expr_of (Enumerated' at _ parts) = enumerated at (exprs_of parts)
+  expr_of (Tuple' at _ parts) = tuple at (exprs_of parts)
+  expr_of (Record' at _ fields) = record_of at (fields_of fields)
   expr_of (Conjunction' at _ parts) = conjunction at (exprs_of parts)
   expr_of (Disjunction' at _ parts) = disjunction at (exprs_of parts)
   expr_of (Implies' at _ a _ c) = implies at (expr_of a) (expr_of c)
   expr_of (If' at _ a _ c _ d) = conditional at (expr_of a) (expr_of c) (expr_of d)
+  expr_of (Cases' at _ arms last) = cases at (arms_of arms (last_of last))
   expr_of (Assert' at _ a _ c) = assert at (expr_of a) (expr_of c)
   expr_of (ForAll' at _ a _ e) = for_all at (expr_of a) (expr_of e)
   expr_of (ForSome' at _ a _ e) = for_some at (expr_of a) (expr_of e)
   expr_of (Choose' at _ a _ e) = choose at (expr_of a) (expr_of e)
+  expr_of (Image' at _ a _ e) = image at (more_exprs (expr_of a) no_exprs) (expr_of e)
+  expr_of (Function' at _ a _ e) = function at (more_exprs (expr_of a) no_exprs) (expr_of e)
   expr_of (Member' at _ a _ c) = member at (expr_of a) (expr_of c)
   expr_of (NotMember' at _ a _ c) = not_member at (expr_of a) (expr_of c)
   expr_of (Subset' at _ a _ c) = subset at (expr_of a) (expr_of c)
@@ -65,12 +83,36 @@ abbrev mutual
   expr_of (Booleans at) = booleans at
   expr_of (Cup' at _ a _ c) = cup at (expr_of a) (expr_of c)
   expr_of (Cap' at _ a _ c) = cap at (expr_of a) (expr_of c)
+  expr_of (Minus' at _ a _ c) = minus at (expr_of a) (expr_of c)
 
   pub exprs_of : {m : _} → Row_of-Core m → Exprs
   exprs_of end_of-Core = no_exprs
   exprs_of (more_of-Core e rest) = more_exprs (expr_of e) (exprs_of rest)
 
+  pub fields_of : {m : _} → Row_of-Core-Record-1-2 m → Fields
+  fields_of end_of-Core-Record-1-2 = no_fields
+  fields_of (more_of-Core-Record-1-2 name e rest) = more_fields name (expr_of e) (fields_of rest)
+
+  pub arms_of : {m : _} → Row_of-Core-Cases-1-2 m → Arms → Arms
+  arms_of end_of-Core-Cases-1-2 last = last
+  arms_of (more_of-Core-Cases-1-2 c e rest) last = more_arms (expr_of c) (expr_of e) (arms_of rest last)
+
+  pub last_of : Held-Core-Cases-2 → Arms
+  last_of None' = no_arms
+  last_of (Some' _ e) = other (expr_of e)
+
 -- what the parts of a list mean
 abbrev pub parts_of_cores : List Core → List Meaning
 parts_of_cores [] = []
 parts_of_cores (c ∷ cs) = means (expr_of c) ∷ parts_of_cores cs
+
+abbrev pub fields_of_cores : List (List ℕ × Core) → List (List ℕ × Meaning)
+fields_of_cores fs = map (λ (f : List ℕ × Core). (f.0, means (expr_of f.1))) fs
+
+-- the expressions of an arm, and what the arms of a list mean
+abbrev pub exprs_of_arm : (Core × Core) → Expr × Expr
+exprs_of_arm a = (expr_of a.0, expr_of a.1)
+
+abbrev pub arms_of_cores : List (Core × Core) → List (Meaning × Meaning)
+arms_of_cores [] = []
+arms_of_cores (a ∷ arms) = (means (expr_of a.0), means (expr_of a.1)) ∷ arms_of_cores arms

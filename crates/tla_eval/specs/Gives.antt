@@ -1,6 +1,6 @@
 -- What a call answers: the value or the fault that the definition gives, unless memory ran out. (This project's own choice.)
-use Rattle.std.specs.Prelude.{◌≡◌, Bool, ◌⊎◌, ℤ, Some, None, Result, Ok, Err}
-use Rattle.tla_value.specs.Tree.{Tree}
+use Rattle.std.specs.Prelude.{◌≡◌, ℕ, Bool, ◌⊎◌, ℤ, List, [], ◌∷◌, ◌++◌, map, Some, None, Result, Ok, Err}
+use Rattle.tla_value.specs.Tree.{Tree, text}
 use Rattle.tla_value.specs.TreeOf.{tree_of}
 use Rattle.tla_value.specs.declared.value.Value.{Value}
 use Rattle.std.proofs.Common.{Bor}
@@ -8,7 +8,9 @@ use Rattle.tla_value.specs.Sets.{is_member}
 use Rattle.tla_value.specs.declared.error.ValueError.{ValueError}
 use Rattle.tla_value.specs.declared.error.ValueError.TheVariants.{TooMany, TooDeep, Memory}
 use Rattle.tla_eval.specs.Fault.{Place, Fault, FaultCode, Outcome, ◌>>=◌, out_of_memory}
-use Rattle.tla_eval.specs.Kinds.{as_int, as_set}
+use Rattle.tla_eval.specs.Kinds.{as_int, as_set, make_set, make_fun}
+use Rattle.tla_eval.specs.Lists.{each}
+use Rattle.tla_eval.specs.Meaning.{Meaning, Bound, Present, Next, elements}
 
 abbrev pub GivesBy : {X A : Type 0} → (X → A) → Result X Fault → Outcome A → Type 0
 GivesBy view (Ok x) o = o ≡ Ok (view x)
@@ -43,3 +45,36 @@ abbrev pub IsRefusal : ValueError → Place → Fault → Type 0
 IsRefusal TooMany p f = f ≡ record { code = FaultCode.TooMany; place = Some p; variable = None }
 IsRefusal TooDeep p f = f ≡ record { code = FaultCode.TooDeep; place = Some p; variable = None }
 IsRefusal Memory p f = f ≡ out_of_memory
+
+-- the values of some pairs, in the order of their arguments
+abbrev pub values_of : List (Tree × Tree) → List Tree
+values_of ps = map (λ (p : Tree × Tree). p.1) ps
+
+-- a field's name with its value, and the record of such fields
+abbrev pub named_value : (List ℕ × Meaning) → Bound → Present → Next → Outcome (Tree × Tree)
+named_value f b s t = do
+  v ← f.1.value b s t
+  Ok (text f.0, v)
+
+abbrev pub record_rule : Place → List (List ℕ × Meaning) → Bound → Present → Next → Outcome Tree
+record_rule p fs b s t = do
+  ps ← each (λ (f : List ℕ × Meaning). named_value f b s t) fs
+  make_fun p ps
+
+-- {e : x \in S}, and [x \in S |-> e]
+abbrev pub image_rule : Place → Meaning → Meaning → Bound → Present → Next → Outcome Tree
+image_rule p a e b s t = do
+  xs ← elements p a b s t
+  vs ← each (λ v. e.value (b ++ v ∷ []) s t) xs
+  make_set p vs
+
+abbrev pub paired_value : Meaning → Bound → Present → Next → Tree → Outcome (Tree × Tree)
+paired_value e b s t v = do
+  y ← e.value (b ++ v ∷ []) s t
+  Ok (v, y)
+
+abbrev pub function_rule : Place → Meaning → Meaning → Bound → Present → Next → Outcome Tree
+function_rule p a e b s t = do
+  xs ← elements p a b s t
+  ps ← each (paired_value e b s t) xs
+  make_fun p ps

@@ -1,7 +1,7 @@
 -- The kinds of values, and the limits of those that are made. A value of the wrong kind is a fault of the node. (Book, chapter 16; the limits are this project's own choice.)
 use Rattle.std.specs.Prelude.{ℕ, max, nat_lt, ℤ, pos, negsuc, int_le, Bool, ◌&&◌, List, [], ◌∷◌, length, Option, Some, None, Ok, if◌then◌else◌}
 use Rattle.tla_value.specs.Tree.{Tree, truth, int, set, fun, trees, pairs, members, entries, deepest, deepest_pair}
-use Rattle.tla_value.specs.Sets.{set_of}
+use Rattle.tla_value.specs.Sets.{set_of, most_pairs}
 use Rattle.tla_value.specs.Funs.{fun_of, items_of}
 use Rattle.tla_value.specs.Choices.{numbered}
 use Rattle.tla_eval.specs.Fault.{Place, FaultCode, WrongKind, Overflow, TooMany, TooDeep, Outcome, fault}
@@ -49,10 +49,9 @@ within p count depth t =
     if nat_lt 1000000 count then fault TooMany p
     else (if nat_lt 63 depth then fault TooDeep p else Ok t)
 
--- how many lists of choices there are, or how long they are if that is more: this is held against the limit on elements
-abbrev pub size_of_choices : List (List Tree) → ℕ
-size_of_choices [] = 0
-size_of_choices (c ∷ cs) = max (length c) (length (c ∷ cs))
+-- how many functions there are in a set of them, or how many pairs the longest has if that is more: this is held against the limit on elements
+abbrev pub size_of_functions : List Tree → ℕ
+size_of_functions ts = max (length ts) (most_pairs ts)
 
 -- the set with these members, which rise, where `size` is the greatest number of members or pairs in it
 abbrev pub sized_set : Place → ℕ → List Tree → Outcome Tree
@@ -60,6 +59,10 @@ sized_set p size ts = within p size (deepest (trees ts)) (set (trees ts))
 
 abbrev pub rising_set : Place → List Tree → Outcome Tree
 rising_set p ts = sized_set p (length ts) ts
+
+-- the set of some functions
+abbrev pub make_function_set : Place → List Tree → Outcome Tree
+make_function_set p ts = sized_set p (size_of_functions (set_of ts)) (set_of ts)
 
 -- the set of some values
 abbrev pub make_set : Place → List Tree → Outcome Tree

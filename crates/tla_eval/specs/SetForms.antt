@@ -4,9 +4,9 @@ use Rattle.tla_value.specs.Tree.{Tree, text, set, trees}
 use Rattle.tla_value.specs.Order.{tree_eq}
 use Rattle.tla_value.specs.Sets.{is_member, set_of}
 use Rattle.tla_value.specs.Funs.{arguments, value_at}
-use Rattle.tla_value.specs.Choices.{choices, subsets_of, tuples_of, functions_of, keys_of, parts_of, records_of, is_each_once}
+use Rattle.tla_value.specs.Choices.{subsets_of, tuples_of, functions_of, keys_of, parts_of, records_of, is_each_once}
 use Rattle.tla_eval.specs.Fault.{Place, NoField, Outcome, ◌>>=◌, fault}
-use Rattle.tla_eval.specs.Kinds.{size_of_choices, as_set, members_of, pairs_of, items, sized_set, make_set}
+use Rattle.tla_eval.specs.Kinds.{as_set, members_of, pairs_of, items, make_set, make_function_set}
 use Rattle.tla_eval.specs.Lists.{all_hold, passing}
 use Rattle.tla_eval.specs.Meaning.{Meaning, Bound, Present, Next, asks, elements, any_primed}
 use Rattle.tla_eval.specs.Functions.{sets_of}
@@ -61,7 +61,7 @@ means-records p fs = record {
   primed = any_primed (parts_of fs);
   value = λ b s t. (do
     sets ← sets_of p (parts_of fs) b s t
-    cond (is_each_once (keys_of fs)) (sized_set p (size_of_choices (choices sets)) (set_of (records_of (zip (names_of fs) sets)))) (fault NoField p));
+    cond (is_each_once (keys_of fs)) (make_function_set p (records_of (zip (names_of fs) sets))) (fault NoField p));
   has = λ v b s t. if_some (pairs_of v) (λ ps.
       cond (tree_eq (set (trees (arguments ps))) (set (trees (set_of (keys_of fs))))) (all_hold (field_has ps b s t) fs) (Ok false));
 }
@@ -81,7 +81,7 @@ means-product p ms = record {
   primed = any_primed ms;
   value = λ b s t. (do
     sets ← sets_of p ms b s t
-    sized_set p (size_of_choices (choices sets)) (set_of (tuples_of sets)));
+    make_function_set p (tuples_of sets));
   has = λ v b s t. if_some (items v) (λ vs. cond (length vs == length ms) (parts_have ms vs b s t) (Ok false));
 }
 

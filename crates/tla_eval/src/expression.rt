@@ -2,7 +2,7 @@
 ghost use Rattle.std.specs.Prelude.{◌≡◌};
 
 use crate::fault::Place;
-use tla_value::Value;
+use tla_value::{Text, Value};
 
 /// An operator on one value.
 #[derive(Clone, Copy, Debug, PartialEq, Eq)]
@@ -11,6 +11,13 @@ pub enum Unary {
     Not,
     /// prefix `-`
     Negate,
+    /// `UNION`
+    Union,
+    /// `DOMAIN`
+    Domain,
+    Len,
+    Head,
+    Tail,
     IsFinite,
     Cardinality,
 }
@@ -37,6 +44,15 @@ pub enum Binary {
     AtMost,
     /// `>=`
     AtLeast,
+    /// `..`
+    Range,
+    /// `:>`
+    Single,
+    /// `@@`
+    Override,
+    /// `\o`
+    Concat,
+    Append,
 }
 
 /// A set that is known by the kind of its members.
@@ -66,6 +82,16 @@ pub enum Core {
     /// `f[e]`
     Apply(Place, Box<Core>, Box<Core>),
     Equal(Place, Box<Core>, Box<Core>),
+    /// `r.a`
+    Field(Place, Text, Box<Core>),
+    /// The sequence, and the first and the last place.
+    SubSeq(Place, Box<Core>, Box<Core>, Box<Core>),
+    /// `{e, ..}`
+    Enumerated(Place, Vec<Core>),
+    /// `<<e, ..>>`
+    Tuple(Place, Vec<Core>),
+    /// `[a |-> e, ..]`: of two fields with one name the first counts.
+    Record(Place, Vec<(Text, Core)>),
     /// `/\`, and a list of its bullets
     Conjunction(Place, Vec<Core>),
     /// `\/`, and a list of its bullets
@@ -73,12 +99,18 @@ pub enum Core {
     Implies(Place, Box<Core>, Box<Core>),
     /// The condition, and the arms for TRUE and FALSE.
     If(Place, Box<Core>, Box<Core>, Box<Core>),
+    /// The arms, each a condition and a value, and the value of OTHER.
+    Cases(Place, Vec<(Core, Core)>, Option<Box<Core>>),
     /// The condition, and the message.
     Assert(Place, Box<Core>, Box<Core>),
     /// The set, and the body, in which the element is the next bound name.
     ForAll(Place, Box<Core>, Box<Core>),
     ForSome(Place, Box<Core>, Box<Core>),
     Choose(Place, Box<Core>, Box<Core>),
+    /// `{e : x \in S}`: the set, and the body.
+    Image(Place, Box<Core>, Box<Core>),
+    /// `[x \in S |-> e]`: the set, and the body.
+    Function(Place, Box<Core>, Box<Core>),
     /// The element, and the set.
     Member(Place, Box<Core>, Box<Core>),
     NotMember(Place, Box<Core>, Box<Core>),
@@ -91,6 +123,8 @@ pub enum Core {
     Cup(Place, Box<Core>, Box<Core>),
     /// `\cap`
     Cap(Place, Box<Core>, Box<Core>),
+    /// `\`
+    Minus(Place, Box<Core>, Box<Core>),
 }
 
 impl Core {
@@ -110,14 +144,22 @@ impl Core {
             Core::Binary(place, _, _, _) => *place,
             Core::Apply(place, _, _) => *place,
             Core::Equal(place, _, _) => *place,
+            Core::Field(place, _, _) => *place,
+            Core::SubSeq(place, _, _, _) => *place,
+            Core::Enumerated(place, _) => *place,
+            Core::Tuple(place, _) => *place,
+            Core::Record(place, _) => *place,
             Core::Conjunction(place, _) => *place,
             Core::Disjunction(place, _) => *place,
             Core::Implies(place, _, _) => *place,
             Core::If(place, _, _, _) => *place,
+            Core::Cases(place, _, _) => *place,
             Core::Assert(place, _, _) => *place,
             Core::ForAll(place, _, _) => *place,
             Core::ForSome(place, _, _) => *place,
             Core::Choose(place, _, _) => *place,
+            Core::Image(place, _, _) => *place,
+            Core::Function(place, _, _) => *place,
             Core::Member(place, _, _) => *place,
             Core::NotMember(place, _, _) => *place,
             Core::Subset(place, _, _) => *place,
@@ -125,6 +167,7 @@ impl Core {
             Core::Booleans(place) => *place,
             Core::Cup(place, _, _) => *place,
             Core::Cap(place, _, _) => *place,
+            Core::Minus(place, _, _) => *place,
         }
     }
 }

@@ -6,11 +6,14 @@ mod environment;
 mod evaluation;
 mod expression;
 mod fault;
+mod functions;
 pub mod laws;
 mod names;
 mod operators;
 mod partial;
+mod primed;
 mod rules;
+mod sequences;
 mod sets;
 
 pub use evaluation::{eval, member};

@@ -1,11 +1,13 @@
 //! Whether the names and variables of an expression exist.
-ghost use Rattle.std.specs.Prelude.{◌≡◌, ◌+◌, ◌&&◌, ℕ, nat_lt, map};
+ghost use Rattle.std.specs.Prelude.{◌≡◌, ◌+◌, ◌&&◌, ℕ, List, nat_lt, map};
 ghost use Rattle.std.specs.List.{list_all};
 ghost use Rattle.tla_eval.specs.Expr.{Expr};
-ghost use Rattle.tla_eval.specs.ExprOf.{expr_of};
+ghost use Rattle.tla_eval.specs.ExprOf.{expr_of, exprs_of_arm};
+ghost use Rattle.tla_eval.specs.declared.expression.Core.{Core};
 ghost use Rattle.tla_eval.specs.Fits.{fits, Counts};
 
 use crate::expression::Core;
+use tla_value::Text;
 
 impl Core {
     /// Whether each bound name of the expression exists where `bound` names are bound outside,
@@ -46,7 +48,9 @@ fn fits_within(core: &Core, names: Option<usize>, variables: usize, now: bool) -
         Core::Bound(_, index) => has_name(names, *index),
         Core::Now(_, variable) => now && *variable < variables,
         Core::Next(_, variable) => *variable < variables,
-        Core::Unary(_, _, operand) => fits_within(operand, names, variables, now),
+        Core::Unary(_, _, operand) | Core::Field(_, _, operand) => {
+            fits_within(operand, names, variables, now)
+        }
         Core::Binary(_, _, left, right)
         | Core::Apply(_, left, right)
         | Core::Equal(_, left, right)
@@ -56,7 +60,8 @@ fn fits_within(core: &Core, names: Option<usize>, variables: usize, now: bool) -
         | Core::NotMember(_, left, right)
         | Core::Subset(_, left, right)
         | Core::Cup(_, left, right)
-        | Core::Cap(_, left, right) => {
+        | Core::Cap(_, left, right)
+        | Core::Minus(_, left, right) => {
             fits_within(left, names, variables, now) && fits_within(right, names, variables, now)
         }
         Core::If(_, condition, yes, no) => {
@@ -64,10 +69,28 @@ fn fits_within(core: &Core, names: Option<usize>, variables: usize, now: bool) -
                 && fits_within(yes, names, variables, now)
                 && fits_within(no, names, variables, now)
         }
-        Core::ForAll(_, set, body) | Core::ForSome(_, set, body) | Core::Choose(_, set, body) => {
+        Core::SubSeq(_, sequence, low, high) => {
+            fits_within(sequence, names, variables, now)
+                && fits_within(low, names, variables, now)
+                && fits_within(high, names, variables, now)
+        }
+        Core::Cases(_, arms, other) => match other {
+            None => arms_fit(arms, names, variables, now),
+            Some(body) => {
+                arms_fit(arms, names, variables, now) && fits_within(body, names, variables, now)
+            }
+        },
+        Core::ForAll(_, set, body)
+        | Core::ForSome(_, set, body)
+        | Core::Choose(_, set, body)
+        | Core::Image(_, set, body)
+        | Core::Function(_, set, body) => {
             fits_within(set, names, variables, now)
                 && fits_within(body, with_more(names, 1), variables, now)
         }
+        Core::Enumerated(_, parts) => all_fit(parts, names, variables, now),
+        Core::Tuple(_, parts) => all_fit(parts, names, variables, now),
+        Core::Record(_, fields) => fields_fit(fields, names, variables, now),
         Core::Conjunction(_, parts) => all_fit(parts, names, variables, now),
         Core::Disjunction(_, parts) => all_fit(parts, names, variables, now),
     }
@@ -80,6 +103,35 @@ fn all_fit(parts: &[Core], names: Option<usize>, variables: usize, now: bool) ->
 {
     for part in parts {
         if !fits_within(part, names, variables, now) {
+            return false;
+        }
+    }
+    true
+}
+
+/// Whether the names and variables of each field exist.
+#[cycle(fits)]
+fn fields_fit(fields: &[(Text, Core)], names: Option<usize>, variables: usize, now: bool) -> bool
+    ensures { (n : ℕ) → Counts names n → result ≡ list_all (λ (e : Expr). fits e n variables now) (map (λ (f : List ℕ × Core). expr_of f.1) fields.now) }
+{
+    for field in fields {
+        if !fits_within(&field.1, names, variables, now) {
+            return false;
+        }
+    }
+    true
+}
+
+/// Whether the names and variables of each arm exist.
+#[cycle(fits)]
+fn arms_fit(arms: &[(Core, Core)], names: Option<usize>, variables: usize, now: bool) -> bool
+    ensures { (n : ℕ) → Counts names n → result ≡ list_all (λ (a : Expr × Expr). fits a.0 n variables now && fits a.1 n variables now) (map exprs_of_arm arms.now) }
+{
+    for arm in arms {
+        if !fits_within(&arm.0, names, variables, now) {
+            return false;
+        }
+        if !fits_within(&arm.1, names, variables, now) {
             return false;
         }
     }

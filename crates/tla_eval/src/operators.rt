@@ -1,29 +1,57 @@
 //! What an operator gives of the values of its operands.
 ghost use Rattle.std.specs.Prelude.{◌≡◌, ℤ, pos, length};
 ghost use Rattle.tla_value.specs.TreeOf.{tree_of};
-ghost use Rattle.tla_eval.specs.Expr.{IsFinite, Cardinality, Iff, Apply};
+ghost use Rattle.tla_eval.specs.Expr.{IsFinite, Cardinality, Iff};
 ghost use Rattle.tla_eval.specs.Kinds.{as_int};
 ghost use Rattle.tla_eval.specs.Operators.{unary_rule, binary_rule};
 ghost use Rattle.tla_eval.specs.ExprOf.{unary_of, binary_of, kind_of};
 ghost use Rattle.tla_eval.specs.Environment.{Evaluates, tree_of_evaluated};
 ghost use Rattle.tla_eval.specs.Membership.{is_of_kind, is_truth};
-ghost use Rattle.tla_eval.specs.Gives.{Gives, GivesBy, GivesBorrowed, two_ints};
+ghost use Rattle.tla_eval.specs.Gives.{Gives, GivesBy, two_ints};
 
 use crate::arithmetic::{add, divide, modulo, multiply, negate, power, subtract};
 use crate::environment::Evaluated;
 use crate::expression::{Binary, Kind, Unary};
 use crate::fault::{Fault, FaultCode, Place};
+use crate::functions::{domain, override_with, single};
 use crate::rules::{as_truth, copied, fault_at};
+use crate::sequences::{append, concat, first_item, head, length, tail};
+use crate::sets::{range, union_all};
 use std::alloc::Global;
 use tla_value::{SetValue, Value};
 
 /// An operator on one value.
-pub(crate) fn unary(place: Place, operator: Unary, operand: &Value) -> Result<Value, Fault>
+pub(crate) fn unary<'a>(
+    alloc: Global,
+    place: Place,
+    operator: Unary,
+    operand: Evaluated<'a>,
+) -> Result<Evaluated<'a>, Fault>
+    ensures { Evaluates result (unary_rule (unary_of operator) place (tree_of_evaluated operand.entry)) }
+{
+    match operator {
+        Unary::Head => head(alloc, place, operand),
+        _ => Ok(Evaluated::Owned(made_by_unary(alloc, place, operator, operand.value())?)),
+    }
+}
+
+/// The value that an operator on one value makes.
+fn made_by_unary(
+    alloc: Global,
+    place: Place,
+    operator: Unary,
+    operand: &Value,
+) -> Result<Value, Fault>
     ensures { Gives result (unary_rule (unary_of operator) place (tree_of operand.now)) }
 {
     match operator {
         Unary::Not => Ok(Value::Truth(!as_truth(operand, place)?)),
         Unary::Negate => negate(place, as_int(place, operand)?),
+        Unary::Union => union_all(alloc, place, operand),
+        Unary::Domain => domain(alloc, place, operand),
+        Unary::Len => length(place, operand),
+        Unary::Head => copied(alloc, first_item(place, operand)?),
+        Unary::Tail => tail(alloc, place, operand),
         Unary::IsFinite => is_finite(place, operand),
         Unary::Cardinality => cardinality(place, operand),
     }
@@ -67,6 +95,7 @@ fn count_of(set: &SetValue) -> i64
 
 /// An operator on two values.
 pub(crate) fn binary(
+    alloc: Global,
     place: Place,
     operator: Binary,
     left: &Value,
@@ -117,11 +146,19 @@ pub(crate) fn binary(
             let (left, right) = two_ints(place, left, right)?;
             Ok(Value::Truth(left >= right))
         }
+        Binary::Range => {
+            let (left, right) = two_ints(place, left, right)?;
+            range(alloc, place, left, right)
+        }
+        Binary::Single => single(alloc, place, left, right),
+        Binary::Override => override_with(alloc, place, left, right),
+        Binary::Concat => concat(alloc, place, left, right),
+        Binary::Append => append(alloc, place, left, right),
     }
 }
 
 /// The numbers that two values are.
-fn two_ints(place: Place, left: &Value, right: &Value) -> Result<(i64, i64), Fault>
+pub(crate) fn two_ints(place: Place, left: &Value, right: &Value) -> Result<(i64, i64), Fault>
     ensures { GivesBy (λ (n : ℤ × ℤ). n) result (two_ints place (tree_of left.now) (tree_of right.now)) }
 {
     match (left, right) {
@@ -136,40 +173,6 @@ fn iff(place: Place, left: &Value, right: &Value) -> Result<Value, Fault>
     match (left, right) {
         (Value::Truth(left), Value::Truth(right)) => Ok(Value::Truth(*left == *right)),
         (_, _) => Err(fault_at(FaultCode::WrongKind, place)),
-    }
-}
-
-/// The value of a function at an argument.
-pub(crate) fn apply<'a>(
-    alloc: Global,
-    place: Place,
-    function: Evaluated<'a>,
-    argument: &Value,
-) -> Result<Evaluated<'a>, Fault>
-    ensures { Evaluates result (binary_rule Apply place (tree_of_evaluated function.entry) (tree_of argument.now)) }
-{
-    match function {
-        Evaluated::Borrowed(function) => Ok(Evaluated::Borrowed(value_at(
-            place, function, argument,
-        )?)),
-        Evaluated::Owned(function) => {
-            let value = value_at(place, &function, argument)?;
-            Ok(Evaluated::Owned(copied(alloc, value)?))
-        }
-    }
-}
-
-/// The value of a function at an argument, lent.
-#[tactic(auto, using(crate::proofs::Known::as_fun_known))]
-fn value_at<'a>(place: Place, function: &'a Value, argument: &Value) -> Result<&'a Value, Fault>
-    ensures { GivesBorrowed result (binary_rule Apply place (tree_of function.now) (tree_of argument.now)) }
-{
-    match function {
-        Value::Fun(fun) => match fun.apply(argument) {
-            Some(value) => Ok(value),
-            None => Err(fault_at(FaultCode::OutsideDomain, place)),
-        },
-        _ => Err(fault_at(FaultCode::WrongKind, place)),
     }
 }
 

@@ -1,11 +1,17 @@
-use Rattle.std.proofs.Common.{◌++◌, ◌∷◌, [], Bool, Ok, ap, sym, ◌∙◌, subst}
-use Rattle.tla_eval.specs.Logic.{means-conjunction, means-disjunction}
-use Rattle.tla_eval.specs.Meaning.{Meaning, asks}
-use Rattle.tla_eval.specs.Value.{means, mem}
-use Rattle.tla_eval.specs.ExprOf.{expr_of, parts_of_cores}
+use Rattle.std.proofs.Common.{◌++◌, ◌∷◌, [], Bool, Some, None, Ok, ap, sym, ◌∙◌, subst}
+use Rattle.tla_eval.specs.Logic.{means-conjunction, means-disjunction, means-cases}
+use Rattle.tla_eval.specs.Meaning.{Meaning, asks, means-enumerated, means-tuple}
+use Rattle.tla_eval.specs.Value.{means, val, mem}
+use Rattle.tla_eval.specs.ExprOf.{expr_of, parts_of_cores, fields_of_cores, arms_of_cores}
+use Rattle.tla_value.specs.Tree.{Tree}
+use Rattle.tla_eval.specs.Fault.{Outcome}
+use Rattle.tla_eval.specs.Gives.{GivesTruth, record_rule, image_rule, function_rule}
+use Rattle.tla_value.specs.TreeOf.{tree_of}
+use Rattle.tla_eval.specs.declared.expression.Core.{Core}
 use Rattle.tla_eval.specs.Environment.{Evaluates, bound_in, present_in, next_in}
 use Rattle.tla_eval.proofs.Loops.{all_hold_step, some_hold_step, first_passing_step}
-use Rattle.tla_eval.proofs.Parts.{means_conjunction, means_disjunction}
+use Rattle.tla_eval.proofs.Collected.{record_is, image_is, function_is}
+use Rattle.tla_eval.proofs.Parts.{means_conjunction, means_disjunction, means_enumerated, means_tuple, means_record, means_cases, means_cases_or}
 use Rattle.tla_eval.proofs.evaluation.+evaluate.Goals as goal
 
 pub evaluate-returns-in-Conjunction : goal.evaluate-returns-in-Conjunction
@@ -20,22 +26,90 @@ evaluate-returns-in-Disjunction t c =
     let e = means_disjunction c.args.core.now n.place n.parts n.is ∙ ap (λ us. means-disjunction n.place (parts_of_cores us)) (sym c.deref-in-Disjunction.ensures.value) in
     subst (λ (m : Meaning). Evaluates c.disjunction.result (m.value (bound_in c.args.env) (present_in c.args.env) (next_in c.args.env))) (sym e) c.disjunction.ensures
 
-pub each_holds-loop-value-preserved : goal.each_holds-loop-value-preserved
-each_holds-loop-value-preserved t c =
+pub binding::each_holds-loop-value-preserved : goal.binding::each_holds-loop-value-preserved
+binding::each_holds-loop-value-preserved t c =
     c.loop-value.invariant
     ∙ all_hold_step (λ v. asks c.args.place (means (expr_of c.args.body.now)) (bound_in c.args.env ++ v ∷ []) (present_in c.args.env) (next_in c.args.env)) c.args.values.now c.loop-value.value-index c.value-item.result c.value-item.is c.loop-value-test.true (c.in_ok-ask_with.ensures ∙ ap (λ (x : Bool). Ok x) c.if-not-branch.false)
 
-pub some_holds-loop-value-preserved : goal.some_holds-loop-value-preserved
-some_holds-loop-value-preserved t c =
+pub binding::some_holds-loop-value-preserved : goal.binding::some_holds-loop-value-preserved
+binding::some_holds-loop-value-preserved t c =
     c.loop-value.invariant
     ∙ some_hold_step (λ v. asks c.args.place (means (expr_of c.args.body.now)) (bound_in c.args.env ++ v ∷ []) (present_in c.args.env) (next_in c.args.env)) c.args.values.now c.loop-value.value-index c.value-item.result c.value-item.is c.loop-value-test.true (c.in_ok-ask_with.ensures ∙ ap (λ (x : Bool). Ok x) c.if-branch.false)
 
-pub first_passing-loop-value-preserved : goal.first_passing-loop-value-preserved
-first_passing-loop-value-preserved t c =
+pub binding::first_passing-loop-value-preserved : goal.binding::first_passing-loop-value-preserved
+binding::first_passing-loop-value-preserved t c =
     c.loop-value.invariant
     ∙ first_passing_step (λ v. asks c.args.place (means (expr_of c.args.body.now)) (bound_in c.args.env ++ v ∷ []) (present_in c.args.env) (next_in c.args.env)) c.args.values.now c.loop-value.value-index c.value-item.result c.args.place c.value-item.is c.loop-value-test.true (c.in_ok-ask_with.ensures ∙ ap (λ (x : Bool). Ok x) c.if-branch.false)
 
-pub has_all-loop-value-preserved : goal.has_all-loop-value-preserved
-has_all-loop-value-preserved t c =
+pub membership::has_all-loop-value-preserved : goal.membership::has_all-loop-value-preserved
+membership::has_all-loop-value-preserved t c =
     c.loop-value.invariant
     ∙ all_hold_step (λ v. mem v (expr_of c.args.core.now) (bound_in c.args.env) (present_in c.args.env) (next_in c.args.env)) c.args.values.now c.loop-value.value-index c.value-item.result c.value-item.is c.loop-value-test.true (c.in_ok-has.ensures ∙ ap (λ (x : Bool). Ok x) c.if-not-branch.false)
+
+pub evaluate-returns-in-Enumerated : goal.evaluate-returns-in-Enumerated
+evaluate-returns-in-Enumerated t c =
+    let n = c.in-Enumerated in
+    let e = means_enumerated c.args.core.now n.place n.parts n.is ∙ ap (λ us. means-enumerated n.place (parts_of_cores us)) (sym c.deref-in-Enumerated.ensures.value) in
+    subst (λ (m : Meaning). Evaluates c.enumerated.result (m.value (bound_in c.args.env) (present_in c.args.env) (next_in c.args.env))) (sym e) c.enumerated.ensures
+
+pub evaluate-returns-in-Tuple : goal.evaluate-returns-in-Tuple
+evaluate-returns-in-Tuple t c =
+    let n = c.in-Tuple in
+    let e = means_tuple c.args.core.now n.place n.parts n.is ∙ ap (λ us. means-tuple n.place (parts_of_cores us)) (sym c.deref-in-Tuple.ensures.value) in
+    subst (λ (m : Meaning). Evaluates c.tuple.result (m.value (bound_in c.args.env) (present_in c.args.env) (next_in c.args.env))) (sym e) c.tuple.ensures
+
+pub evaluate-returns-in-Record : goal.evaluate-returns-in-Record
+evaluate-returns-in-Record t c =
+    let n = c.in-Record in
+    let e = ap (λ (m : Meaning). m.value (bound_in c.args.env) (present_in c.args.env) (next_in c.args.env)) (means_record c.args.core.now n.place n.fields n.is)
+    ∙ record_is n.place (fields_of_cores n.fields.items) (bound_in c.args.env) (present_in c.args.env) (next_in c.args.env)
+    ∙ ap (λ us. record_rule n.place (fields_of_cores us) (bound_in c.args.env) (present_in c.args.env) (next_in c.args.env)) (sym c.deref-in-Record.ensures.value) in
+    subst (λ (o : Outcome Tree). Evaluates c.record_of.result o) (sym e) c.record_of.ensures
+
+pub evaluate-returns-in-None : goal.evaluate-returns-in-None
+evaluate-returns-in-None t c =
+    let n = c.in-Cases in
+    let e = means_cases c.args.core.now n.place n.arms n.other n.is c.in-None.is ∙ ap (λ us. means-cases n.place (arms_of_cores us) None) (sym c.deref-in-None.ensures.value) in
+    subst (λ (m : Meaning). Evaluates c.cases.result (m.value (bound_in c.args.env) (present_in c.args.env) (next_in c.args.env))) (sym e) c.cases.ensures
+
+pub evaluate-returns-in-Some : goal.evaluate-returns-in-Some
+evaluate-returns-in-Some t c =
+    let n = c.in-Cases in
+    let e = means_cases_or c.args.core.now n.place n.arms n.other c.in-Some.body n.is c.in-Some.is
+    ∙ ap (λ us. means-cases n.place (arms_of_cores us) (Some (means (expr_of c.in-Some.body.value)))) (sym c.deref-in-Some.ensures.value)
+    ∙ ap (λ (x : Core). means-cases n.place (arms_of_cores c.deref-in-Some.result.now) (Some (means (expr_of x)))) (sym c.deref-in-Some-2.ensures) in
+    subst (λ (m : Meaning). Evaluates c.cases-in-Some.result (m.value (bound_in c.args.env) (present_in c.args.env) (next_in c.args.env))) (sym e) c.cases-in-Some.ensures
+
+pub has-returns-in-None : goal.has-returns-in-None
+has-returns-in-None t c =
+    let n = c.in-Cases in
+    let e = means_cases c.args.core.now n.place n.arms n.other n.is c.in-None.is ∙ ap (λ us. means-cases n.place (arms_of_cores us) None) (sym c.deref-in-None.ensures.value) in
+    subst (λ (m : Meaning). GivesTruth c.cases_have.result (m.has (tree_of c.args.value.now) (bound_in c.args.env) (present_in c.args.env) (next_in c.args.env))) (sym e) c.cases_have.ensures
+
+pub has-returns-in-Some : goal.has-returns-in-Some
+has-returns-in-Some t c =
+    let n = c.in-Cases in
+    let e = means_cases_or c.args.core.now n.place n.arms n.other c.in-Some.body n.is c.in-Some.is
+    ∙ ap (λ us. means-cases n.place (arms_of_cores us) (Some (means (expr_of c.in-Some.body.value)))) (sym c.deref-in-Some.ensures.value)
+    ∙ ap (λ (x : Core). means-cases n.place (arms_of_cores c.deref-in-Some.result.now) (Some (means (expr_of x)))) (sym c.deref-in-Some-2.ensures) in
+    subst (λ (m : Meaning). GivesTruth c.cases_have-in-Some.result (m.has (tree_of c.args.value.now) (bound_in c.args.env) (present_in c.args.env) (next_in c.args.env))) (sym e) c.cases_have-in-Some.ensures
+
+pub evaluate-returns-in-Image : goal.evaluate-returns-in-Image
+evaluate-returns-in-Image t c =
+    let n = c.in-Image in
+    let b = bound_in c.args.env in let s = present_in c.args.env in let q = next_in c.args.env in
+    let e = ap (λ (k : Core). val (expr_of k) b s q) n.is
+    ∙ image_is n.place (means (expr_of n.set.value)) (means (expr_of n.body.value)) b s q
+    ∙ ap (λ (k : Core). image_rule n.place (means (expr_of k)) (means (expr_of n.body.value)) b s q) (sym c.deref-in-Image.ensures)
+    ∙ ap (λ (k : Core). image_rule n.place (means (expr_of c.deref-in-Image.result.now)) (means (expr_of k)) b s q) (sym c.deref-in-Image-2.ensures) in
+    subst (λ (o : Outcome Tree). Evaluates c.image.result o) (sym e) c.image.ensures
+
+pub evaluate-returns-in-Function : goal.evaluate-returns-in-Function
+evaluate-returns-in-Function t c =
+    let n = c.in-Function in
+    let b = bound_in c.args.env in let s = present_in c.args.env in let q = next_in c.args.env in
+    let e = ap (λ (k : Core). val (expr_of k) b s q) n.is
+    ∙ function_is n.place (means (expr_of n.set.value)) (means (expr_of n.body.value)) b s q
+    ∙ ap (λ (k : Core). function_rule n.place (means (expr_of k)) (means (expr_of n.body.value)) b s q) (sym c.deref-in-Function.ensures)
+    ∙ ap (λ (k : Core). function_rule n.place (means (expr_of c.deref-in-Function.result.now)) (means (expr_of k)) b s q) (sym c.deref-in-Function-2.ensures) in
+    subst (λ (o : Outcome Tree). Evaluates c.function.result o) (sym e) c.function.ensures

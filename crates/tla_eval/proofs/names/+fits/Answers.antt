@@ -1,16 +1,31 @@
-use Rattle.std.proofs.Common.{Bool, map, ap, sym, ◌∙◌}
+use Rattle.std.proofs.Common.{◌≡◌, ℕ, List, Bool, true, false, ◌&&◌, map, ap, sym, ◌∙◌}
 use Rattle.std.specs.List.{list_all}
 use Rattle.tla_eval.specs.Expr.{Expr}
-use Rattle.tla_eval.specs.ExprOf.{expr_of}
+use Rattle.tla_eval.specs.ExprOf.{expr_of, exprs_of_arm}
+use Rattle.tla_eval.specs.declared.expression.Core.{Core}
 use Rattle.tla_eval.specs.Fits.{fits}
 use Rattle.tla_eval.proofs.Loops.{list_all_step, list_all_stop, list_all_end}
-use Rattle.tla_eval.proofs.Parts.{conjunction_fits, disjunction_fits}
+use Rattle.tla_eval.proofs.Parts.{enumerated_fits, tuple_fits, conjunction_fits, disjunction_fits, record_fits, arm_fits, cases_fit, cases_or_fit}
 use Rattle.tla_eval.proofs.names.+fits.Goals as goal
+
+pub fits_within-returns-in-Enumerated : goal.fits_within-returns-in-Enumerated
+fits_within-returns-in-Enumerated t c = λ n h.
+    let m = c.in-Enumerated in
+    c.all_fit.ensures n h
+    ∙ ap (λ us. list_all (λ (e : Expr). fits e n c.args.variables c.args.now) (map expr_of us)) c.deref-in-Enumerated.ensures.value
+    ∙ sym (ap (λ k. fits (expr_of k) n c.args.variables c.args.now) m.is ∙ enumerated_fits m.field-0 m.parts n c.args.variables c.args.now)
+
+pub fits_within-returns-in-Tuple : goal.fits_within-returns-in-Tuple
+fits_within-returns-in-Tuple t c = λ n h.
+    let m = c.in-Tuple in
+    c.all_fit-in-Tuple.ensures n h
+    ∙ ap (λ us. list_all (λ (e : Expr). fits e n c.args.variables c.args.now) (map expr_of us)) c.deref-in-Tuple.ensures.value
+    ∙ sym (ap (λ k. fits (expr_of k) n c.args.variables c.args.now) m.is ∙ tuple_fits m.field-0 m.parts n c.args.variables c.args.now)
 
 pub fits_within-returns-in-Conjunction : goal.fits_within-returns-in-Conjunction
 fits_within-returns-in-Conjunction t c = λ n h.
     let m = c.in-Conjunction in
-    c.all_fit.ensures n h
+    c.all_fit-in-Conjunction.ensures n h
     ∙ ap (λ us. list_all (λ (e : Expr). fits e n c.args.variables c.args.now) (map expr_of us)) c.deref-in-Conjunction.ensures.value
     ∙ sym (ap (λ k. fits (expr_of k) n c.args.variables c.args.now) m.is ∙ conjunction_fits m.field-0 m.parts n c.args.variables c.args.now)
 
@@ -37,3 +52,34 @@ pub all_fit-returns : goal.all_fit-returns
 all_fit-returns t c = λ n h.
     let test : Expr → Bool = λ e. fits e n c.args.variables c.args.now in
     sym (c.loop-part.invariant n h ∙ list_all_end test c.args.parts.now c.loop-part.part-index c.loop-part-test.false)
+
+pub fits_within-returns-in-Record : goal.fits_within-returns-in-Record
+fits_within-returns-in-Record t c = λ n h.
+    let m = c.in-Record in
+    c.fields_fit.ensures n h
+    ∙ ap (λ us. list_all (λ (e : Expr). fits e n c.args.variables c.args.now) (map (λ (f : List ℕ × Core). expr_of f.1) us)) c.deref-in-Record.ensures.value
+    ∙ sym (ap (λ k. fits (expr_of k) n c.args.variables c.args.now) m.is ∙ record_fits m.field-0 m.fields n c.args.variables c.args.now)
+
+pub fits_within-returns-in-None : goal.fits_within-returns-in-None
+fits_within-returns-in-None t c = λ n h.
+    let m = c.in-Cases in
+    c.arms_fit.ensures n h
+    ∙ ap (λ us. list_all (arm_fits n c.args.variables c.args.now) (map exprs_of_arm us)) c.deref-in-None.ensures.value
+    ∙ sym (cases_fit c.args.core.now m.field-0 m.arms m.other m.is c.in-None.is n c.args.variables c.args.now)
+
+pub fits_within-returns-then-arms_fit : goal.fits_within-returns-then-arms_fit
+fits_within-returns-then-arms_fit t c = λ n h.
+    let m = c.in-Cases in
+    let arms : list_all (arm_fits n c.args.variables c.args.now) (map exprs_of_arm m.arms.items) ≡ true =
+    sym (c.arms_fit-in-Some.ensures n h ∙ ap (λ us. list_all (arm_fits n c.args.variables c.args.now) (map exprs_of_arm us)) c.deref-in-Some.ensures.value) ∙ c.if-arms_fit.true in
+    c.fits_within-then-arms_fit.ensures n h
+    ∙ ap (λ (k : Core). fits (expr_of k) n c.args.variables c.args.now) c.deref-then-arms_fit.ensures
+    ∙ sym (cases_or_fit c.args.core.now m.field-0 m.arms m.other c.in-Some.body m.is c.in-Some.is n c.args.variables c.args.now ∙ ap (λ b. b && fits (expr_of c.in-Some.body.value) n c.args.variables c.args.now) arms)
+
+pub fits_within-returns-else-arms_fit : goal.fits_within-returns-else-arms_fit
+fits_within-returns-else-arms_fit t c = λ n h.
+    let m = c.in-Cases in
+    let arms : list_all (arm_fits n c.args.variables c.args.now) (map exprs_of_arm m.arms.items) ≡ false =
+    sym (c.arms_fit-in-Some.ensures n h ∙ ap (λ us. list_all (arm_fits n c.args.variables c.args.now) (map exprs_of_arm us)) c.deref-in-Some.ensures.value) ∙ c.if-arms_fit.false in
+    c.if-arms_fit.false
+    ∙ sym (cases_or_fit c.args.core.now m.field-0 m.arms m.other c.in-Some.body m.is c.in-Some.is n c.args.variables c.args.now ∙ ap (λ b. b && fits (expr_of c.in-Some.body.value) n c.args.variables c.args.now) arms)

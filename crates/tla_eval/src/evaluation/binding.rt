@@ -1,0 +1,233 @@
+//! Forms that bind names.
+ghost use Rattle.std.specs.Prelude.{◌++◌, ◌∷◌, [], map};
+ghost use Rattle.tla_value.specs.TreeOf.{tree_of, pair_of};
+ghost use Rattle.tla_eval.specs.Lists.{each, all_hold, some_hold, first_passing};
+ghost use Rattle.tla_eval.specs.Meaning.{asks};
+ghost use Rattle.tla_eval.specs.Logic.{means-for_all, means-for_some, means-choose};
+ghost use Rattle.tla_eval.specs.Value.{means};
+ghost use Rattle.tla_eval.specs.ExprOf.{expr_of};
+ghost use Rattle.tla_eval.specs.Gives.{Gives, GivesBy, GivesTruth, GivesBorrowed, image_rule, function_rule, paired_value};
+ghost use Rattle.tla_eval.specs.Environment.{Evaluates, bound_in, present_in, next_in};
+
+use crate::environment::{Environment, Evaluated, Scope};
+use crate::evaluation::{ask, evaluate};
+use crate::expression::Core;
+use crate::fault::{Fault, FaultCode, Place};
+use crate::functions::made_fun;
+use crate::rules::{copied, fault_at};
+use crate::sets::{made_set, members};
+use std::alloc::Global;
+use tla_value::{FunValue, SetValue, Value};
+
+/// Whether a body is TRUE of each element of a set.
+#[cycle(evaluate)]
+pub(super) fn for_all<'a>(
+    alloc: Global,
+    place: Place,
+    set: &'a Core,
+    body: &'a Core,
+    env: Environment<'a>,
+) -> Result<Evaluated<'a>, Fault>
+    ensures { Evaluates result ((means-for_all place (means (expr_of set.now)) (means (expr_of body.now))).value (bound_in env.entry) (present_in env.entry) (next_in env.entry)) }
+{
+    let set = evaluate(alloc, set, env)?;
+    let values = members(place, set.value())?;
+    Ok(Evaluated::truth(each_holds(alloc, place, body, values, env)?))
+}
+
+/// Whether a body is TRUE of some element of a set.
+#[cycle(evaluate)]
+pub(super) fn for_some<'a>(
+    alloc: Global,
+    place: Place,
+    set: &'a Core,
+    body: &'a Core,
+    env: Environment<'a>,
+) -> Result<Evaluated<'a>, Fault>
+    ensures { Evaluates result ((means-for_some place (means (expr_of set.now)) (means (expr_of body.now))).value (bound_in env.entry) (present_in env.entry) (next_in env.entry)) }
+{
+    let set = evaluate(alloc, set, env)?;
+    let values = members(place, set.value())?;
+    Ok(Evaluated::truth(some_holds(alloc, place, body, values, env)?))
+}
+
+/// The least element of a set of which a body is TRUE.
+#[cycle(evaluate)]
+pub(super) fn choose<'a>(
+    alloc: Global,
+    place: Place,
+    set: &'a Core,
+    body: &'a Core,
+    env: Environment<'a>,
+) -> Result<Evaluated<'a>, Fault>
+    ensures { Evaluates result ((means-choose place (means (expr_of set.now)) (means (expr_of body.now))).value (bound_in env.entry) (present_in env.entry) (next_in env.entry)) }
+{
+    let set = evaluate(alloc, set, env)?;
+    let values = members(place, set.value())?;
+    Ok(Evaluated::Owned(copied(alloc, first_passing(alloc, place, body, values, env)?)?))
+}
+
+/// Whether a body is TRUE of each of these values, up to the first of which it is not.
+#[cycle(evaluate)]
+pub(super) fn each_holds<'a>(
+    alloc: Global,
+    place: Place,
+    body: &'a Core,
+    values: &'a [Value],
+    env: Environment<'a>,
+) -> Result<bool, Fault>
+    ensures { GivesTruth result (all_hold (λ v. asks place (means (expr_of body.now)) (bound_in env.entry ++ v ∷ []) (present_in env.entry) (next_in env.entry)) (map tree_of values.now)) }
+{
+    for value in values {
+        if !ask_with(alloc, place, body, value, env)? {
+            return Ok(false);
+        }
+    }
+    Ok(true)
+}
+
+/// Whether a body is TRUE of some of these values, up to the first of which it is.
+#[cycle(evaluate)]
+pub(super) fn some_holds<'a>(
+    alloc: Global,
+    place: Place,
+    body: &'a Core,
+    values: &'a [Value],
+    env: Environment<'a>,
+) -> Result<bool, Fault>
+    ensures { GivesTruth result (some_hold (λ v. asks place (means (expr_of body.now)) (bound_in env.entry ++ v ∷ []) (present_in env.entry) (next_in env.entry)) (map tree_of values.now)) }
+{
+    for value in values {
+        if ask_with(alloc, place, body, value, env)? {
+            return Ok(true);
+        }
+    }
+    Ok(false)
+}
+
+/// The first of these values of which a body is TRUE.
+#[cycle(evaluate)]
+pub(super) fn first_passing<'a>(
+    alloc: Global,
+    place: Place,
+    body: &'a Core,
+    values: &'a [Value],
+    env: Environment<'a>,
+) -> Result<&'a Value, Fault>
+    ensures { GivesBorrowed result (first_passing place (λ v. asks place (means (expr_of body.now)) (bound_in env.entry ++ v ∷ []) (present_in env.entry) (next_in env.entry)) (map tree_of values.now)) }
+{
+    for value in values {
+        if ask_with(alloc, place, body, value, env)? {
+            return Ok(value);
+        }
+    }
+    Err(fault_at(FaultCode::NoChoice, place))
+}
+
+/// Whether a body is TRUE with one more bound value.
+#[cycle(evaluate)]
+fn ask_with<'a>(
+    alloc: Global,
+    place: Place,
+    body: &'a Core,
+    value: &'a Value,
+    env: Environment<'a>,
+) -> Result<bool, Fault>
+    ensures { GivesTruth result (asks place (means (expr_of body.now)) (bound_in env.entry ++ tree_of value.now ∷ []) (present_in env.entry) (next_in env.entry)) }
+{
+    let scope = Scope::Inner(env.scope, value);
+    let inner = Environment {
+        scope: &scope,
+        now: env.now,
+        next: env.next,
+    };
+    ask(alloc, place, body, inner)
+}
+
+/// The value of a body with one more bound value.
+#[cycle(evaluate)]
+fn value_with<'a>(
+    alloc: Global,
+    body: &'a Core,
+    value: &'a Value,
+    env: Environment<'a>,
+) -> Result<Value, Fault>
+    ensures { Gives result ((means (expr_of body.now)).value (bound_in env.entry ++ tree_of value.now ∷ []) (present_in env.entry) (next_in env.entry)) }
+{
+    let scope = Scope::Inner(env.scope, value);
+    let inner = Environment {
+        scope: &scope,
+        now: env.now,
+        next: env.next,
+    };
+    evaluate(alloc, body, inner)?.into_value(alloc)
+}
+
+/// The set of the values of a body for the elements of a set.
+#[cycle(evaluate)]
+pub(super) fn image<'a>(
+    alloc: Global,
+    place: Place,
+    set: &'a Core,
+    body: &'a Core,
+    env: Environment<'a>,
+) -> Result<Evaluated<'a>, Fault>
+    ensures { Evaluates result (image_rule place (means (expr_of set.now)) (means (expr_of body.now)) (bound_in env.entry) (present_in env.entry) (next_in env.entry)) }
+{
+    let set = evaluate(alloc, set, env)?;
+    let elements = members(place, set.value())?;
+    let values = values_with(alloc, body, elements, env)?;
+    Ok(Evaluated::Owned(made_set(place, SetValue::from_values(values))?))
+}
+
+/// The values of a body for these values.
+#[cycle(evaluate)]
+fn values_with<'a>(
+    alloc: Global,
+    body: &'a Core,
+    elements: &'a [Value],
+    env: Environment<'a>,
+) -> Result<Vec<Value>, Fault>
+    ensures { GivesBy (λ v. map tree_of v.items) result (each (λ v. (means (expr_of body.now)).value (bound_in env.entry ++ v ∷ []) (present_in env.entry) (next_in env.entry)) (map tree_of elements.now)) }
+{
+    let mut values = Vec::with_capacity(alloc, elements.len())?;
+    for element in elements {
+        values.push(value_with(alloc, body, element, env)?)?;
+    }
+    Ok(values)
+}
+
+/// The function on a set with the values of a body for its elements.
+#[cycle(evaluate)]
+pub(super) fn function<'a>(
+    alloc: Global,
+    place: Place,
+    set: &'a Core,
+    body: &'a Core,
+    env: Environment<'a>,
+) -> Result<Evaluated<'a>, Fault>
+    ensures { Evaluates result (function_rule place (means (expr_of set.now)) (means (expr_of body.now)) (bound_in env.entry) (present_in env.entry) (next_in env.entry)) }
+{
+    let set = evaluate(alloc, set, env)?;
+    let elements = members(place, set.value())?;
+    let pairs = pairs_with(alloc, body, elements, env)?;
+    Ok(Evaluated::Owned(made_fun(place, FunValue::from_pairs(pairs))?))
+}
+
+/// These values, each with the value of a body for it.
+#[cycle(evaluate)]
+fn pairs_with<'a>(
+    alloc: Global,
+    body: &'a Core,
+    elements: &'a [Value],
+    env: Environment<'a>,
+) -> Result<Vec<(Value, Value)>, Fault>
+    ensures { GivesBy (λ v. map pair_of v.items) result (each (paired_value (means (expr_of body.now)) (bound_in env.entry) (present_in env.entry) (next_in env.entry)) (map tree_of elements.now)) }
+{
+    let mut pairs = Vec::with_capacity(alloc, elements.len())?;
+    for element in elements {
+        let value = value_with(alloc, body, element, env)?;
+        pairs.push((copied(alloc, element)?, value))?;
+    }
+    Ok(pairs)
+}

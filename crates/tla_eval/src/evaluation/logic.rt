@@ -1,0 +1,132 @@
+//! Logic, and the arms of IF and CASE.
+ghost use Rattle.std.specs.Prelude.{option_map};
+ghost use Rattle.tla_value.specs.TreeOf.{tree_of};
+ghost use Rattle.tla_eval.specs.Logic.{means-conjunction, means-disjunction, means-implies, means-cases, means-assert};
+ghost use Rattle.tla_eval.specs.Value.{means};
+ghost use Rattle.tla_eval.specs.ExprOf.{expr_of, parts_of_cores, arms_of_cores};
+ghost use Rattle.tla_eval.specs.Gives.{GivesTruth};
+ghost use Rattle.tla_eval.specs.Environment.{Evaluates, bound_in, present_in, next_in};
+
+use crate::environment::{Environment, Evaluated};
+use crate::evaluation::{ask, evaluate, has};
+use crate::expression::Core;
+use crate::fault::{Fault, FaultCode, Place};
+use crate::rules::fault_at;
+use std::alloc::Global;
+use tla_value::Value;
+
+/// Whether all parts are TRUE, up to the first that is not.
+#[cycle(evaluate)]
+pub(super) fn conjunction<'a>(
+    alloc: Global,
+    place: Place,
+    parts: &'a [Core],
+    env: Environment<'a>,
+) -> Result<Evaluated<'a>, Fault>
+    ensures { Evaluates result ((means-conjunction place (parts_of_cores parts.now)).value (bound_in env.entry) (present_in env.entry) (next_in env.entry)) }
+{
+    for part in parts {
+        if !ask(alloc, place, part, env)? {
+            return Ok(Evaluated::truth(false));
+        }
+    }
+    Ok(Evaluated::truth(true))
+}
+
+/// Whether some part is TRUE, up to the first that is.
+#[cycle(evaluate)]
+pub(super) fn disjunction<'a>(
+    alloc: Global,
+    place: Place,
+    parts: &'a [Core],
+    env: Environment<'a>,
+) -> Result<Evaluated<'a>, Fault>
+    ensures { Evaluates result ((means-disjunction place (parts_of_cores parts.now)).value (bound_in env.entry) (present_in env.entry) (next_in env.entry)) }
+{
+    for part in parts {
+        if ask(alloc, place, part, env)? {
+            return Ok(Evaluated::truth(true));
+        }
+    }
+    Ok(Evaluated::truth(false))
+}
+
+/// Whether the second part is TRUE where the first is.
+#[cycle(evaluate)]
+pub(super) fn implies<'a>(
+    alloc: Global,
+    place: Place,
+    left: &'a Core,
+    right: &'a Core,
+    env: Environment<'a>,
+) -> Result<Evaluated<'a>, Fault>
+    ensures { Evaluates result ((means-implies place (means (expr_of left.now)) (means (expr_of right.now))).value (bound_in env.entry) (present_in env.entry) (next_in env.entry)) }
+{
+    if ask(alloc, place, left, env)? {
+        Ok(Evaluated::truth(ask(alloc, place, right, env)?))
+    } else {
+        Ok(Evaluated::truth(true))
+    }
+}
+
+/// TRUE where the condition is.
+#[cycle(evaluate)]
+pub(super) fn assert<'a>(
+    alloc: Global,
+    place: Place,
+    condition: &'a Core,
+    env: Environment<'a>,
+) -> Result<Evaluated<'a>, Fault>
+    ensures { Evaluates result ((means-assert place (means (expr_of condition.now)) (means (expr_of condition.now))).value (bound_in env.entry) (present_in env.entry) (next_in env.entry)) }
+{
+    if ask(alloc, place, condition, env)? {
+        Ok(Evaluated::truth(true))
+    } else {
+        Err(fault_at(FaultCode::AssertFalse, place))
+    }
+}
+
+/// The value of the first arm whose condition is TRUE, or else that of OTHER.
+#[cycle(evaluate)]
+pub(super) fn cases<'a>(
+    alloc: Global,
+    place: Place,
+    arms: &'a [(Core, Core)],
+    other: Option<&'a Core>,
+    env: Environment<'a>,
+) -> Result<Evaluated<'a>, Fault>
+    ensures { Evaluates result ((means-cases place (arms_of_cores arms.now) (option_map (λ c. means (expr_of c.now)) other.entry)).value (bound_in env.entry) (present_in env.entry) (next_in env.entry)) }
+{
+    for arm in arms {
+        if ask(alloc, place, &arm.0, env)? {
+            return evaluate(alloc, &arm.1, env);
+        }
+    }
+    match other {
+        Some(core) => evaluate(alloc, core, env),
+        None => Err(fault_at(FaultCode::NoArm, place)),
+    }
+}
+
+/// Whether the first arm whose condition is TRUE, or else OTHER, has a value as a member.
+#[cycle(evaluate)]
+pub(super) fn cases_have<'a>(
+    alloc: Global,
+    place: Place,
+    arms: &'a [(Core, Core)],
+    other: Option<&'a Core>,
+    value: &'a Value,
+    env: Environment<'a>,
+) -> Result<bool, Fault>
+    ensures { GivesTruth result ((means-cases place (arms_of_cores arms.now) (option_map (λ c. means (expr_of c.now)) other.entry)).has (tree_of value.now) (bound_in env.entry) (present_in env.entry) (next_in env.entry)) }
+{
+    for arm in arms {
+        if ask(alloc, place, &arm.0, env)? {
+            return has(alloc, &arm.1, value, env);
+        }
+    }
+    match other {
+        Some(core) => has(alloc, core, value, env),
+        None => Err(fault_at(FaultCode::NoArm, place)),
+    }
+}

@@ -1,0 +1,128 @@
+//! Membership, and the sets with a rule of their own for it.
+ghost use Rattle.std.specs.Prelude.{map};
+ghost use Rattle.tla_value.specs.TreeOf.{tree_of};
+ghost use Rattle.tla_eval.specs.Lists.{all_hold};
+ghost use Rattle.tla_eval.specs.Membership.{means-member, means-not_member, means-subset};
+ghost use Rattle.tla_eval.specs.SetForms.{means-cup, means-cap, means-minus};
+ghost use Rattle.tla_eval.specs.Value.{mem, means};
+ghost use Rattle.tla_eval.specs.ExprOf.{expr_of};
+ghost use Rattle.tla_eval.specs.Gives.{GivesTruth};
+ghost use Rattle.tla_eval.specs.Environment.{Evaluates, bound_in, present_in, next_in};
+
+use crate::environment::{Environment, Evaluated};
+use crate::evaluation::{evaluate, has};
+use crate::expression::Core;
+use crate::fault::{Fault, Place};
+use crate::sets::{difference_of, intersection_of, members, union_of};
+use std::alloc::Global;
+use tla_value::Value;
+
+/// Whether a value is a member of an expression.
+#[cycle(evaluate)]
+pub(super) fn is_member<'a>(
+    alloc: Global,
+    element: &'a Core,
+    set: &'a Core,
+    env: Environment<'a>,
+) -> Result<Evaluated<'a>, Fault>
+    ensures { Evaluates result ((means-member (means (expr_of set.now)).place (means (expr_of element.now)) (means (expr_of set.now))).value (bound_in env.entry) (present_in env.entry) (next_in env.entry)) }
+{
+    let element = evaluate(alloc, element, env)?;
+    Ok(Evaluated::truth(has(alloc, set, element.value(), env)?))
+}
+
+/// Whether a value is no member of an expression.
+#[cycle(evaluate)]
+pub(super) fn is_no_member<'a>(
+    alloc: Global,
+    element: &'a Core,
+    set: &'a Core,
+    env: Environment<'a>,
+) -> Result<Evaluated<'a>, Fault>
+    ensures { Evaluates result ((means-not_member (means (expr_of set.now)).place (means (expr_of element.now)) (means (expr_of set.now))).value (bound_in env.entry) (present_in env.entry) (next_in env.entry)) }
+{
+    let element = evaluate(alloc, element, env)?;
+    Ok(Evaluated::truth(!has(alloc, set, element.value(), env)?))
+}
+
+/// Whether each element of a set is a member of an expression.
+#[cycle(evaluate)]
+pub(super) fn is_subset<'a>(
+    alloc: Global,
+    place: Place,
+    left: &'a Core,
+    right: &'a Core,
+    env: Environment<'a>,
+) -> Result<Evaluated<'a>, Fault>
+    ensures { Evaluates result ((means-subset place (means (expr_of left.now)) (means (expr_of right.now))).value (bound_in env.entry) (present_in env.entry) (next_in env.entry)) }
+{
+    let left = evaluate(alloc, left, env)?;
+    let values = members(place, left.value())?;
+    Ok(Evaluated::truth(has_all(alloc, right, values, env)?))
+}
+
+/// Whether an expression has each of these values, up to the first that it has not.
+#[cycle(evaluate)]
+pub(super) fn has_all<'a>(
+    alloc: Global,
+    core: &'a Core,
+    values: &'a [Value],
+    env: Environment<'a>,
+) -> Result<bool, Fault>
+    ensures { GivesTruth result (all_hold (λ v. mem v (expr_of core.now) (bound_in env.entry) (present_in env.entry) (next_in env.entry)) (map tree_of values.now)) }
+{
+    for value in values {
+        if !has(alloc, core, value, env)? {
+            return Ok(false);
+        }
+    }
+    Ok(true)
+}
+
+/// The members of one set and of another.
+#[cycle(evaluate)]
+pub(super) fn cup<'a>(
+    alloc: Global,
+    place: Place,
+    left: &'a Core,
+    right: &'a Core,
+    env: Environment<'a>,
+) -> Result<Evaluated<'a>, Fault>
+    ensures { Evaluates result ((means-cup place (means (expr_of left.now)) (means (expr_of right.now))).value (bound_in env.entry) (present_in env.entry) (next_in env.entry)) }
+{
+    let left = evaluate(alloc, left, env)?;
+    let right = evaluate(alloc, right, env)?;
+    Ok(Evaluated::Owned(union_of(alloc, place, left.value(), right.value())?))
+}
+
+/// The members of one set that are those of another.
+#[cycle(evaluate)]
+pub(super) fn cap<'a>(
+    alloc: Global,
+    place: Place,
+    left: &'a Core,
+    right: &'a Core,
+    env: Environment<'a>,
+) -> Result<Evaluated<'a>, Fault>
+    ensures { Evaluates result ((means-cap place (means (expr_of left.now)) (means (expr_of right.now))).value (bound_in env.entry) (present_in env.entry) (next_in env.entry)) }
+{
+    let left = evaluate(alloc, left, env)?;
+    let right = evaluate(alloc, right, env)?;
+    Ok(Evaluated::Owned(intersection_of(alloc, place, left.value(), right.value())?))
+}
+
+/// The members of one set that are no members of another.
+#[cycle(evaluate)]
+pub(super) fn minus<'a>(
+    alloc: Global,
+    place: Place,
+    left: &'a Core,
+    right: &'a Core,
+    env: Environment<'a>,
+) -> Result<Evaluated<'a>, Fault>
+    ensures { Evaluates result ((means-minus place (means (expr_of left.now)) (means (expr_of right.now))).value (bound_in env.entry) (present_in env.entry) (next_in env.entry)) }
+{
+    let left = evaluate(alloc, left, env)?;
+    let right = evaluate(alloc, right, env)?;
+    Ok(Evaluated::Owned(difference_of(alloc, place, left.value(), right.value())?))
+}

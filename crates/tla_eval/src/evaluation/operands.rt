@@ -1,0 +1,193 @@
+//! Forms whose operands are all evaluated.
+ghost use Rattle.std.specs.Prelude.{List, ℕ, map};
+ghost use Rattle.tla_value.specs.TreeOf.{tree_of, pair_of};
+ghost use Rattle.tla_eval.specs.Expr.{Apply, Field};
+ghost use Rattle.tla_eval.specs.Lists.{each};
+ghost use Rattle.tla_eval.specs.Meaning.{Meaning, means-unary, means-binary, means-equal, means-sub_seq, means-enumerated, means-tuple};
+ghost use Rattle.tla_eval.specs.Value.{means};
+ghost use Rattle.tla_eval.specs.ExprOf.{expr_of, parts_of_cores, fields_of_cores, unary_of, binary_of};
+ghost use Rattle.tla_eval.specs.Gives.{GivesBy, named_value, record_rule};
+ghost use Rattle.tla_eval.specs.Environment.{Evaluates, bound_in, present_in, next_in};
+
+use crate::environment::{Environment, Evaluated};
+use crate::evaluation::evaluate;
+use crate::expression::{Binary, Core, Unary};
+use crate::fault::{Fault, Place};
+use crate::functions::{apply, field, made_fun};
+use crate::operators::{binary, unary};
+use crate::rules::copied_text;
+use crate::sequences::{sequence_of, sub_seq};
+use crate::sets::made_set;
+use std::alloc::Global;
+use tla_value::{FunValue, SetValue, Text, Value};
+
+/// An operator on one value.
+#[cycle(evaluate)]
+pub(super) fn on_one<'a>(
+    alloc: Global,
+    place: Place,
+    operator: Unary,
+    operand: &'a Core,
+    env: Environment<'a>,
+) -> Result<Evaluated<'a>, Fault>
+    ensures { Evaluates result ((means-unary place (unary_of operator) (means (expr_of operand.now))).value (bound_in env.entry) (present_in env.entry) (next_in env.entry)) }
+{
+    let operand = evaluate(alloc, operand, env)?;
+    unary(alloc, place, operator, operand)
+}
+
+/// An operator on two values.
+#[cycle(evaluate)]
+pub(super) fn on_two<'a>(
+    alloc: Global,
+    place: Place,
+    operator: Binary,
+    left: &'a Core,
+    right: &'a Core,
+    env: Environment<'a>,
+) -> Result<Evaluated<'a>, Fault>
+    ensures { Evaluates result ((means-binary place (binary_of operator) (means (expr_of left.now)) (means (expr_of right.now))).value (bound_in env.entry) (present_in env.entry) (next_in env.entry)) }
+{
+    let left = evaluate(alloc, left, env)?;
+    let right = evaluate(alloc, right, env)?;
+    Ok(Evaluated::Owned(binary(alloc, place, operator, left.value(), right.value())?))
+}
+
+/// The value of a function at an argument.
+#[cycle(evaluate)]
+pub(super) fn applied<'a>(
+    alloc: Global,
+    place: Place,
+    function: &'a Core,
+    argument: &'a Core,
+    env: Environment<'a>,
+) -> Result<Evaluated<'a>, Fault>
+    ensures { Evaluates result ((means-binary place Apply (means (expr_of function.now)) (means (expr_of argument.now))).value (bound_in env.entry) (present_in env.entry) (next_in env.entry)) }
+{
+    let function = evaluate(alloc, function, env)?;
+    let argument = evaluate(alloc, argument, env)?;
+    apply(alloc, place, function, argument.value())
+}
+
+/// Whether two values are the same.
+#[cycle(evaluate)]
+pub(super) fn equal<'a>(
+    alloc: Global,
+    left: &'a Core,
+    right: &'a Core,
+    env: Environment<'a>,
+) -> Result<Evaluated<'a>, Fault>
+    ensures { Evaluates result ((means-equal (means (expr_of left.now)).place (means (expr_of left.now)) (means (expr_of right.now))).value (bound_in env.entry) (present_in env.entry) (next_in env.entry)) }
+{
+    let left = evaluate(alloc, left, env)?;
+    let right = evaluate(alloc, right, env)?;
+    Ok(Evaluated::truth(left.value() == right.value()))
+}
+
+/// The value of a record's field.
+#[cycle(evaluate)]
+pub(super) fn field_of<'a>(
+    alloc: Global,
+    place: Place,
+    name: &'a Text,
+    base: &'a Core,
+    env: Environment<'a>,
+) -> Result<Evaluated<'a>, Fault>
+    ensures { Evaluates result ((means-unary place (Field name.now) (means (expr_of base.now))).value (bound_in env.entry) (present_in env.entry) (next_in env.entry)) }
+{
+    let base = evaluate(alloc, base, env)?;
+    field(alloc, place, name, base)
+}
+
+/// A part of a sequence.
+#[cycle(evaluate)]
+pub(super) fn part_of<'a>(
+    alloc: Global,
+    place: Place,
+    sequence: &'a Core,
+    low: &'a Core,
+    high: &'a Core,
+    env: Environment<'a>,
+) -> Result<Evaluated<'a>, Fault>
+    ensures { Evaluates result ((means-sub_seq place (means (expr_of sequence.now)) (means (expr_of low.now)) (means (expr_of high.now))).value (bound_in env.entry) (present_in env.entry) (next_in env.entry)) }
+{
+    let sequence = evaluate(alloc, sequence, env)?;
+    let low = evaluate(alloc, low, env)?;
+    let high = evaluate(alloc, high, env)?;
+    Ok(Evaluated::Owned(sub_seq(alloc, place, sequence.value(), low.value(), high.value())?))
+}
+
+/// The values of some expressions, from left to right.
+#[cycle(evaluate)]
+fn values_of<'a>(
+    alloc: Global,
+    cores: &'a [Core],
+    env: Environment<'a>,
+) -> Result<Vec<Value>, Fault>
+    ensures { GivesBy (λ v. map tree_of v.items) result (each (λ (m : Meaning). m.value (bound_in env.entry) (present_in env.entry) (next_in env.entry)) (parts_of_cores cores.now)) }
+{
+    let mut values = Vec::with_capacity(alloc, cores.len())?;
+    for core in cores {
+        values.push(evaluate(alloc, core, env)?.into_value(alloc)?)?;
+    }
+    Ok(values)
+}
+
+/// The values of some fields, from left to right, each with its name.
+#[cycle(evaluate)]
+fn named_values<'a>(
+    alloc: Global,
+    fields: &'a [(Text, Core)],
+    env: Environment<'a>,
+) -> Result<Vec<(Value, Value)>, Fault>
+    ensures { GivesBy (λ v. map pair_of v.items) result (each (λ (f : List ℕ × Meaning). named_value f (bound_in env.entry) (present_in env.entry) (next_in env.entry)) (fields_of_cores fields.now)) }
+{
+    let mut pairs = Vec::with_capacity(alloc, fields.len())?;
+    for field in fields {
+        let value = evaluate(alloc, &field.1, env)?.into_value(alloc)?;
+        pairs.push((Value::Text(copied_text(alloc, &field.0)?), value))?;
+    }
+    Ok(pairs)
+}
+
+/// The set of the values of its parts.
+#[cycle(evaluate)]
+pub(super) fn enumerated<'a>(
+    alloc: Global,
+    place: Place,
+    parts: &'a [Core],
+    env: Environment<'a>,
+) -> Result<Evaluated<'a>, Fault>
+    ensures { Evaluates result ((means-enumerated place (parts_of_cores parts.now)).value (bound_in env.entry) (present_in env.entry) (next_in env.entry)) }
+{
+    let values = values_of(alloc, parts, env)?;
+    Ok(Evaluated::Owned(made_set(place, SetValue::from_values(values))?))
+}
+
+/// The sequence of the values of its parts.
+#[cycle(evaluate)]
+pub(super) fn tuple<'a>(
+    alloc: Global,
+    place: Place,
+    parts: &'a [Core],
+    env: Environment<'a>,
+) -> Result<Evaluated<'a>, Fault>
+    ensures { Evaluates result ((means-tuple place (parts_of_cores parts.now)).value (bound_in env.entry) (present_in env.entry) (next_in env.entry)) }
+{
+    let values = values_of(alloc, parts, env)?;
+    Ok(Evaluated::Owned(sequence_of(alloc, place, values)?))
+}
+
+/// The record of the values of its fields.
+#[cycle(evaluate)]
+pub(super) fn record_of<'a>(
+    alloc: Global,
+    place: Place,
+    fields: &'a [(Text, Core)],
+    env: Environment<'a>,
+) -> Result<Evaluated<'a>, Fault>
+    ensures { Evaluates result (record_rule place (fields_of_cores fields.now) (bound_in env.entry) (present_in env.entry) (next_in env.entry)) }
+{
+    let pairs = named_values(alloc, fields, env)?;
+    Ok(Evaluated::Owned(made_fun(place, FunValue::from_pairs(pairs))?))
+}
