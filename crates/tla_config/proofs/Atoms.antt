@@ -1,0 +1,120 @@
+-- Values of one token, and numbers behind a minus sign.
+use Rattle.std.proofs.Common.{◌≡◌, ◌<◌, ℕ, ◌+◌, Bool, true, false, List, [], ◌∷◌, Some, None, if◌then◌else◌, ◌⊎◌, inl, inr, slice_get, length, FitsSigned, refl, sym, ap, subst, ◌∙◌, arith}
+use Rattle.std.proofs.lemmas.Grind.{not_there}
+use Rattle.std.specs.Int.{w64}
+use Rattle.std.specs.Str.{IsUtf8}
+use Rattle.tla_lex.specs.Strings.{unescaped, string_text}
+use Rattle.tla_lex.specs.declared.token.Kind.{Kind}
+use Rattle.tla_lex.specs.declared.token.Kind.TheVariants as k
+use Rattle.tla_lex.specs.declared.token.Token.{Token}
+use Rattle.tla_parse.specs.Tokens.{word_of}
+use Rattle.tla_value.specs.IsValue.{IsValue}
+use Rattle.tla_value.specs.Tree.{Tree, int, text, model}
+use Rattle.tla_config.specs.declared.keyword.Keyword.{Keyword}
+use Rattle.tla_config.specs.declared.refusal.Refusal.{Refusal}
+use Rattle.tla_config.specs.declared.refusal.Refusal.TheVariants as refusal
+use Rattle.tla_config.specs.Configuration.{Has, SpellsLiteral}
+use Rattle.tla_config.specs.Fronts.{kind_at, digits_of}
+use Rattle.tla_config.specs.Gives.{Fails}
+use Rattle.tla_config.specs.GivesValues.{IsValueAt, NoValue}
+use Rattle.tla_config.specs.Keywords.{keywords, lookup}
+use Rattle.tla_config.specs.Names.{is_among, statement_words}
+use Rattle.tla_config.specs.Literals.{Literal, model_value, atom, braces, value_of, number, atom_by, atom_of}
+use Rattle.tla_config.proofs.Fronts.{one_token, kind_found, digits_found, digits_is}
+use Rattle.tla_config.proofs.Words.{name_word, name_is_none}
+use Rattle.tla_config.proofs.Literals.{two_kinds, atom_kind, opens}
+
+pub no_bytes : (literal : List ℕ) → length literal < 1 → string_text literal ≡ []
+unfolding unescaped
+no_bytes [] h = refl
+no_bytes (b ∷ bs) h = absurd (omega arith)
+
+same_tree : (u v : Tree) → Some u ≡ Some v → u ≡ v
+same_tree u v h = cc
+
+abbrev pub NoText : Refusal → ℕ → List ℕ → Type 0
+NoText e item w = (e ≡ refusal.NoMemory) ⊎ ((e ≡ refusal.TooLarge item) × (IsUtf8 w → ⊥))
+
+module _ (source : List ℕ) (ts : List Token) where
+  abbrev pub NoAtom : Token → Type 0
+  NoAtom t = (v : Tree) → atom_of source t ≡ Some v → IsValue v → ⊥
+
+  -- the token's value is beyond the limits
+  pub atom_refused : (t : Token) (u : Tree) → atom_of source t ≡ Some u → (IsValue u → ⊥) → NoAtom t
+  atom_refused t u h f v g x = f (subst (λ w. IsValue w) (sym (same_tree u v (sym h ∙ g))) x)
+
+  text_fails : (e : Refusal) (item : ℕ) (w : List ℕ) (P : Type 0) → NoText e item w → ((IsUtf8 w → ⊥) → P) → Fails source ts e P
+  text_fails e item w P (inl h) f = rw h tt
+  text_fails e item w P (inr h) f = rw h.0 (f h.1)
+
+  pub string_fails : (e : Refusal) (item : ℕ) (t : Token) (w : List ℕ) → t.kind ≡ k.Text → w ≡ string_text (word_of source t) → NoText e item w → Fails source ts e (NoAtom t)
+  string_fails e item t w h p why = text_fails e item w (NoAtom t) why (λ f. atom_refused t (text (string_text (word_of source t))) (rw h refl) (λ x. not_there x (λ y. f (rw p y))))
+
+  pub model_fails : (e : Refusal) (item : ℕ) (t : Token) (w : List ℕ) → atom_of source t ≡ Some (model w) → NoText e item w → Fails source ts e (NoAtom t)
+  model_fails e item t w h why = text_fails e item w (NoAtom t) why (λ f. atom_refused t (model w) h (λ x. not_there x f))
+
+  pub string_is : (t : Token) (w : List ℕ) → t.kind ≡ k.Text → w ≡ string_text (word_of source t) → atom_of source t ≡ Some (text w)
+  string_is t w h p = rw (h, p) refl
+
+  pub model_is : (t : Token) → t.kind ≡ k.Name → lookup keywords (word_of source t) ≡ None → atom_of source t ≡ Some (model (word_of source t))
+  model_is t h n = rw (h, name_word (word_of source t) n) refl
+
+  not_among : (b : Bool) (w : List ℕ) (v : Tree) → (b ≡ false → ⊥) → (if b then None else Some (model w)) ≡ Some v → ⊥
+  not_among true w v f h = (let z : ⊥ = cc in z)
+  not_among false w v f h = f refl
+
+  -- a word of a statement is no value
+  pub no_model : (t : Token) (j : Keyword) → t.kind ≡ k.Name → lookup keywords (word_of source t) ≡ Some j → NoAtom t
+  no_model t j h l v g x =
+      let w = word_of source t in
+      let e : atom_of source t ≡ model_value w = ap (λ c. atom_by source t c) h in
+      not_among (is_among w statement_words) w v (λ b. let n = name_is_none w b in (let z : ⊥ = cc in z)) (sym e ∙ g)
+
+  -- a value of one token
+  pub atom_is : (at : ℕ) (t : Token) (v : Tree) → slice_get ts at ≡ Some t → atom_of source t ≡ Some v → IsValue v → IsValueAt source ts v at (at + 1)
+  atom_is at t v h a x = record { literal = atom v; spelled = inl (t, h, a, refl); meaning = refl; is_value = x }
+
+  other_token : (at : ℕ) (t : Token) (kind : Kind) → slice_get ts at ≡ Some t → kind_at kind (slice_get ts at) ≡ false → ((kind_at kind (Some t) ≡ false))
+  other_token at t kind h e = ap (λ o. kind_at kind o) (sym h) ∙ e
+
+  not_kind : (at : ℕ) (kind : Kind) → kind_at kind (slice_get ts at) ≡ false → ((t : Token) → t.kind ≡ kind → kind_at kind (Some t) ≡ true) → Has source ts kind at → ⊥
+  not_kind at kind e f x = let g : kind_at kind (slice_get ts at) ≡ true = ap (λ o. kind_at kind o) x.1 ∙ f x.0 x.2 in (let z : ⊥ = cc in z)
+
+  minus_is : (t : Token) → t.kind ≡ k.Minus → kind_at k.Minus (Some t) ≡ true
+  minus_is t h = rw h refl
+
+  brace_is : (t : Token) → t.kind ≡ k.LeftBrace → kind_at k.LeftBrace (Some t) ≡ true
+  brace_is t h = rw h refl
+
+  pub no_atom : (room at : ℕ) (t : Token) → slice_get ts at ≡ Some t → kind_at k.LeftBrace (slice_get ts at) ≡ false → kind_at k.Minus (slice_get ts at) ≡ false → NoAtom t → NoValue source ts room at
+  no_atom room at t h p q f (atom v) to (inl a) x d = f v (ap (λ u. atom_of source u) (one_token (slice_get ts at) t a.0 h a.1) ∙ a.2) x
+  no_atom room at t h p q f (atom v) to (inr a) x d = not_kind at k.Minus q minus_is a.0
+  no_atom room at t h p q f (braces ls) to a x d = not_kind at k.LeftBrace p brace_is (opens source ts ls at to a)
+
+  -- a number behind a minus sign
+  only_negated : (at : ℕ) (t : Token) → Has source ts k.Minus at → (l : Literal) (to : ℕ) → SpellsLiteral source ts l at to
+      → (u : Token) × (digits_of (slice_get ts (at + 1)) ≡ Some u) × (value_of l ≡ int (number true (word_of source u)))
+  only_negated at t m (atom v) to (inl a) = absurd (atom_kind source ts at k.Minus a.0 v (λ s u. refl) m a.1 a.2)
+  only_negated at t m (atom v) to (inr a) = (a.1, digits_is (slice_get ts (at + 1)) a.1 a.2 a.3, a.4)
+  only_negated at t m (braces ls) to a = absurd (two_kinds source ts at k.Minus k.LeftBrace (λ e. let z : ⊥ = cc in z) m (opens source ts ls at to a))
+
+  pub negated_is : (at : ℕ) (t : Token) (v : Tree) → kind_at k.Minus (slice_get ts at) ≡ true → digits_of (slice_get ts (at + 1)) ≡ Some t → v ≡ int (number true (word_of source t)) → IsValue v
+      → IsValueAt source ts v at (at + 2)
+  negated_is at t v m h e x =
+      let d = digits_found (slice_get ts (at + 1)) t h in
+      record { literal = atom v; spelled = inr (kind_found k.Minus (slice_get ts at) m, t, d.0, d.1, e, refl); meaning = refl; is_value = x }
+
+  pub negated_none : (at : ℕ) → kind_at k.Minus (slice_get ts at) ≡ true → digits_of (slice_get ts (at + 1)) ≡ None → (room : ℕ) → NoValue source ts room at
+  negated_none at m h room l to a x d =
+      let k0 = kind_found k.Minus (slice_get ts at) m in
+      let n = only_negated at k0.0 k0 l to a in
+      let e = n.1 in
+      (let z : ⊥ = cc in z)
+
+  pub negated_large : (at : ℕ) (t : Token) → kind_at k.Minus (slice_get ts at) ≡ true → digits_of (slice_get ts (at + 1)) ≡ Some t → (FitsSigned w64 (number true (word_of source t)) → ⊥) → (room : ℕ) → NoValue source ts room at
+  negated_large at t m h f room l to a x d =
+      let k0 = kind_found k.Minus (slice_get ts at) m in
+      let n = only_negated at k0.0 k0 l to a in
+      let e = one_token (digits_of (slice_get ts (at + 1))) n.0 t n.1 h in
+      let y : IsValue (int (number true (word_of source n.0))) = subst (λ v. IsValue v) n.2 x in
+      f (subst (λ u. FitsSigned w64 (number true (word_of source u))) e y)

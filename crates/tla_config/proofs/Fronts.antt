@@ -1,0 +1,176 @@
+-- What stands at a token.
+use Rattle.std.proofs.Common.{◌≡◌, ℕ, ◌<◌, Bool, true, false, List, Option, Some, None, ◌⊎◌, inl, inr, slice_get, refl, sym, ap, ◌∙◌, length}
+use Rattle.std.proofs.lemmas.Option.{slice_get_within}
+use Rattle.tla_lex.specs.declared.token.Kind.{Kind}
+use Rattle.tla_lex.specs.declared.token.Kind.TheVariants as k
+use Rattle.tla_lex.specs.declared.token.Place.{Place}
+use Rattle.tla_lex.specs.declared.token.Token.{Token}
+use Rattle.tla_parse.specs.Tokens.{word_of, written}
+use Rattle.tla_parse.specs.declared.word.Written.{Written}
+use Rattle.tla_config.specs.declared.keyword.Keyword.{Keyword}
+use Rattle.tla_config.specs.declared.keyword.Keyword.TheVariants as word
+use Rattle.tla_config.specs.Configuration.{kind_of, Has, Is, Begins, IsName}
+use Rattle.tla_config.specs.Fronts.{unless_keyword, name_by, name_of, with_place, keyword_by, keyword_of, same_kind, kind_at, truth_by, truth_of, digits_by, digits_of}
+use Rattle.tla_config.specs.Keywords.{keywords, lookup}
+use Rattle.tla_config.specs.Names.{Name, is_among, statement_words}
+use Rattle.tla_config.proofs.Words.{spells_found, name_word, name_is_none}
+
+pub same_pair : (x y : Keyword × Place) → Some x ≡ Some y → x ≡ y
+same_pair x y h = cc
+
+-- two tokens in one place are one
+pub one_token : (o : Option Token) (t u : Token) → o ≡ Some t → o ≡ Some u → t ≡ u
+one_token o t u a b = cc
+
+-- a token of a kind that is asked for
+same_kind_is : (kind other : Kind) → same_kind kind other ≡ true → other ≡ kind
+same_kind_is k.Comma k.Comma h = refl
+same_kind_is k.Equal k.Equal h = refl
+same_kind_is k.Substitute k.Substitute h = refl
+same_kind_is k.LeftBracket k.LeftBracket h = refl
+same_kind_is k.LeftBrace k.LeftBrace h = refl
+same_kind_is k.RightBrace k.RightBrace h = refl
+same_kind_is k.Minus k.Minus h = refl
+same_kind_is _ _ h = (let z : ⊥ = cc in absurd z)
+
+pub kind_found : (kind : Kind) (o : Option Token) → kind_at kind o ≡ true → (t : Token) × (o ≡ Some t) × (t.kind ≡ kind)
+kind_found kind None h = (let z : ⊥ = cc in absurd z)
+kind_found kind (Some t) h = (t, refl, same_kind_is kind t.kind h)
+
+-- a number
+digits_kind : (t u : Token) (kind : Kind) → digits_by t kind ≡ Some u → (t ≡ u) × (kind ≡ k.Digits)
+digits_kind t u k.Digits h = (cc, refl)
+digits_kind t u _ h = (let z : ⊥ = cc in absurd z)
+
+digits_token : (o : Option Token) (u : Token) → digits_of o ≡ Some u → (o ≡ Some u) × (u.kind ≡ k.Digits)
+digits_token None u h = (let z : ⊥ = cc in absurd z)
+digits_token (Some t) u h = let x = digits_kind t u t.kind h in (ap (λ v. Some v) x.0, ap (λ (v : Token). v.kind) (sym x.0) ∙ x.1)
+
+pub digits_found : (o : Option Token) (u : Token) → digits_of o ≡ Some u → (o ≡ Some u) × (u.kind ≡ k.Digits)
+digits_found o u h = digits_token o u h
+
+pub digits_is : (o : Option Token) (u : Token) → o ≡ Some u → u.kind ≡ k.Digits → digits_of o ≡ Some u
+digits_is o u h e = rw (h, e) refl
+
+module _ (text : List ℕ) (ts : List Token) where
+  -- a name
+  unless_some : (t u : Token) (o : Option Keyword) → unless_keyword o t ≡ Some u → (t ≡ u) × (o ≡ None)
+  unless_some t u None h = (cc, refl)
+  unless_some t u (Some j) h = (let z : ⊥ = cc in absurd z)
+
+  name_by_some : (t u : Token) (kind : Kind) → name_by text t kind ≡ Some u → (kind ≡ k.Name) × (t ≡ u) × (lookup keywords (word_of text t) ≡ None)
+  name_by_some t u k.Name h = let x = unless_some t u (lookup keywords (word_of text t)) h in (refl, x.0, x.1)
+  name_by_some t u _ h = (let z : ⊥ = cc in absurd z)
+
+  name_of_some : (o : Option Token) (t : Token) → name_of text o ≡ Some t → (o ≡ Some t) × (t.kind ≡ k.Name) × (lookup keywords (word_of text t) ≡ None)
+  name_of_some None t h = (let z : ⊥ = cc in absurd z)
+  name_of_some (Some u) t h = let x = name_by_some u t u.kind h in (ap (λ v. Some v) x.1, ap (λ (v : Token). v.kind) (sym x.1) ∙ x.0, rw x.1 at x.2)
+
+  pub name_found : (at : ℕ) (t : Token) → name_of text (slice_get ts at) ≡ Some t → IsName text ts (written text t) at
+  name_found at t h = let x = name_of_some (slice_get ts at) t h in ((t, x.0, x.1, refl), name_word (word_of text t) x.2)
+
+  pub name_is : (at : ℕ) (w : Written) → IsName text ts w at → (t : Token) × (name_of text (slice_get ts at) ≡ Some t) × (written text t ≡ w)
+  name_is at w x =
+      let t = x.0.0 in
+      let e : word_of text t ≡ w.word = ap (λ (v : Written). v.word) x.0.3 in
+      let n : lookup keywords (word_of text t) ≡ None = name_is_none (word_of text t) (ap (λ v. is_among v statement_words) e ∙ x.1) in
+      (t, rw (x.0.1, x.0.2, n) refl, x.0.3)
+
+  pub one_name : (at : ℕ) (v w : Written) → IsName text ts v at → IsName text ts w at → v ≡ w
+  one_name at v w x y =
+      let a = name_is at v x in
+      let b = name_is at w y in
+      let p = a.1 in let q = b.1 in let r = a.2 in let s = b.2 in
+      let e : a.0 ≡ b.0 = cc in
+      sym r ∙ ap (λ t. written text t) e ∙ s
+
+  -- a token of a kind
+  pub kind_is : (kind : Kind) (at : ℕ) → same_kind kind kind ≡ true → Has text ts kind at → kind_at kind (slice_get ts at) ≡ true
+  kind_is kind at e x = rw (x.1, x.2) e
+
+  -- a truth value
+  truth_kind : (kind : Kind) (b : Bool) → truth_by kind ≡ Some b → kind ≡ kind_of b
+  truth_kind k.True b h = let e : true ≡ b = cc in ap (λ x. kind_of x) e
+  truth_kind k.False b h = let e : false ≡ b = cc in ap (λ x. kind_of x) e
+  truth_kind _ b h = (let z : ⊥ = cc in absurd z)
+
+  truth_token : (o : Option Token) (b : Bool) → truth_of o ≡ Some b → (t : Token) × (o ≡ Some t) × (t.kind ≡ kind_of b)
+  truth_token None b h = (let z : ⊥ = cc in absurd z)
+  truth_token (Some t) b h = (t, refl, truth_kind t.kind b h)
+
+  pub truth_found : (at : ℕ) (b : Bool) → truth_of (slice_get ts at) ≡ Some b → Has text ts (kind_of b) at
+  truth_found at b h = truth_token (slice_get ts at) b h
+
+  pub truth_is : (at : ℕ) (b : Bool) → Has text ts (kind_of b) at → truth_of (slice_get ts at) ≡ Some b
+  truth_is at true x = rw (x.1, x.2) refl
+  truth_is at false x = rw (x.1, x.2) refl
+
+  -- the word of a statement
+  with_some : (o : Option Keyword) (p q : Place) (j : Keyword) → with_place o p ≡ Some (j, q) → (o ≡ Some j) × (p ≡ q)
+  with_some None p q j h = (let z : ⊥ = cc in absurd z)
+  with_some (Some i) p q j h = let e : (i, p) ≡ (j, q) = same_pair (i, p) (j, q) h in (ap (λ (z : Keyword × Place). Some z.0) e, ap (λ (z : Keyword × Place). z.1) e)
+
+  abbrev pub Opens : Token → Keyword → Type 0
+  Opens t j = ((t.kind ≡ k.Name) × (lookup keywords (word_of text t) ≡ Some j)) ⊎ ((t.kind ≡ k.Constant) × (j ≡ word.Constants))
+
+  keyword_kind : (t : Token) (kind : Kind) (j : Keyword) (p : Place) → keyword_by text t kind ≡ Some (j, p)
+      → (t.place ≡ p) × (((kind ≡ k.Name) × (lookup keywords (word_of text t) ≡ Some j)) ⊎ ((kind ≡ k.Constant) × (j ≡ word.Constants)))
+  keyword_kind t k.Name j p h = let x = with_some (lookup keywords (word_of text t)) t.place p j h in (x.1, inl (refl, x.0))
+  keyword_kind t k.Constant j p h =
+      let e : (word.Constants, t.place) ≡ (j, p) = same_pair (word.Constants, t.place) (j, p) h in
+      (ap (λ (z : Keyword × Place). z.1) e, inr (refl, ap (λ (z : Keyword × Place). z.0) (sym e)))
+  keyword_kind t _ j p h = (let z : ⊥ = cc in absurd z)
+
+  keyword_token : (o : Option Token) (j : Keyword) (p : Place) → keyword_of text o ≡ Some (j, p) → (t : Token) × (o ≡ Some t) × (t.place ≡ p) × Opens t j
+  keyword_token None j p h = (let z : ⊥ = cc in absurd z)
+  keyword_token (Some t) j p h = let x = keyword_kind t t.kind j p h in (t, refl, x.0, x.1)
+
+  pub keyword_found : (at : ℕ) (j : Keyword) (p : Place) → keyword_of text (slice_get ts at) ≡ Some (j, p) → (t : Token) × (slice_get ts at ≡ Some t) × (t.place ≡ p) × Opens t j
+  keyword_found at j p h = keyword_token (slice_get ts at) j p h
+
+  -- a word of the table at the front
+  pub begins_found : (at : ℕ) (t : Token) (p : Place) (w : Name) → slice_get ts at ≡ Some t → t.place ≡ p → t.kind ≡ k.Name → word_of text t ≡ w → Begins text ts w p at
+  begins_found at t p w h a b c = (t, h, b, λ i. record { place = a i; word = c i })
+
+  pub begins_is : (at : ℕ) (p : Place) (w : Name) (j : Keyword) → lookup keywords w ≡ Some j → Begins text ts w p at → keyword_of text (slice_get ts at) ≡ Some (j, p)
+  begins_is at p w j l x =
+      let t = x.0 in
+      let e : word_of text t ≡ w = ap (λ (v : Written). v.word) x.3 in
+      let q : t.place ≡ p = ap (λ (v : Written). v.place) x.3 in
+      let n : lookup keywords (word_of text t) ≡ Some j = ap (λ v. lookup keywords v) e ∙ l in
+      rw (x.1, x.2, n, q) refl
+
+  -- where there is a token, the list has not ended
+  pub has_within : (kind : Kind) (at : ℕ) → Has text ts kind at → at < length ts
+  has_within kind at x = slice_get_within ts at x.0 x.1
+
+  pub name_within : (w : Written) (at : ℕ) → IsName text ts w at → at < length ts
+  name_within w at x = slice_get_within ts at x.0.0 x.0.1
+
+  pub begins_within : (w : Name) (p : Place) (at : ℕ) → Begins text ts w p at → at < length ts
+  begins_within w p at x = slice_get_within ts at x.0 x.1
+
+  -- a comma is no name, nor does it begin a statement
+  pub comma_no_name : (w : Written) (at : ℕ) → Has text ts k.Comma at → IsName text ts w at → ⊥
+  comma_no_name w at x y = let a = x.1 in let b = y.0.1 in let c = x.2 in let d = y.0.2 in let e : x.0 ≡ y.0.0 = cc in (let z : ⊥ = cc in z)
+
+  pub comma_begins_none : (at : ℕ) → Has text ts k.Comma at → keyword_of text (slice_get ts at) ≡ None
+  comma_begins_none at x = rw (x.1, x.2) refl
+
+  pub name_begins_none : (w : Written) (at : ℕ) → IsName text ts w at → keyword_of text (slice_get ts at) ≡ None
+  name_begins_none w at x =
+      let e : word_of text x.0.0 ≡ w.word = ap (λ (v : Written). v.word) x.0.3 in
+      let n : lookup keywords (word_of text x.0.0) ≡ None = name_is_none (word_of text x.0.0) (ap (λ v. is_among v statement_words) e ∙ x.1) in
+      rw (x.0.1, x.0.2, n) refl
+
+  -- the word CONSTANT at the front
+  pub constants_is : (at : ℕ) (p : Place) → Is text ts k.Constant p at → keyword_of text (slice_get ts at) ≡ Some (word.Constants, p)
+  constants_is at p x = rw (x.1, x.2, x.3) refl
+
+  pub constants_found : (at : ℕ) (p : Place) → keyword_of text (slice_get ts at) ≡ Some (word.Constants, p) → Is text ts k.Constant p at
+  constants_found at p h =
+      let f = keyword_found at word.Constants p h in
+      elim f.3 [
+        | inl n ↦ (let e : false ≡ true = spells_found keywords (word_of text f.0) word.Constants n.1 in let z : ⊥ = cc in absurd z)
+        | inr n ↦ (f.0, f.1, n.0, f.2)
+      ]

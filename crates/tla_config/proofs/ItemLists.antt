@@ -1,0 +1,154 @@
+-- Items, and a list of them, found item by item.
+use Rattle.std.proofs.Common.{◌≡◌, ◌≤◌, ℕ, ◌+◌, true, false, List, [], ◌∷◌, ◌++◌, Some, inl, inr, slice_get, refl, sym, ap, subst, ◌∙◌, append_assoc, arith}
+use Rattle.tla_lex.specs.declared.token.Kind.TheVariants as k
+use Rattle.tla_lex.specs.declared.token.Token.{Token}
+use Rattle.tla_parse.specs.Tokens.{word_of}
+use Rattle.tla_parse.specs.declared.word.Written.{Written}
+use Rattle.tla_value.specs.IsValue.{IsValue}
+use Rattle.tla_value.specs.Tree.{Tree, Trees, Pairs, truth, int, text, model, set, fun, no_trees, more_trees, no_pairs, more_pairs, trees, pairs, members, entries, depth, deepest, deepest_pair}
+use Rattle.tla_config.specs.declared.refusal.Refusal.TheVariants as refusal
+use Rattle.tla_config.specs.Configuration.{Has, IsName, SpellsItem, Items}
+use Rattle.tla_config.specs.Fronts.{kind_at}
+use Rattle.tla_config.specs.Gives.{Ends, GoesOn, Fails}
+use Rattle.tla_config.specs.GivesValues.{IsValueAt, NoValue, NoItem, AreItems, NoItems}
+use Rattle.tla_config.specs.Literals.{value_of}
+use Rattle.tla_config.specs.Statements.{Item, Value, Replaces}
+use Rattle.tla_config.proofs.Fronts.{one_name, kind_found, kind_is}
+use Rattle.tla_config.proofs.Literals.{two_kinds, one_literal}
+use Rattle.tla_config.proofs.NameLists.{Between, same_next, goes_on_ends}
+
+trees-members : (ts : Trees) → trees (members ts) ≡ ts
+trees-members no_trees = refl
+trees-members (more_trees t ts) = ap (λ us. more_trees t us) (trees-members ts)
+
+pairs-entries : (ps : Pairs) → pairs (entries ps) ≡ ps
+pairs-entries no_pairs = refl
+pairs-entries (more_pairs a v ps) = ap (λ qs. more_pairs a v qs) (pairs-entries ps)
+
+-- a value is at most so deep
+value_depth : (v : Tree) → IsValue v → depth v ≤ 64
+value_depth (truth b) x = omega arith
+value_depth (int z) x = omega arith
+value_depth (text s) x = omega arith
+value_depth (model s) x = omega arith
+value_depth (set ts) x = let f = x.1.shallow in let e = ap (λ us. deepest us) (trees-members ts) in omega arith
+value_depth (fun ps) x = let f = x.1.shallow in let e = ap (λ qs. deepest_pair qs) (pairs-entries ps) in omega arith
+
+module _ (source : List ℕ) (ts : List Token) where
+  arrow_equal : (at : ℕ) → Has source ts k.Equal at → Has source ts k.Substitute at → ⊥
+  arrow_equal at x y = two_kinds source ts at k.Equal k.Substitute (λ e. let z : ⊥ = cc in z) x y
+
+  one_item : (i j : Item) (at to end : ℕ) → SpellsItem source ts i at to → SpellsItem source ts j at end → (i ≡ j) × (to ≡ end)
+  one_item (Value c v) (Value d u) at to end x y =
+      let n = one_name source ts at c d x.0 y.0 in
+      let e = one_literal source ts x.2.0 y.2.0 (at + 2) to end x.2.1 y.2.1 in
+      let p : v ≡ u = sym x.2.2 ∙ ap (λ l. value_of l) e.0 ∙ y.2.2 in
+      (λ i. Value (n i) (p i), e.1)
+  one_item (Value c v) (Replaces d f) at to end x y = absurd (arrow_equal (at + 1) x.1 y.1)
+  one_item (Replaces c f) (Value d u) at to end x y = absurd (arrow_equal (at + 1) y.1 x.1)
+  one_item (Replaces c f) (Replaces d g) at to end x y =
+      let n = one_name source ts at c d x.0 y.0 in
+      let m = one_name source ts (at + 2) f g x.2 y.2 in
+      (λ i. Replaces (n i) (m i), x.3 ∙ sym y.3)
+
+  abbrev constant_of : Item → Written
+  constant_of (Value c v) = c
+  constant_of (Replaces c f) = c
+
+  item_name : (i : Item) (at to : ℕ) → SpellsItem source ts i at to → IsName source ts (constant_of i) at
+  item_name (Value c v) at to x = x.0
+  item_name (Replaces c f) at to x = x.0
+
+  -- one item
+  pub value_item : (c : Written) (v : Tree) (at to : ℕ) → IsName source ts c at → kind_at k.Equal (slice_get ts (at + 1)) ≡ true → IsValueAt source ts v (at + 2) to → SpellsItem source ts (Value c v) at to
+  value_item c v at to n e x = (n, kind_found k.Equal (slice_get ts (at + 1)) e, (x.literal, x.spelled, x.meaning), x.is_value)
+
+  pub no_name_item : (at : ℕ) → ((w : Written) → IsName source ts w at → ⊥) → NoItem source ts at
+  no_name_item at f i to x = f (constant_of i) (item_name i at to x)
+
+  pub no_value_item : (at : ℕ) → kind_at k.Equal (slice_get ts (at + 1)) ≡ true → NoValue source ts 64 (at + 2) → NoItem source ts at
+  no_value_item at e f (Value c v) to x =
+      let y : IsValue (value_of x.2.0) = subst (λ u. IsValue u) (sym x.2.2) x.3 in
+      f x.2.0 to x.2.1 y (value_depth (value_of x.2.0) y)
+  no_value_item at e f (Replaces c g) to x = arrow_equal (at + 1) (kind_found k.Equal (slice_get ts (at + 1)) e) x.1
+
+  pub neither_item : (at : ℕ) → kind_at k.Equal (slice_get ts (at + 1)) ≡ false → kind_at k.Substitute (slice_get ts (at + 1)) ≡ false → NoItem source ts at
+  neither_item at e f (Value c v) to x = let g = kind_is source ts k.Equal (at + 1) refl x.1 in (let z : ⊥ = cc in z)
+  neither_item at e f (Replaces c o) to x = let g = kind_is source ts k.Substitute (at + 1) refl x.1 in (let z : ⊥ = cc in z)
+
+  pub no_operator_item : (at : ℕ) → kind_at k.Substitute (slice_get ts (at + 1)) ≡ true → ((w : Written) → IsName source ts w (at + 2) → ⊥) → NoItem source ts at
+  no_operator_item at e f (Value c v) to x = arrow_equal (at + 1) x.1 (kind_found k.Substitute (slice_get ts (at + 1)) e)
+  no_operator_item at e f (Replaces c o) to x = f o x.2
+
+  pub bracket_item : (at : ℕ) → kind_at k.Substitute (slice_get ts (at + 1)) ≡ true → kind_at k.LeftBracket (slice_get ts (at + 2)) ≡ true → Fails source ts (refusal.LeftOut (at + 2)) (NoItem source ts at)
+  bracket_item at e b =
+      let x = kind_found k.LeftBracket (slice_get ts (at + 2)) b in
+      let none : (w : Written) → IsName source ts w (at + 2) → ⊥ = λ w n. two_kinds source ts (at + 2) k.LeftBracket k.Name (λ h. let z : ⊥ = cc in z) x (n.0.0, n.0.1, n.0.2) in
+      (no_operator_item at e none, (x.0, word_of source x.0, (x.0, x.1, refl, refl, inr x.2)))
+
+  -- these items stand between two tokens: whatever items begin at the second, they and these stand from the first, and no others do
+  pub record ItemsSoFar (front : List Item) (from at : ℕ) : Type 0 where
+    pub whole : (i : Item) (is : List Item) (to : ℕ) → Items source ts (i ∷ is) at to → Items source ts (front ++ i ∷ is) from to
+    pub rest : (is : List Item) (to : ℕ) → Items source ts is from to → Ends source ts to → (js : List Item) × (is ≡ front ++ js) × Items source ts js at to
+
+  pub items_none : (from : ℕ) → ItemsSoFar [] from from
+  items_none from = record { whole = λ i is to x. x; rest = λ is to x e. (is, refl, x) }
+
+  items_head : (i : Item) (is : List Item) (at to : ℕ) → Items source ts (i ∷ is) at to → IsName source ts (constant_of i) at
+  items_head i [] at to x = item_name i at to x
+  items_head i (j ∷ js) at to x = item_name i at x.0 x.1
+
+  between : (end next : ℕ) → GoesOn source ts end (Some next) → Between source ts end next
+  between end next (inl c) = inr c
+  between end next (inr v) = inl v.1
+
+  more_rest : (i : Item) (js : List Item) (at end next to : ℕ) → SpellsItem source ts i at end → GoesOn source ts end (Some next) → Items source ts js at to → Ends source ts to
+      → (ms : List Item) × (js ≡ i ∷ ms) × Items source ts ms next to
+  more_rest i [] at end next to n g x e = absurd x
+  more_rest i (j ∷ []) at end next to n g x e =
+      let o = one_item j i at to end x n in
+      absurd (goes_on_ends source ts end next g (subst (λ m. Ends source ts m) o.1 e))
+  more_rest i (j ∷ m ∷ ms) at end next to n g x e =
+      let o = one_item j i at x.0 end x.1 n in
+      let b = subst (λ y. Between source ts y x.2) o.1 x.3 in
+      let h : x.2 ≡ next = same_next source ts (constant_of m) end next x.2 g b (items_head m ms x.2 to x.4) in
+      (m ∷ ms, ap (λ y. y ∷ m ∷ ms) o.0, subst (λ y. Items source ts (m ∷ ms) y to) h x.4)
+
+  no_more : (j : Item) (js : List Item) (end at to : ℕ) → Ends source ts end → Between source ts end at → Items source ts (j ∷ js) at to → ⊥
+  no_more j js end at to e (inl d) x = e.no_name (constant_of j) (subst (λ m. IsName source ts (constant_of j) m) d (items_head j js at to x))
+  no_more j js end at to e (inr d) x = e.no_comma d.0
+
+  last_rest : (i : Item) (js : List Item) (at end to : ℕ) → SpellsItem source ts i at end → Ends source ts end → Items source ts js at to → (js ≡ i ∷ []) × (to ≡ end)
+  last_rest i [] at end to n e x = absurd x
+  last_rest i (j ∷ []) at end to n e x = let o = one_item j i at to end x n in (ap (λ y. y ∷ []) o.0, o.1)
+  last_rest i (j ∷ m ∷ ms) at end to n e x =
+      let o = one_item j i at x.0 end x.1 n in
+      absurd (no_more m ms end x.2 to e (subst (λ y. Between source ts y x.2) o.1 x.3) x.4)
+
+  none_rest : (js : List Item) (at to : ℕ) → NoItem source ts at → Items source ts js at to → ⊥
+  none_rest [] at to fails x = x
+  none_rest (j ∷ []) at to fails x = fails j to x
+  none_rest (j ∷ m ∷ ms) at to fails x = fails j x.0 x.1
+
+  pub items_more : (front : List Item) (from at end next : ℕ) (i : Item) → ItemsSoFar front from at → SpellsItem source ts i at end → GoesOn source ts end (Some next)
+      → ItemsSoFar (front ++ i ∷ []) from next
+  items_more front from at end next i so n g = record {
+    whole = λ j js to x. rw append_assoc (so.whole i (j ∷ js) to (end, n, next, between end next g, x));
+    rest = λ is to x e.
+        let r = so.rest is to x e in
+        let m = more_rest i r.0 at end next to n g r.2 e in
+        (m.0, r.1 ∙ ap (λ y. front ++ y) m.1 ∙ sym (append_assoc front (i ∷ []) m.0), m.2);
+  }
+
+  pub items_last : (front : List Item) (from at end : ℕ) (i : Item) → ItemsSoFar front from at → SpellsItem source ts i at end → Ends source ts end
+      → AreItems source ts (front ++ i ∷ []) from end
+  items_last front from at end i so n e = record {
+    spelled = so.whole i [] end n;
+    only = λ js to x f.
+        let r = so.rest js to x f in
+        let m = last_rest i r.0 at end to n e r.2 in
+        (r.1 ∙ ap (λ y. front ++ y) m.0, m.1);
+  }
+
+  pub items_fail : (front : List Item) (from at : ℕ) → ItemsSoFar front from at → NoItem source ts at → NoItems source ts from
+  items_fail front from at so fails = λ is to x e. let r = so.rest is to x e in none_rest r.0 at to fails r.2

@@ -1,0 +1,13 @@
+pub mod Slices
+pub mod Words
+pub mod Fronts
+pub mod NameLists
+pub mod Arms
+pub mod StatementLists
+pub mod TextEnd
+pub mod Literals
+pub mod Limits
+pub mod Numbers
+pub mod Members
+pub mod Atoms
+pub mod ItemLists

@@ -1,0 +1,137 @@
+-- A list of statements, found statement by statement.
+use Rattle.std.proofs.Common.{◌≡◌, ◌<◌, ◌≤◌, ℕ, ◌+◌, Bool, true, false, not, ◌&&◌, ◌||◌, List, [], ◌∷◌, ◌++◌, None, filter, slice_get, refl, sym, ap, subst, ◌∙◌, append_assoc, append-nil, length-append, arith, length}
+use Rattle.std.proofs.lemmas.List.Elements.{filter-append}
+use Rattle.std.proofs.lemmas.Option.{slice_get_past}
+use Rattle.tla_lex.specs.declared.token.Kind.TheVariants as k
+use Rattle.tla_lex.specs.declared.token.Token.{Token}
+use Rattle.tla_config.specs.Configuration.{SpellsStatement, SpellsStatements, is_check_deadlock}
+use Rattle.tla_config.specs.Fronts.{keyword_of}
+use Rattle.tla_config.specs.Gives.{Ends, IsStatement, NoStatement, AreStatements, NoStatements}
+use Rattle.tla_config.specs.Statements.{Statement}
+use Rattle.tla_config.proofs.Arms.{spelled_front}
+use Rattle.tla_config.proofs.Fronts.{has_within, name_within, comma_begins_none, name_begins_none}
+
+-- how many statements are CHECK_DEADLOCK
+abbrev pub checks_of : List Statement → ℕ
+checks_of cs = length (filter is_check_deadlock cs)
+
+abbrev pub count_of : Bool → ℕ
+count_of true = 1
+count_of false = 0
+
+checks_one : (c : Statement) (b : Bool) → is_check_deadlock c ≡ b → checks_of (c ∷ []) ≡ count_of b
+checks_one c true h = rw h refl
+checks_one c false h = rw h refl
+
+checks_append : (bs cs : List Statement) → checks_of (bs ++ cs) ≡ checks_of bs + checks_of cs
+checks_append bs cs = ap (λ xs. length xs) (filter-append is_check_deadlock bs cs) ∙ length-append (filter is_check_deadlock bs) (filter is_check_deadlock cs)
+
+pub checks_more : (bs : List Statement) (c : Statement) (b : Bool) (n : ℕ) → checks_of bs ≡ n → is_check_deadlock c ≡ b → checks_of (bs ++ c ∷ []) ≡ n + count_of b
+checks_more bs c b n h e = checks_append bs (c ∷ []) ∙ (let x = checks_one c b e in cc)
+
+checks_front : (checks is : Bool) → not (checks && is) ≡ true → count_of checks + count_of is ≡ count_of (checks || is)
+checks_front true true h = (let z : ⊥ = cc in absurd z)
+checks_front true false h = refl
+checks_front false true h = refl
+checks_front false false h = refl
+
+-- one statement more
+pub checks_next : (bs : List Statement) (c : Statement) (checks : Bool) → checks_of bs ≡ count_of checks → not (checks && is_check_deadlock c) ≡ true
+    → checks_of (bs ++ c ∷ []) ≡ count_of (checks || is_check_deadlock c)
+checks_next bs c checks h m = checks_more bs c (is_check_deadlock c) (count_of checks) h refl ∙ checks_front checks (is_check_deadlock c) m
+
+count_small : (checks : Bool) → count_of checks ≤ 1
+count_small true = omega arith
+count_small false = omega arith
+
+pub few_checks : (bs : List Statement) (checks : Bool) → checks_of bs ≡ count_of checks → checks_of bs ≤ 1
+few_checks bs checks h = rw h (count_small checks)
+
+pub both_hold : (a b : Bool) → not (a && b) ≡ false → (a ≡ true) × (b ≡ true)
+both_hold true true h = (refl, refl)
+both_hold true false h = (let z : ⊥ = cc in absurd z)
+both_hold false b h = (let z : ⊥ = cc in absurd z)
+
+module _ (text : List ℕ) (ts : List Token) where
+  begins_within : (c : Statement) (at to : ℕ) → SpellsStatement text ts c at to → length ts ≤ at → ⊥
+  begins_within c at to x h =
+      let f = spelled_front text ts at c to x in
+      let n = slice_get_past ts at h in
+      let g : keyword_of text (slice_get ts at) ≡ None = ap (λ o. keyword_of text o) n in
+      (let z : ⊥ = cc in z)
+
+  -- no list of names goes on where the statements go on
+  front_ends : (at : ℕ) (c : Statement) (to : ℕ) → SpellsStatement text ts c at to → Ends text ts at
+  front_ends at c to x =
+      let f = spelled_front text ts at c to x in
+      record {
+        no_comma = λ h. let n = comma_begins_none text ts at h in (let z : ⊥ = cc in z);
+        no_name = λ w h. let n = name_begins_none text ts w at h in (let z : ⊥ = cc in z);
+      }
+
+  ends_of : (cs : List Statement) (at : ℕ) → SpellsStatements text ts cs at → Ends text ts at
+  ends_of [] at x = record {
+    no_comma = λ h. let n = has_within text ts k.Comma at h in absurd (omega arith);
+    no_name = λ w h. let n = name_within text ts w at h in absurd (omega arith);
+  }
+  ends_of (c ∷ cs) at x = front_ends at c x.0 x.1
+
+  -- these statements stand before a token: whatever statements begin there, they and these are all, and each list of all begins with these
+  pub record StatementsSoFar (front : List Statement) (at : ℕ) : Type 0 where
+    pub whole : (cs : List Statement) → SpellsStatements text ts cs at → SpellsStatements text ts (front ++ cs) 0
+    pub rest : (cs : List Statement) → SpellsStatements text ts cs 0 → (ds : List Statement) × (cs ≡ front ++ ds) × SpellsStatements text ts ds at
+
+  pub so_far_none : StatementsSoFar [] 0
+  so_far_none = record { whole = λ cs x. x; rest = λ cs x. (cs, refl, x) }
+
+  next_rest : (c : Statement) (ds : List Statement) (at mid : ℕ) → at < mid → mid ≤ length ts → IsStatement text ts c at mid → SpellsStatements text ts ds at
+      → (es : List Statement) × (ds ≡ c ∷ es) × SpellsStatements text ts es mid
+  next_rest c [] at mid a b st x = absurd (omega arith)
+  next_rest c (d ∷ ds) at mid a b st x =
+      let o = st.only d x.0 x.1 (ends_of ds x.0 x.2) in
+      (ds, ap (λ y. y ∷ ds) o.0, subst (λ m. SpellsStatements text ts ds m) o.1 x.2)
+
+  pub so_far_more : (front : List Statement) (at mid : ℕ) (c : Statement) → at < mid → mid ≤ length ts → StatementsSoFar front at → IsStatement text ts c at mid
+      → StatementsSoFar (front ++ c ∷ []) mid
+  so_far_more front at mid c a b so st = record {
+    whole = λ cs x. rw append_assoc (so.whole (c ∷ cs) (mid, st.spelled, x));
+    rest = λ cs x.
+        let r = so.rest cs x in
+        let n = next_rest c r.0 at mid a b st r.2 in
+        (n.0, r.1 ∙ ap (λ y. front ++ y) n.1 ∙ sym (append_assoc front (c ∷ []) n.0), n.2);
+  }
+
+  last_rest : (ds : List Statement) (at : ℕ) → length ts ≤ at → SpellsStatements text ts ds at → ds ≡ []
+  last_rest [] at h x = refl
+  last_rest (d ∷ ds) at h x = absurd (begins_within d at x.0 x.1 h)
+
+  pub so_far_all : (front : List Statement) (at : ℕ) → at ≤ length ts → length ts ≤ at → checks_of front ≤ 1 → StatementsSoFar front at → AreStatements text ts front
+  so_far_all front at a b once so =
+      let e : at ≡ length ts = omega arith in
+      record {
+        spelled = subst (λ cs. SpellsStatements text ts cs 0) (append-nil front) (so.whole [] e);
+        once = once;
+        only = λ ds x. let r = so.rest ds x in r.1 ∙ ap (λ y. front ++ y) (last_rest r.0 at b r.2) ∙ append-nil front;
+      }
+
+  none_rest : (ds : List Statement) (at : ℕ) → at < length ts → NoStatement text ts at → SpellsStatements text ts ds at → ⊥
+  none_rest [] at h fails x = absurd (omega arith)
+  none_rest (d ∷ ds) at h fails x = fails d x.0 x.1 (ends_of ds x.0 x.2)
+
+  pub so_far_fails : (front : List Statement) (at : ℕ) → at < length ts → StatementsSoFar front at → NoStatement text ts at → NoStatements text ts
+  so_far_fails front at h so fails = λ cs x once. let r = so.rest cs x in none_rest r.0 at h fails r.2
+
+  -- CHECK_DEADLOCK for a second time
+  pub so_far_twice : (front : List Statement) (at mid : ℕ) (c : Statement) (checks : Bool) → at < mid → mid ≤ length ts → StatementsSoFar front at → IsStatement text ts c at mid
+      → checks_of front ≡ count_of checks → not (checks && is_check_deadlock c) ≡ false → NoStatements text ts
+  so_far_twice front at mid c checks a b so st h second = λ cs x once.
+      let two = both_hold checks (is_check_deadlock c) second in
+      let e : is_check_deadlock c ≡ true = two.1 in
+      let one : checks_of front ≡ 1 = h ∙ ap (λ y. count_of y) two.0 in
+      let r = so.rest cs x in
+      let n = next_rest c r.0 at mid a b st r.2 in
+      let p : cs ≡ (front ++ c ∷ []) ++ n.0 = r.1 ∙ ap (λ y. front ++ y) n.1 ∙ sym (append_assoc front (c ∷ []) n.0) in
+      let q = checks_append (front ++ c ∷ []) n.0 in
+      let m = checks_more front c true 1 one e in
+      let t : checks_of cs ≡ 2 + checks_of n.0 = ap (λ y. checks_of y) p ∙ q ∙ ap (λ y. y + checks_of n.0) m in
+      absurd (omega arith)

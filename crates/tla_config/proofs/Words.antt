@@ -1,0 +1,109 @@
+-- What a word begins, by the table.
+use Rattle.std.proofs.Common.{◌≡◌, Bool, true, false, ◌&&◌, ◌||◌, if◌then◌else◌, map, List, [], ◌∷◌, Option, Some, None, ◌⊎◌, inl, inr, codes, refl}
+use Rattle.std.specs.List.{list_any}
+use Rattle.std.specs.Str.{bytes_eq}
+use Rattle.std.proofs.lemmas.Slice.Eq.{bytes_eq-Decides}
+use Rattle.tla_config.specs.declared.keyword.Keyword.{Keyword}
+use Rattle.tla_config.specs.declared.keyword.Keyword.TheVariants as word
+use Rattle.tla_config.specs.Keywords.{keywords, lookup}
+use Rattle.tla_config.specs.Names.{Name, is_among, statement_words}
+use Rattle.tla_config.specs.Refusals.{left_out_words}
+
+abbrev pub is_same : Keyword → Keyword → Bool
+is_same word.Specification word.Specification = true
+is_same word.Init word.Init = true
+is_same word.Next word.Next = true
+is_same word.Invariants word.Invariants = true
+is_same word.Constants word.Constants = true
+is_same word.CheckDeadlock word.CheckDeadlock = true
+is_same word.LeftOut word.LeftOut = true
+is_same _ _ = false
+
+is_same_self : (k : Keyword) → is_same k k ≡ true
+is_same_self word.Specification = refl
+is_same_self word.Init = refl
+is_same_self word.Next = refl
+is_same_self word.Invariants = refl
+is_same_self word.Constants = refl
+is_same_self word.CheckDeadlock = refl
+is_same_self word.LeftOut = refl
+
+abbrev Entries : Type 0
+Entries = List (Name × Keyword)
+
+-- one of the table's words for this keyword is the word
+abbrev pub spells : Entries → Keyword → Name → Bool
+spells es k w = list_any (λ e. is_same k e.1 && bytes_eq w e.0) es
+
+or_true : (b : Bool) → (b || true) ≡ true
+or_true true = refl
+or_true false = refl
+
+spells_step : (es : Entries) (w : Name) (k j : Keyword) (b : Bool) (o : Option Keyword) → (o ≡ Some k → spells es k w ≡ true)
+    → (if b then Some j else o) ≡ Some k → ((is_same k j && b) || spells es k w) ≡ true
+spells_step es w k j true o go h = let e : j ≡ k = cc in rw (e, is_same_self k) refl
+spells_step es w k j false o go h = rw (go h) (or_true (is_same k j && false))
+
+pub spells_found : (es : Entries) (w : Name) (k : Keyword) → lookup es w ≡ Some k → spells es k w ≡ true
+spells_found [] w k h = (let z : ⊥ = cc in absurd z)
+spells_found (e ∷ es) w k h = spells_step es w k e.1 (bytes_eq w e.0) (lookup es w) (λ g. spells_found es w k g) h
+
+or_false : (b : Bool) → (b || false) ≡ true → b ≡ true
+or_false true h = refl
+or_false false h = h
+
+pub same_bytes : (v w : Name) → bytes_eq v w ≡ true → v ≡ w
+same_bytes v w h = (bytes_eq-Decides v w).0 h
+
+one_word : (v w : Name) → (bytes_eq w v || false) ≡ true → w ≡ v
+one_word v w h = same_bytes w v (or_false (bytes_eq w v) h)
+
+either : (a b : Bool) → (a || (b || false)) ≡ true → (a ≡ true) ⊎ (b ≡ true)
+either true b h = inl refl
+either false b h = inr (or_false b h)
+
+pub specification_word : (w : Name) → lookup keywords w ≡ Some word.Specification → w ≡ codes "SPECIFICATION"
+specification_word w h = one_word (codes "SPECIFICATION") w (spells_found keywords w word.Specification h)
+
+pub init_word : (w : Name) → lookup keywords w ≡ Some word.Init → w ≡ codes "INIT"
+init_word w h = one_word (codes "INIT") w (spells_found keywords w word.Init h)
+
+pub next_word : (w : Name) → lookup keywords w ≡ Some word.Next → w ≡ codes "NEXT"
+next_word w h = one_word (codes "NEXT") w (spells_found keywords w word.Next h)
+
+pub check_deadlock_word : (w : Name) → lookup keywords w ≡ Some word.CheckDeadlock → w ≡ codes "CHECK_DEADLOCK"
+check_deadlock_word w h = one_word (codes "CHECK_DEADLOCK") w (spells_found keywords w word.CheckDeadlock h)
+
+pub invariants_word : (w : Name) → lookup keywords w ≡ Some word.Invariants → (w ≡ codes "INVARIANT") ⊎ (w ≡ codes "INVARIANTS")
+invariants_word w h = elim (either (bytes_eq w (codes "INVARIANT")) (bytes_eq w (codes "INVARIANTS")) (spells_found keywords w word.Invariants h)) [
+  | inl b ↦ inl (same_bytes w (codes "INVARIANT") b)
+  | inr b ↦ inr (same_bytes w (codes "INVARIANTS") b)
+]
+
+pub left_out_word : (w : Name) → lookup keywords w ≡ Some word.LeftOut → is_among w left_out_words ≡ true
+left_out_word w h = spells_found keywords w word.LeftOut h
+
+none_step : (es : Entries) (w : Name) (k : Keyword) (b : Bool) (o : Option Keyword) → (o ≡ None → list_any (bytes_eq w) (map (λ e. e.0) es) ≡ false)
+    → (if b then Some k else o) ≡ None → (b || list_any (bytes_eq w) (map (λ e. e.0) es)) ≡ false
+none_step es w k true o go h = (let z : ⊥ = cc in absurd z)
+none_step es w k false o go h = go h
+
+none_found : (es : Entries) (w : Name) → lookup es w ≡ None → list_any (bytes_eq w) (map (λ e. e.0) es) ≡ false
+none_found [] w h = refl
+none_found (e ∷ es) w h = none_step es w e.1 (bytes_eq w e.0) (lookup es w) (λ g. none_found es w g) h
+
+pub name_word : (w : Name) → lookup keywords w ≡ None → is_among w statement_words ≡ false
+name_word w h = none_found keywords w h
+
+is_none_step : (es : Entries) (w : Name) (k : Keyword) (b : Bool) (o : Option Keyword) → (list_any (bytes_eq w) (map (λ e. e.0) es) ≡ false → o ≡ None)
+    → (b || list_any (bytes_eq w) (map (λ e. e.0) es)) ≡ false → (if b then Some k else o) ≡ None
+is_none_step es w k true o go h = (let z : ⊥ = cc in absurd z)
+is_none_step es w k false o go h = go h
+
+is_none : (es : Entries) (w : Name) → list_any (bytes_eq w) (map (λ e. e.0) es) ≡ false → lookup es w ≡ None
+is_none [] w h = refl
+is_none (e ∷ es) w h = is_none_step es w e.1 (bytes_eq w e.0) (lookup es w) (λ g. is_none es w g) h
+
+-- a name is no word of the table
+pub name_is_none : (w : Name) → is_among w statement_words ≡ false → lookup keywords w ≡ None
+name_is_none w h = is_none keywords w h

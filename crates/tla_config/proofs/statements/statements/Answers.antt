@@ -1,0 +1,40 @@
+use Rattle.std.proofs.Common.{◌≡◌, ◌++◌, ◌∷◌, [], map, ap, ◌∙◌}
+use Rattle.std.proofs.lemmas.List.{map-append}
+use Rattle.std.proofs.lemmas.Result.{err_from_is_err_and}
+use Rattle.tla_config.specs.Gives.{NoStatement, NoStatements}
+use Rattle.tla_config.specs.View.{statement_view}
+use Rattle.tla_config.proofs.Arms.{fails_map}
+use Rattle.tla_config.proofs.StatementLists.{so_far_more, so_far_all, so_far_fails, so_far_twice, checks_next, few_checks}
+use Rattle.tla_config.proofs.statements.statements.Goals as goal
+
+pub returns-in_err-found-clause-none : goal.returns-in_err-found-clause-none
+returns-in_err-found-clause-none c =
+    let text = c.args.text.now in
+    let ts = c.args.tokens.now in
+    let e = err_from_is_err_and c.from_residual.result c.from_residual.ensures.1 in
+    rw (e.1, e.2) (fails_map text ts c.in_err-found.field-0.0 (NoStatement text ts c.loop-at.at) (NoStatements text ts)
+    (so_far_fails text ts (map statement_view c.loop-at.statements.items) c.loop-at.at c.loop-at-test.true c.loop-at.invariant.so_far) c.in_err-found.ensures.gives)
+
+pub returns-then-not-may_follow-clause-none : goal.returns-then-not-may_follow-clause-none
+returns-then-not-may_follow-clause-none c =
+    so_far_twice c.args.text.now c.args.tokens.now (map statement_view c.loop-at.statements.items) c.loop-at.at c.in_ok-found.found.end (statement_view c.in_ok-found.found.statement) c.loop-at.checks
+    c.in_ok-found.ensures.within.0 c.in_ok-found.ensures.within.1 c.loop-at.invariant.so_far c.in_ok-found.ensures.gives c.loop-at.invariant.checks cc
+
+pub loop-at-preserved : goal.loop-at-preserved
+loop-at-preserved c =
+    let front = map statement_view c.loop-at.statements.items in
+    let s = statement_view c.in_ok-found.found.statement in
+    let e : map statement_view c.push_statement.new.statements.items ≡ front ++ s ∷ [] =
+    ap (λ x. map statement_view x) c.in_ok-push_statement.ensures.ok ∙ map-append statement_view c.loop-at.statements.items (c.in_ok-found.found.statement ∷ []) in
+    rw (e, c.checks_too-checks.ensures) (record {
+      so_far = so_far_more c.args.text.now c.args.tokens.now front c.loop-at.at c.in_ok-found.found.end s c.in_ok-found.ensures.within.0 c.in_ok-found.ensures.within.1
+          c.loop-at.invariant.so_far c.in_ok-found.ensures.gives;
+      checks = checks_next front s c.loop-at.checks c.loop-at.invariant.checks cc;
+      within = c.in_ok-found.ensures.within.1;
+    })
+
+pub returns-clause-found : goal.returns-clause-found
+returns-clause-found c =
+    let front = map statement_view c.loop-at.statements.items in
+    so_far_all c.args.text.now c.args.tokens.now front c.loop-at.at c.loop-at.invariant.within c.loop-at-test.false
+    (few_checks front c.loop-at.checks c.loop-at.invariant.checks) c.loop-at.invariant.so_far

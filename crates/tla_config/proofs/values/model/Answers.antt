@@ -1,0 +1,17 @@
+use Rattle.std.proofs.Common.{◌≡◌, None, Some, ap, sym, ◌∙◌}
+use Rattle.tla_parse.specs.Tokens.{word_of}
+use Rattle.tla_value.specs.Tree.{model}
+use Rattle.tla_config.specs.Keywords.{keywords, lookup}
+use Rattle.tla_config.proofs.Atoms.{model_is, model_fails}
+use Rattle.tla_config.proofs.values.model.Goals as goal
+
+pub returns-in-Ok : goal.returns-in-Ok
+returns-in-Ok c =
+    let l : lookup keywords (word_of c.args.text.now c.args.token) ≡ None = ap (λ w. lookup keywords w) (sym c.slice_of-word.ensures) ∙ sym c.keyword_of.ensures ∙ c.in-None.is in
+    λ ts. (model_is c.args.text.now ts c.args.token c.requires l ∙ ap (λ w. Some (model w)) (sym c.slice_of-word.ensures ∙ sym c.in-Ok.ensures.bytes), rw c.in-Ok.ensures.bytes c.in-Ok.ensures.utf8)
+
+pub returns-in-Err : goal.returns-in-Err
+returns-in-Err c =
+    let l : lookup keywords (word_of c.args.text.now c.args.token) ≡ None = ap (λ w. lookup keywords w) (sym c.slice_of-word.ensures) ∙ sym c.keyword_of.ensures ∙ c.in-None.is in
+    λ ts. model_fails c.args.text.now ts c.in-Err.refusal c.args.item c.args.token c.slice_of-word.result.now
+    (model_is c.args.text.now ts c.args.token c.requires l ∙ ap (λ w. Some (model w)) (sym c.slice_of-word.ensures)) c.in-Err.ensures.err

@@ -1,0 +1,68 @@
+-- What the answer of a reader of tokens says. Private contracts alone cite this.
+use Rattle.std.specs.Prelude.{◌≡◌, ◌≤◌, ◌⊎◌, ℕ, ◌+◌, List, Option, Some, None, Result, Ok, Err, length, filter}
+use Rattle.tla_lex.specs.Bytes.{Bytes}
+use Rattle.tla_lex.specs.declared.token.Kind.TheVariants as k
+use Rattle.tla_lex.specs.declared.token.Token.{Token}
+use Rattle.tla_parse.specs.declared.word.Written.{Written}
+use Rattle.tla_config.specs.declared.names.ParsedNames.{ParsedNames}
+use Rattle.tla_config.specs.declared.refusal.Refusal.{Refusal}
+use Rattle.tla_config.specs.declared.refusal.Refusal.TheVariants as refusal
+use Rattle.tla_config.specs.declared.statements.ParsedStatement.{ParsedStatement}
+use Rattle.tla_config.specs.Configuration.{Has, IsName, Names, SpellsStatement, SpellsStatements, is_check_deadlock}
+use Rattle.tla_config.specs.Refusals.{IsLeftOutHere}
+use Rattle.tla_config.specs.Statements.{Statement}
+use Rattle.tla_config.specs.View.{statement_view}
+
+module _ (text : Bytes) (ts : List Token) where
+  -- a list of names does not go on here
+  pub record Ends (at : ℕ) : Type 0 where
+    pub no_comma : Has text ts k.Comma at → ⊥
+    pub no_name : (w : Written) → IsName text ts w at → ⊥
+
+  -- where the next name of a list has to stand behind this token, if the list goes on
+  abbrev pub GoesOn : ℕ → Option ℕ → Type 0
+  GoesOn at None = Ends at
+  GoesOn at (Some next) = (Has text ts k.Comma at × (next ≡ at + 1)) ⊎ (((w : Written) × IsName text ts w at) × (next ≡ at))
+
+  -- a refusal says that something is not there; want of memory says nothing
+  abbrev pub Fails : Refusal → Type 0 → Type 0
+  Fails (refusal.Unexpected at) p = p
+  Fails (refusal.LeftOut at) p = p × IsLeftOutHere text ts at
+  Fails (refusal.TooLarge at) p = p
+  Fails refusal.NoMemory p = Unit {0}
+
+  abbrev pub GivesName : ℕ → Result Written Refusal → Type 0
+  GivesName at (Ok w) = IsName text ts w at
+  GivesName at (Err r) = Fails r ((w : Written) → IsName text ts w at → ⊥)
+
+  -- names that stand there, and no others that end where a list does not go on
+  pub record AreNames (ws : List Written) (from to : ℕ) : Type 0 where
+    pub spelled : Names text ts ws from to
+    pub only : (vs : List Written) (end : ℕ) → Names text ts vs from end → Ends end → (vs ≡ ws) × (end ≡ to)
+
+  abbrev pub NoNames : ℕ → Type 0
+  NoNames from = (ws : List Written) (to : ℕ) → Names text ts ws from to → Ends to → ⊥
+
+  abbrev pub GivesNames : ℕ → Result ParsedNames Refusal → Type 0
+  GivesNames from (Ok x) = AreNames x.names.items from x.end
+  GivesNames from (Err r) = Fails r (NoNames from)
+
+  pub record IsStatement (c : Statement) (from to : ℕ) : Type 0 where
+    pub spelled : SpellsStatement text ts c from to
+    pub only : (d : Statement) (end : ℕ) → SpellsStatement text ts d from end → Ends end → (d ≡ c) × (end ≡ to)
+
+  abbrev pub NoStatement : ℕ → Type 0
+  NoStatement from = (c : Statement) (to : ℕ) → SpellsStatement text ts c from to → Ends to → ⊥
+
+  abbrev pub GivesStatement : ℕ → Result ParsedStatement Refusal → Type 0
+  GivesStatement from (Ok x) = IsStatement (statement_view x.statement) from x.end
+  GivesStatement from (Err r) = Fails r (NoStatement from)
+
+  -- the statements of all tokens, one CHECK_DEADLOCK among them at most
+  pub record AreStatements (cs : List Statement) : Type 0 where
+    pub spelled : SpellsStatements text ts cs 0
+    pub once : length (filter is_check_deadlock cs) ≤ 1
+    pub only : (ds : List Statement) → SpellsStatements text ts ds 0 → ds ≡ cs
+
+  abbrev pub NoStatements : Type 0
+  NoStatements = (cs : List Statement) → SpellsStatements text ts cs 0 → length (filter is_check_deadlock cs) ≤ 1 → ⊥

@@ -1,0 +1,11 @@
+pub mod Names
+pub mod Literals
+pub mod Statements
+pub mod Configuration
+pub mod View
+pub mod Codes
+pub mod Refusals
+pub mod Keywords
+pub mod Fronts
+pub mod Gives
+pub mod GivesValues

@@ -1,0 +1,89 @@
+//! Lists of items.
+
+ghost use Rattle.std.specs.Prelude.{◌≡◌, ◌≤◌, ◌<◌, ◌++◌, ◌∷◌, [], length, map, IfOk, IfErr, OnOk};
+ghost use Rattle.tla_config.specs.GivesValues as spec;
+
+use crate::names::{name, next_name};
+use crate::refusal::Refusal;
+use crate::statement::Item;
+use crate::tokens::is_kind;
+use crate::values::{MAX_NESTING, value};
+use std::alloc::Global;
+use tla_lex::{Kind, Token};
+
+/// An item, and the number of the token behind it.
+#[derive(Drop)]
+pub struct ParsedItem {
+    pub item: Item,
+    pub end: usize,
+}
+
+/// Items, and the number of the token behind the last.
+#[derive(Drop)]
+pub struct ParsedItems {
+    pub items: Vec<Item>,
+    pub end: usize,
+}
+
+/// The item that begins here.
+fn item(alloc: Global, text: &[u8], tokens: &[Token], at: usize) -> Result<ParsedItem, Refusal>
+    ensures gives { spec.GivesItem text.now tokens.now at result }
+    ensures within { IfOk result (λ x. (at < x.end) × (x.end ≤ length tokens.now)) }
+{
+    let constant = name(alloc, text, tokens, at)?;
+    if is_kind(Kind::Equal, tokens, at + 1) {
+        let found = value(alloc, text, tokens, at, MAX_NESTING, at + 2)?;
+        return Ok(ParsedItem {
+            item: Item::Value(constant, found.value),
+            end: found.end,
+        });
+    }
+    if !is_kind(Kind::Substitute, tokens, at + 1) {
+        return Err(Refusal::Unexpected(at + 1));
+    }
+    if is_kind(Kind::LeftBracket, tokens, at + 2) {
+        return Err(Refusal::LeftOut(at + 2));
+    }
+    let operator = name(alloc, text, tokens, at + 2)?;
+    Ok(ParsedItem {
+        item: Item::Replaces(constant, operator),
+        end: at + 3,
+    })
+}
+
+fn push_item(items: &mut Vec<Item>, item: Item) -> Result<(), Refusal>
+    ensures ok { OnOk result (items.new.items ≡ items.old.items ++ item ∷ []) }
+    ensures err { IfErr result (λ e. e ≡ Refusal.NoMemory) }
+{
+    match items.push(item) {
+        Ok(()) => Ok(()),
+        Err(_) => Err(Refusal::NoMemory),
+    }
+}
+
+/// One item or more, with a comma between two of them or without.
+pub fn items(
+    alloc: Global,
+    text: &[u8],
+    tokens: &[Token],
+    from: usize,
+) -> Result<ParsedItems, Refusal>
+    ensures gives { spec.GivesItems text.now tokens.now from result }
+    ensures within { IfOk result (λ x. (from < x.end) × (x.end ≤ length tokens.now)) }
+{
+    let mut items = Vec::new(alloc);
+    let mut at = from;
+    loop {
+        let found = item(alloc, text, tokens, at)?;
+        push_item(&mut items, found.item)?;
+        match next_name(text, tokens, found.end) {
+            Some(next) => at = next,
+            None => {
+                return Ok(ParsedItems {
+                    items,
+                    end: found.end,
+                });
+            }
+        }
+    }
+}

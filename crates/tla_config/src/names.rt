@@ -1,0 +1,74 @@
+//! Lists of names.
+
+ghost use Rattle.std.specs.Prelude.{◌≡◌, ◌≤◌, ◌<◌, ◌++◌, ◌∷◌, [], length, IfSome, IfOk, IfErr, OnOk};
+ghost use Rattle.tla_config.specs.Gives as spec;
+
+use crate::refusal::Refusal;
+use crate::tokens::{is_kind, name_at, written};
+use std::alloc::Global;
+use tla_lex::{Kind, Token};
+use tla_parse::Written;
+
+/// Names, and the number of the token behind the last.
+#[derive(Drop)]
+pub struct ParsedNames {
+    pub names: Vec<Written>,
+    pub end: usize,
+}
+
+/// The name that stands here.
+pub fn name(alloc: Global, text: &[u8], tokens: &[Token], at: usize) -> Result<Written, Refusal>
+    ensures gives { spec.GivesName text.now tokens.now at result }
+    ensures within { OnOk result (at < length tokens.now) }
+{
+    match name_at(text, tokens, at) {
+        Some(t) => written(alloc, text, t),
+        None => Err(Refusal::Unexpected(at)),
+    }
+}
+
+/// Where the next name of a list stands, if the list goes on behind this token.
+pub fn next_name(text: &[u8], tokens: &[Token], at: usize) -> Option<usize>
+    ensures goes_on { spec.GoesOn text.now tokens.now at result }
+    ensures order { IfSome result (λ next. at ≤ next) }
+{
+    if is_kind(Kind::Comma, tokens, at) {
+        return Some(at + 1);
+    }
+    match name_at(text, tokens, at) {
+        Some(_) => Some(at),
+        None => None,
+    }
+}
+
+fn push_name(names: &mut Vec<Written>, name: Written) -> Result<(), Refusal>
+    ensures ok { OnOk result (names.new.items ≡ names.old.items ++ name ∷ []) }
+    ensures err { IfErr result (λ e. e ≡ Refusal.NoMemory) }
+{
+    match names.push(name) {
+        Ok(()) => Ok(()),
+        Err(_) => Err(Refusal::NoMemory),
+    }
+}
+
+/// One name or more, with a comma between two of them or without.
+pub fn names(
+    alloc: Global,
+    text: &[u8],
+    tokens: &[Token],
+    from: usize,
+) -> Result<ParsedNames, Refusal>
+    ensures gives { spec.GivesNames text.now tokens.now from result }
+    ensures within { IfOk result (λ x. (from < x.end) × (x.end ≤ length tokens.now)) }
+{
+    let mut names = Vec::new(alloc);
+    let mut at = from;
+    loop {
+        let name = name(alloc, text, tokens, at)?;
+        push_name(&mut names, name)?;
+        match next_name(text, tokens, at + 1) {
+            Some(next) => at = next,
+            None => return Ok(ParsedNames { names, end: at + 1 }),
+        }
+    }
+}

@@ -1,0 +1,177 @@
+//! Reading a configuration.
+
+ghost use Rattle.std.specs.Prelude.{◌≡◌, ◌≢◌, ◌⊎◌, ◌≤◌, List, Some, None, length, filter, IfOk, IfErr, IfSome};
+ghost use Rattle.tla_lex.specs.Places.{place_at};
+ghost use Rattle.tla_lex.specs.Reads.{Reads};
+ghost use Rattle.tla_lex.specs.Tokens.{IsNotUtf8, no_memory};
+ghost use Rattle.tla_lex.specs.declared.lexeme.Source as lexed;
+ghost use Rattle.tla_lex.specs.declared.scan.Stop.{Stop};
+ghost use Rattle.tla_config.specs.Configuration.{IsConfiguration};
+ghost use Rattle.tla_config.specs.Gives.{Fails, NoStatements};
+ghost use Rattle.tla_config.specs.Statements as spec;
+ghost use Rattle.tla_config.specs.Refusals.{IsLocated, Explains, Begun, IsLeftOutHere};
+
+use crate::config::Config;
+use crate::error::{DefsCode, DefsError, Source};
+use crate::refusal::Refusal;
+use crate::statements::statements;
+use crate::tokens::slice_of;
+use std::alloc::Global;
+use tla_lex::{LexError, Place, Scan, Stop, Token, configuration_tokens};
+use tla_value::Text;
+
+const LEFT_OUT_WORDS: [&str; 11] = [
+    "PROPERTY",
+    "PROPERTIES",
+    "SYMMETRY",
+    "VIEW",
+    "CONSTRAINT",
+    "CONSTRAINTS",
+    "ACTION_CONSTRAINT",
+    "ACTION_CONSTRAINTS",
+    "ALIAS",
+    "POSTCONDITION",
+    "[",
+];
+
+/// The word of a statement that is left out, as a text.
+fn left_out_word(word: &[u8]) -> Option<&'static str>
+    ensures { IfSome result (λ s. s.now ≡ word.now) }
+{
+    for left_out in LEFT_OUT_WORDS {
+        if left_out.as_bytes() == word {
+            return Some(left_out);
+        }
+    }
+    None
+}
+
+fn out_of_memory() -> DefsError
+    ensures { result ≡ record { code = DefsCode.Memory; source = Source.Configuration; place = None; name = None } }
+{
+    DefsError {
+        code: DefsCode::Memory,
+        source: Source::Configuration,
+        place: None,
+        name: None,
+    }
+}
+
+/// A refusal at a place.
+fn error_at(code: DefsCode, place: Place) -> DefsError
+    ensures { result ≡ record { code = code; source = Source.Configuration; place = Some place; name = None } }
+{
+    DefsError {
+        code,
+        source: Source::Configuration,
+        place: Some(place),
+        name: None,
+    }
+}
+
+/// The refusal of the text at a place.
+fn refused(place: Place) -> DefsError
+    ensures { result ≡ record { code = DefsCode.ConfigurationText; source = Source.Configuration; place = Some place; name = None } }
+{
+    error_at(DefsCode::ConfigurationText, place)
+}
+
+/// The refusal of a text that has no tokens.
+fn unread(error: LexError) -> DefsError
+    ensures code { result.code ≢ DefsCode.Memory → error ≢ no_memory }
+    ensures source { result.source ≡ Source.Configuration }
+    ensures located { IsLocated result.code result.place result.name }
+    ensures text { result.code ≡ DefsCode.ConfigurationText ⊎ (result.code ≡ DefsCode.Memory) }
+{
+    match error.place {
+        Some(place) => refused(place),
+        None => out_of_memory(),
+    }
+}
+
+/// The place of a token, or the end of the text.
+fn place_of(tokens: &[Token], at: usize, end: Place) -> Place {
+    match tokens.get(at) {
+        Some(t) => t.place,
+        None => end,
+    }
+}
+
+/// The place at which tokens stop.
+fn place_of_stop(stop: Stop) -> Place {
+    match stop {
+        Stop::End(place) => place,
+        Stop::Fault(error) => error.place.unwrap_or(Place::FIRST),
+    }
+}
+
+/// The refusal of a statement that is left out, which begins at this token.
+fn left_out(alloc: Global, text: &[u8], tokens: &[Token], end: Place, at: usize) -> DefsError
+    requires read { Begun text.now tokens.now }
+    requires here { IsLeftOutHere text.now tokens.now at }
+    ensures source { result.source ≡ Source.Configuration }
+    ensures located { IsLocated result.code result.place result.name }
+    ensures explains { Explains text.now result.code result.place result.name }
+{
+    let Some(t) = tokens.get(at) else {
+        return refused(end);
+    };
+    let Some(word) = left_out_word(slice_of(text, *t)) else {
+        return refused(t.place);
+    };
+    match String::from_str(alloc, word) {
+        Ok(name) => DefsError {
+            code: DefsCode::StatementLeftOut,
+            source: Source::Configuration,
+            place: Some(t.place),
+            name: Some(Text::new(name)),
+        },
+        Err(_) => out_of_memory(),
+    }
+}
+
+/// A refusal of tokens as callers see it.
+fn error_of(alloc: Global, text: &[u8], tokens: &[Token], end: Place, refusal: Refusal) -> DefsError
+    requires read { Begun text.now tokens.now }
+    requires fails { Fails text.now tokens.now refusal (NoStatements text.now tokens.now) }
+    ensures source { result.source ≡ Source.Configuration }
+    ensures located { IsLocated result.code result.place result.name }
+    ensures explains { Explains text.now result.code result.place result.name }
+    ensures none { result.code ≢ DefsCode.Memory → NoStatements text.now tokens.now }
+{
+    match refusal {
+        Refusal::Unexpected(at) => refused(place_of(tokens, at, end)),
+        Refusal::LeftOut(at) => left_out(alloc, text, tokens, end, at),
+        Refusal::TooLarge(at) => {
+            error_at(DefsCode::ExpansionTooLarge, place_of(tokens, at, end))
+        }
+        Refusal::NoMemory => out_of_memory(),
+    }
+}
+
+/// The statements that a configuration's text says.
+pub fn parse_config(alloc: Global, text: &[u8]) -> Result<Config, DefsError>
+    ensures found { IfOk result (λ c. IsConfiguration text.now c.statements) }
+    // It says no other statements.
+    ensures only { IfOk result (λ c. (cs : List spec.Statement) → IsConfiguration text.now cs → cs ≡ c.statements) }
+    ensures end { IfOk result (λ c. c.end ≡ place_at text.now (length text.now)) }
+
+    // A text is refused only where it says none.
+    ensures none { IfErr result (λ e. e.code ≢ DefsCode.Memory → (cs : List spec.Statement) → IsConfiguration text.now cs → ⊥) }
+    ensures explains { IfErr result (λ e. Explains text.now e.code e.place e.name) }
+    ensures located { IfErr result (λ e. IsLocated e.code e.place e.name) }
+    ensures source { IfErr result (λ e. e.source ≡ Source.Configuration) }
+{
+    let Scan { tokens, stop } = match configuration_tokens(alloc, text) {
+        Ok(scan) => scan,
+        Err(error) => return Err(unread(error)),
+    };
+    let statements = match statements(alloc, text, &tokens) {
+        Ok(statements) => statements,
+        Err(refusal) => { return Err(error_of(alloc, text, &tokens, place_of_stop(stop), refusal)) }
+    };
+    match stop {
+        Stop::End(place) => Ok(Config::new(statements, place)),
+        Stop::Fault(_) => Err(refused(place_of_stop(stop))),
+    }
+}

@@ -1,0 +1,111 @@
+//! The statements of a configuration.
+
+ghost use Rattle.std.specs.Prelude.{◌≡◌, ◌≤◌, ◌<◌, ◌++◌, ◌∷◌, [], length, map, IfErr, IfOk, OnOk};
+ghost use Rattle.tla_config.specs.Gives as spec;
+ghost use Rattle.tla_config.specs.View.{statement_view};
+
+use crate::items::items;
+use crate::keyword::Keyword;
+use crate::names::{name, names};
+use crate::refusal::Refusal;
+use crate::statement::Statement;
+use crate::tokens::{keyword_at, truth_at};
+use std::alloc::Global;
+use tla_lex::Token;
+
+/// A statement, and the number of the token behind it.
+#[derive(Drop)]
+pub struct ParsedStatement {
+    pub statement: Statement,
+    pub end: usize,
+}
+
+/// The statement that begins here.
+fn statement(
+    alloc: Global,
+    text: &[u8],
+    tokens: &[Token],
+    at: usize,
+) -> Result<ParsedStatement, Refusal>
+    ensures gives { spec.GivesStatement text.now tokens.now at result }
+    ensures within { IfOk result (λ x. (at < x.end) × (x.end ≤ length tokens.now)) }
+{
+    let Some((keyword, place)) = keyword_at(text, tokens, at) else {
+        return Err(Refusal::Unexpected(at));
+    };
+    match keyword {
+        Keyword::Specification => {
+            let name = name(alloc, text, tokens, at + 1)?;
+            Ok(ParsedStatement {
+                statement: Statement::Specification(place, name),
+                end: at + 2,
+            })
+        }
+        Keyword::Init => {
+            let name = name(alloc, text, tokens, at + 1)?;
+            Ok(ParsedStatement {
+                statement: Statement::Init(place, name),
+                end: at + 2,
+            })
+        }
+        Keyword::Next => {
+            let name = name(alloc, text, tokens, at + 1)?;
+            Ok(ParsedStatement {
+                statement: Statement::Next(place, name),
+                end: at + 2,
+            })
+        }
+        Keyword::Invariants => {
+            let found = names(alloc, text, tokens, at + 1)?;
+            Ok(ParsedStatement {
+                statement: Statement::Invariants(place, found.names),
+                end: found.end,
+            })
+        }
+        Keyword::Constants => {
+            let found = items(alloc, text, tokens, at + 1)?;
+            Ok(ParsedStatement {
+                statement: Statement::Constants(place, found.items),
+                end: found.end,
+            })
+        }
+        Keyword::CheckDeadlock => match truth_at(tokens, at + 1) {
+            Some(check) => Ok(ParsedStatement {
+                statement: Statement::CheckDeadlock(place, check),
+                end: at + 2,
+            }),
+            None => Err(Refusal::Unexpected(at + 1)),
+        },
+        Keyword::LeftOut => Err(Refusal::LeftOut(at)),
+    }
+}
+
+fn push_statement(statements: &mut Vec<Statement>, statement: Statement) -> Result<(), Refusal>
+    ensures ok { OnOk result (statements.new.items ≡ statements.old.items ++ statement ∷ []) }
+    ensures err { IfErr result (λ e. e ≡ Refusal.NoMemory) }
+{
+    match statements.push(statement) {
+        Ok(()) => Ok(()),
+        Err(_) => Err(Refusal::NoMemory),
+    }
+}
+
+/// The statements of all tokens, CHECK_DEADLOCK at most once among them.
+pub fn statements(alloc: Global, text: &[u8], tokens: &[Token]) -> Result<Vec<Statement>, Refusal>
+    ensures found { IfOk result (λ v. spec.AreStatements text.now tokens.now (map statement_view v.items)) }
+    ensures none { IfErr result (λ e. spec.Fails text.now tokens.now e (spec.NoStatements text.now tokens.now)) }
+{
+    let mut statements = Vec::new(alloc);
+    let mut checks = false;
+    let mut at = 0;
+    while at < tokens.len() {
+        let found = statement(alloc, text, tokens, at)?;
+        if !found.statement.may_follow(checks) {
+            return Err(Refusal::Unexpected(at));
+        }
+        checks = found.statement.checks_too(checks);
+        at = found.end;
+        push_statement(&mut statements, found.statement)?;
+    }
+    Ok(statements)
+}

@@ -1,0 +1,129 @@
+//! Tokens as the reader asks for them, by their number in the list.
+
+ghost use Rattle.std.specs.Prelude.{◌≡◌, ◌<◌, length, slice_get, IfOk, IfErr, OnSome, IsTrue};
+ghost use Rattle.tla_parse.specs.Tokens as words;
+ghost use Rattle.tla_config.specs.Fronts as spec;
+
+use crate::keyword::{Keyword, keyword_of};
+use crate::refusal::Refusal;
+use std::alloc::Global;
+use tla_lex::{Kind, Place, Token};
+use tla_parse::{Word, Written};
+
+/// The token's slice of the text.
+#[tactic(auto, using(crate::proofs::Slices::drop_min, crate::proofs::Slices::take_min))]
+pub fn slice_of(text: &[u8], token: Token) -> &[u8]
+    ensures { result.now ≡ words.word_of text.now token }
+{
+    let rest = &text[token.start.min(text.len())..];
+    let length = token.end.saturating_sub(token.start);
+    &rest[..length.min(rest.len())]
+}
+
+/// The token as it is written, and where.
+pub fn written(alloc: Global, text: &[u8], token: Token) -> Result<Written, Refusal>
+    ensures ok { IfOk result (λ w. w ≡ words.written text.now token) }
+    ensures err { IfErr result (λ e. e ≡ Refusal.NoMemory) }
+{
+    match slice_of(text, token).to_vec(alloc) {
+        Ok(bytes) => Ok(Written {
+            place: token.place,
+            word: Word::new(bytes),
+        }),
+        Err(_) => Err(Refusal::NoMemory),
+    }
+}
+
+/// The token of this number, where it is a name and no word of a statement.
+pub fn name_at(text: &[u8], tokens: &[Token], at: usize) -> Option<Token>
+    ensures value { result ≡ spec.name_of text.now (slice_get tokens.now at) }
+    ensures within { OnSome result (at < length tokens.now) }
+{
+    let Some(t) = tokens.get(at) else {
+        return None;
+    };
+    match t.kind {
+        Kind::Name => match keyword_of(slice_of(text, *t)) {
+            None => Some(*t),
+            Some(_) => None,
+        },
+        _ => None,
+    }
+}
+
+/// What the token of this number begins, and its place.
+pub fn keyword_at(text: &[u8], tokens: &[Token], at: usize) -> Option<(Keyword, Place)>
+    ensures value { result ≡ spec.keyword_of text.now (slice_get tokens.now at) }
+    ensures within { OnSome result (at < length tokens.now) }
+{
+    let Some(t) = tokens.get(at) else {
+        return None;
+    };
+    match t.kind {
+        Kind::Name => match keyword_of(slice_of(text, *t)) {
+            None => None,
+            Some(word) => Some((word, t.place)),
+        },
+        Kind::Constant => Some((Keyword::Constants, t.place)),
+        _ => None,
+    }
+}
+
+/// Whether the token of this number is of this kind, of those that stand between the parts of statements.
+pub fn is_kind(kind: Kind, tokens: &[Token], at: usize) -> bool
+    ensures value { result ≡ spec.kind_at kind (slice_get tokens.now at) }
+    ensures within { IsTrue result → at < length tokens.now }
+{
+    let Some(t) = tokens.get(at) else {
+        return false;
+    };
+    match (kind, t.kind) {
+        (Kind::Comma, Kind::Comma) => true,
+        (Kind::Equal, Kind::Equal) => true,
+        (Kind::Substitute, Kind::Substitute) => true,
+        (Kind::LeftBracket, Kind::LeftBracket) => true,
+        (Kind::LeftBrace, Kind::LeftBrace) => true,
+        (Kind::RightBrace, Kind::RightBrace) => true,
+        (Kind::Minus, Kind::Minus) => true,
+        _ => false,
+    }
+}
+
+/// The truth value that the token of this number writes.
+pub fn truth_at(tokens: &[Token], at: usize) -> Option<bool>
+    ensures value { result ≡ spec.truth_of (slice_get tokens.now at) }
+    ensures within { OnSome result (at < length tokens.now) }
+{
+    let Some(t) = tokens.get(at) else {
+        return None;
+    };
+    match t.kind {
+        Kind::True => Some(true),
+        Kind::False => Some(false),
+        _ => None,
+    }
+}
+
+pub fn token_at(tokens: &[Token], at: usize) -> Option<Token>
+    ensures value { result ≡ slice_get tokens.now at }
+    ensures within { OnSome result (at < length tokens.now) }
+{
+    match tokens.get(at) {
+        Some(t) => Some(*t),
+        None => None,
+    }
+}
+
+/// The token of this number, where it is a number.
+pub fn digits_at(tokens: &[Token], at: usize) -> Option<Token>
+    ensures value { result ≡ spec.digits_of (slice_get tokens.now at) }
+    ensures within { OnSome result (at < length tokens.now) }
+{
+    let Some(t) = tokens.get(at) else {
+        return None;
+    };
+    match t.kind {
+        Kind::Digits => Some(*t),
+        _ => None,
+    }
+}

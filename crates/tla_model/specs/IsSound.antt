@@ -1,0 +1,46 @@
+-- What evaluating and reading a model ask of it (this project's own choice).
+use Rattle.std.specs.Prelude.{◌≤◌, ℕ, Bool, true, false, IsTrue, List, [], ◌∷◌, length, map, ⊤}
+use Rattle.std.proofs.Props.{props}
+use Rattle.tla_eval.specs.Expr.{Expr}
+use Rattle.tla_eval.specs.Fits.{fits}
+use Rattle.tla_model.specs.ModelTree.{ModelTree}
+use Rattle.tla_model.specs.Size.{depth}
+
+-- Over so many variables the names of the expression exist, with a present value only where there is a present state, and at most 300 nodes stand on a path.
+pub record IsUsable (variables : ℕ) (present : Bool) (e : Expr) : Type 0 where
+  pub named : IsTrue (fits e 0 variables present)
+  pub shallow : depth e ≤ 300
+
+abbrev pub AreUsable : ℕ → Bool → List Expr → Type 0
+AreUsable variables present [] = ⊤
+AreUsable variables present (e ∷ es) = IsUsable variables present e × AreUsable variables present es
+
+-- the expressions of invariants with their names
+abbrev pub bodies : List (List ℕ × Expr) → List Expr
+bodies is = map (λ (i : List ℕ × Expr). i.1) is
+
+-- assumptions name no variable, and the initial predicate no present value
+pub record IsSound (m : ModelTree) : Type 0 where
+  pub assumptions : AreUsable 0 false m.assumptions
+  pub init : IsUsable (length m.variables) false m.init
+  pub next : IsUsable (length m.variables) true m.next
+  pub invariants : AreUsable (length m.variables) true (bodies m.invariants)
+
+-- there is one proof of it at most
+pub IsUsable-prop : (variables : ℕ) (present : Bool) (e : Expr) → IsProp (IsUsable variables present e)
+IsUsable-prop variables present e = hlevel props
+
+pub AreUsable-prop : (variables : ℕ) (present : Bool) (es : List Expr) → IsProp (AreUsable variables present es)
+AreUsable-prop variables present [] = hlevel props
+AreUsable-prop variables present (e ∷ es) =
+    let first = IsUsable-prop variables present e in
+    let rest = AreUsable-prop variables present es in
+    hlevel (props, first, rest)
+
+pub IsSound-prop : (m : ModelTree) → IsProp (IsSound m)
+IsSound-prop m =
+    let a = AreUsable-prop 0 false m.assumptions in
+    let i = IsUsable-prop (length m.variables) false m.init in
+    let n = IsUsable-prop (length m.variables) true m.next in
+    let v = AreUsable-prop (length m.variables) true (bodies m.invariants) in
+    hlevel (props, a, i, n, v)

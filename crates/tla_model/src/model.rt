@@ -1,0 +1,90 @@
+//! The model that is checked.
+ghost use Rattle.std.specs.Prelude.{◌≡◌, map};
+ghost use Rattle.tla_eval.specs.ExprOf.{expr_of};
+ghost use Rattle.tla_model.specs.IsSound.{IsSound, IsSound-prop};
+ghost use Rattle.tla_model.specs.ModelOf.{invariant_of, tree_of_parts};
+
+use crate::invariant::Invariant;
+use tla_eval::Core;
+use tla_value::Text;
+
+/// A model of which every expression can be evaluated: its names and variables exist, and at most 300 nodes stand on
+/// a path.
+#[derive(Drop)]
+pub struct Model {
+    variables: Vec<Text>,
+    assumptions: Vec<Core>,
+    init: Core,
+    next: Core,
+    invariants: Vec<Invariant>,
+    check_deadlock: bool,
+    ghost sound: { IsSound (tree_of_parts variables.items assumptions.items init next invariants.items check_deadlock) } by { IsSound-prop (tree_of_parts variables.items assumptions.items init next invariants.items check_deadlock) },
+}
+
+impl Model {
+    ghost use Rattle.tla_model.specs.Models.{model_of};
+
+    /// A model of these parts. Takes no memory. The initial predicate is written over the variables next.
+    pub fn new(
+        variables: Vec<Text>,
+        assumptions: Vec<Core>,
+        init: Core,
+        next: Core,
+        invariants: Vec<Invariant>,
+        check_deadlock: bool,
+    ) -> Model
+        requires { IsSound (tree_of_parts variables.items assumptions.items init next invariants.items check_deadlock) }
+        ensures { model_of result ≡ tree_of_parts variables.items assumptions.items init next invariants.items check_deadlock }
+    {
+        Model {
+            variables,
+            assumptions,
+            init,
+            next,
+            invariants,
+            check_deadlock,
+        }
+    }
+
+    /// The names of the variables, in the order of their declarations.
+    pub fn variables(&self) -> &[Text]
+        ensures { result.now ≡ (model_of self.now).variables }
+    {
+        self.variables.as_slice()
+    }
+
+    /// The assumptions, in the order of the text.
+    pub fn assumptions(&self) -> &[Core]
+        ensures { map expr_of result.now ≡ (model_of self.now).assumptions }
+    {
+        self.assumptions.as_slice()
+    }
+
+    /// The initial predicate, over the variables next.
+    pub fn init(&self) -> &Core
+        ensures { expr_of result.now ≡ (model_of self.now).init }
+    {
+        &self.init
+    }
+
+    /// The next-state action.
+    pub fn next(&self) -> &Core
+        ensures { expr_of result.now ≡ (model_of self.now).next }
+    {
+        &self.next
+    }
+
+    /// The invariants, in the order of the configuration.
+    pub fn invariants(&self) -> &[Invariant]
+        ensures { map invariant_of result.now ≡ (model_of self.now).invariants }
+    {
+        self.invariants.as_slice()
+    }
+
+    /// Whether a state from which no step goes is an error.
+    pub fn check_deadlock(&self) -> bool
+        ensures { result ≡ (model_of self.now).check_deadlock }
+    {
+        self.check_deadlock
+    }
+}
