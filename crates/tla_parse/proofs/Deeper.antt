@@ -5,19 +5,27 @@ use Rattle.tla_lex.specs.declared.token.Place.{Place}
 use Rattle.tla_lex.specs.declared.token.Token.{Token}
 use Rattle.tla_lex.specs.declared.token.Kind.{Kind}
 use Rattle.tla_lex.specs.declared.token.Kind.TheVariants as k
+use Rattle.tla_lex.specs.Strings.{string_text}
 use Rattle.tla_parse.specs.declared.scope.Scope.{Scope}
 use Rattle.tla_parse.specs.declared.tree.Infix.{Infix}
 use Rattle.tla_parse.specs.declared.tree.Prefix.{Prefix}
 use Rattle.tla_parse.specs.declared.tree.Bullet.{Bullet}
+use Rattle.tla_parse.specs.declared.tree.Brackets.{Brackets}
+use Rattle.tla_parse.specs.declared.tree.Brackets.TheVariants as br
+use Rattle.tla_parse.specs.declared.tokens.Between.{Between}
+use Rattle.tla_parse.specs.declared.tokens.Between.TheVariants as between
+use Rattle.tla_parse.specs.declared.tokens.Postfix.{Postfix}
+use Rattle.tla_parse.specs.declared.tokens.Postfix.TheVariants as form
 use Rattle.tla_parse.specs.declared.tree.Quantifier.{Quantifier}
-use Rattle.tla_parse.specs.Tree.{Tree, Name, Number, Word, At, Prime, Binary}
+use Rattle.tla_parse.specs.Tree.{Tree, Group, Choice, Definition, arms, definitions, no_other, Case, none, Name, Number, Text, Word, At, Listing, Prime, Index, Field, Binary}
 use Rattle.tla_parse.specs.Operators.{high, prefix_high, prefix_of, bullet_of, quantifier_of, constant_of}
 use Rattle.tla_parse.specs.Edges.{edge_allows, place, depth}
-use Rattle.tla_parse.specs.Tokens.{seen, written, is_bullet_at}
-use Rattle.tla_parse.specs.Kinds.{kind_at}
+use Rattle.tla_parse.specs.Tokens.{seen, word_of, written}
+use Rattle.tla_parse.specs.Kinds.{kind_at, closing}
 use Rattle.tla_parse.specs.Grammar.{within}
 use Rattle.tla_parse.specs.Ending.{above, infix_at}
-use Rattle.tla_parse.specs.Reading.{Outcome, Refused, Nested, ◌>>=◌, need, room, at_op, name_at, postfix, postfixes, turn, climb, items, junction, paren, quantified, choice, prefix, by_class, operand_by, operand, level, expr}
+use Rattle.tla_parse.specs.Outcome.{Outcome, Refused, Nested, ◌>>=◌, need, room, at_op, sequence}
+use Rattle.tla_parse.specs.Reading.{name_at, postfix_at, following, names, exprs, some, listing, call, group, groups, indexed, behind, postfix, postfixes, turn, climb, junction, paren, quantified, chosen, arm_at, arms_at, cases, operator, function, defined, definition, definitions_at, lets, choice, prefix, by_class, named, operand_by, operand, level, expr}
 
 -- the first was nested too deep, or the second is the same
 abbrev pub Refines : {A : Type 0} → Outcome A → Outcome A → Type 0
@@ -38,6 +46,9 @@ rooms : {A : Type 0} (t u : Bool) (x : Outcome A) → (t ≡ true → u ≡ true
 rooms true u x h = rw (h refl) (inr refl)
 rooms false u x h = inl refl
 
+more_room : {A : Type 0} (d most : ℕ) (x : Outcome A) → Refines (room (nat_le d most) x) (room (nat_le d (most + 1)) x)
+more_room d most x = rooms (nat_le d most) (nat_le d (most + 1)) x (λ h. let l = leb-true d most h in le-leb d (most + 1) (omega (arith, l)))
+
 pub ops : {A X : Type 0} (o : Option X) (x y : Outcome A) (f g : X → Outcome A) → Refines x y → ((op : X) → Refines (f op) (g op)) → Refines (at_op o x f) (at_op o y g)
 ops None x y f g h k = h
 ops (Some op) x y f g h k = k op
@@ -46,28 +57,63 @@ pub choices : {A : Type 0} (t : Bool) (x y u v : Outcome A) → Refines x u → 
 choices true x y u v h k = h
 choices false x y u v h k = k
 
+pub sequences : {A : Type 0} (f g : ℕ → Outcome A) (next : ℕ → Option ℕ) → ((at : ℕ) → Refines (f at) (g at)) → (n : ℕ) (front : List A) (at : ℕ) → Refines (sequence f next n front at) (sequence g next n front at)
+unfolding sequence
+sequences f g next d zero front at = inr refl
+sequences f g next d (suc n) front at = bind (f at) (g at) _ _ (d at) (λ x after. ops (next after) _ _ _ _ (inr refl) (λ start. sequences f g next d n (front ++ x ∷ []) start))
+
 module _ (text : List ℕ) (ts : List Token) where
-  more_postfix : (n m : ℕ) (s : Scope) (t : Tree) (at : ℕ) → n ≤ m → Refines (postfix text ts n s t at) (postfix text ts m s t at)
-  unfolding postfix
-  more_postfix zero zero s t at h = inr refl
-  more_postfix zero (suc m) s t at h = by (kind_at k.Prime (seen ts s.column at)) where
-    by : (b : Bool) → Refines (room (not b) (Ok (t, at))) (if b then postfix text ts m s (Prime (place t) t) (at + 1) else Ok (t, at))
-    by true = inl refl
-    by false = inr refl
-  more_postfix (suc n) zero s t at h = absurd (omega (arith, h))
-  more_postfix (suc n) (suc m) s t at h = choices (kind_at k.Prime (seen ts s.column at)) _ _ _ _ (more_postfix n m s (Prime (place t) t) (at + 1) (omega (arith, h))) (inr refl)
-
-  more_postfixes : (most : ℕ) (s : Scope) (t : Tree) (at : ℕ) → Refines (postfixes text ts most s t at) (postfixes text ts (most + 1) s t at)
-  unfolding postfixes
-  more_postfixes most s t at = more_postfix (most - depth t) (most + 1 - depth t) s t at (omega arith)
-
   module _ (inner outer : Scope → ℕ → ℕ → Outcome Tree) (deeper : (s : Scope) (floor at : ℕ) → Refines (inner s floor at) (outer s floor at)) where
+    somes : (s : Scope) (close : Kind) (at : ℕ) → Refines (some text ts inner s close at) (some text ts outer s close at)
+    unfolding some
+    somes s close at = bind (exprs text ts inner (length ts) [] s between.Comma at) (exprs text ts outer (length ts) [] s between.Comma at) _ _
+        (sequences (inner s 0) (outer s 0) (following ts s.column between.Comma) (deeper s 0) (length ts) [] at) (λ es after. inr refl)
+
+    listings : (s : Scope) (p : Place) (b : Brackets) (at : ℕ) → Refines (listing text ts inner s p b at) (listing text ts outer s p b at)
+    unfolding listing
+    listings s p b at = choices (kind_at (closing b) (seen ts s.column (at + 1))) _ _ _ _ (inr refl)
+        (bind (some text ts inner s (closing b) (at + 1)) (some text ts outer s (closing b) (at + 1)) _ _ (somes s (closing b) (at + 1)) (λ es end. inr refl))
+
+    calls : (s : Scope) (t : Token) (at : ℕ) → Refines (call text ts inner s t at) (call text ts outer s t at)
+    unfolding call
+    calls s t at = bind (some text ts inner s k.RightParen (at + 2)) (some text ts outer s k.RightParen (at + 2)) _ _ (somes s k.RightParen (at + 2)) (λ es end. inr refl)
+
+    nameds : (s : Scope) (t : Token) (at : ℕ) → Refines (named text ts inner s t at) (named text ts outer s t at)
+    unfolding named
+    nameds s t at = choices (kind_at k.LeftParen (seen ts s.column (at + 1))) _ _ _ _ (calls s t at) (inr refl)
+
+    group_deeper : (s : Scope) (at : ℕ) → Refines (group text ts inner s at) (group text ts outer s at)
+    unfolding group
+    group_deeper s at = bind (names text ts (length ts) [] s.column at) (names text ts (length ts) [] s.column at) _ _ (inr refl) (λ ws after. needs (kind_at k.Member (seen ts s.column after)) _ _
+        (bind (inner s 0 (after + 1)) (outer s 0 (after + 1)) _ _ (deeper s 0 (after + 1)) (λ e end. inr refl)))
+
+    indexeds : (most : ℕ) (s : Scope) (t : Tree) (at : ℕ) → Refines (indexed text ts inner most s t at) (indexed text ts outer (most + 1) s t at)
+    unfolding indexed
+    indexeds most s t at = bind (some text ts inner s k.RightBracket (at + 1)) (some text ts outer s k.RightBracket (at + 1)) _ _ (somes s k.RightBracket (at + 1))
+        (λ es end. more_room (depth (Index (place t) t es)) most (Ok (Index (place t) t es, end)))
+
+    behinds : (most : ℕ) (s : Scope) (t : Tree) (f : Postfix) (at : ℕ) → Refines (behind text ts inner most s t f at) (behind text ts outer (most + 1) s t f at)
+    behinds most s t form.Prime at = more_room (depth (Prime (place t) t)) most (Ok (Prime (place t) t, at + 1))
+    behinds most s t form.Index at = indexeds most s t at
+    behinds most s t form.Field at = ops (name_at (seen ts s.column (at + 1))) _ _ _ _ (inr refl) (λ w. more_room (depth (Field (place t) t (written text w))) most (Ok (Field (place t) t (written text w), at + 2)))
+
+    more_postfix : (n m most : ℕ) (s : Scope) (t : Tree) (at : ℕ) → n ≤ m → Refines (postfix text ts inner n most s t at) (postfix text ts outer m (most + 1) s t at)
+    unfolding postfix
+    more_postfix zero zero most s t at h = inr refl
+    more_postfix zero (suc m) most s t at h = ops (postfix_at (seen ts s.column at)) _ _ _ _ (inr refl) (λ u. inl refl)
+    more_postfix (suc n) zero most s t at h = absurd (omega (arith, h))
+    more_postfix (suc n) (suc m) most s t at h = ops (postfix_at (seen ts s.column at)) _ _ _ _ (inr refl)
+        (λ u. bind (behind text ts inner most s t u at) (behind text ts outer (most + 1) s t u at) _ _ (behinds most s t u at)
+        (λ r after. more_postfix n m most s r after (omega (arith, h))))
+
+    more_postfixes : (most : ℕ) (s : Scope) (t : Tree) (at : ℕ) → Refines (postfixes text ts inner most s t at) (postfixes text ts outer (most + 1) s t at)
+    more_postfixes most s t at = more_postfix most (most + 1) most s t at (omega arith)
+
     turns : (most : ℕ) (s : Scope) (t : Tree) (op : Infix) (at : ℕ) → Refines (turn text ts inner most s t op at) (turn text ts outer (most + 1) s t op at)
     unfolding turn
     turns most s t op at = needs (edge_allows t op) _ _ (ops (seen ts s.column at) _ _ _ _ (inr refl) (λ sign.
         bind (inner s (high op) (at + 1)) (outer s (high op) (at + 1)) _ _ (deeper s (high op) (at + 1))
-        (λ r after. rooms (nat_le (depth (Binary (place t) op (written text sign) t r)) most) (nat_le (depth (Binary (place t) op (written text sign) t r)) (most + 1)) (Ok (Binary (place t) op (written text sign) t r, after))
-        (λ h. let x = leb-true (depth (Binary (place t) op (written text sign) t r)) most h in le-leb (depth (Binary (place t) op (written text sign) t r)) (most + 1) (omega (arith, x))))))
+        (λ r after. more_room (depth (Binary (place t) op (written text sign) t r)) most (Ok (Binary (place t) op (written text sign) t r, after)))))
 
     climbs : (n m most : ℕ) (s : Scope) (floor : ℕ) (t : Tree) (at : ℕ) → n ≤ m → Refines (climb text ts inner n most s floor t at) (climb text ts outer m (most + 1) s floor t at)
     unfolding climb
@@ -78,16 +124,10 @@ module _ (text : List ℕ) (ts : List Token) where
         (λ op. bind (turn text ts inner most s t op at) (turn text ts outer (most + 1) s t op at) _ _ (turns most s t op at)
         (λ r after. climbs n m most s floor r after (omega (arith, h))))
 
-    all_items : (n : ℕ) (front : List Tree) (s : Scope) (b : Bullet) (at : ℕ) → Refines (items text ts inner n front s b at) (items text ts outer n front s b at)
-    unfolding items
-    all_items zero front s b at = inr refl
-    all_items (suc n) front s b at = bind (inner s 0 (at + 1)) (outer s 0 (at + 1)) _ _ (deeper s 0 (at + 1))
-        (λ e after. choices (is_bullet_at s.column b (slice_get ts after)) _ _ _ _ (all_items n (front ++ e ∷ []) s b after) (inr refl))
-
     junctions : (s : Scope) (p : Place) (b : Bullet) (at : ℕ) → Refines (junction text ts inner s p b at) (junction text ts outer s p b at)
     unfolding junction
-    junctions s p b at = bind (items text ts inner (length ts) [] (within s p.column) b at) (items text ts outer (length ts) [] (within s p.column) b at) _ _
-        (all_items (length ts) [] (within s p.column) b at) (λ es after. inr refl)
+    junctions s p b at = bind (exprs text ts inner (length ts) [] (within s p.column) (between.Bullet b) (at + 1)) (exprs text ts outer (length ts) [] (within s p.column) (between.Bullet b) (at + 1)) _ _
+        (sequences (inner (within s p.column) 0) (outer (within s p.column) 0) (following ts p.column (between.Bullet b)) (deeper (within s p.column) 0) (length ts) [] (at + 1)) (λ es after. inr refl)
 
     parens : (s : Scope) (p : Place) (at : ℕ) → Refines (paren text ts inner s p at) (paren text ts outer s p at)
     unfolding paren
@@ -95,9 +135,50 @@ module _ (text : List ℕ) (ts : List Token) where
 
     quantifieds : (s : Scope) (p : Place) (q : Quantifier) (at : ℕ) → Refines (quantified text ts inner s p q at) (quantified text ts outer s p q at)
     unfolding quantified
-    quantifieds s p q at = ops (name_at (seen ts s.column (at + 1))) _ _ _ _ (inr refl) (λ n. needs (kind_at k.Member (seen ts s.column (at + 2))) _ _
+    quantifieds s p q at = bind (groups text ts inner (length ts) [] s (at + 1)) (groups text ts outer (length ts) [] s (at + 1)) _ _
+        (sequences (group text ts inner s) (group text ts outer s) (following ts s.column between.Comma) (group_deeper s) (length ts) [] (at + 1)) (λ gs after. needs (kind_at k.Colon (seen ts s.column after)) _ _
+        (bind (inner s 0 (after + 1)) (outer s 0 (after + 1)) _ _ (deeper s 0 (after + 1)) (λ e end. inr refl)))
+
+    choosings : (s : Scope) (p : Place) (at : ℕ) → Refines (chosen text ts inner s p at) (chosen text ts outer s p at)
+    unfolding chosen
+    choosings s p at = ops (name_at (seen ts s.column (at + 1))) _ _ _ _ (inr refl) (λ n. needs (kind_at k.Member (seen ts s.column (at + 2))) _ _
         (bind (inner s 0 (at + 3)) (outer s 0 (at + 3)) _ _ (deeper s 0 (at + 3)) (λ a after. needs (kind_at k.Colon (seen ts s.column after)) _ _
         (bind (inner s 0 (after + 1)) (outer s 0 (after + 1)) _ _ (deeper s 0 (after + 1)) (λ e end. inr refl)))))
+
+    arms_deeper : (s : Scope) (at : ℕ) → Refines (arm_at text ts inner s at) (arm_at text ts outer s at)
+    unfolding arm_at
+    arms_deeper s at = bind (inner s 0 at) (outer s 0 at) _ _ (deeper s 0 at) (λ g after. needs (kind_at k.Arrow (seen ts s.column after)) _ _
+        (bind (inner s 0 (after + 1)) (outer s 0 (after + 1)) _ _ (deeper s 0 (after + 1)) (λ e end. inr refl)))
+
+    cases_deeper : (s : Scope) (p : Place) (at : ℕ) → Refines (cases text ts inner s p at) (cases text ts outer s p at)
+    unfolding cases
+    cases_deeper s p at = bind (arms_at text ts inner (length ts) [] s (at + 1)) (arms_at text ts outer (length ts) [] s (at + 1)) _ _
+        (sequences (arm_at text ts inner s) (arm_at text ts outer s) (following ts s.column between.Arm) (arms_deeper s) (length ts) [] (at + 1)) (λ cs after. choices (kind_at k.Box (seen ts s.column after)) _ _ _ _
+        (needs (kind_at k.Other (seen ts s.column (after + 1))) _ _ (needs (kind_at k.Arrow (seen ts s.column (after + 2))) _ _
+        (bind (inner s 0 (after + 3)) (outer s 0 (after + 3)) _ _ (deeper s 0 (after + 3)) (λ e end. inr refl)))) (inr refl))
+
+    operators : (s : Scope) (t : Token) (at : ℕ) → Refines (operator text ts inner s t at) (operator text ts outer s t at)
+    unfolding operator
+    operators s t at = bind (names text ts (length ts) [] s.column at) (names text ts (length ts) [] s.column at) _ _ (inr refl) (λ ws after. needs (kind_at k.RightParen (seen ts s.column after)) _ _ (needs (kind_at k.Define (seen ts s.column (after + 1))) _ _
+        (bind (inner s 0 (after + 2)) (outer s 0 (after + 2)) _ _ (deeper s 0 (after + 2)) (λ e end. inr refl))))
+
+    functions : (s : Scope) (t : Token) (at : ℕ) → Refines (function text ts inner s t at) (function text ts outer s t at)
+    unfolding function
+    functions s t at = bind (groups text ts inner (length ts) [] s at) (groups text ts outer (length ts) [] s at) _ _
+        (sequences (group text ts inner s) (group text ts outer s) (following ts s.column between.Comma) (group_deeper s) (length ts) [] at) (λ gs after. needs (kind_at k.RightBracket (seen ts s.column after)) _ _ (needs (kind_at k.Define (seen ts s.column (after + 1))) _ _
+        (bind (inner s 0 (after + 2)) (outer s 0 (after + 2)) _ _ (deeper s 0 (after + 2)) (λ e end. inr refl))))
+
+    pub definition_deeper : (s : Scope) (at : ℕ) → Refines (definition text ts inner s at) (definition text ts outer s at)
+    unfolding definition defined
+    definition_deeper s at = ops (name_at (seen ts s.column at)) _ _ _ _ (inr refl) (λ t. choices (kind_at k.Define (seen ts s.column (at + 1))) _ _ _ _
+        (bind (inner s 0 (at + 2)) (outer s 0 (at + 2)) _ _ (deeper s 0 (at + 2)) (λ e end. inr refl))
+        (choices (kind_at k.LeftParen (seen ts s.column (at + 1))) _ _ _ _ (operators s t (at + 2)) (needs (kind_at k.LeftBracket (seen ts s.column (at + 1))) _ _ (functions s t (at + 2)))))
+
+    lets_deeper : (s : Scope) (p : Place) (at : ℕ) → Refines (lets text ts inner s p at) (lets text ts outer s p at)
+    unfolding lets
+    lets_deeper s p at = bind (definitions_at text ts inner (length ts) [] s (at + 1)) (definitions_at text ts outer (length ts) [] s (at + 1)) _ _
+        (sequences (definition text ts inner s) (definition text ts outer s) (following ts s.column between.Nothing) (definition_deeper s) (length ts) [] (at + 1)) (λ ds after. needs (kind_at k.In (seen ts s.column after)) _ _
+        (bind (inner s 0 (after + 1)) (outer s 0 (after + 1)) _ _ (deeper s 0 (after + 1)) (λ e end. inr refl)))
 
     conditionals : (s : Scope) (p : Place) (at : ℕ) → Refines (choice text ts inner s p at) (choice text ts outer s p at)
     unfolding choice
@@ -121,7 +202,13 @@ module _ (text : List ℕ) (ts : List Token) where
         (λ b. bind (junction text ts inner s t.place b at) (junction text ts outer s t.place b at) _ _ (junctions s t.place b at) (λ e after. more_postfixes most s e after))
 
     kinds : (most : ℕ) (s : Scope) (t : Token) (at : ℕ) (kind : Kind) → Refines (operand_by text ts inner most s t at kind) (operand_by text ts outer (most + 1) s t at kind)
-    kinds most s t at k.Name = more_postfixes most s (Name (written text t)) (at + 1)
+    kinds most s t at k.Name = bind (named text ts inner s t at) (named text ts outer s t at) _ _ (nameds s t at) (λ e after. more_postfixes most s e after)
+    kinds most s t at k.Text = more_postfixes most s (Text t.place (string_text (word_of text t))) (at + 1)
+    kinds most s t at k.LeftBrace = bind (listing text ts inner s t.place br.Set at) (listing text ts outer s t.place br.Set at) _ _ (listings s t.place br.Set at) (λ e after. more_postfixes most s e after)
+    kinds most s t at k.LeftTuple = bind (listing text ts inner s t.place br.Tuple at) (listing text ts outer s t.place br.Tuple at) _ _ (listings s t.place br.Tuple at) (λ e after. more_postfixes most s e after)
+    kinds most s t at k.Choose = choosings s t.place at
+    kinds most s t at k.Case = cases_deeper s t.place at
+    kinds most s t at k.Let = lets_deeper s t.place at
     kinds most s t at (k.Number n) = more_postfixes most s (Number t.place n) (at + 1)
     kinds most s t at k.At = needs s.updating _ _ (more_postfixes most s (At t.place) (at + 1))
     kinds most s t at k.LeftParen = bind (paren text ts inner s t.place at) (paren text ts outer s t.place at) _ _ (parens s t.place at) (λ e after. more_postfixes most s e after)

@@ -12,9 +12,10 @@ use Rattle.tla_parse.specs.declared.tree.Bullet.{Bullet}
 use Rattle.tla_parse.specs.Tree.{Tree}
 use Rattle.tla_parse.specs.Operators.{low, high, left_group, prefix_low, prefix_high, infix_of, bullet_of}
 use Rattle.tla_parse.specs.Edges.{yields, edge_allows}
-use Rattle.tla_parse.specs.Tokens.{is_prime, right_of, seen, goes_on, is_some_infix, is_bullet, is_bullet_at, may_follow, Has}
+use Rattle.tla_parse.specs.Tokens.{is_suffix, right_of, seen, goes_on, is_some_infix, is_bullet, is_bullet_at, may_follow, Has}
 use Rattle.tla_parse.specs.Kinds.{same_kind, kind_at}
 use Rattle.tla_parse.specs.Ending.{above, infix_at, allows, may_end}
+use Rattle.tla_parse.specs.Reading.{postfix_of, postfix_at}
 use Rattle.tla_parse.proofs.Inversion.{and_true}
 
 -- ---- numbers of the table
@@ -66,7 +67,7 @@ allows_mono s t (Some op) f h = f op h
 pub end_mono : (s t : Tree) (o : Option Token) → ((op : Infix) → edge_allows s op ≡ true → edge_allows t op ≡ true) → may_end s o ≡ true → may_end t o ≡ true
 end_mono s t None f h = refl
 end_mono s t (Some u) f h =
-    let w = and_true (not (is_prime u.kind)) (allows s (infix_of u.kind)) h in
+    let w = and_true (not (is_suffix u.kind)) (allows s (infix_of u.kind)) h in
     let x = allows_mono s t (infix_of u.kind) f w.1 in
     rw (w.0, x) refl
 
@@ -77,24 +78,41 @@ stop_op s floor (Some op) f h = rw (le-ltb floor (low op) (f op h)) refl
 pub stop_by : (s : Tree) (floor : ℕ) (o : Option Token) → ((op : Infix) → edge_allows s op ≡ true → low op ≤ floor) → may_end s o ≡ true → above floor (infix_at o) ≡ None
 stop_by s floor None f h = refl
 stop_by s floor (Some u) f h =
-    let w = and_true (not (is_prime u.kind)) (allows s (infix_of u.kind)) h in
+    let w = and_true (not (is_suffix u.kind)) (allows s (infix_of u.kind)) h in
     stop_op s floor (infix_of u.kind) f w.1
 
 pub not_true : (b : Bool) → not b ≡ true → b ≡ false
 not_true true h = cc
 not_true false h = refl
 
-same_prime : (kind : Kind) → is_prime kind ≡ false → same_kind k.Prime kind ≡ false
-same_prime k.Prime h = h
-same_prime _ h = refl
+no_postfix : (kind : Kind) → is_suffix kind ≡ false → postfix_of kind ≡ None
+no_postfix k.Prime h = cc
+no_postfix k.LeftBracket h = cc
+no_postfix k.Dot h = cc
+no_postfix _ h = refl
 
-pub end_prime : (s : Tree) (o : Option Token) → may_end s o ≡ true → kind_at k.Prime o ≡ false
-end_prime s None h = refl
-end_prime s (Some u) h = same_prime u.kind (not_true (is_prime u.kind) (and_true (not (is_prime u.kind)) (allows s (infix_of u.kind)) h).0)
+no_call : (kind : Kind) → is_suffix kind ≡ false → same_kind k.LeftParen kind ≡ false
+no_call k.LeftParen h = h
+no_call _ h = refl
 
-pub infix_no_prime : (kind : Kind) (op : Infix) → infix_of kind ≡ Some op → is_prime kind ≡ false
-infix_no_prime k.Prime op h = cc
-infix_no_prime _ op h = refl
+suffix_no : (s : Tree) (u : Token) → may_end s (Some u) ≡ true → is_suffix u.kind ≡ false
+suffix_no s u h = not_true (is_suffix u.kind) (and_true (not (is_suffix u.kind)) (allows s (infix_of u.kind)) h).0
+
+-- no postfix form and no arguments come next
+pub end_postfix : (s : Tree) (o : Option Token) → may_end s o ≡ true → postfix_at o ≡ None
+end_postfix s None h = refl
+end_postfix s (Some u) h = no_postfix u.kind (suffix_no s u h)
+
+pub end_call : (s : Tree) (o : Option Token) → may_end s o ≡ true → kind_at k.LeftParen o ≡ false
+end_call s None h = refl
+end_call s (Some u) h = no_call u.kind (suffix_no s u h)
+
+pub infix_no_suffix : (kind : Kind) (op : Infix) → infix_of kind ≡ Some op → is_suffix kind ≡ false
+infix_no_suffix k.Prime op h = cc
+infix_no_suffix k.LeftBracket op h = cc
+infix_no_suffix k.Dot op h = cc
+infix_no_suffix k.LeftParen op h = cc
+infix_no_suffix _ op h = refl
 
 or_false : (s t : Bool) → not (s || t) ≡ true → (s ≡ false) × (t ≡ false)
 or_false true t h = absurd (let z : ⊥ = cc in z)
@@ -107,7 +125,7 @@ no_op t (Some op) h = absurd (let z : ⊥ = cc in z)
 follow_by : (t : Tree) (u : Token) (b : Bool) → not (b && goes_on u.kind) ≡ true → may_end t (if b then Some u else None) ≡ true
 follow_by t u false h = refl
 follow_by t u true h =
-    let w = or_false (is_prime u.kind) (is_some_infix (infix_of u.kind)) h in
+    let w = or_false (is_suffix u.kind) (is_some_infix (infix_of u.kind)) h in
     rw (w.0, no_op t (infix_of u.kind) w.1) refl
 
 -- after a list
@@ -127,7 +145,7 @@ hidden_bullet column b (Some u) h =
 -- before a token that goes on with nothing
 pub end_plain : (t : Tree) (ts : List Token) (column at : ℕ) (kind : Kind) → Has ts column kind at → goes_on kind ≡ false → may_end t (seen ts column at) ≡ true
 end_plain t ts column at kind h g =
-    let w = or_false (is_prime kind) (is_some_infix (infix_of kind)) (rw g refl) in
+    let w = or_false (is_suffix kind) (is_some_infix (infix_of kind)) (rw g refl) in
     rw (h.1, h.2, w.0, no_op t (infix_of kind) w.1) refl
 
 none_op : (floor : ℕ) (o : Option Infix) → is_some_infix o ≡ false → above floor o ≡ None
@@ -136,12 +154,12 @@ none_op floor (Some op) h = absurd (let z : ⊥ = cc in z)
 
 pub stops_plain : (ts : List Token) (column floor at : ℕ) (kind : Kind) → Has ts column kind at → goes_on kind ≡ false → above floor (infix_at (seen ts column at)) ≡ None
 stops_plain ts column floor at kind h g =
-    let w = or_false (is_prime kind) (is_some_infix (infix_of kind)) (rw g refl) in
+    let w = or_false (is_suffix kind) (is_some_infix (infix_of kind)) (rw g refl) in
     rw (h.1, h.2) (none_op floor (infix_of kind) w.1)
 
 -- before an operator that the tree's right edge allows
 pub end_infix : (t : Tree) (ts : List Token) (column at : ℕ) (u : Token) (op : Infix) → seen ts column at ≡ Some u → infix_of u.kind ≡ Some op → edge_allows t op ≡ true → may_end t (seen ts column at) ≡ true
-end_infix t ts column at u op h i e = let p = infix_no_prime u.kind op i in rw (h, p, i, e) refl
+end_infix t ts column at u op h i e = let p = infix_no_suffix u.kind op i in rw (h, p, i, e) refl
 
 pub sees_infix : (ts : List Token) (column floor at : ℕ) (u : Token) (op : Infix) → seen ts column at ≡ Some u → infix_of u.kind ≡ Some op → floor < low op → above floor (infix_at (seen ts column at)) ≡ Some op
 sees_infix ts column floor at u op h i f = rw (h, i, lt-ltb floor (low op) f) refl

@@ -1,17 +1,21 @@
 -- What an `Ok` says of the steps that gave it, and what the tests on tokens say.
-use Rattle.std.proofs.Common.{◌≡◌, ℕ, Bool, true, false, ◌&&◌, ◌⊎◌, inl, inr, IsTrue, nat_lt, if◌then◌else◌, slice_get, List, Option, Some, None, Ok, Err, refl, ap, ◌∙◌, sym, subst, eq-eqb}
+use Rattle.std.proofs.Common.{◌≡◌, ℕ, Bool, true, false, ◌&&◌, ◌⊎◌, inl, inr, IsTrue, nat_lt, if◌then◌else◌, slice_get, List, Option, Some, None, Ok, Err, refl, ap, ◌∙◌, sym, subst, eq-eqb, add-one, ◌+◌}
 use Rattle.tla_lex.specs.declared.token.Place.{Place}
 use Rattle.tla_lex.specs.declared.token.Token.{Token}
 use Rattle.tla_lex.specs.declared.token.Kind.{Kind}
 use Rattle.tla_lex.specs.declared.token.Kind.TheVariants as k
+use Rattle.tla_parse.specs.declared.tokens.Postfix.{Postfix}
+use Rattle.tla_parse.specs.declared.tokens.Postfix.TheVariants as form
 use Rattle.tla_parse.specs.declared.tree.Infix.{Infix}
 use Rattle.tla_parse.specs.declared.tree.Bullet.{Bullet}
 use Rattle.tla_parse.specs.declared.tree.Bullet.TheVariants as b
 use Rattle.tla_parse.specs.Operators.{low, infix_of, bullet_of, same_bullet}
 use Rattle.tla_parse.specs.Tokens.{right_of, seen, written, is_bullet_at, Is, Has, Writes}
 use Rattle.tla_parse.specs.Kinds.{same_kind, kind_at}
+use Rattle.tla_parse.specs.LeftOut.{KindAt, Commas}
 use Rattle.tla_parse.specs.Ending.{above, infix_at}
-use Rattle.tla_parse.specs.Reading.{Outcome, ◌>>=◌, need, room, at_op, name_at}
+use Rattle.tla_parse.specs.Outcome.{Outcome, ◌>>=◌, need, room, at_op}
+use Rattle.tla_parse.specs.Reading.{name_at, postfix_of, postfix_at}
 
 un : {A : Type 0} → A × ℕ → Outcome A → A × ℕ
 un d (Ok x) = x
@@ -57,7 +61,13 @@ pub same_is : (wanted kind : Kind) → same_kind wanted kind ≡ true → kind �
 same_is k.Name k.Name h = refl
 same_is k.Separator k.Separator h = refl
 same_is k.Closing k.Closing h = refl
+same_is k.LeftParen k.LeftParen h = refl
 same_is k.RightParen k.RightParen h = refl
+same_is k.LeftBracket k.LeftBracket h = refl
+same_is k.RightBracket k.RightBracket h = refl
+same_is k.RightBrace k.RightBrace h = refl
+same_is k.RightTuple k.RightTuple h = refl
+same_is k.Underscore k.Underscore h = refl
 same_is k.Comma k.Comma h = refl
 same_is k.Colon k.Colon h = refl
 same_is k.Prime k.Prime h = refl
@@ -66,7 +76,25 @@ same_is k.Module k.Module h = refl
 same_is k.Member k.Member h = refl
 same_is k.Then k.Then h = refl
 same_is k.Else k.Else h = refl
+same_is k.In k.In h = refl
+same_is k.Box k.Box h = refl
+same_is k.Arrow k.Arrow h = refl
+same_is k.MapsTo k.MapsTo h = refl
+same_is k.Other k.Other h = refl
+same_is k.Equal k.Equal h = refl
 same_is _ _ h = absurd (no h)
+
+-- the token that begins a postfix form
+abbrev pub postfix_kind : Postfix → Kind
+postfix_kind form.Prime = k.Prime
+postfix_kind form.Index = k.LeftBracket
+postfix_kind form.Field = k.Dot
+
+postfix_is : (kind : Kind) (f : Postfix) → postfix_of kind ≡ Some f → kind ≡ postfix_kind f
+postfix_is k.Prime form.Prime h = refl
+postfix_is k.LeftBracket form.Index h = refl
+postfix_is k.Dot form.Field h = refl
+postfix_is _ _ h = absurd (let z : ⊥ = cc in z)
 
 module _ (ts : List Token) where
   kind_by : (column at : ℕ) (kind : Kind) (o : Option Token) → seen ts column at ≡ o → kind_at kind o ≡ true → Has ts column kind at
@@ -85,6 +113,13 @@ module _ (ts : List Token) where
 
   pub has_name : (text : List ℕ) (column at : ℕ) (t : Token) → name_at (seen ts column at) ≡ Some t → Writes ts text column k.Name (written text t) at
   has_name text column at t h = let w = name_is (seen ts column at) t h in (t, w.0, w.1, refl)
+
+  postfix_by : (column at : ℕ) (f : Postfix) (o : Option Token) → seen ts column at ≡ o → postfix_at o ≡ Some f → Has ts column (postfix_kind f) at
+  postfix_by column at f None e h = absurd (let z : ⊥ = cc in z)
+  postfix_by column at f (Some t) e h = (t, e, postfix_is t.kind f h)
+
+  pub has_postfix : (column at : ℕ) (f : Postfix) → postfix_at (seen ts column at) ≡ Some f → Has ts column (postfix_kind f) at
+  has_postfix column at f h = postfix_by column at f (seen ts column at) refl h
 
   -- the operator that a climb sees
   infix_by : (column floor at : ℕ) (op : Infix) (t : Token) (o : Option Infix) → seen ts column at ≡ Some t → infix_of t.kind ≡ o → above floor o ≡ Some op
@@ -121,3 +156,11 @@ module _ (ts : List Token) where
   first_bullet column at t b e h =
       let s = right_is column (slice_get ts at) t e in
       rw (s, h, same_refl b, eq-eqb t.place.column t.place.column refl) refl
+
+  -- a token of this kind stands here
+  pub kind_stands : (column at : ℕ) (kind : Kind) → kind_at kind (seen ts column at) ≡ true → KindAt ts at kind
+  kind_stands column at kind h = let w = has_kind column at kind h in (w.0, seen_is column at w.0 w.1, w.2)
+
+  -- one name more
+  pub commas_more : (n m from at : ℕ) → m ≡ n + 1 → Commas ts n from at → KindAt ts at k.Name → KindAt ts (at + 1) k.Comma → Commas ts m from (at + 2)
+  commas_more n m from at h x y z = rw (h, add-one) (at, x, y, z, refl)

@@ -1,17 +1,21 @@
 -- The left edge of a tree, and that what a tree spells goes forward.
-use Rattle.std.proofs.Common.{◌≡◌, ℕ, ◌+◌, ◌-◌, ◌<◌, ◌≤◌, true, false, not, slice_get, length, List, arith, refl}
+use Rattle.std.proofs.Common.{◌≡◌, ℕ, ◌+◌, ◌-◌, ◌<◌, ◌≤◌, true, false, not, slice_get, length, List, [], ◌∷◌, arith, refl}
 use Rattle.std.proofs.lemmas.Bool.{ltb-true, lt-ltb}
 use Rattle.tla_lex.specs.declared.token.Token.{Token}
+use Rattle.tla_lex.specs.declared.token.Kind.{Kind}
+use Rattle.tla_lex.specs.declared.token.Kind.TheVariants as k
 use Rattle.tla_parse.specs.declared.scope.Scope.{Scope}
 use Rattle.tla_parse.specs.declared.tree.Infix.{Infix}
 use Rattle.tla_parse.specs.declared.tree.Bullet.{Bullet}
-use Rattle.tla_parse.specs.Tree.{Tree, Trees, none, more, Name, Number, Word, At, Paren, Prime, Unary, Binary, Quantified, If, Junction}
+use Rattle.tla_parse.specs.Tree.{Tree, Trees, Binders, Arms, Other, Definition, Definitions, none, more, unbound, bound, no_arms, arm, no_other, other, DefinesOperator, DefinesFunction, undefined, defined, Case, Let, Name, Number, Text, Word, At, Paren, Listing, Call, Prime, Index, Field, Unary, Binary, Quantified, Choose, If, Junction}
 use Rattle.tla_parse.specs.Operators.{low}
 use Rattle.tla_parse.specs.Edges.{yields, edge_allows, top_above, depth}
+use Rattle.tla_parse.specs.Kinds.{closing}
 use Rattle.tla_parse.specs.Tokens.{is_bullet_at, may_follow}
-use Rattle.tla_parse.specs.Grammar.{Spells, Items, within}
+use Rattle.tla_parse.specs.Grammar.{Spells, Items, Listed, Others, Bound, MoreBound, Chosen, MoreChosen, Otherwise, Defines, Defined, within}
 use Rattle.tla_parse.proofs.Inversion.{and_true, first_bullet}
 use Rattle.tla_parse.proofs.Steps.{bullet_within}
+use Rattle.tla_parse.proofs.NameLists.{names_fit}
 use Rattle.tla_parse.proofs.Follow.{low_some, yields_low, not_true}
 
 -- how many infix forms lie on the left edge
@@ -23,6 +27,19 @@ pub spine_depth : (t : Tree) → spine t < depth t
 spine_depth (Binary at op w l r) = let h = spine_depth l in omega (arith, h)
 spine_depth (Name _) = omega arith
 spine_depth _ = omega arith
+
+-- how many postfix forms
+abbrev pub tails : Tree → ℕ
+tails (Prime _ e) = tails e + 1
+tails (Index _ e _) = tails e + 1
+tails (Field _ e _) = tails e + 1
+tails _ = 0
+
+pub tails_depth : (t : Tree) → tails t < depth t
+tails_depth (Prime at e) = let h = tails_depth e in omega (arith, h)
+tails_depth (Index at e es) = let h = tails_depth e in omega (arith, h)
+tails_depth (Field at e w) = let h = tails_depth e in omega (arith, h)
+tails_depth _ = omega arith
 
 -- the top of a left operand is above what its operator is above
 pub left_top : (floor : ℕ) (l : Tree) (op : Infix) → edge_allows l op ≡ true → floor < low op → top_above floor l ≡ true
@@ -53,14 +70,22 @@ module _ (text : List ℕ) (ts : List Token) where
     pub advances : (t : Tree) (s : Scope) (from to : ℕ) → Spells text ts s t from to → from < to
     advances (Name w) s from to x = omega (arith, x.1)
     advances (Number p n) s from to x = omega (arith, x.1)
+    advances (Text p y) s from to x = omega (arith, x.5)
     advances (Word p c) s from to x = omega (arith, x.3)
     advances (At p) s from to x = omega (arith, x.2)
     advances (Paren p e) s from to x = let h = advances e s (from + 1) x.0 x.2 in omega (arith, h, x.4)
+    advances (Listing p b es) s from to x = let h = listed_advance es s (closing b) (from + 1) to x.1 in omega (arith, h)
+    advances (Call w es) s from to x = let h = listed_advance es s k.RightParen (from + 2) to x.2 in omega (arith, h)
     advances (Prime p e) s from to x = let h = advances e s from x.0 x.1 in omega (arith, h, x.5)
+    advances (Index p e es) s from to x = let h = advances e s from x.0 x.1 in let g = listed_advance es s k.RightBracket (x.0 + 1) to x.3 in omega (arith, h, g)
+    advances (Field p e w) s from to x = let h = advances e s from x.0 x.1 in omega (arith, h, x.6)
     advances (Unary p op e) s from to x = let h = advances e s (from + 1) to x.3 in omega (arith, h)
     advances (Binary p op w l r) s from to x = let h = advances l s from x.0 x.2 in let g = advances r s (x.0 + 1) to x.5 in omega (arith, h, g)
-    advances (Quantified p q w a b) s from to x = let h = advances a s (from + 3) x.0 x.6 in let g = advances b s (x.0 + 1) to x.8 in omega (arith, h, g)
+    advances (Quantified p q bs b) s from to x = let h = bound_advance bs s (from + 1) x.0 x.4 in let g = advances b s (x.0 + 1) to x.6 in omega (arith, h, g)
+    advances (Choose p w a b) s from to x = let h = advances a s (from + 3) x.0 x.4 in let g = advances b s (x.0 + 1) to x.6 in omega (arith, h, g)
     advances (If p a b e) s from to x = let h = advances a s (from + 1) x.0 x.3 in let g = advances b s (x.0 + 1) x.1 x.5 in let f = advances e s (x.1 + 1) to x.7 in omega (arith, h, g, f)
+    advances (Case p cs o) s from to x = let h = chosen_advance cs s (from + 1) x.0 x.2 in let g = otherwise_rise o s x.0 to x.3 in omega (arith, h, g)
+    advances (Let p ds e) s from to x = let h = defined_rise ds s (from + 1) x.0 x.2 in let g = advances e s (x.0 + 1) to x.4 in omega (arith, h, g)
     advances (Junction p b es) s from to x =
         let t = x.1.0 in
         let f = first_bullet ts s.column from t b x.1.1 (rw x.1.2 x.2) in
@@ -74,6 +99,55 @@ module _ (text : List ℕ) (ts : List Token) where
     items_rise : (es : Trees) (s : Scope) (b : Bullet) (from to : ℕ) → Items text ts s b es from to → from ≤ to
     items_rise none s b from to x = omega (arith, x)
     items_rise (more e es) s b from to x = let g = advances e s (from + 1) x.0 x.2 in let r = items_rise es s b x.0 to x.3 in omega (arith, g, r)
+
+    listed_advance : (es : Trees) (s : Scope) (close : Kind) (from to : ℕ) → Listed text ts s close es from to → from < to
+    listed_advance none s close from to x = omega (arith, x.1)
+    listed_advance (more e es) s close from to x = let g = advances e s from x.0 x.1 in let r = others_advance es s close x.0 to x.2 in omega (arith, g, r)
+
+    others_advance : (es : Trees) (s : Scope) (close : Kind) (from to : ℕ) → Others text ts s close es from to → from < to
+    others_advance none s close from to x = omega (arith, x.1)
+    others_advance (more e es) s close from to x = let g = advances e s (from + 1) x.0 x.2 in let r = others_advance es s close x.0 to x.3 in omega (arith, g, r)
+
+    bound_advance : (bs : Binders) (s : Scope) (from to : ℕ) → Bound text ts s bs from to → from < to
+    bound_advance unbound s from to x = absurd x
+    bound_advance (bound ws e bs) s from to x =
+        let n = names_fit text ts ws s.column from x.0 x.2 in
+        let g = advances e s (x.0 + 1) x.1 x.4 in
+        let r = bound_rise bs s x.1 to x.5 in omega (arith, n, g, r)
+
+    bound_rise : (bs : Binders) (s : Scope) (from to : ℕ) → MoreBound text ts s bs from to → from ≤ to
+    bound_rise unbound s from to x = omega (arith, x)
+    bound_rise (bound ws e bs) s from to x =
+        let n = names_fit text ts ws s.column (from + 1) x.0 x.3 in
+        let g = advances e s (x.0 + 1) x.1 x.5 in
+        let r = bound_rise bs s x.1 to x.6 in omega (arith, n, g, r)
+
+    chosen_advance : (cs : Arms) (s : Scope) (from to : ℕ) → Chosen text ts s cs from to → from < to
+    chosen_advance no_arms s from to x = absurd x
+    chosen_advance (arm g e cs) s from to x =
+        let h = advances g s from x.0 x.2 in
+        let i = advances e s (x.0 + 1) x.1 x.4 in
+        let r = chosen_rise cs s x.1 to x.5 in omega (arith, h, i, r)
+
+    chosen_rise : (cs : Arms) (s : Scope) (from to : ℕ) → MoreChosen text ts s cs from to → from ≤ to
+    chosen_rise no_arms s from to x = omega (arith, x)
+    chosen_rise (arm g e cs) s from to x =
+        let h = advances g s (from + 1) x.0 x.3 in
+        let i = advances e s (x.0 + 1) x.1 x.5 in
+        let r = chosen_rise cs s x.1 to x.6 in omega (arith, h, i, r)
+
+    otherwise_rise : (o : Other) (s : Scope) (from to : ℕ) → Otherwise text ts s o from to → from ≤ to
+    otherwise_rise no_other s from to x = omega (arith, x.1)
+    otherwise_rise (other e) s from to x = let h = advances e s (from + 3) to x.3 in omega (arith, h)
+
+    pub defines_advance : (d : Definition) (s : Scope) (from to : ℕ) → Defines text ts s d from to → from < to
+    defines_advance (DefinesOperator w [] e) s from to x = let h = advances e s (from + 2) to x.2 in omega (arith, h)
+    defines_advance (DefinesOperator w (v ∷ vs) e) s from to x = let n = names_fit text ts (v ∷ vs) s.column (from + 2) x.0 x.3 in let h = advances e s (x.0 + 2) to x.6 in omega (arith, n, h)
+    defines_advance (DefinesFunction w bs e) s from to x = let n = bound_advance bs s (from + 2) x.0 x.3 in let h = advances e s (x.0 + 2) to x.6 in omega (arith, n, h)
+
+    defined_rise : (ds : Definitions) (s : Scope) (from to : ℕ) → Defined text ts s ds from to → from ≤ to
+    defined_rise undefined s from to x = omega (arith, x)
+    defined_rise (defined d ds) s from to x = let h = defines_advance d s from x.0 x.1 in let r = defined_rise ds s x.0 to x.2 in omega (arith, h, r)
 
   pub items_fit : (es : Trees) (s : Scope) (b : Bullet) (from to : ℕ) → Items text ts s b es from to → count es ≤ length ts - from
   items_fit none s b from to x = omega arith

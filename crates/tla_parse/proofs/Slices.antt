@@ -1,5 +1,6 @@
 -- Slices that are cut where the text ends.
 use Rattle.std.proofs.Common.{◌≡◌, ℕ, ◌-◌, ◌<◌, ◌≤◌, min, inl, inr, List, [], length, take, drop, ap, sym, ◌∙◌, refl, arith}
+use Rattle.tla_lex.specs.Strings.{string_text, unescaped}
 use Rattle.std.proofs.Math.ListN.{drop_of_length-le}
 use Rattle.std.proofs.lemmas.List.{take_all}
 use Rattle.std.proofs.lemmas.Bool.{cases_lt}
@@ -15,3 +16,8 @@ take_min n xs = elim (cases_lt n (length xs)) [
   | inl h ↦ (let e : min n (length xs) ≡ n = omega (arith, h) in ap (λ m. take m xs) e)
   | inr h ↦ (let e : min n (length xs) ≡ length xs = omega (arith, h) in ap (λ m. take m xs) e ∙ take_all (length xs) xs (omega arith) ∙ sym (take_all n xs h))
 ]
+
+-- a string of no bytes has no text
+pub no_text : (xs : List ℕ) → xs ≡ [] → string_text xs ≡ []
+unfolding unescaped
+no_text xs e = rw e refl

@@ -1,5 +1,5 @@
 -- Units that are read are spelled so.
-use Rattle.std.proofs.Common.{◌≡◌, ℕ, zero, suc, ◌+◌, Bool, true, false, not, ◌&&◌, ◌||◌, inl, inr, IsTrue, nat_eq, length, List, [], ◌∷◌, ◌++◌, Some, Ok, Err, refl, ap, sym, ◌∙◌, subst, append_assoc, arith}
+use Rattle.std.proofs.Common.{◌≡◌, ℕ, zero, suc, ◌+◌, Bool, true, false, not, ◌&&◌, ◌||◌, inl, inr, IsTrue, nat_eq, length, List, [], ◌∷◌, ◌++◌, Some, None, Ok, Err, refl, ap, sym, ◌∙◌, subst, append_assoc, arith}
 use Rattle.std.specs.List.{list_all}
 use Rattle.std.proofs.lemmas.Bool.{eqb-true}
 use Rattle.std.proofs.lemmas.List.{append-nil}
@@ -8,41 +8,25 @@ use Rattle.tla_lex.specs.declared.token.Kind.{Kind}
 use Rattle.tla_lex.specs.declared.token.Kind.TheVariants as k
 use Rattle.tla_parse.specs.declared.word.Written.{Written}
 use Rattle.tla_parse.specs.Modules.{is_module}
-use Rattle.tla_parse.specs.Tokens.{seen, word_of, written, Has, Writes}
+use Rattle.tla_parse.specs.Tokens.{seen, word_of, written, Has, Writes, Names}
 use Rattle.tla_parse.specs.Kinds.{kind_at}
-use Rattle.tla_parse.specs.Units.{UnitTree, Separator, Extends, Variables, Operator, is_extends, is_separator, outermost, Names, SpellsUnit, Units, SpellsModule}
-use Rattle.tla_parse.specs.Reading.{Outcome, Refused, ◌>>=◌, at_op, need, name_at, expr}
-use Rattle.tla_parse.specs.UnitsReading.{names, modules, operator, unit_by, unit, units, whole}
-use Rattle.tla_parse.proofs.Inversion.{ok_to, bind_ok, need_ok, at_op_ok, choice_ok, has_kind, has_name}
+use Rattle.tla_parse.specs.Units.{UnitTree, Separator, Extends, Variables, Operator, Defines, Local, Constants, Assume, Theorem, Declared, Blanks, Declares, MoreDeclared, AllDeclared, Claims, is_extends, is_separator, outermost, SpellsUnit, Units, SpellsModule}
+use Rattle.tla_parse.specs.Outcome.{Outcome, Refused, ◌>>=◌, at_op, need}
+use Rattle.tla_parse.specs.Reading.{name_at, following, names, definition, expr}
+use Rattle.tla_parse.specs.UnitsReading.{Claim, modules, blanks, declared, constants, claim_name, claim, unit_of, unit_by, unit, units, whole}
+use Rattle.tla_parse.proofs.Inversion.{ok_to, bind_ok, need_ok, at_op_ok, choice_ok, and_true, has_kind, has_name}
+use Rattle.tla_parse.proofs.NameLists.{names_cons, names_sound}
+use Rattle.tla_parse.proofs.Sequence.{Behind, Follows, sequence_sound}
+use Rattle.tla_parse.proofs.Lists.{comma_is}
+use Rattle.tla_parse.proofs.SoundCase.{definition_sound}
 use Rattle.tla_parse.proofs.Sound.{expr_sound}
+use Rattle.tla_parse.specs.declared.tokens.Between.TheVariants as between
+use Rattle.tla_parse.specs.Grammar as Grammar
+use Rattle.tla_parse.specs.Tree.{Definition, DefinesOperator, DefinesFunction}
 
 module _ (text : List ℕ) (ts : List Token) where
-  names_cons : (column : ℕ) (w : Written) (ws : List Written) (at to : ℕ) → Writes ts text column k.Name w at → Has ts column k.Comma (at + 1) → Names text ts column ws (at + 2) to
-      → Names text ts column (w ∷ ws) at to
-  names_cons column w [] at to x c h = absurd h
-  names_cons column w (v ∷ ws) at to x c h = (x, c, h)
-
-  abbrev Named : ℕ → List Written → ℕ → List Written × ℕ → Type 0
-  Named column front at z = (ws : List Written) × (z.0 ≡ front ++ ws) × Names text ts column ws at z.1
-
-  names_sound : (n : ℕ) (front : List Written) (column at : ℕ) (z : List Written × ℕ) → names text ts n front column at ≡ Ok z → Named column front at z
-  unfolding names
-  names_sound zero front column at z h = absurd (let z : ⊥ = cc in z)
-  names_sound (suc n) front column at z h = elim (at_op_ok (name_at (seen ts column at)) (Err Refused) _ z h) [
-    | inl w ↦ absurd (let z : ⊥ = cc in z)
-    | inr w ↦
-        let x = has_name ts text column at w.0 w.1 in
-        let v = written text w.0 in
-        elim (choice_ok (kind_at k.Comma (seen ts column (at + 1))) (names text ts n (front ++ v ∷ []) column (at + 2)) (Ok (front ++ v ∷ [], at + 1)) (Ok z) w.2) [
-          | inl c ↦
-              let r = names_sound n (front ++ v ∷ []) column (at + 2) z c.1 in
-              (v ∷ r.0, r.1 ∙ append_assoc front (v ∷ []) r.0, names_cons column v r.0 at z.1 x (has_kind ts column (at + 1) k.Comma c.0) r.2)
-          | inr c ↦ ok_to (front ++ v ∷ [], at + 1) z c.1 (Named column front at) (v ∷ [], refl, (x, refl))
-        ]
-  ]
-
   abbrev Extended : List Written → ℕ → List Written × ℕ → Type 0
-  Extended front at z = (ws : List Written) × (z.0 ≡ front ++ ws) × Names text ts 0 ws at z.1 × (list_all (λ w. is_module w.word) ws ≡ true)
+  Extended front at z = (ws : List Written) × (z.0 ≡ front ++ ws) × Names ts text 0 ws at z.1 × (list_all (λ w. is_module w.word) ws ≡ true)
 
   modules_sound : (n : ℕ) (front : List Written) (at : ℕ) (z : List Written × ℕ) → modules text ts n front at ≡ Ok z → Extended front at z
   unfolding modules
@@ -56,7 +40,7 @@ module _ (text : List ℕ) (ts : List Token) where
         elim (choice_ok (kind_at k.Comma (seen ts 0 (at + 1))) (modules text ts n (front ++ v ∷ []) (at + 2)) (Ok (front ++ v ∷ [], at + 1)) (Ok z) m.1) [
           | inl c ↦
               let r = modules_sound n (front ++ v ∷ []) (at + 2) z c.1 in
-              (v ∷ r.0, r.1 ∙ append_assoc front (v ∷ []) r.0, names_cons 0 v r.0 at z.1 x (has_kind ts 0 (at + 1) k.Comma c.0) r.2, rw (m.0, r.3) refl)
+              (v ∷ r.0, r.1 ∙ append_assoc front (v ∷ []) r.0, names_cons text ts 0 v r.0 at z.1 x (has_kind ts 0 (at + 1) k.Comma c.0) r.2, rw (m.0, r.3) refl)
           | inr c ↦ ok_to (front ++ v ∷ [], at + 1) z c.1 (Extended front at) (v ∷ [], refl, (x, refl), rw m.0 refl)
         ]
   ]
@@ -64,13 +48,77 @@ module _ (text : List ℕ) (ts : List Token) where
   abbrev Spelled : ℕ → UnitTree × ℕ → Type 0
   Spelled at z = SpellsUnit text ts z.0 at z.1
 
-  operator_sound : (n : ℕ) (t : Token) (at : ℕ) (z : UnitTree × ℕ) → seen ts 0 at ≡ Some t → t.kind ≡ k.Name → operator text ts n t at ≡ Ok z → Spelled at z
-  unfolding operator
-  operator_sound n t at z i e h =
-      let d = need_ok (kind_at k.Define (seen ts 0 (at + 1))) _ z h in
-      let x = bind_ok (expr text ts n outermost 0 (at + 2)) _ z d.1 in
-      ok_to (Operator (written text t) x.0, x.1) z x.3 (Spelled at)
-      ((t, i, e, refl), has_kind ts 0 (at + 1) k.Define d.0, (expr_sound text ts n outermost 0 (at + 2) (x.0, x.1) x.2).0)
+  blanks_sound : (n count at : ℕ) (z : ℕ × ℕ) → blanks ts n count at ≡ z → (m : ℕ) × (z.0 ≡ count + m) × Blanks text ts m at z.1
+  unfolding blanks
+  blanks_sound zero count at z h = subst (λ (v : ℕ × ℕ). (m : ℕ) × (v.0 ≡ count + m) × Blanks text ts m at v.1) h (0, omega arith, refl)
+  blanks_sound (suc n) count at z h = elim (choice_ok (kind_at k.Comma (seen ts 0 at) && kind_at k.Underscore (seen ts 0 (at + 1))) (blanks ts n (count + 1) (at + 2)) (count, at) z h) [
+    | inl w ↦
+        let a = and_true (kind_at k.Comma (seen ts 0 at)) (kind_at k.Underscore (seen ts 0 (at + 1))) w.0 in
+        let r = blanks_sound n (count + 1) (at + 2) z w.1 in
+        let e = r.1 in
+        (suc r.0, omega (arith, e), (has_kind ts 0 at k.Comma a.0, has_kind ts 0 (at + 1) k.Underscore a.1, r.2))
+    | inr w ↦ subst (λ (v : ℕ × ℕ). (m : ℕ) × (v.0 ≡ count + m) × Blanks text ts m at v.1) w.1 (0, omega arith, refl)
+  ]
+
+  abbrev Declaring : Declared → ℕ → ℕ → Type 0
+  Declaring d from to = Declares text ts d.0 d.1 from to
+
+  declared_by : (w : Written) (count m : ℕ) (from to : ℕ) → count ≡ 1 + m → Declares text ts w (suc m) from to → Declares text ts w count from to
+  declared_by w count m from to e x = let e' : count ≡ suc m = omega (arith, e) in rw e' x
+
+  declared_sound : (at : ℕ) (d : Declared) (to : ℕ) → declared text ts at ≡ Ok (d, to) → Declaring d at to
+  unfolding declared
+  declared_sound at d to h = elim (at_op_ok (name_at (seen ts 0 at)) (Err Refused) _ (d, to) h) [
+    | inl w ↦ absurd (let z : ⊥ = cc in z)
+    | inr w ↦
+        let x = has_name ts text 0 at w.0 w.1 in
+        elim (choice_ok (kind_at k.LeftParen (seen ts 0 (at + 1))) _ (Ok ((written text w.0, 0), at + 1)) (Ok (d, to)) w.2) [
+          | inl c ↦
+              let u = need_ok (kind_at k.Underscore (seen ts 0 (at + 2))) _ (d, to) c.1 in
+              let y = blanks ts (length ts) 1 (at + 3) in
+              let p = need_ok (kind_at k.RightParen (seen ts 0 y.1)) _ (d, to) u.1 in
+              let r = blanks_sound (length ts) 1 (at + 3) y refl in
+              ok_to ((written text w.0, y.0), y.1 + 1) (d, to) p.1 (λ v. Declares text ts v.0.0 v.0.1 at v.1)
+              (declared_by (written text w.0) y.0 r.0 at (y.1 + 1) r.1 (y.1, x, has_kind ts 0 (at + 1) k.LeftParen c.0, has_kind ts 0 (at + 2) k.Underscore u.0, r.2, has_kind ts 0 y.1 k.RightParen p.0, refl))
+          | inr c ↦ ok_to ((written text w.0, 0), at + 1) (d, to) c.1 (λ v. Declares text ts v.0.0 v.0.1 at v.1) (x, refl)
+        ]
+  ]
+
+  more_declared_of : (ds : List Declared) (from to : ℕ) → Behind Declaring (following ts 0 between.Comma) ds from to → MoreDeclared text ts ds from to
+  more_declared_of [] from to x = x.1
+  more_declared_of (d ∷ ds) from to x =
+      let c = comma_is text ts 0 from x.0 x.2 in
+      (x.1, c.0, rw (← c.1) x.3, more_declared_of ds x.1 to x.4)
+
+  declared_of : (ds : List Declared) (from to : ℕ) → Follows Declaring (following ts 0 between.Comma) ds from to → AllDeclared text ts ds from to
+  declared_of [] from to x = absurd x
+  declared_of (d ∷ ds) from to x = (x.0, x.1, more_declared_of ds x.0 to x.2)
+
+  claim_is : (at : ℕ) (t : Token) → claim_name ts at ≡ Some t → Writes ts text 0 k.Name (written text t) at × Has ts 0 k.Define (at + 1)
+  claim_is at t h = elim (choice_ok (kind_at k.Define (seen ts 0 (at + 1))) (name_at (seen ts 0 at)) None (Some t) h) [
+    | inl w ↦ (has_name ts text 0 at t w.1, has_kind ts 0 (at + 1) k.Define w.0)
+    | inr w ↦ absurd (let z : ⊥ = cc in z)
+  ]
+
+  claim_sound : (n at : ℕ) (z : Claim × ℕ) → claim text ts n at ≡ Ok z → Claims text ts z.0.0 z.0.1 at z.1
+  unfolding claim
+  claim_sound n at z h = elim (at_op_ok (claim_name ts at) _ _ z h) [
+    | inl w ↦
+        let x = bind_ok (expr text ts n outermost 0 at) _ z w.1 in
+        ok_to ((None, x.0), x.1) z x.3 (λ v. Claims text ts v.0.0 v.0.1 at v.1) (expr_sound text ts n outermost 0 at (x.0, x.1) x.2).0
+    | inr w ↦
+        let x = bind_ok (expr text ts n outermost 0 (at + 2)) _ z w.2 in
+        let c = claim_is at w.0 w.1 in
+        ok_to ((Some (written text w.0), x.0), x.1) z x.3 (λ v. Claims text ts v.0.0 v.0.1 at v.1) (c.0, c.1, (expr_sound text ts n outermost 0 (at + 2) (x.0, x.1) x.2).0)
+  ]
+
+  unit_of_sound : (d : Definition) (from to : ℕ) → Grammar.Defines text ts outermost d from to → SpellsUnit text ts (unit_of d) from to
+  unit_of_sound (DefinesOperator w [] e) from to x = x
+  unit_of_sound (DefinesOperator w (v ∷ vs) e) from to x = (x, refl)
+  unit_of_sound (DefinesFunction w bs e) from to x = (x, refl)
+
+  defines_sound : (n at : ℕ) (d : Definition) (to : ℕ) → definition text ts (expr text ts n) outermost at ≡ Ok (d, to) → Grammar.Defines text ts outermost d at to
+  defines_sound n at d to h = definition_sound text ts (expr text ts n) (expr_sound text ts n) outermost at d to h
 
   by_sound : (n : ℕ) (t : Token) (at : ℕ) (kind : Kind) (z : UnitTree × ℕ) → seen ts 0 at ≡ Some t → t.kind ≡ kind → unit_by text ts n t at kind ≡ Ok z → Spelled at z
   by_sound n t at k.Separator z i e h = ok_to (Separator t.place, at + 1) z h (Spelled at) ((t, i, e, refl), refl)
@@ -80,9 +128,24 @@ module _ (text : List ℕ) (ts : List Token) where
       ok_to (Extends t.place x.0, x.1) z x.3 (Spelled at) ((t, i, e, refl), rw r.1 r.2, rw r.1 r.3)
   by_sound n t at k.Variable z i e h =
       let x = bind_ok (names text ts (length ts) [] 0 (at + 1)) _ z h in
-      let r = names_sound (length ts) [] 0 (at + 1) (x.0, x.1) x.2 in
+      let r = names_sound text ts (length ts) [] 0 (at + 1) (x.0, x.1) x.2 in
       ok_to (Variables t.place x.0, x.1) z x.3 (Spelled at) ((t, i, e, refl), rw r.1 r.2)
-  by_sound n t at k.Name z i e h = operator_sound n t at z i e h
+  by_sound n t at k.Name z i e h =
+      let x = bind_ok (definition text ts (expr text ts n) outermost at) _ z h in
+      ok_to (unit_of x.0, x.1) z x.3 (Spelled at) (unit_of_sound x.0 at x.1 (defines_sound n at x.0 x.1 x.2))
+  by_sound n t at k.Local z i e h =
+      let x = bind_ok (definition text ts (expr text ts n) outermost (at + 1)) _ z h in
+      ok_to (Local t.place x.0, x.1) z x.3 (Spelled at) ((t, i, e, refl), defines_sound n (at + 1) x.0 x.1 x.2)
+  by_sound n t at k.Constant z i e h =
+      let x = bind_ok (constants text ts (length ts) [] (at + 1)) _ z h in
+      let r = sequence_sound Declaring (following ts 0 between.Comma) (declared text ts) declared_sound (length ts) [] (at + 1) (x.0, x.1) x.2 in
+      ok_to (Constants t.place x.0, x.1) z x.3 (Spelled at) ((t, i, e, refl), rw r.1 (declared_of r.0 (at + 1) x.1 r.2))
+  by_sound n t at k.Assume z i e h =
+      let x = bind_ok (claim text ts n (at + 1)) _ z h in
+      ok_to (Assume t.place x.0.0 x.0.1, x.1) z x.3 (Spelled at) ((t, i, e, refl), claim_sound n (at + 1) (x.0, x.1) x.2)
+  by_sound n t at k.Theorem z i e h =
+      let x = bind_ok (claim text ts n (at + 1)) _ z h in
+      ok_to (Theorem t.place x.0.0 x.0.1, x.1) z x.3 (Spelled at) ((t, i, e, refl), claim_sound n (at + 1) (x.0, x.1) x.2)
   by_sound n t at _ z i e h = absurd (let z : ⊥ = cc in z)
 
   unit_sound : (n at : ℕ) (z : UnitTree × ℕ) → unit text ts n at ≡ Ok z → Spelled at z

@@ -7,35 +7,32 @@ use Rattle.tla_parse.specs.LeftOut.{KindAt, IsExtended}
 use Rattle.tla_parse.specs.declared.word.Written.{Written}
 use Rattle.tla_parse.specs.declared.refusal.Refusal.{Refusal}
 use Rattle.tla_parse.specs.Gives.{Fails}
-use Rattle.tla_parse.proofs.Steps.{fails_bind}
+use Rattle.tla_parse.proofs.Fails.{fails_bind}
 use Rattle.tla_parse.specs.declared.units.Unit.{Unit}
 use Rattle.tla_parse.specs.UnitsView.{unit_view}
 use Rattle.tla_parse.specs.Modules.{is_module}
 use Rattle.tla_parse.specs.Tokens.{seen, word_of, written}
 use Rattle.tla_parse.specs.Kinds.{kind_at}
-use Rattle.tla_parse.specs.Reading.{Outcome, Refused, ◌>>=◌, need, name_at}
+use Rattle.tla_parse.specs.Outcome.{Outcome, Refused, ◌>>=◌, need}
+use Rattle.tla_parse.specs.Reading.{name_at}
 use Rattle.tla_parse.specs.Units.{UnitTree, is_extends, is_separator, unit_depth, units_depth}
-use Rattle.tla_parse.specs.UnitsReading.{names, modules, unit_by, unit, units}
+use Rattle.tla_parse.specs.UnitsReading.{modules, blanks, unit_by, unit, units}
+
+-- kinds of tokens that begin a unit
+abbrev Not : Kind → Kind → Type 0
+Not kind other = kind ≡ other → ⊥
+
+pub record BeginsNone (kind : Kind) : Type 0 where
+  pub not_name : Not kind k.Name
+  pub not_separator : Not kind k.Separator
+  pub not_extends : Not kind k.Extends
+  pub not_variable : Not kind k.Variable
+  pub not_local : Not kind k.Local
+  pub not_constant : Not kind k.Constant
+  pub not_assume : Not kind k.Assume
+  pub not_theorem : Not kind k.Theorem
 
 module _ (text : List ℕ) (ts : List Token) where
-  pub names_more : (n m : ℕ) (front : List Written) (column at : ℕ) (t : Token) → n ≡ m + 1 → name_at (seen ts column at) ≡ Some t → kind_at k.Comma (seen ts column (at + 1)) ≡ true
-      → names text ts n front column at ≡ names text ts m (front ++ written text t ∷ []) column (at + 2)
-  unfolding names
-  names_more n m front column at t h p q = rw (h, add-one, p, q) refl
-
-  pub names_last : (n m : ℕ) (front : List Written) (column at : ℕ) (t : Token) → n ≡ m + 1 → name_at (seen ts column at) ≡ Some t → kind_at k.Comma (seen ts column (at + 1)) ≡ false
-      → names text ts n front column at ≡ Ok (front ++ written text t ∷ [], at + 1)
-  unfolding names
-  names_last n m front column at t h p q = rw (h, add-one, p, q) refl
-
-  pub names_none : (n m : ℕ) (front : List Written) (column at : ℕ) → n ≡ m + 1 → name_at (seen ts column at) ≡ None → names text ts n front column at ≡ Err Refused
-  unfolding names
-  names_none n m front column at h p = rw (h, add-one, p) refl
-
-  pub names_full : (n : ℕ) (front : List Written) (column at : ℕ) → n ≡ 0 → names text ts n front column at ≡ Err Refused
-  unfolding names
-  names_full n front column at z = rw z refl
-
   pub modules_more : (n m : ℕ) (front : List Written) (at : ℕ) (t : Token) → n ≡ m + 1 → name_at (seen ts 0 at) ≡ Some t → is_module (word_of text t) ≡ true
       → kind_at k.Comma (seen ts 0 (at + 1)) ≡ true → modules text ts n front at ≡ modules text ts m (front ++ written text t ∷ []) (at + 2)
   unfolding modules
@@ -59,18 +56,33 @@ module _ (text : List ℕ) (ts : List Token) where
   unfolding modules
   modules_full n front at z = rw z refl
 
-  other_by : (n : ℕ) (t : Token) (at : ℕ) (kind : Kind) → (kind ≡ k.Name → ⊥) → (kind ≡ k.Separator → ⊥) → (kind ≡ k.Extends → ⊥) → (kind ≡ k.Variable → ⊥) → unit_by text ts n t at kind ≡ Err Refused
-  other_by n t at k.Name a b c d = absurd (a refl)
-  other_by n t at k.Separator a b c d = absurd (b refl)
-  other_by n t at k.Extends a b c d = absurd (c refl)
-  other_by n t at k.Variable a b c d = absurd (d refl)
-  other_by n t at _ a b c d = refl
+  pub blanks_more : (n m count at : ℕ) → n ≡ m + 1 → (kind_at k.Comma (seen ts 0 at) && kind_at k.Underscore (seen ts 0 (at + 1))) ≡ true → blanks ts n count at ≡ blanks ts m (count + 1) (at + 2)
+  unfolding blanks
+  blanks_more n m count at h p = rw (h, add-one, p) refl
+
+  pub blanks_last : (n m count at : ℕ) → n ≡ m + 1 → (kind_at k.Comma (seen ts 0 at) && kind_at k.Underscore (seen ts 0 (at + 1))) ≡ false → ◌≡◌ {A = ℕ × ℕ} (blanks ts n count at) (count, at)
+  unfolding blanks
+  blanks_last n m count at h p = rw (h, add-one, p) refl
+
+  pub blanks_full : (n count at : ℕ) → n ≡ 0 → ◌≡◌ {A = ℕ × ℕ} (blanks ts n count at) (count, at)
+  unfolding blanks
+  blanks_full n count at z = rw z refl
+
+  other_by : (n : ℕ) (t : Token) (at : ℕ) (kind : Kind) → BeginsNone kind → unit_by text ts n t at kind ≡ Err Refused
+  other_by n t at k.Name b = absurd (b.not_name refl)
+  other_by n t at k.Separator b = absurd (b.not_separator refl)
+  other_by n t at k.Extends b = absurd (b.not_extends refl)
+  other_by n t at k.Variable b = absurd (b.not_variable refl)
+  other_by n t at k.Local b = absurd (b.not_local refl)
+  other_by n t at k.Constant b = absurd (b.not_constant refl)
+  other_by n t at k.Assume b = absurd (b.not_assume refl)
+  other_by n t at k.Theorem b = absurd (b.not_theorem refl)
+  other_by n t at _ b = refl
 
   -- a token that begins no unit
-  pub unit_other : (n : ℕ) (t : Token) (at : ℕ) → seen ts 0 at ≡ Some t → (t.kind ≡ k.Name → ⊥) → (t.kind ≡ k.Separator → ⊥) → (t.kind ≡ k.Extends → ⊥) → (t.kind ≡ k.Variable → ⊥)
-      → unit text ts n at ≡ Err Refused
+  pub unit_other : (n : ℕ) (t : Token) (at : ℕ) → seen ts 0 at ≡ Some t → BeginsNone t.kind → unit text ts n at ≡ Err Refused
   unfolding unit
-  unit_other n t at h a b c d = rw h (other_by n t at t.kind a b c d)
+  unit_other n t at h b = rw h (other_by n t at t.kind b)
 
   -- one name more under EXTENDS
   pub extended_more : (n m at : ℕ) → m ≡ n + 1 → IsExtended ts n at → KindAt ts at k.Name → KindAt ts (at + 1) k.Comma → IsExtended ts m (at + 2)

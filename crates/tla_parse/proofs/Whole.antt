@@ -6,11 +6,12 @@ use Rattle.tla_lex.specs.declared.token.Kind.TheVariants as k
 use Rattle.tla_parse.specs.Tokens.{seen}
 use Rattle.tla_parse.specs.Kinds.{kind_at}
 use Rattle.tla_parse.specs.Units.{UnitTree, is_extends, is_separator, units_depth, outermost, SpellsModule}
-use Rattle.tla_parse.specs.Reading.{Outcome, Refused, Nested, ◌>>=◌, expr}
-use Rattle.tla_parse.specs.UnitsReading.{names, modules, operator, unit_by, unit, units, whole}
+use Rattle.tla_parse.specs.Outcome.{Outcome, Refused, Nested, ◌>>=◌}
+use Rattle.tla_parse.specs.Reading.{definition, expr}
+use Rattle.tla_parse.specs.UnitsReading.{claim_name, claim, unit_by, unit, units, whole}
 use Rattle.tla_parse.specs.Parsing.{NoneSpells, NoneSpellsWithin}
 use Rattle.tla_parse.proofs.Inversion.{ok_to}
-use Rattle.tla_parse.proofs.Deeper.{Refines, bind, needs, ops, choices, deeper}
+use Rattle.tla_parse.proofs.Deeper.{Refines, bind, needs, ops, choices, definition_deeper, deeper}
 use Rattle.tla_parse.proofs.UnitsSound.{module_sound}
 use Rattle.tla_parse.proofs.UnitsComplete.{module_complete}
 
@@ -23,12 +24,20 @@ refused_steady f d n (suc m) h =
     rw e (elim (d (m + n)) [ inl w ↦ absurd (let z : ⊥ = cc in z) | inr w ↦ sym w ∙ i ])
 
 module _ (text : List ℕ) (ts : List Token) where
-  operators : (n : ℕ) (t : Token) (at : ℕ) → Refines (operator text ts n t at) (operator text ts (suc n) t at)
-  unfolding operator
-  operators n t at = needs (kind_at k.Define (seen ts 0 (at + 1))) _ _ (bind (expr text ts n outermost 0 (at + 2)) (expr text ts (suc n) outermost 0 (at + 2)) _ _ (deeper text ts n outermost 0 (at + 2)) (λ e end. inr refl))
+  definitions : (n at : ℕ) → Refines (definition text ts (expr text ts n) outermost at) (definition text ts (expr text ts (suc n)) outermost at)
+  definitions n at = definition_deeper text ts (expr text ts n) (expr text ts (suc n)) (deeper text ts n) outermost at
+
+  claims : (n at : ℕ) → Refines (claim text ts n at) (claim text ts (suc n) at)
+  unfolding claim
+  claims n at = ops (claim_name ts at) _ _ _ _
+      (bind (expr text ts n outermost 0 at) (expr text ts (suc n) outermost 0 at) _ _ (deeper text ts n outermost 0 at) (λ e end. inr refl))
+      (λ t. bind (expr text ts n outermost 0 (at + 2)) (expr text ts (suc n) outermost 0 (at + 2)) _ _ (deeper text ts n outermost 0 (at + 2)) (λ e end. inr refl))
 
   kinds : (n : ℕ) (t : Token) (at : ℕ) (kind : Kind) → Refines (unit_by text ts n t at kind) (unit_by text ts (suc n) t at kind)
-  kinds n t at k.Name = operators n t at
+  kinds n t at k.Name = bind (definition text ts (expr text ts n) outermost at) (definition text ts (expr text ts (suc n)) outermost at) _ _ (definitions n at) (λ d end. inr refl)
+  kinds n t at k.Local = bind (definition text ts (expr text ts n) outermost (at + 1)) (definition text ts (expr text ts (suc n)) outermost (at + 1)) _ _ (definitions n (at + 1)) (λ d end. inr refl)
+  kinds n t at k.Assume = bind (claim text ts n (at + 1)) (claim text ts (suc n) (at + 1)) _ _ (claims n (at + 1)) (λ c end. inr refl)
+  kinds n t at k.Theorem = bind (claim text ts n (at + 1)) (claim text ts (suc n) (at + 1)) _ _ (claims n (at + 1)) (λ c end. inr refl)
   kinds n t at _ = inr refl
 
   unit_deeper : (n at : ℕ) → Refines (unit text ts n at) (unit text ts (suc n) at)

@@ -5,7 +5,7 @@ use Rattle.tla_parse.specs.declared.scope.Scope.{Scope}
 use Rattle.tla_parse.specs.declared.tree.Infix.{Infix}
 use Rattle.tla_parse.specs.Operators.{low, infix_of}
 use Rattle.tla_parse.specs.Edges.{edge_allows, top_above}
-use Rattle.tla_parse.specs.Tokens.{seen, is_prime}
+use Rattle.tla_parse.specs.Tokens.{seen, is_suffix}
 use Rattle.tla_parse.specs.Tree.{Tree}
 use Rattle.tla_parse.specs.Grammar.{Spells}
 
@@ -22,10 +22,10 @@ abbrev pub allows : Tree → Option Infix → Bool
 allows t None = true
 allows t (Some op) = edge_allows t op
 
--- the token goes on with no operator that the tree's right edge refuses, and begins no postfix form
+-- the token goes on with no operator that the tree's right edge refuses, and begins no postfix form and no arguments
 abbrev pub may_end : Tree → Option Token → Bool
 may_end t None = true
-may_end t (Some u) = not (is_prime u.kind) && allows t (infix_of u.kind)
+may_end t (Some u) = not (is_suffix u.kind) && allows t (infix_of u.kind)
 
 -- An expression whose top is above a floor, before a token that doesn't go on with it.
 pub record EndsAt (text : List ℕ) (ts : List Token) (s : Scope) (floor : ℕ) (t : Tree) (from to : ℕ) : Type 0 where

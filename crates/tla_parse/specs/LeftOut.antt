@@ -3,8 +3,6 @@ use Rattle.std.specs.Prelude.{◌≡◌, ℕ, zero, suc, ◌+◌, Bool, true, fa
 use Rattle.tla_lex.specs.declared.token.Token.{Token}
 use Rattle.tla_lex.specs.declared.token.Kind.{Kind}
 use Rattle.tla_lex.specs.declared.token.Kind.TheVariants as k
-use Rattle.tla_parse.specs.declared.tree.Quantifier.{Quantifier}
-use Rattle.tla_parse.specs.Operators.{quantifier_of}
 use Rattle.tla_parse.specs.Tokens.{word_of}
 use Rattle.tla_parse.specs.Modules.{is_module}
 
@@ -29,22 +27,17 @@ is_left_out _ = false
 
 -- forms that are left out for now, by a token that begins them
 abbrev pub is_not_yet_read : Kind → Bool
-is_not_yet_read k.Text = true
 is_not_yet_read k.WeakFairness = true
 is_not_yet_read k.StrongFairness = true
 is_not_yet_read k.LeftBracket = true
-is_not_yet_read k.LeftBrace = true
-is_not_yet_read k.LeftTuple = true
-is_not_yet_read k.Dot = true
 is_not_yet_read k.Product = true
-is_not_yet_read k.Case = true
-is_not_yet_read k.Choose = true
-is_not_yet_read k.Let = true
-is_not_yet_read k.Assume = true
-is_not_yet_read k.Constant = true
-is_not_yet_read k.Local = true
-is_not_yet_read k.Theorem = true
 is_not_yet_read _ = false
+
+abbrev pub is_binding : Kind → Bool
+is_binding k.ForAll = true
+is_binding k.Exists = true
+is_binding k.Choose = true
+is_binding _ = false
 
 module _ (ts : List Token) where
   -- a token of this kind has this number
@@ -55,9 +48,18 @@ module _ (ts : List Token) where
   abbrev pub IsWordLeftOut : ℕ → Type 0
   IsWordLeftOut at = (t : Token) × (slice_get ts at ≡ Some t) × IsTrue (is_left_out t.kind || is_not_yet_read t.kind)
 
-  -- a quantifier over a name without a set
+  -- so many names from the first number up to the second, each with a comma behind it
+  abbrev pub Commas : ℕ → ℕ → ℕ → Type 0
+  Commas zero from at = at ≡ from
+  Commas (suc n) from at = (before : ℕ) × Commas n from before × KindAt before k.Name × KindAt (before + 1) k.Comma × (at ≡ before + 2)
+
+  -- a quantifier or CHOOSE over names without a set
   abbrev pub IsUnbounded : ℕ → Type 0
-  IsUnbounded at = (t : Token) × (q : Quantifier) × (slice_get ts at ≡ Some t) × (quantifier_of t.kind ≡ Some q) × KindAt (at + 1) k.Name × KindAt (at + 2) k.Colon
+  IsUnbounded at = (n : ℕ) × (last : ℕ) × (t : Token) × (slice_get ts at ≡ Some t) × IsTrue (is_binding t.kind) × Commas n (at + 1) last × KindAt last k.Name × KindAt (last + 1) k.Colon
+
+  -- a definition with an operator as parameter, Op(F(_), ..) ==
+  abbrev pub HasOperatorParameter : ℕ → Type 0
+  HasOperatorParameter at = (n : ℕ) × (last : ℕ) × KindAt at k.Name × KindAt (at + 1) k.LeftParen × Commas n (at + 2) last × KindAt last k.Name × KindAt (last + 1) k.LeftParen × KindAt (last + 2) k.Underscore
 
   -- the token behind EXTENDS and so many names with a comma each
   abbrev pub IsExtended : ℕ → ℕ → Type 0
@@ -72,6 +74,7 @@ module _ (ts : List Token) where
   pub data BeginsLeftOut (at : ℕ) : Type 0 where
     word : IsWordLeftOut at → BeginsLeftOut at
     unbounded : IsUnbounded at → BeginsLeftOut at
+    parameter : HasOperatorParameter at → BeginsLeftOut at
     second_header : IsSecondHeader at → BeginsLeftOut at
 
   -- a name under EXTENDS that is none of the modules known

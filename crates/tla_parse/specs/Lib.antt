@@ -12,6 +12,7 @@ pub mod Codes
 pub mod Parsing
 pub mod Kinds
 pub mod LeftOut
+pub mod Outcome
 pub mod Reading
 pub mod Gives
 pub mod Nests

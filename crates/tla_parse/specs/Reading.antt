@@ -1,61 +1,101 @@
 -- The one tree that tokens can spell, found from the left. Private contracts alone cite this; what a tree spells is said in Grammar.
-use Rattle.std.specs.Prelude.{ℕ, zero, suc, ◌+◌, ◌-◌, Bool, true, false, not, nat_lt, nat_le, if◌then◌else◌, List, [], ◌∷◌, ◌++◌, length, Option, Some, None, slice_get, Result, Ok, Err}
+use Rattle.std.specs.Prelude.{ℕ, zero, suc, ◌+◌, ◌-◌, Bool, true, false, not, ◌&&◌, nat_lt, nat_le, if◌then◌else◌, List, [], ◌∷◌, ◌++◌, length, Option, Some, None, slice_get, Result, Ok, Err}
 use Rattle.tla_lex.specs.declared.token.Place.{Place}
 use Rattle.tla_lex.specs.declared.token.Token.{Token}
 use Rattle.tla_lex.specs.declared.token.Kind.{Kind}
 use Rattle.tla_lex.specs.declared.token.Kind.TheVariants as k
+use Rattle.tla_lex.specs.Strings.{string_text}
 use Rattle.tla_parse.specs.declared.scope.Scope.{Scope}
+use Rattle.tla_parse.specs.declared.tokens.Between.{Between}
+use Rattle.tla_parse.specs.declared.tokens.Between.TheVariants as between
 use Rattle.tla_parse.specs.declared.tree.Infix.{Infix}
 use Rattle.tla_parse.specs.declared.tree.Prefix.{Prefix}
 use Rattle.tla_parse.specs.declared.tree.Bullet.{Bullet}
+use Rattle.tla_parse.specs.declared.tree.Brackets.{Brackets}
+use Rattle.tla_parse.specs.declared.tree.Brackets.TheVariants as b
 use Rattle.tla_parse.specs.declared.tree.Quantifier.{Quantifier}
+use Rattle.tla_parse.specs.declared.tokens.Postfix.{Postfix}
+use Rattle.tla_parse.specs.declared.tokens.Postfix.TheVariants as form
 use Rattle.tla_parse.specs.declared.word.Written.{Written}
-use Rattle.tla_parse.specs.Tree.{Tree, Trees, trees, Name, Number, Word, At, Paren, Prime, Unary, Binary, Quantified, If, Junction}
+use Rattle.tla_parse.specs.Tree.{Tree, Trees, Group, Choice, Definition, trees, binders, arms, definitions, none, no_other, other, DefinesOperator, DefinesFunction, Case, Let, Name, Number, Text, Word, At, Paren, Listing, Call, Prime, Index, Field, Unary, Binary, Quantified, Choose, If, Junction}
 use Rattle.tla_parse.specs.Operators.{high, prefix_high, prefix_of, bullet_of, quantifier_of, constant_of}
 use Rattle.tla_parse.specs.Edges.{edge_allows, place, depth}
-use Rattle.tla_parse.specs.Tokens.{seen, written, is_bullet_at, may_follow}
-use Rattle.tla_parse.specs.Kinds.{same_kind, kind_at}
+use Rattle.tla_parse.specs.Tokens.{seen, word_of, written, is_bullet_at, may_follow}
+use Rattle.tla_parse.specs.Kinds.{same_kind, kind_at, closing}
 use Rattle.tla_parse.specs.Ending.{above, infix_at}
 use Rattle.tla_parse.specs.Grammar.{within}
-
-pub data Fault : Type 0 where
-  Refused : Fault
-  Nested : Fault
-
-abbrev pub Outcome : Type 0 → Type 0
-Outcome A = Result (A × ℕ) Fault
-
-infixl 10 ◌>>=◌
-abbrev pub ◌>>=◌ : {A B : Type 0} → Outcome A → (A → ℕ → Outcome B) → Outcome B
-(Ok x) >>= f = f x.0 x.1
-(Err e) >>= f = Err e
-
-abbrev pub need : {A : Type 0} → Bool → Outcome A → Outcome A
-need test x = if test then x else Err Refused
-
-abbrev pub room : {A : Type 0} → Bool → Outcome A → Outcome A
-room test x = if test then x else Err Nested
-
-abbrev pub at_op : {A X : Type 0} → Option X → Outcome A → (X → Outcome A) → Outcome A
-at_op None x f = x
-at_op (Some op) x f = f op
+use Rattle.tla_parse.specs.Outcome.{Fault, Refused, Nested, Outcome, ◌>>=◌, need, room, at_op, sequence}
 
 -- the token, where it is a name
 abbrev pub name_at : Option Token → Option Token
 name_at None = None
 name_at (Some t) = if same_kind k.Name t.kind then Some t else None
 
-module _ (text : List ℕ) (ts : List Token) where
-  -- the primes behind a closed form, of which so many may come
-  unfoldable pub postfix : ℕ → Scope → Tree → ℕ → Outcome Tree
-  postfix zero s t at = room (not (kind_at k.Prime (seen ts s.column at))) (Ok (t, at))
-  postfix (suc n) s t at = if kind_at k.Prime (seen ts s.column at) then postfix n s (Prime (place t) t) (at + 1) else Ok (t, at)
+abbrev pub postfix_of : Kind → Option Postfix
+postfix_of k.Prime = Some form.Prime
+postfix_of k.LeftBracket = Some form.Index
+postfix_of k.Dot = Some form.Field
+postfix_of _ = None
 
-  unfoldable pub postfixes : ℕ → Scope → Tree → ℕ → Outcome Tree
-  postfixes most s t at = postfix (most - depth t) s t at
+-- the postfix form that begins here
+abbrev pub postfix_at : Option Token → Option Postfix
+postfix_at None = None
+postfix_at (Some t) = postfix_of t.kind
+
+-- where the next item of a list begins, behind this token
+abbrev pub following : List Token → ℕ → Between → ℕ → Option ℕ
+following ts column between.Comma at = if kind_at k.Comma (seen ts column at) then Some (at + 1) else None
+following ts column (between.Bullet b) at = if is_bullet_at column b (slice_get ts at) then Some (at + 1) else None
+following ts column between.Arm at = if kind_at k.Box (seen ts column at) && not (kind_at k.Other (seen ts column (at + 1))) then Some (at + 1) else None
+following ts column between.Nothing at = if kind_at k.Name (seen ts column at) then Some at else None
+
+module _ (text : List ℕ) (ts : List Token) where
+  -- names with commas between them
+  unfoldable pub names : ℕ → List Written → ℕ → ℕ → Outcome (List Written)
+  names zero front column at = Err Refused
+  names (suc n) front column at = at_op (name_at (seen ts column at)) (Err Refused) (λ t.
+      if kind_at k.Comma (seen ts column (at + 1)) then names n (front ++ written text t ∷ []) column (at + 2) else Ok (front ++ written text t ∷ [], at + 1))
 
   -- `inner` reads an expression in a scope, whose top is above a floor, one level deeper
   module _ (inner : Scope → ℕ → ℕ → Outcome Tree) where
+    -- expressions with commas or bullets between them
+    abbrev pub exprs : ℕ → List Tree → Scope → Between → ℕ → Outcome (List Tree)
+    exprs n front s m at = sequence (inner s 0) (following ts s.column m) n front at
+
+    -- one expression or more, and the closing bracket
+    unfoldable pub some : Scope → Kind → ℕ → Outcome Trees
+    some s close at = exprs (length ts) [] s between.Comma at >>= λ es after. need (kind_at close (seen ts s.column after)) (Ok (trees es, after + 1))
+
+    unfoldable pub listing : Scope → Place → Brackets → ℕ → Outcome Tree
+    listing s p b at = if kind_at (closing b) (seen ts s.column (at + 1)) then Ok (Listing p b none, at + 2) else (some s (closing b) (at + 1) >>= λ es end. Ok (Listing p b es, end))
+
+    unfoldable pub call : Scope → Token → ℕ → Outcome Tree
+    call s t at = some s k.RightParen (at + 2) >>= λ es end. Ok (Call (written text t) es, end)
+
+    -- a group of a binder list
+    unfoldable pub group : Scope → ℕ → Outcome Group
+    group s at = names (length ts) [] s.column at >>= λ ws after. need (kind_at k.Member (seen ts s.column after)) (inner s 0 (after + 1) >>= λ e end. Ok ((ws, e), end))
+
+    abbrev pub groups : ℕ → List Group → Scope → ℕ → Outcome (List Group)
+    groups n front s at = sequence (group s) (following ts s.column between.Comma) n front at
+
+    unfoldable pub indexed : ℕ → Scope → Tree → ℕ → Outcome Tree
+    indexed most s t at = some s k.RightBracket (at + 1) >>= λ es end. room (nat_le (depth (Index (place t) t es)) most) (Ok (Index (place t) t es, end))
+
+    -- one more postfix form behind the tree
+    abbrev pub behind : ℕ → Scope → Tree → Postfix → ℕ → Outcome Tree
+    behind most s t form.Prime at = room (nat_le (depth (Prime (place t) t)) most) (Ok (Prime (place t) t, at + 1))
+    behind most s t form.Index at = indexed most s t at
+    behind most s t form.Field at = at_op (name_at (seen ts s.column (at + 1))) (Err Refused) (λ w. room (nat_le (depth (Field (place t) t (written text w))) most) (Ok (Field (place t) t (written text w), at + 2)))
+
+    -- the postfix forms behind a closed form, of which so many may come
+    unfoldable pub postfix : ℕ → ℕ → Scope → Tree → ℕ → Outcome Tree
+    postfix zero most s t at = at_op (postfix_at (seen ts s.column at)) (Ok (t, at)) (λ u. Err Nested)
+    postfix (suc n) most s t at = at_op (postfix_at (seen ts s.column at)) (Ok (t, at)) (λ u. behind most s t u at >>= postfix n most s)
+
+    abbrev pub postfixes : ℕ → Scope → Tree → ℕ → Outcome Tree
+    postfixes most s t at = postfix most most s t at
+
     -- the tree under one more operator
     unfoldable pub turn : ℕ → Scope → Tree → Infix → ℕ → Outcome Tree
     turn most s t op at = need (edge_allows t op) (at_op (seen ts s.column at) (Err Refused) (λ sign. inner s (high op) (at + 1) >>= λ r after.
@@ -67,27 +107,60 @@ module _ (text : List ℕ) (ts : List Token) where
     climb (suc n) most s floor t at = at_op (above floor (infix_at (seen ts s.column at))) (Ok (t, at)) (λ op.
         turn most s t op at >>= climb n most s floor)
 
-    -- the items from a bullet on
-    unfoldable pub items : ℕ → List Tree → Scope → Bullet → ℕ → Outcome Trees
-    items zero front s b at = Err Refused
-    items (suc n) front s b at = inner s 0 (at + 1) >>= λ e after.
-        if is_bullet_at s.column b (slice_get ts after) then items n (front ++ e ∷ []) s b after else Ok (trees (front ++ e ∷ []), after)
-
     unfoldable pub junction : Scope → Place → Bullet → ℕ → Outcome Tree
-    junction s p b at = items (length ts) [] (within s p.column) b at >>= λ es after.
-        need (may_follow p.column (slice_get ts after)) (Ok (Junction p b es, after))
+    junction s p b at = exprs (length ts) [] (within s p.column) (between.Bullet b) (at + 1) >>= λ es after.
+        need (may_follow p.column (slice_get ts after)) (Ok (Junction p b (trees es), after))
 
     unfoldable pub paren : Scope → Place → ℕ → Outcome Tree
     paren s p at = inner s 0 (at + 1) >>= λ e after. need (kind_at k.RightParen (seen ts s.column after)) (Ok (Paren p e, after + 1))
 
     unfoldable pub quantified : Scope → Place → Quantifier → ℕ → Outcome Tree
-    quantified s p q at = at_op (name_at (seen ts s.column (at + 1))) (Err Refused) (λ name.
+    quantified s p q at = groups (length ts) [] s (at + 1) >>= λ gs after. need (kind_at k.Colon (seen ts s.column after)) (inner s 0 (after + 1) >>= λ e end. Ok (Quantified p q (binders gs) e, end))
+
+    unfoldable pub chosen : Scope → Place → ℕ → Outcome Tree
+    chosen s p at = at_op (name_at (seen ts s.column (at + 1))) (Err Refused) (λ name.
         need (kind_at k.Member (seen ts s.column (at + 2))) (inner s 0 (at + 3) >>= λ b after.
-        need (kind_at k.Colon (seen ts s.column after)) (inner s 0 (after + 1) >>= λ e end. Ok (Quantified p q (written text name) b e, end))))
+        need (kind_at k.Colon (seen ts s.column after)) (inner s 0 (after + 1) >>= λ e end. Ok (Choose p (written text name) b e, end))))
 
     unfoldable pub choice : Scope → Place → ℕ → Outcome Tree
     choice s p at = inner s 0 (at + 1) >>= λ a after. need (kind_at k.Then (seen ts s.column after))
         (inner s 0 (after + 1) >>= λ b mid. need (kind_at k.Else (seen ts s.column mid)) (inner s 0 (mid + 1) >>= λ e end. Ok (If p a b e, end)))
+
+    -- an arm of CASE
+    unfoldable pub arm_at : Scope → ℕ → Outcome Choice
+    arm_at s at = inner s 0 at >>= λ g after. need (kind_at k.Arrow (seen ts s.column after)) (inner s 0 (after + 1) >>= λ e end. Ok ((g, e), end))
+
+    abbrev pub arms_at : ℕ → List Choice → Scope → ℕ → Outcome (List Choice)
+    arms_at n front s at = sequence (arm_at s) (following ts s.column between.Arm) n front at
+
+    unfoldable pub cases : Scope → Place → ℕ → Outcome Tree
+    cases s p at = arms_at (length ts) [] s (at + 1) >>= λ cs after. if kind_at k.Box (seen ts s.column after)
+        then need (kind_at k.Other (seen ts s.column (after + 1))) (need (kind_at k.Arrow (seen ts s.column (after + 2))) (inner s 0 (after + 3) >>= λ e end. Ok (Case p (arms cs) (other e), end)))
+        else Ok (Case p (arms cs) no_other, after)
+
+    -- Op(p, ..) == e, behind the bracket
+    unfoldable pub operator : Scope → Token → ℕ → Outcome Definition
+    operator s t at = names (length ts) [] s.column at >>= λ ws after. need (kind_at k.RightParen (seen ts s.column after))
+        (need (kind_at k.Define (seen ts s.column (after + 1))) (inner s 0 (after + 2) >>= λ e end. Ok (DefinesOperator (written text t) ws e, end)))
+
+    -- f[x \in S, ..] == e, behind the bracket
+    unfoldable pub function : Scope → Token → ℕ → Outcome Definition
+    function s t at = groups (length ts) [] s at >>= λ gs after. need (kind_at k.RightBracket (seen ts s.column after))
+        (need (kind_at k.Define (seen ts s.column (after + 1))) (inner s 0 (after + 2) >>= λ e end. Ok (DefinesFunction (written text t) (binders gs) e, end)))
+
+    unfoldable pub defined : Scope → Token → ℕ → Outcome Definition
+    defined s t at = if kind_at k.Define (seen ts s.column (at + 1)) then (inner s 0 (at + 2) >>= λ e end. Ok (DefinesOperator (written text t) [] e, end))
+        else if kind_at k.LeftParen (seen ts s.column (at + 1)) then operator s t (at + 2)
+        else need (kind_at k.LeftBracket (seen ts s.column (at + 1))) (function s t (at + 2))
+
+    unfoldable pub definition : Scope → ℕ → Outcome Definition
+    definition s at = at_op (name_at (seen ts s.column at)) (Err Refused) (λ t. defined s t at)
+
+    abbrev pub definitions_at : ℕ → List Definition → Scope → ℕ → Outcome (List Definition)
+    definitions_at n front s at = sequence (definition s) (following ts s.column between.Nothing) n front at
+
+    unfoldable pub lets : Scope → Place → ℕ → Outcome Tree
+    lets s p at = definitions_at (length ts) [] s (at + 1) >>= λ ds after. need (kind_at k.In (seen ts s.column after)) (inner s 0 (after + 1) >>= λ e end. Ok (Let p (definitions ds) e, end))
 
     unfoldable pub prefix : Scope → Prefix → Place → ℕ → Outcome Tree
     prefix s op p at = inner s (prefix_high op) (at + 1) >>= λ e end. Ok (Unary p op e, end)
@@ -103,13 +176,23 @@ module _ (text : List ℕ) (ts : List Token) where
         (λ op. prefix s op t.place at))
         (λ b. junction s t.place b at >>= postfixes most s)
 
+    -- a name alone, or with arguments
+    unfoldable pub named : Scope → Token → ℕ → Outcome Tree
+    named s t at = if kind_at k.LeftParen (seen ts s.column (at + 1)) then call s t at else Ok (Name (written text t), at + 1)
+
     -- a form that its first token's kind tells
     abbrev pub operand_by : ℕ → Scope → Token → ℕ → Kind → Outcome Tree
-    operand_by most s t at k.Name = postfixes most s (Name (written text t)) (at + 1)
+    operand_by most s t at k.Name = named s t at >>= postfixes most s
     operand_by most s t at (k.Number n) = postfixes most s (Number t.place n) (at + 1)
+    operand_by most s t at k.Text = postfixes most s (Text t.place (string_text (word_of text t))) (at + 1)
     operand_by most s t at k.At = need s.updating (postfixes most s (At t.place) (at + 1))
     operand_by most s t at k.LeftParen = paren s t.place at >>= postfixes most s
+    operand_by most s t at k.LeftBrace = listing s t.place b.Set at >>= postfixes most s
+    operand_by most s t at k.LeftTuple = listing s t.place b.Tuple at >>= postfixes most s
     operand_by most s t at k.If = choice s t.place at
+    operand_by most s t at k.Choose = chosen s t.place at
+    operand_by most s t at k.Case = cases s t.place at
+    operand_by most s t at k.Let = lets s t.place at
     operand_by most s t at kind = by_class most s t at
 
     unfoldable pub operand : ℕ → Scope → ℕ → Outcome Tree

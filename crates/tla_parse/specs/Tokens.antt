@@ -1,5 +1,5 @@
 -- Tokens as the grammar reads them: by their number in the list, and only right of a column.
-use Rattle.std.specs.Prelude.{◌≡◌, ℕ, ◌-◌, Bool, true, false, not, ◌&&◌, ◌||◌, nat_lt, nat_eq, if◌then◌else◌, List, Option, Some, None, slice_get, take, drop}
+use Rattle.std.specs.Prelude.{◌≡◌, ℕ, ◌+◌, ◌-◌, Bool, true, false, not, ◌&&◌, ◌||◌, nat_lt, nat_eq, if◌then◌else◌, List, [], ◌∷◌, Option, Some, None, slice_get, take, drop}
 use Rattle.tla_lex.specs.declared.token.Place.{Place}
 use Rattle.tla_lex.specs.declared.token.Token.{Token}
 use Rattle.tla_lex.specs.declared.token.Kind.{Kind}
@@ -25,17 +25,21 @@ right_of column (Some t) = if nat_lt column t.place.column then Some t else None
 abbrev pub seen : List Token → ℕ → ℕ → Option Token
 seen ts column at = right_of column (slice_get ts at)
 
-abbrev pub is_prime : Kind → Bool
-is_prime k.Prime = true
-is_prime _ = false
+-- begins a postfix form, or arguments
+abbrev pub is_suffix : Kind → Bool
+is_suffix k.Prime = true
+is_suffix k.LeftBracket = true
+is_suffix k.Dot = true
+is_suffix k.LeftParen = true
+is_suffix _ = false
 
 abbrev pub is_some_infix : Option Infix → Bool
 is_some_infix None = false
 is_some_infix (Some _) = true
 
--- begins an infix operator or a postfix form
+-- begins an infix operator, a postfix form or arguments
 abbrev pub goes_on : Kind → Bool
-goes_on kind = is_prime kind || is_some_infix (infix_of kind)
+goes_on kind = is_suffix kind || is_some_infix (infix_of kind)
 
 abbrev pub is_bullet : Bullet → Option Bullet → Bool
 is_bullet b None = false
@@ -63,3 +67,9 @@ module _ (ts : List Token) where
   -- a token of this kind, written so
   abbrev pub Writes : List ℕ → ℕ → Kind → Written → ℕ → Type 0
   Writes text column kind w at = (t : Token) × (seen ts column at ≡ Some t) × (t.kind ≡ kind) × (written text t ≡ w)
+
+  -- names with commas between them, one or more
+  abbrev pub Names : List ℕ → ℕ → List Written → ℕ → ℕ → Type 0
+  Names text column [] from to = ⊥
+  Names text column (w ∷ []) from to = Writes text column k.Name w from × (to ≡ from + 1)
+  Names text column (w ∷ v ∷ ws) from to = Writes text column k.Name w from × Has column k.Comma (from + 1) × Names text column (v ∷ ws) (from + 2) to

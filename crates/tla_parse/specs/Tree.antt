@@ -7,26 +7,87 @@ use Rattle.tla_parse.specs.declared.tree.Prefix.{Prefix}
 use Rattle.tla_parse.specs.declared.tree.Bullet.{Bullet}
 use Rattle.tla_parse.specs.declared.tree.Quantifier.{Quantifier}
 use Rattle.tla_parse.specs.declared.tree.Constant.{Constant}
+use Rattle.tla_parse.specs.declared.tree.Brackets.{Brackets}
 
 mutual
   -- an expression (book, chapter 15); each node has the place of its first token
   pub data Tree : Type 0 where
     Name : Written → Tree
     Number : Place → ℕ → Tree
+    -- a string, with its escapes read
+    Text : Place → List ℕ → Tree
     Word : Place → Constant → Tree
     At : Place → Tree
     Paren : Place → Tree → Tree
+    -- {e, ..} or <<e, ..>>
+    Listing : Place → Brackets → Trees → Tree
+    -- Op(e, ..)
+    Call : Written → Trees → Tree
     Prime : Place → Tree → Tree
+    -- f[e, ..]
+    Index : Place → Tree → Trees → Tree
+    -- r.a
+    Field : Place → Tree → Written → Tree
     Unary : Place → Prefix → Tree → Tree
     Binary : Place → Infix → Written → Tree → Tree → Tree
-    Quantified : Place → Quantifier → Written → Tree → Tree → Tree
+    Quantified : Place → Quantifier → Binders → Tree → Tree
+    -- CHOOSE x \in S : p
+    Choose : Place → Written → Tree → Tree → Tree
     If : Place → Tree → Tree → Tree → Tree
+    -- CASE p -> a [] .. [] OTHER -> b
+    Case : Place → Arms → Other → Tree
+    -- LET definitions IN e
+    Let : Place → Definitions → Tree → Tree
     Junction : Place → Bullet → Trees → Tree
 
   pub data Trees : Type 0 where
     none : Trees
     more : Tree → Trees → Trees
 
+  -- the groups of a binder list, x, y \in S
+  pub data Binders : Type 0 where
+    unbound : Binders
+    bound : List Written → Tree → Binders → Binders
+
+  -- p -> e
+  pub data Arms : Type 0 where
+    no_arms : Arms
+    arm : Tree → Tree → Arms → Arms
+
+  -- OTHER -> e
+  pub data Other : Type 0 where
+    no_other : Other
+    other : Tree → Other
+
+  -- Op(p, ..) == e, with no parameters or some, and f[x \in S, ..] == e
+  pub data Definition : Type 0 where
+    DefinesOperator : Written → List Written → Tree → Definition
+    DefinesFunction : Written → Binders → Tree → Definition
+
+  pub data Definitions : Type 0 where
+    undefined : Definitions
+    defined : Definition → Definitions → Definitions
+
 abbrev pub trees : List Tree → Trees
 trees [] = none
 trees (t ∷ ts) = more t (trees ts)
+
+-- the names and the set of one group
+abbrev pub Group : Type 0
+Group = List Written × Tree
+
+abbrev pub binders : List Group → Binders
+binders [] = unbound
+binders (g ∷ gs) = bound g.0 g.1 (binders gs)
+
+-- the condition and the value of one arm
+abbrev pub Choice : Type 0
+Choice = Tree × Tree
+
+abbrev pub arms : List Choice → Arms
+arms [] = no_arms
+arms (c ∷ cs) = arm c.0 c.1 (arms cs)
+
+abbrev pub definitions : List Definition → Definitions
+definitions [] = undefined
+definitions (d ∷ ds) = defined d (definitions ds)

@@ -1,22 +1,36 @@
 -- The units of a module (book, chapter 15).
-use Rattle.std.specs.Prelude.{◌≡◌, ℕ, ◌+◌, max, Bool, true, false, not, ◌&&◌, ◌||◌, IsTrue, List, [], ◌∷◌, length}
+use Rattle.std.specs.Prelude.{◌≡◌, ℕ, zero, suc, ◌+◌, max, Bool, true, false, not, ◌&&◌, ◌||◌, IsTrue, List, [], ◌∷◌, Option, Some, None, length}
 use Rattle.std.specs.List.{list_all}
 use Rattle.tla_lex.specs.declared.token.Place.{Place}
 use Rattle.tla_lex.specs.declared.token.Token.{Token}
 use Rattle.tla_lex.specs.declared.token.Kind.TheVariants as k
 use Rattle.tla_parse.specs.declared.scope.Scope.{Scope}
 use Rattle.tla_parse.specs.declared.word.Written.{Written}
-use Rattle.tla_parse.specs.Edges.{depth}
-use Rattle.tla_parse.specs.Tokens.{Has, Is, Writes}
-use Rattle.tla_parse.specs.Tree.{Tree}
+use Rattle.tla_parse.specs.Edges.{depth, definition_depth}
+use Rattle.tla_parse.specs.Tokens.{Has, Is, Writes, Names}
+use Rattle.tla_parse.specs.Tree.{Tree, Definition, DefinesOperator, DefinesFunction}
 use Rattle.tla_parse.specs.Modules.{is_module}
 use Rattle.tla_parse.specs.Grammar.{Spells}
+use Rattle.tla_parse.specs.Grammar as Grammar
+
+-- a constant, and how many arguments it has
+abbrev pub Declared : Type 0
+Declared = Written × ℕ
 
 pub data UnitTree : Type 0 where
   Separator : Place → UnitTree
   Extends : Place → List Written → UnitTree
   Variables : Place → List Written → UnitTree
+  -- Op == e
   Operator : Written → Tree → UnitTree
+  -- a definition with parameters, or of a function
+  Defines : Definition → UnitTree
+  -- LOCAL before a definition
+  Local : Place → Definition → UnitTree
+  Constants : Place → List Declared → UnitTree
+  -- with a name, or without
+  Assume : Place → Option Written → Tree → UnitTree
+  Theorem : Place → Option Written → Tree → UnitTree
 
 abbrev pub is_extends : UnitTree → Bool
 is_extends (Extends _ _) = true
@@ -26,9 +40,18 @@ abbrev pub is_separator : UnitTree → Bool
 is_separator (Separator _) = true
 is_separator _ = false
 
+-- with parameters, or of a function
+abbrev pub has_parameters : Definition → Bool
+has_parameters (DefinesOperator w [] e) = false
+has_parameters _ = true
+
 -- the greatest depth of an expression
 abbrev pub unit_depth : UnitTree → ℕ
 unit_depth (Operator _ e) = depth e
+unit_depth (Defines d) = definition_depth d
+unit_depth (Local _ d) = definition_depth d
+unit_depth (Assume _ _ e) = depth e
+unit_depth (Theorem _ _ e) = depth e
 unit_depth _ = 0
 
 abbrev pub units_depth : List UnitTree → ℕ
@@ -40,17 +63,39 @@ abbrev pub outermost : Scope
 outermost = record { column = 0; updating = false }
 
 module _ (text : List ℕ) (ts : List Token) where
-  -- names with commas between them
-  abbrev pub Names : ℕ → List Written → ℕ → ℕ → Type 0
-  Names column [] from to = ⊥
-  Names column (w ∷ []) from to = Writes ts text column k.Name w from × (to ≡ from + 1)
-  Names column (w ∷ v ∷ ws) from to = Writes ts text column k.Name w from × Has ts column k.Comma (from + 1) × Names column (v ∷ ws) (from + 2) to
+  -- so many underscores, each with a comma before it
+  abbrev pub Blanks : ℕ → ℕ → ℕ → Type 0
+  Blanks zero from to = to ≡ from
+  Blanks (suc n) from to = Has ts 0 k.Comma from × Has ts 0 k.Underscore (from + 1) × Blanks n (from + 2) to
+
+  -- c, or F(_, ..) with an underscore for each argument
+  abbrev pub Declares : Written → ℕ → ℕ → ℕ → Type 0
+  Declares w zero from to = Writes ts text 0 k.Name w from × (to ≡ from + 1)
+  Declares w (suc n) from to = (mid : ℕ) × Writes ts text 0 k.Name w from × Has ts 0 k.LeftParen (from + 1) × Has ts 0 k.Underscore (from + 2) × Blanks n (from + 3) mid × Has ts 0 k.RightParen mid × (to ≡ mid + 1)
+
+  abbrev pub MoreDeclared : List Declared → ℕ → ℕ → Type 0
+  MoreDeclared [] from to = to ≡ from
+  MoreDeclared (d ∷ ds) from to = (mid : ℕ) × Has ts 0 k.Comma from × Declares d.0 d.1 (from + 1) mid × MoreDeclared ds mid to
+
+  abbrev pub AllDeclared : List Declared → ℕ → ℕ → Type 0
+  AllDeclared [] from to = ⊥
+  AllDeclared (d ∷ ds) from to = (mid : ℕ) × Declares d.0 d.1 from mid × MoreDeclared ds mid to
+
+  -- e, or name == e
+  abbrev pub Claims : Option Written → Tree → ℕ → ℕ → Type 0
+  Claims None e from to = Spells text ts outermost e from to
+  Claims (Some w) e from to = Writes ts text 0 k.Name w from × Has ts 0 k.Define (from + 1) × Spells text ts outermost e (from + 2) to
 
   abbrev pub SpellsUnit : UnitTree → ℕ → ℕ → Type 0
   SpellsUnit (Separator p) from to = Is ts 0 k.Separator p from × (to ≡ from + 1)
-  SpellsUnit (Extends p ws) from to = Is ts 0 k.Extends p from × Names 0 ws (from + 1) to × IsTrue (list_all (λ w. is_module w.word) ws)
-  SpellsUnit (Variables p ws) from to = Is ts 0 k.Variable p from × Names 0 ws (from + 1) to
+  SpellsUnit (Extends p ws) from to = Is ts 0 k.Extends p from × Names ts text 0 ws (from + 1) to × IsTrue (list_all (λ w. is_module w.word) ws)
+  SpellsUnit (Variables p ws) from to = Is ts 0 k.Variable p from × Names ts text 0 ws (from + 1) to
   SpellsUnit (Operator w e) from to = Writes ts text 0 k.Name w from × Has ts 0 k.Define (from + 1) × Spells text ts outermost e (from + 2) to
+  SpellsUnit (Defines d) from to = Grammar.Defines text ts outermost d from to × IsTrue (has_parameters d)
+  SpellsUnit (Local p d) from to = Is ts 0 k.Local p from × Grammar.Defines text ts outermost d (from + 1) to
+  SpellsUnit (Constants p ds) from to = Is ts 0 k.Constant p from × AllDeclared ds (from + 1) to
+  SpellsUnit (Assume p w e) from to = Is ts 0 k.Assume p from × Claims w e (from + 1) to
+  SpellsUnit (Theorem p w e) from to = Is ts 0 k.Theorem p from × Claims w e (from + 1) to
 
   -- EXTENDS stands before all units but separators, at most once: `first` says that it may still stand
   abbrev pub Units : Bool → List UnitTree → ℕ → ℕ → Type 0

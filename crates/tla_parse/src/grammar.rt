@@ -1,100 +1,34 @@
 //! Expressions, by precedence climbing. The rules take the reader of inner expressions as a parameter, so that each is proved by itself.
 
 ghost use Rattle.std.specs.Prelude.{◌≡◌, ℕ, ◌+◌, ◌-◌, ◌≤◌, ◌<◌, length, slice_get, suc, IfOk, IfErr, OnOk, map, [], ◌∷◌, ◌++◌};
-ghost use Rattle.tla_parse.specs.View.{view};
+ghost use Rattle.tla_parse.specs.View.{view, group_view};
 ghost use Rattle.tla_parse.specs.Tree as tree;
-ghost use Rattle.tla_parse.specs.Tree.{trees};
+ghost use Rattle.tla_parse.specs.Tree.{trees, binders};
 ghost use Rattle.tla_parse.specs.Edges as edges;
 ghost use Rattle.tla_parse.specs.Grammar.{within};
 ghost use Rattle.tla_parse.specs.Reading as reading;
-ghost use Rattle.tla_parse.specs.Gives.{Gives, GivesItems};
+ghost use Rattle.tla_parse.specs.Gives.{Gives, GivesItems, GivesTrees, GivesGroup, GivesGroups, GivesArm, GivesArms, GivesDefinition, GivesDefinitions};
 ghost use Rattle.tla_parse.specs.Nests.{Nests};
 
+use crate::names::{ParsedNames, names};
 use crate::operators::{
     bullet_of, constant_of, edge_allows, high, prefix_high, prefix_of, quantifier_of,
+};
+use crate::parts::{
+    Parsed, ParsedArm, ParsedArms, ParsedBinder, ParsedBinders, ParsedDefinition,
+    ParsedDefinitions, ParsedItems, boxed, call_of, case_of, case_with_other, function_of,
+    index_of, junction_of, let_of, listing_of, push, push_arm, push_binder, push_definition,
+    quantified_of,
 };
 use crate::refusal::Refusal;
 use crate::scope::Scope;
 use crate::tokens::{
-    is_bullet_at, is_kind, may_follow, name_at, operator_at, refused, refused_binder, seen, written,
+    Between, Postfix, closing, following, is_kind, may_follow, name_at, operator_at, postfix_at,
+    refused, refused_binder, refused_parameter, seen, text_of, written,
 };
-use crate::tree::{Bullet, Expr, Infix, Prefix, Quantifier};
+use crate::tree::{Arm, Binder, Brackets, Bullet, Definition, Expr, Infix, Prefix, Quantifier};
 use std::alloc::Global;
 use tla_lex::{Kind, Place, Token};
-
-/// A tree, the number of the token after it, and its depth.
-#[derive(Drop)]
-pub struct Parsed {
-    pub tree: Expr,
-    pub end: usize,
-    pub depth: usize,
-}
-
-/// Trees, the number of the token after the last, and their greatest depth.
-#[derive(Drop)]
-pub struct ParsedItems {
-    pub items: Vec<Expr>,
-    pub end: usize,
-    pub depth: usize,
-}
-
-fn boxed(alloc: Global, tree: Expr) -> Result<Box<Expr>, Refusal>
-    ensures ok { IfOk result (λ b. b.value ≡ tree) }
-    ensures err { IfErr result (λ e. e ≡ Refusal.NoMemory) }
-{
-    match Box::new(alloc, tree) {
-        Ok(b) => Ok(b),
-        Err(_) => Err(Refusal::NoMemory),
-    }
-}
-
-fn push(items: &mut Vec<Expr>, tree: Expr) -> Result<(), Refusal>
-    ensures ok { OnOk result (items.new.items ≡ items.old.items ++ tree ∷ []) }
-    ensures err { IfErr result (λ e. e ≡ Refusal.NoMemory) }
-{
-    match items.push(tree) {
-        Ok(()) => Ok(()),
-        Err(_) => Err(Refusal::NoMemory),
-    }
-}
-
-fn listed(at: Place, bullet: Bullet, items: Vec<Expr>) -> Expr
-    ensures { view result ≡ tree.Junction at bullet (trees (map view items.items)) }
-{
-    Expr::Junction(at, bullet, items)
-}
-
-/// The postfix forms behind a closed form that begins at a token of this number. So many may come.
-#[tactic(auto, using(crate::proofs::Steps::postfix_more, crate::proofs::Steps::postfix_done, crate::proofs::Steps::postfix_full))]
-fn postfix(
-    alloc: Global,
-    text: &[u8],
-    tokens: &[Token],
-    most: usize,
-    scope: Scope,
-    start: usize,
-    first: Parsed,
-) -> Result<Parsed, Refusal>
-    requires within { first.depth + most < 1000 }
-    requires depth { first.depth ≡ edges.depth (view first.tree) }
-    ensures { Gives text.now tokens.now (first.depth + most) result (reading.postfix text.now tokens.now most scope (view first.tree) first.end) }
-{
-    let mut found = first;
-    for _turn in 0..most {
-        if !is_kind(Kind::Prime, seen(tokens, scope.column, found.end)) {
-            return Ok(found);
-        }
-        let at = found.tree.place();
-        let end = found.end + 1;
-        let depth = found.depth + 1;
-        let tree = Expr::Prime(at, boxed(alloc, found.tree)?);
-        found = Parsed { tree, end, depth };
-    }
-    if is_kind(Kind::Prime, seen(tokens, scope.column, found.end)) {
-        return Err(Refusal::Nesting(start));
-    }
-    Ok(found)
-}
 
 /// The rules of expressions, over a reader of the expressions in them.
 #[derive(Clone, Copy)]
@@ -120,6 +54,304 @@ impl<F: Fn(Global, &[u8], &[Token], usize, Scope, u8, usize) -> Result<Parsed, R
         ensures { Gives text.now tokens.now self.now.depth result (reading.expr text.now tokens.now self.now.depth scope floor at) }
     {
         (self.expr)(self.alloc, text, tokens, self.depth, scope, floor, at)
+    }
+
+    /// Expressions with commas or bullets between them, one or more.
+    #[tactic(auto, using(crate::proofs::Steps::depths_snoc))]
+    fn exprs(
+        &self,
+        text: &[u8],
+        tokens: &[Token],
+        scope: Scope,
+        between: Between,
+        from: usize,
+    ) -> Result<ParsedItems, Refusal>
+        requires nests { Nests self.now.depth (F.pre self.now.expr) (F.post self.now.expr) }
+        ensures { GivesItems text.now tokens.now self.now.depth result (reading.exprs text.now tokens.now (reading.expr text.now tokens.now self.now.depth) (length tokens.now) [] scope between from) }
+    {
+        let mut items = Vec::new(self.alloc);
+        let mut depth = 0;
+        let mut at = from;
+        for _turn in 0..tokens.len() {
+            let e = self.inner(text, tokens, scope, 0, at)?;
+            let end = e.end;
+            depth = depth.max(e.depth);
+            push(&mut items, e.tree)?;
+            let Some(next) = following(tokens, scope.column, between, end) else {
+                return Ok(ParsedItems { items, end, depth });
+            };
+            at = next;
+        }
+        Err(refused(tokens, scope.column, at))
+    }
+
+    /// Expressions with commas between them, one or more, and the closing bracket.
+    #[tactic(auto, unfolding(crate::specs::Reading::some))]
+    fn some(
+        &self,
+        text: &[u8],
+        tokens: &[Token],
+        scope: Scope,
+        close: Kind,
+        from: usize,
+    ) -> Result<ParsedItems, Refusal>
+        requires nests { Nests self.now.depth (F.pre self.now.expr) (F.post self.now.expr) }
+        ensures { GivesTrees text.now tokens.now self.now.depth result (reading.some text.now tokens.now (reading.expr text.now tokens.now self.now.depth) scope close from) }
+    {
+        let found = self.exprs(text, tokens, scope, Between::Comma, from)?;
+        if !is_kind(close, seen(tokens, scope.column, found.end)) {
+            return Err(refused(tokens, scope.column, found.end));
+        }
+        Ok(ParsedItems {
+            items: found.items,
+            end: found.end + 1,
+            depth: found.depth,
+        })
+    }
+
+    /// `{e, ..}` or `<<e, ..>>`
+    #[tactic(auto, unfolding(crate::specs::Reading::listing))]
+    fn listing(
+        &self,
+        text: &[u8],
+        tokens: &[Token],
+        scope: Scope,
+        at: Place,
+        brackets: Brackets,
+        from: usize,
+    ) -> Result<Parsed, Refusal>
+        requires nests { Nests self.now.depth (F.pre self.now.expr) (F.post self.now.expr) }
+        requires within { from < length tokens.now }
+        requires small { self.now.depth < 900 }
+        ensures { Gives text.now tokens.now (self.now.depth + 1) result (reading.listing text.now tokens.now (reading.expr text.now tokens.now self.now.depth) scope at brackets from) }
+    {
+        let close = closing(brackets);
+        if is_kind(close, seen(tokens, scope.column, from + 1)) {
+            return Ok(Parsed {
+                tree: listing_of(at, brackets, Vec::new(self.alloc)),
+                end: from + 2,
+                depth: 1,
+            });
+        }
+        let found = self.some(text, tokens, scope, close, from + 1)?;
+        let end = found.end;
+        let depth = found.depth + 1;
+        Ok(Parsed {
+            tree: listing_of(at, brackets, found.items),
+            end,
+            depth,
+        })
+    }
+
+    /// A name alone, or with arguments.
+    #[tactic(auto, unfolding(crate::specs::Reading::named, crate::specs::Reading::call))]
+    fn named(
+        &self,
+        text: &[u8],
+        tokens: &[Token],
+        scope: Scope,
+        t: Token,
+        from: usize,
+    ) -> Result<Parsed, Refusal>
+        requires nests { Nests self.now.depth (F.pre self.now.expr) (F.post self.now.expr) }
+        requires within { from < length tokens.now }
+        requires small { self.now.depth < 900 }
+        ensures { Gives text.now tokens.now (self.now.depth + 1) result (reading.named text.now tokens.now (reading.expr text.now tokens.now self.now.depth) scope t from) }
+    {
+        let name = written(self.alloc, text, t)?;
+        if !is_kind(Kind::LeftParen, seen(tokens, scope.column, from + 1)) {
+            return Ok(Parsed {
+                tree: Expr::Name(name),
+                end: from + 1,
+                depth: 1,
+            });
+        }
+        let found = self.some(text, tokens, scope, Kind::RightParen, from + 2)?;
+        let end = found.end;
+        let depth = found.depth + 1;
+        Ok(Parsed {
+            tree: call_of(name, found.items),
+            end,
+            depth,
+        })
+    }
+
+    /// A group of the binder list of the form that begins at `form`.
+    #[tactic(auto, unfolding(crate::specs::Reading::group))]
+    fn group(
+        &self,
+        text: &[u8],
+        tokens: &[Token],
+        scope: Scope,
+        form: usize,
+        from: usize,
+    ) -> Result<ParsedBinder, Refusal>
+        requires nests { Nests self.now.depth (F.pre self.now.expr) (F.post self.now.expr) }
+        requires within { from ≤ length tokens.now }
+        ensures { GivesGroup text.now tokens.now self.now.depth result (reading.group text.now tokens.now (reading.expr text.now tokens.now self.now.depth) scope from) }
+    {
+        let ParsedNames { names, end } = names(self.alloc, text, tokens, scope.column, from)?;
+        if !is_kind(Kind::Member, seen(tokens, scope.column, end)) {
+            return Err(refused_binder(tokens, scope.column, form, end));
+        }
+        let set = self.inner(text, tokens, scope, 0, end + 1)?;
+        Ok(ParsedBinder {
+            binder: Binder {
+                names,
+                set: set.tree,
+            },
+            end: set.end,
+            depth: set.depth,
+        })
+    }
+
+    /// The binder list of the form that begins at `form`.
+    #[tactic(auto, using(crate::proofs::Steps::bound_depth_snoc))]
+    fn groups(
+        &self,
+        text: &[u8],
+        tokens: &[Token],
+        scope: Scope,
+        form: usize,
+        from: usize,
+    ) -> Result<ParsedBinders, Refusal>
+        requires nests { Nests self.now.depth (F.pre self.now.expr) (F.post self.now.expr) }
+        requires within { from ≤ length tokens.now }
+        ensures { GivesGroups text.now tokens.now self.now.depth result (reading.groups text.now tokens.now (reading.expr text.now tokens.now self.now.depth) (length tokens.now) [] scope from) }
+    {
+        let mut binders = Vec::new(self.alloc);
+        let mut depth = 0;
+        let mut at = from;
+        for _turn in 0..tokens.len() {
+            let group = self.group(text, tokens, scope, form, at)?;
+            let end = group.end;
+            depth = depth.max(group.depth);
+            push_binder(&mut binders, group.binder)?;
+            let Some(next) = following(tokens, scope.column, Between::Comma, end) else {
+                return Ok(ParsedBinders {
+                    binders,
+                    end,
+                    depth,
+                });
+            };
+            at = next;
+        }
+        Err(refused(tokens, scope.column, at))
+    }
+
+    /// `f[e, ..]`, behind the tree, which begins at a token of this number.
+    #[tactic(auto, unfolding(crate::specs::Reading::indexed))]
+    fn indexed(
+        &self,
+        text: &[u8],
+        tokens: &[Token],
+        scope: Scope,
+        start: usize,
+        first: Parsed,
+    ) -> Result<Parsed, Refusal>
+        requires nests { Nests self.now.depth (F.pre self.now.expr) (F.post self.now.expr) }
+        requires within { first.end < length tokens.now }
+        requires depth { first.depth ≡ edges.depth (view first.tree) }
+        requires shallow { first.depth ≤ self.now.depth + 1 }
+        requires small { self.now.depth < 900 }
+        ensures { Gives text.now tokens.now (self.now.depth + 1) result (reading.indexed text.now tokens.now (reading.expr text.now tokens.now self.now.depth) (self.now.depth + 1) scope (view first.tree) first.end) }
+    {
+        let found = self.some(text, tokens, scope, Kind::RightBracket, first.end + 1)?;
+        let depth = first.depth.max(found.depth) + 1;
+        if depth > self.depth + 1 {
+            return Err(Refusal::Nesting(start));
+        }
+        let end = found.end;
+        let at = first.tree.place();
+        let operand = boxed(self.alloc, first.tree)?;
+        Ok(Parsed {
+            tree: index_of(at, operand, found.items),
+            end,
+            depth,
+        })
+    }
+
+    /// One more postfix form behind the tree, which begins at a token of this number.
+    fn behind(
+        &self,
+        text: &[u8],
+        tokens: &[Token],
+        scope: Scope,
+        start: usize,
+        first: Parsed,
+        form: Postfix,
+    ) -> Result<Parsed, Refusal>
+        requires nests { Nests self.now.depth (F.pre self.now.expr) (F.post self.now.expr) }
+        requires within { first.end < length tokens.now }
+        requires depth { first.depth ≡ edges.depth (view first.tree) }
+        requires shallow { first.depth ≤ self.now.depth + 1 }
+        requires small { self.now.depth < 900 }
+        ensures { Gives text.now tokens.now (self.now.depth + 1) result (reading.behind text.now tokens.now (reading.expr text.now tokens.now self.now.depth) (self.now.depth + 1) scope (view first.tree) form first.end) }
+    {
+        match form {
+            Postfix::Index => self.indexed(text, tokens, scope, start, first),
+            Postfix::Prime => {
+                let depth = first.depth + 1;
+                if depth > self.depth + 1 {
+                    return Err(Refusal::Nesting(start));
+                }
+                let end = first.end + 1;
+                let at = first.tree.place();
+                let operand = boxed(self.alloc, first.tree)?;
+                Ok(Parsed {
+                    tree: Expr::Prime(at, operand),
+                    end,
+                    depth,
+                })
+            }
+            Postfix::Field => {
+                let Some(name) = name_at(seen(tokens, scope.column, first.end + 1)) else {
+                    return Err(refused(tokens, scope.column, first.end + 1));
+                };
+                let depth = first.depth + 1;
+                if depth > self.depth + 1 {
+                    return Err(Refusal::Nesting(start));
+                }
+                let name = written(self.alloc, text, name)?;
+                let end = first.end + 2;
+                let at = first.tree.place();
+                let operand = boxed(self.alloc, first.tree)?;
+                Ok(Parsed {
+                    tree: Expr::Field(at, operand, name),
+                    end,
+                    depth,
+                })
+            }
+        }
+    }
+
+    /// The closed form that begins at a token of this number, under the postfix forms that follow.
+    #[tactic(auto, using(crate::proofs::Steps::postfix_done, crate::proofs::Steps::postfix_more, crate::proofs::Steps::postfix_full))]
+    fn postfixes(
+        &self,
+        text: &[u8],
+        tokens: &[Token],
+        scope: Scope,
+        start: usize,
+        first: Parsed,
+    ) -> Result<Parsed, Refusal>
+        requires nests { Nests self.now.depth (F.pre self.now.expr) (F.post self.now.expr) }
+        requires depth { first.depth ≡ edges.depth (view first.tree) }
+        requires shallow { first.depth ≤ self.now.depth + 1 }
+        requires small { self.now.depth < 900 }
+        ensures { Gives text.now tokens.now (self.now.depth + 1) result (reading.postfixes text.now tokens.now (reading.expr text.now tokens.now self.now.depth) (self.now.depth + 1) scope (view first.tree) first.end) }
+    {
+        let mut left = first;
+        for _turn in 0..self.depth + 1 {
+            let Some(form) = postfix_at(seen(tokens, scope.column, left.end)) else {
+                return Ok(left);
+            };
+            left = self.behind(text, tokens, scope, start, left, form)?;
+        }
+        match postfix_at(seen(tokens, scope.column, left.end)) {
+            None => Ok(left),
+            Some(_) => Err(Refusal::Nesting(start)),
+        }
     }
 
     /// A prefix operator, and its operand.
@@ -176,7 +408,7 @@ impl<F: Fn(Global, &[u8], &[Token], usize, Scope, u8, usize) -> Result<Parsed, R
         })
     }
 
-    /// `\A x \in S : p` or `\E x \in S : p`
+    /// `\A x, y \in S, z \in T : p` or `\E x, y \in S, z \in T : p`
     #[tactic(auto, unfolding(crate::specs::Reading::quantified))]
     fn quantified(
         &self,
@@ -191,6 +423,36 @@ impl<F: Fn(Global, &[u8], &[Token], usize, Scope, u8, usize) -> Result<Parsed, R
         requires within { from < length tokens.now }
         requires small { self.now.depth < 900 }
         ensures { Gives text.now tokens.now (self.now.depth + 1) result (reading.quantified text.now tokens.now (reading.expr text.now tokens.now self.now.depth) scope at quantifier from) }
+    {
+        let found = self.groups(text, tokens, scope, from, from + 1)?;
+        if !is_kind(Kind::Colon, seen(tokens, scope.column, found.end)) {
+            return Err(refused(tokens, scope.column, found.end));
+        }
+        let body = self.inner(text, tokens, scope, 0, found.end + 1)?;
+        let end = body.end;
+        let depth = found.depth.max(body.depth) + 1;
+        let body = boxed(self.alloc, body.tree)?;
+        Ok(Parsed {
+            tree: quantified_of(at, quantifier, found.binders, body),
+            end,
+            depth,
+        })
+    }
+
+    /// `CHOOSE x \in S : p`
+    #[tactic(auto, unfolding(crate::specs::Reading::chosen))]
+    fn chosen(
+        &self,
+        text: &[u8],
+        tokens: &[Token],
+        scope: Scope,
+        at: Place,
+        from: usize,
+    ) -> Result<Parsed, Refusal>
+        requires nests { Nests self.now.depth (F.pre self.now.expr) (F.post self.now.expr) }
+        requires within { from < length tokens.now }
+        requires small { self.now.depth < 900 }
+        ensures { Gives text.now tokens.now (self.now.depth + 1) result (reading.chosen text.now tokens.now (reading.expr text.now tokens.now self.now.depth) scope at from) }
     {
         let Some(name) = name_at(seen(tokens, scope.column, from + 1)) else {
             return Err(refused(tokens, scope.column, from + 1));
@@ -209,7 +471,7 @@ impl<F: Fn(Global, &[u8], &[Token], usize, Scope, u8, usize) -> Result<Parsed, R
         let set = boxed(self.alloc, set.tree)?;
         let body = boxed(self.alloc, body.tree)?;
         Ok(Parsed {
-            tree: Expr::Quantified(at, quantifier, name, set, body),
+            tree: Expr::Choose(at, name, set, body),
             end,
             depth,
         })
@@ -246,6 +508,279 @@ impl<F: Fn(Global, &[u8], &[Token], usize, Scope, u8, usize) -> Result<Parsed, R
         let second = boxed(self.alloc, second.tree)?;
         Ok(Parsed {
             tree: Expr::If(at, condition, first, second),
+            end,
+            depth,
+        })
+    }
+
+    /// An arm of CASE.
+    #[tactic(auto, unfolding(crate::specs::Reading::arm_at))]
+    fn arm_at(
+        &self,
+        text: &[u8],
+        tokens: &[Token],
+        scope: Scope,
+        from: usize,
+    ) -> Result<ParsedArm, Refusal>
+        requires nests { Nests self.now.depth (F.pre self.now.expr) (F.post self.now.expr) }
+        ensures { GivesArm text.now tokens.now self.now.depth result (reading.arm_at text.now tokens.now (reading.expr text.now tokens.now self.now.depth) scope from) }
+    {
+        let guard = self.inner(text, tokens, scope, 0, from)?;
+        if !is_kind(Kind::Arrow, seen(tokens, scope.column, guard.end)) {
+            return Err(refused(tokens, scope.column, guard.end));
+        }
+        let value = self.inner(text, tokens, scope, 0, guard.end + 1)?;
+        Ok(ParsedArm {
+            arm: Arm {
+                guard: guard.tree,
+                value: value.tree,
+            },
+            end: value.end,
+            depth: guard.depth.max(value.depth),
+        })
+    }
+
+    /// The arms of CASE, but for OTHER.
+    #[tactic(auto, using(crate::proofs::Steps::arms_depth_snoc))]
+    fn arms_at(
+        &self,
+        text: &[u8],
+        tokens: &[Token],
+        scope: Scope,
+        from: usize,
+    ) -> Result<ParsedArms, Refusal>
+        requires nests { Nests self.now.depth (F.pre self.now.expr) (F.post self.now.expr) }
+        ensures { GivesArms text.now tokens.now self.now.depth result (reading.arms_at text.now tokens.now (reading.expr text.now tokens.now self.now.depth) (length tokens.now) [] scope from) }
+    {
+        let mut arms = Vec::new(self.alloc);
+        let mut depth = 0;
+        let mut at = from;
+        for _turn in 0..tokens.len() {
+            let found = self.arm_at(text, tokens, scope, at)?;
+            let end = found.end;
+            depth = depth.max(found.depth);
+            push_arm(&mut arms, found.arm)?;
+            let Some(next) = following(tokens, scope.column, Between::Arm, end) else {
+                return Ok(ParsedArms { arms, end, depth });
+            };
+            at = next;
+        }
+        Err(refused(tokens, scope.column, at))
+    }
+
+    /// `CASE p -> a [] .. [] OTHER -> b`
+    #[tactic(auto, unfolding(crate::specs::Reading::cases))]
+    fn cases(
+        &self,
+        text: &[u8],
+        tokens: &[Token],
+        scope: Scope,
+        at: Place,
+        from: usize,
+    ) -> Result<Parsed, Refusal>
+        requires nests { Nests self.now.depth (F.pre self.now.expr) (F.post self.now.expr) }
+        requires within { from < length tokens.now }
+        requires small { self.now.depth < 900 }
+        ensures { Gives text.now tokens.now (self.now.depth + 1) result (reading.cases text.now tokens.now (reading.expr text.now tokens.now self.now.depth) scope at from) }
+    {
+        let found = self.arms_at(text, tokens, scope, from + 1)?;
+        let end = found.end;
+        if !is_kind(Kind::Box, seen(tokens, scope.column, end)) {
+            let depth = found.depth + 1;
+            return Ok(Parsed {
+                tree: case_of(at, found.arms),
+                end,
+                depth,
+            });
+        }
+        if !is_kind(Kind::Other, seen(tokens, scope.column, end + 1)) {
+            return Err(refused(tokens, scope.column, end + 1));
+        }
+        if !is_kind(Kind::Arrow, seen(tokens, scope.column, end + 2)) {
+            return Err(refused(tokens, scope.column, end + 2));
+        }
+        let value = self.inner(text, tokens, scope, 0, end + 3)?;
+        let depth = found.depth.max(value.depth) + 1;
+        let end = value.end;
+        let value = boxed(self.alloc, value.tree)?;
+        Ok(Parsed {
+            tree: case_with_other(at, found.arms, value),
+            end,
+            depth,
+        })
+    }
+
+    /// `Op(p, ..) == e`, from its first parameter on; the name is the token at `form`.
+    #[tactic(auto, unfolding(crate::specs::Reading::operator))]
+    fn operator(
+        &self,
+        text: &[u8],
+        tokens: &[Token],
+        scope: Scope,
+        t: Token,
+        form: usize,
+        from: usize,
+    ) -> Result<ParsedDefinition, Refusal>
+        requires nests { Nests self.now.depth (F.pre self.now.expr) (F.post self.now.expr) }
+        requires within { from ≤ length tokens.now }
+        ensures { GivesDefinition text.now tokens.now self.now.depth result (reading.operator text.now tokens.now (reading.expr text.now tokens.now self.now.depth) scope t from) }
+    {
+        let found = names(self.alloc, text, tokens, scope.column, from)?;
+        let end = found.end;
+        if !is_kind(Kind::RightParen, seen(tokens, scope.column, end)) {
+            return Err(refused_parameter(tokens, scope.column, form, end));
+        }
+        if !is_kind(Kind::Define, seen(tokens, scope.column, end + 1)) {
+            return Err(refused(tokens, scope.column, end + 1));
+        }
+        let body = self.inner(text, tokens, scope, 0, end + 2)?;
+        let name = written(self.alloc, text, t)?;
+        Ok(ParsedDefinition {
+            definition: Definition::Operator(name, found.names, body.tree),
+            end: body.end,
+            depth: body.depth,
+        })
+    }
+
+    /// `f[x \in S, ..] == e`, from its first parameter on; the name is the token at `form`.
+    #[tactic(auto, unfolding(crate::specs::Reading::function))]
+    fn function(
+        &self,
+        text: &[u8],
+        tokens: &[Token],
+        scope: Scope,
+        t: Token,
+        form: usize,
+        from: usize,
+    ) -> Result<ParsedDefinition, Refusal>
+        requires nests { Nests self.now.depth (F.pre self.now.expr) (F.post self.now.expr) }
+        requires within { from ≤ length tokens.now }
+        ensures { GivesDefinition text.now tokens.now self.now.depth result (reading.function text.now tokens.now (reading.expr text.now tokens.now self.now.depth) scope t from) }
+    {
+        let found = self.groups(text, tokens, scope, form, from)?;
+        let end = found.end;
+        if !is_kind(Kind::RightBracket, seen(tokens, scope.column, end)) {
+            return Err(refused(tokens, scope.column, end));
+        }
+        if !is_kind(Kind::Define, seen(tokens, scope.column, end + 1)) {
+            return Err(refused(tokens, scope.column, end + 1));
+        }
+        let body = self.inner(text, tokens, scope, 0, end + 2)?;
+        let name = written(self.alloc, text, t)?;
+        Ok(ParsedDefinition {
+            definition: function_of(name, found.binders, body.tree),
+            end: body.end,
+            depth: found.depth.max(body.depth),
+        })
+    }
+
+    /// The definition that begins with this name.
+    #[tactic(auto, unfolding(crate::specs::Reading::defined))]
+    fn defined(
+        &self,
+        text: &[u8],
+        tokens: &[Token],
+        scope: Scope,
+        t: Token,
+        from: usize,
+    ) -> Result<ParsedDefinition, Refusal>
+        requires nests { Nests self.now.depth (F.pre self.now.expr) (F.post self.now.expr) }
+        requires within { from < length tokens.now }
+        ensures { GivesDefinition text.now tokens.now self.now.depth result (reading.defined text.now tokens.now (reading.expr text.now tokens.now self.now.depth) scope t from) }
+    {
+        if is_kind(Kind::Define, seen(tokens, scope.column, from + 1)) {
+            let body = self.inner(text, tokens, scope, 0, from + 2)?;
+            let name = written(self.alloc, text, t)?;
+            return Ok(ParsedDefinition {
+                definition: Definition::Operator(name, Vec::new(self.alloc), body.tree),
+                end: body.end,
+                depth: body.depth,
+            });
+        }
+        if is_kind(Kind::LeftParen, seen(tokens, scope.column, from + 1)) {
+            return self.operator(text, tokens, scope, t, from, from + 2);
+        }
+        if !is_kind(Kind::LeftBracket, seen(tokens, scope.column, from + 1)) {
+            return Err(refused(tokens, scope.column, from + 1));
+        }
+        self.function(text, tokens, scope, t, from, from + 2)
+    }
+
+    /// A definition.
+    #[tactic(auto, unfolding(crate::specs::Reading::definition))]
+    pub fn definition(
+        &self,
+        text: &[u8],
+        tokens: &[Token],
+        scope: Scope,
+        from: usize,
+    ) -> Result<ParsedDefinition, Refusal>
+        requires nests { Nests self.now.depth (F.pre self.now.expr) (F.post self.now.expr) }
+        ensures { GivesDefinition text.now tokens.now self.now.depth result (reading.definition text.now tokens.now (reading.expr text.now tokens.now self.now.depth) scope from) }
+    {
+        let Some(t) = name_at(seen(tokens, scope.column, from)) else {
+            return Err(refused(tokens, scope.column, from));
+        };
+        self.defined(text, tokens, scope, t, from)
+    }
+
+    /// The definitions of LET.
+    #[tactic(auto, using(crate::proofs::Steps::definitions_depth_snoc))]
+    fn definitions_at(
+        &self,
+        text: &[u8],
+        tokens: &[Token],
+        scope: Scope,
+        from: usize,
+    ) -> Result<ParsedDefinitions, Refusal>
+        requires nests { Nests self.now.depth (F.pre self.now.expr) (F.post self.now.expr) }
+        ensures { GivesDefinitions text.now tokens.now self.now.depth result (reading.definitions_at text.now tokens.now (reading.expr text.now tokens.now self.now.depth) (length tokens.now) [] scope from) }
+    {
+        let mut definitions = Vec::new(self.alloc);
+        let mut depth = 0;
+        let mut at = from;
+        for _turn in 0..tokens.len() {
+            let found = self.definition(text, tokens, scope, at)?;
+            let end = found.end;
+            depth = depth.max(found.depth);
+            push_definition(&mut definitions, found.definition)?;
+            let Some(next) = following(tokens, scope.column, Between::Nothing, end) else {
+                return Ok(ParsedDefinitions {
+                    definitions,
+                    end,
+                    depth,
+                });
+            };
+            at = next;
+        }
+        Err(refused(tokens, scope.column, at))
+    }
+
+    /// `LET` definitions `IN e`
+    #[tactic(auto, unfolding(crate::specs::Reading::lets))]
+    fn lets(
+        &self,
+        text: &[u8],
+        tokens: &[Token],
+        scope: Scope,
+        at: Place,
+        from: usize,
+    ) -> Result<Parsed, Refusal>
+        requires nests { Nests self.now.depth (F.pre self.now.expr) (F.post self.now.expr) }
+        requires within { from < length tokens.now }
+        requires small { self.now.depth < 900 }
+        ensures { Gives text.now tokens.now (self.now.depth + 1) result (reading.lets text.now tokens.now (reading.expr text.now tokens.now self.now.depth) scope at from) }
+    {
+        let found = self.definitions_at(text, tokens, scope, from + 1)?;
+        if !is_kind(Kind::In, seen(tokens, scope.column, found.end)) {
+            return Err(refused(tokens, scope.column, found.end));
+        }
+        let body = self.inner(text, tokens, scope, 0, found.end + 1)?;
+        let end = body.end;
+        let depth = found.depth.max(body.depth) + 1;
+        let body = boxed(self.alloc, body.tree)?;
+        Ok(Parsed {
+            tree: let_of(at, found.definitions, body),
             end,
             depth,
         })
@@ -322,39 +857,6 @@ impl<F: Fn(Global, &[u8], &[Token], usize, Scope, u8, usize) -> Result<Parsed, R
         }
     }
 
-    /// The items of a junction list, from its first bullet on.
-    #[tactic(auto, using(crate::proofs::Steps::items_more, crate::proofs::Steps::items_last, crate::proofs::Steps::items_full, crate::proofs::Steps::depths_snoc))]
-    fn items(
-        &self,
-        text: &[u8],
-        tokens: &[Token],
-        scope: Scope,
-        bullet: Bullet,
-        from: usize,
-    ) -> Result<ParsedItems, Refusal>
-        requires nests { Nests self.now.depth (F.pre self.now.expr) (F.post self.now.expr) }
-        requires within { from < length tokens.now }
-        ensures { GivesItems text.now tokens.now self.now.depth result (reading.items text.now tokens.now (reading.expr text.now tokens.now self.now.depth) (length tokens.now) [] scope bullet from) }
-    {
-        let mut items = Vec::new(self.alloc);
-        let mut depth = 0;
-        let mut at = from;
-        for _turn in 0..tokens.len() {
-            let e = self.inner(text, tokens, scope, 0, at + 1)?;
-            at = e.end;
-            depth = depth.max(e.depth);
-            push(&mut items, e.tree)?;
-            if !is_bullet_at(tokens, scope.column, bullet, at) {
-                return Ok(ParsedItems {
-                    items,
-                    end: at,
-                    depth,
-                });
-            }
-        }
-        Err(refused(tokens, scope.column, at))
-    }
-
     /// A junction list.
     #[tactic(auto, unfolding(crate::specs::Reading::junction))]
     fn junction(
@@ -375,35 +877,17 @@ impl<F: Fn(Global, &[u8], &[Token], usize, Scope, u8, usize) -> Result<Parsed, R
             column: at.column,
             ..scope
         };
-        let found = self.items(text, tokens, items_scope, bullet, from)?;
+        let found = self.exprs(text, tokens, items_scope, Between::Bullet(bullet), from + 1)?;
         if !may_follow(tokens, at.column, found.end) {
             return Err(refused(tokens, scope.column, found.end));
         }
         let end = found.end;
         let depth = found.depth + 1;
         Ok(Parsed {
-            tree: listed(at, bullet, found.items),
+            tree: junction_of(at, bullet, found.items),
             end,
             depth,
         })
-    }
-
-    #[tactic(auto, unfolding(crate::specs::Reading::postfixes))]
-    fn postfixes(
-        &self,
-        text: &[u8],
-        tokens: &[Token],
-        scope: Scope,
-        start: usize,
-        first: Parsed,
-    ) -> Result<Parsed, Refusal>
-        requires depth { first.depth ≡ edges.depth (view first.tree) }
-        requires shallow { first.depth ≤ self.now.depth + 1 }
-        requires small { self.now.depth < 900 }
-        ensures { Gives text.now tokens.now (self.now.depth + 1) result (reading.postfixes text.now tokens.now (self.now.depth + 1) scope (view first.tree) first.end) }
-    {
-        let most = self.depth + 1 - first.depth;
-        postfix(self.alloc, text, tokens, most, scope, start, first)
     }
 
     /// A form of one token, and the postfix forms behind it.
@@ -415,10 +899,11 @@ impl<F: Fn(Global, &[u8], &[Token], usize, Scope, u8, usize) -> Result<Parsed, R
         from: usize,
         tree: Expr,
     ) -> Result<Parsed, Refusal>
+        requires nests { Nests self.now.depth (F.pre self.now.expr) (F.post self.now.expr) }
         requires within { from < length tokens.now }
         requires flat { edges.depth (view tree) ≡ 1 }
         requires small { self.now.depth < 900 }
-        ensures { Gives text.now tokens.now (self.now.depth + 1) result (reading.postfixes text.now tokens.now (self.now.depth + 1) scope (view tree) (from + 1)) }
+        ensures { Gives text.now tokens.now (self.now.depth + 1) result (reading.postfixes text.now tokens.now (reading.expr text.now tokens.now self.now.depth) (self.now.depth + 1) scope (view tree) (from + 1)) }
     {
         let first = Parsed {
             tree,
@@ -479,8 +964,8 @@ impl<F: Fn(Global, &[u8], &[Token], usize, Scope, u8, usize) -> Result<Parsed, R
         let at = t.place;
         match t.kind {
             Kind::Name => {
-                let name = written(self.alloc, text, t)?;
-                self.atom(text, tokens, scope, from, Expr::Name(name))
+                let e = self.named(text, tokens, scope, t, from)?;
+                self.postfixes(text, tokens, scope, from, e)
             }
             Kind::Number(n) => self.atom(text, tokens, scope, from, Expr::Number(at, n)),
             Kind::At => {
@@ -494,6 +979,21 @@ impl<F: Fn(Global, &[u8], &[Token], usize, Scope, u8, usize) -> Result<Parsed, R
                 let e = self.paren(text, tokens, scope, at, from)?;
                 self.postfixes(text, tokens, scope, from, e)
             }
+            Kind::Text => {
+                let word = text_of(self.alloc, text, t)?;
+                self.atom(text, tokens, scope, from, Expr::Text(at, word))
+            }
+            Kind::LeftBrace => {
+                let e = self.listing(text, tokens, scope, at, Brackets::Set, from)?;
+                self.postfixes(text, tokens, scope, from, e)
+            }
+            Kind::LeftTuple => {
+                let e = self.listing(text, tokens, scope, at, Brackets::Tuple, from)?;
+                self.postfixes(text, tokens, scope, from, e)
+            }
+            Kind::Choose => self.chosen(text, tokens, scope, at, from),
+            Kind::Case => self.cases(text, tokens, scope, at, from),
+            Kind::Let => self.lets(text, tokens, scope, at, from),
             Kind::If => self.choice(text, tokens, scope, at, from),
             _ => self.by_class(text, tokens, scope, t, from),
         }
@@ -541,4 +1041,22 @@ pub fn expr(
         expr,
     }
     .level(text, tokens, scope, floor, at)
+}
+
+/// A definition in a scope, whose expressions are of 200 levels at most.
+pub fn definition(
+    alloc: Global,
+    text: &[u8],
+    tokens: &[Token],
+    scope: Scope,
+    from: usize,
+) -> Result<ParsedDefinition, Refusal>
+    ensures { GivesDefinition text.now tokens.now 200 result (reading.definition text.now tokens.now (reading.expr text.now tokens.now 200) scope from) }
+{
+    Grammar {
+        alloc,
+        depth: 200,
+        expr,
+    }
+    .definition(text, tokens, scope, from)
 }

@@ -5,8 +5,10 @@ mod error;
 mod grammar;
 pub mod laws;
 mod modules;
+mod names;
 mod operators;
 mod parse;
+mod parts;
 mod refusal;
 mod scope;
 #[cfg(test)]
@@ -18,6 +20,8 @@ mod word;
 
 pub use error::{ParseCode, ParseError};
 pub use parse::{Module, parse_module};
-pub use tree::{Bullet, Constant, Expr, Infix, Prefix, Quantifier};
-pub use units::Unit;
+pub use tree::{
+    Arm, Binder, Brackets, Bullet, Constant, Definition, Expr, Infix, Prefix, Quantifier,
+};
+pub use units::{Declaration, Unit};
 pub use word::{Word, Written};

@@ -187,7 +187,11 @@ pub fn edge_allows(tree: &Expr, op: Infix) -> bool
         Expr::Unary(_, first, operand) => {
             high(op) < prefix_low(*first) && edge_allows(operand, op)
         }
-        Expr::Quantified(_, _, _, _, _) | Expr::If(_, _, _, _) => false,
+        Expr::Quantified(_, _, _, _)
+        | Expr::Choose(_, _, _, _)
+        | Expr::If(_, _, _, _)
+        | Expr::Case(_, _, _)
+        | Expr::Let(_, _, _) => false,
         _ => true,
     }
 }

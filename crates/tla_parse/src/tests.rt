@@ -2,9 +2,11 @@
 
 use crate::error::ParseError;
 use crate::parse::{Module, parse_module};
-use crate::tree::{Bullet, Constant, Expr, Infix, Prefix, Quantifier};
+use crate::tree::{
+    Binder, Brackets, Bullet, Constant, Definition, Expr, Infix, Prefix, Quantifier,
+};
 use crate::units::Unit;
-use crate::word::Word;
+use crate::word::{Word, Written};
 use std::alloc::{AllocError, Global};
 use std::test::Fail;
 use tla_lex::{Kind, Place, Token};
@@ -44,10 +46,30 @@ fn kind_of(word: &str) -> Kind {
         "ELSE" => Kind::Else,
         "EXTENDS" => Kind::Extends,
         "VARIABLE" => Kind::Variable,
+        "CONSTANT" => Kind::Constant,
+        "ASSUME" => Kind::Assume,
+        "THEOREM" => Kind::Theorem,
+        "LOCAL" => Kind::Local,
         "ENABLED" => Kind::Enabled,
+        "CHOOSE" => Kind::Choose,
+        "CASE" => Kind::Case,
+        "OTHER" => Kind::Other,
+        "->" => Kind::Arrow,
+        "[]" => Kind::Box,
+        "LET" => Kind::Let,
+        "IN" => Kind::In,
+        "_" => Kind::Underscore,
+        "[" => Kind::LeftBracket,
+        "]" => Kind::RightBracket,
+        "{" => Kind::LeftBrace,
+        "}" => Kind::RightBrace,
+        "<<" => Kind::LeftTuple,
+        ">>" => Kind::RightTuple,
+        "." => Kind::Dot,
         "MODULE" => Kind::Module,
         other => match other.as_bytes().first() {
             Some(b'0'..=b'9') => Kind::Number(0),
+            Some(b'"') => Kind::Text,
             _ => Kind::Name,
         },
     }
@@ -85,6 +107,51 @@ fn push_word(word: &Word, out: &mut String) -> Result<(), AllocError> {
     Ok(())
 }
 
+#[cycle(show)]
+fn show_all(items: &[Expr], out: &mut String) -> Result<(), AllocError> {
+    for e in items {
+        out.push(' ')?;
+        show(e, out)?;
+    }
+    Ok(())
+}
+
+#[cycle(show)]
+fn show_binders(binders: &[Binder], out: &mut String) -> Result<(), AllocError> {
+    for binder in binders {
+        for name in binder.names.as_slice() {
+            push_word(&name.word, out)?;
+            out.push(' ')?;
+        }
+        show(&binder.set, out)?;
+        out.push(':')?;
+    }
+    Ok(())
+}
+
+#[cycle(show)]
+fn show_definition(definition: &Definition, out: &mut String) -> Result<(), AllocError> {
+    match definition {
+        Definition::Operator(name, parameters, body) => {
+            push_word(&name.word, out)?;
+            for parameter in parameters.as_slice() {
+                out.push(' ')?;
+                push_word(&parameter.word, out)?;
+            }
+            out.push('=')?;
+            show(body, out)
+        }
+        Definition::Function(name, binders, body) => {
+            push_word(&name.word, out)?;
+            out.push('[')?;
+            show_binders(binders.as_slice(), out)?;
+            out.push_str("]=")?;
+            show(body, out)
+        }
+    }
+}
+
+#[cycle(show)]
 fn show(e: &Expr, out: &mut String) -> Result<(), AllocError> {
     match e {
         Expr::Name(name) => push_word(&name.word, out)?,
@@ -95,7 +162,45 @@ fn show(e: &Expr, out: &mut String) -> Result<(), AllocError> {
             Constant::Boolean => "BOOLEAN",
             Constant::String => "STRING",
         })?,
+        Expr::Text(_, text) => push_word(text, out)?,
         Expr::At(_) => out.push('@')?,
+        Expr::Listing(_, brackets, items) => {
+            out.push_str(match brackets {
+                Brackets::Set => "{set",
+                Brackets::Tuple => "{tuple",
+            })?;
+            show_all(items.as_slice(), out)?;
+            out.push('}')?;
+        }
+        Expr::Call(name, items) => {
+            push_word(&name.word, out)?;
+            out.push('(')?;
+            show_all(items.as_slice(), out)?;
+            out.push(')')?;
+        }
+        Expr::Index(_, f, items) => {
+            out.push('{')?;
+            show(f, out)?;
+            out.push('[')?;
+            show_all(items.as_slice(), out)?;
+            out.push_str("]}")?;
+        }
+        Expr::Field(_, r, name) => {
+            out.push('{')?;
+            show(r, out)?;
+            out.push('.')?;
+            push_word(&name.word, out)?;
+            out.push('}')?;
+        }
+        Expr::Choose(_, name, s, e) => {
+            out.push_str("{C ")?;
+            push_word(&name.word, out)?;
+            out.push(' ')?;
+            show(s, out)?;
+            out.push(':')?;
+            show(e, out)?;
+            out.push('}')?;
+        }
         Expr::Paren(_, e) => {
             out.push('(')?;
             show(e, out)?;
@@ -132,15 +237,12 @@ fn show(e: &Expr, out: &mut String) -> Result<(), AllocError> {
             show(r, out)?;
             out.push('}')?;
         }
-        Expr::Quantified(_, q, name, s, e) => {
+        Expr::Quantified(_, q, binders, e) => {
             out.push_str(match q {
                 Quantifier::ForAll => "{A ",
                 Quantifier::Exists => "{E ",
             })?;
-            push_word(&name.word, out)?;
-            out.push(' ')?;
-            show(s, out)?;
-            out.push(':')?;
+            show_binders(binders.as_slice(), out)?;
             show(e, out)?;
             out.push('}')?;
         }
@@ -150,6 +252,29 @@ fn show(e: &Expr, out: &mut String) -> Result<(), AllocError> {
             out.push('?')?;
             show(b, out)?;
             out.push(':')?;
+            show(e, out)?;
+            out.push('}')?;
+        }
+        Expr::Case(_, arms, other) => {
+            out.push_str("{CASE")?;
+            for arm in arms.as_slice() {
+                out.push(' ')?;
+                show(&arm.guard, out)?;
+                out.push_str("->")?;
+                show(&arm.value, out)?;
+            }
+            if let Some(e) = other {
+                out.push_str(" OTHER->")?;
+                show(e, out)?;
+            }
+            out.push('}')?;
+        }
+        Expr::Let(_, definitions, e) => {
+            out.push_str("{LET ")?;
+            for definition in definitions.as_slice() {
+                show_definition(definition, out)?;
+                out.push(';')?;
+            }
             show(e, out)?;
             out.push('}')?;
         }
@@ -190,18 +315,58 @@ fn read(alloc: Global, text: &str) -> Result<Result<Module, String>, AllocError>
     }
 }
 
-/// The trees of the definitions of a module, or its refusal.
+/// A unit with trees or arities.
+fn show_unit(unit: &Unit, out: &mut String) -> Result<(), AllocError> {
+    match unit {
+        Unit::Separator(_) | Unit::Extends(_, _) | Unit::Variables(_, _) => {}
+        Unit::Operator(name, body) => {
+            push_word(&name.word, out)?;
+            out.push(' ')?;
+            show(body, out)?;
+        }
+        Unit::Defines(definition) => show_definition(definition, out)?,
+        Unit::Local(_, definition) => {
+            out.push_str("LOCAL ")?;
+            show_definition(definition, out)?;
+        }
+        Unit::Constants(_, declarations) => {
+            for declaration in declarations.as_slice() {
+                push_word(&declaration.name.word, out)?;
+                out.push_str(match declaration.arity {
+                    0 => ";",
+                    1 => "(_);",
+                    _ => "(_,_);",
+                })?;
+            }
+        }
+        Unit::Assume(_, name, body) => show_claim("ASSUME ", name, body, out)?,
+        Unit::Theorem(_, name, body) => show_claim("THEOREM ", name, body, out)?,
+    }
+    Ok(())
+}
+
+fn show_claim(
+    word: &str,
+    name: &Option<Written>,
+    body: &Expr,
+    out: &mut String,
+) -> Result<(), AllocError> {
+    out.push_str(word)?;
+    if let Some(name) = name {
+        push_word(&name.word, out)?;
+        out.push('=')?;
+    }
+    show(body, out)
+}
+
+/// The trees of the units of a module, or its refusal.
 fn trees(alloc: Global, text: &str) -> Result<String, AllocError> {
     match read(alloc, text)? {
         Err(e) => Ok(e),
         Ok(module) => {
             let mut out = String::new(alloc);
             for unit in module.units.as_slice() {
-                if let Unit::Operator(name, body) = unit {
-                    push_word(&name.word, &mut out)?;
-                    out.push(' ')?;
-                    show(body, &mut out)?;
-                }
+                show_unit(unit, &mut out)?;
             }
             Ok(out)
         }
@@ -239,6 +404,33 @@ fn table(rt: HostRuntime) -> Result<(), Fail> {
         ("", "P1 3:1"),
         ("ENABLED TRUE", "P5 2:8 ENABLED"),
         ("\\A v : v = v", "P5 2:8 \\A"),
+        ("\\A v , w : v = w", "P5 2:8 \\A"),
+        ("CHOOSE v : v = v", "P5 2:8 CHOOSE"),
+        ("\\A v \\in S , w : v", "P1 2:23"),
+        ("\\A v , w \\in S , x \\in T : v", "Op {A v w S:x T:v}"),
+        ("CHOOSE v \\in S : p \\/ q", "Op {C v S:{p\\/q}}"),
+        ("pc ' [ i ]", "Op {{pc'}[ i]}"),
+        ("f [ i , j ] . a ' = 1", "Op {{{{f[ i j]}.a}'}=0}"),
+        (
+            "F ( a , { } , { b , c } ) + << 1 >>",
+            "Op {F( a {set} {set b c})+{tuple 0}}",
+        ),
+        ("DOMAIN f [ i ] \\cup g", "Op {{DOMAIN {f[ i]}}\\cupg}"),
+        ("\"a\\n\" = x", "Op {a\n=x}"),
+        ("F ( )", "P1 2:12"),
+        (
+            "CASE p -> CASE q -> a [] r -> b [] OTHER -> c",
+            "Op {CASE p->{CASE q->a r->b OTHER->c}}",
+        ),
+        ("CASE p -> [] a [] q -> b", "Op {CASE p->{[]a} q->b}"),
+        (
+            "LET x == 1 F ( p , q ) == p f [ i \\in S ] == i IN x + F ( 1 )",
+            "Op {LET x=0;F p q=p;f[i S:]=i;{x+F( 0)}}",
+        ),
+        ("LET F ( G ( _ ) ) == 1 IN 2", "P5 2:12 F"),
+        ("LET IN 1", "P1 2:12"),
+        ("{ a , }", "P1 2:14"),
+        ("f [ ]", "P1 2:12"),
         ("~ /\\ x = a\n         /\\ x = b", "Op {~[&{x=a}&{x=b}]}"),
         ("~ /\\ x = a\n        /\\ x = b", "Op {{~[&{x=a}]}/\\{x=b}}"),
         ("/\\ ( a\n  )", "P3 3:3"),
@@ -264,6 +456,17 @@ fn modules(rt: HostRuntime) -> Result<(), Fail> {
             "Op xAt y",
         ),
         ("M ----\nEXTENDS Integers , Bags\n====", "P5 2:20 Bags"),
+        (
+            "M ----\nCONSTANT c , F ( _ , _ ) , G ( _ )\nASSUME c = 1\nASSUME A == c\nTHEOREM c\n====",
+            "c;F(_,_);G(_);ASSUME {c=0}ASSUME A=cTHEOREM c",
+        ),
+        (
+            "M ----\nF ( p , q ) == p\nLOCAL f [ x \\in S ] == x\nLOCAL Op == 1\n====",
+            "F p q=pLOCAL f[x S:]=xLOCAL Op=0",
+        ),
+        ("M ----\nF ( G ( _ ) , x ) == 1\n====", "P5 2:1 F"),
+        ("M ----\nLOCAL VARIABLE x\n====", "P1 2:7"),
+        ("M ----\nCONSTANT F ( _ , x )\n====", "P1 2:16"),
         ("M ----\n----\nEXTENDS TLC\nEXTENDS TLC\n====", "P1 4:1"),
         ("M ----\nVARIABLE x\nEXTENDS TLC\n====", "P1 3:1"),
         ("M ----\n---- MODULE N ----\n====", "P5 2:6 MODULE"),

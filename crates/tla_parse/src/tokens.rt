@@ -1,6 +1,7 @@
 //! Tokens as the grammar reads them: by their number in the list, and only right of a column.
 
-ghost use Rattle.std.specs.Prelude.{◌≡◌, ◌+◌, ◌^◌, ◌<◌, length, slice_get, IfOk, IfErr, OnSome, IsTrue};
+ghost use Rattle.std.specs.Prelude.{◌≡◌, ◌+◌, ◌^◌, ◌<◌, ◌≤◌, length, slice_get, IfOk, IfErr, IfSome, OnSome, IsTrue};
+ghost use Rattle.tla_lex.specs.Strings.{string_text};
 ghost use Rattle.tla_parse.specs.Tokens as spec;
 ghost use Rattle.tla_parse.specs.Kinds as kinds;
 ghost use Rattle.tla_parse.specs.Ending as ending;
@@ -8,12 +9,45 @@ ghost use Rattle.tla_parse.specs.LeftOut as left_out;
 ghost use Rattle.tla_parse.specs.Reading as reading;
 ghost use Rattle.tla_parse.specs.Gives.{Refuses};
 
-use crate::operators::{bullet_of, infix_of, low, quantifier_of};
+use crate::operators::{bullet_of, infix_of, low};
 use crate::refusal::Refusal;
-use crate::tree::{Bullet, Infix};
+use crate::tree::{Brackets, Bullet, Infix};
 use crate::word::{Word, Written};
 use std::alloc::Global;
-use tla_lex::{Kind, Token};
+use tla_lex::{Kind, Token, string_text};
+
+/// What stands between the items of a list.
+#[derive(Clone, Copy, Debug)]
+pub enum Between {
+    Comma,
+    /// This bullet, in the list's column.
+    Bullet(Bullet),
+    /// `[]`, before an arm of CASE that is no OTHER.
+    Arm,
+    /// Nothing, before a definition, which begins with a name.
+    Nothing,
+}
+
+/// A postfix form, by what begins it.
+#[derive(Clone, Copy, Debug)]
+pub enum Postfix {
+    /// `'`
+    Prime,
+    /// `[`
+    Index,
+    /// `.`
+    Field,
+}
+
+/// The brackets' closing token.
+pub fn closing(brackets: Brackets) -> Kind
+    ensures { result ≡ kinds.closing brackets }
+{
+    match brackets {
+        Brackets::Set => Kind::RightBrace,
+        Brackets::Tuple => Kind::RightTuple,
+    }
+}
 
 /// The token of this number, where it stands right of the column.
 pub fn seen(tokens: &[Token], column: u128, at: usize) -> Option<Token>
@@ -43,7 +77,13 @@ pub fn is_kind(kind: Kind, token: Option<Token>) -> bool
         (Kind::Name, Kind::Name) => true,
         (Kind::Separator, Kind::Separator) => true,
         (Kind::Closing, Kind::Closing) => true,
+        (Kind::LeftParen, Kind::LeftParen) => true,
         (Kind::RightParen, Kind::RightParen) => true,
+        (Kind::LeftBracket, Kind::LeftBracket) => true,
+        (Kind::RightBracket, Kind::RightBracket) => true,
+        (Kind::RightBrace, Kind::RightBrace) => true,
+        (Kind::RightTuple, Kind::RightTuple) => true,
+        (Kind::Underscore, Kind::Underscore) => true,
         (Kind::Comma, Kind::Comma) => true,
         (Kind::Colon, Kind::Colon) => true,
         (Kind::Prime, Kind::Prime) => true,
@@ -52,13 +92,20 @@ pub fn is_kind(kind: Kind, token: Option<Token>) -> bool
         (Kind::Member, Kind::Member) => true,
         (Kind::Then, Kind::Then) => true,
         (Kind::Else, Kind::Else) => true,
+        (Kind::In, Kind::In) => true,
+        (Kind::Box, Kind::Box) => true,
+        (Kind::Arrow, Kind::Arrow) => true,
+        (Kind::MapsTo, Kind::MapsTo) => true,
+        (Kind::Other, Kind::Other) => true,
+        (Kind::Equal, Kind::Equal) => true,
         _ => false,
     }
 }
 
 /// Whether this bullet stands here, in the column.
 pub fn is_bullet_at(tokens: &[Token], column: u128, bullet: Bullet, at: usize) -> bool
-    ensures { result ≡ spec.is_bullet_at column bullet (slice_get tokens.now at) }
+    ensures value { result ≡ spec.is_bullet_at column bullet (slice_get tokens.now at) }
+    ensures within { IsTrue result → at < length tokens.now }
 {
     match tokens.get(at) {
         Some(t) => {
@@ -70,6 +117,45 @@ pub fn is_bullet_at(tokens: &[Token], column: u128, bullet: Bullet, at: usize) -
                 }
         }
         None => false,
+    }
+}
+
+/// Where the next item of a list begins, behind this token.
+pub fn following(tokens: &[Token], column: u128, between: Between, at: usize) -> Option<usize>
+    ensures value { result ≡ reading.following tokens.now column between at }
+    ensures within { IfSome result (λ next. next ≤ length tokens.now) }
+{
+    match between {
+        Between::Comma => {
+            if is_kind(Kind::Comma, seen(tokens, column, at)) {
+                Some(at + 1)
+            } else {
+                None
+            }
+        }
+        Between::Arm => {
+            if is_kind(Kind::Box, seen(tokens, column, at))
+                && !is_kind(Kind::Other, seen(tokens, column, at + 1))
+            {
+                Some(at + 1)
+            } else {
+                None
+            }
+        }
+        Between::Nothing => {
+            if is_kind(Kind::Name, seen(tokens, column, at)) {
+                Some(at)
+            } else {
+                None
+            }
+        }
+        Between::Bullet(bullet) => {
+            if is_bullet_at(tokens, column, bullet, at) {
+                Some(at + 1)
+            } else {
+                None
+            }
+        }
     }
 }
 
@@ -89,13 +175,25 @@ pub fn may_follow(tokens: &[Token], column: u128, at: usize) -> bool
     }
 }
 
-/// Whether a token of this kind begins an infix operator or a postfix form.
+/// Whether a token of this kind begins an infix operator, a postfix form or arguments.
 fn goes_on(kind: Kind) -> bool
     ensures { result ≡ spec.goes_on kind }
 {
     match kind {
-        Kind::Prime => true,
+        Kind::Prime | Kind::LeftBracket | Kind::Dot | Kind::LeftParen => true,
         other => infix_of(other).is_some(),
+    }
+}
+
+/// The postfix form that begins here.
+pub fn postfix_at(token: Option<Token>) -> Option<Postfix>
+    ensures { result ≡ reading.postfix_at token }
+{
+    match token?.kind {
+        Kind::Prime => Some(Postfix::Prime),
+        Kind::LeftBracket => Some(Postfix::Index),
+        Kind::Dot => Some(Postfix::Field),
+        _ => None,
     }
 }
 
@@ -146,6 +244,21 @@ pub fn written(alloc: Global, text: &[u8], token: Token) -> Result<Written, Refu
     }
 }
 
+/// The text of a string, with its escapes read.
+pub fn text_of(alloc: Global, text: &[u8], token: Token) -> Result<Word, Refusal>
+    ensures ok { IfOk result (λ w. w ≡ string_text (spec.word_of text.now token)) }
+    ensures err { IfErr result (λ e. e ≡ Refusal.NoMemory) }
+{
+    let literal = slice_of(text, token);
+    if literal.is_empty() {
+        return Ok(Word::new(Vec::new(alloc)));
+    }
+    match string_text(alloc, literal) {
+        Ok(bytes) => Ok(Word::new(bytes)),
+        Err(_) => Err(Refusal::NoMemory),
+    }
+}
+
 /// Whether a token of this kind begins a form that is left out, wherever it stands.
 fn is_left_out(kind: Kind) -> bool
     ensures { result ≡ left_out.is_left_out kind }
@@ -175,21 +288,7 @@ fn is_not_yet_read(kind: Kind) -> bool
     ensures { result ≡ left_out.is_not_yet_read kind }
 {
     match kind {
-        Kind::Text
-        | Kind::WeakFairness
-        | Kind::StrongFairness
-        | Kind::LeftBracket
-        | Kind::LeftBrace
-        | Kind::LeftTuple
-        | Kind::Dot
-        | Kind::Product
-        | Kind::Case
-        | Kind::Choose
-        | Kind::Let
-        | Kind::Assume
-        | Kind::Constant
-        | Kind::Local
-        | Kind::Theorem => true,
+        Kind::WeakFairness | Kind::StrongFairness | Kind::LeftBracket | Kind::Product => true,
         _ => false,
     }
 }
@@ -212,25 +311,80 @@ pub fn refused(tokens: &[Token], column: u128, at: usize) -> Refusal
     }
 }
 
-/// Whether a quantifier stands here over a name without a set.
-fn is_unbounded(tokens: &[Token], at: usize) -> bool
-    requires { at + 2 < 2 ^ 64 }
-    ensures { IsTrue result → left_out.IsUnbounded tokens.now at }
+/// Whether a quantifier or CHOOSE stands here over names without a set, all right of the column.
+fn is_unbounded(tokens: &[Token], column: u128, from: usize) -> bool
+    ensures { IsTrue result → left_out.IsUnbounded tokens.now from }
 {
-    let Some(t) = tokens.get(at) else {
+    let Some(t) = seen(tokens, column, from) else {
         return false;
     };
-    quantifier_of(t.kind).is_some()
-        && is_kind(Kind::Name, tokens.get(at + 1).copied())
-        && is_kind(Kind::Colon, tokens.get(at + 2).copied())
+    if !is_binding(t.kind) {
+        return false;
+    }
+    let mut at = from + 1;
+    for _turn in 0..tokens.len() {
+        if !is_kind(Kind::Name, seen(tokens, column, at)) {
+            return false;
+        }
+        if is_kind(Kind::Colon, seen(tokens, column, at + 1)) {
+            return true;
+        }
+        if !is_kind(Kind::Comma, seen(tokens, column, at + 1)) {
+            return false;
+        }
+        at += 2;
+    }
+    false
 }
 
-/// The refusal of a token in the binder of the form at `from`: the form, where it is left out, else the token.
+/// Whether a token of this kind begins a quantifier or CHOOSE.
+fn is_binding(kind: Kind) -> bool
+    ensures { result ≡ left_out.is_binding kind }
+{
+    matches!(kind, Kind::ForAll | Kind::Exists | Kind::Choose)
+}
+
+/// The refusal of a token in the binders of the form at `from`: the form, where it is left out, else the token.
 pub fn refused_binder(tokens: &[Token], column: u128, from: usize, at: usize) -> Refusal
-    requires { from + 2 < 2 ^ 64 }
     ensures { Refuses tokens.now result }
 {
-    if is_unbounded(tokens, from) {
+    if is_unbounded(tokens, column, from) {
+        Refusal::LeftOut(from)
+    } else {
+        refused(tokens, column, at)
+    }
+}
+
+/// Whether a definition stands here whose parameters, all right of the column, have an operator among them.
+fn has_operator_parameter(tokens: &[Token], column: u128, from: usize) -> bool
+    ensures { IsTrue result → left_out.HasOperatorParameter tokens.now from }
+{
+    if !is_kind(Kind::Name, seen(tokens, column, from))
+        || !is_kind(Kind::LeftParen, seen(tokens, column, from + 1))
+    {
+        return false;
+    }
+    let mut at = from + 2;
+    for _turn in 0..tokens.len() {
+        if !is_kind(Kind::Name, seen(tokens, column, at)) {
+            return false;
+        }
+        if is_kind(Kind::LeftParen, seen(tokens, column, at + 1)) {
+            return is_kind(Kind::Underscore, seen(tokens, column, at + 2));
+        }
+        if !is_kind(Kind::Comma, seen(tokens, column, at + 1)) {
+            return false;
+        }
+        at += 2;
+    }
+    false
+}
+
+/// The refusal of a token in the parameters of the definition at `from`: the definition, where it is left out, else the token.
+pub fn refused_parameter(tokens: &[Token], column: u128, from: usize, at: usize) -> Refusal
+    ensures { Refuses tokens.now result }
+{
+    if has_operator_parameter(tokens, column, from) {
         Refusal::LeftOut(from)
     } else {
         refused(tokens, column, at)

@@ -1,6 +1,6 @@
 //! Trees of syntax.
 
-use crate::word::Written;
+use crate::word::{Word, Written};
 use tla_lex::Place;
 
 /// An infix operator.
@@ -102,27 +102,79 @@ pub enum Constant {
     String,
 }
 
+/// The brackets round a list of expressions.
+#[derive(Clone, Copy, Debug)]
+pub enum Brackets {
+    /// `{` and `}`
+    Set,
+    /// `<<` and `>>`
+    Tuple,
+}
+
+/// A group of a binder list: `x, y \in S`.
+#[cycle(tree)]
+#[derive(Drop)]
+pub struct Binder {
+    pub names: Vec<Written>,
+    pub set: Expr,
+}
+
+/// An arm of CASE: `p -> e`.
+#[cycle(tree)]
+#[derive(Drop)]
+pub struct Arm {
+    pub guard: Expr,
+    pub value: Expr,
+}
+
+/// What gives a name a meaning.
+#[cycle(tree)]
+#[derive(Drop)]
+pub enum Definition {
+    /// `Op == e`, or `Op(p, ..) == e` with one parameter or more.
+    Operator(Written, Vec<Written>, Expr),
+    /// `f[x \in S, ..] == e`
+    Function(Written, Vec<Binder>, Expr),
+}
+
 /// An expression. Each node has the place of its first token.
+#[cycle(tree)]
 #[derive(Drop)]
 pub enum Expr {
     /// A name alone.
     Name(Written),
     Number(Place, u64),
+    /// A string, with its escapes read.
+    Text(Place, Word),
     Constant(Place, Constant),
     /// `@`, in an update of EXCEPT.
     At(Place),
     /// `(e)`
     Paren(Place, Box<Expr>),
+    /// `{e, ..}` or `<<e, ..>>`
+    Listing(Place, Brackets, Vec<Expr>),
+    /// `Op(e, ..)`, with one argument or more.
+    Call(Written, Vec<Expr>),
     /// `e'`
     Prime(Place, Box<Expr>),
+    /// `f[e, ..]`, with one argument or more.
+    Index(Place, Box<Expr>, Vec<Expr>),
+    /// `r.a`
+    Field(Place, Box<Expr>, Written),
     /// A prefix operator and its operand.
     Unary(Place, Prefix, Box<Expr>),
     /// An infix operator, as it is written and where, between its operands.
     Binary(Place, Infix, Written, Box<Expr>, Box<Expr>),
-    /// `\A x \in S : p`
-    Quantified(Place, Quantifier, Written, Box<Expr>, Box<Expr>),
+    /// `\A x, y \in S, z \in T : p`
+    Quantified(Place, Quantifier, Vec<Binder>, Box<Expr>),
+    /// `CHOOSE x \in S : p`
+    Choose(Place, Written, Box<Expr>, Box<Expr>),
     /// `IF p THEN a ELSE b`
     If(Place, Box<Expr>, Box<Expr>, Box<Expr>),
+    /// `CASE p -> a [] .. [] OTHER -> b`, with one arm or more, and OTHER or none.
+    Case(Place, Vec<Arm>, Option<Box<Expr>>),
+    /// `LET` one definition or more `IN e`
+    Let(Place, Vec<Definition>, Box<Expr>),
     /// A junction list, of one item or more.
     Junction(Place, Bullet, Vec<Expr>),
 }
@@ -141,12 +193,20 @@ impl Expr {
             Expr::Number(at, _) => *at,
             Expr::Constant(at, _) => *at,
             Expr::At(at) => *at,
+            Expr::Text(at, _) => *at,
             Expr::Paren(at, _) => *at,
+            Expr::Listing(at, _, _) => *at,
+            Expr::Call(name, _) => name.place,
             Expr::Prime(at, _) => *at,
+            Expr::Index(at, _, _) => *at,
+            Expr::Field(at, _, _) => *at,
             Expr::Unary(at, _, _) => *at,
             Expr::Binary(at, _, _, _, _) => *at,
-            Expr::Quantified(at, _, _, _, _) => *at,
+            Expr::Quantified(at, _, _, _) => *at,
+            Expr::Choose(at, _, _, _) => *at,
             Expr::If(at, _, _, _) => *at,
+            Expr::Case(at, _, _) => *at,
+            Expr::Let(at, _, _) => *at,
             Expr::Junction(at, _, _) => *at,
         }
     }

@@ -1,24 +1,34 @@
 //! The units of a module.
 
-ghost use Rattle.std.specs.Prelude.{◌≡◌, ◌+◌, ◌<◌, ◌≤◌, ◌++◌, ◌∷◌, ◌&&◌, ◌||◌, [], length, true, not, IfErr, OnOk};
+ghost use Rattle.std.specs.Prelude.{◌≡◌, ◌+◌, ◌<◌, ◌≤◌, ◌++◌, ◌∷◌, ◌&&◌, ◌||◌, [], length, true, not, IfErr, OnOk, OnSome};
 ghost use Rattle.tla_parse.specs.Units as units;
 ghost use Rattle.tla_parse.specs.UnitsView.{unit_view};
 ghost use Rattle.tla_parse.specs.UnitsReading as reading;
 ghost use Rattle.tla_parse.specs.LeftOut.{IsExtended};
-ghost use Rattle.tla_parse.specs.UnitsGive.{GivesNames, GivesUnit, GivesUnits};
+ghost use Rattle.tla_parse.specs.Gives.{GivesNames};
+ghost use Rattle.tla_parse.specs.View.{definition_view};
+ghost use Rattle.tla_parse.specs.UnitsGive.{GivesDeclared, GivesConstants, GivesClaim, GivesUnit, GivesUnits};
 
-use crate::grammar::expr;
+use crate::grammar::{definition, expr};
 use crate::modules::is_module;
+use crate::names::{ParsedNames, names, push_name};
+use crate::parts::ParsedDefinition;
 use crate::refusal::Refusal;
 use crate::scope::Scope;
-use crate::tokens::{is_kind, name_at, refused, refused_unit, seen, written};
-use crate::tree::Expr;
+use crate::tokens::{Between, following, is_kind, name_at, refused, refused_unit, seen, written};
+use crate::tree::{Definition, Expr};
 use crate::word::Written;
 use std::alloc::Global;
 use tla_lex::{Kind, Place, Token};
 
 /// How deep the tree of an expression may be.
 pub const MAX_DEPTH: usize = 200;
+
+/// The scope of a unit's expressions.
+const OUTERMOST: Scope = Scope {
+    column: 0,
+    updating: false,
+};
 
 /// A unit of a module.
 #[derive(Drop)]
@@ -29,6 +39,22 @@ pub enum Unit {
     Variables(Place, Vec<Written>),
     /// `Op == e`
     Operator(Written, Expr),
+    /// A definition with parameters, or of a function.
+    Defines(Definition),
+    /// `LOCAL` before a definition.
+    Local(Place, Definition),
+    Constants(Place, Vec<Declaration>),
+    /// An assumption, with a name or without.
+    Assume(Place, Option<Written>, Expr),
+    /// A theorem, with a name or without.
+    Theorem(Place, Option<Written>, Expr),
+}
+
+/// A constant: `c`, or `F(_, ..)` with so many arguments.
+#[derive(Drop)]
+pub struct Declaration {
+    pub name: Written,
+    pub arity: usize,
 }
 
 impl Unit {
@@ -47,10 +73,32 @@ impl Unit {
     }
 }
 
-/// Names, and the number of the token after the last.
+/// How many underscores, and the number of the token after the last.
+#[derive(Clone, Copy)]
+pub struct ParsedCount {
+    pub count: usize,
+    pub end: usize,
+}
+
+/// A constant, and the number of the token after it.
 #[derive(Drop)]
-pub struct ParsedNames {
-    pub names: Vec<Written>,
+pub struct ParsedDeclaration {
+    pub declaration: Declaration,
+    pub end: usize,
+}
+
+/// Constants, and the number of the token after the last.
+#[derive(Drop)]
+pub struct ParsedDeclarations {
+    pub declarations: Vec<Declaration>,
+    pub end: usize,
+}
+
+/// What is assumed or claimed, under a name or none, and the number of the token after it.
+#[derive(Drop)]
+pub struct ParsedClaim {
+    pub name: Option<Written>,
+    pub body: Expr,
     pub end: usize,
 }
 
@@ -68,16 +116,6 @@ pub struct ParsedUnits {
     pub end: usize,
 }
 
-fn push_name(names: &mut Vec<Written>, name: Written) -> Result<(), Refusal>
-    ensures ok { OnOk result (names.new.items ≡ names.old.items ++ name ∷ []) }
-    ensures err { IfErr result (λ e. e ≡ Refusal.NoMemory) }
-{
-    match names.push(name) {
-        Ok(()) => Ok(()),
-        Err(_) => Err(Refusal::NoMemory),
-    }
-}
-
 fn push_unit(units: &mut Vec<Unit>, unit: Unit) -> Result<(), Refusal>
     ensures ok { OnOk result (units.new.items ≡ units.old.items ++ unit ∷ []) }
     ensures err { IfErr result (λ e. e ≡ Refusal.NoMemory) }
@@ -86,34 +124,6 @@ fn push_unit(units: &mut Vec<Unit>, unit: Unit) -> Result<(), Refusal>
         Ok(()) => Ok(()),
         Err(_) => Err(Refusal::NoMemory),
     }
-}
-
-/// Names with commas between them.
-#[tactic(auto, using(crate::proofs::UnitsSteps::names_more, crate::proofs::UnitsSteps::names_last, crate::proofs::UnitsSteps::names_none, crate::proofs::UnitsSteps::names_full))]
-fn names(
-    alloc: Global,
-    text: &[u8],
-    tokens: &[Token],
-    column: u128,
-    from: usize,
-) -> Result<ParsedNames, Refusal>
-    requires { from ≤ length tokens.now }
-    ensures { GivesNames text.now tokens.now result (reading.names text.now tokens.now (length tokens.now) [] column from) }
-{
-    let mut names = Vec::new(alloc);
-    let mut at = from;
-    for _turn in 0..tokens.len() {
-        let Some(name) = name_at(seen(tokens, column, at)) else {
-            return Err(refused(tokens, column, at));
-        };
-        let name = written(alloc, text, name)?;
-        push_name(&mut names, name)?;
-        if !is_kind(Kind::Comma, seen(tokens, column, at + 1)) {
-            return Ok(ParsedNames { names, end: at + 1 });
-        }
-        at += 2;
-    }
-    Err(refused(tokens, column, at))
 }
 
 /// The names of known modules with commas between them, behind EXTENDS.
@@ -147,32 +157,155 @@ fn extended(
     Err(refused(tokens, 0, at))
 }
 
-/// `Op == e`, where the name is this token.
-#[tactic(auto, unfolding(crate::specs::UnitsReading::operator))]
-fn operator(
+fn push_declaration(
+    declarations: &mut Vec<Declaration>,
+    declaration: Declaration,
+) -> Result<(), Refusal>
+    ensures ok { OnOk result (declarations.new.items ≡ declarations.old.items ++ declaration ∷ []) }
+    ensures err { IfErr result (λ e. e ≡ Refusal.NoMemory) }
+{
+    match declarations.push(declaration) {
+        Ok(()) => Ok(()),
+        Err(_) => Err(Refusal::NoMemory),
+    }
+}
+
+/// How many underscores there are with the first, where each of the others has a comma before it, and the number of the token after them.
+#[tactic(auto, using(crate::proofs::UnitsSteps::blanks_more, crate::proofs::UnitsSteps::blanks_last, crate::proofs::UnitsSteps::blanks_full))]
+fn blanks(tokens: &[Token], from: usize) -> ParsedCount
+    requires { from ≤ length tokens.now }
+    ensures count { result.count ≡ (reading.blanks tokens.now (length tokens.now) 1 from).0 }
+    ensures end { result.end ≡ (reading.blanks tokens.now (length tokens.now) 1 from).1 }
+{
+    let mut count = 1;
+    let mut at = from;
+    for _turn in 0..tokens.len() {
+        let goes_on = is_kind(Kind::Comma, seen(tokens, 0, at))
+            && is_kind(Kind::Underscore, seen(tokens, 0, at + 1));
+        if !goes_on {
+            return ParsedCount { count, end: at };
+        }
+        count += 1;
+        at += 2;
+    }
+    ParsedCount { count, end: at }
+}
+
+/// A constant.
+#[tactic(auto, unfolding(crate::specs::UnitsReading::declared))]
+fn constant(
     alloc: Global,
     text: &[u8],
     tokens: &[Token],
-    name: Token,
     from: usize,
-) -> Result<ParsedUnit, Refusal>
-    requires { from < length tokens.now }
-    ensures { GivesUnit text.now tokens.now result (reading.operator text.now tokens.now 200 name from) }
+) -> Result<ParsedDeclaration, Refusal>
+    ensures { GivesDeclared text.now tokens.now result (reading.declared text.now tokens.now from) }
 {
-    if !is_kind(Kind::Define, seen(tokens, 0, from + 1)) {
-        return Err(refused(tokens, 0, from + 1));
-    }
-    let outermost = Scope {
-        column: 0,
-        updating: false,
+    let Some(t) = name_at(seen(tokens, 0, from)) else {
+        return Err(refused(tokens, 0, from));
     };
-    let body = expr(alloc, text, tokens, MAX_DEPTH, outermost, 0, from + 2)?;
-    let end = body.end;
-    let name = written(alloc, text, name)?;
-    Ok(ParsedUnit {
-        unit: Unit::Operator(name, body.tree),
-        end,
+    let name = written(alloc, text, t)?;
+    if !is_kind(Kind::LeftParen, seen(tokens, 0, from + 1)) {
+        return Ok(ParsedDeclaration {
+            declaration: Declaration { name, arity: 0 },
+            end: from + 1,
+        });
+    }
+    if !is_kind(Kind::Underscore, seen(tokens, 0, from + 2)) {
+        return Err(refused(tokens, 0, from + 2));
+    }
+    let found = blanks(tokens, from + 3);
+    if !is_kind(Kind::RightParen, seen(tokens, 0, found.end)) {
+        return Err(refused(tokens, 0, found.end));
+    }
+    Ok(ParsedDeclaration {
+        declaration: Declaration {
+            name,
+            arity: found.count,
+        },
+        end: found.end + 1,
     })
+}
+
+/// Constants with commas between them.
+fn constants(
+    alloc: Global,
+    text: &[u8],
+    tokens: &[Token],
+    from: usize,
+) -> Result<ParsedDeclarations, Refusal>
+    ensures { GivesConstants text.now tokens.now result (reading.constants text.now tokens.now (length tokens.now) [] from) }
+{
+    let mut declarations = Vec::new(alloc);
+    let mut at = from;
+    for _turn in 0..tokens.len() {
+        let found = constant(alloc, text, tokens, at)?;
+        let end = found.end;
+        push_declaration(&mut declarations, found.declaration)?;
+        let Some(next) = following(tokens, 0, Between::Comma, end) else {
+            return Ok(ParsedDeclarations { declarations, end });
+        };
+        at = next;
+    }
+    Err(refused(tokens, 0, at))
+}
+
+/// The name before `==`.
+fn claim_name(tokens: &[Token], from: usize) -> Option<Token>
+    requires { from ≤ length tokens.now }
+    ensures value { result ≡ reading.claim_name tokens.now from }
+    ensures within { OnSome result (from < length tokens.now) }
+{
+    if is_kind(Kind::Define, seen(tokens, 0, from + 1)) {
+        name_at(seen(tokens, 0, from))
+    } else {
+        None
+    }
+}
+
+/// What is assumed or claimed, under a name or none.
+#[tactic(auto, unfolding(crate::specs::UnitsReading::claim))]
+fn claim(alloc: Global, text: &[u8], tokens: &[Token], from: usize) -> Result<ParsedClaim, Refusal>
+    requires { from ≤ length tokens.now }
+    ensures { GivesClaim text.now tokens.now result (reading.claim text.now tokens.now 200 from) }
+{
+    match claim_name(tokens, from) {
+        None => {
+            let e = expr(alloc, text, tokens, MAX_DEPTH, OUTERMOST, 0, from)?;
+            Ok(ParsedClaim {
+                name: None,
+                body: e.tree,
+                end: e.end,
+            })
+        }
+        Some(t) => {
+            let e = expr(alloc, text, tokens, MAX_DEPTH, OUTERMOST, 0, from + 2)?;
+            let name = written(alloc, text, t)?;
+            Ok(ParsedClaim {
+                name: Some(name),
+                body: e.tree,
+                end: e.end,
+            })
+        }
+    }
+}
+
+/// The unit that a definition is.
+fn unit_of(definition: Definition) -> Unit
+    ensures { unit_view result ≡ reading.unit_of (definition_view definition) }
+{
+    match definition {
+        Definition::Operator(name, parameters, body) => {
+            if parameters.is_empty() {
+                Unit::Operator(name, body)
+            } else {
+                Unit::Defines(Definition::Operator(name, parameters, body))
+            }
+        }
+        Definition::Function(name, binders, body) => {
+            Unit::Defines(Definition::Function(name, binders, body))
+        }
+    }
 }
 
 /// The unit that begins at the token of this number.
@@ -203,7 +336,49 @@ fn unit_at(alloc: Global, text: &[u8], tokens: &[Token], from: usize) -> Result<
                 end,
             })
         }
-        Kind::Name => operator(alloc, text, tokens, t, from),
+        Kind::Name => {
+            let ParsedDefinition {
+                definition,
+                end,
+                ..
+            } = definition(alloc, text, tokens, OUTERMOST, from)?;
+            Ok(ParsedUnit {
+                unit: unit_of(definition),
+                end,
+            })
+        }
+        Kind::Local => {
+            let ParsedDefinition {
+                definition,
+                end,
+                ..
+            } = definition(alloc, text, tokens, OUTERMOST, from + 1)?;
+            Ok(ParsedUnit {
+                unit: Unit::Local(at, definition),
+                end,
+            })
+        }
+        Kind::Constant => {
+            let found = constants(alloc, text, tokens, from + 1)?;
+            Ok(ParsedUnit {
+                unit: Unit::Constants(at, found.declarations),
+                end: found.end,
+            })
+        }
+        Kind::Assume => {
+            let found = claim(alloc, text, tokens, from + 1)?;
+            Ok(ParsedUnit {
+                unit: Unit::Assume(at, found.name, found.body),
+                end: found.end,
+            })
+        }
+        Kind::Theorem => {
+            let found = claim(alloc, text, tokens, from + 1)?;
+            Ok(ParsedUnit {
+                unit: Unit::Theorem(at, found.name, found.body),
+                end: found.end,
+            })
+        }
         _ => Err(refused_unit(tokens, from)),
     }
 }

@@ -7,7 +7,7 @@ use Rattle.tla_parse.specs.Kinds.{kind_at}
 use Rattle.tla_parse.specs.Units.{is_extends, is_separator, unit_depth, units_depth}
 use Rattle.tla_parse.specs.UnitsView.{unit_view}
 use Rattle.tla_parse.specs.UnitsReading.{unit}
-use Rattle.tla_parse.proofs.Steps.{refuses_fails}
+use Rattle.tla_parse.proofs.Fails.{refuses_fails}
 use Rattle.tla_parse.proofs.UnitsSteps.{units_done, units_more, units_late, units_fails, units_full, units_depth_snoc, map_snoc}
 use Rattle.tla_parse.proofs.units.units_from.Goals as goal
 

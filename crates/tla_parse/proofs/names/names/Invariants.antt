@@ -1,6 +1,6 @@
 use Rattle.std.proofs.Common.{◌≡◌, ◌-◌, ◌≤◌, length, []}
-use Rattle.tla_parse.specs.UnitsReading.{names}
-use Rattle.tla_parse.proofs.units.names.Given as goal
+use Rattle.tla_parse.specs.Reading.{names}
+use Rattle.tla_parse.proofs.names.names.Given as goal
 
 abbrev pub invariant-loop-turn : goal.invariant-loop-turn
 invariant-loop-turn l = record {

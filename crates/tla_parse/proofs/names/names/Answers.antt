@@ -3,9 +3,9 @@ use Rattle.tla_lex.specs.declared.token.Kind.TheVariants as k
 use Rattle.tla_parse.specs.Tokens.{seen, written}
 use Rattle.tla_parse.specs.Kinds.{kind_at}
 use Rattle.tla_parse.specs.Reading.{name_at}
-use Rattle.tla_parse.proofs.Steps.{refuses_fails}
-use Rattle.tla_parse.proofs.UnitsSteps.{names_none, names_last}
-use Rattle.tla_parse.proofs.units.names.Goals as goal
+use Rattle.tla_parse.proofs.Fails.{refuses_fails}
+use Rattle.tla_parse.proofs.NameLists.{names_none, names_last}
+use Rattle.tla_parse.proofs.names.names.Goals as goal
 
 pub returns-in_default : goal.returns-in_default
 returns-in_default c =

@@ -1,0 +1,188 @@
+//! What the rules of expressions hand on, and nodes made of lists.
+
+ghost use Rattle.std.specs.Prelude.{◌≡◌, IfOk, IfErr, OnOk, map, [], ◌∷◌, ◌++◌};
+ghost use Rattle.tla_parse.specs.View.{view, group_view, choice_view, definition_view};
+ghost use Rattle.tla_parse.specs.Tree as tree;
+ghost use Rattle.tla_parse.specs.Tree.{trees, binders};
+
+use crate::refusal::Refusal;
+use crate::tree::{Arm, Binder, Brackets, Bullet, Definition, Expr, Quantifier};
+use crate::word::Written;
+use std::alloc::Global;
+use tla_lex::Place;
+
+/// A tree, the number of the token after it, and its depth.
+#[derive(Drop)]
+pub struct Parsed {
+    pub tree: Expr,
+    pub end: usize,
+    pub depth: usize,
+}
+
+/// Trees, the number of the token after the last, and their greatest depth.
+#[derive(Drop)]
+pub struct ParsedItems {
+    pub items: Vec<Expr>,
+    pub end: usize,
+    pub depth: usize,
+}
+
+/// A group of a binder list, the number of the token after it, and the depth of its set.
+#[derive(Drop)]
+pub struct ParsedBinder {
+    pub binder: Binder,
+    pub end: usize,
+    pub depth: usize,
+}
+
+/// A binder list, the number of the token after it, and the greatest depth of a set.
+#[derive(Drop)]
+pub struct ParsedBinders {
+    pub binders: Vec<Binder>,
+    pub end: usize,
+    pub depth: usize,
+}
+
+pub fn boxed(alloc: Global, tree: Expr) -> Result<Box<Expr>, Refusal>
+    ensures ok { IfOk result (λ b. b.value ≡ tree) }
+    ensures err { IfErr result (λ e. e ≡ Refusal.NoMemory) }
+{
+    match Box::new(alloc, tree) {
+        Ok(b) => Ok(b),
+        Err(_) => Err(Refusal::NoMemory),
+    }
+}
+
+/// An arm of CASE, the number of the token after it, and the greatest depth in it.
+#[derive(Drop)]
+pub struct ParsedArm {
+    pub arm: Arm,
+    pub end: usize,
+    pub depth: usize,
+}
+
+/// Arms of CASE, the number of the token after the last, and the greatest depth in them.
+#[derive(Drop)]
+pub struct ParsedArms {
+    pub arms: Vec<Arm>,
+    pub end: usize,
+    pub depth: usize,
+}
+
+/// A definition, the number of the token after it, and the greatest depth in it.
+#[derive(Drop)]
+pub struct ParsedDefinition {
+    pub definition: Definition,
+    pub end: usize,
+    pub depth: usize,
+}
+
+/// Definitions, the number of the token after the last, and the greatest depth in them.
+#[derive(Drop)]
+pub struct ParsedDefinitions {
+    pub definitions: Vec<Definition>,
+    pub end: usize,
+    pub depth: usize,
+}
+
+pub fn push(items: &mut Vec<Expr>, tree: Expr) -> Result<(), Refusal>
+    ensures ok { OnOk result (items.new.items ≡ items.old.items ++ tree ∷ []) }
+    ensures err { IfErr result (λ e. e ≡ Refusal.NoMemory) }
+{
+    match items.push(tree) {
+        Ok(()) => Ok(()),
+        Err(_) => Err(Refusal::NoMemory),
+    }
+}
+
+pub fn push_binder(binders: &mut Vec<Binder>, binder: Binder) -> Result<(), Refusal>
+    ensures ok { OnOk result (binders.new.items ≡ binders.old.items ++ binder ∷ []) }
+    ensures err { IfErr result (λ e. e ≡ Refusal.NoMemory) }
+{
+    match binders.push(binder) {
+        Ok(()) => Ok(()),
+        Err(_) => Err(Refusal::NoMemory),
+    }
+}
+
+pub fn junction_of(at: Place, bullet: Bullet, items: Vec<Expr>) -> Expr
+    ensures { view result ≡ tree.Junction at bullet (trees (map view items.items)) }
+{
+    Expr::Junction(at, bullet, items)
+}
+
+pub fn listing_of(at: Place, brackets: Brackets, items: Vec<Expr>) -> Expr
+    ensures { view result ≡ tree.Listing at brackets (trees (map view items.items)) }
+{
+    Expr::Listing(at, brackets, items)
+}
+
+pub fn call_of(name: Written, items: Vec<Expr>) -> Expr
+    ensures { view result ≡ tree.Call name (trees (map view items.items)) }
+{
+    Expr::Call(name, items)
+}
+
+pub fn index_of(at: Place, operand: Box<Expr>, items: Vec<Expr>) -> Expr
+    ensures { view result ≡ tree.Index at (view operand.value) (trees (map view items.items)) }
+{
+    Expr::Index(at, operand, items)
+}
+
+pub fn quantified_of(
+    at: Place,
+    quantifier: Quantifier,
+    groups: Vec<Binder>,
+    body: Box<Expr>,
+) -> Expr
+    ensures { view result ≡ tree.Quantified at quantifier (binders (map group_view groups.items)) (view body.value) }
+{
+    Expr::Quantified(at, quantifier, groups, body)
+}
+
+pub fn push_arm(arms: &mut Vec<Arm>, arm: Arm) -> Result<(), Refusal>
+    ensures ok { OnOk result (arms.new.items ≡ arms.old.items ++ arm ∷ []) }
+    ensures err { IfErr result (λ e. e ≡ Refusal.NoMemory) }
+{
+    match arms.push(arm) {
+        Ok(()) => Ok(()),
+        Err(_) => Err(Refusal::NoMemory),
+    }
+}
+
+pub fn push_definition(
+    definitions: &mut Vec<Definition>,
+    definition: Definition,
+) -> Result<(), Refusal>
+    ensures ok { OnOk result (definitions.new.items ≡ definitions.old.items ++ definition ∷ []) }
+    ensures err { IfErr result (λ e. e ≡ Refusal.NoMemory) }
+{
+    match definitions.push(definition) {
+        Ok(()) => Ok(()),
+        Err(_) => Err(Refusal::NoMemory),
+    }
+}
+
+pub fn case_of(at: Place, arms: Vec<Arm>) -> Expr
+    ensures { view result ≡ tree.Case at (tree.arms (map choice_view arms.items)) tree.no_other }
+{
+    Expr::Case(at, arms, None)
+}
+
+pub fn case_with_other(at: Place, arms: Vec<Arm>, value: Box<Expr>) -> Expr
+    ensures { view result ≡ tree.Case at (tree.arms (map choice_view arms.items)) (tree.other (view value.value)) }
+{
+    Expr::Case(at, arms, Some(value))
+}
+
+pub fn let_of(at: Place, definitions: Vec<Definition>, body: Box<Expr>) -> Expr
+    ensures { view result ≡ tree.Let at (tree.definitions (map definition_view definitions.items)) (view body.value) }
+{
+    Expr::Let(at, definitions, body)
+}
+
+pub fn function_of(name: Written, groups: Vec<Binder>, body: Expr) -> Definition
+    ensures { definition_view result ≡ tree.DefinesFunction name (binders (map group_view groups.items)) (view body) }
+{
+    Definition::Function(name, groups, body)
+}
