@@ -8,12 +8,12 @@ use Rattle.tla_parse.specs.declared.word.Written.{Written}
 use Rattle.tla_parse.specs.Tree.{Tree, Prime, Binary, If}
 use Rattle.tla_defs.specs.declared.expanded.Expanded.{Expanded}
 use Rattle.tla_defs.specs.declared.failure.Failure.{Failure}
-use Rattle.tla_defs.specs.declared.failure.Failure.TheVariants.{Unknown, LeftOut, Level, TooLarge, Memory}
+use Rattle.tla_defs.specs.declared.failure.Failure.TheVariants.{NoExpansion, TooLarge, Memory}
 use Rattle.tla_defs.specs.declared.primes.Primes.{Primes}
 use Rattle.tla_defs.specs.declared.primes.Primes.TheVariants.{Once}
 use Rattle.tla_defs.specs.Maybe.{◌>>=◌}
 use Rattle.tla_defs.specs.Primes.{primes, one_more}
-use Rattle.tla_defs.specs.Size.{nodes, depth}
+use Rattle.tla_model.specs.Size.{nodes, depth}
 use Rattle.tla_defs.specs.Operators.{infix_node}
 use Rattle.tla_defs.specs.Expand.{Scope, expand, place_of}
 use Rattle.tla_defs.specs.Gives.{shown, Gives, Fails}
@@ -46,9 +46,7 @@ binary_gives tree a b at op w σ k x y c rest left room p no_room none_left u v 
 
 third_fails : (s : Failure) (at : eval.Place) (x y : Expr) (o : Option Expr) (room left rest : ℕ) → (room ≡ 0 → ⊥) → (left ≡ 0 → ⊥)
     → rest + (nodes x + nodes y) ≡ left - 1 → Fails (room - 1) rest s o → Fails room left s (o >>= λ z. Some (conditional at x y z))
-third_fails (Unknown q) at x y o room left rest a b n h = rw h refl
-third_fails (LeftOut q) at x y o room left rest a b n h = rw h refl
-third_fails (Level q) at x y o room left rest a b n h = rw h refl
+third_fails NoExpansion at x y o room left rest a b n h = rw h refl
 third_fails TooLarge at x y None room left rest a b n h = λ e g m d. cc
 third_fails TooLarge at x y (Some z) room left rest a b n h = λ e g m d.
     let q : conditional at x y z ≡ e = cc in

@@ -4,7 +4,7 @@ use Rattle.tla_eval.specs.declared.fault.Place.{Place}
 use Rattle.tla_eval.specs.declared.expression.Core.{Core, Row_of-Core, end_of-Core, more_of-Core, items-the_row-Core}
 use Rattle.tla_eval.specs.declared.expression.Core.TheViews as views
 use Rattle.tla_eval.specs.declared.expression.Core.TheViews.{the_lemmas}
-use Rattle.tla_eval.specs.Expr.{conjunction, more_exprs}
+use Rattle.tla_eval.specs.Expr.{conjunction, disjunction, more_exprs}
 use Rattle.tla_eval.specs.ExprOf.{expr_of, exprs_of}
 use Rattle.tla_defs.specs.Lists.{exprs}
 use mathlib.Core.Former.{Count}
@@ -15,3 +15,6 @@ exprs_row n (more_of-Core e rest) = ap (λ x. more_exprs (expr_of e) x) (exprs_r
 
 pub expr_conjunction : (at : Place) (parts : Vec Core Global) → expr_of (views.Conjunction at parts) ≡ conjunction at (exprs (map expr_of parts.items))
 expr_conjunction at parts = search (rules, the_lemmas, exprs_row)
+
+pub expr_disjunction : (at : Place) (parts : Vec Core Global) → expr_of (views.Disjunction at parts) ≡ disjunction at (exprs (map expr_of parts.items))
+expr_disjunction at parts = search (rules, the_lemmas, exprs_row)

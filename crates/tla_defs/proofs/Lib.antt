@@ -5,3 +5,9 @@ pub mod Forms
 pub mod Sizes
 pub mod Conjunctions
 pub mod Arms
+pub mod Levelled
+pub mod Behaviours
+pub mod Nones
+pub mod Sound
+pub mod Found
+pub mod Locating

@@ -4,9 +4,9 @@ use Rattle.std.specs.Prelude.{IfSome}
 use Rattle.tla_eval.specs.declared.fault.Place.{Place}
 use Rattle.tla_eval.specs.Expr.{Expr, constant, bound, now, next, unary, binary, equal, sub_seq, enumerated, tuple, record_of, conjunction, disjunction, implies, conditional, cases, assert, for_all, for_some, choose, image, function, except, member, not_member, subset, kind_set, booleans, sequences, power, functions, records, product, cup, cap, minus, filtered}
 use Rattle.tla_defs.specs.declared.failure.Failure.{Failure}
-use Rattle.tla_defs.specs.declared.failure.Failure.TheVariants.{Unknown, LeftOut, Level, TooLarge, Memory}
+use Rattle.tla_defs.specs.declared.failure.Failure.TheVariants.{NoExpansion, TooLarge, Memory}
 use Rattle.tla_defs.specs.Maybe.{◌>>=◌}
-use Rattle.tla_defs.specs.Size.{nodes, depth}
+use Rattle.tla_model.specs.Size.{nodes, depth}
 use Rattle.tla_defs.specs.Operators.{Node}
 use Rattle.tla_defs.specs.Gives.{Fails, FailsTwo, both}
 use Rattle.tla_defs.proofs.Forms.{IsNode}
@@ -117,23 +117,17 @@ too_large at (Some f) i (Some x) (Some y) room left h e g m d =
 
 pub two_fail : (s : Failure) (at : Place) (n : Option Node) → IfSome n IsNode → (a b : Option Expr) (room left : ℕ) → FailsTwo room left s a b
     → Fails (room + 1) (left + 1) s (n >>= λ f. a >>= λ x. b >>= λ y. Some (f at x y))
-two_fail (Unknown p) at n i a b room left h = joined at n a b h
-two_fail (LeftOut p) at n i a b room left h = joined at n a b h
-two_fail (Level p) at n i a b room left h = joined at n a b h
+two_fail NoExpansion at n i a b room left h = joined at n a b h
 two_fail TooLarge at n i a b room left h = too_large at n i a b room left h
 two_fail Memory at n i a b room left h = tt
 
 -- the first of two fails, or the second, where the first is there
 pub first_fails : (s : Failure) (a b : Option Expr) (room left : ℕ) → Fails room left s a → FailsTwo room left s a b
-first_fails (Unknown p) a b room left h = rw h refl
-first_fails (LeftOut p) a b room left h = rw h refl
-first_fails (Level p) a b room left h = rw h refl
+first_fails NoExpansion a b room left h = rw h refl
 first_fails TooLarge a b room left h = λ x y p q n d e. h x p (omega arith) d
 first_fails Memory a b room left h = tt
 
 pub second_fails : (s : Failure) (a b : Option Expr) (x : Expr) (room left less : ℕ) → a ≡ Some x → less + nodes x ≡ left → Fails room less s b → FailsTwo room left s a b
-second_fails (Unknown q) a b x room left less p n h = rw (p, h) refl
-second_fails (LeftOut q) a b x room left less p n h = rw (p, h) refl
-second_fails (Level q) a b x room left less p n h = rw (p, h) refl
+second_fails NoExpansion a b x room left less p n h = rw (p, h) refl
 second_fails TooLarge a b x room left less p n h = λ u v q r m d e. let w : x ≡ u = cc in let w2 = ap nodes w in h v r (omega arith) e
 second_fails Memory a b x room left less p n h = tt

@@ -4,12 +4,13 @@ use Rattle.tla_eval.specs.Expr.{Expr}
 use Rattle.tla_parse.specs.Tree.{Tree}
 use Rattle.tla_parse.specs.Units.{UnitTree}
 use Rattle.tla_defs.specs.declared.primes.Primes.TheVariants.{Once}
-use Rattle.tla_defs.specs.Names.{Name}
-use Rattle.tla_defs.specs.Statements.{Statement, initials_of, nexts_of, invariants_of}
+use Rattle.tla_config.specs.Names.{Name}
+use Rattle.tla_config.specs.Statements.{Statement, initials_of, nexts_of, invariants_of}
 use Rattle.tla_defs.specs.Primes.{primes}
 use Rattle.tla_defs.specs.Expand.{Scope, expand, variables}
 use Rattle.tla_defs.specs.Known.{variables_of}
-use Rattle.tla_defs.specs.Model.{ModelTree, IsMeaning, IsInitial, AreInvariants, IsModel, body_of}
+use Rattle.tla_model.specs.ModelTree.{ModelTree}
+use Rattle.tla_defs.specs.Model.{IsMeaning, IsInitial, AreInvariants, IsModel, body_of}
 
 same_some : {A : Type 0} (o : Option A) (a b : A) → o ≡ Some a → o ≡ Some b → a ≡ b
 same_some o a b p q = cc

@@ -2,7 +2,7 @@
 use Rattle.std.proofs.Common.{◌≡◌, ◌≤◌, ℕ, refl, arith}
 use Rattle.std.specs.Prelude.{codes}
 use Rattle.tla_eval.specs.Expr.{Expr}
-use Rattle.tla_defs.specs.Size.{nodes, depth, IsWithinLimits}
+use Rattle.tla_model.specs.Size.{nodes, depth, IsWithinLimits}
 use Rattle.tla_defs.specs.Rows.{init_tree, init_before, counter_tree, invariant_tree, bounded_tree, plus_tree, CounterOfThree, CounterOfFive, BoundedSteps, BoundedStepsMayEnd, LargestNumber}
 
 within : (e : Expr) (n d : ℕ) → nodes e ≡ n → depth e ≡ d → n ≤ 200000 → d ≤ 300 → IsWithinLimits e
@@ -11,7 +11,7 @@ within e n d a b p q = record { small = rw a p; shallow = rw b q }
 pub counter_of_three : CounterOfThree
 counter_of_three =
     record {
-      distinct = refl;
+      whole = refl;
       known = refl;
       init_name = codes "Init";
       next_name = codes "Next";
@@ -33,7 +33,7 @@ counter_of_three =
 pub counter_of_five : CounterOfFive
 counter_of_five =
     record {
-      distinct = refl;
+      whole = refl;
       known = refl;
       init_name = codes "Init";
       next_name = codes "Next";
@@ -55,7 +55,7 @@ counter_of_five =
 pub bounded_steps : BoundedSteps
 bounded_steps =
     record {
-      distinct = refl;
+      whole = refl;
       known = refl;
       init_name = codes "Init";
       next_name = codes "Next";
@@ -77,7 +77,7 @@ bounded_steps =
 pub bounded_steps_may_end : BoundedStepsMayEnd
 bounded_steps_may_end =
     record {
-      distinct = refl;
+      whole = refl;
       known = refl;
       init_name = codes "Init";
       next_name = codes "Next";
@@ -99,7 +99,7 @@ bounded_steps_may_end =
 pub largest_number : LargestNumber
 largest_number =
     record {
-      distinct = refl;
+      whole = refl;
       known = refl;
       init_name = codes "Init";
       next_name = codes "Next";

@@ -5,14 +5,14 @@ use Rattle.tla_eval.specs.declared.expression.Core.{Core}
 use Rattle.tla_eval.specs.Expr.{Expr}
 use Rattle.tla_eval.specs.ExprOf.{expr_of}
 use Rattle.tla_defs.specs.declared.failure.Failure.{Failure}
-use Rattle.tla_defs.specs.declared.failure.Failure.TheVariants.{Unknown, LeftOut, Level, TooLarge, Memory}
+use Rattle.tla_defs.specs.declared.failure.Failure.TheVariants.{NoExpansion, TooLarge, Memory}
 use Rattle.tla_defs.specs.declared.expanded.Expanded.{Expanded}
 use Rattle.tla_defs.specs.declared.expanded.Two.{Two}
 use Rattle.tla_defs.specs.declared.primes.Primes.{Primes}
 use Rattle.tla_defs.specs.Maybe.{◌>>=◌}
 use Rattle.tla_defs.specs.Primes.{primes}
 use Rattle.tla_defs.specs.Operators.{Node}
-use Rattle.tla_defs.specs.Size.{nodes, depth}
+use Rattle.tla_model.specs.Size.{nodes, depth}
 
 -- an expansion under so many primes
 abbrev pub shown : Primes → Option Expr → Option Expr
@@ -20,9 +20,7 @@ shown k o = o >>= primes k
 
 -- Why there is no expansion of so many nodes and such a depth. Memory may be refused at any time.
 abbrev pub Fails : ℕ → ℕ → Failure → Option Expr → Type 0
-Fails room left (Unknown at) o = o ≡ None
-Fails room left (LeftOut at) o = o ≡ None
-Fails room left (Level at) o = o ≡ None
+Fails room left NoExpansion o = o ≡ None
 Fails room left TooLarge o = (e : Expr) → o ≡ Some e → nodes e ≤ left → depth e ≤ room → ⊥
 Fails room left Memory o = Unit {0}
 
@@ -34,9 +32,7 @@ abbrev pub both : Option Expr → Option Expr → Option (Expr × Expr)
 both a b = a >>= λ x. b >>= λ y. Some (x, y)
 
 abbrev pub FailsTwo : ℕ → ℕ → Failure → Option Expr → Option Expr → Type 0
-FailsTwo room left (Unknown at) a b = both a b ≡ None
-FailsTwo room left (LeftOut at) a b = both a b ≡ None
-FailsTwo room left (Level at) a b = both a b ≡ None
+FailsTwo room left NoExpansion a b = both a b ≡ None
 FailsTwo room left TooLarge a b = (x y : Expr) → a ≡ Some x → b ≡ Some y → nodes x + nodes y ≤ left → depth x ≤ room → depth y ≤ room → ⊥
 FailsTwo room left Memory a b = Unit {0}
 

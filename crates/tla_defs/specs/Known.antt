@@ -1,15 +1,18 @@
 -- The names of a module: what brings them in, and what may use them (book, chapter 17).
-use Rattle.std.specs.Prelude.{Bool, true, false, not, ◌&&◌, List, [], ◌∷◌, ◌++◌, is_some, if◌then◌else◌, codes}
+use Rattle.std.specs.Prelude.{ℕ, Bool, true, false, ◌&&◌, ◌||◌, List, [], ◌∷◌, ◌++◌, Option, Some, None, if◌then◌else◌, codes}
 use Rattle.std.specs.List.{flat_map, list_any}
 use Rattle.std.specs.Str.{bytes_eq}
-use Rattle.tla_parse.specs.Tree.{Tree}
+use Rattle.tla_lex.specs.declared.token.Place.{Place}
+use Rattle.tla_parse.specs.declared.word.Written.{Written}
+use Rattle.tla_parse.specs.Edges.{place}
+use Rattle.tla_parse.specs.Tree.{Tree, Definition, DefinesOperator, DefinesFunction}
 use Rattle.tla_parse.specs.Tree as t
-use Rattle.tla_parse.specs.Units.{UnitTree, Extends, Variables, Operator}
-use Rattle.tla_defs.specs.Names.{Name, words, is_among, differ}
-use Rattle.tla_defs.specs.Operators.{infix_node, unary_for, infix_known, prefix_known}
-use Rattle.tla_defs.specs.Expand.{truth_of}
+use Rattle.tla_parse.specs.Units.{UnitTree, Separator, Extends, Variables, Operator, Defines, Local, Constants, Assume, Theorem}
+use Rattle.tla_config.specs.Names.{Name, words, is_among}
+use Rattle.tla_defs.specs.Maybe.{or_else}
+use Rattle.tla_defs.specs.Operators.{infix_known, prefix_known, prefix_word, form_word}
 
--- the names that the modules bring in
+-- the names that a module brings in
 abbrev pub module_names : Name → List Name
 module_names m =
     if bytes_eq m (codes "Naturals") then codes "Nat" ∷ []
@@ -19,50 +22,72 @@ module_names m =
     else if bytes_eq m (codes "TLC") then codes "Assert" ∷ []
     else []
 
-abbrev pub extended : UnitTree → List Name
-extended (Extends at ws) = words ws
-extended _ = []
-
 abbrev pub declared : UnitTree → List Name
 declared (Variables at ws) = words ws
 declared _ = []
 
-abbrev pub brought_in : UnitTree → List Name
-brought_in (Variables at ws) = words ws
-brought_in (Operator w e) = w.word ∷ []
-brought_in _ = []
-
--- the modules that are extended, the variables, and all names that the units bring in, in the order of the text
-abbrev pub modules_of : List UnitTree → List Name
-modules_of us = flat_map extended us
-
+-- the variables, in the order of the text
 abbrev pub variables_of : List UnitTree → List Name
 variables_of us = flat_map declared us
 
-abbrev pub names_of : List UnitTree → List Name
-names_of us = flat_map brought_in us
+-- a name that was brought in before, or that one of the modules brings in
+abbrev pub is_taken : List Name → List Name → Name → Bool
+is_taken modules names x = is_among x names || list_any (λ m. is_among x (module_names m)) modules
 
--- no name is brought in twice
-abbrev pub names_differ : List UnitTree → Bool
-names_differ us = differ (names_of us) && not (list_any (λ x. is_among x (flat_map module_names (modules_of us))) (names_of us))
+-- the first of these names that is brought in twice
+abbrev pub twice : List Name → List Name → List Written → Option Written
+twice modules names [] = None
+twice modules names (w ∷ ws) = if is_taken modules names w.word then Some w else twice modules (names ++ w.word ∷ []) ws
 
--- the expression has forms of the language so far alone, and uses these variables and operators of these modules alone
-abbrev pub is_known : List Name → List Name → Tree → Bool
-is_known modules vs (t.Name w) = is_among w.word vs
-is_known modules vs (t.Number at n) = true
-is_known modules vs (t.Word at c) = is_some (truth_of c)
-is_known modules vs (t.Paren at e) = is_known modules vs e
-is_known modules vs (t.Prime at e) = is_known modules vs e
-is_known modules vs (t.Unary at op e) = is_some (unary_for op) && prefix_known modules op && is_known modules vs e
-is_known modules vs (t.Binary at op w a b) = is_some (infix_node op) && infix_known modules op && is_known modules vs a && is_known modules vs b
-is_known modules vs (t.If at a b c) = is_known modules vs a && is_known modules vs b && is_known modules vs c
-is_known modules vs _ = false
+abbrev pub if_not : Bool → Place → Name → Option Written
+if_not true at x = None
+if_not false at x = Some (record { place = at; word = x })
 
--- each definition uses what stands before it
-abbrev pub known_from : List Name → List Name → List UnitTree → Bool
-known_from modules vs [] = true
-known_from modules vs (Operator w e ∷ us) = is_known modules vs e && known_from modules vs us
-known_from modules vs (u ∷ us) = known_from (modules ++ extended u) (vs ++ declared u) us
+-- the first name, operator or form, in the order of the text, that may not be used where these modules are extended and these variables declared
+abbrev pub unknown : List Name → List Name → Tree → Option Written
+unknown modules vs (t.Name w) = if_not (is_among w.word vs) w.place w.word
+unknown modules vs (t.Number at n) = None
+unknown modules vs (t.Word at c) = None
+unknown modules vs (t.Paren at e) = unknown modules vs e
+unknown modules vs (t.Prime at e) = unknown modules vs e
+unknown modules vs (t.Unary at op e) = or_else (if_not (prefix_known modules op) at (prefix_word op)) (unknown modules vs e)
+unknown modules vs (t.Binary at op w a b) = or_else (unknown modules vs a) (or_else (if_not (infix_known modules op) w.place w.word) (unknown modules vs b))
+unknown modules vs (t.If at a b c) = or_else (unknown modules vs a) (or_else (unknown modules vs b) (unknown modules vs c))
+unknown modules vs e = Some (record { place = place e; word = form_word e })
 
-abbrev pub uses_are_known : List UnitTree → Bool
-uses_are_known us = known_from [] [] us
+-- A name that is refused: brought in twice, or not known.
+pub data Misuse : Type 0 where
+  Twice : Written → Misuse
+  Unknown : Written → Misuse
+
+abbrev pub misused : (Written → Misuse) → Option Written → Option Misuse
+misused f None = None
+misused f (Some w) = Some (f w)
+
+abbrev pub defined_name : Definition → Written
+defined_name (DefinesOperator w ps e) = w
+defined_name (DefinesFunction w bs e) = w
+
+-- a unit that has no meaning for a model yet, by its first word
+abbrev pub left_out : Place → Name → Option Misuse
+left_out at word = Some (Unknown (record { place = at; word = word }))
+
+-- the first misuse in these units, behind others that extend modules, bring in names and declare variables
+abbrev pub misuse_from : List Name → List Name → List Name → List UnitTree → Option Misuse
+misuse_from modules names vs [] = None
+misuse_from modules names vs (Separator at ∷ us) = misuse_from modules names vs us
+misuse_from modules names vs (Extends at ws ∷ us) = misuse_from (modules ++ words ws) names vs us
+misuse_from modules names vs (Variables at ws ∷ us) =
+    or_else (misused Twice (twice modules names ws)) (misuse_from modules (names ++ words ws) (vs ++ words ws) us)
+misuse_from modules names vs (Operator w e ∷ us) =
+    or_else (misused Twice (twice modules names (w ∷ []))) (or_else (misused Unknown (unknown modules vs e)) (misuse_from modules (names ++ w.word ∷ []) vs us))
+-- definitions with parameters and of functions, LOCAL, constants and assumptions are refused for now; a theorem says nothing of the model
+misuse_from modules names vs (Defines d ∷ us) = Some (Unknown (defined_name d))
+misuse_from modules names vs (Local at d ∷ us) = left_out at (codes "LOCAL")
+misuse_from modules names vs (Constants at ds ∷ us) = left_out at (codes "CONSTANT")
+misuse_from modules names vs (Assume at w e ∷ us) = left_out at (codes "ASSUME")
+misuse_from modules names vs (Theorem at w e ∷ us) = misuse_from modules names vs us
+
+-- the first name of a module, in the order of the text, that is brought in twice or not known
+abbrev pub misuse : List UnitTree → Option Misuse
+misuse us = misuse_from [] [] [] us

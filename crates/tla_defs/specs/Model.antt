@@ -1,25 +1,18 @@
 -- The model that the units of a module and the statements of a configuration name (book, chapter 14).
-use Rattle.std.specs.Prelude.{◌≡◌, Bool, IsTrue, List, [], ◌∷◌, Option, Some, None, if◌then◌else◌}
+use Rattle.std.specs.Prelude.{◌≡◌, List, [], ◌∷◌, Option, Some, None, if◌then◌else◌}
 use Rattle.std.specs.Str.{bytes_eq}
 use Rattle.tla_eval.specs.Expr.{Expr}
 use Rattle.tla_parse.specs.Tree.{Tree}
 use Rattle.tla_parse.specs.Units.{UnitTree, Operator}
 use Rattle.tla_defs.specs.declared.primes.Primes.TheVariants.{Once}
-use Rattle.tla_defs.specs.Names.{Name}
-use Rattle.tla_defs.specs.Statements.{Statement, initials_of, nexts_of, invariants_of, checks_deadlock}
+use Rattle.tla_config.specs.Names.{Name}
+use Rattle.tla_config.specs.Statements.{Statement, initials_of, nexts_of, invariants_of, checks_deadlock}
 use Rattle.tla_defs.specs.Primes.{primes, IsStateLevel}
-use Rattle.tla_defs.specs.Size.{IsWithinLimits}
+use Rattle.tla_model.specs.ModelTree.{ModelTree}
+use Rattle.tla_model.specs.Size.{IsWithinLimits}
 use Rattle.tla_defs.specs.Expand.{expand, variables}
-use Rattle.tla_defs.specs.Known.{variables_of, names_differ, uses_are_known}
-
-pub record ModelTree : Type 0 where
-  pub variables : List Name
-  pub assumptions : List Expr
-  -- written over the variables next, so that it is read as an action is
-  pub init : Expr
-  pub next : Expr
-  pub invariants : List (Name × Expr)
-  pub check_deadlock : Bool
+use Rattle.tla_defs.specs.LeftOut.{left_out}
+use Rattle.tla_defs.specs.Known.{variables_of, misuse}
 
 -- the body of the first definition of this name
 abbrev pub body_of : Name → List UnitTree → Option Tree
@@ -56,10 +49,11 @@ AreInvariants us [] (i ∷ is) = ⊥
 AreInvariants us (x ∷ xs) [] = ⊥
 AreInvariants us (x ∷ xs) (i ∷ is) = (i.0 ≡ x) × IsInvariant us x i.1 × AreInvariants us xs is
 
--- Exactly one INIT and one NEXT name the behaviour. Assumptions are left out for now.
+-- No name is brought in twice or used unknown, and exactly one INIT and one NEXT name the behaviour. Assumptions are left out for now, and
+-- no statement stands that has no meaning yet.
 pub record IsModel (us : List UnitTree) (cs : List Statement) (m : ModelTree) : Type 0 where
-  pub distinct : IsTrue (names_differ us)
-  pub known : IsTrue (uses_are_known us)
+  pub whole : left_out cs ≡ None
+  pub known : misuse us ≡ None
   pub init_name : Name
   pub next_name : Name
   pub one_init : initials_of cs ≡ init_name ∷ []

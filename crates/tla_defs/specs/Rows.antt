@@ -9,9 +9,10 @@ use Rattle.tla_parse.specs.declared.tree.Infix.TheVariants as op
 use Rattle.tla_parse.specs.Tree.{Tree, Name, Number, Paren, Prime, Binary}
 use Rattle.tla_parse.specs.Units.{UnitTree, Extends, Variables, Operator}
 use Rattle.tla_defs.specs.Expand.{place_of}
-use Rattle.tla_defs.specs.Statements.{Statement, CheckDeadlock}
-use Rattle.tla_defs.specs.Statements as s
-use Rattle.tla_defs.specs.Model.{ModelTree, IsModel}
+use Rattle.tla_config.specs.Statements.{Statement, CheckDeadlock}
+use Rattle.tla_config.specs.Statements as s
+use Rattle.tla_model.specs.ModelTree.{ModelTree}
+use Rattle.tla_defs.specs.Model.{IsModel}
 
 abbrev pub place : ℕ → ℕ → Place
 place line column = record { line = line; column = column }

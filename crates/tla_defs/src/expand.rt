@@ -1,22 +1,22 @@
 //! The expansion of an expression, within limits of its size.
 
-ghost use Rattle.std.specs.Prelude.{◌≡◌, ◌≢◌, ◌+◌, ℕ, Some, IfOk, IfErr, position};
-ghost use Rattle.std.specs.Str.{bytes_eq};
+ghost use Rattle.std.specs.Prelude.{◌≡◌, ◌≢◌, ◌+◌, ℕ, Some, IfOk, IfErr};
 ghost use Rattle.tla_eval.specs.Expr as expr;
 ghost use Rattle.tla_eval.specs.ExprOf.{expr_of};
 ghost use Rattle.tla_parse.specs.View.{view};
-ghost use Rattle.tla_defs.specs.Size.{IsWithinLimits};
+ghost use Rattle.tla_model.specs.Size.{IsWithinLimits};
 ghost use Rattle.tla_defs.specs.Primes as primes_of;
 ghost use Rattle.tla_defs.specs.Expand as expansion;
 ghost use Rattle.tla_defs.specs.Gives.{shown, Gives, GivesTwo};
 
 use crate::expanded::{Expanded, Two};
 use crate::failure::Failure;
-use crate::nodes::{boxed, infix_core, place_of, unary_for};
+use crate::names::Names;
+use crate::nodes::{boxed, constant_core, infix_core, place_of, unary_for};
 use crate::primes::Primes;
 use std::alloc::Global;
 use tla_eval::Core;
-use tla_parse::{Constant, Expr, Word, Written};
+use tla_parse::{Expr, Written};
 use tla_value::Value;
 
 fn one_more(primes: Primes) -> Primes
@@ -28,24 +28,17 @@ fn one_more(primes: Primes) -> Primes
     }
 }
 
-/// The number of a variable.
-fn number_of(variables: &[Word], name: &[u8]) -> Option<usize>
-    ensures { result ≡ position (bytes_eq name.now) variables.now }
-{
-    variables.iter().position(|v| name == v.as_bytes())
-}
-
 /// A variable, under so many primes.
 fn variable(
     name: &Written,
-    variables: &[Word],
+    variables: &Names<'_>,
     primes: Primes,
     left: usize,
 ) -> Result<Expanded, Failure>
     ensures { (room : ℕ) → Gives (room + 1) (left + 1) result (shown primes (expansion.variables variables.now name.now.word name.now.place)) }
 {
-    let Some(index) = number_of(variables, name.word.as_bytes()) else {
-        return Err(Failure::Unknown(name.place));
+    let Some(index) = variables.position(name.word.as_bytes()) else {
+        return Err(Failure::NoExpansion);
     };
     let at = place_of(name.place);
     match primes {
@@ -57,7 +50,7 @@ fn variable(
             core: Core::Next(at, index),
             left,
         }),
-        Primes::Twice => Err(Failure::Level(name.place)),
+        Primes::Twice => Err(Failure::NoExpansion),
     }
 }
 
@@ -68,7 +61,7 @@ fn variable(
 pub(crate) fn expand(
     alloc: Global,
     tree: &Expr,
-    variables: &[Word],
+    variables: &Names<'_>,
     primes: Primes,
     room: usize,
     left: usize,
@@ -90,19 +83,15 @@ pub(crate) fn expand(
             }),
             Err(_) => Err(Failure::TooLarge),
         },
-        Expr::Constant(place, Constant::True) => Ok(Expanded {
-            core: Core::Constant(place_of(*place), Value::Truth(true)),
-            left: left - 1,
-        }),
-        Expr::Constant(place, Constant::False) => Ok(Expanded {
-            core: Core::Constant(place_of(*place), Value::Truth(false)),
+        Expr::Constant(place, constant) => Ok(Expanded {
+            core: constant_core(place_of(*place), *constant),
             left: left - 1,
         }),
         Expr::Paren(_, inner) => expand(alloc, inner, variables, primes, room, left),
         Expr::Prime(_, operand) => expand(alloc, operand, variables, one_more(primes), room, left),
         Expr::Unary(place, operator, operand) => {
             let Some(unary) = unary_for(*operator) else {
-                return Err(Failure::LeftOut(*place));
+                return Err(Failure::NoExpansion);
             };
             let made = expand(alloc, operand, variables, primes, room - 1, left - 1)?;
             Ok(Expanded {
@@ -130,7 +119,7 @@ pub(crate) fn expand(
                 left: third.left,
             })
         }
-        _ => Err(Failure::LeftOut(tree.place())),
+        _ => Err(Failure::NoExpansion),
     }
 }
 
@@ -140,7 +129,7 @@ fn pair(
     alloc: Global,
     first: &Expr,
     second: &Expr,
-    variables: &[Word],
+    variables: &Names<'_>,
     primes: Primes,
     room: usize,
     left: usize,
@@ -158,10 +147,10 @@ fn pair(
 
 /// The expansion of an expression over these variables, with at most 200,000 nodes, of which at most 300 on a path.
 /// `Primes::Once` takes each variable as the variable next.
-pub fn expansion(
+pub(crate) fn expansion(
     alloc: Global,
     tree: &Expr,
-    variables: &[Word],
+    variables: &Names<'_>,
     primes: Primes,
 ) -> Result<Core, Failure>
     ensures found { IfOk result (λ c. shown primes (expansion.expand (expansion.variables variables.now) (view tree.now)) ≡ Some (expr_of c)) }

@@ -1,16 +1,10 @@
 //! Why an expression has no expansion.
 
-use tla_lex::Place;
-
-/// Why an expression has no expansion within the limits, and where.
+/// Why an expression has no expansion within the limits.
 #[derive(Clone, Copy, Debug)]
-pub enum Failure {
-    /// A name that is no variable.
-    Unknown(Place),
-    /// A form that is left out for now.
-    LeftOut(Place),
-    /// A prime on a variable that has one already.
-    Level(Place),
+pub(crate) enum Failure {
+    /// A name that is no variable, a form that is left out for now, or a prime on a variable that has one already.
+    NoExpansion,
     /// Too many nodes, or nested too deep.
     TooLarge,
     Memory,

@@ -1,11 +1,21 @@
 //! Laws of models, over their definitions alone.
 
-ghost use Rattle.tla_defs.specs.Laws.{OnlyModel};
+ghost use Rattle.tla_defs.specs.Laws.{OnlyModel, NoneRefused, IsAlwaysSound};
 ghost use Rattle.tla_defs.specs.Rows.{CounterOfThree, CounterOfFive, BoundedSteps, BoundedStepsMayEnd, LargestNumber};
 
 /// A module and a configuration name at most one model.
 pub fn one_model()
     ensures { OnlyModel }
+{}
+
+/// No step refuses a module and a configuration that name a model.
+pub fn none_refused()
+    ensures { NoneRefused }
+{}
+
+/// What a model names exists, and its expressions are no deeper than the limit.
+pub fn always_sound()
+    ensures { IsAlwaysSound }
 {}
 
 /// The models that some modules and configurations name.

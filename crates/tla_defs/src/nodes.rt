@@ -1,6 +1,6 @@
 //! The nodes of an expression, made of their parts.
 
-ghost use Rattle.std.specs.Prelude.{◌≡◌, IfOk, IfErr, map, option_map};
+ghost use Rattle.std.specs.Prelude.{◌≡◌, IfOk, IfErr, is_some, map, option_map};
 ghost use Rattle.tla_eval.specs.Expr as expr;
 ghost use Rattle.tla_defs.specs.Lists.{exprs};
 ghost use Rattle.tla_eval.specs.ExprOf.{expr_of, unary_of, binary_of};
@@ -10,8 +10,9 @@ ghost use Rattle.tla_defs.specs.Gives.{Makes};
 
 use crate::failure::Failure;
 use std::alloc::Global;
-use tla_eval::{Binary, Core, Place, Unary};
-use tla_parse::{Infix, Prefix};
+use tla_eval::{Binary, Core, Kind, Place, Unary};
+use tla_parse::{Constant, Infix, Prefix};
+use tla_value::Value;
 
 /// A place of the text, as an expression keeps it.
 pub(crate) fn place_of(place: tla_lex::Place) -> Place
@@ -30,6 +31,18 @@ pub(crate) fn boxed(alloc: Global, core: Core) -> Result<Box<Core>, Failure>
     match Box::new(alloc, core) {
         Ok(b) => Ok(b),
         Err(_) => Err(Failure::Memory),
+    }
+}
+
+/// What a word stands for.
+pub(crate) fn constant_core(place: Place, constant: Constant) -> Core
+    ensures { expr_of result ≡ expand.constant_of place constant }
+{
+    match constant {
+        Constant::True => Core::Constant(place, Value::Truth(true)),
+        Constant::False => Core::Constant(place, Value::Truth(false)),
+        Constant::Boolean => Core::Booleans(place),
+        Constant::String => Core::KindSet(place, Kind::Strings),
     }
 }
 
@@ -56,6 +69,31 @@ fn conjunction(place: Place, parts: Vec<Core>) -> Core
     ensures { expr_of result ≡ expr.conjunction place (exprs (map expr_of parts.items)) }
 {
     Core::Conjunction(place, parts)
+}
+
+fn disjunction_of_two(
+    alloc: Global,
+    place: Place,
+    first: Core,
+    second: Core,
+) -> Result<Core, Failure>
+    ensures ok { IfOk result (λ r. expr_of r ≡ operators.or_node place (expr_of first) (expr_of second)) }
+    ensures err { IfErr result (λ e. e ≡ Failure.Memory) }
+{
+    let mut parts = Vec::new(alloc);
+    if parts.push(first).is_err() {
+        return Err(Failure::Memory);
+    }
+    if parts.push(second).is_err() {
+        return Err(Failure::Memory);
+    }
+    Ok(disjunction(place, parts))
+}
+
+fn disjunction(place: Place, parts: Vec<Core>) -> Core
+    ensures { expr_of result ≡ expr.disjunction place (exprs (map expr_of parts.items)) }
+{
+    Core::Disjunction(place, parts)
 }
 
 /// The operator on one value that a prefix operator stands for.
@@ -90,6 +128,24 @@ fn binary_for(operator: Infix) -> Option<Binary>
     }
 }
 
+/// Whether an infix operator has a node.
+pub(crate) fn has_node(operator: Infix) -> bool
+    ensures { result ≡ is_some (operators.infix_node operator) }
+{
+    match operator {
+        Infix::And
+        | Infix::Or
+        | Infix::Implies
+        | Infix::Equal
+        | Infix::Member
+        | Infix::NotMember
+        | Infix::SubsetEqual
+        | Infix::Cup
+        | Infix::Cap => true,
+        _ => binary_for(operator).is_some(),
+    }
+}
+
 /// The node of an infix operator, where it has one.
 pub(crate) fn infix_core(
     alloc: Global,
@@ -103,11 +159,17 @@ pub(crate) fn infix_core(
     let at = place_of(place);
     match operator {
         Infix::And => conjunction_of_two(alloc, at, left, right),
+        Infix::Or => disjunction_of_two(alloc, at, left, right),
         Infix::Implies => Ok(Core::Implies(at, boxed(alloc, left)?, boxed(alloc, right)?)),
         Infix::Equal => Ok(Core::Equal(at, boxed(alloc, left)?, boxed(alloc, right)?)),
+        Infix::Member => Ok(Core::Member(at, boxed(alloc, left)?, boxed(alloc, right)?)),
+        Infix::NotMember => Ok(Core::NotMember(at, boxed(alloc, left)?, boxed(alloc, right)?)),
+        Infix::SubsetEqual => Ok(Core::Subset(at, boxed(alloc, left)?, boxed(alloc, right)?)),
+        Infix::Cup => Ok(Core::Cup(at, boxed(alloc, left)?, boxed(alloc, right)?)),
+        Infix::Cap => Ok(Core::Cap(at, boxed(alloc, left)?, boxed(alloc, right)?)),
         _ => match binary_for(operator) {
             Some(binary) => Ok(Core::Binary(at, binary, boxed(alloc, left)?, boxed(alloc, right)?)),
-            None => Err(Failure::LeftOut(place)),
+            None => Err(Failure::NoExpansion),
         },
     }
 }

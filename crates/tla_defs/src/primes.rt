@@ -2,7 +2,7 @@
 
 /// The third prime adds nothing to what the second does.
 #[derive(Clone, Copy, Debug, PartialEq, Eq)]
-pub enum Primes {
+pub(crate) enum Primes {
     Not,
     Once,
     Twice,

@@ -1,0 +1,24 @@
+-- What the code answers of names.
+use Rattle.std.specs.Prelude.{◌≡◌, Option, Result, Ok, Err, option_map}
+use Rattle.std.specs.Borrow.{Bor}
+use Rattle.tla_parse.specs.declared.word.Written.{Written}
+use Rattle.tla_lex.specs.declared.token.Place.{Place}
+use Rattle.tla_defs.specs.declared.mention.Mention.{Mention}
+use Rattle.tla_defs.specs.declared.behaviour.Behaviour.{Behaviour}
+use Rattle.tla_defs.specs.Refused as spec
+
+-- a name, an operator or the first word of a form, as it is written
+abbrev pub written_of : Mention → Written
+written_of m = record { place = m.place; word = m.word.now }
+
+-- the bodies, and the names of INIT and NEXT, where they were found
+abbrev pub behaviour_of : Behaviour → spec.Behaviour
+behaviour_of b = record { initial = b.initial.now; next = b.next.now }
+
+abbrev pub GivesBehaviour : Result Behaviour Place → Result spec.Behaviour Place → Type 0
+GivesBehaviour (Ok b) r = r ≡ Ok (behaviour_of b)
+GivesBehaviour (Err p) r = r ≡ Err p
+
+-- a name that was found, if any
+abbrev pub found : Option (Bor Written) → Option Written
+found o = option_map (λ (w : Bor Written). w.now) o

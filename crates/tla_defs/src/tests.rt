@@ -1,0 +1,148 @@
+//! Models and refusals from texts: what no clause says is that memory suffices.
+
+use crate::{DefsError, Model, build, parse_config};
+use std::alloc::{AllocError, Global};
+use std::test::Fail;
+use tla_lex::tokens;
+use tla_parse::parse_module;
+
+/// The code, with its line, its column and its name.
+fn show_error(alloc: Global, e: &DefsError) -> Result<String, AllocError> {
+    let mut out = String::from_str(alloc, e.code.name())?;
+    if let Some(place) = e.place {
+        let at = format!(in alloc; " {}:{}", place.line, place.column)?;
+        out.push_str(at.as_str())?;
+    }
+    if let Some(name) = &e.name {
+        out.push(' ')?;
+        out.push_str(name.as_str())?;
+    }
+    Ok(out)
+}
+
+/// The variables, the places of Init and Next, the invariants with their places, and whether deadlock is looked for.
+fn show(alloc: Global, model: &Model) -> Result<String, AllocError> {
+    let mut out = String::new(alloc);
+    for name in model.variables() {
+        out.push_str(name.as_str())?;
+        out.push(' ')?;
+    }
+    let init = model.init().place();
+    let next = model.next().place();
+    let places = format!(in alloc;
+        "{}:{} {}:{}",
+        init.line, init.column, next.line, next.column
+    )?;
+    out.push_str(places.as_str())?;
+    for invariant in model.invariants() {
+        let at = invariant.core.place();
+        let place = format!(in alloc; " {} {}:{}", invariant.name.as_str(), at.line, at.column)?;
+        out.push_str(place.as_str())?;
+    }
+    out.push_str(if model.check_deadlock() { " D+" } else { " D-" })?;
+    Ok(out)
+}
+
+/// The model that a module of these definitions names with a configuration, or its refusal.
+fn answer(alloc: Global, definitions: &str, config: &str) -> Result<String, AllocError> {
+    let text = format!(in alloc;
+        "---- MODULE M ----\nEXTENDS Integers\nVARIABLE x\n{definitions}\n====\n"
+    )?;
+    let Ok(tokens) = tokens(alloc, text.as_bytes()) else {
+        return String::from_str(alloc, "no tokens");
+    };
+    let Ok(module) = parse_module(alloc, text.as_bytes(), &tokens) else {
+        return String::from_str(alloc, "no module");
+    };
+    let config = match parse_config(alloc, config.as_bytes()) {
+        Ok(config) => config,
+        Err(e) => return show_error(alloc, &e),
+    };
+    match build(alloc, &module, &config) {
+        Ok(model) => show(alloc, &model),
+        Err(e) => show_error(alloc, &e),
+    }
+}
+
+#[test]
+fn models(rt: HostRuntime) -> Result<(), Fail> {
+    let rows = [
+        (
+            "Init == x = 0\nNext == x' = (x + 1) % 3\nInv == x < 3",
+            "INIT Init NEXT Next INVARIANT Inv",
+            "x 4:9 5:9 Inv 6:8 D+",
+        ),
+        (
+            "Init == x = 0\nNext == x < 2 /\\ x' = x + 1",
+            "INIT Init NEXT Next CHECK_DEADLOCK FALSE",
+            "x 4:9 5:9 D-",
+        ),
+    ];
+    for (definitions, config, model) in rows {
+        let got = answer(rt.alloc(), definitions, config)?;
+        assert_eq!(rt; got.as_str(), model);
+    }
+    Ok(())
+}
+
+#[test]
+fn refusals(rt: HostRuntime) -> Result<(), Fail> {
+    let names = "INIT Init\nNEXT Next\nINVARIANT Inv";
+    let rows = [
+        (
+            "Init == x = 0\nNext == x' = x\nInv == x = 0",
+            "INIT Init\nNEXT Next\nINVARIANT Other",
+            "C2 3:11 Other",
+        ),
+        (
+            "Init == x = 0\nNext == x' = x\nInit == x = 1",
+            names,
+            "C3 6:1 Init",
+        ),
+        (
+            "Init == x = 0\nNext == x' = y\nInv == x = 0",
+            names,
+            "C2 5:14 y",
+        ),
+        (
+            "Init == x = 0\nNext == x' = x\nInv == x' = 0",
+            names,
+            "C5 6:8",
+        ),
+        (
+            "Init == x = 0\nNext == x'' = 0\nInv == x = 0",
+            names,
+            "C5 5:9",
+        ),
+        (
+            "Init == x = 0\nNext == (x' + x'')' = x\nInv == x = 0",
+            names,
+            "C5 5:15",
+        ),
+        (
+            "Init == x = 0\nNext == x' = x\nInv == x = 0",
+            "INIT Init\nNEXT Next\nINIT Inv\n",
+            "C9 3:1",
+        ),
+        (
+            "Init == x = 0\nNext == x' = x\nInv == x = 0",
+            "INIT Init\n",
+            "C9 2:1",
+        ),
+        (
+            "Init == x = 0\nNext == x' = x\nInv == x = 0",
+            "INIT Init\nNEXT Next\nCONSTANT c = 1 SPECIFICATION Spec",
+            "C10 3:1 CONSTANT",
+        ),
+        (
+            "Init == x = 0\nNext == x' = y\nInv == x = 0",
+            "SPECIFICATION Spec",
+            "C10 1:1 SPECIFICATION",
+        ),
+    ];
+    for (definitions, config, refusal) in rows {
+        let got = answer(rt.alloc(), definitions, config)?;
+        assert_eq!(rt; got.as_str(), refusal);
+    }
+    Ok(())
+}
