@@ -4,3 +4,8 @@ pub mod LineLemmas
 pub mod InputLemmas
 mod Lines
 mod Joins
+pub mod NamesFit
+pub mod Named
+pub mod Stopped
+pub mod NamesIn
+mod Examples

@@ -8,7 +8,7 @@ use Rattle.clap.specs.declared.builder.command.Command.{Command}
 use Rattle.clap.specs.declared.error.Error.{Error}
 use Rattle.clap.specs.declared.error.kind.ErrorKind.{ErrorKind}
 use Rattle.clap.specs.declared.error.kind.ErrorKind.TheVariants.{OutOfMemory}
-use Rattle.tla_check.specs.Options.{IsCount, IsWithinLimits, Numbers}
+use Rattle.tla_search.specs.Options.{IsCount, IsWithinLimits, Numbers}
 use Rattle.tla_check.specs.CommandLine.{NamesBadNumber, Writes, WritesNoCount, faults_of, text_of, tlacheck}
 use Rattle.tla_check.specs.declared.line.LineFault.{LineFault}
 use Rattle.tla_check.specs.LineFault.{IsFaultOf, fault_by_kind, fault_from}

@@ -1,9 +1,7 @@
--- The codes of refusals and faults. They are this project's own choice.
+-- The codes of refusals. They are this project's own choice.
 use Rattle.std.specs.Prelude.{ℕ, Bool, true, false, List, codes}
 use Rattle.tla_check.specs.declared.checked.RefusalCode.{RefusalCode}
 use Rattle.tla_check.specs.declared.checked.RefusalCode.TheVariants as refusal
-use Rattle.tla_eval.specs.declared.fault.FaultCode.{FaultCode}
-use Rattle.tla_eval.specs.declared.fault.FaultCode.TheVariants as fault
 
 -- the codes whose refusal names something
 abbrev pub is_named_code : RefusalCode → Bool
@@ -40,21 +38,3 @@ refusal_code refusal.SpecificationForm = codes "C8"
 refusal_code refusal.BehaviourCount = codes "C9"
 refusal_code refusal.StatementLeftOut = codes "C10"
 refusal_code refusal.ExpansionTooLarge = codes "C11"
-
-abbrev pub fault_code : FaultCode → List ℕ
-fault_code fault.WrongKind = codes "E1"
-fault_code fault.Overflow = codes "E2"
-fault_code fault.SmallDivisor = codes "E3"
-fault_code fault.NegativeExponent = codes "E4"
-fault_code fault.OutsideDomain = codes "E5"
-fault_code fault.NoField = codes "E6"
-fault_code fault.NoChoice = codes "E7"
-fault_code fault.NoArm = codes "E8"
-fault_code fault.Endless = codes "E9"
-fault_code fault.TooMany = codes "E10"
-fault_code fault.TooDeep = codes "E11"
-fault_code fault.EmptySequence = codes "E12"
-fault_code fault.NotSet = codes "E13"
-fault_code fault.AssertFalse = codes "E14"
-fault_code fault.Lacking = codes "E15"
-fault_code fault.Memory = codes "E16"

@@ -7,7 +7,7 @@ use Rattle.std.specs.Str.Parse.{IsNumeral, digits_value, without_leading_plus}
 use Rattle.clap.specs.Words.{App, Kinds, Rule, Text, fault_of, first_of, matches_of, new_app}
 use Rattle.clap.specs.Words.{new_rule, with_rule}
 use Rattle.clap.specs.declared.builder.action.ArgAction.TheVariants.{Set}
-use Rattle.tla_check.specs.Options.{IsCount, IsWithinLimits}
+use Rattle.tla_search.specs.Options.{IsCount, IsWithinLimits}
 use Rattle.tla_check.specs.declared.line.Line.{Line}
 
 -- ---- the command

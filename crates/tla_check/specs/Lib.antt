@@ -1,11 +1,10 @@
-pub mod Options
 pub mod CommandLine
 pub mod LineFault
 pub mod Parsing
 pub mod Names
 pub mod Codes
-pub mod IsNamed
 pub mod Status
 pub mod Report
 pub mod Pieces
-pub mod Examples
+pub mod CarriesOver
+pub mod Checks

@@ -6,19 +6,21 @@ use Rattle.tla_value.specs.Tree.{Tree}
 use Rattle.tla_value.specs.Text.{text_of}
 use Rattle.tla_eval.specs.declared.fault.Place.{Place}
 use Rattle.tla_eval.specs.declared.fault.Fault.{Fault}
-use Rattle.tla_check.specs.declared.checked.Part.{Part}
-use Rattle.tla_check.specs.declared.checked.Part.TheVariants.{Assumption, Initial, NextAction, Invariant}
-use Rattle.tla_check.specs.declared.checked.Counts.{Counts}
-use Rattle.tla_check.specs.declared.checked.Answer.{Answer}
-use Rattle.tla_check.specs.declared.checked.Answer.TheVariants.{NoError, InvariantFalse, Deadlock, Faulted, AssumptionFalse, Limit}
+use Rattle.tla_eval.specs.Fault.{code_text}
+use Rattle.tla_search.specs.Answers.{trace_of, counts_of}
+use Rattle.tla_search.specs.declared.finding.Part.{Part}
+use Rattle.tla_search.specs.declared.finding.Part.TheVariants.{Assumption, Initial, NextAction, Invariant}
+use Rattle.tla_levels.specs.declared.answer.Counts.{Counts}
+use Rattle.tla_search.specs.declared.answer.Answer.{Answer}
+use Rattle.tla_search.specs.declared.answer.Answer.TheVariants.{NoError, InvariantFalse, Deadlock, Faulted, AssumptionFalse, Limit}
 use Rattle.tla_check.specs.declared.checked.Answered.{Answered as AnsweredCheck}
-use Rattle.tla_check.specs.declared.checked.Source.{Source}
-use Rattle.tla_check.specs.declared.checked.Source.TheVariants.{Module, Configuration}
+use Rattle.tla_config.specs.declared.error.Source.{Source}
+use Rattle.tla_config.specs.declared.error.Source.TheVariants.{Module, Configuration}
 use Rattle.tla_check.specs.declared.checked.Refusal.{Refusal}
 use Rattle.tla_check.specs.declared.checked.Checked.{Checked}
 use Rattle.tla_check.specs.declared.checked.Checked.TheVariants.{Answered, Refused, NoMemory, NoWorker}
 use Rattle.tla_check.specs.Names.{name_at}
-use Rattle.tla_check.specs.Codes.{refusal_code, fault_code}
+use Rattle.tla_check.specs.Codes.{refusal_code}
 
 -- texts one after another, and a line feed
 abbrev pub line : List (List ℕ) → List ℕ
@@ -45,7 +47,7 @@ part_line invariants part = line (codes " in " ∷ part_text invariants part ∷
 
 abbrev pub fault_line : List (List ℕ) → List (List ℕ) → Fault → Part → List ℕ
 fault_line variables invariants fault part =
-    concat (codes "Fault " ∷ fault_code fault.code ∷ site_text variables fault.place fault.variable ∷ []) ++ part_line invariants part
+    concat (codes "Fault " ∷ code_text fault.code ∷ site_text variables fault.place fault.variable ∷ []) ++ part_line invariants part
 
 -- what the search found, given the names of the variables and of the invariants, and the limit
 abbrev pub first_line : List (List ℕ) → List (List ℕ) → ℕ → Answer → List ℕ
@@ -75,24 +77,6 @@ trace_lines variables number (state ∷ states) = state_lines variables number s
 
 abbrev pub counts_line : Counts → List ℕ
 counts_line counts = line (codes "Levels " ∷ decimal counts.levels ∷ codes ", states " ∷ decimal counts.states ∷ codes "." ∷ [])
-
--- the states that lead to where something is wrong
-abbrev pub trace_of : Answer → List (List Tree)
-trace_of (InvariantFalse i trace counts) = trace
-trace_of (Deadlock trace counts) = trace
-trace_of (Faulted fault part trace counts) = trace
-trace_of (NoError counts) = []
-trace_of (AssumptionFalse number) = []
-trace_of (Limit counts) = []
-
--- what the search went through; it has not begun where an assumption is false
-abbrev pub counts_of : Answer → Counts
-counts_of (NoError counts) = counts
-counts_of (InvariantFalse i trace counts) = counts
-counts_of (Deadlock trace counts) = counts
-counts_of (Faulted fault part trace counts) = counts
-counts_of (AssumptionFalse number) = record { levels = 0; states = 0 }
-counts_of (Limit counts) = counts
 
 abbrev pub answer_report : AnsweredCheck → List ℕ
 answer_report a =

@@ -1,19 +1,23 @@
-//! What stands round a check: its command line and input files, its answer, and the report of it.
+//! A check of a module and its configuration: the command line, the input files, the answer, and the report of it.
 #![tactic(auto)]
 
+mod carried;
 mod checked;
+mod checking;
 mod input;
 mod line;
-mod options;
 mod report;
+mod status;
 
-pub use checked::{
-    Answer, Answered, Checked, Counts, Names, Part, Refusal, RefusalCode, Source, Trace,
-};
+pub use checked::{Answered, Checked, Names, Refusal, RefusalCode};
+pub use checking::{check, check_and_report};
 pub use input::{ReadFault, read_whole};
 pub use line::{Line, LineFault, read_line};
-pub use options::Options;
 pub use report::{WriteFault, write_report};
+pub use tla_config::Source;
+pub use tla_search::{
+    Answer, Counts, Gate, GatePlace, NoGate, Options, Part, Pass, SearchError, Trace,
+};
 
 #[cfg(test)]
 mod tests;

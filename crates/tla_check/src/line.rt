@@ -3,17 +3,17 @@ ghost use Rattle.std.specs.Prelude.{◌≡◌, ◌↔◌, ◌⊎◌, [], IsTrue,
 ghost use Rattle.std.specs.Prelude.{IfSome, IfNone, OnOk};
 ghost use Rattle.clap.specs.Words.{app_of, found_of, matches_of, rows_of, rule_of};
 ghost use Rattle.clap.specs.Walk.{first_of, texts};
-ghost use Rattle.tla_check.specs.Options.{IsWithinLimits};
+ghost use Rattle.tla_search.specs.Options.{IsWithinLimits};
 ghost use Rattle.tla_check.specs.CommandLine.{NamesLine, Writes, WritesNoCount, faults_of};
 ghost use Rattle.tla_check.specs.CommandLine.{number_option, required_word, tlacheck};
 ghost use Rattle.tla_check.specs.LineFault.{IsFaultOf, IsHelp, fault_from, text_of_fault};
 ghost use Rattle.tla_check.specs.Parsing.{GivesEach, HasEach, HasValue, IsArgument, WritesNoNumber};
 
-use crate::options::Options;
 use clap::error::ErrorKind;
 use clap::{Arg, ArgAction, ArgMatches, Command};
 use std::alloc::{AllocError, Global};
 use std::fmt;
+use tla_search::Options;
 
 /// What the words of a call name.
 #[derive(Clone, Copy, Debug, PartialEq, Eq)]

@@ -3,17 +3,19 @@ ghost use Rattle.std.specs.Prelude.{◌≡◌, ◌++◌, ◌<◌, length, map, c
 ghost use Rattle.std.specs.Io.KnownBytes.{Appends};
 ghost use Rattle.counted_writer.specs.Puts.{Puts, AddsFirst};
 ghost use Rattle.tla_value.specs.TreeOf.{tree_of};
-ghost use Rattle.tla_check.specs.Codes.{refusal_code, fault_code};
-ghost use Rattle.tla_check.specs.IsNamed.{AreWhole, IsBelow, invariant_of};
+ghost use Rattle.tla_eval.specs.Fault.{code_text};
+ghost use Rattle.tla_search.specs.Answers.{trace_of};
+ghost use Rattle.tla_search.specs.IsNamed.{AreWhole, IsAboutOne, IsBelow, invariant_of};
+ghost use Rattle.tla_check.specs.Codes.{refusal_code};
 ghost use Rattle.tla_check.specs.Pieces.{piece_text, pieces_text};
-ghost use Rattle.tla_check.specs.Report.{report, trace_of, line, first_line, fault_line, site_text, part_line, place_text, trace_lines, state_lines, value_line, value_lines, counts_line, answer_report, refusal_line, ending, source_text};
+ghost use Rattle.tla_check.specs.Report.{report, line, first_line, fault_line, site_text, part_line, place_text, trace_lines, state_lines, value_line, value_lines, counts_line, answer_report, refusal_line, ending, source_text};
 
-use crate::checked::{
-    Answer, Answered, Checked, Counts, Names, Part, Refusal, RefusalCode, Source,
-};
+use crate::checked::{Answered, Checked, Names, Refusal, RefusalCode};
 use counted_writer::{ShortWrite, put, put_number};
 use std::io::Write;
+use tla_config::Source;
 use tla_eval::{Fault, FaultCode, Place};
+use tla_search::{Answer, Counts, Part};
 use tla_value::{State, Text, Value};
 
 /// A write failed or took no byte.
@@ -100,7 +102,7 @@ fn put_fault<W: Write>(
     invariants: &Names,
     out: &mut W,
 ) -> Result<u64, ShortWrite>
-    requires variable { IsBelow (length variables.now) fault.now.variable }
+    requires about { IsAboutOne (length variables.now) fault.now.place fault.now.variable }
     requires invariant { IsBelow (length invariants.now) (invariant_of part) }
     ensures { Puts (W.contents out.old) (W.contents out.new) 0 (fault_line variables.now invariants.now fault.now part) result }
 {
@@ -120,20 +122,20 @@ fn put_site<W: Write>(
     out: &mut W,
     written: u64,
 ) -> Result<u64, ShortWrite>
-    requires { IsBelow (length variables.now) fault.now.variable }
+    requires { IsAboutOne (length variables.now) fault.now.place fault.now.variable }
     ensures { Puts (W.contents out.old) (W.contents out.new) written
         (site_text variables.now fault.now.place fault.now.variable) result }
 {
-    match (fault.variable, fault.place) {
-        (Some(variable), _) => {
+    match (fault.place, fault.variable) {
+        (Some(place), None) => put_place(place, out, written),
+        (None, Some(variable)) => {
             let pieces = [
                 Piece::Text(" for variable "),
                 Piece::Text(variables.name(variable)),
             ];
             put_pieces(&pieces, out, written)
         }
-        (None, Some(place)) => put_place(place, out, written),
-        (None, None) => Ok(written),
+        (None, None) | (Some(_), Some(_)) => unreachable!(),
     }
 }
 
@@ -369,7 +371,7 @@ fn refusal_code_text(code: RefusalCode) -> &'static str
 }
 
 fn fault_code_text(code: FaultCode) -> &'static str
-    ensures { result.now ≡ fault_code code }
+    ensures { result.now ≡ code_text code }
 {
     match code {
         FaultCode::WrongKind => "E1",

@@ -1,6 +1,6 @@
 // Reports of small answers, and writers that take few bytes a call, and none from some point on.
 ghost use Rattle.std.specs.Prelude.{◌≡◌, length, IfOk};
-ghost use Rattle.tla_check.specs.IsNamed.{AreWhole, IsNamed};
+ghost use Rattle.tla_search.specs.IsNamed.{AreWhole, IsNamed};
 
 use crate::*;
 use std::alloc::{AllocError, Global};
@@ -9,6 +9,7 @@ use std::io::{ErrorKind, Write};
 use std::process::Abort;
 use std::test::*;
 use tla_eval::{Fault, FaultCode, Place};
+use tla_search::{Answer, Counts, Part, Trace};
 use tla_value::{State, Text, Value};
 
 fn one_name(alloc: Global, name: &str) -> Result<Names, AllocError>

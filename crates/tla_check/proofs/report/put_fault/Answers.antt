@@ -1,6 +1,6 @@
 use Rattle.std.proofs.Common.{codes}
 use Rattle.counted_writer.specs.PutsLaws.{puts_then, puts_short, puts_exit}
-use Rattle.tla_check.specs.Codes.{fault_code}
+use Rattle.tla_eval.specs.Fault.{code_text}
 use Rattle.tla_check.specs.Report.{site_text, part_line}
 use Rattle.tla_check.proofs.Joins.{fault_joins}
 use Rattle.tla_check.proofs.report.put_fault.Goals as goal
@@ -10,7 +10,7 @@ returns-in_err-written g c =
     let f = c.args.fault.now in
     let site = site_text c.args.variables.now f.place f.variable in
     let end = part_line c.args.invariants.now c.args.part in
-    let joined = fault_joins (codes "Fault ") (fault_code f.code) site end in
+    let joined = fault_joins (codes "Fault ") (code_text f.code) site end in
     puts_exit _ _ c.from_residual.ensures.1
     (rw (joined, ← c.fault_code_text.ensures) (puts_short end (puts_short site c.in_err-written.ensures)))
 
@@ -19,7 +19,7 @@ returns-in_err-written-2 g c =
     let f = c.args.fault.now in
     let site = site_text c.args.variables.now f.place f.variable in
     let end = part_line c.args.invariants.now c.args.part in
-    let joined = fault_joins (codes "Fault ") (fault_code f.code) site end in
+    let joined = fault_joins (codes "Fault ") (code_text f.code) site end in
     puts_exit _ _ c.from_residual-in_err-written-2.ensures.1
     (rw (joined, ← c.fault_code_text.ensures) (puts_short end (puts_then c.in_ok-written.ensures c.in_err-written-2.ensures)))
 
@@ -28,5 +28,5 @@ returns g c =
     let f = c.args.fault.now in
     let site = site_text c.args.variables.now f.place f.variable in
     let end = part_line c.args.invariants.now c.args.part in
-    let joined = fault_joins (codes "Fault ") (fault_code f.code) site end in
+    let joined = fault_joins (codes "Fault ") (code_text f.code) site end in
     rw (joined, ← c.fault_code_text.ensures) (puts_then (puts_then c.in_ok-written.ensures c.in_ok-written-2.ensures) c.put_part.ensures)

@@ -1,4 +1,4 @@
-use Rattle.tla_check.specs.IsNamed.{AreWhole}
+use Rattle.tla_search.specs.IsNamed.{AreWhole}
 use Rattle.tla_check.proofs.tests.report.trace.Given as goal
 
 abbrev pub invariant-loop-value : goal.invariant-loop-value

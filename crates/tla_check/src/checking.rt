@@ -1,0 +1,204 @@
+//! A check, from two texts to its answer.
+ghost use Rattle.std.specs.Prelude.{◌≡◌, IfOk, IfErr, IfSome, None, Some, is_some, map};
+ghost use Rattle.tla_parse.specs.Parsing.{IsLocated};
+ghost use Rattle.tla_config.specs.declared.error.Source.TheVariants as source;
+ghost use Rattle.tla_model.specs.ModelOf.{invariant_of};
+ghost use Rattle.tla_model.specs.Models.{model_of};
+ghost use Rattle.counted_writer.specs.Puts.{AddsFirst};
+ghost use Rattle.std.specs.Io.KnownBytes.{Appends};
+ghost use Rattle.tla_check.specs.CarriesOver.{EndsBy, FitsName, defs_code, lex_code, parse_code};
+ghost use Rattle.tla_check.specs.Checks.{IsChecked, IsFound, IsStopped, NameOnly, names_in};
+ghost use Rattle.tla_check.specs.Codes.{is_named_code};
+ghost use Rattle.tla_check.specs.Report.{report};
+ghost use Rattle.tla_check.specs.Status.{status_of};
+ghost use Rattle.tla_check.specs.declared.checked.Checked.{Checked};
+
+use crate::carried::{defs_code, lex_code, parse_code};
+use crate::checked::{Answered, Checked, Names, Refusal, RefusalCode};
+use crate::report::{WriteFault, write_report};
+use std::alloc::Global;
+use std::io::Write;
+use tla_config::{DefsError, Source, parse_config};
+use tla_defs::build;
+use tla_eval::Place;
+use tla_lex::{LexError, tokens};
+use tla_model::{Invariant, Model};
+use tla_parse::{ParseError, Word, parse_module};
+use tla_search::{Gate, Options, SearchError, search};
+use tla_value::{Text, ValueError};
+
+/// What a module and a configuration come to: the answer to the search of the model that they name, or the first refusal
+/// of tokens, module, configuration and model, in this order.
+pub fn check<G: Gate>(
+    alloc: Global,
+    module: &[u8],
+    config: &[u8],
+    options: &Options,
+    gate: &G,
+) -> Checked
+    ensures { IsChecked «module».now config.now options.now.limit result }
+{
+    match read_model(alloc, module, config) {
+        Ok(model) => answered(alloc, &model, options, gate),
+        Err(stopped) => stopped,
+    }
+}
+
+/// The model that two texts name, or what stops the check.
+fn read_model(alloc: Global, module: &[u8], config: &[u8]) -> Result<Model, Checked>
+    ensures model { IfOk result (λ m. NameOnly «module».now config.now (model_of m)) }
+    ensures stopped { IfErr result (IsStopped «module».now config.now) }
+{
+    let tokens = match tokens(alloc, module) {
+        Ok(tokens) => tokens,
+        Err(error) => return Err(stopped_by_tokens(error)),
+    };
+    let tree = match parse_module(alloc, module, &tokens) {
+        Ok(tree) => tree,
+        Err(error) => return Err(stopped_by_module(error)),
+    };
+    let config = match parse_config(alloc, config) {
+        Ok(config) => config,
+        Err(error) => return Err(stopped_by_definitions(error)),
+    };
+    match build(alloc, &tree, &config) {
+        Ok(model) => Ok(model),
+        Err(error) => Err(stopped_by_definitions(error)),
+    }
+}
+
+fn stopped_by_tokens(error: LexError) -> Checked
+    ensures { EndsBy source.Module (lex_code error.code) error.place None result }
+{
+    match lex_code(error.code) {
+        Some(code) => refused(Source::Module, code, error.place, None),
+        None => Checked::NoMemory,
+    }
+}
+
+fn stopped_by_module(error: ParseError) -> Checked
+    requires { IsLocated error.code error.place error.name }
+    ensures { EndsBy source.Module (parse_code error.code) error.place error.name result }
+{
+    let Some(code) = parse_code(error.code) else {
+        return Checked::NoMemory;
+    };
+    match name_of(error.name) {
+        Some(name) => refused(Source::Module, code, error.place, name),
+        None => Checked::NoMemory,
+    }
+}
+
+fn stopped_by_definitions(error: DefsError) -> Checked
+    requires { FitsName (defs_code error.code) error.name }
+    ensures { EndsBy error.source (defs_code error.code) error.place error.name result }
+{
+    match defs_code(error.code) {
+        Some(code) => refused(error.source, code, error.place, error.name),
+        None => Checked::NoMemory,
+    }
+}
+
+/// The refusal of a text. Want of memory alone has no place.
+fn refused(
+    source: Source,
+    code: RefusalCode,
+    place: Option<tla_lex::Place>,
+    name: Option<Text>,
+) -> Checked
+    requires { is_some name ≡ is_named_code code }
+    ensures { EndsBy source (Some code) place name result }
+{
+    match place {
+        Some(place) => Checked::Refused(Refusal {
+            source,
+            code,
+            place: Place {
+                line: place.line,
+                column: place.column,
+            },
+            name,
+        }),
+        None => Checked::NoMemory,
+    }
+}
+
+/// The text of a word, where memory is had. Each word of a token is UTF-8.
+fn name_of(word: Option<Word>) -> Option<Option<Text>>
+    ensures { IfSome result (λ name. name ≡ word) }
+{
+    let Some(word) = word else {
+        return Some(None);
+    };
+    match String::from_utf8(word.into_bytes()) {
+        Ok(name) => Some(Some(Text::new(name))),
+        Err(_) => None,
+    }
+}
+
+/// The answer to the search of a model.
+fn answered<G: Gate>(alloc: Global, model: &Model, options: &Options, gate: &G) -> Checked
+    ensures { IsFound (model_of model.now) options.now.limit result }
+{
+    let Ok(variables) = variable_names(alloc, model.variables()) else {
+        return Checked::NoMemory;
+    };
+    let Ok(invariants) = invariant_names(alloc, model.invariants()) else {
+        return Checked::NoMemory;
+    };
+    match search(alloc, model, options, gate) {
+        Ok(answer) => Checked::Answered(Answered {
+            answer,
+            variables,
+            invariants,
+            limit: options.limit(),
+        }),
+        Err(SearchError::Memory) => Checked::NoMemory,
+        Err(SearchError::NoWorker) => Checked::NoWorker,
+    }
+}
+
+fn variable_names(alloc: Global, variables: &[Text]) -> Result<Names, ValueError>
+    ensures { IfOk result (λ names. names ≡ variables.now) }
+{
+    let mut names = Vec::new(alloc);
+    for variable in variables {
+        names.push(variable.copy(alloc)?)?;
+    }
+    Ok(Names::new(names))
+}
+
+fn invariant_names(alloc: Global, invariants: &[Invariant]) -> Result<Names, ValueError>
+    ensures { IfOk result (λ names. names ≡ names_in (map invariant_of invariants.now)) }
+{
+    let mut names = Vec::new(alloc);
+    for invariant in invariants {
+        names.push(invariant.name.copy(alloc)?)?;
+    }
+    Ok(Names::new(names))
+}
+
+/// Checks two texts, writes the report and answers the status with which the program ends.
+///
+/// The first write that fails or takes no byte ends the report.
+pub fn check_and_report<W: Write, G: Gate>(
+    alloc: Global,
+    module: &[u8],
+    config: &[u8],
+    options: &Options,
+    gate: &G,
+    out: &mut W,
+) -> Result<u8, WriteFault>
+    // What was written is the report of what is right of the two texts, and the status is its status.
+    ensures ok { IfOk result (λ status. (checked : Checked)
+        × IsChecked «module».now config.now options.now.limit checked
+        × Appends (W.contents out.old) (W.contents out.new) (report checked)
+        × (status ≡ status_of checked)) }
+    ensures fault { IfErr result (λ e. (checked : Checked)
+        × IsChecked «module».now config.now options.now.limit checked
+        × AddsFirst (W.contents out.old) (W.contents out.new) (report checked) e.written) }
+{
+    let checked = check(alloc, module, config, options, gate);
+    write_report(&checked, out)?;
+    Ok(checked.status())
+}
