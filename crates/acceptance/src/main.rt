@@ -1,0 +1,61 @@
+//! Runs each active case of the data folder, and names those whose report or status isn't the one that is wanted.
+//!
+//! The file `active` has a line for each case, `waiting` for those that the language doesn't reach yet: the name of the
+//! case's folder, the status that is wanted, and words of the command line. The folder has `module.tla`, `model.cfg` and
+//! `report`. Where the word `prefixes` stands for the status, the module is checked cut short after 0, 1, .. bytes, each
+//! time with the next line of `report` as the report that is wanted, and status 20.
+#![tactic(auto)]
+
+mod case;
+mod outcome;
+
+use case::{Case, Wanted};
+use outcome::{Files, is_as_wanted, prefixes_are_as_wanted};
+use std::{fs, io};
+
+fn bytes_of(rt: &HostRuntime, case: &str, file: &str) -> io::Result<Vec<u8>> {
+    let path = format!(in rt.alloc(); "{case}/{file}")?;
+    fs::read(rt, path.as_str())
+}
+
+fn files_of(rt: &HostRuntime, case: &str) -> io::Result<Files> {
+    Ok(Files {
+        module: bytes_of(rt, case, "module.tla")?,
+        config: bytes_of(rt, case, "model.cfg")?,
+        report: bytes_of(rt, case, "report")?,
+    })
+}
+
+fn passes(rt: &HostRuntime, case: &Case<'_>) -> io::Result<bool> {
+    let files = files_of(rt, case.name)?;
+    match case.wanted {
+        Wanted::Status(status) => {
+            is_as_wanted(
+                rt.alloc(),
+                &files.module,
+                &files.config,
+                case.options.as_slice(),
+                status,
+                &files.report,
+            )
+        }
+        Wanted::Prefixes => prefixes_are_as_wanted(rt.alloc(), &files),
+    }
+}
+
+fn main(rt: HostRuntime) -> io::Result<()> {
+    let list = fs::read_to_string(&rt, "active")?;
+    let mut cases: u64 = 0;
+    for line in list.as_str().lines() {
+        let Some(case) = Case::read(rt.alloc(), line)? else {
+            println!(rt; "no case: {line}")?;
+            continue;
+        };
+        if !passes(&rt, &case)? {
+            println!(rt; "{}", case.name)?;
+        }
+        cases = cases.wrapping_add(1);
+    }
+    println!(rt; "{cases} cases")?;
+    Ok(())
+}
