@@ -6,6 +6,7 @@ pub mod Entries
 pub mod FunSorts
 pub mod Passes
 pub mod Merges
+pub mod PairMerges
 pub mod Ranges
 pub mod Ways
 pub mod Choosing

@@ -1,20 +1,15 @@
 -- A list merged from two rising lists: what is made so far, and what is left of each.
-use Rattle.std.proofs.Common.{◌≡◌, ◌⊎◌, ℕ, ◌-◌, ◌≤◌, Bool, true, false, ◌||◌, List, [], ◌∷◌, ◌++◌, append_assoc, append-nil, length, map, drop, take, refl, sym, ap, ◌∙◌, subst, arith, inl, inr, Less, Equal, Greater}
-use Rattle.std.proofs.lemmas.List.{take_all, length-drop, length-map}
-use Rattle.std.proofs.Math.ListN.{drop_of_length-le}
+use Rattle.std.proofs.Common.{◌≡◌, ◌⊎◌, Bool, true, false, ◌||◌, List, [], ◌∷◌, ◌++◌, append_assoc, append-nil, refl, sym, ap, ◌∙◌, subst, inl, inr, Less, Equal, Greater}
 use Rattle.std.specs.List.{AllByRecursion}
 use Rattle.std.specs.List.Sorted.{IsStrictlySortedBy}
 use Rattle.std.specs.Ordering.{ordering_reverse}
 use Rattle.std.proofs.lemmas.List.Folds.{list_any-append}
 use Rattle.tla_value.specs.Tree.{Tree}
-use Rattle.tla_value.specs.TreeOf.{tree_of}
 use Rattle.tla_value.specs.Order.{tree_cmp, tree_eq}
 use Rattle.tla_value.specs.OrderLaws.{tree_cmp-total, exact-tree}
 use Rattle.tla_value.specs.Rising.{above}
 use Rattle.tla_value.specs.Sets.{is_member, set_of}
 use Rattle.tla_value.specs.SetLaws.{is-set_of}
-use Rattle.tla_value.specs.declared.value.Value.{Value}
-use Rattle.tla_value.proofs.Passes.{map-drop}
 
 all-between : (P : Tree → Type 0) (m xs ys : List Tree) (x : Tree) → AllByRecursion P (m ++ x ∷ xs) → AllByRecursion P (m ++ ys) → AllByRecursion P (m ++ x ∷ ys)
 all-between P [] xs ys x h j = (h.0, j)
@@ -40,10 +35,10 @@ same_behind : (q : Tree) (m xs ys : List Tree) → is_member q xs ≡ is_member 
 same_behind q m xs ys e = list_any-append (tree_eq q) m xs ∙ ap (λ b. is_member q m || b) e ∙ sym (list_any-append (tree_eq q) m ys)
 
 -- the same list with one more, behind the left or behind the right
-rises_on : (m xs : List Tree) (x : Tree) (new left : List Tree) → left ≡ x ∷ xs → new ≡ m ++ x ∷ [] → IsStrictlySortedBy tree_cmp (m ++ left) → IsStrictlySortedBy tree_cmp (new ++ xs)
+pub rises_on : (m xs : List Tree) (x : Tree) (new left : List Tree) → left ≡ x ∷ xs → new ≡ m ++ x ∷ [] → IsStrictlySortedBy tree_cmp (m ++ left) → IsStrictlySortedBy tree_cmp (new ++ xs)
 rises_on m xs x new left l n h = subst (IsStrictlySortedBy tree_cmp) (ap (λ us. m ++ us) l ∙ sym (ap (λ us. us ++ xs) n ∙ one_on m xs x)) h
 
-rises_between : (m xs ys : List Tree) (x y : Tree) (new left right : List Tree) → left ≡ x ∷ xs → right ≡ y ∷ ys → new ≡ m ++ x ∷ [] → tree_cmp x y ≡ Less
+pub rises_between : (m xs ys : List Tree) (x y : Tree) (new left right : List Tree) → left ≡ x ∷ xs → right ≡ y ∷ ys → new ≡ m ++ x ∷ [] → tree_cmp x y ≡ Less
     → IsStrictlySortedBy tree_cmp (m ++ left) → IsStrictlySortedBy tree_cmp (m ++ right) → IsStrictlySortedBy tree_cmp (new ++ right)
 rises_between m xs ys x y new left right l r n e h j =
     subst (IsStrictlySortedBy tree_cmp) (sym (ap (λ us. us ++ right) n ∙ one_on m right x ∙ ap (λ us. m ++ x ∷ us) r))
@@ -97,13 +92,3 @@ ends m left right whole (inl e) h =
 ends m left right whole (inr e) h =
     ap (λ us. (m ++ left) ++ us) e ∙ append-nil (m ++ left)
     ∙ is-set_of (m ++ left) whole h.rising_left (λ q. ap (λ us. is_member q (m ++ us)) (sym (append-nil left)) ∙ ap (λ us. is_member q (m ++ (left ++ us))) (sym e) ∙ h.same q)
-
-pub starts : (left right : List Tree) → IsStrictlySortedBy tree_cmp left → IsStrictlySortedBy tree_cmp right → IsMerge [] left right (left ++ right)
-starts left right h j = record { rising_left = h; rising_right = j; same = λ q. refl }
-
--- the rest of a slice
-pub rest_of : (vs : List Value) (i : ℕ) → map tree_of (take (length vs - i) (drop i vs)) ≡ drop i (map tree_of vs)
-rest_of vs i = ap (map tree_of) (take_all (length vs - i) (drop i vs) (omega (arith, length-drop i vs))) ∙ map-drop i vs
-
-pub none_left : (vs : List Value) (i : ℕ) → length vs ≤ i → drop i (map tree_of vs) ≡ []
-none_left vs i l = drop_of_length-le (map tree_of vs) (omega (arith, length-map vs tree_of))

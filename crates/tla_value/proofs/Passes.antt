@@ -14,12 +14,7 @@ use Rattle.tla_value.specs.Rising.{above}
 use Rattle.tla_value.specs.Sets.{is_member}
 use Rattle.tla_value.specs.Inner.{chosen_of}
 use Rattle.tla_value.specs.declared.value.Value.{Value}
-
--- what is left from a place on
-pub from_here : (vs : List Value) (i : ℕ) (x : Value) → i < length vs → x ≡ get_or vs i x → drop i (map tree_of vs) ≡ tree_of x ∷ drop (suc i) (map tree_of vs)
-from_here [] i x l e = absurd (omega arith)
-from_here (v ∷ vs) zero x l e = λ k. tree_of (sym e k) ∷ map tree_of vs
-from_here (v ∷ vs) (suc i) x l e = from_here vs i x (omega arith) e
+use Rattle.tla_value.proofs.Lists.{map-drop, from_here}
 
 pub rising-drop : (i : ℕ) (ts : List Tree) → IsStrictlySortedBy tree_cmp ts → IsStrictlySortedBy tree_cmp (drop i ts)
 unfolding IsStrictlySortedBy
@@ -35,12 +30,12 @@ upper_is_other x q e = ap is_eq (tree_cmp-total.antisymm q x ∙ ap ordering_rev
 pub passed : (vs : List Value) (i : ℕ) (x : Value) (q : Tree) → i < length vs → x ≡ get_or vs i x → tree_cmp (tree_of x) q ≡ Less
     → is_member q (drop (suc i) (map tree_of vs)) ≡ is_member q (drop i (map tree_of vs))
 passed vs i x q l is e =
-    sym (ap (is_member q) (from_here vs i x l is) ∙ ap (λ b. b || is_member q (drop (suc i) (map tree_of vs))) (upper_is_other (tree_of x) q e))
+    sym (ap (is_member q) (from_here tree_of vs i x l is) ∙ ap (λ b. b || is_member q (drop (suc i) (map tree_of vs))) (upper_is_other (tree_of x) q e))
 
 -- what stands here is found, and what is below all that is left is not
 pub stands_here : (vs : List Value) (i : ℕ) (x : Value) (q : Tree) → i < length vs → x ≡ get_or vs i x → tree_cmp (tree_of x) q ≡ Equal → is_member q (drop i (map tree_of vs)) ≡ true
 stands_here vs i x q l is e =
-    ap (is_member q) (from_here vs i x l is)
+    ap (is_member q) (from_here tree_of vs i x l is)
     ∙ ap (λ b. b || is_member q (drop (suc i) (map tree_of vs))) (ap is_eq (tree_cmp-total.antisymm q (tree_of x) ∙ ap ordering_reverse e))
 
 none_above : (q : Tree) (ts : List Tree) → AllByRecursion (λ t. tree_cmp q t ≡ Less) ts → is_member q ts ≡ false
@@ -52,8 +47,8 @@ pub stands_below : (vs : List Value) (i : ℕ) (x : Value) (q : Tree) → IsStri
 unfolding IsStrictlySortedBy
 stands_below vs i x q h l is e =
     let below : tree_cmp q (tree_of x) ≡ Less = tree_cmp-total.antisymm q (tree_of x) ∙ ap ordering_reverse e in
-    let rest : IsStrictlySortedBy tree_cmp (tree_of x ∷ drop (suc i) (map tree_of vs)) = subst (IsStrictlySortedBy tree_cmp) (from_here vs i x l is) (rising-drop i (map tree_of vs) h) in
-    ap (is_member q) (from_here vs i x l is)
+    let rest : IsStrictlySortedBy tree_cmp (tree_of x ∷ drop (suc i) (map tree_of vs)) = subst (IsStrictlySortedBy tree_cmp) (from_here tree_of vs i x l is) (rising-drop i (map tree_of vs) h) in
+    ap (is_member q) (from_here tree_of vs i x l is)
     ∙ none_above q (tree_of x ∷ drop (suc i) (map tree_of vs)) (below, above tree_cmp-total q (tree_of x) (drop (suc i) (map tree_of vs)) below rest.0)
 
 -- what stands in the rest of a second list is what stands in all of it, for each of the first
@@ -67,11 +62,6 @@ ahead_all (x ∷ xs) rest e = (refl, ahead_all xs rest e)
 pub ahead_from : (xs rest : List Tree) → IsAhead xs rest rest
 ahead_from xs rest = ahead_all xs rest refl
 
-pub map-drop : (i : ℕ) (vs : List Value) → map tree_of (drop i vs) ≡ drop i (map tree_of vs)
-map-drop zero vs = refl
-map-drop (suc i) [] = refl
-map-drop (suc i) (v ∷ vs) = map-drop i vs
-
 kept_ahead : (x : Tree) (xs rest next all : List Tree) → AllByRecursion (λ q. tree_cmp x q ≡ Less) xs → ((q : Tree) → tree_cmp x q ≡ Less → is_member q next ≡ is_member q rest) → IsAhead xs rest all → IsAhead xs next all
 kept_ahead x [] rest next all h same a = tt
 kept_ahead x (q ∷ xs) rest next all h same a = (same q h.0 ∙ a.0, kept_ahead x xs rest next all h.1 same a.1)
@@ -81,14 +71,14 @@ pub ahead_more : (vs : List Value) (i : ℕ) (x : Value) (rest next all : List T
     → ((q : Tree) → tree_cmp (tree_of x) q ≡ Less → is_member q next ≡ is_member q rest) → IsAhead (map tree_of (drop i vs)) rest all → IsAhead (map tree_of (drop (suc i) vs)) next all
 unfolding IsStrictlySortedBy
 ahead_more vs i x rest next all h l is same a =
-    let here : IsStrictlySortedBy tree_cmp (tree_of x ∷ drop (suc i) (map tree_of vs)) = subst (IsStrictlySortedBy tree_cmp) (from_here vs i x l is) (rising-drop i (map tree_of vs) h) in
-    let all_here : IsAhead (tree_of x ∷ drop (suc i) (map tree_of vs)) rest all = subst (λ (us : List Tree). IsAhead us rest all) (map-drop i vs ∙ from_here vs i x l is) a in
-    subst (λ (us : List Tree). IsAhead us next all) (sym (map-drop (suc i) vs)) (kept_ahead (tree_of x) (drop (suc i) (map tree_of vs)) rest next all here.0 same all_here.1)
+    let here : IsStrictlySortedBy tree_cmp (tree_of x ∷ drop (suc i) (map tree_of vs)) = subst (IsStrictlySortedBy tree_cmp) (from_here tree_of vs i x l is) (rising-drop i (map tree_of vs) h) in
+    let all_here : IsAhead (tree_of x ∷ drop (suc i) (map tree_of vs)) rest all = subst (λ (us : List Tree). IsAhead us rest all) (map-drop tree_of i vs ∙ from_here tree_of vs i x l is) a in
+    subst (λ (us : List Tree). IsAhead us next all) (sym (map-drop tree_of (suc i) vs)) (kept_ahead (tree_of x) (drop (suc i) (map tree_of vs)) rest next all here.0 same all_here.1)
 
 -- the value at hand, which is the first that is left
 pub ahead_here : (vs : List Value) (i : ℕ) (x : Value) (rest all : List Tree) → i < length vs → x ≡ get_or vs i x → IsAhead (map tree_of (drop i vs)) rest all → is_member (tree_of x) rest ≡ is_member (tree_of x) all
 ahead_here vs i x rest all l is a =
-    let all_here : IsAhead (tree_of x ∷ drop (suc i) (map tree_of vs)) rest all = subst (λ (us : List Tree). IsAhead us rest all) (map-drop i vs ∙ from_here vs i x l is) a in
+    let all_here : IsAhead (tree_of x ∷ drop (suc i) (map tree_of vs)) rest all = subst (λ (us : List Tree). IsAhead us rest all) (map-drop tree_of i vs ∙ from_here tree_of vs i x l is) a in
     all_here.0
 
 take_here : (vs : List Value) (i : ℕ) (x : Value) → i < length vs → x ≡ get_or vs i x → map tree_of (take (suc i) vs) ≡ map tree_of (take i vs) ++ tree_of x ∷ []
@@ -120,9 +110,9 @@ as_wanted false false = refl
 pub all_more : (vs : List Value) (i : ℕ) (x : Value) (all : List Tree) → i < length vs → x ≡ get_or vs i x → is_member (tree_of x) all ≡ true
     → list_all (λ t. is_member t all) (map tree_of (drop (suc i) vs)) ≡ list_all (λ t. is_member t all) (map tree_of (drop i vs))
 all_more vs i x all l is e =
-    sym (ap (list_all (λ t. is_member t all)) (map-drop i vs ∙ from_here vs i x l is)
+    sym (ap (list_all (λ t. is_member t all)) (map-drop tree_of i vs ∙ from_here tree_of vs i x l is)
     ∙ ap (λ b. b && list_all (λ t. is_member t all) (drop (suc i) (map tree_of vs))) e
-    ∙ ap (list_all (λ t. is_member t all)) (sym (map-drop (suc i) vs)))
+    ∙ ap (list_all (λ t. is_member t all)) (sym (map-drop tree_of (suc i) vs)))
 
 pub rising_chosen : (shared : Bool) (others ts : List Tree) → IsStrictlySortedBy tree_cmp ts → IsStrictlySortedBy tree_cmp (chosen_of shared others ts)
 rising_chosen shared others ts h = IsStrictlySortedBy-filter tree_cmp (λ t. cond shared (is_member t others) (not (is_member t others))) ts h

@@ -5,7 +5,7 @@ use Rattle.std.specs.List.Sorted.{IsStrictlySortedBy}
 use Rattle.std.proofs.lemmas.List.{length-map}
 use Rattle.std.proofs.lemmas.List.Folds.{list_any-append}
 use Rattle.tla_value.specs.declared.error.ValueError.{ValueError}
-use Rattle.tla_value.specs.Tree.{Tree, Pairs, truth, int, text, model, set, fun, trees, pairs, entries, members-trees}
+use Rattle.tla_value.specs.Tree.{Tree, Pairs, truth, int, text, model, set, fun, trees, pairs, entries}
 use Rattle.tla_value.specs.Order.{tree_cmp, tree_eq}
 use Rattle.tla_value.specs.ValueOrder.{pairs-entries}
 use Rattle.tla_value.specs.Sets.{is_member, set_of, MakesSetOfFunctions}
@@ -13,7 +13,7 @@ use Rattle.tla_value.specs.SetLaws.{is-set_of}
 use Rattle.tla_value.specs.Funs.{arguments, value_at, fun_of}
 use Rattle.tla_value.specs.FunLaws.{value_at-fun_of, rising-fun_of, arguments-fun_of, all-fun_of}
 use Rattle.tla_value.specs.Choices.{choices, functions_by, functions_of, keys_of, if_there, fields_fit, records_of, is_each_once}
-use Rattle.tla_value.specs.Inner.{keyed, with_list, lists_of}
+use Rattle.tla_value.specs.Inner.{keyed}
 use Rattle.tla_value.proofs.Choosing.{rising-functions_by}
 use Rattle.tla_value.proofs.FunctionSets.{set_of-functions_by}
 use Rattle.tla_value.proofs.TreeTests.{bool-iff, and-both, both-and, or-first, or-second, eq-true, eq-same, member-filter}
@@ -107,24 +107,6 @@ module _ (fs : List (List ℕ × List Tree)) (ps : List (Tree × Tree)) (lists :
   pub records_are : AllByRecursion (IsStrictlySortedBy tree_cmp) lists → functions_by (arguments ps) lists ≡ set_of (records_of fs)
   records_are h = is-set_of (functions_by (arguments ps) lists) (records_of fs) (rising-functions_by (arguments ps) lists long h) same_members
 
-abbrev pub IsSet : Tree → Type 0
-IsSet t = (L : List Tree) × (t ≡ set (trees L))
-
-keyed-sets : (fs : List (List ℕ × List Tree)) → AllByRecursion (λ (p : Tree × Tree). IsSet p.1) (keyed fs)
-keyed-sets [] = tt
-keyed-sets (f ∷ fs) = ((f.1, refl), keyed-sets fs)
-
-sets-are : (ps : List (Tree × Tree)) → AllByRecursion (λ (p : Tree × Tree). IsSet p.1) ps → images ps ≡ as_sets (lists_of ps)
-sets-are [] h = refl
-sets-are (p ∷ ps) h =
-    let L = h.0.0 in
-    let e : p.1 ≡ set (trees L) = h.0.1 in
-    let lists : lists_of (p ∷ ps) ≡ L ∷ lists_of ps = ap (λ t. with_list t (lists_of ps)) e ∙ ap (λ us. us ∷ lists_of ps) (members-trees L) in
-    (λ i. e i ∷ sets-are ps h.1 i) ∙ ap as_sets (sym lists)
-
-pub field-sets : (fs : List (List ℕ × List Tree)) (ps : List (Tree × Tree)) → ps ≡ fun_of (keyed fs) → images ps ≡ as_sets (lists_of ps)
-field-sets fs ps e = sets-are ps (subst (λ (qs : List (Tree × Tree)). AllByRecursion (λ (p : Tree × Tree). IsSet p.1) qs) (sym e) (all-fun_of IsSet (keyed fs) (keyed-sets fs)))
-
 pub rising-names : (fs : List (List ℕ × List Tree)) (ps : List (Tree × Tree)) (ks : List Tree) → ps ≡ fun_of (keyed fs) → ks ≡ arguments ps → IsStrictlySortedBy tree_cmp ks
 rising-names fs ps ks e f = subst (IsStrictlySortedBy tree_cmp) (sym (f ∙ ap arguments e)) (rising-fun_of (keyed fs))
 
@@ -133,15 +115,13 @@ once-is b h = h
 
 -- the records, from the names and the sets that the code has
 pub makes_records : (fs : List (List ℕ × List Tree)) (ps : List (Tree × Tree)) (ks : List Tree) (lists : List (List Tree)) (result : Result (List Tree) ValueError) → IsTrue (is_each_once (keys_of fs)) → ps ≡ fun_of (keyed fs)
-    → ks ≡ arguments ps → lists ≡ lists_of ps → AllByRecursion (IsStrictlySortedBy tree_cmp) lists → MakesSetOfFunctions (set_of (functions_by ks lists)) result → MakesSetOfFunctions (set_of (records_of fs)) result
-makes_records fs ps ks lists result once e f g rising made =
-    let sets : images ps ≡ as_sets lists = field-sets fs ps e ∙ ap as_sets (sym g) in
+    → ks ≡ arguments ps → images ps ≡ as_sets lists → AllByRecursion (IsStrictlySortedBy tree_cmp) lists → MakesSetOfFunctions (set_of (functions_by ks lists)) result → MakesSetOfFunctions (set_of (records_of fs)) result
+makes_records fs ps ks lists result once e f sets rising made =
     let are = records_are fs ps lists (once-is _ once) e sets rising in
     let same : set_of (functions_by ks lists) ≡ set_of (records_of fs) =
     ap (λ us. set_of (functions_by us lists)) f ∙ set_of-functions_by (arguments ps) lists (long fs ps lists (once-is _ once) e sets) rising ∙ are in
     subst (λ ts. MakesSetOfFunctions ts result) same made
 
-pub as-many-names : (fs : List (List ℕ × List Tree)) (ps : List (Tree × Tree)) (ks : List Tree) (lists : List (List Tree)) → ps ≡ fun_of (keyed fs) → ks ≡ arguments ps → lists ≡ lists_of ps → length ks ≡ length lists
-as-many-names fs ps ks lists e f g =
-    let sets : images ps ≡ as_sets lists = field-sets fs ps e ∙ ap as_sets (sym g) in
+pub as-many-names : (ps : List (Tree × Tree)) (ks : List Tree) (lists : List (List Tree)) → ks ≡ arguments ps → images ps ≡ as_sets lists → length ks ≡ length lists
+as-many-names ps ks lists f sets =
     omega (arith, ap length f, length-map ps (λ (p : Tree × Tree). p.0), length-map ps (λ (p : Tree × Tree). p.1), length-map lists (λ (L : List Tree). set (trees L)), ap length sets)

@@ -58,7 +58,7 @@ replaced false false e v w rest = refl
 replaced true false e v w rest = cc
 replaced false true e v w rest = cc
 
-swapped : (a b : Bool) → (a ≡ true → b ≡ true → ⊥) → (v w : Tree) (rest : Option Tree) → cond b (Some w) (cond a (Some v) rest) ≡ cond a (Some v) (cond b (Some w) rest)
+pub swapped : (a b : Bool) → (a ≡ true → b ≡ true → ⊥) → (v w : Tree) (rest : Option Tree) → cond b (Some w) (cond a (Some v) rest) ≡ cond a (Some v) (cond b (Some w) rest)
 swapped true true e v w rest = absurd (e refl refl)
 swapped true false e v w rest = refl
 swapped false b e v w rest = refl

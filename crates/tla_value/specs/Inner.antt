@@ -2,7 +2,8 @@
 use Rattle.std.specs.Prelude.{◌≡◌, ℕ, Bool, false, cond, List, [], ◌∷◌, map, length, not, filter, zero, suc, ◌*◌, ◌/◌, ◌%◌, ◌^◌, nat_le, slice_index_or, if◌then◌else◌}
 use Rattle.std.specs.declared.cmp.Ordering.TheVariants.{Less, Greater}
 use Rattle.std.specs.List.Sorted.{IsPartitionPoint}
-use Rattle.tla_value.specs.Tree.{Tree, trees, set, truth, text, members}
+use Rattle.tla_value.specs.Tree.{Tree, trees, set, truth, text}
+use Rattle.tla_value.specs.TreeOf.{tree_of}
 use Rattle.tla_value.specs.ValueOrder.{value_cmp}
 use Rattle.tla_value.specs.declared.value.Value.{Value}
 use Rattle.tla_value.specs.Sets.{is_member}
@@ -29,17 +30,12 @@ abbrev pub sublist_of : List Tree → ℕ → List Tree
 sublist_of [] k = []
 sublist_of (x ∷ xs) k = let rest = sublist_of xs (k % 2 ^ length xs) in if nat_le (2 ^ length xs) k then x ∷ rest else rest
 
--- the fields by name, and the lists of the sets among some values
+-- the fields by name, and one of them where the code has a reference to its set
 abbrev pub keyed : List (List ℕ × List Tree) → List (Tree × Tree)
 keyed fs = map (λ (f : List ℕ × List Tree). (text f.0, set (trees f.1))) fs
 
-abbrev pub with_list : Tree → List (List Tree) → List (List Tree)
-with_list (set ts) lists = members ts ∷ lists
-with_list _ lists = lists
-
-abbrev pub lists_of : List (Tree × Tree) → List (List Tree)
-lists_of [] = []
-lists_of (p ∷ ps) = with_list p.1 (lists_of ps)
+abbrev pub field_of : {S : Type 0} → (S → List Tree) → Value × S → Tree × Tree
+field_of now f = (tree_of f.0, set (trees (now f.1)))
 
 -- what stands before the text at an index
 abbrev pub separator_before : ℕ → List ℕ → List ℕ

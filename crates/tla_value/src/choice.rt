@@ -1,5 +1,5 @@
 // Sets given by all ways to choose.
-ghost use Rattle.std.specs.Prelude.{◌≡◌, ◌==◌, ◌^◌, ◌<◌, ◌≤◌, false, max, [], ◌++◌, length, map, zip, slice_index_or, IsTrue, IfOk, IfErr, OnOk, MatchOption};
+ghost use Rattle.std.specs.Prelude.{◌≡◌, ◌==◌, ◌^◌, ◌<◌, ◌≤◌, false, max, length, map, zip, slice_index_or, IsTrue, IfOk, IfErr, MatchOption};
 ghost use Rattle.std.specs.List.{AllByRecursion};
 ghost use Rattle.std.specs.List.Sorted.{IsStrictlySortedBy};
 ghost use Rattle.tla_value.specs.Order.{tree_cmp};
@@ -9,11 +9,11 @@ ghost use Rattle.tla_value.specs.Funs.{fun_of};
 ghost use Rattle.tla_value.specs.Sets.{set_of, MakesSet, MakesSetOfFunctions};
 ghost use Rattle.tla_value.specs.TreeOf.{tree_of, pair_of};
 ghost use Rattle.tla_value.specs.Choices.{functions_by, functions_of, tuples_of, subsets_of, keys_of, records_of, is_each_once};
-ghost use Rattle.tla_value.specs.Inner.{ways, choice_of, sublist_of, keyed, with_list, lists_of};
+ghost use Rattle.tla_value.specs.Inner.{ways, choice_of, sublist_of, keyed, field_of};
 ghost use Rattle.tla_value.specs.declared.error.ValueError.TheVariants.{Memory};
 
 use crate::error::ValueError;
-use crate::fun::{copy_arguments, drop_repeats, fun_within, sort_pairs};
+use crate::fun::{drop_repeats, fun_within, sort_pairs};
 use crate::merge::keep_copy;
 use crate::set::{MAX_ELEMENTS, count_up, set_from_rising, set_within};
 use crate::text::Text;
@@ -224,19 +224,17 @@ fn subsets(alloc: Global, items: &[Value], count: usize) -> Result<Vec<Value>, V
     Ok(subsets)
 }
 
-// The fields by name, each with a copy of its set.
+// The fields by name, each with its set.
 fn keyed_fields(
     alloc: Global,
     fields: &[(Text, SetValue)],
-) -> Result<Vec<(Value, Value)>, ValueError>
-    ensures ok { IfOk result (λ v. map pair_of v.items ≡ keyed fields.now) }
+) -> Result<Vec<(Value, &SetValue)>, ValueError>
+    ensures ok { IfOk result (λ v. map (field_of (λ s. s.now)) v.items ≡ keyed fields.now) }
     ensures err { IfErr result (λ e. e ≡ Memory) }
 {
     let mut pairs = Vec::with_capacity(alloc, fields.len())?;
     for field in fields {
-        let name = field.0.copy(alloc)?;
-        let set = field.1.copy(alloc)?;
-        pairs.push((Value::Text(name), Value::Set(set)))?;
+        pairs.push((Value::Text(field.0.copy(alloc)?), &field.1))?;
     }
     Ok(pairs)
 }
@@ -245,8 +243,8 @@ fn keyed_fields(
 fn sorted_fields(
     alloc: Global,
     fields: &[(Text, SetValue)],
-) -> Result<Vec<(Value, Value)>, ValueError>
-    ensures ok { IfOk result (λ v. map pair_of v.items ≡ fun_of (keyed fields.now)) }
+) -> Result<Vec<(Value, &SetValue)>, ValueError>
+    ensures ok { IfOk result (λ v. map (field_of (λ s. s.now)) v.items ≡ fun_of (keyed fields.now)) }
     ensures err { IfErr result (λ e. e ≡ Memory) }
 {
     let mut pairs = keyed_fields(alloc, fields)?;
@@ -255,28 +253,31 @@ fn sorted_fields(
     Ok(pairs)
 }
 
-// Adds a reference to a set at the end.
-fn push_set<'a>(sets: &mut Vec<&'a SetValue>, value: &'a Value) -> Result<(), ValueError>
-    ensures ok { OnOk result (map (λ s. s.now) sets.new.items ≡ map (λ s. s.now) sets.old.items ++ with_list (tree_of value.now) []) }
+// The sets of some fields.
+fn field_sets<'a>(
+    alloc: Global,
+    fields: &[(Value, &'a SetValue)],
+) -> Result<Vec<&'a SetValue>, ValueError>
+    ensures ok { IfOk result (λ v. map (λ s. s.now) v.items ≡ map (λ f. f.1.now) fields.now) }
     ensures err { IfErr result (λ e. e ≡ Memory) }
 {
-    match value {
-        Value::Set(set) => sets.push(set)?,
-        Value::Truth(_) | Value::Int(_) | Value::Text(_) | Value::Model(_) | Value::Fun(_) => {}
-    }
-    Ok(())
-}
-
-// References to the sets among the values of some pairs.
-fn sets_among(alloc: Global, pairs: &[(Value, Value)]) -> Result<Vec<&SetValue>, ValueError>
-    ensures ok { IfOk result (λ v. map (λ s. s.now) v.items ≡ lists_of (map pair_of pairs.now)) }
-    ensures err { IfErr result (λ e. e ≡ Memory) }
-{
-    let mut sets = Vec::new(alloc);
-    for pair in pairs {
-        push_set(&mut sets, &pair.1)?;
+    let mut sets = Vec::with_capacity(alloc, fields.len())?;
+    for field in fields {
+        sets.push(field.1)?;
     }
     Ok(sets)
+}
+
+// The names of some fields.
+fn field_names(alloc: Global, fields: Vec<(Value, &SetValue)>) -> Result<Vec<Value>, ValueError>
+    ensures ok { IfOk result (λ v. map tree_of v.items ≡ map (λ f. tree_of f.0) fields.entry.items) }
+    ensures err { IfErr result (λ e. e ≡ Memory) }
+{
+    let mut names = Vec::with_capacity(alloc, fields.len())?;
+    for field in fields {
+        names.push(field.0)?;
+    }
+    Ok(names)
 }
 
 // The records with these names, in order, and the sets beside them.
@@ -350,9 +351,9 @@ impl SetValue {
         requires { IsTrue (is_each_once (keys_of fields.now)) }
         ensures { MakesSetOfFunctions (set_of (records_of fields.now)) result }
     {
-        let pairs = sorted_fields(alloc, fields)?;
-        let names = copy_arguments(alloc, pairs.as_slice())?;
-        let sets = sets_among(alloc, pairs.as_slice())?;
+        let fields = sorted_fields(alloc, fields)?;
+        let sets = field_sets(alloc, fields.as_slice())?;
+        let names = field_names(alloc, fields)?;
         set_of_records(alloc, names.as_slice(), sets.as_slice())
     }
 }

@@ -82,10 +82,7 @@ fn copy_fun(alloc: Global, fun: &FunValue) -> Result<FunValue, ValueError>
 }
 
 #[cycle(copy)]
-pub(crate) fn copy_pairs(
-    alloc: Global,
-    pairs: &[(Value, Value)],
-) -> Result<Vec<(Value, Value)>, ValueError>
+fn copy_pairs(alloc: Global, pairs: &[(Value, Value)]) -> Result<Vec<(Value, Value)>, ValueError>
     ensures ok { IfOk result (λ v. v.items ≡ pairs.now) }
     ensures err { IfErr result (λ e. e ≡ Memory) }
 {

@@ -14,8 +14,8 @@ ghost use Rattle.tla_value.specs.Inner.{IsPlace};
 ghost use Rattle.tla_value.specs.ValueOrder.{value_cmp, value_eq};
 ghost use Rattle.tla_value.specs.declared.value.Value.{Value};
 
-use crate::copy::copy_pairs;
 use crate::error::ValueError;
+use crate::merge_pairs::merged_pairs;
 use crate::order::compare;
 use crate::set::{MAX_ELEMENTS, MAX_NESTING, set_within};
 use crate::value::{FunValue, SetValue, Value};
@@ -43,10 +43,10 @@ fn place_of(pairs: &[(Value, Value)], argument: &Value) -> Result<usize, usize>
 }
 
 // The pairs by argument, those of one argument as they came.
-pub(crate) fn sort_pairs(pairs: &mut Vec<(Value, Value)>) -> Result<(), ValueError>
+pub(crate) fn sort_pairs<T>(pairs: &mut Vec<(Value, T)>) -> Result<(), ValueError>
     ensures permutation { IsPermutation pairs.old.items pairs.new.items }
-    ensures sorted { OnOk result (IsSortedBy (λ (p q : Value × Value). is_lt (value_cmp p.0 q.0)) pairs.new.items) }
-    ensures stable { IsStableBy (λ (p q : Value × Value). is_lt (value_cmp p.0 q.0)) pairs.old.items pairs.new.items }
+    ensures sorted { OnOk result (IsSortedBy (λ (p q : Value × T). is_lt (value_cmp p.0 q.0)) pairs.new.items) }
+    ensures stable { IsStableBy (λ (p q : Value × T). is_lt (value_cmp p.0 q.0)) pairs.old.items pairs.new.items }
     ensures memory { IfErr result (λ e. e ≡ Memory) }
 {
     pairs.sort_by(|a, b| compare(&a.0, &b.0))?;
@@ -54,8 +54,8 @@ pub(crate) fn sort_pairs(pairs: &mut Vec<(Value, Value)>) -> Result<(), ValueErr
 }
 
 // Of neighbours with one argument, the first.
-pub(crate) fn drop_repeats(pairs: &mut Vec<(Value, Value)>)
-    ensures { pairs.new.items ≡ dedup (λ (p q : Value × Value). value_eq p.0 q.0) pairs.old.items }
+pub(crate) fn drop_repeats<T: Drop>(pairs: &mut Vec<(Value, T)>)
+    ensures { pairs.new.items ≡ dedup (λ (p q : Value × T). value_eq p.0 q.0) pairs.old.items }
 {
     pairs.dedup_by(|later, earlier| later.0 == earlier.0);
 }
@@ -109,10 +109,7 @@ pub(crate) fn is_sequence(pairs: &[(Value, Value)]) -> bool
 }
 
 // Copies of the arguments of some pairs.
-pub(crate) fn copy_arguments(
-    alloc: Global,
-    pairs: &[(Value, Value)],
-) -> Result<Vec<Value>, ValueError>
+fn copy_arguments(alloc: Global, pairs: &[(Value, Value)]) -> Result<Vec<Value>, ValueError>
     ensures ok { IfOk result (λ v. map tree_of v.items ≡ arguments (map pair_of pairs.now)) }
     ensures err { IfErr result (λ e. e ≡ Memory) }
 {
@@ -121,23 +118,6 @@ pub(crate) fn copy_arguments(
         copies.push(pair.0.copy(alloc)?)?;
     }
     Ok(copies)
-}
-
-// Adds copies of some pairs at the end.
-fn add_copies(
-    alloc: Global,
-    to: &mut Vec<(Value, Value)>,
-    pairs: &[(Value, Value)],
-) -> Result<(), ValueError>
-    ensures ok { OnOk result (to.new.items ≡ to.old.items ++ pairs.now) }
-    ensures err { IfErr result (λ e. e ≡ Memory) }
-{
-    for pair in pairs {
-        let argument = pair.0.copy(alloc)?;
-        let value = pair.1.copy(alloc)?;
-        to.push((argument, value))?;
-    }
-    Ok(())
 }
 
 // Another value at one argument, if it is there.
@@ -187,9 +167,8 @@ impl FunValue {
     pub fn override_with(&self, alloc: Global, other: &FunValue) -> Result<FunValue, ValueError>
         ensures { MakesFun (fun_of (self.now ++ other.now)) result }
     {
-        let mut pairs = copy_pairs(alloc, self.pairs())?;
-        add_copies(alloc, &mut pairs, other.pairs())?;
-        FunValue::from_pairs(pairs)
+        let pairs = merged_pairs(alloc, self.pairs(), other.pairs())?;
+        fun_from_rising(pairs)
     }
 
     /// The length, where the arguments are 1 to that length.

@@ -1,4 +1,10 @@
-// Values: truth values, numbers, strings, model values, finite sets and functions.
+//! The values of TLA+: truth values, numbers of 64 bits, strings, model values, finite sets and
+//! functions; and states. (Lamport, Specifying Systems, chapter 16.)
+//!
+//! A set is a rising list, and a function a list of pairs that rise by argument, so equal values
+//! have equal lists. A call that makes one answers `TooMany` where it would have over 1,000,000
+//! members or pairs, else `TooDeep` where it would be nested more than 64 deep, and `Memory` where
+//! a growth was refused. What a call was lent is then as it was.
 #![tactic(auto)]
 
 mod choice;
@@ -7,6 +13,7 @@ mod error;
 mod fun;
 mod hash;
 mod merge;
+mod merge_pairs;
 mod order;
 mod set;
 mod show;

@@ -113,6 +113,22 @@ fn products_and_function_sets(rt: HostRuntime) -> Result<(), Fail> {
     Ok(())
 }
 
+// Refused by their number, before one of them is made.
+#[test]
+fn too_many_choices(rt: HostRuntime) -> Result<(), Fail> {
+    let alloc = rt.alloc();
+    let mut parts = Vec::new(alloc);
+    parts.push(SetValue::range(alloc, 1, 1_000)?)?;
+    parts.push(SetValue::range(alloc, 1, 1_001)?)?;
+    let product = SetValue::product(alloc, &parts);
+    assert_eq!(rt; product.err(), Some(ValueError::TooMany));
+    let twenty = SetValue::range(alloc, 1, 20)?;
+    let two = numbers(alloc, &[1, 2])?;
+    let functions = SetValue::function_set(alloc, &twenty, &two);
+    assert_eq!(rt; functions.err(), Some(ValueError::TooMany));
+    Ok(())
+}
+
 #[test]
 fn nesting_is_bounded(rt: HostRuntime) -> Result<(), Fail> {
     let alloc = rt.alloc();
@@ -201,6 +217,27 @@ fn function_operations(rt: HostRuntime) -> Result<(), Fail> {
     Ok(())
 }
 
+// (1 :> 10 @@ 3 :> 30) and (2 :> 21 @@ 3 :> 31 @@ 4 :> 41)
+#[test]
+fn overriding_in_the_midst(rt: HostRuntime) -> Result<(), Fail> {
+    let alloc = rt.alloc();
+    let mut pairs = Vec::new(alloc);
+    pairs.push((Value::Int(3), Value::Int(30)))?;
+    pairs.push((Value::Int(1), Value::Int(10)))?;
+    let first = FunValue::from_pairs(pairs)?;
+    let mut pairs = Vec::new(alloc);
+    pairs.push((Value::Int(4), Value::Int(41)))?;
+    pairs.push((Value::Int(3), Value::Int(31)))?;
+    pairs.push((Value::Int(2), Value::Int(21)))?;
+    let second = FunValue::from_pairs(pairs)?;
+    let both = Value::Fun(first.override_with(alloc, &second)?);
+    assert_eq!(rt;
+        shown(alloc, &both)?.as_slice(),
+        b"<<10, 21, 30, 41>>".as_slice()
+    );
+    Ok(())
+}
+
 #[test]
 fn copies_of_functions(rt: HostRuntime) -> Result<(), Fail> {
     let alloc = rt.alloc();
@@ -233,6 +270,33 @@ fn states_and_shards(rt: HostRuntime) -> Result<(), Fail> {
         }
     }
     assert!(rt; seen == [true; 7]);
+    Ok(())
+}
+
+fn state(alloc: Global, list: &[i64]) -> Result<State, ValueError> {
+    let mut values = Vec::new(alloc);
+    for number in list {
+        values.push(Value::Int(*number))?;
+    }
+    Ok(State::new(values))
+}
+
+#[test]
+fn order_of_states(rt: HostRuntime) -> Result<(), Fail> {
+    let alloc = rt.alloc();
+    let low = state(alloc, &[1, 5])?;
+    assert!(rt; low < state(alloc, &[1, 6])?);
+    assert!(rt; low < state(alloc, &[2, 0])?);
+    assert!(rt; low == low.copy(alloc)?);
+    Ok(())
+}
+
+#[test]
+fn strings(rt: HostRuntime) -> Result<(), Fail> {
+    let alloc = rt.alloc();
+    let text = Text::new(String::from_str(alloc, "ab")?);
+    assert_eq!(rt; text.copy(alloc)?.as_str(), "ab");
+    assert_eq!(rt; text.into_string().as_str(), "ab");
     Ok(())
 }
 

@@ -1,4 +1,4 @@
-// A string, which contracts see as its UTF-8 bytes.
+// Strings inside values.
 ghost use Rattle.std.specs.Prelude.{◌≡◌, string_bytes, IfOk, IfErr};
 ghost use Rattle.tla_value.specs.declared.error.ValueError.TheVariants.{Memory};
 ghost use Rattle.std.specs.Str.{IsUtf8};
@@ -7,6 +7,7 @@ use crate::error::ValueError;
 use std::alloc::Global;
 use std::marker::Model;
 
+/// A string, which contracts see as its UTF-8 bytes.
 #[derive(Debug, Drop)]
 pub struct Text {
     text: String,

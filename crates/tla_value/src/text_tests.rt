@@ -112,6 +112,31 @@ fn text_of_a_mixed_set(rt: HostRuntime) -> Result<(), Fail> {
     Ok(())
 }
 
+// By kind, then by size, then part by part.
+#[test]
+fn order_of_values(rt: HostRuntime) -> Result<(), Fail> {
+    let alloc = rt.alloc();
+    let mut mixed = Vec::new(alloc);
+    mixed.push(Value::Fun(sequence(alloc, &[1, 2])?))?;
+    mixed.push(Value::Fun(sequence(alloc, &[7])?))?;
+    mixed.push(Value::Fun(FunValue::from_pairs(Vec::new(alloc))?))?;
+    mixed.push(Value::Set(SetValue::range(alloc, 1, 2)?))?;
+    mixed.push(Value::Set(SetValue::range(alloc, 5, 5)?))?;
+    mixed.push(Value::Model(Text::new(String::from_str(alloc, "m")?)))?;
+    mixed.push(string(alloc, "a")?)?;
+    mixed.push(string(alloc, "B")?)?;
+    mixed.push(Value::Int(2))?;
+    mixed.push(Value::Int(-1))?;
+    mixed.push(Value::Truth(true))?;
+    mixed.push(Value::Truth(false))?;
+    let mixed = Value::Set(SetValue::from_values(mixed)?);
+    assert_eq!(rt;
+        shown(alloc, &mixed)?.as_slice(),
+        b"{FALSE, TRUE, -1, 2, \"B\", \"a\", m, {5}, {1, 2}, << >>, <<7>>, <<1, 2>>}".as_slice()
+    );
+    Ok(())
+}
+
 // Each count of bytes that go out, also where a value is cut.
 #[test]
 fn ends_at_the_first_refusal(rt: HostRuntime) -> Result<(), Fail> {

@@ -2,8 +2,8 @@ use Rattle.std.proofs.Common.{◌≡◌, ◌⊎◌, ℕ, ◌-◌, List, [], ◌+
 use Rattle.tla_value.specs.Tree.{Tree}
 use Rattle.tla_value.specs.declared.value.Value.{Value}
 use Rattle.tla_value.specs.TreeOf.{tree_of}
-use Rattle.tla_value.proofs.Merges.{takes_left, takes_right, takes_both, ends, rest_of, none_left}
-use Rattle.tla_value.proofs.Passes.{from_here}
+use Rattle.tla_value.proofs.Merges.{takes_left, takes_right, takes_both, ends}
+use Rattle.tla_value.proofs.Lists.{from_here, rest_of, none_left}
 use Rattle.tla_value.proofs.merge.merged.Goals as goal
 use Rattle.tla_value.proofs.merge.merged.Goals.{then-loop-i-test+else-j-right, else-loop-i-test}
 
@@ -11,24 +11,24 @@ pub loop-i-preserved-in-Less : goal.loop-i-preserved-in-Less
 loop-i-preserved-in-Less c = record {
   left = omega arith;
   right = omega arith;
-  merge = rw add-one (takes_left _ _ _ _ _ _ _ _ _ (from_here c.args.left.now c.loop-i.i c.index-left-i.result c.loop-i-test.true c.index-left-i.is)
-      (from_here c.args.right.now c.loop-i.j c.index-right-j.result c.if-j-right.true c.index-right-j.is) c.in_ok-keep_copy-in-Less.ensures.ok (sym c.in-Less.ensures) c.loop-i.invariant.merge);
+  merge = rw add-one (takes_left _ _ _ _ _ _ _ _ _ (from_here tree_of c.args.left.now c.loop-i.i c.index-left-i.result c.loop-i-test.true c.index-left-i.is)
+      (from_here tree_of c.args.right.now c.loop-i.j c.index-right-j.result c.if-j-right.true c.index-right-j.is) c.in_ok-keep_copy-in-Less.ensures.ok (sym c.in-Less.ensures) c.loop-i.invariant.merge);
 }
 
 pub loop-i-preserved-in-Equal : goal.loop-i-preserved-in-Equal
 loop-i-preserved-in-Equal c = record {
   left = omega arith;
   right = omega arith;
-  merge = rw (add-one, add-one) (takes_both _ _ _ _ _ _ _ _ _ (from_here c.args.left.now c.loop-i.i c.index-left-i.result c.loop-i-test.true c.index-left-i.is)
-      (from_here c.args.right.now c.loop-i.j c.index-right-j.result c.if-j-right.true c.index-right-j.is) c.in_ok-keep_copy-in-Equal.ensures.ok (sym c.in-Equal.ensures) c.loop-i.invariant.merge);
+  merge = rw (add-one, add-one) (takes_both _ _ _ _ _ _ _ _ _ (from_here tree_of c.args.left.now c.loop-i.i c.index-left-i.result c.loop-i-test.true c.index-left-i.is)
+      (from_here tree_of c.args.right.now c.loop-i.j c.index-right-j.result c.if-j-right.true c.index-right-j.is) c.in_ok-keep_copy-in-Equal.ensures.ok (sym c.in-Equal.ensures) c.loop-i.invariant.merge);
 }
 
 pub loop-i-preserved : goal.loop-i-preserved
 loop-i-preserved c = record {
   left = omega arith;
   right = omega arith;
-  merge = rw add-one (takes_right _ _ _ _ _ _ _ _ _ (from_here c.args.left.now c.loop-i.i c.index-left-i.result c.loop-i-test.true c.index-left-i.is)
-      (from_here c.args.right.now c.loop-i.j c.index-right-j.result c.if-j-right.true c.index-right-j.is) c.in_ok-keep_copy-in-Greater.ensures.ok (sym c.in-Greater.ensures) c.loop-i.invariant.merge);
+  merge = rw add-one (takes_right _ _ _ _ _ _ _ _ _ (from_here tree_of c.args.left.now c.loop-i.i c.index-left-i.result c.loop-i-test.true c.index-left-i.is)
+      (from_here tree_of c.args.right.now c.loop-i.j c.index-right-j.result c.if-j-right.true c.index-right-j.is) c.in_ok-keep_copy-in-Greater.ensures.ok (sym c.in-Greater.ensures) c.loop-i.invariant.merge);
 }
 
 pub returns-clause-ok : goal.returns-clause-ok
@@ -37,8 +37,8 @@ returns-clause-ok c =
     let right = drop c.loop-i.j (map tree_of c.args.right.now) in
     let m = map tree_of c.loop-i.merged.items in
     let no_more : (left ≡ []) ⊎ (right ≡ []) = elim c.loop-i-test.branch [
-      | then-loop-i-test+else-j-right w ↦ inr (none_left c.args.right.now c.loop-i.j w.if-j-right.false)
-      | else-loop-i-test w ↦ inl (none_left c.args.left.now c.loop-i.i w.loop-i-test.false)
+      | then-loop-i-test+else-j-right w ↦ inr (none_left tree_of c.args.right.now c.loop-i.j w.if-j-right.false)
+      | else-loop-i-test w ↦ inl (none_left tree_of c.args.left.now c.loop-i.i w.loop-i-test.false)
     ] in
     added m left right c.args.left.now c.args.right.now c.loop-i.i c.loop-i.j _ _ c.in_ok-add_copies.ensures.ok c.in_ok-add_copies-2.ensures.ok refl refl
     ∙ ends m left right (map tree_of c.args.left.now ++ map tree_of c.args.right.now) no_more c.loop-i.invariant.merge
@@ -46,4 +46,4 @@ returns-clause-ok c =
     added : (m left right : List Tree) (us vs : List Value) (i j : ℕ) (new newer : List Tree) → new ≡ m ++ map tree_of (take (length us - i) (drop i us)) → newer ≡ new ++ map tree_of (take (length vs - j) (drop j vs))
         → left ≡ drop i (map tree_of us) → right ≡ drop j (map tree_of vs) → newer ≡ (m ++ left) ++ right
     added m left right us vs i j new newer e f l r =
-        f ∙ ap (λ ts. ts ++ map tree_of (take (length vs - j) (drop j vs))) (e ∙ ap (λ ts. m ++ ts) (rest_of us i ∙ sym l)) ∙ ap (λ ts. (m ++ left) ++ ts) (rest_of vs j ∙ sym r)
+        f ∙ ap (λ ts. ts ++ map tree_of (take (length vs - j) (drop j vs))) (e ∙ ap (λ ts. m ++ ts) (rest_of tree_of us i ∙ sym l)) ∙ ap (λ ts. (m ++ left) ++ ts) (rest_of tree_of vs j ∙ sym r)
