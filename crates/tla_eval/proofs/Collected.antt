@@ -8,9 +8,9 @@ use Rattle.tla_value.specs.Order.{tree_cmp}
 use Rattle.tla_value.specs.Funs.{fun_of}
 use Rattle.tla_value.specs.Choices.{keys_of, parts_of, choices}
 use Rattle.tla_eval.specs.Kinds.{within, as_set, make_set, make_fun}
-use Rattle.tla_eval.specs.Functions.{argument_of, function_on, means-image, means-function}
+use Rattle.tla_eval.specs.Functions.{argument_of, function_on}
 use Rattle.tla_eval.specs.Meaning.{Meaning, Bound, Present, Next, means-record_of}
-use Rattle.tla_eval.specs.Gives.{named_value, record_rule, image_rule, function_rule}
+use Rattle.tla_eval.specs.Gives.{named_value, record_rule}
 use Rattle.tla_eval.specs.Fault.{Place, Fault, Outcome, ◌>>=◌}
 use Rattle.tla_eval.specs.Lists.{each, passing}
 
@@ -34,9 +34,6 @@ module _ (test : Tree → Outcome Bool) (kept : List Tree) (x : Tree) (xs : List
       more false (Ok zs) = refl
       more c (Err e) = refl
 
-  pub passing_stop : (e : Fault) → test x ≡ Err e → (passing test (x ∷ xs) >>= λ ys. Ok (kept ++ ys)) ≡ Err e
-  passing_stop e h = ap (λ (o : Outcome Bool). (o >>= λ holds. passing test xs >>= λ ys. Ok (cond holds (x ∷ ys) ys)) >>= λ ys. Ok (kept ++ ys)) h
-
 -- ---- fields
 named_step : (o : Outcome Tree) (r : Outcome (List Tree)) (k : Tree) (ks : List Tree) → ((o >>= λ v. Ok (k, v)) >>= λ y. (r >>= λ vs. Ok (zip ks vs)) >>= λ ys. Ok (y ∷ ys)) ≡ ((o >>= λ v. r >>= λ vs. Ok (v ∷ vs)) >>= λ ws. Ok (zip (k ∷ ks) ws))
 named_step (Ok v) (Ok vs) k ks = refl
@@ -57,24 +54,9 @@ pub record_is : (p : Place) (fs : List (List ℕ × Meaning)) (b : Bound) (s : P
 record_is p fs b s t = then_zip (each (λ (m : Meaning). m.value b s t) (parts_of fs)) (keys_of fs) (make_fun p) ∙ ap (λ (o : Outcome (List (Tree × Tree))). o >>= make_fun p) (sym (each_named fs b s t))
 
 -- ---- one bound name
-each_single : {B : Type 0} (f : List Tree → Outcome B) (xs : List Tree) → each f (choices (xs ∷ [])) ≡ each (λ v. f (v ∷ [])) xs
-each_single f [] = refl
-each_single {B} f (x ∷ xs) = ap (λ (r : Outcome (List B)). f (x ∷ []) >>= λ y. r >>= λ ys. Ok (y ∷ ys)) (each_single f xs)
-
 arguments_single : (xs : List Tree) → map argument_of (choices (xs ∷ [])) ≡ xs
 arguments_single [] = refl
 arguments_single (x ∷ xs) = ap (λ us. x ∷ us) (arguments_single xs)
-
-image_from : (p : Place) (a : Outcome Tree) (f : List Tree → Outcome Tree) → (((a >>= λ y. Ok (y ∷ [])) >>= each (as_set p)) >>= λ sets. each f (choices sets) >>= make_set p) ≡ ((a >>= as_set p) >>= λ xs. each (λ v. f (v ∷ [])) xs >>= make_set p)
-image_from p (Err e) f = refl
-image_from p (Ok t) f = go (as_set p t)
-  where
-    go : (o : Outcome (List Tree)) → ((o >>= λ x. Ok (x ∷ [])) >>= λ sets. each f (choices sets) >>= make_set p) ≡ (o >>= λ xs. each (λ v. f (v ∷ [])) xs >>= make_set p)
-    go (Err e) = refl
-    go (Ok xs) = ap (λ (r : Outcome (List Tree)). r >>= make_set p) (each_single f xs)
-
-pub image_is : (p : Place) (a e : Meaning) (b : Bound) (s : Present) (t : Next) → (means-image p (a ∷ []) e).value b s t ≡ image_rule p a e b s t
-image_is p a e b s t = image_from p (a.value b s t) (λ c. e.value (b ++ c) s t)
 
 some-insert : (es : List (Tree × Tree)) (k v : Tree) → 1 ≤ length (insert_entry tree_cmp es k v)
 some-insert [] k v = omega arith
@@ -85,7 +67,7 @@ some-insert (e ∷ es) k v =
       | Greater ↦ omega arith
     ]
 
-function_on_single : (p : Place) (xs vs : List Tree) → function_on p (choices (xs ∷ [])) vs ≡ make_fun p (zip xs vs)
+pub function_on_single : (p : Place) (xs vs : List Tree) → function_on p (choices (xs ∷ [])) vs ≡ make_fun p (zip xs vs)
 function_on_single p [] vs = refl
 function_on_single p (x ∷ xs) [] = refl
 function_on_single p (x ∷ xs) (v ∷ vs) =
@@ -95,27 +77,3 @@ function_on_single p (x ∷ xs) (v ∷ vs) =
     let most : max (length (insert_entry tree_cmp ps x v)) 1 ≡ length (insert_entry tree_cmp ps x v) = omega arith in
     ap (λ qs. within p (max (length (insert_entry tree_cmp (fun_of qs) x v)) 1) (deepest_pair (pairs (insert_entry tree_cmp (fun_of qs) x v))) (fun (pairs (insert_entry tree_cmp (fun_of qs) x v)))) rest
     ∙ ap (λ n. within p n (deepest_pair (pairs (insert_entry tree_cmp ps x v))) (fun (pairs (insert_entry tree_cmp ps x v)))) most
-
-each_paired : (g : Tree → Outcome Tree) (xs : List Tree) → each (λ v. g v >>= λ y. Ok (v, y)) xs ≡ (each g xs >>= λ vs. Ok (zip xs vs))
-each_paired g [] = refl
-each_paired g (x ∷ xs) =
-    ap (λ (r : Outcome (List (Tree × Tree))). (g x >>= λ y. Ok (x, y)) >>= λ q. r >>= λ qs. Ok (q ∷ qs)) (each_paired g xs)
-    ∙ named_step (g x) (each g xs) x xs
-
-function_from : (p : Place) (a : Outcome Tree) (f : List Tree → Outcome Tree) → (((a >>= λ y. Ok (y ∷ [])) >>= each (as_set p)) >>= λ sets. each f (choices sets) >>= function_on p (choices sets)) ≡ ((a >>= as_set p) >>= λ xs. each (λ v. f (v ∷ []) >>= λ y. Ok (v, y)) xs >>= make_fun p)
-function_from p (Err e) f = refl
-function_from p (Ok t) f = go (as_set p t)
-  where
-    go : (o : Outcome (List Tree)) → ((o >>= λ x. Ok (x ∷ [])) >>= λ sets. each f (choices sets) >>= function_on p (choices sets)) ≡ (o >>= λ xs. each (λ v. f (v ∷ []) >>= λ y. Ok (v, y)) xs >>= make_fun p)
-    go (Err e) = refl
-    go (Ok xs) =
-        ap (λ (r : Outcome (List Tree)). r >>= function_on p (choices (xs ∷ []))) (each_single f xs)
-        ∙ each_then (each (λ v. f (v ∷ [])) xs)
-        ∙ ap (λ (r : Outcome (List (Tree × Tree))). r >>= make_fun p) (sym (each_paired (λ v. f (v ∷ [])) xs))
-      where
-        each_then : (r : Outcome (List Tree)) → (r >>= function_on p (choices (xs ∷ []))) ≡ ((r >>= λ vs. Ok (zip xs vs)) >>= make_fun p)
-        each_then (Ok vs) = function_on_single p xs vs
-        each_then (Err e) = refl
-
-pub function_is : (p : Place) (a e : Meaning) (b : Bound) (s : Present) (t : Next) → (means-function p (a ∷ []) e).value b s t ≡ function_rule p a e b s t
-function_is p a e b s t = function_from p (a.value b s t) (λ c. e.value (b ++ c) s t)

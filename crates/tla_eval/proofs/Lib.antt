@@ -12,4 +12,7 @@ pub mod Loops
 pub mod Numbered
 pub mod Collected
 pub mod Parts
+pub mod Arguments
+pub mod Choices
+pub mod Domains
 pub mod Rows

@@ -13,7 +13,7 @@ use Rattle.tla_value.proofs.Ranges.{rising-counted_up}
 use Rattle.tla_value.specs.declared.value.Value.{Value}
 use Rattle.tla_value.specs.declared.value.Value.TheVariants.{Int, Fun}
 use Rattle.tla_eval.specs.Fault.{Place, WrongKind, TooMany, fault}
-use Rattle.tla_eval.specs.Kinds.{or_fault, as_sequence, rising_fun, make_sequence}
+use Rattle.tla_eval.specs.Kinds.{or_fault, items, as_sequence, rising_fun, make_sequence}
 use Rattle.tla_eval.specs.Gives.{values_of}
 use Rattle.tla_eval.proofs.Made.{within_ok, within_many}
 
@@ -47,6 +47,12 @@ as_sequence_none p v ps e h =
     ap (λ u. as_sequence p (tree_of u)) e
     ∙ ap (λ qs. or_fault WrongKind p (items_of qs)) (entries-pairs ps)
     ∙ ap (or_fault WrongKind p) (no_length (items_of ps) h)
+
+pub items_known : (v : Value) (ps : List (Tree × Tree)) (n : ℕ) → v ≡ Fun ps → option_map length (items_of ps) ≡ Some n → items (tree_of v) ≡ Some (values_of ps)
+items_known v ps n e h = ap (λ u. items (tree_of u)) e ∙ ap items_of (entries-pairs ps) ∙ items_from_known 1 ps (some_length (items_of ps) n h)
+
+pub items_none : (v : Value) (ps : List (Tree × Tree)) → v ≡ Fun ps → option_map length (items_of ps) ≡ None → items (tree_of v) ≡ None
+items_none v ps e h = ap (λ u. items (tree_of u)) e ∙ ap items_of (entries-pairs ps) ∙ no_length (items_of ps) h
 
 -- ---- limits
 pub few_pairs : (ps : List (Tree × Tree)) → IsValue (fun (pairs ps)) → length ps ≤ 1000000

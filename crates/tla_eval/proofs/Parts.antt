@@ -1,14 +1,15 @@
 -- What the parts of a node mean, from the list of its parts.
-use Rattle.std.proofs.Common.{rules, ◌≡◌, ℕ, Bool, true, false, ◌&&◌, List, [], ◌∷◌, Option, Some, None, map, refl, ap, ◌∙◌, Vec, Box, Global}
+use Rattle.std.proofs.Common.{rules, ◌≡◌, ℕ, suc, ◌+◌, length, add-one, Bool, true, false, ◌&&◌, List, [], ◌∷◌, Option, Some, None, map, refl, ap, ◌∙◌, sym, Vec, Box, Global}
 use Rattle.std.specs.List.{list_all}
 use Rattle.tla_eval.specs.Expr.{Expr, Arms}
-use Rattle.tla_eval.specs.Fits.{fits, fits_all, fits_fields, fits_arms}
+use Rattle.tla_eval.specs.Fits.{fits, fits_all, fits_fields, fits_arms, fits_updates, count}
 use Rattle.tla_eval.specs.Fault.{Place}
-use Rattle.tla_eval.specs.ExprOf.{expr_of, exprs_of, fields_of, arms_of, exprs_of_arm, parts_of_cores, fields_of_cores, arms_of_cores}
-use Rattle.tla_eval.specs.Value.{means, mean_all, mean_fields, mean_arms, means_other}
-use Rattle.tla_eval.specs.Meaning.{means-enumerated, means-tuple, means-record_of}
+use Rattle.tla_eval.specs.ExprOf.{expr_of, exprs_of, fields_of, arms_of, updates_of, exprs_of_arm, parts_of_cores, fields_of_cores, arms_of_cores, updates_of_cores, update_fits}
+use Rattle.tla_eval.specs.Value.{means, mean_all, mean_fields, mean_arms, means_other, mean_updates}
+use Rattle.tla_eval.specs.Meaning.{Meaning, means-enumerated, means-tuple, means-record_of}
 use Rattle.tla_eval.specs.Logic.{means-conjunction, means-disjunction, means-cases}
-use Rattle.tla_eval.specs.declared.expression.Core.{Core, Row_of-Core, end_of-Core, more_of-Core, items-the_row-Core, Row_of-Core-Record-1-2, end_of-Core-Record-1-2, more_of-Core-Record-1-2, items-the_row-Core-Record-1-2, Row_of-Core-Cases-1-2, end_of-Core-Cases-1-2, more_of-Core-Cases-1-2, items-the_row-Core-Cases-1-2}
+use Rattle.tla_eval.specs.Functions.{means-image, means-function, means-except}
+use Rattle.tla_eval.specs.declared.expression.Core.{Core, Row_of-Core, end_of-Core, more_of-Core, items-the_row-Core, Row_of-Core-Record-1-2, end_of-Core-Record-1-2, more_of-Core-Record-1-2, items-the_row-Core-Record-1-2, Row_of-Core-Cases-1-2, end_of-Core-Cases-1-2, more_of-Core-Cases-1-2, items-the_row-Core-Cases-1-2, Row_of-Core-Except-2-3, end_of-Core-Except-2-3, more_of-Core-Except-2-3, items-the_row-Core-Except-2-3, items_shown-the_row-Core-0}
 use Rattle.tla_eval.specs.declared.expression.Core.TheViews as views
 use Rattle.tla_eval.specs.declared.expression.Core.TheViews.{the_lemmas}
 use mathlib.Core.Former.{Count}
@@ -41,6 +42,18 @@ tuple_parts at parts = search (rules, the_lemmas, row_parts)
 pub means_tuple : (core : Core) (at : Place) (parts : Vec Core Global) → core ≡ views.Tuple at parts → means (expr_of core) ≡ means-tuple at (parts_of_cores parts.items)
 means_tuple core at parts e = ap (λ k. means (expr_of k)) e ∙ tuple_parts at parts
 
+pub image_parts : (at : Place) (sets : Vec Core Global) (body : Box Core Global) → means (expr_of (views.Image at sets body)) ≡ means-image at (parts_of_cores sets.items) (means (expr_of body.value))
+image_parts at sets body = search (rules, the_lemmas, row_parts)
+
+pub means_image : (core : Core) (at : Place) (sets : Vec Core Global) (body : Box Core Global) → core ≡ views.Image at sets body → means (expr_of core) ≡ means-image at (parts_of_cores sets.items) (means (expr_of body.value))
+means_image core at sets body e = ap (λ k. means (expr_of k)) e ∙ image_parts at sets body
+
+pub function_parts : (at : Place) (sets : Vec Core Global) (body : Box Core Global) → means (expr_of (views.Function at sets body)) ≡ means-function at (parts_of_cores sets.items) (means (expr_of body.value))
+function_parts at sets body = search (rules, the_lemmas, row_parts)
+
+pub means_function : (core : Core) (at : Place) (sets : Vec Core Global) (body : Box Core Global) → core ≡ views.Function at sets body → means (expr_of core) ≡ means-function at (parts_of_cores sets.items) (means (expr_of body.value))
+means_function core at sets body e = ap (λ k. means (expr_of k)) e ∙ function_parts at sets body
+
 pub row_fields : (n : Count) (row : Row_of-Core-Record-1-2 n) → mean_fields (fields_of row) ≡ fields_of_cores (items-the_row-Core-Record-1-2 n row)
 row_fields n end_of-Core-Record-1-2 = refl
 row_fields n (more_of-Core-Record-1-2 name e rest) = ap (λ ms. (name, means (expr_of e)) ∷ ms) (row_fields _ rest)
@@ -50,6 +63,18 @@ record_parts at fields = search (rules, the_lemmas, row_fields)
 
 pub means_record : (core : Core) (at : Place) (fields : Vec (List ℕ × Core) Global) → core ≡ views.Record at fields → means (expr_of core) ≡ means-record_of at (fields_of_cores fields.items)
 means_record core at fields e = ap (λ k. means (expr_of k)) e ∙ record_parts at fields
+
+pub row_updates : (n : Count) (row : Row_of-Core-Except-2-3 n) → mean_updates (updates_of row) ≡ updates_of_cores (items-the_row-Core-Except-2-3 n row)
+row_updates n end_of-Core-Except-2-3 = refl
+row_updates n (more_of-Core-Except-2-3 shape keys e rest) =
+    let h = row_parts _ keys ∙ ap parts_of_cores (sym (items_shown-the_row-Core-0 shape keys)) in
+    (λ i. (h i, means (expr_of e)) ∷ row_updates _ rest i)
+
+pub except_parts : (at : Place) (base : Box Core Global) (updates : Vec (Vec Core Global × Core) Global) → means (expr_of (views.Except at base updates)) ≡ means-except at (means (expr_of base.value)) (updates_of_cores updates.items)
+except_parts at base updates = search (rules, the_lemmas, row_updates)
+
+pub means_except : (core : Core) (at : Place) (base : Box Core Global) (updates : Vec (Vec Core Global × Core) Global) → core ≡ views.Except at base updates → means (expr_of core) ≡ means-except at (means (expr_of base.value)) (updates_of_cores updates.items)
+means_except core at base updates e = ap (λ k. means (expr_of k)) e ∙ except_parts at base updates
 
 pub row_arms : (n : Count) (row : Row_of-Core-Cases-1-2 n) (last : Arms) → mean_arms last ≡ [] → mean_arms (arms_of row last) ≡ arms_of_cores (items-the_row-Core-Cases-1-2 n row)
 row_arms n end_of-Core-Cases-1-2 last e = e
@@ -125,3 +150,27 @@ enumerated_fits at parts b n now = search (rules, the_lemmas, row_fits b n now)
 
 pub tuple_fits : (at : Place) (parts : Vec Core Global) (b n : ℕ) (now : Bool) → fits (expr_of (views.Tuple at parts)) b n now ≡ list_all (λ (e : Expr). fits e b n now) (map expr_of parts.items)
 tuple_fits at parts b n now = search (rules, the_lemmas, row_fits b n now)
+
+row_count : (k : Count) (row : Row_of-Core k) → count (exprs_of row) ≡ length (items-the_row-Core k row)
+row_count k end_of-Core = refl
+row_count k (more_of-Core e rest) = rw (add-one) (ap suc (row_count _ rest))
+
+pub image_fits : (at : Place) (sets : Vec Core Global) (body : Box Core Global) (b n : ℕ) (now : Bool) → fits (expr_of (views.Image at sets body)) b n now ≡ (list_all (λ (e : Expr). fits e b n now) (map expr_of sets.items) && fits (expr_of body.value) (b + length sets.items) n now)
+image_fits at sets body b n now = search (rules, the_lemmas, row_fits b n now, row_count)
+
+pub function_fits : (at : Place) (sets : Vec Core Global) (body : Box Core Global) (b n : ℕ) (now : Bool) → fits (expr_of (views.Function at sets body)) b n now ≡ (list_all (λ (e : Expr). fits e b n now) (map expr_of sets.items) && fits (expr_of body.value) (b + length sets.items) n now)
+function_fits at sets body b n now = search (rules, the_lemmas, row_fits b n now, row_count)
+
+three : (a b c : Bool) → (a && (b && c)) ≡ ((a && b) && c)
+three true b c = refl
+three false b c = refl
+
+row_updates_fit : (b n : ℕ) (now : Bool) (k : Count) (row : Row_of-Core-Except-2-3 k) → fits_updates (updates_of row) b n now ≡ list_all (update_fits b n now) (items-the_row-Core-Except-2-3 k row)
+row_updates_fit b n now k end_of-Core-Except-2-3 = refl
+row_updates_fit b n now k (more_of-Core-Except-2-3 shape keys e rest) =
+    let h = row_fits b n now _ keys ∙ ap (λ us. list_all (λ (x : Expr). fits x b n now) (map expr_of us)) (sym (items_shown-the_row-Core-0 shape keys)) in
+    (λ i. h i && (fits (expr_of e) (b + 1) n now && row_updates_fit b n now _ rest i))
+    ∙ three (h 1) (fits (expr_of e) (b + 1) n now) (list_all (update_fits b n now) (items-the_row-Core-Except-2-3 _ rest))
+
+pub except_fits : (at : Place) (base : Box Core Global) (updates : Vec (Vec Core Global × Core) Global) (b n : ℕ) (now : Bool) → fits (expr_of (views.Except at base updates)) b n now ≡ (fits (expr_of base.value) b n now && list_all (update_fits b n now) updates.items)
+except_fits at base updates b n now = search (rules, the_lemmas, row_updates_fit b n now)

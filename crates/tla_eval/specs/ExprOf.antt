@@ -1,9 +1,12 @@
 -- The expression that a core stands for: its pointers forgotten, its values as trees.
-use Rattle.std.specs.Prelude.{ℕ, List, [], ◌∷◌, map}
+use Rattle.std.specs.Prelude.{ℕ, ◌+◌, Bool, ◌&&◌, List, [], ◌∷◌, map}
+use Rattle.std.specs.List.{list_all}
+use Rattle.std.proofs.Common.{Vec, Global}
 use Rattle.tla_value.specs.TreeOf.{tree_of}
 use Rattle.tla_eval.specs.Meaning.{Meaning}
 use Rattle.tla_eval.specs.Value.{means}
-use Rattle.tla_eval.specs.Expr.{Expr, Exprs, Fields, Arms, constant, bound, now, next, unary, binary, equal, sub_seq, enumerated, tuple, record_of, conjunction, disjunction, implies, conditional, cases, assert, for_all, for_some, choose, image, function, member, not_member, subset, kind_set, booleans, cup, cap, minus, no_exprs, more_exprs, no_fields, more_fields, no_arms, other, more_arms}
+use Rattle.tla_eval.specs.Fits.{fits}
+use Rattle.tla_eval.specs.Expr.{Expr, Exprs, Fields, Arms, Updates, constant, bound, now, next, unary, binary, equal, sub_seq, enumerated, tuple, record_of, conjunction, disjunction, implies, conditional, cases, assert, for_all, for_some, choose, image, function, except, member, not_member, subset, kind_set, booleans, sequences, power, functions, cup, cap, minus, filtered, no_exprs, more_exprs, no_fields, more_fields, no_arms, other, more_arms, no_updates, more_updates}
 use Rattle.tla_eval.specs.Expr as expr
 use Rattle.tla_eval.specs.declared.expression.Unary.{Unary}
 use Rattle.tla_eval.specs.declared.expression.Unary.TheVariants.{Not, Negate, Union, Domain, Len, Head, Tail, IsFinite, Cardinality}
@@ -11,8 +14,8 @@ use Rattle.tla_eval.specs.declared.expression.Binary.{Binary}
 use Rattle.tla_eval.specs.declared.expression.Binary.TheVariants.{Iff, Unequal, Add, Subtract, Multiply, Divide, Modulo, Power, LessThan, GreaterThan, AtMost, AtLeast, Range, Single, Override, Concat, Append}
 use Rattle.tla_eval.specs.declared.expression.Kind.{Kind}
 use Rattle.tla_eval.specs.declared.expression.Kind.TheVariants.{Naturals, Integers, Strings}
-use Rattle.tla_eval.specs.declared.expression.Core.{Core, Row_of-Core, end_of-Core, more_of-Core, Row_of-Core-Record-1-2, end_of-Core-Record-1-2, more_of-Core-Record-1-2, Row_of-Core-Cases-1-2, end_of-Core-Cases-1-2, more_of-Core-Cases-1-2, Held-Core-Cases-2, None', Some'}
-use Rattle.tla_eval.specs.declared.expression.Core.TheVariants.{Constant, Bound, Now, Next, Unary', Binary', Apply', Equal', Field', SubSeq', Enumerated', Tuple', Record', Conjunction', Disjunction', Implies', If', Cases', Assert', ForAll', ForSome', Choose', Image', Function', Member', NotMember', Subset', KindSet, Booleans, Cup', Cap', Minus'}
+use Rattle.tla_eval.specs.declared.expression.Core.{Core, Row_of-Core, end_of-Core, more_of-Core, Row_of-Core-Record-1-2, end_of-Core-Record-1-2, more_of-Core-Record-1-2, Row_of-Core-Cases-1-2, end_of-Core-Cases-1-2, more_of-Core-Cases-1-2, Row_of-Core-Except-2-3, end_of-Core-Except-2-3, more_of-Core-Except-2-3, Held-Core-Cases-2, None', Some'}
+use Rattle.tla_eval.specs.declared.expression.Core.TheVariants.{Constant, Bound, Now, Next, Unary', Binary', Apply', Equal', Field', SubSeq', Enumerated', Tuple', Record', Conjunction', Disjunction', Implies', If', Cases', Assert', ForAll', ForSome', Choose', Image', Function', Member', NotMember', Subset', KindSet, Booleans, Sequences', Power', Functions', Cup', Cap', Minus', Filter', Except'}
 
 -- the operators
 abbrev pub unary_of : Unary → expr.Unary
@@ -74,16 +77,21 @@ abbrev mutual
   expr_of (ForAll' at _ a _ e) = for_all at (expr_of a) (expr_of e)
   expr_of (ForSome' at _ a _ e) = for_some at (expr_of a) (expr_of e)
   expr_of (Choose' at _ a _ e) = choose at (expr_of a) (expr_of e)
-  expr_of (Image' at _ a _ e) = image at (more_exprs (expr_of a) no_exprs) (expr_of e)
-  expr_of (Function' at _ a _ e) = function at (more_exprs (expr_of a) no_exprs) (expr_of e)
+  expr_of (Image' at _ sets _ e) = image at (exprs_of sets) (expr_of e)
+  expr_of (Function' at _ sets _ e) = function at (exprs_of sets) (expr_of e)
+  expr_of (Except' at _ f _ updates) = except at (expr_of f) (updates_of updates)
   expr_of (Member' at _ a _ c) = member at (expr_of a) (expr_of c)
   expr_of (NotMember' at _ a _ c) = not_member at (expr_of a) (expr_of c)
   expr_of (Subset' at _ a _ c) = subset at (expr_of a) (expr_of c)
   expr_of (KindSet at k) = kind_set at (kind_of k)
   expr_of (Booleans at) = booleans at
+  expr_of (Sequences' at _ a) = sequences at (expr_of a)
+  expr_of (Power' at _ a) = power at (expr_of a)
+  expr_of (Functions' at _ a _ c) = functions at (expr_of a) (expr_of c)
   expr_of (Cup' at _ a _ c) = cup at (expr_of a) (expr_of c)
   expr_of (Cap' at _ a _ c) = cap at (expr_of a) (expr_of c)
   expr_of (Minus' at _ a _ c) = minus at (expr_of a) (expr_of c)
+  expr_of (Filter' at _ a _ e) = filtered at (expr_of a) (expr_of e)
 
   pub exprs_of : {m : _} → Row_of-Core m → Exprs
   exprs_of end_of-Core = no_exprs
@@ -96,6 +104,10 @@ abbrev mutual
   pub arms_of : {m : _} → Row_of-Core-Cases-1-2 m → Arms → Arms
   arms_of end_of-Core-Cases-1-2 last = last
   arms_of (more_of-Core-Cases-1-2 c e rest) last = more_arms (expr_of c) (expr_of e) (arms_of rest last)
+
+  pub updates_of : {m : _} → Row_of-Core-Except-2-3 m → Updates
+  updates_of end_of-Core-Except-2-3 = no_updates
+  updates_of (more_of-Core-Except-2-3 _ keys e rest) = more_updates (exprs_of keys) (expr_of e) (updates_of rest)
 
   pub last_of : Held-Core-Cases-2 → Arms
   last_of None' = no_arms
@@ -116,3 +128,12 @@ exprs_of_arm a = (expr_of a.0, expr_of a.1)
 abbrev pub arms_of_cores : List (Core × Core) → List (Meaning × Meaning)
 arms_of_cores [] = []
 arms_of_cores (a ∷ arms) = (means (expr_of a.0), means (expr_of a.1)) ∷ arms_of_cores arms
+
+-- the keys and the new value of an update, and what the updates of a list mean
+abbrev pub updates_of_cores : List (Vec Core Global × Core) → List (List Meaning × Meaning)
+updates_of_cores [] = []
+updates_of_cores (u ∷ us) = (parts_of_cores u.0.items, means (expr_of u.1)) ∷ updates_of_cores us
+
+-- whether the names and variables of an update exist; `@` is one more name
+abbrev pub update_fits : ℕ → ℕ → Bool → (Vec Core Global × Core) → Bool
+update_fits b n s u = list_all (λ (e : Expr). fits e b n s) (map expr_of u.0.items) && fits (expr_of u.1) (b + 1) n s

@@ -5,12 +5,14 @@ use Rattle.tla_value.specs.TreeOf.{tree_of}
 use Rattle.tla_value.specs.declared.value.Value.{Value}
 use Rattle.std.proofs.Common.{Bor}
 use Rattle.tla_value.specs.Sets.{is_member}
+use Rattle.tla_value.specs.Choices.{choices, subsets_of}
 use Rattle.tla_value.specs.declared.error.ValueError.{ValueError}
 use Rattle.tla_value.specs.declared.error.ValueError.TheVariants.{TooMany, TooDeep, Memory}
 use Rattle.tla_eval.specs.Fault.{Place, Fault, FaultCode, Outcome, ◌>>=◌, out_of_memory}
 use Rattle.tla_eval.specs.Kinds.{as_int, as_set, make_set, make_fun}
 use Rattle.tla_eval.specs.Lists.{each}
-use Rattle.tla_eval.specs.Meaning.{Meaning, Bound, Present, Next, elements}
+use Rattle.tla_eval.specs.Meaning.{Meaning, Bound, Present, Next}
+use Rattle.tla_eval.specs.Functions.{function_on}
 
 abbrev pub GivesBy : {X A : Type 0} → (X → A) → Result X Fault → Outcome A → Type 0
 GivesBy view (Ok x) o = o ≡ Ok (view x)
@@ -61,20 +63,41 @@ record_rule p fs b s t = do
   ps ← each (λ (f : List ℕ × Meaning). named_value f b s t) fs
   make_fun p ps
 
--- {e : x \in S}, and [x \in S |-> e]
-abbrev pub image_rule : Place → Meaning → Meaning → Bound → Present → Next → Outcome Tree
-image_rule p a e b s t = do
-  xs ← elements p a b s t
-  vs ← each (λ v. e.value (b ++ v ∷ []) s t) xs
-  make_set p vs
+-- all subsets of a value that is a set
+abbrev pub subsets_rule : Place → Tree → Outcome Tree
+subsets_rule p x = do
+  xs ← as_set p x
+  make_set p (subsets_of xs)
 
-abbrev pub paired_value : Meaning → Bound → Present → Next → Tree → Outcome (Tree × Tree)
-paired_value e b s t v = do
-  y ← e.value (b ++ v ∷ []) s t
-  Ok (v, y)
+-- the values of a body for all choices from some lists, and from values that are sets
+abbrev pub values_for : Meaning → Bound → Present → Next → List (List Tree) → Outcome (List Tree)
+values_for e b s t lists = each (λ c. e.value (b ++ c) s t) (choices lists)
 
-abbrev pub function_rule : Place → Meaning → Meaning → Bound → Present → Next → Outcome Tree
-function_rule p a e b s t = do
-  xs ← elements p a b s t
-  ps ← each (paired_value e b s t) xs
-  make_fun p ps
+abbrev pub chosen_rule : Place → Meaning → Bound → Present → Next → List Tree → Outcome (List Tree)
+chosen_rule p e b s t vs = do
+  lists ← each (as_set p) vs
+  values_for e b s t lists
+
+-- the set of such values, and the function with them
+abbrev pub image_rule : Place → List Meaning → Meaning → Bound → Present → Next → Outcome Tree
+image_rule p ms e b s t = do
+  vs ← each (λ (m : Meaning). m.value b s t) ms
+  ys ← chosen_rule p e b s t vs
+  make_set p ys
+
+abbrev pub function_rule : Place → List Tree → List Tree → Outcome Tree
+function_rule p vs ys = do
+  lists ← each (as_set p) vs
+  function_on p (choices lists) ys
+
+abbrev pub chosen_function_rule : Place → List Meaning → Meaning → Bound → Present → Next → Outcome Tree
+chosen_function_rule p ms e b s t = do
+  vs ← each (λ (m : Meaning). m.value b s t) ms
+  ys ← chosen_rule p e b s t vs
+  function_rule p vs ys
+
+-- some values, and then those that come
+abbrev pub then_more : List Tree → Outcome (List Tree) → Outcome (List Tree)
+then_more kept o = do
+  ys ← o
+  Ok (kept ++ ys)

@@ -107,10 +107,13 @@ pub enum Core {
     ForAll(Place, Box<Core>, Box<Core>),
     ForSome(Place, Box<Core>, Box<Core>),
     Choose(Place, Box<Core>, Box<Core>),
-    /// `{e : x \in S}`: the set, and the body.
-    Image(Place, Box<Core>, Box<Core>),
-    /// `[x \in S |-> e]`: the set, and the body.
-    Function(Place, Box<Core>, Box<Core>),
+    /// `{e : x \in S, ..}`: the sets, one for each name, and the body, in which the names are the next bound ones.
+    Image(Place, Vec<Core>, Box<Core>),
+    /// `[x \in S, .. |-> e]`: the sets, and the body. With several names its arguments are tuples.
+    Function(Place, Vec<Core>, Box<Core>),
+    /// `[f EXCEPT !p = e, ..]`: the function, and the updates, each the keys of its path and the new value, in which
+    /// the old one (`@`) is the next bound name.
+    Except(Place, Box<Core>, Vec<(Vec<Core>, Core)>),
     /// The element, and the set.
     Member(Place, Box<Core>, Box<Core>),
     NotMember(Place, Box<Core>, Box<Core>),
@@ -119,12 +122,20 @@ pub enum Core {
     KindSet(Place, Kind),
     /// `BOOLEAN`
     Booleans(Place),
+    /// `Seq(S)`
+    Sequences(Place, Box<Core>),
+    /// `SUBSET S`
+    Power(Place, Box<Core>),
+    /// `[S -> T]`
+    Functions(Place, Box<Core>, Box<Core>),
     /// `\cup`
     Cup(Place, Box<Core>, Box<Core>),
     /// `\cap`
     Cap(Place, Box<Core>, Box<Core>),
     /// `\`
     Minus(Place, Box<Core>, Box<Core>),
+    /// `{x \in S : p}`: the set, and the body.
+    Filter(Place, Box<Core>, Box<Core>),
 }
 
 impl Core {
@@ -160,14 +171,19 @@ impl Core {
             Core::Choose(place, _, _) => *place,
             Core::Image(place, _, _) => *place,
             Core::Function(place, _, _) => *place,
+            Core::Except(place, _, _) => *place,
             Core::Member(place, _, _) => *place,
             Core::NotMember(place, _, _) => *place,
             Core::Subset(place, _, _) => *place,
             Core::KindSet(place, _) => *place,
             Core::Booleans(place) => *place,
+            Core::Sequences(place, _) => *place,
+            Core::Power(place, _) => *place,
+            Core::Functions(place, _, _) => *place,
             Core::Cup(place, _, _) => *place,
             Core::Cap(place, _, _) => *place,
             Core::Minus(place, _, _) => *place,
+            Core::Filter(place, _, _) => *place,
         }
     }
 }

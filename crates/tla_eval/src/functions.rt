@@ -1,13 +1,13 @@
 //! Functions and records.
-ghost use Rattle.std.specs.Prelude.{◌≡◌, ℕ, List};
-ghost use Rattle.tla_value.specs.Tree.{Tree, text};
+ghost use Rattle.std.specs.Prelude.{◌≡◌, ℕ, List, Ok, option_map};
+ghost use Rattle.tla_value.specs.Tree.{Tree, text, fun, pairs};
 ghost use Rattle.tla_value.specs.TreeOf.{tree_of};
 ghost use Rattle.tla_value.specs.Funs.{MakesFun};
 ghost use Rattle.tla_eval.specs.Expr.{Apply, Domain, Field, Single, Override};
-ghost use Rattle.tla_eval.specs.Kinds.{rising_fun};
+ghost use Rattle.tla_eval.specs.Kinds.{as_fun, pairs_of, rising_fun};
 ghost use Rattle.tla_eval.specs.Operators.{unary_rule, binary_rule};
 ghost use Rattle.tla_eval.specs.Environment.{Evaluates, tree_of_evaluated};
-ghost use Rattle.tla_eval.specs.Gives.{Gives, GivesBorrowed};
+ghost use Rattle.tla_eval.specs.Gives.{Gives, GivesBy, GivesBorrowed};
 
 use crate::environment::Evaluated;
 use crate::fault::{Fault, FaultCode, Place};
@@ -24,6 +24,38 @@ pub(crate) fn made_fun(place: Place, made: Result<FunValue, ValueError>) -> Resu
     match made {
         Ok(fun) => Ok(Value::Fun(fun)),
         Err(error) => Err(refused(place, error)),
+    }
+}
+
+/// A value that is a function.
+#[tactic(auto, using(crate::proofs::Known::as_fun_known))]
+pub(crate) fn as_function<'a>(place: Place, value: &'a Value) -> Result<&'a FunValue, Fault>
+    ensures { GivesBy (λ f. f.now) result (as_fun place (tree_of value.now)) }
+{
+    match value {
+        Value::Fun(fun) => Ok(fun),
+        _ => Err(fault_at(FaultCode::WrongKind, place)),
+    }
+}
+
+/// The function that a value is, if it is one.
+#[tactic(auto, using(crate::proofs::Known::pairs_known))]
+pub(crate) fn if_function<'a>(value: &'a Value) -> Option<&'a FunValue>
+    ensures { option_map (λ f. f.now) result ≡ pairs_of (tree_of value.now) }
+{
+    match value {
+        Value::Fun(fun) => Some(fun),
+        _ => None,
+    }
+}
+
+/// The same function.
+pub(crate) fn copied_function(alloc: Global, function: &FunValue) -> Result<Value, Fault>
+    ensures { Gives result (Ok (fun (pairs function.now))) }
+{
+    match function.copy(alloc) {
+        Ok(function) => Ok(Value::Fun(function)),
+        Err(_) => Err(memory()),
     }
 }
 

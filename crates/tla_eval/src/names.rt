@@ -2,7 +2,7 @@
 ghost use Rattle.std.specs.Prelude.{◌≡◌, ◌+◌, ◌&&◌, ℕ, List, nat_lt, map};
 ghost use Rattle.std.specs.List.{list_all};
 ghost use Rattle.tla_eval.specs.Expr.{Expr};
-ghost use Rattle.tla_eval.specs.ExprOf.{expr_of, exprs_of_arm};
+ghost use Rattle.tla_eval.specs.ExprOf.{expr_of, exprs_of_arm, update_fits};
 ghost use Rattle.tla_eval.specs.declared.expression.Core.{Core};
 ghost use Rattle.tla_eval.specs.Fits.{fits, Counts};
 
@@ -48,9 +48,10 @@ fn fits_within(core: &Core, names: Option<usize>, variables: usize, now: bool) -
         Core::Bound(_, index) => has_name(names, *index),
         Core::Now(_, variable) => now && *variable < variables,
         Core::Next(_, variable) => *variable < variables,
-        Core::Unary(_, _, operand) | Core::Field(_, _, operand) => {
-            fits_within(operand, names, variables, now)
-        }
+        Core::Unary(_, _, operand)
+        | Core::Field(_, _, operand)
+        | Core::Sequences(_, operand)
+        | Core::Power(_, operand) => fits_within(operand, names, variables, now),
         Core::Binary(_, _, left, right)
         | Core::Apply(_, left, right)
         | Core::Equal(_, left, right)
@@ -61,7 +62,8 @@ fn fits_within(core: &Core, names: Option<usize>, variables: usize, now: bool) -
         | Core::Subset(_, left, right)
         | Core::Cup(_, left, right)
         | Core::Cap(_, left, right)
-        | Core::Minus(_, left, right) => {
+        | Core::Minus(_, left, right)
+        | Core::Functions(_, left, right) => {
             fits_within(left, names, variables, now) && fits_within(right, names, variables, now)
         }
         Core::If(_, condition, yes, no) => {
@@ -83,10 +85,21 @@ fn fits_within(core: &Core, names: Option<usize>, variables: usize, now: bool) -
         Core::ForAll(_, set, body)
         | Core::ForSome(_, set, body)
         | Core::Choose(_, set, body)
-        | Core::Image(_, set, body)
-        | Core::Function(_, set, body) => {
+        | Core::Filter(_, set, body) => {
             fits_within(set, names, variables, now)
                 && fits_within(body, with_more(names, 1), variables, now)
+        }
+        Core::Image(_, sets, body) => {
+            all_fit(sets, names, variables, now)
+                && fits_within(body, with_more(names, sets.len()), variables, now)
+        }
+        Core::Function(_, sets, body) => {
+            all_fit(sets, names, variables, now)
+                && fits_within(body, with_more(names, sets.len()), variables, now)
+        }
+        Core::Except(_, function, updates) => {
+            fits_within(function, names, variables, now)
+                && updates_fit(updates, names, variables, now)
         }
         Core::Enumerated(_, parts) => all_fit(parts, names, variables, now),
         Core::Tuple(_, parts) => all_fit(parts, names, variables, now),
@@ -132,6 +145,27 @@ fn arms_fit(arms: &[(Core, Core)], names: Option<usize>, variables: usize, now: 
             return false;
         }
         if !fits_within(&arm.1, names, variables, now) {
+            return false;
+        }
+    }
+    true
+}
+
+/// Whether the names and variables of each update exist.
+#[cycle(fits)]
+fn updates_fit(
+    updates: &[(Vec<Core>, Core)],
+    names: Option<usize>,
+    variables: usize,
+    now: bool,
+) -> bool
+    ensures { (n : ℕ) → Counts names n → result ≡ list_all (update_fits n variables now) updates.now }
+{
+    for update in updates {
+        if !all_fit(update.0.as_slice(), names, variables, now) {
+            return false;
+        }
+        if !fits_within(&update.1, with_more(names, 1), variables, now) {
             return false;
         }
     }

@@ -1,7 +1,8 @@
 //! Whether an expression speaks of the next state.
 ghost use Rattle.std.specs.Prelude.{◌≡◌};
-ghost use Rattle.tla_eval.specs.ExprOf.{expr_of, parts_of_cores, fields_of_cores, arms_of_cores};
+ghost use Rattle.tla_eval.specs.ExprOf.{expr_of, parts_of_cores, fields_of_cores, arms_of_cores, updates_of_cores};
 ghost use Rattle.tla_eval.specs.Logic.{arms_primed};
+ghost use Rattle.tla_eval.specs.Functions.{updates_primed};
 ghost use Rattle.tla_eval.specs.Meaning.{any_primed};
 ghost use Rattle.tla_value.specs.Choices.{parts_of};
 ghost use Rattle.tla_eval.specs.Value.{means};
@@ -31,6 +32,8 @@ fn has_next(core: &Core) -> bool
         | Core::Booleans(_) => false,
         Core::Unary(_, _, operand) => has_next(operand),
         Core::Field(_, _, base) => has_next(base),
+        Core::Sequences(_, set) => has_next(set),
+        Core::Power(_, set) => has_next(set),
         Core::Binary(_, _, left, right)
         | Core::Apply(_, left, right)
         | Core::Equal(_, left, right)
@@ -39,14 +42,14 @@ fn has_next(core: &Core) -> bool
         | Core::ForAll(_, left, right)
         | Core::ForSome(_, left, right)
         | Core::Choose(_, left, right)
-        | Core::Image(_, left, right)
-        | Core::Function(_, left, right)
         | Core::Member(_, left, right)
         | Core::NotMember(_, left, right)
         | Core::Subset(_, left, right)
         | Core::Cup(_, left, right)
         | Core::Cap(_, left, right)
-        | Core::Minus(_, left, right) => has_next(left) || has_next(right),
+        | Core::Minus(_, left, right)
+        | Core::Functions(_, left, right)
+        | Core::Filter(_, left, right) => has_next(left) || has_next(right),
         Core::If(_, condition, yes, no) => has_next(condition) || has_next(yes) || has_next(no),
         Core::SubSeq(_, sequence, low, high) => {
             has_next(sequence) || has_next(low) || has_next(high)
@@ -58,6 +61,9 @@ fn has_next(core: &Core) -> bool
         Core::Enumerated(_, parts) => some_has_next(parts),
         Core::Tuple(_, parts) => some_has_next(parts),
         Core::Record(_, fields) => fields_have_next(fields),
+        Core::Image(_, sets, body) => some_has_next(sets) || has_next(body),
+        Core::Function(_, sets, body) => some_has_next(sets) || has_next(body),
+        Core::Except(_, function, updates) => has_next(function) || updates_have_next(updates),
         Core::Conjunction(_, parts) => some_has_next(parts),
         Core::Disjunction(_, parts) => some_has_next(parts),
     }
@@ -96,6 +102,19 @@ fn arms_have_next(arms: &[(Core, Core)]) -> bool
 {
     for arm in arms {
         if has_next(&arm.0) || has_next(&arm.1) {
+            return true;
+        }
+    }
+    false
+}
+
+/// Whether the next value of a variable stands in one of these updates.
+#[cycle(primed)]
+fn updates_have_next(updates: &[(Vec<Core>, Core)]) -> bool
+    ensures { result ≡ updates_primed (updates_of_cores updates.now) }
+{
+    for update in updates {
+        if some_has_next(update.0.as_slice()) || has_next(&update.1) {
             return true;
         }
     }

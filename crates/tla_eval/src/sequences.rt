@@ -1,11 +1,11 @@
 //! Sequences: functions on 1 to n.
-ghost use Rattle.std.specs.Prelude.{◌≡◌, ◌<◌, ◌≤◌, ◌-◌, ◌++◌, length, map, take, drop, Ok, IfOk, IfErr, OnOk};
+ghost use Rattle.std.specs.Prelude.{◌≡◌, ◌<◌, ◌≤◌, ◌-◌, ◌++◌, length, map, take, drop, Ok, IfOk, IfErr, OnOk, option_map};
 ghost use Rattle.tla_value.specs.Tree.{deepest_pair, pairs};
 ghost use Rattle.tla_value.specs.TreeOf.{tree_of, pair_of};
 ghost use Rattle.tla_value.specs.Choices.{numbered, sequence};
 ghost use Rattle.tla_eval.specs.Fault.{out_of_memory};
 ghost use Rattle.tla_eval.specs.Expr.{Len, Head, Tail, Concat, Append};
-ghost use Rattle.tla_eval.specs.Kinds.{as_sequence, make_sequence};
+ghost use Rattle.tla_eval.specs.Kinds.{as_sequence, items, make_sequence};
 ghost use Rattle.tla_eval.specs.Operators.{unary_rule, binary_rule, sub_seq_rule, part_of};
 ghost use Rattle.tla_eval.specs.Environment.{Evaluates, tree_of_evaluated};
 ghost use Rattle.tla_eval.specs.Gives.{Gives, GivesBy, GivesBorrowed, values_of};
@@ -34,6 +34,20 @@ pub(crate) fn items_of<'a>(place: Place, sequence: &'a Value) -> Result<&'a [(Va
             None => Err(fault_at(FaultCode::WrongKind, place)),
         },
         _ => Err(fault_at(FaultCode::WrongKind, place)),
+    }
+}
+
+/// The pairs of a value, if it is a sequence.
+#[tactic(auto, using(crate::proofs::Numbered::items_known, crate::proofs::Numbered::items_none))]
+pub(crate) fn sequence_pairs<'a>(value: &'a Value) -> Option<&'a [(Value, Value)]>
+    ensures { option_map (λ ps. values_of (map pair_of ps.now)) result ≡ items (tree_of value.now) }
+{
+    match value {
+        Value::Fun(fun) => match fun.as_sequence() {
+            Some(_) => Some(fun.pairs()),
+            None => None,
+        },
+        _ => None,
     }
 }
 

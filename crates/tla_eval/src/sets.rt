@@ -1,22 +1,25 @@
 //! Sets that are made of the values of parts, and membership in values.
-ghost use Rattle.std.specs.Prelude.{◌≡◌, ◌++◌, ◌∷◌, [], Ok, IfErr, OnOk, List, false, true, filter, map, not};
+ghost use Rattle.std.specs.Prelude.{◌≡◌, ◌++◌, ◌∷◌, [], Ok, IfErr, OnOk, List, false, true, cond, filter, map, not, option_map};
 ghost use Rattle.tla_value.specs.Tree.{Tree, truth, set, trees};
-ghost use Rattle.tla_value.specs.TreeOf.{tree_of};
+ghost use Rattle.tla_value.specs.TreeOf.{tree_of, pair_of};
+ghost use Rattle.tla_value.specs.Order.{tree_eq};
+ghost use Rattle.tla_value.specs.Funs.{arguments};
 ghost use Rattle.tla_value.specs.Sets.{is_member, MakesSet};
-ghost use Rattle.tla_eval.specs.Kinds.{as_set, rising_set};
-ghost use Rattle.tla_value.specs.Choices.{range_of};
+ghost use Rattle.tla_eval.specs.Kinds.{as_set, members_of, rising_set};
+ghost use Rattle.tla_value.specs.Choices.{range_of, functions_of};
 ghost use Rattle.tla_eval.specs.Fault.{out_of_memory};
 ghost use Rattle.tla_eval.specs.Expr.{Union};
 ghost use Rattle.tla_eval.specs.Operators.{joined_sets, unary_rule};
+ghost use Rattle.tla_eval.specs.Lists.{each};
 ghost use Rattle.tla_eval.specs.SetForms.{on_sets};
-ghost use Rattle.tla_eval.specs.Gives.{Gives, GivesBy, GivesTruth, IsRefusal, contains_rule};
-ghost use Rattle.tla_eval.specs.Environment.{Evaluates};
+ghost use Rattle.tla_eval.specs.Gives.{Gives, GivesBy, GivesTruth, IsRefusal, contains_rule, subsets_rule};
+ghost use Rattle.tla_eval.specs.Environment.{Evaluates, tree_of_evaluated};
 
 use crate::environment::Evaluated;
 use crate::fault::{Fault, FaultCode, Place};
 use crate::rules::{copied, fault_at, memory};
 use std::alloc::Global;
-use tla_value::{SetValue, Value, ValueError};
+use tla_value::{FunValue, SetValue, Value, ValueError};
 
 /// The members of a value that is a set.
 #[tactic(auto, using(crate::proofs::Known::as_set_known))]
@@ -60,6 +63,22 @@ pub(crate) fn made_set(place: Place, made: Result<SetValue, ValueError>) -> Resu
         Ok(set) => Ok(Value::Set(set)),
         Err(error) => Err(refused(place, error)),
     }
+}
+
+/// Adds a copy of a value at the end, if it is to be kept.
+pub(crate) fn keep_copy(
+    alloc: Global,
+    kept: &mut Vec<Value>,
+    value: &Value,
+    keep: bool,
+) -> Result<(), Fault>
+    ensures ok { OnOk result (kept.new.items ≡ cond keep (kept.old.items ++ value.now ∷ []) kept.old.items) }
+    ensures err { IfErr result (λ f. f ≡ out_of_memory) }
+{
+    if keep {
+        kept.push(copied(alloc, value)?)?;
+    }
+    Ok(())
 }
 
 /// The members of one set and of another.
@@ -113,6 +132,74 @@ pub(crate) fn difference_of(
     }
 }
 
+/// All subsets of a set.
+pub(crate) fn subsets_of(alloc: Global, place: Place, set: &Value) -> Result<Value, Fault>
+    ensures { Gives result (subsets_rule place (tree_of set.now)) }
+{
+    match set {
+        Value::Set(set) => made_set(place, set.power(alloc)),
+        _ => Err(fault_at(FaultCode::WrongKind, place)),
+    }
+}
+
+/// The functions on one set with values in another.
+pub(crate) fn functions_between(
+    alloc: Global,
+    place: Place,
+    domain: &Value,
+    range: &Value,
+) -> Result<Value, Fault>
+    ensures { Gives result (on_sets place functions_of (tree_of domain.now) (tree_of range.now)) }
+{
+    match (domain, range) {
+        (Value::Set(domain), Value::Set(range)) => made_set(
+            place,
+            SetValue::function_set(alloc, domain, range),
+        ),
+        (_, _) => Err(fault_at(FaultCode::WrongKind, place)),
+    }
+}
+
+/// A copy of a value that is a set.
+#[tactic(auto, using(crate::proofs::Known::as_set_known))]
+fn copied_set(alloc: Global, place: Place, value: &Value) -> Result<SetValue, Fault>
+    ensures { GivesBy (λ s. s) result (as_set place (tree_of value.now)) }
+{
+    match value {
+        Value::Set(set) => match set.copy(alloc) {
+            Ok(set) => Ok(set),
+            Err(_) => Err(memory()),
+        },
+        _ => Err(fault_at(FaultCode::WrongKind, place)),
+    }
+}
+
+/// Copies of some values that are sets.
+pub(crate) fn as_sets(
+    alloc: Global,
+    place: Place,
+    values: &[Evaluated<'_>],
+) -> Result<Vec<SetValue>, Fault>
+    ensures { GivesBy (λ v. v.items) result (each (as_set place) (map tree_of_evaluated values.now)) }
+{
+    let mut sets = Vec::with_capacity(alloc, values.len())?;
+    for value in values {
+        sets.push(copied_set(alloc, place, value.value())?)?;
+    }
+    Ok(sets)
+}
+
+/// The members of a value, if it is a set.
+#[tactic(auto, using(crate::proofs::Known::members_known))]
+pub(crate) fn if_set<'a>(value: &'a Value) -> Option<&'a [Value]>
+    ensures { option_map (λ s. map tree_of s.now) result ≡ members_of (tree_of value.now) }
+{
+    match value {
+        Value::Set(set) => Some(set.items()),
+        _ => None,
+    }
+}
+
 /// The numbers from `low` to `high`.
 pub(crate) fn range(alloc: Global, place: Place, low: i64, high: i64) -> Result<Value, Fault>
     ensures { Gives result (rising_set place (range_of low high)) }
@@ -163,4 +250,33 @@ pub(crate) fn booleans<'a>(alloc: Global) -> Result<Evaluated<'a>, Fault>
         Ok(set) => Ok(Evaluated::Owned(Value::Set(set))),
         Err(_) => Err(memory()),
     }
+}
+
+/// Whether the arguments of a function are just these values, in order.
+pub(crate) fn has_domain(function: &FunValue, values: &[Value]) -> bool
+    ensures { result ≡ tree_eq (set (trees (arguments function.now))) (set (trees (map tree_of values.now))) }
+{
+    are_arguments(function.pairs(), values)
+}
+
+/// Whether two values are the same.
+fn is_same(left: &Value, right: &Value) -> bool
+    ensures { result ≡ tree_eq (tree_of left.now) (tree_of right.now) }
+{
+    left == right
+}
+
+/// Whether the arguments of some pairs are just these values, in order.
+fn are_arguments(pairs: &[(Value, Value)], values: &[Value]) -> bool
+    ensures { result ≡ tree_eq (set (trees (arguments (map pair_of pairs.now)))) (set (trees (map tree_of values.now))) }
+{
+    if pairs.len() != values.len() {
+        return false;
+    }
+    for i in 0..pairs.len() {
+        if !is_same(&pairs[i].0, &values[i]) {
+            return false;
+        }
+    }
+    true
 }

@@ -1,23 +1,23 @@
 //! Forms that bind names.
 ghost use Rattle.std.specs.Prelude.{◌++◌, ◌∷◌, [], map};
-ghost use Rattle.tla_value.specs.TreeOf.{tree_of, pair_of};
-ghost use Rattle.tla_eval.specs.Lists.{each, all_hold, some_hold, first_passing};
+ghost use Rattle.tla_value.specs.TreeOf.{tree_of};
+ghost use Rattle.tla_eval.specs.Lists.{all_hold, some_hold, first_passing, passing};
 ghost use Rattle.tla_eval.specs.Meaning.{asks};
 ghost use Rattle.tla_eval.specs.Logic.{means-for_all, means-for_some, means-choose};
+ghost use Rattle.tla_eval.specs.SetForms.{means-filtered};
 ghost use Rattle.tla_eval.specs.Value.{means};
 ghost use Rattle.tla_eval.specs.ExprOf.{expr_of};
-ghost use Rattle.tla_eval.specs.Gives.{Gives, GivesBy, GivesTruth, GivesBorrowed, image_rule, function_rule, paired_value};
+ghost use Rattle.tla_eval.specs.Gives.{Gives, GivesBy, GivesTruth, GivesBorrowed};
 ghost use Rattle.tla_eval.specs.Environment.{Evaluates, bound_in, present_in, next_in};
 
 use crate::environment::{Environment, Evaluated, Scope};
 use crate::evaluation::{ask, evaluate};
 use crate::expression::Core;
 use crate::fault::{Fault, FaultCode, Place};
-use crate::functions::made_fun;
 use crate::rules::{copied, fault_at};
-use crate::sets::{made_set, members};
+use crate::sets::{keep_copy, made_set, members};
 use std::alloc::Global;
-use tla_value::{FunValue, SetValue, Value};
+use tla_value::{SetValue, Value};
 
 /// Whether a body is TRUE of each element of a set.
 #[cycle(evaluate)]
@@ -126,7 +126,7 @@ pub(super) fn first_passing<'a>(
 
 /// Whether a body is TRUE with one more bound value.
 #[cycle(evaluate)]
-fn ask_with<'a>(
+pub(super) fn ask_with<'a>(
     alloc: Global,
     place: Place,
     body: &'a Core,
@@ -146,7 +146,7 @@ fn ask_with<'a>(
 
 /// The value of a body with one more bound value.
 #[cycle(evaluate)]
-fn value_with<'a>(
+pub(super) fn value_with<'a>(
     alloc: Global,
     body: &'a Core,
     value: &'a Value,
@@ -163,71 +163,38 @@ fn value_with<'a>(
     evaluate(alloc, body, inner)?.into_value(alloc)
 }
 
-/// The set of the values of a body for the elements of a set.
+/// The elements of a set of which a body is TRUE.
 #[cycle(evaluate)]
-pub(super) fn image<'a>(
+pub(super) fn filter<'a>(
     alloc: Global,
     place: Place,
     set: &'a Core,
     body: &'a Core,
     env: Environment<'a>,
 ) -> Result<Evaluated<'a>, Fault>
-    ensures { Evaluates result (image_rule place (means (expr_of set.now)) (means (expr_of body.now)) (bound_in env.entry) (present_in env.entry) (next_in env.entry)) }
+    ensures { Evaluates result ((means-filtered place (means (expr_of set.now)) (means (expr_of body.now))).value (bound_in env.entry) (present_in env.entry) (next_in env.entry)) }
 {
     let set = evaluate(alloc, set, env)?;
-    let elements = members(place, set.value())?;
-    let values = values_with(alloc, body, elements, env)?;
-    Ok(Evaluated::Owned(made_set(place, SetValue::from_values(values))?))
+    let values = members(place, set.value())?;
+    let kept = passing(alloc, place, body, values, env)?;
+    Ok(Evaluated::Owned(made_set(place, SetValue::from_values(kept))?))
 }
 
-/// The values of a body for these values.
+/// Copies of those of these values of which a body is TRUE.
 #[cycle(evaluate)]
-fn values_with<'a>(
+pub(super) fn passing<'a>(
     alloc: Global,
+    place: Place,
     body: &'a Core,
-    elements: &'a [Value],
+    values: &'a [Value],
     env: Environment<'a>,
 ) -> Result<Vec<Value>, Fault>
-    ensures { GivesBy (λ v. map tree_of v.items) result (each (λ v. (means (expr_of body.now)).value (bound_in env.entry ++ v ∷ []) (present_in env.entry) (next_in env.entry)) (map tree_of elements.now)) }
+    ensures { GivesBy (λ v. map tree_of v.items) result (passing (λ v. asks place (means (expr_of body.now)) (bound_in env.entry ++ v ∷ []) (present_in env.entry) (next_in env.entry)) (map tree_of values.now)) }
 {
-    let mut values = Vec::with_capacity(alloc, elements.len())?;
-    for element in elements {
-        values.push(value_with(alloc, body, element, env)?)?;
+    let mut kept = Vec::new(alloc);
+    for value in values {
+        let holds = ask_with(alloc, place, body, value, env)?;
+        keep_copy(alloc, &mut kept, value, holds)?;
     }
-    Ok(values)
-}
-
-/// The function on a set with the values of a body for its elements.
-#[cycle(evaluate)]
-pub(super) fn function<'a>(
-    alloc: Global,
-    place: Place,
-    set: &'a Core,
-    body: &'a Core,
-    env: Environment<'a>,
-) -> Result<Evaluated<'a>, Fault>
-    ensures { Evaluates result (function_rule place (means (expr_of set.now)) (means (expr_of body.now)) (bound_in env.entry) (present_in env.entry) (next_in env.entry)) }
-{
-    let set = evaluate(alloc, set, env)?;
-    let elements = members(place, set.value())?;
-    let pairs = pairs_with(alloc, body, elements, env)?;
-    Ok(Evaluated::Owned(made_fun(place, FunValue::from_pairs(pairs))?))
-}
-
-/// These values, each with the value of a body for it.
-#[cycle(evaluate)]
-fn pairs_with<'a>(
-    alloc: Global,
-    body: &'a Core,
-    elements: &'a [Value],
-    env: Environment<'a>,
-) -> Result<Vec<(Value, Value)>, Fault>
-    ensures { GivesBy (λ v. map pair_of v.items) result (each (paired_value (means (expr_of body.now)) (bound_in env.entry) (present_in env.entry) (next_in env.entry)) (map tree_of elements.now)) }
-{
-    let mut pairs = Vec::with_capacity(alloc, elements.len())?;
-    for element in elements {
-        let value = value_with(alloc, body, element, env)?;
-        pairs.push((copied(alloc, element)?, value))?;
-    }
-    Ok(pairs)
+    Ok(kept)
 }

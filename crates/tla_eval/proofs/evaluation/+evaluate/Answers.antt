@@ -1,17 +1,20 @@
-use Rattle.std.proofs.Common.{◌++◌, ◌∷◌, [], Bool, Some, None, Ok, ap, sym, ◌∙◌, subst}
+use Rattle.std.proofs.Common.{rules, map, Bor, List, ◌++◌, ◌∷◌, [], Bool, Some, None, Ok, ap, sym, ◌∙◌, subst}
 use Rattle.tla_eval.specs.Logic.{means-conjunction, means-disjunction, means-cases}
 use Rattle.tla_eval.specs.Meaning.{Meaning, asks, means-enumerated, means-tuple}
-use Rattle.tla_eval.specs.Value.{means, val, mem}
-use Rattle.tla_eval.specs.ExprOf.{expr_of, parts_of_cores, fields_of_cores, arms_of_cores}
+use Rattle.tla_eval.specs.Functions.{means-except}
+use Rattle.tla_eval.specs.Value.{means, mem}
+use Rattle.tla_eval.specs.ExprOf.{expr_of, parts_of_cores, fields_of_cores, arms_of_cores, updates_of_cores}
 use Rattle.tla_value.specs.Tree.{Tree}
 use Rattle.tla_eval.specs.Fault.{Outcome}
-use Rattle.tla_eval.specs.Gives.{GivesTruth, record_rule, image_rule, function_rule}
+use Rattle.tla_eval.specs.Gives.{GivesBy, GivesTruth, record_rule, image_rule, chosen_function_rule}
 use Rattle.tla_value.specs.TreeOf.{tree_of}
 use Rattle.tla_eval.specs.declared.expression.Core.{Core}
-use Rattle.tla_eval.specs.Environment.{Evaluates, bound_in, present_in, next_in}
+use Rattle.tla_value.specs.declared.value.Value.{Value}
+use Rattle.tla_eval.specs.Environment.{Evaluates, tree_of_evaluated, bound_in, present_in, next_in}
 use Rattle.tla_eval.proofs.Loops.{all_hold_step, some_hold_step, first_passing_step}
-use Rattle.tla_eval.proofs.Collected.{record_is, image_is, function_is}
-use Rattle.tla_eval.proofs.Parts.{means_conjunction, means_disjunction, means_enumerated, means_tuple, means_record, means_cases, means_cases_or}
+use Rattle.tla_eval.proofs.Collected.{record_is}
+use Rattle.tla_eval.proofs.Choices.{image_is, function_is, chosen_step, chosen_from, chosen_long, passing_step}
+use Rattle.tla_eval.proofs.Parts.{means_conjunction, means_disjunction, means_enumerated, means_tuple, means_record, means_image, means_function, means_except, means_cases, means_cases_or}
 use Rattle.tla_eval.proofs.evaluation.+evaluate.Goals as goal
 
 pub evaluate-returns-in-Conjunction : goal.evaluate-returns-in-Conjunction
@@ -98,18 +101,47 @@ pub evaluate-returns-in-Image : goal.evaluate-returns-in-Image
 evaluate-returns-in-Image t c =
     let n = c.in-Image in
     let b = bound_in c.args.env in let s = present_in c.args.env in let q = next_in c.args.env in
-    let e = ap (λ (k : Core). val (expr_of k) b s q) n.is
-    ∙ image_is n.place (means (expr_of n.set.value)) (means (expr_of n.body.value)) b s q
-    ∙ ap (λ (k : Core). image_rule n.place (means (expr_of k)) (means (expr_of n.body.value)) b s q) (sym c.deref-in-Image.ensures)
-    ∙ ap (λ (k : Core). image_rule n.place (means (expr_of c.deref-in-Image.result.now)) (means (expr_of k)) b s q) (sym c.deref-in-Image-2.ensures) in
+    let e = ap (λ (m : Meaning). m.value b s q) (means_image c.args.core.now n.place n.sets n.body n.is)
+    ∙ image_is n.place (parts_of_cores n.sets.items) (means (expr_of n.body.value)) b s q
+    ∙ ap (λ us. image_rule n.place (parts_of_cores us) (means (expr_of n.body.value)) b s q) (sym c.deref-in-Image.ensures.value)
+    ∙ ap (λ (k : Core). image_rule n.place (parts_of_cores c.deref-in-Image.result.now) (means (expr_of k)) b s q) (sym c.deref-in-Image-2.ensures) in
     subst (λ (o : Outcome Tree). Evaluates c.image.result o) (sym e) c.image.ensures
 
 pub evaluate-returns-in-Function : goal.evaluate-returns-in-Function
 evaluate-returns-in-Function t c =
     let n = c.in-Function in
     let b = bound_in c.args.env in let s = present_in c.args.env in let q = next_in c.args.env in
-    let e = ap (λ (k : Core). val (expr_of k) b s q) n.is
-    ∙ function_is n.place (means (expr_of n.set.value)) (means (expr_of n.body.value)) b s q
-    ∙ ap (λ (k : Core). function_rule n.place (means (expr_of k)) (means (expr_of n.body.value)) b s q) (sym c.deref-in-Function.ensures)
-    ∙ ap (λ (k : Core). function_rule n.place (means (expr_of c.deref-in-Function.result.now)) (means (expr_of k)) b s q) (sym c.deref-in-Function-2.ensures) in
+    let e = ap (λ (m : Meaning). m.value b s q) (means_function c.args.core.now n.place n.sets n.body n.is)
+    ∙ function_is n.place (parts_of_cores n.sets.items) (means (expr_of n.body.value)) b s q
+    ∙ ap (λ us. chosen_function_rule n.place (parts_of_cores us) (means (expr_of n.body.value)) b s q) (sym c.deref-in-Function.ensures.value)
+    ∙ ap (λ (k : Core). chosen_function_rule n.place (parts_of_cores c.deref-in-Function.result.now) (means (expr_of k)) b s q) (sym c.deref-in-Function-2.ensures) in
     subst (λ (o : Outcome Tree). Evaluates c.function.result o) (sym e) c.function.ensures
+
+pub evaluate-returns-in-Except : goal.evaluate-returns-in-Except
+evaluate-returns-in-Except t c =
+    let n = c.in-Except in
+    let b = bound_in c.args.env in let s = present_in c.args.env in let q = next_in c.args.env in
+    let e = means_except c.args.core.now n.place n.base n.updates n.is
+    ∙ ap (λ us. means-except n.place (means (expr_of n.base.value)) (updates_of_cores us)) (sym c.deref-in-Except.ensures.value)
+    ∙ ap (λ (k : Core). means-except n.place (means (expr_of k)) (updates_of_cores c.deref-in-Except.result.now)) (sym c.deref-in-Except-2.ensures) in
+    subst (λ (m : Meaning). Evaluates c.except.result (m.value b s q)) (sym e) c.except.ensures
+
+pub binding::passing-loop-value-preserved : goal.binding::passing-loop-value-preserved
+binding::passing-loop-value-preserved t c =
+    c.loop-value.invariant
+    ∙ passing_step (λ v. asks c.args.place (means (expr_of c.args.body.now)) (bound_in c.args.env ++ v ∷ []) (present_in c.args.env) (next_in c.args.env)) c.args.values.now c.loop-value.value-index c.value-item.result c.loop-value.kept.items c.keep_copy.new.kept.items c.in_ok-holds.holds c.value-item.is c.loop-value-test.true c.in_ok-holds.ensures c.in_ok-keep_copy.ensures.ok
+
+pub choices::add_chosen_from-loop-value-preserved : goal.choices::add_chosen_from-loop-value-preserved
+choices::add_chosen_from-loop-value-preserved t c =
+    c.loop-value.invariant
+    ∙ chosen_step (means (expr_of c.args.body.now)) (bound_in c.args.env) (present_in c.args.env) (next_in c.args.env) (map tree_of c.loop-value.values.items) c.args.first.now c.loop-value.value-index c.value-item.result (map (λ (r : Bor (List Value)). map tree_of r.now) c.args.rest.now) (map tree_of c.add_chosen.new.values.items) c.value-item.is c.loop-value-test.true c.in_ok-add_chosen.ensures
+
+pub choices::add_chosen_from-returns-in_err-add_chosen : goal.choices::add_chosen_from-returns-in_err-add_chosen
+choices::add_chosen_from-returns-in_err-add_chosen t c =
+    let e = c.loop-value.invariant
+    ∙ chosen_from (means (expr_of c.args.body.now)) (bound_in c.args.env) (present_in c.args.env) (next_in c.args.env) (map tree_of c.loop-value.values.items) c.args.first.now c.loop-value.value-index c.value-item.result (map (λ (r : Bor (List Value)). map tree_of r.now) c.args.rest.now) c.value-item.is c.loop-value-test.true in
+    subst (λ (o : Outcome (List Tree)). GivesBy (λ u. map tree_of c.add_chosen.new.values.items) c.from_residual.result o) (sym e) (search rules)
+
+pub choices::function-function_on-requires : goal.choices::function-function_on-requires
+choices::function-function_on-requires t c = λ lists h.
+    chosen_long c.args.place (means (expr_of c.args.body.now)) (bound_in c.args.env) (present_in c.args.env) (next_in c.args.env) (map tree_of_evaluated c.as_slice-sets.result.now) (map tree_of c.in_ok-values.values.items) c.in_ok-values.ensures lists h

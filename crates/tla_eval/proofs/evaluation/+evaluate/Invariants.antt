@@ -1,13 +1,16 @@
-use Rattle.std.proofs.Common.{◌≡◌, ℕ, ◌+◌, ◌*◌, ◌++◌, ◌∷◌, [], max, map, drop, Option, Some, None, option_map, Bor, List, Ok}
+use Rattle.std.proofs.Common.{◌≡◌, ℕ, ◌+◌, ◌*◌, ◌^◌, length, ◌++◌, ◌∷◌, [], max, map, drop, Option, Some, None, option_map, Bor, List, Ok}
 use Rattle.tla_value.specs.TreeOf.{tree_of, pair_of}
-use Rattle.tla_eval.specs.Lists.{each, all_hold, some_hold, first_passing}
+use Rattle.tla_eval.specs.Lists.{each, all_hold, some_hold, first_passing, passing}
 use Rattle.tla_eval.specs.Fault.{◌>>=◌}
-use Rattle.tla_eval.specs.Gives.{named_value, paired_value}
+use Rattle.tla_eval.specs.Gives.{named_value, values_of, values_for, then_more}
 use Rattle.tla_eval.specs.Meaning.{Meaning, asks}
 use Rattle.tla_eval.specs.Logic.{means-cases}
+use Rattle.tla_eval.specs.Functions.{update_all}
+use Rattle.tla_value.specs.Tree.{Tree}
+use Rattle.tla_value.specs.declared.value.Value.{Value}
 use Rattle.tla_eval.specs.Value.{means, mem}
-use Rattle.tla_eval.specs.ExprOf.{expr_of, parts_of_cores, fields_of_cores, arms_of_cores}
-use Rattle.tla_eval.specs.Environment.{bound_in, present_in, next_in}
+use Rattle.tla_eval.specs.ExprOf.{expr_of, parts_of_cores, fields_of_cores, arms_of_cores, updates_of_cores}
+use Rattle.tla_eval.specs.Environment.{tree_of_evaluated, bound_in, present_in, next_in}
 use Rattle.tla_eval.specs.declared.expression.Core.{Core, size-Core}
 use Rattle.tla_eval.proofs.evaluation.+evaluate.Given as goal
 
@@ -17,132 +20,195 @@ size_of_other None = 0
 size_of_other (Some core) = size-Core core.now
 
 abbrev pub decreases-evaluate : goal.decreases-evaluate
-decreases-evaluate l = 8 * size-Core l.core.now
+decreases-evaluate l = 2 ^ 66 * size-Core l.core.now
 
 abbrev pub decreases-ask : goal.decreases-ask
-decreases-ask l = 8 * size-Core l.core.now + 1
+decreases-ask l = 2 ^ 66 * size-Core l.core.now + 1
 
 abbrev pub decreases-has : goal.decreases-has
-decreases-has l = 8 * size-Core l.core.now + 1
+decreases-has l = 2 ^ 66 * size-Core l.core.now + 1
 
 abbrev pub decreases-membership::has_all : goal.decreases-membership::has_all
-decreases-membership::has_all l = 8 * size-Core l.core.now + 2
+decreases-membership::has_all l = 2 ^ 66 * size-Core l.core.now + 2
 
 abbrev pub decreases-binding::ask_with : goal.decreases-binding::ask_with
-decreases-binding::ask_with l = 8 * size-Core l.body.now + 2
+decreases-binding::ask_with l = 2 ^ 66 * size-Core l.body.now + 2
 
 abbrev pub decreases-binding::each_holds : goal.decreases-binding::each_holds
-decreases-binding::each_holds l = 8 * size-Core l.body.now + 3
+decreases-binding::each_holds l = 2 ^ 66 * size-Core l.body.now + 3
 
 abbrev pub decreases-binding::some_holds : goal.decreases-binding::some_holds
-decreases-binding::some_holds l = 8 * size-Core l.body.now + 3
+decreases-binding::some_holds l = 2 ^ 66 * size-Core l.body.now + 3
 
 abbrev pub decreases-binding::first_passing : goal.decreases-binding::first_passing
-decreases-binding::first_passing l = 8 * size-Core l.body.now + 3
+decreases-binding::first_passing l = 2 ^ 66 * size-Core l.body.now + 3
 
 abbrev pub decreases-operands::on_one : goal.decreases-operands::on_one
-decreases-operands::on_one l = 8 * size-Core l.operand.now + 4
+decreases-operands::on_one l = 2 ^ 66 * size-Core l.operand.now + 4
 
 abbrev pub decreases-logic::assert : goal.decreases-logic::assert
-decreases-logic::assert l = 8 * size-Core l.condition.now + 4
+decreases-logic::assert l = 2 ^ 66 * size-Core l.condition.now + 4
 
 abbrev pub decreases-operands::on_two : goal.decreases-operands::on_two
-decreases-operands::on_two l = 8 * max (size-Core l.left.now) (size-Core l.right.now) + 4
+decreases-operands::on_two l = 2 ^ 66 * max (size-Core l.left.now) (size-Core l.right.now) + 4
 
 abbrev pub decreases-operands::applied : goal.decreases-operands::applied
-decreases-operands::applied l = 8 * max (size-Core l.function.now) (size-Core l.argument.now) + 4
+decreases-operands::applied l = 2 ^ 66 * max (size-Core l.function.now) (size-Core l.argument.now) + 4
 
 abbrev pub decreases-operands::equal : goal.decreases-operands::equal
-decreases-operands::equal l = 8 * max (size-Core l.left.now) (size-Core l.right.now) + 4
+decreases-operands::equal l = 2 ^ 66 * max (size-Core l.left.now) (size-Core l.right.now) + 4
 
 abbrev pub decreases-logic::implies : goal.decreases-logic::implies
-decreases-logic::implies l = 8 * max (size-Core l.left.now) (size-Core l.right.now) + 4
+decreases-logic::implies l = 2 ^ 66 * max (size-Core l.left.now) (size-Core l.right.now) + 4
 
 abbrev pub decreases-binding::for_all : goal.decreases-binding::for_all
-decreases-binding::for_all l = 8 * max (size-Core l.set.now) (size-Core l.body.now) + 4
+decreases-binding::for_all l = 2 ^ 66 * max (size-Core l.set.now) (size-Core l.body.now) + 4
 
 abbrev pub decreases-binding::for_some : goal.decreases-binding::for_some
-decreases-binding::for_some l = 8 * max (size-Core l.set.now) (size-Core l.body.now) + 4
+decreases-binding::for_some l = 2 ^ 66 * max (size-Core l.set.now) (size-Core l.body.now) + 4
 
 abbrev pub decreases-binding::choose : goal.decreases-binding::choose
-decreases-binding::choose l = 8 * max (size-Core l.set.now) (size-Core l.body.now) + 4
+decreases-binding::choose l = 2 ^ 66 * max (size-Core l.set.now) (size-Core l.body.now) + 4
 
 abbrev pub decreases-membership::is_member : goal.decreases-membership::is_member
-decreases-membership::is_member l = 8 * max (size-Core l.element.now) (size-Core l.set.now) + 4
+decreases-membership::is_member l = 2 ^ 66 * max (size-Core l.element.now) (size-Core l.set.now) + 4
 
 abbrev pub decreases-membership::is_no_member : goal.decreases-membership::is_no_member
-decreases-membership::is_no_member l = 8 * max (size-Core l.element.now) (size-Core l.set.now) + 4
+decreases-membership::is_no_member l = 2 ^ 66 * max (size-Core l.element.now) (size-Core l.set.now) + 4
 
 abbrev pub decreases-membership::is_subset : goal.decreases-membership::is_subset
-decreases-membership::is_subset l = 8 * max (size-Core l.left.now) (size-Core l.right.now) + 4
+decreases-membership::is_subset l = 2 ^ 66 * max (size-Core l.left.now) (size-Core l.right.now) + 4
 
 abbrev pub decreases-membership::cup : goal.decreases-membership::cup
-decreases-membership::cup l = 8 * max (size-Core l.left.now) (size-Core l.right.now) + 4
+decreases-membership::cup l = 2 ^ 66 * max (size-Core l.left.now) (size-Core l.right.now) + 4
 
 abbrev pub decreases-membership::cap : goal.decreases-membership::cap
-decreases-membership::cap l = 8 * max (size-Core l.left.now) (size-Core l.right.now) + 4
+decreases-membership::cap l = 2 ^ 66 * max (size-Core l.left.now) (size-Core l.right.now) + 4
 
 abbrev pub decreases-logic::conjunction : goal.decreases-logic::conjunction
-decreases-logic::conjunction l = 8 * goal.size-logic::conjunction l + 4
+decreases-logic::conjunction l = 2 ^ 66 * goal.size-logic::conjunction l + 4
 
 abbrev pub decreases-logic::disjunction : goal.decreases-logic::disjunction
-decreases-logic::disjunction l = 8 * goal.size-logic::disjunction l + 4
+decreases-logic::disjunction l = 2 ^ 66 * goal.size-logic::disjunction l + 4
 
 abbrev pub decreases-membership::minus : goal.decreases-membership::minus
-decreases-membership::minus l = 8 * max (size-Core l.left.now) (size-Core l.right.now) + 4
+decreases-membership::minus l = 2 ^ 66 * max (size-Core l.left.now) (size-Core l.right.now) + 4
 
 abbrev pub decreases-operands::field_of : goal.decreases-operands::field_of
-decreases-operands::field_of l = 8 * size-Core l.base.now + 4
+decreases-operands::field_of l = 2 ^ 66 * size-Core l.base.now + 4
 
 abbrev pub decreases-operands::part_of : goal.decreases-operands::part_of
-decreases-operands::part_of l = 8 * max (size-Core l.sequence.now) (max (size-Core l.low.now) (size-Core l.high.now)) + 4
+decreases-operands::part_of l = 2 ^ 66 * max (size-Core l.sequence.now) (max (size-Core l.low.now) (size-Core l.high.now)) + 4
 
 abbrev pub decreases-logic::cases : goal.decreases-logic::cases
-decreases-logic::cases l = 8 * max (goal.size-logic::cases l) (size_of_other l.other) + 4
+decreases-logic::cases l = 2 ^ 66 * max (goal.size-logic::cases l) (size_of_other l.other) + 4
 
 abbrev pub decreases-logic::cases_have : goal.decreases-logic::cases_have
-decreases-logic::cases_have l = 8 * max (goal.size-logic::cases_have l) (size_of_other l.other) + 4
+decreases-logic::cases_have l = 2 ^ 66 * max (goal.size-logic::cases_have l) (size_of_other l.other) + 4
 
 abbrev pub decreases-operands::values_of : goal.decreases-operands::values_of
-decreases-operands::values_of l = 8 * goal.size-operands::values_of l + 1
+decreases-operands::values_of l = 2 ^ 66 * goal.size-operands::values_of l + 1
 
 abbrev pub decreases-operands::named_values : goal.decreases-operands::named_values
-decreases-operands::named_values l = 8 * goal.size-operands::named_values l + 1
+decreases-operands::named_values l = 2 ^ 66 * goal.size-operands::named_values l + 1
 
 abbrev pub decreases-operands::enumerated : goal.decreases-operands::enumerated
-decreases-operands::enumerated l = 8 * goal.size-operands::enumerated l + 4
+decreases-operands::enumerated l = 2 ^ 66 * goal.size-operands::enumerated l + 4
 
 abbrev pub decreases-operands::tuple : goal.decreases-operands::tuple
-decreases-operands::tuple l = 8 * goal.size-operands::tuple l + 4
+decreases-operands::tuple l = 2 ^ 66 * goal.size-operands::tuple l + 4
 
 abbrev pub decreases-operands::record_of : goal.decreases-operands::record_of
-decreases-operands::record_of l = 8 * goal.size-operands::record_of l + 4
+decreases-operands::record_of l = 2 ^ 66 * goal.size-operands::record_of l + 4
 
 abbrev pub decreases-binding::value_with : goal.decreases-binding::value_with
-decreases-binding::value_with l = 8 * size-Core l.body.now + 1
+decreases-binding::value_with l = 2 ^ 66 * size-Core l.body.now + 1
 
-abbrev pub decreases-binding::values_with : goal.decreases-binding::values_with
-decreases-binding::values_with l = 8 * size-Core l.body.now + 2
+abbrev pub decreases-binding::filter : goal.decreases-binding::filter
+decreases-binding::filter l = 2 ^ 66 * max (size-Core l.set.now) (size-Core l.body.now) + 4
 
-abbrev pub decreases-binding::pairs_with : goal.decreases-binding::pairs_with
-decreases-binding::pairs_with l = 8 * size-Core l.body.now + 2
+abbrev pub decreases-binding::passing : goal.decreases-binding::passing
+decreases-binding::passing l = 2 ^ 66 * size-Core l.body.now + 3
 
-abbrev pub decreases-binding::image : goal.decreases-binding::image
-decreases-binding::image l = 8 * max (size-Core l.set.now) (size-Core l.body.now) + 4
+-- several names: then how many lists are left
+abbrev pub decreases-choices::image : goal.decreases-choices::image
+decreases-choices::image l = 2 ^ 66 * max (goal.size-choices::image l) (size-Core l.body.now) + 2 ^ 65 + 4
 
-abbrev pub decreases-binding::function : goal.decreases-binding::function
-decreases-binding::function l = 8 * max (size-Core l.set.now) (size-Core l.body.now) + 4
+abbrev pub decreases-choices::function : goal.decreases-choices::function
+decreases-choices::function l = 2 ^ 66 * max (goal.size-choices::function l) (size-Core l.body.now) + 2 ^ 65 + 4
+
+abbrev pub decreases-choices::evaluated_each : goal.decreases-choices::evaluated_each
+decreases-choices::evaluated_each l = 2 ^ 66 * goal.size-choices::evaluated_each l + 1
+
+abbrev pub decreases-choices::chosen : goal.decreases-choices::chosen
+decreases-choices::chosen l = 2 ^ 66 * size-Core l.body.now + 2 ^ 65 + 3
+
+abbrev pub decreases-choices::add_chosen : goal.decreases-choices::add_chosen
+decreases-choices::add_chosen l = 2 ^ 66 * size-Core l.body.now + 2 * length l.lists.now + 1
+
+abbrev pub decreases-choices::add_chosen_from : goal.decreases-choices::add_chosen_from
+decreases-choices::add_chosen_from l = 2 ^ 66 * size-Core l.body.now + 2 * length l.rest.now + 2
+
+-- updates: then how many keys are left
+abbrev pub decreases-updates::except : goal.decreases-updates::except
+decreases-updates::except l = 2 ^ 66 * max (size-Core l.base.now) (goal.size-updates::except l) + 2 ^ 65 + 5
+
+abbrev pub decreases-updates::updated_by_all : goal.decreases-updates::updated_by_all
+decreases-updates::updated_by_all l = 2 ^ 66 * goal.size-updates::updated_by_all l + 2 ^ 65 + 4
+
+abbrev pub decreases-updates::updated : goal.decreases-updates::updated
+decreases-updates::updated l = 2 ^ 66 * max (goal.size-updates::updated l) (size-Core l.body.now) + 2 * length l.keys.now + 2
+
+abbrev pub decreases-updates::updated_at : goal.decreases-updates::updated_at
+decreases-updates::updated_at l = 2 ^ 66 * max (size-Core l.key.now) (max (goal.size-updates::updated_at l) (size-Core l.body.now)) + 2 * length l.rest.now + 3
+
+-- sets
+abbrev pub decreases-set_forms::power : goal.decreases-set_forms::power
+decreases-set_forms::power l = 2 ^ 66 * size-Core l.set.now + 4
+
+abbrev pub decreases-set_forms::functions : goal.decreases-set_forms::functions
+decreases-set_forms::functions l = 2 ^ 66 * max (size-Core l.domain.now) (size-Core l.range.now) + 4
+
+abbrev pub decreases-set_forms::is_set_within : goal.decreases-set_forms::is_set_within
+decreases-set_forms::is_set_within l = 2 ^ 66 * size-Core l.core.now + 3
+
+abbrev pub decreases-set_forms::is_sequence_of : goal.decreases-set_forms::is_sequence_of
+decreases-set_forms::is_sequence_of l = 2 ^ 66 * size-Core l.core.now + 3
+
+abbrev pub decreases-set_forms::has_values : goal.decreases-set_forms::has_values
+decreases-set_forms::has_values l = 2 ^ 66 * size-Core l.core.now + 2
+
+abbrev pub decreases-set_forms::is_function_into : goal.decreases-set_forms::is_function_into
+decreases-set_forms::is_function_into l = 2 ^ 66 * max (size-Core l.domain.now) (size-Core l.range.now) + 3
 
 -- ---- what is left of a list decides
-abbrev pub invariant-binding::values_with-loop-element : goal.invariant-binding::values_with-loop-element
-invariant-binding::values_with-loop-element l =
-    each (λ v. (means (expr_of l.body)).value (bound_in l.env ++ v ∷ []) (present_in l.env) (next_in l.env)) (map tree_of l.elements)
-    ≡ (each (λ v. (means (expr_of l.body)).value (bound_in l.env ++ v ∷ []) (present_in l.env) (next_in l.env)) (map tree_of (drop l.element-index l.elements)) >>= λ ys. Ok (map tree_of l.values.items ++ ys))
+abbrev pub invariant-binding::passing-loop-value : goal.invariant-binding::passing-loop-value
+invariant-binding::passing-loop-value l =
+    passing (λ v. asks l.place (means (expr_of l.body)) (bound_in l.env ++ v ∷ []) (present_in l.env) (next_in l.env)) (map tree_of l.values)
+    ≡ (passing (λ v. asks l.place (means (expr_of l.body)) (bound_in l.env ++ v ∷ []) (present_in l.env) (next_in l.env)) (map tree_of (drop l.value-index l.values)) >>= λ ys. Ok (map tree_of l.kept.items ++ ys))
 
-abbrev pub invariant-binding::pairs_with-loop-element : goal.invariant-binding::pairs_with-loop-element
-invariant-binding::pairs_with-loop-element l =
-    each (paired_value (means (expr_of l.body)) (bound_in l.env) (present_in l.env) (next_in l.env)) (map tree_of l.elements)
-    ≡ (each (paired_value (means (expr_of l.body)) (bound_in l.env) (present_in l.env) (next_in l.env)) (map tree_of (drop l.element-index l.elements)) >>= λ ys. Ok (map pair_of l.pairs.items ++ ys))
+abbrev pub invariant-choices::evaluated_each-loop-core : goal.invariant-choices::evaluated_each-loop-core
+invariant-choices::evaluated_each-loop-core l =
+    each (λ (m : Meaning). m.value (bound_in l.env) (present_in l.env) (next_in l.env)) (parts_of_cores l.cores)
+    ≡ (each (λ (m : Meaning). m.value (bound_in l.env) (present_in l.env) (next_in l.env)) (parts_of_cores (drop l.core-index l.cores)) >>= λ ys. Ok (map tree_of_evaluated l.values.items ++ ys))
+
+abbrev pub invariant-choices::add_chosen_from-loop-value : goal.invariant-choices::add_chosen_from-loop-value
+invariant-choices::add_chosen_from-loop-value l =
+    then_more (map tree_of l.initial.values.items) (values_for (means (expr_of l.body)) (bound_in l.env) (present_in l.env) (next_in l.env) (map tree_of l.first ∷ map (λ (r : Bor (List Value)). map tree_of r.now) l.rest))
+    ≡ then_more (map tree_of l.values.items) (values_for (means (expr_of l.body)) (bound_in l.env) (present_in l.env) (next_in l.env) (map tree_of (drop l.value-index l.first) ∷ map (λ (r : Bor (List Value)). map tree_of r.now) l.rest))
+
+abbrev pub invariant-updates::updated_by_all-loop-update : goal.invariant-updates::updated_by_all-loop-update
+invariant-updates::updated_by_all-loop-update l =
+    update_all l.place (updates_of_cores l.updates) (bound_in l.env) (present_in l.env) (next_in l.env) (tree_of_evaluated l.initial.value)
+    ≡ update_all l.place (updates_of_cores (drop l.update-index l.updates)) (bound_in l.env) (present_in l.env) (next_in l.env) (tree_of_evaluated l.value)
+
+abbrev pub invariant-set_forms::has_values-loop-pair : goal.invariant-set_forms::has_values-loop-pair
+invariant-set_forms::has_values-loop-pair l = record {
+  items : all_hold (λ v. mem v (expr_of l.core) (bound_in l.env) (present_in l.env) (next_in l.env)) (values_of (map pair_of l.pairs))
+      ≡ all_hold (λ v. mem v (expr_of l.core) (bound_in l.env) (present_in l.env) (next_in l.env)) (values_of (map pair_of (drop l.pair-index l.pairs)));
+  values : all_hold (λ (q : Tree × Tree). mem q.1 (expr_of l.core) (bound_in l.env) (present_in l.env) (next_in l.env)) (map pair_of l.pairs)
+      ≡ all_hold (λ (q : Tree × Tree). mem q.1 (expr_of l.core) (bound_in l.env) (present_in l.env) (next_in l.env)) (map pair_of (drop l.pair-index l.pairs));
+}
 
 abbrev pub invariant-operands::values_of-loop-core : goal.invariant-operands::values_of-loop-core
 invariant-operands::values_of-loop-core l =

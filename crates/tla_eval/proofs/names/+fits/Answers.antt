@@ -1,17 +1,17 @@
-use Rattle.std.proofs.Common.{◌≡◌, ℕ, List, Bool, true, false, ◌&&◌, map, ap, sym, ◌∙◌}
+use Rattle.std.proofs.Common.{◌≡◌, ℕ, ◌+◌, length, subst, List, Bool, true, false, ◌&&◌, map, ap, sym, ◌∙◌}
 use Rattle.std.specs.List.{list_all}
 use Rattle.tla_eval.specs.Expr.{Expr}
-use Rattle.tla_eval.specs.ExprOf.{expr_of, exprs_of_arm}
+use Rattle.tla_eval.specs.ExprOf.{expr_of, exprs_of_arm, update_fits}
 use Rattle.tla_eval.specs.declared.expression.Core.{Core}
-use Rattle.tla_eval.specs.Fits.{fits}
+use Rattle.tla_eval.specs.Fits.{fits, Counts}
 use Rattle.tla_eval.proofs.Loops.{list_all_step, list_all_stop, list_all_end}
-use Rattle.tla_eval.proofs.Parts.{enumerated_fits, tuple_fits, conjunction_fits, disjunction_fits, record_fits, arm_fits, cases_fit, cases_or_fit}
+use Rattle.tla_eval.proofs.Parts.{enumerated_fits, tuple_fits, conjunction_fits, disjunction_fits, record_fits, image_fits, function_fits, except_fits, arm_fits, cases_fit, cases_or_fit}
 use Rattle.tla_eval.proofs.names.+fits.Goals as goal
 
 pub fits_within-returns-in-Enumerated : goal.fits_within-returns-in-Enumerated
 fits_within-returns-in-Enumerated t c = λ n h.
     let m = c.in-Enumerated in
-    c.all_fit.ensures n h
+    c.all_fit-in-Enumerated.ensures n h
     ∙ ap (λ us. list_all (λ (e : Expr). fits e n c.args.variables c.args.now) (map expr_of us)) c.deref-in-Enumerated.ensures.value
     ∙ sym (ap (λ k. fits (expr_of k) n c.args.variables c.args.now) m.is ∙ enumerated_fits m.field-0 m.parts n c.args.variables c.args.now)
 
@@ -83,3 +83,46 @@ fits_within-returns-else-arms_fit t c = λ n h.
     sym (c.arms_fit-in-Some.ensures n h ∙ ap (λ us. list_all (arm_fits n c.args.variables c.args.now) (map exprs_of_arm us)) c.deref-in-Some.ensures.value) ∙ c.if-arms_fit.false in
     c.if-arms_fit.false
     ∙ sym (cases_or_fit c.args.core.now m.field-0 m.arms m.other c.in-Some.body m.is c.in-Some.is n c.args.variables c.args.now ∙ ap (λ b. b && fits (expr_of c.in-Some.body.value) n c.args.variables c.args.now) arms)
+
+pub fits_within-returns-then-all_fit : goal.fits_within-returns-then-all_fit
+fits_within-returns-then-all_fit t c = λ n h.
+    let m = c.in-Image in
+    let sets : list_all (λ (e : Expr). fits e n c.args.variables c.args.now) (map expr_of m.sets.items) ≡ true =
+    sym (c.all_fit.ensures n h ∙ ap (λ us. list_all (λ (e : Expr). fits e n c.args.variables c.args.now) (map expr_of us)) c.deref-in-Image.ensures.value) ∙ c.if-all_fit.true in
+    c.fits_within-then-all_fit.ensures (n + length m.sets.items) (subst (λ k. Counts c.with_more.result (n + k)) (c.len.ensures ∙ sym c.deref-in-Image.ensures.len ∙ ap length c.deref-in-Image.ensures.value) (c.with_more.ensures n h))
+    ∙ ap (λ (k : Core). fits (expr_of k) (n + length m.sets.items) c.args.variables c.args.now) c.deref-then-all_fit.ensures
+    ∙ sym (ap (λ k. fits (expr_of k) n c.args.variables c.args.now) m.is ∙ image_fits m.field-0 m.sets m.body n c.args.variables c.args.now ∙ ap (λ b. b && fits (expr_of m.body.value) (n + length m.sets.items) c.args.variables c.args.now) sets)
+
+pub fits_within-returns-else-all_fit : goal.fits_within-returns-else-all_fit
+fits_within-returns-else-all_fit t c = λ n h.
+    let m = c.in-Image in
+    let sets : list_all (λ (e : Expr). fits e n c.args.variables c.args.now) (map expr_of m.sets.items) ≡ false =
+    sym (c.all_fit.ensures n h ∙ ap (λ us. list_all (λ (e : Expr). fits e n c.args.variables c.args.now) (map expr_of us)) c.deref-in-Image.ensures.value) ∙ c.if-all_fit.false in
+    c.if-all_fit.false
+    ∙ sym (ap (λ k. fits (expr_of k) n c.args.variables c.args.now) m.is ∙ image_fits m.field-0 m.sets m.body n c.args.variables c.args.now ∙ ap (λ b. b && fits (expr_of m.body.value) (n + length m.sets.items) c.args.variables c.args.now) sets)
+
+pub fits_within-returns-then-all_fit-2 : goal.fits_within-returns-then-all_fit-2
+fits_within-returns-then-all_fit-2 t c = λ n h.
+    let m = c.in-Function in
+    let sets : list_all (λ (e : Expr). fits e n c.args.variables c.args.now) (map expr_of m.sets.items) ≡ true =
+    sym (c.all_fit-in-Function.ensures n h ∙ ap (λ us. list_all (λ (e : Expr). fits e n c.args.variables c.args.now) (map expr_of us)) c.deref-in-Function.ensures.value) ∙ c.if-all_fit-2.true in
+    c.fits_within-then-all_fit-2.ensures (n + length m.sets.items) (subst (λ k. Counts c.with_more-then-all_fit-2.result (n + k)) (c.len-then-all_fit-2.ensures ∙ sym c.deref-in-Function.ensures.len ∙ ap length c.deref-in-Function.ensures.value) (c.with_more-then-all_fit-2.ensures n h))
+    ∙ ap (λ (k : Core). fits (expr_of k) (n + length m.sets.items) c.args.variables c.args.now) c.deref-then-all_fit-2.ensures
+    ∙ sym (ap (λ k. fits (expr_of k) n c.args.variables c.args.now) m.is ∙ function_fits m.field-0 m.sets m.body n c.args.variables c.args.now ∙ ap (λ b. b && fits (expr_of m.body.value) (n + length m.sets.items) c.args.variables c.args.now) sets)
+
+pub fits_within-returns-else-all_fit-2 : goal.fits_within-returns-else-all_fit-2
+fits_within-returns-else-all_fit-2 t c = λ n h.
+    let m = c.in-Function in
+    let sets : list_all (λ (e : Expr). fits e n c.args.variables c.args.now) (map expr_of m.sets.items) ≡ false =
+    sym (c.all_fit-in-Function.ensures n h ∙ ap (λ us. list_all (λ (e : Expr). fits e n c.args.variables c.args.now) (map expr_of us)) c.deref-in-Function.ensures.value) ∙ c.if-all_fit-2.false in
+    c.if-all_fit-2.false
+    ∙ sym (ap (λ k. fits (expr_of k) n c.args.variables c.args.now) m.is ∙ function_fits m.field-0 m.sets m.body n c.args.variables c.args.now ∙ ap (λ b. b && fits (expr_of m.body.value) (n + length m.sets.items) c.args.variables c.args.now) sets)
+
+pub fits_within-returns-then-fits_within-5 : goal.fits_within-returns-then-fits_within-5
+fits_within-returns-then-fits_within-5 t c = λ n h.
+    let m = c.in-Except in
+    let base : fits (expr_of m.function.value) n c.args.variables c.args.now ≡ true =
+    sym (c.fits_within-in-Except.ensures n h ∙ ap (λ (k : Core). fits (expr_of k) n c.args.variables c.args.now) c.deref-in-Except.ensures) ∙ c.if-fits_within-5.true in
+    c.updates_fit.ensures n h
+    ∙ ap (λ us. list_all (update_fits n c.args.variables c.args.now) us) c.deref-then-fits_within-5.ensures.value
+    ∙ sym (ap (λ k. fits (expr_of k) n c.args.variables c.args.now) m.is ∙ except_fits m.field-0 m.function m.updates n c.args.variables c.args.now ∙ ap (λ b. b && list_all (update_fits n c.args.variables c.args.now) m.updates.items) base)

@@ -1,8 +1,8 @@
-use Rattle.std.proofs.Common.{◌≡◌, ◌&&◌, ℕ, List, map, drop}
+use Rattle.std.proofs.Common.{◌≡◌, ◌&&◌, ◌+◌, ◌*◌, ℕ, List, map, drop}
 use Rattle.std.specs.List.{list_all}
 use Rattle.tla_eval.specs.Expr.{Expr}
-use Rattle.tla_eval.specs.ExprOf.{expr_of, exprs_of_arm}
-use Rattle.tla_eval.specs.declared.expression.Core.{Core}
+use Rattle.tla_eval.specs.ExprOf.{expr_of, exprs_of_arm, update_fits}
+use Rattle.tla_eval.specs.declared.expression.Core.{Core, size-Core}
 use Rattle.tla_eval.specs.Fits.{fits, Counts}
 use Rattle.tla_eval.proofs.names.+fits.Given as goal
 
@@ -24,3 +24,25 @@ invariant-arms_fit-loop-arm l =
     (n : ℕ) → Counts l.names n
     → list_all (λ (a : Expr × Expr). fits a.0 n l.variables l.now && fits a.1 n l.variables l.now) (map exprs_of_arm l.arms)
     ≡ list_all (λ (a : Expr × Expr). fits a.0 n l.variables l.now && fits a.1 n l.variables l.now) (map exprs_of_arm (drop l.arm-index l.arms))
+
+abbrev pub invariant-updates_fit-loop-update : goal.invariant-updates_fit-loop-update
+invariant-updates_fit-loop-update l =
+    (n : ℕ) → Counts l.names n
+    → list_all (update_fits n l.variables l.now) l.updates
+    ≡ list_all (update_fits n l.variables l.now) (drop l.update-index l.updates)
+
+-- ---- how deep what is left is, and then which function comes before which
+abbrev pub decreases-fits_within : goal.decreases-fits_within
+decreases-fits_within l = 4 * size-Core l.core.now
+
+abbrev pub decreases-all_fit : goal.decreases-all_fit
+decreases-all_fit l = 4 * goal.size-all_fit l + 1
+
+abbrev pub decreases-fields_fit : goal.decreases-fields_fit
+decreases-fields_fit l = 4 * goal.size-fields_fit l + 1
+
+abbrev pub decreases-arms_fit : goal.decreases-arms_fit
+decreases-arms_fit l = 4 * goal.size-arms_fit l + 1
+
+abbrev pub decreases-updates_fit : goal.decreases-updates_fit
+decreases-updates_fit l = 4 * goal.size-updates_fit l + 2

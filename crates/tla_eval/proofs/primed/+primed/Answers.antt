@@ -1,11 +1,12 @@
 use Rattle.std.proofs.Common.{◌≡◌, Bool, true, false, ◌||◌, refl, ap, sym, ◌∙◌}
 use Rattle.tla_value.specs.Choices.{parts_of}
-use Rattle.tla_eval.specs.ExprOf.{expr_of, parts_of_cores, fields_of_cores, arms_of_cores}
+use Rattle.tla_eval.specs.ExprOf.{expr_of, parts_of_cores, fields_of_cores, arms_of_cores, updates_of_cores}
 use Rattle.tla_eval.specs.declared.expression.Core.{Core}
 use Rattle.tla_eval.specs.Logic.{arms_primed}
+use Rattle.tla_eval.specs.Functions.{updates_primed}
 use Rattle.tla_eval.specs.Value.{means}
 use Rattle.tla_eval.specs.Meaning.{any_primed}
-use Rattle.tla_eval.proofs.Parts.{means_enumerated, means_tuple, means_conjunction, means_disjunction, means_record, means_cases, means_cases_or}
+use Rattle.tla_eval.proofs.Parts.{means_enumerated, means_tuple, means_conjunction, means_disjunction, means_record, means_image, means_function, means_except, means_cases, means_cases_or}
 use Rattle.tla_eval.proofs.primed.+primed.Goals as goal
 
 pub has_next-returns-in-Enumerated : goal.has_next-returns-in-Enumerated
@@ -69,3 +70,41 @@ has_next-returns-else-arms_have_next t c =
     c.has_next-else-arms_have_next.ensures
     ∙ ap (λ (k : Core). (means (expr_of k)).primed) c.deref-else-arms_have_next.ensures
     ∙ sym (ap (λ m. m.primed) (means_cases_or c.args.core.now n.field-0 n.arms n.other c.in-Some.body n.is c.in-Some.is) ∙ ap (λ b. b || (means (expr_of c.in-Some.body.value)).primed) arms)
+
+pub has_next-returns-then-some_has_next : goal.has_next-returns-then-some_has_next
+has_next-returns-then-some_has_next t c =
+    let n = c.in-Image in
+    let sets : any_primed (parts_of_cores n.sets.items) ≡ true = sym (c.some_has_next-in-Image.ensures ∙ ap (λ us. any_primed (parts_of_cores us)) c.deref-in-Image.ensures.value) ∙ c.if-some_has_next.true in
+    c.if-some_has_next.true
+    ∙ sym (ap (λ m. m.primed) (means_image c.args.core.now n.field-0 n.sets n.body n.is) ∙ ap (λ b. b || (means (expr_of n.body.value)).primed) sets)
+
+pub has_next-returns-else-some_has_next : goal.has_next-returns-else-some_has_next
+has_next-returns-else-some_has_next t c =
+    let n = c.in-Image in
+    let sets : any_primed (parts_of_cores n.sets.items) ≡ false = sym (c.some_has_next-in-Image.ensures ∙ ap (λ us. any_primed (parts_of_cores us)) c.deref-in-Image.ensures.value) ∙ c.if-some_has_next.false in
+    c.has_next-else-some_has_next.ensures
+    ∙ ap (λ (k : Core). (means (expr_of k)).primed) c.deref-else-some_has_next.ensures
+    ∙ sym (ap (λ m. m.primed) (means_image c.args.core.now n.field-0 n.sets n.body n.is) ∙ ap (λ b. b || (means (expr_of n.body.value)).primed) sets)
+
+pub has_next-returns-then-some_has_next-2 : goal.has_next-returns-then-some_has_next-2
+has_next-returns-then-some_has_next-2 t c =
+    let n = c.in-Function in
+    let sets : any_primed (parts_of_cores n.sets.items) ≡ true = sym (c.some_has_next-in-Function.ensures ∙ ap (λ us. any_primed (parts_of_cores us)) c.deref-in-Function.ensures.value) ∙ c.if-some_has_next-2.true in
+    c.if-some_has_next-2.true
+    ∙ sym (ap (λ m. m.primed) (means_function c.args.core.now n.field-0 n.sets n.body n.is) ∙ ap (λ b. b || (means (expr_of n.body.value)).primed) sets)
+
+pub has_next-returns-else-some_has_next-2 : goal.has_next-returns-else-some_has_next-2
+has_next-returns-else-some_has_next-2 t c =
+    let n = c.in-Function in
+    let sets : any_primed (parts_of_cores n.sets.items) ≡ false = sym (c.some_has_next-in-Function.ensures ∙ ap (λ us. any_primed (parts_of_cores us)) c.deref-in-Function.ensures.value) ∙ c.if-some_has_next-2.false in
+    c.has_next-else-some_has_next-2.ensures
+    ∙ ap (λ (k : Core). (means (expr_of k)).primed) c.deref-else-some_has_next-2.ensures
+    ∙ sym (ap (λ m. m.primed) (means_function c.args.core.now n.field-0 n.sets n.body n.is) ∙ ap (λ b. b || (means (expr_of n.body.value)).primed) sets)
+
+pub has_next-returns-else-has_next-5 : goal.has_next-returns-else-has_next-5
+has_next-returns-else-has_next-5 t c =
+    let n = c.in-Except in
+    let base : (means (expr_of n.function.value)).primed ≡ false = sym (c.has_next-in-Except.ensures ∙ ap (λ (k : Core). (means (expr_of k)).primed) c.deref-in-Except.ensures) ∙ c.if-has_next-5.false in
+    c.updates_have_next.ensures
+    ∙ ap (λ us. updates_primed (updates_of_cores us)) c.deref-else-has_next-5.ensures.value
+    ∙ sym (ap (λ m. m.primed) (means_except c.args.core.now n.field-0 n.function n.updates n.is) ∙ ap (λ b. b || updates_primed (updates_of_cores n.updates.items)) base)

@@ -1,0 +1,105 @@
+//! The function on all choices from some sets.
+ghost use Rattle.std.specs.Prelude.{◌≡◌, List, Ok, length, map, zip, IfOk, IfErr};
+ghost use Rattle.std.specs.List.{AllByRecursion};
+ghost use Rattle.std.specs.List.Sorted.{IsStrictlySortedBy};
+ghost use Rattle.tla_value.specs.Order.{tree_cmp};
+ghost use Rattle.tla_value.specs.Tree.{Tree};
+ghost use Rattle.tla_value.specs.TreeOf.{tree_of, pair_of};
+ghost use Rattle.tla_value.specs.Choices.{choices};
+ghost use Rattle.tla_eval.specs.Fault.{out_of_memory};
+ghost use Rattle.tla_eval.specs.Kinds.{as_set};
+ghost use Rattle.tla_eval.specs.Lists.{each};
+ghost use Rattle.tla_eval.specs.Environment.{tree_of_evaluated};
+ghost use Rattle.tla_eval.specs.Gives.{Gives, GivesBy, function_rule};
+
+use crate::environment::Evaluated;
+use crate::fault::{Fault, Place};
+use crate::functions::made_fun;
+use crate::rules::copied;
+use crate::sets::{as_sets, members, refused};
+use std::alloc::Global;
+use tla_value::{FunValue, SetValue, Value};
+
+/// The members of some values that are sets.
+pub(crate) fn lists_of<'a>(
+    alloc: Global,
+    place: Place,
+    sets: &'a [Evaluated<'a>],
+) -> Result<Vec<&'a [Value]>, Fault>
+    ensures { GivesBy (λ v. map (λ l. map tree_of l.now) v.items) result (each (as_set place) (map tree_of_evaluated sets.now)) }
+{
+    let mut lists = Vec::with_capacity(alloc, sets.len())?;
+    for set in sets {
+        lists.push(members(place, set.value())?)?;
+    }
+    Ok(lists)
+}
+
+/// The members of each set rise.
+fn each_rises(sets: &[SetValue])
+    ensures { AllByRecursion (IsStrictlySortedBy tree_cmp) sets.now }
+{
+    for set in sets {
+        let _rising = set.items();
+    }
+}
+
+/// Each of these values behind the argument at its place.
+fn paired(
+    alloc: Global,
+    arguments: &[Value],
+    values: Vec<Value>,
+) -> Result<Vec<(Value, Value)>, Fault>
+    ensures ok { IfOk result (λ v. map pair_of v.items ≡ zip (map tree_of arguments.now) (map tree_of values.items)) }
+    ensures err { IfErr result (λ f. f ≡ out_of_memory) }
+{
+    let mut pairs = Vec::with_capacity(alloc, values.len())?;
+    for value in values {
+        match arguments.get(pairs.len()) {
+            Some(argument) => pairs.push((copied(alloc, argument)?, value))?,
+            None => {}
+        }
+    }
+    Ok(pairs)
+}
+
+/// The function on all choices from some sets, with these values.
+pub(crate) fn function_on(
+    alloc: Global,
+    place: Place,
+    sets: &[Evaluated<'_>],
+    values: Vec<Value>,
+) -> Result<Value, Fault>
+    requires { (lists : List (List Tree)) → each (as_set place) (map tree_of_evaluated sets.now) ≡ Ok lists → length (map tree_of values.items) ≡ length (choices lists) }
+    ensures { Gives result (function_rule place (map tree_of_evaluated sets.now) (map tree_of values.items)) }
+{
+    if sets.len() == 1 {
+        let arguments = members(place, sets[0].value())?;
+        let pairs = paired(alloc, arguments, values)?;
+        made_fun(place, FunValue::from_pairs(pairs))
+    } else {
+        function_on_tuples(alloc, place, sets, values)
+    }
+}
+
+/// The function on the tuples of all choices from some sets, with these values.
+fn function_on_tuples(
+    alloc: Global,
+    place: Place,
+    sets: &[Evaluated<'_>],
+    values: Vec<Value>,
+) -> Result<Value, Fault>
+    requires several { length sets.now ≡ 1 → ⊥ }
+    requires long { (lists : List (List Tree)) → each (as_set place) (map tree_of_evaluated sets.now) ≡ Ok lists → length (map tree_of values.items) ≡ length (choices lists) }
+    ensures { Gives result (function_rule place (map tree_of_evaluated sets.now) (map tree_of values.items)) }
+{
+    let sets = as_sets(alloc, place, sets)?;
+    each_rises(sets.as_slice());
+    match SetValue::product(alloc, sets.as_slice()) {
+        Ok(domain) => {
+            let pairs = paired(alloc, domain.items(), values)?;
+            made_fun(place, FunValue::from_pairs(pairs))
+        }
+        Err(error) => Err(refused(place, error)),
+    }
+}

@@ -1,0 +1,129 @@
+//! Sets of sets, of functions and of sequences.
+ghost use Rattle.std.specs.Prelude.{map};
+ghost use Rattle.tla_value.specs.TreeOf.{tree_of, pair_of};
+ghost use Rattle.tla_value.specs.Tree.{Tree};
+ghost use Rattle.tla_eval.specs.Lists.{all_hold};
+ghost use Rattle.tla_eval.specs.Membership.{means-sequences};
+ghost use Rattle.tla_eval.specs.SetForms.{means-power, means-functions};
+ghost use Rattle.tla_eval.specs.Value.{mem, means};
+ghost use Rattle.tla_eval.specs.ExprOf.{expr_of};
+ghost use Rattle.tla_eval.specs.Gives.{GivesTruth, values_of};
+ghost use Rattle.tla_eval.specs.Environment.{Evaluates, bound_in, present_in, next_in};
+
+use crate::environment::{Environment, Evaluated};
+use crate::evaluation::membership::has_all;
+use crate::evaluation::{evaluate, has};
+use crate::expression::Core;
+use crate::fault::{Fault, Place};
+use crate::functions::if_function;
+use crate::sequences::sequence_pairs;
+use crate::sets::{functions_between, has_domain, if_set, members, subsets_of};
+use std::alloc::Global;
+use tla_value::Value;
+
+/// All subsets of a set.
+#[cycle(evaluate)]
+pub(super) fn power<'a>(
+    alloc: Global,
+    place: Place,
+    set: &'a Core,
+    env: Environment<'a>,
+) -> Result<Evaluated<'a>, Fault>
+    ensures { Evaluates result ((means-power place (means (expr_of set.now))).value (bound_in env.entry) (present_in env.entry) (next_in env.entry)) }
+{
+    let set = evaluate(alloc, set, env)?;
+    Ok(Evaluated::Owned(subsets_of(alloc, place, set.value())?))
+}
+
+/// The functions on one set with values in another.
+#[cycle(evaluate)]
+pub(super) fn functions<'a>(
+    alloc: Global,
+    place: Place,
+    domain: &'a Core,
+    range: &'a Core,
+    env: Environment<'a>,
+) -> Result<Evaluated<'a>, Fault>
+    ensures { Evaluates result ((means-functions place (means (expr_of domain.now)) (means (expr_of range.now))).value (bound_in env.entry) (present_in env.entry) (next_in env.entry)) }
+{
+    let domain = evaluate(alloc, domain, env)?;
+    let range = evaluate(alloc, range, env)?;
+    Ok(Evaluated::Owned(functions_between(alloc, place, domain.value(), range.value())?))
+}
+
+/// Whether a value is a set of members of an expression.
+#[cycle(evaluate)]
+pub(super) fn is_set_within<'a>(
+    alloc: Global,
+    core: &'a Core,
+    value: &'a Value,
+    env: Environment<'a>,
+) -> Result<bool, Fault>
+    ensures { GivesTruth result ((means-power (means (expr_of core.now)).place (means (expr_of core.now))).has (tree_of value.now) (bound_in env.entry) (present_in env.entry) (next_in env.entry)) }
+{
+    match if_set(value) {
+        Some(values) => has_all(alloc, core, values, env),
+        None => Ok(false),
+    }
+}
+
+/// Whether a value is a sequence of members of an expression.
+#[cycle(evaluate)]
+pub(super) fn is_sequence_of<'a>(
+    alloc: Global,
+    core: &'a Core,
+    value: &'a Value,
+    env: Environment<'a>,
+) -> Result<bool, Fault>
+    ensures { GivesTruth result ((means-sequences (means (expr_of core.now)).place (means (expr_of core.now))).has (tree_of value.now) (bound_in env.entry) (present_in env.entry) (next_in env.entry)) }
+{
+    match sequence_pairs(value) {
+        Some(pairs) => has_values(alloc, core, pairs, env),
+        None => Ok(false),
+    }
+}
+
+/// Whether an expression has the value of each of these pairs, up to the first that it has not.
+#[cycle(evaluate)]
+fn has_values<'a>(
+    alloc: Global,
+    core: &'a Core,
+    pairs: &'a [(Value, Value)],
+    env: Environment<'a>,
+) -> Result<bool, Fault>
+    ensures items { GivesTruth result (all_hold (λ v. mem v (expr_of core.now) (bound_in env.entry) (present_in env.entry) (next_in env.entry)) (values_of (map pair_of pairs.now))) }
+    ensures values { GivesTruth result (all_hold (λ (q : Tree × Tree). mem q.1 (expr_of core.now) (bound_in env.entry) (present_in env.entry) (next_in env.entry)) (map pair_of pairs.now)) }
+{
+    for pair in pairs {
+        if !has(alloc, core, &pair.1, env)? {
+            return Ok(false);
+        }
+    }
+    Ok(true)
+}
+
+/// Whether a value is a function on a set with values in an expression.
+#[cycle(evaluate)]
+pub(super) fn is_function_into<'a>(
+    alloc: Global,
+    place: Place,
+    domain: &'a Core,
+    range: &'a Core,
+    value: &'a Value,
+    env: Environment<'a>,
+) -> Result<bool, Fault>
+    ensures { GivesTruth result ((means-functions place (means (expr_of domain.now)) (means (expr_of range.now))).has (tree_of value.now) (bound_in env.entry) (present_in env.entry) (next_in env.entry)) }
+{
+    match if_function(value) {
+        Some(function) => {
+            let set = evaluate(alloc, domain, env)?;
+            let arguments = members(place, set.value())?;
+            if has_domain(function, arguments) {
+                has_values(alloc, range, function.pairs(), env)
+            } else {
+                Ok(false)
+            }
+        }
+        None => Ok(false),
+    }
+}

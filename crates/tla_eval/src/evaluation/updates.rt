@@ -1,0 +1,100 @@
+//! EXCEPT.
+ghost use Rattle.std.specs.Prelude.{◌∷◌};
+ghost use Rattle.tla_value.specs.TreeOf.{tree_of};
+ghost use Rattle.tla_eval.specs.Functions.{means-except, update, update_all};
+ghost use Rattle.tla_eval.specs.Value.{means};
+ghost use Rattle.tla_eval.specs.ExprOf.{expr_of, parts_of_cores, updates_of_cores};
+ghost use Rattle.tla_eval.specs.Gives.{Gives};
+ghost use Rattle.tla_eval.specs.Environment.{Evaluates, tree_of_evaluated, bound_in, present_in, next_in};
+
+use crate::environment::{Environment, Evaluated};
+use crate::evaluation::binding::value_with;
+use crate::evaluation::evaluate;
+use crate::expression::Core;
+use crate::fault::{Fault, Place};
+use crate::functions::{as_function, copied_function, made_fun};
+use std::alloc::Global;
+use tla_value::Value;
+
+/// A function with other values: each update on the result of the one before.
+#[cycle(evaluate)]
+pub(super) fn except<'a>(
+    alloc: Global,
+    place: Place,
+    updates: &'a [(Vec<Core>, Core)],
+    base: &'a Core,
+    env: Environment<'a>,
+) -> Result<Evaluated<'a>, Fault>
+    ensures { Evaluates result ((means-except place (means (expr_of base.now)) (updates_of_cores updates.now)).value (bound_in env.entry) (present_in env.entry) (next_in env.entry)) }
+{
+    let base = evaluate(alloc, base, env)?;
+    updated_by_all(alloc, place, updates, base, env)
+}
+
+/// A value after some updates, one after the other.
+#[cycle(evaluate)]
+fn updated_by_all<'a>(
+    alloc: Global,
+    place: Place,
+    updates: &'a [(Vec<Core>, Core)],
+    base: Evaluated<'a>,
+    env: Environment<'a>,
+) -> Result<Evaluated<'a>, Fault>
+    ensures { Evaluates result (update_all place (updates_of_cores updates.now) (bound_in env.entry) (present_in env.entry) (next_in env.entry) (tree_of_evaluated base.entry)) }
+{
+    let mut value = base;
+    for update in updates {
+        let new = updated(
+            alloc,
+            place,
+            update.0.as_slice(),
+            &update.1,
+            value.value(),
+            env,
+        )?;
+        value = Evaluated::Owned(new);
+    }
+    Ok(value)
+}
+
+/// A value with another one along a path.
+#[cycle(evaluate)]
+fn updated<'a>(
+    alloc: Global,
+    place: Place,
+    keys: &'a [Core],
+    body: &'a Core,
+    value: &'a Value,
+    env: Environment<'a>,
+) -> Result<Value, Fault>
+    ensures { Gives result (update place (parts_of_cores keys.now) (means (expr_of body.now)) (bound_in env.entry) (present_in env.entry) (next_in env.entry) (tree_of value.now)) }
+{
+    match keys.split_first() {
+        None => value_with(alloc, body, value, env),
+        Some((key, rest)) => updated_at(alloc, place, rest, key, body, value, env),
+    }
+}
+
+/// A value with another one along a path of one key and others. Where the key is outside the domain nothing changes.
+#[cycle(evaluate)]
+fn updated_at<'a>(
+    alloc: Global,
+    place: Place,
+    rest: &'a [Core],
+    key: &'a Core,
+    body: &'a Core,
+    value: &'a Value,
+    env: Environment<'a>,
+) -> Result<Value, Fault>
+    ensures { Gives result (update place (means (expr_of key.now) ∷ parts_of_cores rest.now) (means (expr_of body.now)) (bound_in env.entry) (present_in env.entry) (next_in env.entry) (tree_of value.now)) }
+{
+    let function = as_function(place, value)?;
+    let key = evaluate(alloc, key, env)?;
+    match function.apply(key.value()) {
+        None => copied_function(alloc, function),
+        Some(old) => {
+            let new = updated(alloc, place, rest, body, old, env)?;
+            made_fun(place, function.except(alloc, key.value(), new))
+        }
+    }
+}
