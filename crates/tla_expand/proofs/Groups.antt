@@ -1,0 +1,36 @@
+-- The names of binder lists, one after the other.
+use Rattle.std.proofs.Common.{◌≡◌, ◌<◌, ℕ, suc, ◌+◌, List, [], ◌∷◌, ◌++◌, map, length, get_or, drop, refl, ap, sym, ◌∙◌, arith, add-one, drop-cons, append_assoc, append-nil, Bor}
+use Rattle.std.proofs.lemmas.List.{map-append}
+use Rattle.tla_parse.specs.declared.word.Written.{Written}
+use Rattle.tla_parse.specs.declared.tree.Expr as syntax
+use Rattle.tla_parse.specs.declared.tree.Binder.{Binder}
+use Rattle.tla_parse.specs.Tree.{binders}
+use Rattle.tla_parse.specs.View.{view, group_view}
+use Rattle.tla_expand.specs.declared.binders.Bind.{Bind}
+use Rattle.tla_expand.specs.Expand as x
+use Rattle.tla_expand.specs.Expand.{Scope, Argument, binds_of, bind_each, expand}
+use Rattle.tla_expand.specs.Binders.{binds_in}
+
+pub bind_each_more : (ws : List Written) (s : Argument) (rest : List x.Bind) → bind_each ws s rest ≡ bind_each ws s [] ++ rest
+bind_each_more [] s rest = refl
+bind_each_more (w ∷ ws) s rest = ap (λ (y : List x.Bind). (w.word, s) ∷ y) (bind_each_more ws s rest)
+
+pub one_name : (bs new : List Bind) (b : Bind) (ws : List Written) (i : ℕ) (w : Written) (σ : Scope) (s : Argument) (whole : List x.Bind)
+    → new ≡ bs ++ b ∷ [] → i < length ws → w ≡ get_or ws i w → b.name.now ≡ w → expand (view b.set.now) σ ≡ s
+    → binds_in bs σ ++ bind_each (drop i ws) s [] ≡ whole → binds_in new σ ++ bind_each (drop (i + 1) ws) s [] ≡ whole
+one_name bs new b ws i w σ s whole n h g bw bs_ e =
+    let p : drop i ws ≡ w ∷ drop (suc i) ws = drop-cons ws i w h ∙ ap (λ (y : Written). y ∷ drop (suc i) ws) (sym g) in
+    let q : i + 1 ≡ suc i = add-one i in
+    let m : binds_in (bs ++ b ∷ []) σ ≡ binds_in bs σ ++ (w.word, s) ∷ [] = map-append (λ (y : Bind). (y.name.now.word, expand (view y.set.now) σ)) bs (b ∷ []) ∙ rw (bw, bs_) refl in
+    let e2 : binds_in bs σ ++ bind_each (w ∷ drop (suc i) ws) s [] ≡ whole = (rw p at e) in
+    rw (n, m, q) (append_assoc (binds_in bs σ) ((w.word, s) ∷ []) (bind_each (drop (suc i) ws) s []) ∙ e2)
+
+pub one_group : (old new : List x.Bind) (gs : List Binder) (i : ℕ) (g : Binder) (ns : List Written) (σ : Scope) (whole : List x.Bind) → i < length gs → g ≡ get_or gs i g
+    → ns ≡ g.names.items → new ≡ old ++ bind_each ns (expand (view g.set) σ) []
+    → old ++ binds_of (binders (map group_view (drop i gs))) σ ≡ whole → new ++ binds_of (binders (map group_view (drop (i + 1) gs))) σ ≡ whole
+one_group old new gs i g ns σ whole h f m n e =
+    let p : drop i gs ≡ g ∷ drop (suc i) gs = drop-cons gs i g h ∙ ap (λ (y : Binder). y ∷ drop (suc i) gs) (sym f) in
+    let q : i + 1 ≡ suc i = add-one i in
+    let rest = binds_of (binders (map group_view (drop (suc i) gs))) σ in
+    let e2 : old ++ bind_each g.names.items (expand (view g.set) σ) rest ≡ whole = (rw p at e) in
+    rw (n, m, q) (append_assoc old (bind_each g.names.items (expand (view g.set) σ) []) rest ∙ ap (λ (y : List x.Bind). old ++ y) (sym (bind_each_more g.names.items (expand (view g.set) σ) rest)) ∙ e2)

@@ -1,0 +1,291 @@
+-- UNCHANGED of what is no tuple, and UNCHANGED under primes.
+use Rattle.std.proofs.Common.{◌≡◌, ℕ, Bool, true, false, refl, ap, sym, ◌∙◌, Option, Some, None}
+use Rattle.tla_eval.specs.declared.fault.Place.{Place}
+use Rattle.tla_eval.specs.Expr.{Expr, Exprs, Fields, Arms, Updates, constant, bound, now, next, unary, binary, equal, sub_seq, enumerated, tuple, record_of, conjunction, disjunction, implies, conditional, cases, assert, for_all, for_some, choose, image, function, except, member, not_member, subset, kind_set, booleans, sequences, power, functions, records, product, cup, cap, minus, filtered, no_exprs, more_exprs, no_fields, more_fields, no_arms, other, more_arms, no_updates, more_updates}
+use Rattle.tla_expand.specs.declared.primes.Primes.{Primes}
+use Rattle.tla_expand.specs.declared.primes.Primes.TheVariants.{Not, Once, Twice}
+use Rattle.tla_expand.specs.Maybe.{◌>>=◌}
+use Rattle.tla_expand.specs.Primes.{primes, primes_each, primes_fields, primes_arms, primes_updates, one_more, primed_now, primed_next}
+use Rattle.tla_value.specs.Tree.{truth}
+use Rattle.tla_expand.specs.Primes.{settled_primes}
+use Rattle.tla_expand.specs.Nodes.{kept}
+use Rattle.tla_expand.specs.Unchanged.{unchanged, unchanged_each}
+use Rattle.tla_expand.specs.Gives.{shown, both, is_tuple, Plain}
+use Rattle.tla_expand.proofs.Primed.{once, one, two, unprimed}
+use Rattle.tla_expand.proofs.Keeps.{inv, then_once, stays}
+
+pub unchanged_plain : (p : Place) (e : Expr) → is_tuple e ≡ false → unchanged p e ≡ (primes Once e >>= λ x. Some (equal p x e))
+unchanged_plain p (tuple q es) h = cc
+unchanged_plain p (constant q v) h = refl
+unchanged_plain p (bound q i) h = refl
+unchanged_plain p (kind_set q o) h = refl
+unchanged_plain p (booleans q) h = refl
+unchanged_plain p (unary q o a) h = refl
+unchanged_plain p (binary q o a b) h = refl
+unchanged_plain p (equal q a b) h = refl
+unchanged_plain p (sub_seq q a b c) h = refl
+unchanged_plain p (enumerated q es) h = refl
+unchanged_plain p (record_of q fs) h = refl
+unchanged_plain p (conjunction q es) h = refl
+unchanged_plain p (disjunction q es) h = refl
+unchanged_plain p (implies q a b) h = refl
+unchanged_plain p (conditional q a b c) h = refl
+unchanged_plain p (cases q arms) h = refl
+unchanged_plain p (assert q a b) h = refl
+unchanged_plain p (for_all q a b) h = refl
+unchanged_plain p (for_some q a b) h = refl
+unchanged_plain p (choose q a b) h = refl
+unchanged_plain p (image q es a) h = refl
+unchanged_plain p (function q es a) h = refl
+unchanged_plain p (except q a us) h = refl
+unchanged_plain p (member q a b) h = refl
+unchanged_plain p (not_member q a b) h = refl
+unchanged_plain p (subset q a b) h = refl
+unchanged_plain p (sequences q a) h = refl
+unchanged_plain p (power q a) h = refl
+unchanged_plain p (functions q a b) h = refl
+unchanged_plain p (records q fs) h = refl
+unchanged_plain p (product q es) h = refl
+unchanged_plain p (cup q a b) h = refl
+unchanged_plain p (cap q a b) h = refl
+unchanged_plain p (minus q a b) h = refl
+unchanged_plain p (filtered q a b) h = refl
+unchanged_plain p (now q i) h = refl
+unchanged_plain p (next q i) h = refl
+
+pub shown_not : (o : Option Expr) → shown Not o ≡ o
+shown_not None = refl
+shown_not (Some e) = unprimed e
+
+plain_parts : (k : Primes) (p : Place) (e : Option Expr) → Plain e → (e >>= unchanged p) ≡ (both (e >>= primes Once) e >>= λ (xy : Expr × Expr). Some (equal p xy.0 xy.1))
+plain_parts k p None h = refl
+plain_parts k p (Some e) h = unchanged_plain p e (h e refl) ∙ of_some (primes Once e)
+  where
+    of_some : (o : Option Expr) → (o >>= λ x. Some (equal p x e)) ≡ (both o (Some e) >>= λ (xy : Expr × Expr). Some (equal p xy.0 xy.1))
+    of_some None = refl
+    of_some (Some x) = refl
+
+then_more : (k : Primes) (o : Option Expr) → (shown k o >>= primes Once) ≡ shown (one_more k) o
+then_more k None = refl
+then_more k (Some e) = then_once k e
+
+-- UNCHANGED of what is no tuple is an equation
+pub kept_equal : (k : Primes) (o : Option Expr) (p : Place) → Plain (shown k o)
+    → (shown k o >>= unchanged p) ≡ (both (shown (one_more k) o) (shown k o) >>= λ (xy : Expr × Expr). Some (equal p xy.0 xy.1))
+kept_equal k o p h = plain_parts k p (shown k o) h ∙ rw (then_more k o) refl
+
+none_after : (k : Primes) (p : Place) (e : Expr) (o : Option Expr) → (o >>= primes k) ≡ None → ((o >>= λ x. Some (equal p x e)) >>= primes k) ≡ None
+none_after k p e None h = refl
+none_after k p e (Some x) h = rw h refl
+
+plain_twice : (k : Primes) (p : Place) (e : Expr) (o : Option Expr) → one_more k ≡ Twice → is_tuple e ≡ false → primes Twice e ≡ o
+    → (unchanged p e >>= primes k) ≡ (primes Twice e >>= unchanged p)
+plain_twice k p e None t h q =
+    let g : (primes Once e >>= primes k) ≡ None = once k e ∙ rw t q in
+    rw (unchanged_plain p e h, q) (none_after k p e (primes Once e) g)
+plain_twice k p e (Some y) t h q =
+    let s = stays e y q in
+    rw (s Twice, unchanged_plain p e h, s Once, s k) refl
+
+kept_primes : (k : Primes) (p : Place) (xs : Exprs) → primes k (kept p xs) ≡ (primes_each k xs >>= λ ys. Some (kept p ys))
+kept_primes k p no_exprs = refl
+kept_primes k p (more_exprs x xs) = two_kept (primes k x) (primes_each k xs)
+  where
+    two_kept : (a : Option Expr) (b : Option Exprs)
+        → ((a >>= λ x. b >>= λ ys. Some (more_exprs x ys)) >>= λ ys. Some (conjunction p ys)) ≡ ((a >>= λ x. b >>= λ ys. Some (more_exprs x ys)) >>= λ ys. Some (kept p ys))
+    two_kept None b = refl
+    two_kept (Some x) None = refl
+    two_kept (Some x) (Some ys) = refl
+
+tuple_kept : (p q : Place) (o : Option Exprs) → ((o >>= λ ys. Some (tuple q ys)) >>= unchanged p) ≡ ((o >>= unchanged_each p) >>= λ xs. Some (kept p xs))
+tuple_kept p q None = refl
+tuple_kept p q (Some ys) = refl
+
+mutual
+  unchanged_twice : (k : Primes) (p : Place) (e : Expr) → one_more k ≡ Twice → (unchanged p e >>= primes k) ≡ (primes Twice e >>= unchanged p)
+  unchanged_twice k p (tuple q es) t =
+      one (λ xs. kept p xs) (primes_each k) (primes k) (kept_primes k p) (unchanged_each p es)
+      ∙ ap (λ (o : Option Exprs). o >>= λ xs. Some (kept p xs)) (unchanged_twice_each k p es t)
+      ∙ sym (tuple_kept p q (primes_each Twice es))
+  unchanged_twice k p (constant q v) t = plain_twice k p (constant q v) (primes Twice (constant q v)) t refl refl
+  unchanged_twice k p (bound q i) t = plain_twice k p (bound q i) (primes Twice (bound q i)) t refl refl
+  unchanged_twice k p (kind_set q o) t = plain_twice k p (kind_set q o) (primes Twice (kind_set q o)) t refl refl
+  unchanged_twice k p (booleans q) t = plain_twice k p (booleans q) (primes Twice (booleans q)) t refl refl
+  unchanged_twice k p (unary q o a) t = plain_twice k p (unary q o a) (primes Twice (unary q o a)) t refl refl
+  unchanged_twice k p (binary q o a b) t = plain_twice k p (binary q o a b) (primes Twice (binary q o a b)) t refl refl
+  unchanged_twice k p (equal q a b) t = plain_twice k p (equal q a b) (primes Twice (equal q a b)) t refl refl
+  unchanged_twice k p (sub_seq q a b c) t = plain_twice k p (sub_seq q a b c) (primes Twice (sub_seq q a b c)) t refl refl
+  unchanged_twice k p (enumerated q es) t = plain_twice k p (enumerated q es) (primes Twice (enumerated q es)) t refl refl
+  unchanged_twice k p (record_of q fs) t = plain_twice k p (record_of q fs) (primes Twice (record_of q fs)) t refl refl
+  unchanged_twice k p (conjunction q es) t = plain_twice k p (conjunction q es) (primes Twice (conjunction q es)) t refl refl
+  unchanged_twice k p (disjunction q es) t = plain_twice k p (disjunction q es) (primes Twice (disjunction q es)) t refl refl
+  unchanged_twice k p (implies q a b) t = plain_twice k p (implies q a b) (primes Twice (implies q a b)) t refl refl
+  unchanged_twice k p (conditional q a b c) t = plain_twice k p (conditional q a b c) (primes Twice (conditional q a b c)) t refl refl
+  unchanged_twice k p (cases q arms) t = plain_twice k p (cases q arms) (primes Twice (cases q arms)) t refl refl
+  unchanged_twice k p (assert q a b) t = plain_twice k p (assert q a b) (primes Twice (assert q a b)) t refl refl
+  unchanged_twice k p (for_all q a b) t = plain_twice k p (for_all q a b) (primes Twice (for_all q a b)) t refl refl
+  unchanged_twice k p (for_some q a b) t = plain_twice k p (for_some q a b) (primes Twice (for_some q a b)) t refl refl
+  unchanged_twice k p (choose q a b) t = plain_twice k p (choose q a b) (primes Twice (choose q a b)) t refl refl
+  unchanged_twice k p (image q es a) t = plain_twice k p (image q es a) (primes Twice (image q es a)) t refl refl
+  unchanged_twice k p (function q es a) t = plain_twice k p (function q es a) (primes Twice (function q es a)) t refl refl
+  unchanged_twice k p (except q a us) t = plain_twice k p (except q a us) (primes Twice (except q a us)) t refl refl
+  unchanged_twice k p (member q a b) t = plain_twice k p (member q a b) (primes Twice (member q a b)) t refl refl
+  unchanged_twice k p (not_member q a b) t = plain_twice k p (not_member q a b) (primes Twice (not_member q a b)) t refl refl
+  unchanged_twice k p (subset q a b) t = plain_twice k p (subset q a b) (primes Twice (subset q a b)) t refl refl
+  unchanged_twice k p (sequences q a) t = plain_twice k p (sequences q a) (primes Twice (sequences q a)) t refl refl
+  unchanged_twice k p (power q a) t = plain_twice k p (power q a) (primes Twice (power q a)) t refl refl
+  unchanged_twice k p (functions q a b) t = plain_twice k p (functions q a b) (primes Twice (functions q a b)) t refl refl
+  unchanged_twice k p (records q fs) t = plain_twice k p (records q fs) (primes Twice (records q fs)) t refl refl
+  unchanged_twice k p (product q es) t = plain_twice k p (product q es) (primes Twice (product q es)) t refl refl
+  unchanged_twice k p (cup q a b) t = plain_twice k p (cup q a b) (primes Twice (cup q a b)) t refl refl
+  unchanged_twice k p (cap q a b) t = plain_twice k p (cap q a b) (primes Twice (cap q a b)) t refl refl
+  unchanged_twice k p (minus q a b) t = plain_twice k p (minus q a b) (primes Twice (minus q a b)) t refl refl
+  unchanged_twice k p (filtered q a b) t = plain_twice k p (filtered q a b) (primes Twice (filtered q a b)) t refl refl
+  unchanged_twice k p (now q i) t = plain_twice k p (now q i) (primes Twice (now q i)) t refl refl
+  unchanged_twice k p (next q i) t = plain_twice k p (next q i) (primes Twice (next q i)) t refl refl
+
+  unchanged_twice_each : (k : Primes) (p : Place) (es : Exprs) → one_more k ≡ Twice → (unchanged_each p es >>= primes_each k) ≡ (primes_each Twice es >>= unchanged_each p)
+  unchanged_twice_each k p no_exprs t = refl
+  unchanged_twice_each k p (more_exprs e es) t =
+      two (λ x y. more_exprs x y) (primes k) (primes_each k) (primes_each k) (λ x y. refl) (unchanged p e) (unchanged_each p es)
+      ∙ rw (unchanged_twice k p e t, unchanged_twice_each k p es t) refl
+      ∙ sym (two (λ x y. more_exprs x y) (unchanged p) (unchanged_each p) (unchanged_each p) (λ x y. refl) (primes Twice e) (primes_each Twice es))
+
+kept_primed : (k : Primes) (p : Place) (o : Option Expr) → one_more k ≡ Twice → shown k (o >>= unchanged p) ≡ (shown Twice o >>= unchanged p)
+kept_primed k p None t = refl
+kept_primed k p (Some e) t = unchanged_twice k p e t
+
+-- UNCHANGED with primes on it
+pub kept_settled : (k : Primes) (p : Place) (o : Option Expr) → shown k (o >>= unchanged p) ≡ (shown (settled_primes k) o >>= unchanged p)
+kept_settled Not p o = shown_not (o >>= unchanged p) ∙ ap (λ (q : Option Expr). q >>= unchanged p) (sym (shown_not o))
+kept_settled Once p o = kept_primed Once p o refl
+kept_settled Twice p o = kept_primed Twice p o refl
+
+pub some_plain : (a x : Expr) → is_tuple a ≡ false → Some a ≡ Some x → is_tuple x ≡ false
+some_plain a x t h = let w : a ≡ x = cc in rw (← w) t
+
+-- primes make no tuple of what is none
+pub primes_plain : (k : Primes) (e x : Expr) → is_tuple e ≡ false → primes k e ≡ Some x → is_tuple x ≡ false
+primes_plain k (tuple p es) x t h = cc
+primes_plain Not (now p i) x t h = some_plain (now p i) x t h
+primes_plain Once (now p i) x t h = some_plain (next p i) x refl h
+primes_plain Twice (now p i) x t h = cc
+primes_plain Not (next p i) x t h = some_plain (next p i) x t h
+primes_plain Once (next p i) x t h = cc
+primes_plain Twice (next p i) x t h = cc
+primes_plain k (constant p v) x t h = some_plain (constant p v) x t h
+primes_plain k (bound p i) x t h = some_plain (bound p i) x t h
+primes_plain k (kind_set p o) x t h = some_plain (kind_set p o) x t h
+primes_plain k (booleans p) x t h = some_plain (booleans p) x t h
+primes_plain k (unary p o a) x t h =
+    let u = inv (primes k a) (λ x1. Some (unary p o x1)) x h in
+    some_plain _ x refl u.2
+primes_plain k (binary p o a b) x t h =
+    let u = inv (primes k a) (λ x1. primes k b >>= λ z1. Some (binary p o x1 z1)) x h in
+    let v = inv (primes k b) (λ z1. Some (binary p o u.0 z1)) x u.2 in
+    some_plain _ x refl v.2
+primes_plain k (equal p a b) x t h =
+    let u = inv (primes k a) (λ x1. primes k b >>= λ z1. Some (equal p x1 z1)) x h in
+    let v = inv (primes k b) (λ z1. Some (equal p u.0 z1)) x u.2 in
+    some_plain _ x refl v.2
+primes_plain k (sub_seq p a b c) x t h =
+    let u = inv (primes k a) (λ x1. primes k b >>= λ z1. primes k c >>= λ w1. Some (sub_seq p x1 z1 w1)) x h in
+    let v = inv (primes k b) (λ z1. primes k c >>= λ w1. Some (sub_seq p u.0 z1 w1)) x u.2 in
+    let r = inv (primes k c) (λ w1. Some (sub_seq p u.0 v.0 w1)) x v.2 in
+    some_plain _ x refl r.2
+primes_plain k (enumerated p es) x t h =
+    let u = inv (primes_each k es) (λ x1. Some (enumerated p x1)) x h in
+    some_plain _ x refl u.2
+primes_plain k (record_of p fs) x t h =
+    let u = inv (primes_fields k fs) (λ x1. Some (record_of p x1)) x h in
+    some_plain _ x refl u.2
+primes_plain k (conjunction p es) x t h =
+    let u = inv (primes_each k es) (λ x1. Some (conjunction p x1)) x h in
+    some_plain _ x refl u.2
+primes_plain k (disjunction p es) x t h =
+    let u = inv (primes_each k es) (λ x1. Some (disjunction p x1)) x h in
+    some_plain _ x refl u.2
+primes_plain k (implies p a b) x t h =
+    let u = inv (primes k a) (λ x1. primes k b >>= λ z1. Some (implies p x1 z1)) x h in
+    let v = inv (primes k b) (λ z1. Some (implies p u.0 z1)) x u.2 in
+    some_plain _ x refl v.2
+primes_plain k (conditional p a b c) x t h =
+    let u = inv (primes k a) (λ x1. primes k b >>= λ z1. primes k c >>= λ w1. Some (conditional p x1 z1 w1)) x h in
+    let v = inv (primes k b) (λ z1. primes k c >>= λ w1. Some (conditional p u.0 z1 w1)) x u.2 in
+    let r = inv (primes k c) (λ w1. Some (conditional p u.0 v.0 w1)) x v.2 in
+    some_plain _ x refl r.2
+primes_plain k (cases p arms) x t h =
+    let u = inv (primes_arms k arms) (λ x1. Some (cases p x1)) x h in
+    some_plain _ x refl u.2
+primes_plain k (assert p a b) x t h =
+    let u = inv (primes k a) (λ x1. primes k b >>= λ z1. Some (assert p x1 z1)) x h in
+    let v = inv (primes k b) (λ z1. Some (assert p u.0 z1)) x u.2 in
+    some_plain _ x refl v.2
+primes_plain k (for_all p a b) x t h =
+    let u = inv (primes k a) (λ x1. primes k b >>= λ z1. Some (for_all p x1 z1)) x h in
+    let v = inv (primes k b) (λ z1. Some (for_all p u.0 z1)) x u.2 in
+    some_plain _ x refl v.2
+primes_plain k (for_some p a b) x t h =
+    let u = inv (primes k a) (λ x1. primes k b >>= λ z1. Some (for_some p x1 z1)) x h in
+    let v = inv (primes k b) (λ z1. Some (for_some p u.0 z1)) x u.2 in
+    some_plain _ x refl v.2
+primes_plain k (choose p a b) x t h =
+    let u = inv (primes k a) (λ x1. primes k b >>= λ z1. Some (choose p x1 z1)) x h in
+    let v = inv (primes k b) (λ z1. Some (choose p u.0 z1)) x u.2 in
+    some_plain _ x refl v.2
+primes_plain k (image p es a) x t h =
+    let u = inv (primes_each k es) (λ x1. primes k a >>= λ z1. Some (image p x1 z1)) x h in
+    let v = inv (primes k a) (λ z1. Some (image p u.0 z1)) x u.2 in
+    some_plain _ x refl v.2
+primes_plain k (function p es a) x t h =
+    let u = inv (primes_each k es) (λ x1. primes k a >>= λ z1. Some (function p x1 z1)) x h in
+    let v = inv (primes k a) (λ z1. Some (function p u.0 z1)) x u.2 in
+    some_plain _ x refl v.2
+primes_plain k (except p a us) x t h =
+    let u = inv (primes k a) (λ x1. primes_updates k us >>= λ z1. Some (except p x1 z1)) x h in
+    let v = inv (primes_updates k us) (λ z1. Some (except p u.0 z1)) x u.2 in
+    some_plain _ x refl v.2
+primes_plain k (member p a b) x t h =
+    let u = inv (primes k a) (λ x1. primes k b >>= λ z1. Some (member p x1 z1)) x h in
+    let v = inv (primes k b) (λ z1. Some (member p u.0 z1)) x u.2 in
+    some_plain _ x refl v.2
+primes_plain k (not_member p a b) x t h =
+    let u = inv (primes k a) (λ x1. primes k b >>= λ z1. Some (not_member p x1 z1)) x h in
+    let v = inv (primes k b) (λ z1. Some (not_member p u.0 z1)) x u.2 in
+    some_plain _ x refl v.2
+primes_plain k (subset p a b) x t h =
+    let u = inv (primes k a) (λ x1. primes k b >>= λ z1. Some (subset p x1 z1)) x h in
+    let v = inv (primes k b) (λ z1. Some (subset p u.0 z1)) x u.2 in
+    some_plain _ x refl v.2
+primes_plain k (sequences p a) x t h =
+    let u = inv (primes k a) (λ x1. Some (sequences p x1)) x h in
+    some_plain _ x refl u.2
+primes_plain k (power p a) x t h =
+    let u = inv (primes k a) (λ x1. Some (power p x1)) x h in
+    some_plain _ x refl u.2
+primes_plain k (functions p a b) x t h =
+    let u = inv (primes k a) (λ x1. primes k b >>= λ z1. Some (functions p x1 z1)) x h in
+    let v = inv (primes k b) (λ z1. Some (functions p u.0 z1)) x u.2 in
+    some_plain _ x refl v.2
+primes_plain k (records p fs) x t h =
+    let u = inv (primes_fields k fs) (λ x1. Some (records p x1)) x h in
+    some_plain _ x refl u.2
+primes_plain k (product p es) x t h =
+    let u = inv (primes_each k es) (λ x1. Some (product p x1)) x h in
+    some_plain _ x refl u.2
+primes_plain k (cup p a b) x t h =
+    let u = inv (primes k a) (λ x1. primes k b >>= λ z1. Some (cup p x1 z1)) x h in
+    let v = inv (primes k b) (λ z1. Some (cup p u.0 z1)) x u.2 in
+    some_plain _ x refl v.2
+primes_plain k (cap p a b) x t h =
+    let u = inv (primes k a) (λ x1. primes k b >>= λ z1. Some (cap p x1 z1)) x h in
+    let v = inv (primes k b) (λ z1. Some (cap p u.0 z1)) x u.2 in
+    some_plain _ x refl v.2
+primes_plain k (minus p a b) x t h =
+    let u = inv (primes k a) (λ x1. primes k b >>= λ z1. Some (minus p x1 z1)) x h in
+    let v = inv (primes k b) (λ z1. Some (minus p u.0 z1)) x u.2 in
+    some_plain _ x refl v.2
+primes_plain k (filtered p a b) x t h =
+    let u = inv (primes k a) (λ x1. primes k b >>= λ z1. Some (filtered p x1 z1)) x h in
+    let v = inv (primes k b) (λ z1. Some (filtered p u.0 z1)) x u.2 in
+    some_plain _ x refl v.2

@@ -1,0 +1,145 @@
+-- Nodes, depth, and what a failure of a part says of the whole.
+use Rattle.std.proofs.Common.{◌≡◌, ◌≤◌, ◌<◌, ℕ, ◌+◌, ◌-◌, max, refl, ap, sym, ◌∙◌, arith, Option, Some, None}
+use Rattle.tla_eval.specs.Expr.{Expr, constant, bound, now, next, unary, binary, equal, sub_seq, enumerated, tuple, record_of, conjunction, disjunction, implies, conditional, cases, assert, for_all, for_some, choose, image, function, except, member, not_member, subset, kind_set, booleans, sequences, power, functions, records, product, cup, cap, minus, filtered}
+use Rattle.tla_expand.specs.declared.failure.Failure.{Failure}
+use Rattle.tla_expand.specs.declared.failure.Failure.TheVariants.{NoExpansion, TooLarge, Memory}
+use Rattle.tla_expand.specs.Maybe.{◌>>=◌}
+use Rattle.tla_model.specs.Size.{nodes, depth}
+use Rattle.tla_expand.specs.declared.primes.Primes.{Primes}
+use Rattle.tla_expand.specs.Primes.{primes}
+use Rattle.tla_expand.specs.Gives.{shown, FailsBy, Fails, both, sum_of, larger_of}
+
+pub some_node : (e : Expr) → 0 < nodes e
+some_node (constant p a) = omega arith
+some_node (bound p a) = omega arith
+some_node (now p a) = omega arith
+some_node (next p a) = omega arith
+some_node (unary p a b) = omega arith
+some_node (binary p a b c) = omega arith
+some_node (equal p a b) = omega arith
+some_node (sub_seq p a b c) = omega arith
+some_node (enumerated p a) = omega arith
+some_node (tuple p a) = omega arith
+some_node (record_of p a) = omega arith
+some_node (conjunction p a) = omega arith
+some_node (disjunction p a) = omega arith
+some_node (implies p a b) = omega arith
+some_node (conditional p a b c) = omega arith
+some_node (cases p a) = omega arith
+some_node (assert p a b) = omega arith
+some_node (for_all p a b) = omega arith
+some_node (for_some p a b) = omega arith
+some_node (choose p a b) = omega arith
+some_node (image p a b) = omega arith
+some_node (function p a b) = omega arith
+some_node (except p a b) = omega arith
+some_node (member p a b) = omega arith
+some_node (not_member p a b) = omega arith
+some_node (subset p a b) = omega arith
+some_node (kind_set p a) = omega arith
+some_node (booleans p) = omega arith
+some_node (sequences p a) = omega arith
+some_node (power p a) = omega arith
+some_node (functions p a b) = omega arith
+some_node (records p a) = omega arith
+some_node (product p a) = omega arith
+some_node (cup p a b) = omega arith
+some_node (cap p a b) = omega arith
+some_node (minus p a b) = omega arith
+some_node (filtered p a b) = omega arith
+
+pub some_depth : (e : Expr) → 0 < depth e
+some_depth (constant p a) = omega arith
+some_depth (bound p a) = omega arith
+some_depth (now p a) = omega arith
+some_depth (next p a) = omega arith
+some_depth (unary p a b) = omega arith
+some_depth (binary p a b c) = omega arith
+some_depth (equal p a b) = omega arith
+some_depth (sub_seq p a b c) = omega arith
+some_depth (enumerated p a) = omega arith
+some_depth (tuple p a) = omega arith
+some_depth (record_of p a) = omega arith
+some_depth (conjunction p a) = omega arith
+some_depth (disjunction p a) = omega arith
+some_depth (implies p a b) = omega arith
+some_depth (conditional p a b c) = omega arith
+some_depth (cases p a) = omega arith
+some_depth (assert p a b) = omega arith
+some_depth (for_all p a b) = omega arith
+some_depth (for_some p a b) = omega arith
+some_depth (choose p a b) = omega arith
+some_depth (image p a b) = omega arith
+some_depth (function p a b) = omega arith
+some_depth (except p a b) = omega arith
+some_depth (member p a b) = omega arith
+some_depth (not_member p a b) = omega arith
+some_depth (subset p a b) = omega arith
+some_depth (kind_set p a) = omega arith
+some_depth (booleans p) = omega arith
+some_depth (sequences p a) = omega arith
+some_depth (power p a) = omega arith
+some_depth (functions p a b) = omega arith
+some_depth (records p a) = omega arith
+some_depth (product p a) = omega arith
+some_depth (cup p a b) = omega arith
+some_depth (cap p a b) = omega arith
+some_depth (minus p a b) = omega arith
+some_depth (filtered p a b) = omega arith
+
+pub no_room : (o : Option Expr) (room left : ℕ) → room ≡ 0 → (e : Expr) → o ≡ Some e → nodes e ≤ left → depth e ≤ room → ⊥
+no_room o room left z e h n d = omega (arith, some_depth e)
+
+pub none_left : (o : Option Expr) (room left : ℕ) → left ≡ 0 → (e : Expr) → o ≡ Some e → nodes e ≤ left → depth e ≤ room → ⊥
+none_left o room left z e h n d = omega (arith, some_node e)
+
+-- the first of two fails, or the second, where the first is there
+pub first_fails : {A B : Type 0} (sa da : A → ℕ) (sb db : B → ℕ) (s : Failure) (a : Option A) (b : Option B) (room left : ℕ)
+    → FailsBy sa da room left s a → FailsBy (sum_of sa sb) (larger_of da db) room left s (both a b)
+first_fails sa da sb db (NoExpansion p) a b room left h = rw h refl
+first_fails sa da sb db TooLarge None b room left h = λ x q n d. cc
+first_fails sa da sb db TooLarge (Some u) None room left h = λ x q n d. cc
+first_fails sa da sb db TooLarge (Some u) (Some v) room left h = λ x q n d. let w : (u, v) ≡ x = cc in let w0 = ap (λ y. sum_of sa sb y) w in let w1 = ap (λ y. larger_of da db y) w in h u refl (omega arith) (omega arith)
+first_fails sa da sb db Memory a b room left h = tt
+
+pub second_fails : {A B : Type 0} (sa da : A → ℕ) (sb db : B → ℕ) (s : Failure) (a : Option A) (b : Option B) (x : A) (room left less : ℕ)
+    → a ≡ Some x → less + sa x ≡ left → FailsBy sb db room less s b → FailsBy (sum_of sa sb) (larger_of da db) room left s (both a b)
+second_fails sa da sb db (NoExpansion p) a b x room left less q n h = rw (q, h) refl
+second_fails sa da sb db TooLarge a None x room left less q n h = rw q (λ y r m d. cc)
+second_fails sa da sb db TooLarge a (Some v) x room left less q n h = rw q (λ y r m d. let w : (x, v) ≡ y = cc in let w0 = ap (λ z. sum_of sa sb z) w in let w1 = ap (λ z. larger_of da db z) w in h v refl (omega arith) (omega arith))
+second_fails sa da sb db Memory a b x room left less q n h = tt
+
+-- a node of parts: one node more, one more on each path
+pub record IsLarger {A : Type 0} (size deep : A → ℕ) (f : A → Expr) : Type 0 where
+  pub nodes_more : (x : A) → nodes (f x) ≡ size x + 1
+  pub depth_more : (x : A) → depth (f x) ≡ deep x + 1
+
+pub node_fails : {A : Type 0} (size deep : A → ℕ) (f : A → Expr) (s : Failure) (o : Option A) (room left : ℕ) → IsLarger size deep f
+    → FailsBy size deep room left s o → Fails (room + 1) (left + 1) s (o >>= λ x. Some (f x))
+node_fails size deep f (NoExpansion p) o room left i h = rw h refl
+node_fails size deep f TooLarge None room left i h = λ x q n d. cc
+node_fails size deep f TooLarge (Some u) room left i h = λ x q n d.
+    let w : f u ≡ x = cc in
+    let w0 = ap nodes w in
+    let w1 = ap depth w in
+    let n1 = i.nodes_more u in
+    let d1 = i.depth_more u in
+    h u refl (omega arith) (omega arith)
+node_fails size deep f Memory o room left i h = tt
+
+pub node_gives : {A : Type 0} (size deep : A → ℕ) (f : A → Expr) (o : Option A) (x : A) (c : Expr) (room left rest : ℕ) → IsLarger size deep f
+    → o ≡ Some x → rest + size x ≡ left → deep x ≤ room → c ≡ f x
+    → ((o >>= λ y. Some (f y)) ≡ Some c) × (rest + nodes c ≡ left + 1) × (depth c ≤ room + 1)
+node_gives size deep f o x c room left rest i p n d e =
+    let n1 = i.nodes_more x in
+    let d1 = i.depth_more x in
+    let n2 = ap nodes e in
+    let d2 = ap depth e in
+    (rw (p, e) refl, omega arith, omega arith)
+
+-- a failure within less is one within the whole
+pub same_limits : (s : Failure) (o : Option Expr) (room left : ℕ) → (room ≡ 0 → ⊥) → (left ≡ 0 → ⊥) → Fails (room - 1 + 1) (left - 1 + 1) s o → Fails room left s o
+same_limits s o room left a b h =
+    let p : room - 1 + 1 ≡ room = omega (arith, a) in
+    let q : left - 1 + 1 ≡ left = omega (arith, b) in
+    rw (p, q) at h

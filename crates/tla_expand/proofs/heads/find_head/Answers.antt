@@ -1,0 +1,16 @@
+use Rattle.std.proofs.Common.{◌≡◌, ℕ, sym, subst}
+use Rattle.std.proofs.lemmas.Result.{err_from_is_err_and}
+use Rattle.tla_expand.specs.Expand.{Argument, expand}
+use Rattle.tla_expand.specs.Scopes.{scope_at}
+use Rattle.tla_expand.specs.Gives.{shown, Explains}
+use Rattle.tla_parse.specs.View.{view}
+use Rattle.tla_expand.proofs.Steps.{explains_by}
+use Rattle.tla_expand.proofs.heads.find_head.Goals as goal
+
+pub returns-in_err-head-clause-err : goal.returns-in_err-head-clause-err
+returns-in_err-head-clause-err c =
+    let e = err_from_is_err_and c.from_residual.result c.from_residual.ensures.1 in
+    rw (e.1, e.2) (explains_by c.in_err-head.field-0.0 c.loop-turn.with
+    (λ d. expand (view c.loop-turn.tree.now) (scope_at c.loop-turn.entries.items c.loop-turn.at) d)
+    (λ d. shown c.args.primes (expand (view c.args.start.now) (scope_at c.args.entries.now.items c.args.scope) d))
+    c.loop-turn.invariant.same c.in_err-head.ensures.err)

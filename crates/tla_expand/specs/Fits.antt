@@ -1,0 +1,30 @@
+-- What expansions name exists: under so many bound names, over so many variables.
+use Rattle.std.specs.Prelude.{◌≡◌, ◌≤◌, ℕ, Bool, true, List, [], ◌∷◌, Option, Some}
+use Rattle.tla_eval.specs.declared.fault.Place.{Place}
+use Rattle.tla_eval.specs.Expr.{Expr}
+use Rattle.tla_eval.specs.Fits.{fits}
+use Rattle.tla_expand.specs.declared.primes.Primes.{Primes}
+use Rattle.tla_expand.specs.declared.primes.Primes.TheVariants.{Not, Once, Twice}
+use Rattle.tla_expand.specs.Places as names
+use Rattle.tla_expand.specs.Expand.{Argument, Meaning, Scope}
+
+-- under so many bound names, or more
+abbrev pub FitsArgument : ℕ → ℕ → Argument → Type 0
+FitsArgument v b a = (d : ℕ) → b ≤ d → (e : Expr) → a d ≡ Some e → fits e d v true ≡ true
+
+abbrev pub FitArguments : ℕ → ℕ → List Argument → Type 0
+FitArguments v b [] = Unit {0}
+FitArguments v b (a ∷ args) = FitsArgument v b a × FitArguments v b args
+
+-- on arguments that fit
+abbrev pub FitsMeaning : ℕ → ℕ → Meaning → Type 0
+FitsMeaning v b m = (p : Place) (args : List Argument) (d : ℕ) → b ≤ d → FitArguments v d args → (e : Expr) → m p args d ≡ Some e → fits e d v true ≡ true
+
+abbrev pub FitsScope : ℕ → ℕ → Scope → Type 0
+FitsScope v b σ = (x : names.Name) → FitsMeaning v b (σ x)
+
+-- Of how many variables there are, and whether present values may stand: without a prime as before, under one no present value is left, under two no variable.
+abbrev pub Stays : Primes → ℕ → ℕ → Bool → Type 0
+Stays Not v n s = (n ≡ v) × (s ≡ true)
+Stays Once v n s = n ≡ v
+Stays Twice v n s = Unit {0}

@@ -1,0 +1,17 @@
+pub mod Maybe
+pub mod Places
+pub mod Lists
+pub mod Nodes
+pub mod Primes
+pub mod Unchanged
+pub mod Operators
+pub mod Library
+pub mod Expand
+pub mod Forms
+pub mod Scopes
+pub mod Binders
+pub mod Linked
+pub mod Names
+pub mod Fits
+pub mod Gives
+pub mod Laws

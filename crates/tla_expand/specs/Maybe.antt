@@ -1,0 +1,13 @@
+-- What may not be there.
+use Rattle.std.specs.Prelude.{Option, Some, None}
+
+infixl 20 ◌>>=◌
+-- goes on with what is there
+abbrev pub ◌>>=◌ : {A B : Type 0} → Option A → (A → Option B) → Option B
+(Some x) >>= k = k x
+None >>= k = None
+
+-- the first that is there
+abbrev pub or_else : {A : Type 0} → Option A → Option A → Option A
+or_else (Some x) o = Some x
+or_else None o = o

@@ -1,0 +1,96 @@
+//! Scopes in memory.
+
+ghost use Rattle.std.specs.Prelude.{◌≡◌, ◌≤◌, length, IfSome, IfNone, IfOk, OnOk, IfErr, Some, ◌++◌, ◌∷◌, []};
+ghost use Rattle.tla_expand.specs.Expand.{standard, with_parameters};
+ghost use Rattle.tla_expand.specs.Scopes.{AreLinked, IsBelow, Extends, scope_at, entry_scope, meaning_of, arguments_in};
+
+use crate::failure::Failure;
+use tla_parse::{Expr, Written};
+use tla_value::Value;
+
+/// What a name means.
+#[derive(Clone, Copy)]
+pub(crate) enum What<'a> {
+    Bound(usize),
+    Variable(usize),
+    Value(&'a Value),
+    /// An argument, in the scope of the use.
+    Argument(&'a Expr, usize),
+    /// The parameters and the body of a definition.
+    Definition(&'a [Written], &'a Expr),
+    /// A definition without expansion.
+    Unknown,
+}
+
+/// A name put before an earlier scope.
+#[derive(Clone, Copy)]
+pub(crate) struct Entry<'a> {
+    pub(crate) name: &'a [u8],
+    pub(crate) what: What<'a>,
+    pub(crate) rest: usize,
+}
+
+/// What a name means in a scope.
+pub(crate) fn find<'a>(entries: &[Entry<'a>], scope: usize, name: &[u8]) -> Option<Entry<'a>>
+    requires linked { AreLinked entries.now }
+    requires within { scope ≤ length entries.now }
+    ensures found { IfSome result (λ e. scope_at entries.now scope name.now ≡ meaning_of (scope_at entries.now) e.what e.rest) }
+    ensures below { IfSome result (λ e. IsBelow (length entries.now) e.what e.rest) }
+    ensures none { IfNone result (scope_at entries.now scope name.now ≡ standard name.now) }
+{
+    let mut at = scope;
+    while at > 0 {
+        let entry = entries[at - 1];
+        if entry.name == name {
+            return Some(entry);
+        }
+        at = entry.rest;
+    }
+    None
+}
+
+/// Adds an entry, and gives its scope. The only error is want of memory.
+pub(crate) fn enter<'a>(entries: &mut Vec<Entry<'a>>, entry: Entry<'a>) -> Result<usize, Failure>
+    requires linked { AreLinked entries.old.items }
+    requires below { IsBelow (length entries.old.items) entry.what entry.rest }
+    ensures linked { OnOk result (AreLinked entries.new.items) }
+    ensures added { OnOk result (entries.new.items ≡ entries.old.items ++ entry.entry ∷ []) }
+    ensures scope { IfOk result (λ s. scope_at entries.new.items s ≡ entry_scope (scope_at entries.old.items) entry.entry) }
+    ensures end { IfOk result (λ s. s ≡ length entries.new.items) }
+    ensures err { IfErr result (λ e. e ≡ Failure.Memory) }
+{
+    match entries.push(entry) {
+        Ok(()) => Ok(entries.len()),
+        Err(_) => Err(Failure::Memory),
+    }
+}
+
+/// The scope in which the parameters stand for the arguments. The only error is want of memory.
+pub(crate) fn bind<'a>(
+    entries: &mut Vec<Entry<'a>>,
+    parameters: &'a [Written],
+    home: usize,
+    arguments: &'a [Expr],
+    scope: usize,
+) -> Result<usize, Failure>
+    requires linked { AreLinked entries.old.items }
+    requires home { home ≤ length entries.old.items }
+    requires scope { scope ≤ length entries.old.items }
+    requires same { length parameters.now ≡ length arguments.now }
+    ensures linked { OnOk result (AreLinked entries.new.items) }
+    ensures extends { OnOk result (Extends entries.new.items entries.old.items) }
+    ensures within { IfOk result (λ s. s ≤ length entries.new.items) }
+    ensures bound { IfOk result (λ s. with_parameters parameters.now (arguments_in arguments.now (scope_at entries.old.items scope)) (scope_at entries.old.items home) ≡ Some (scope_at entries.new.items s)) }
+    ensures err { IfErr result (λ e. e ≡ Failure.Memory) }
+{
+    let mut at = home;
+    for i in 0..parameters.len() {
+        let entry = Entry {
+            name: parameters[i].word.as_bytes(),
+            what: What::Argument(&arguments[i], scope),
+            rest: at,
+        };
+        at = enter(entries, entry)?;
+    }
+    Ok(at)
+}

@@ -1,0 +1,245 @@
+//! The nodes of an expression, made of their parts.
+
+ghost use Rattle.std.specs.Prelude.{◌≡◌, IfOk, IfErr, map};
+ghost use Rattle.tla_eval.specs.ExprOf.{expr_of};
+ghost use Rattle.tla_eval.specs.Expr as expr;
+ghost use Rattle.tla_expand.specs.Lists.{exprs};
+ghost use Rattle.tla_expand.specs.Places as places;
+ghost use Rattle.tla_expand.specs.Nodes as nodes;
+ghost use Rattle.tla_expand.specs.Gives.{MakesLeaf};
+
+use crate::failure::Failure;
+use crate::nodes::{Binding, Leaf, Many, One, Three, Two};
+use std::alloc::Global;
+use tla_eval::{Core, Kind, Place};
+use tla_parse::{Constant, Word};
+use tla_value::{Text, Value};
+
+/// A place of the text, as an expression keeps it.
+pub(crate) fn place_of(place: tla_lex::Place) -> Place
+    ensures { result ≡ places.place_of place }
+{
+    Place {
+        line: place.line,
+        column: place.column,
+    }
+}
+
+pub(crate) fn boxed(alloc: Global, core: Core) -> Result<Box<Core>, Failure>
+    ensures ok { IfOk result (λ b. b.value ≡ core) }
+    ensures err { IfErr result (λ e. e ≡ Failure.Memory) }
+{
+    match Box::new(alloc, core) {
+        Ok(b) => Ok(b),
+        Err(_) => Err(Failure::Memory),
+    }
+}
+
+/// The text of a name or a string. Its bytes are UTF-8, so that the only error is want of memory.
+fn text_of(alloc: Global, word: &Word) -> Result<Text, Failure>
+    ensures ok { IfOk result (λ t. t ≡ word.now) }
+    ensures err { IfErr result (λ e. e ≡ Failure.Memory) }
+{
+    let Ok(text) = str::from_utf8(word.as_bytes()) else {
+        return Err(Failure::Memory);
+    };
+    match String::from_str(alloc, text) {
+        Ok(text) => Ok(Text::new(text)),
+        Err(_) => Err(Failure::Memory),
+    }
+}
+
+/// What a word stands for.
+fn constant_core(place: Place, constant: Constant) -> Core
+    ensures { expr_of result ≡ nodes.constant_of place constant }
+{
+    match constant {
+        Constant::True => Core::Constant(place, Value::Truth(true)),
+        Constant::False => Core::Constant(place, Value::Truth(false)),
+        Constant::Boolean => Core::Booleans(place),
+        Constant::String => Core::KindSet(place, Kind::Strings),
+    }
+}
+
+fn value_core(alloc: Global, place: Place, value: &Value) -> Result<Core, Failure>
+    ensures { MakesLeaf result (nodes.value_of place value.now) }
+{
+    match value.copy(alloc) {
+        Ok(value) => Ok(Core::Constant(place, value)),
+        Err(_) => Err(Failure::Memory),
+    }
+}
+
+/// A node without parts.
+pub(crate) fn leaf_core(alloc: Global, place: Place, leaf: Leaf<'_>) -> Result<Core, Failure>
+    ensures { MakesLeaf result (nodes.leaf leaf.entry place) }
+{
+    match leaf {
+        Leaf::Number(number) => match i64::try_from(number) {
+            Ok(number) => Ok(Core::Constant(place, Value::Int(number))),
+            Err(_) => Err(Failure::TooLarge),
+        },
+        Leaf::Text(word) => Ok(Core::Constant(place, Value::Text(text_of(alloc, word)?))),
+        Leaf::Word(constant) => Ok(constant_core(place, constant)),
+        Leaf::Bound(index) => Ok(Core::Bound(place, index)),
+        Leaf::Value(value) => value_core(alloc, place, value),
+        Leaf::Kinds(kind) => Ok(Core::KindSet(place, kind)),
+    }
+}
+
+/// A node of one part.
+pub(crate) fn one_core(
+    alloc: Global,
+    place: Place,
+    node: One<'_>,
+    part: Core,
+) -> Result<Core, Failure>
+    ensures ok { IfOk result (λ c. expr_of c ≡ nodes.one node.entry place (expr_of part)) }
+    ensures err { IfErr result (λ e. e ≡ Failure.Memory) }
+{
+    let part = boxed(alloc, part)?;
+    match node {
+        One::Unary(operator) => Ok(Core::Unary(place, operator, part)),
+        One::Field(word) => Ok(Core::Field(place, text_of(alloc, word)?, part)),
+    }
+}
+
+fn list_of_two(alloc: Global, first: Core, second: Core) -> Result<Vec<Core>, Failure>
+    ensures ok { IfOk result (λ v. exprs (map expr_of v.items) ≡ expr.more_exprs (expr_of first) (expr.more_exprs (expr_of second) expr.no_exprs)) }
+    ensures err { IfErr result (λ e. e ≡ Failure.Memory) }
+{
+    let mut parts = Vec::new(alloc);
+    if parts.push(first).is_err() {
+        return Err(Failure::Memory);
+    }
+    if parts.push(second).is_err() {
+        return Err(Failure::Memory);
+    }
+    Ok(parts)
+}
+
+/// A node of two parts.
+pub(crate) fn two_core(
+    alloc: Global,
+    place: Place,
+    node: Two,
+    first: Core,
+    second: Core,
+) -> Result<Core, Failure>
+    ensures ok { IfOk result (λ c. expr_of c ≡ nodes.two node place (expr_of first) (expr_of second)) }
+    ensures err { IfErr result (λ e. e ≡ Failure.Memory) }
+{
+    match node {
+        Two::And => Ok(conjunction(place, list_of_two(alloc, first, second)?)),
+        Two::Or => Ok(disjunction(place, list_of_two(alloc, first, second)?)),
+        _ => two_boxed(place, node, boxed(alloc, first)?, boxed(alloc, second)?),
+    }
+}
+
+/// A node of two parts that isn't a list.
+fn two_boxed(place: Place, node: Two, first: Box<Core>, second: Box<Core>) -> Result<Core, Failure>
+    ensures ok { IfOk result (λ c. expr_of c ≡ nodes.two node place (expr_of first.value) (expr_of second.value)) }
+    ensures err { IfErr result (λ e. e ≡ Failure.Memory) }
+{
+    match node {
+        Two::Binary(operator) => Ok(Core::Binary(place, operator, first, second)),
+        Two::Apply => Ok(Core::Apply(place, first, second)),
+        Two::Equal => Ok(Core::Equal(place, first, second)),
+        Two::Implies => Ok(Core::Implies(place, first, second)),
+        Two::Member => Ok(Core::Member(place, first, second)),
+        Two::NotMember => Ok(Core::NotMember(place, first, second)),
+        Two::Subset => Ok(Core::Subset(place, first, second)),
+        Two::Cup => Ok(Core::Cup(place, first, second)),
+        Two::Cap => Ok(Core::Cap(place, first, second)),
+        Two::Minus => Ok(Core::Minus(place, first, second)),
+        Two::Assert => Ok(Core::Assert(place, first, second)),
+        Two::And | Two::Or => Err(Failure::Memory),
+    }
+}
+
+/// A node of three parts.
+pub(crate) fn three_core(
+    alloc: Global,
+    place: Place,
+    node: Three,
+    first: Core,
+    second: Core,
+    third: Core,
+) -> Result<Core, Failure>
+    ensures ok { IfOk result (λ c. expr_of c ≡ nodes.three node place (expr_of first) (expr_of second) (expr_of third)) }
+    ensures err { IfErr result (λ e. e ≡ Failure.Memory) }
+{
+    let first = boxed(alloc, first)?;
+    let second = boxed(alloc, second)?;
+    let third = boxed(alloc, third)?;
+    match node {
+        Three::If => Ok(Core::If(place, first, second, third)),
+        Three::SubSeq => Ok(Core::SubSeq(place, first, second, third)),
+    }
+}
+
+fn conjunction(place: Place, parts: Vec<Core>) -> Core
+    ensures { expr_of result ≡ expr.conjunction place (exprs (map expr_of parts.items)) }
+{
+    Core::Conjunction(place, parts)
+}
+
+fn disjunction(place: Place, parts: Vec<Core>) -> Core
+    ensures { expr_of result ≡ expr.disjunction place (exprs (map expr_of parts.items)) }
+{
+    Core::Disjunction(place, parts)
+}
+
+fn enumerated(place: Place, parts: Vec<Core>) -> Core
+    ensures { expr_of result ≡ expr.enumerated place (exprs (map expr_of parts.items)) }
+{
+    Core::Enumerated(place, parts)
+}
+
+pub(crate) fn tuple(place: Place, parts: Vec<Core>) -> Core
+    ensures { expr_of result ≡ expr.tuple place (exprs (map expr_of parts.items)) }
+{
+    Core::Tuple(place, parts)
+}
+
+/// A node of a list of parts.
+pub(crate) fn many_core(place: Place, node: Many, parts: Vec<Core>) -> Core
+    ensures { expr_of result ≡ nodes.many node place (exprs (map expr_of parts.items)) }
+{
+    match node {
+        Many::Set => enumerated(place, parts),
+        Many::Tuple => tuple(place, parts),
+        Many::And => conjunction(place, parts),
+        Many::Or => disjunction(place, parts),
+    }
+}
+
+/// What UNCHANGED of a tuple is, of UNCHANGED of its parts.
+pub(crate) fn kept_core(place: Place, parts: Vec<Core>) -> Core
+    ensures { expr_of result ≡ nodes.kept place (exprs (map expr_of parts.items)) }
+{
+    if parts.len() == 0 {
+        return Core::Constant(place, Value::Truth(true));
+    }
+    conjunction(place, parts)
+}
+
+/// A node of a set and a body.
+pub(crate) fn binding_core(
+    alloc: Global,
+    place: Place,
+    node: Binding,
+    set: Core,
+    body: Core,
+) -> Result<Core, Failure>
+    ensures ok { IfOk result (λ c. expr_of c ≡ nodes.binding node place (expr_of set) (expr_of body)) }
+    ensures err { IfErr result (λ e. e ≡ Failure.Memory) }
+{
+    let set = boxed(alloc, set)?;
+    let body = boxed(alloc, body)?;
+    match node {
+        Binding::ForAll => Ok(Core::ForAll(place, set, body)),
+        Binding::ForSome => Ok(Core::ForSome(place, set, body)),
+        Binding::Choose => Ok(Core::Choose(place, set, body)),
+    }
+}

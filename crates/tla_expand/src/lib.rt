@@ -1,0 +1,25 @@
+//! What an expression means under a scope, and its expansion within limits.
+//!
+//! An expansion has no names of definitions any more, and primes stand on variables alone. What it is stands in the
+//! definitions of this crate (*Specifying Systems*, chapters 15 to 17).
+#![tactic(auto)]
+
+mod arena;
+mod binders;
+mod builders;
+mod expand;
+mod expanded;
+mod failure;
+mod forms;
+mod heads;
+pub mod laws;
+mod nodes;
+mod operators;
+mod primes;
+mod scopes;
+#[cfg(test)]
+mod tests;
+
+pub use failure::Failure;
+pub use primes::Primes;
+pub use scopes::Scopes;
