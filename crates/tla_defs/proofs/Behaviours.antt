@@ -4,7 +4,10 @@ use Rattle.tla_lex.specs.declared.token.Place.{Place}
 use Rattle.tla_parse.specs.declared.word.Written.{Written}
 use Rattle.tla_config.specs.Names.{Name}
 use Rattle.tla_config.specs.Statements.{Statement, Specification, Init, Next, Invariants, Constants, CheckDeadlock, initials_of, nexts_of}
-use Rattle.tla_defs.specs.Refused.{Behaviour, behaviour}
+use Rattle.std.specs.Prelude.{⊤}
+use Rattle.tla_parse.specs.Units.{UnitTree}
+use Rattle.tla_expand.specs.Maybe.{or_else}
+use Rattle.tla_defs.specs.Refused.{Behaviour, behaviour, misnamed, each_misnamed, named, names_misused}
 
 -- a name that was found before
 abbrev pub before : Option Written → List Name
@@ -66,3 +69,28 @@ behaviour_found i n (Specification at w ∷ cs) end x y p q =
     let h = behaviour_found i n cs end x y p q in record { found = h.found; is_found = h.is_found; initial = h.initial; next = h.next }
 behaviour_found i n (Constants at is ∷ cs) end x y p q =
     let h = behaviour_found i n cs end x y p q in record { found = h.found; is_found = h.is_found; initial = h.initial; next = h.next }
+
+-- where no name of a configuration is misused, those of the behaviour aren't
+abbrev Fine : List UnitTree → Option Written → Type 0
+Fine us None = ⊤
+Fine us (Some w) = misnamed us w ≡ None
+
+first_none : {A : Type 0} (a b : Option A) → or_else a b ≡ None → (a ≡ None) × (b ≡ None)
+first_none None b p = (refl, p)
+first_none (Some x) b p = let z : ⊥ = cc in absurd z
+
+pub behaviour_fine : (us : List UnitTree) (i n : Option Written) (cs : List Statement) (end : Place) (b : Behaviour) → Fine us i → Fine us n → names_misused us cs ≡ None → behaviour cs end i n ≡ Ok b
+    → (misnamed us b.initial ≡ None) × (misnamed us b.next ≡ None)
+behaviour_fine us None n [] end b f g h p = absurd (no_ok end b p)
+behaviour_fine us (Some i) None [] end b f g h p = absurd (no_ok end b p)
+behaviour_fine us (Some i) (Some n) [] end b f g h p =
+    let same : record { initial = i; next = n } ≡ b = cc in
+    rw (sym same) (f, g)
+behaviour_fine us None n (Init at w ∷ cs) end b f g h p = let k = first_none _ _ h in behaviour_fine us (Some w) n cs end b (first_none (misnamed us w) None k.0).0 g k.1 p
+behaviour_fine us (Some i) n (Init at w ∷ cs) end b f g h p = absurd (no_ok at b p)
+behaviour_fine us i None (Next at w ∷ cs) end b f g h p = let k = first_none _ _ h in behaviour_fine us i (Some w) cs end b f (first_none (misnamed us w) None k.0).0 k.1 p
+behaviour_fine us i (Some n) (Next at w ∷ cs) end b f g h p = absurd (no_ok at b p)
+behaviour_fine us i n (Invariants at ws ∷ cs) end b f g h p = let k = first_none _ _ h in behaviour_fine us i n cs end b f g k.1 p
+behaviour_fine us i n (CheckDeadlock at check ∷ cs) end b f g h p = behaviour_fine us i n cs end b f g h p
+behaviour_fine us i n (Specification at w ∷ cs) end b f g h p = behaviour_fine us i n cs end b f g h p
+behaviour_fine us i n (Constants at is ∷ cs) end b f g h p = behaviour_fine us i n cs end b f g h p

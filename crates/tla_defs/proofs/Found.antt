@@ -1,109 +1,125 @@
--- The model, from its parts as the code finds them.
-use Rattle.std.proofs.Common.{◌≡◌, refl, ap, sym, ◌∙◌, Bool, true, false, List, [], ◌∷◌, ◌++◌, Option, Some, None}
-use Rattle.std.specs.Prelude.{IsOk, map}
+-- The formulas of a model as the code finds them, or why there are none; and the model of its parts.
+use Rattle.std.proofs.Common.{◌≡◌, refl, ap, sym, ◌∙◌, inl, inr, Bool, true, false, List, [], ◌∷◌, ◌++◌, Option, Some, None, ℕ, ◌<◌, length, arith, subst, append-nil, map}
 use Rattle.tla_eval.specs.Expr.{Expr}
 use Rattle.tla_eval.specs.ExprOf.{expr_of}
 use Rattle.tla_eval.specs.declared.expression.Core.{Core}
-use Rattle.tla_parse.specs.Edges.{place}
 use Rattle.tla_parse.specs.Tree.{Tree}
+use Rattle.tla_parse.specs.declared.units.Unit.{Unit}
 use Rattle.tla_parse.specs.Units.{UnitTree}
+use Rattle.tla_parse.specs.UnitsView.{unit_view}
 use Rattle.tla_config.specs.Names.{Name}
 use Rattle.tla_config.specs.Statements.{Statement, initials_of, nexts_of, invariants_of, checks_deadlock}
+use Rattle.tla_expand.specs.declared.primes.Primes.{Primes}
+use Rattle.tla_expand.specs.declared.primes.Primes.TheVariants.{Not, Once}
+use Rattle.tla_expand.specs.Expand.{Scope, expand}
+use Rattle.tla_expand.specs.Gives.{shown}
+use Rattle.tla_expand.specs.Maybe.{◌>>=◌}
+use Rattle.tla_expand.specs.Primes.{primes}
+use Rattle.tla_expand.proofs.Primed.{unprimed}
+use Rattle.tla_expand.proofs.PrimesFit.{inv}
 use Rattle.tla_model.specs.ModelTree.{ModelTree}
 use Rattle.tla_model.specs.ModelOf.{invariant_of, tree_of_parts}
 use Rattle.tla_model.specs.declared.invariant.Invariant.{Invariant}
 use Rattle.tla_model.specs.Size.{IsWithinLimits}
-use Rattle.tla_defs.specs.declared.level.Level.{Level}
-use Rattle.tla_defs.specs.declared.level.Level.TheVariants.{State, Action}
-use Rattle.tla_defs.specs.declared.primes.Primes.{Primes}
-use Rattle.tla_defs.specs.declared.primes.Primes.TheVariants.{Not, Once}
-use Rattle.tla_defs.specs.Primes.{primes}
-use Rattle.tla_defs.specs.Expand.{expand, variables}
-use Rattle.tla_defs.specs.Formulas.{IsFormula, EachIsInvariant, names_of}
-use Rattle.tla_defs.specs.Gives.{shown}
+use Rattle.tla_defs.specs.Formulas.{EachIsInvariant, names_of}
+use Rattle.tla_defs.specs.Global.{global}
 use Rattle.tla_defs.specs.LeftOut.{left_out}
-use Rattle.tla_defs.specs.Known.{misuse, variables_of}
-use Rattle.tla_defs.specs.Levels.{level}
-use Rattle.tla_defs.specs.Model.{IsModel, IsMeaning, IsInitial, IsAction, IsInvariant, AreInvariants}
-use Rattle.tla_defs.specs.Refused.{body_refused, is_within}
-use Rattle.tla_defs.proofs.Primed.{unprimed}
-use Rattle.tla_defs.proofs.Levelled.{level_state}
-use Rattle.tla_defs.proofs.Nones.{by_level_none, within_is}
+use Rattle.tla_defs.specs.Constants.{unvalued}
+use Rattle.tla_defs.specs.Misuses.{misuse, variables_of}
+use Rattle.tla_defs.specs.Model.{IsModel, IsMeaning, IsInitial, IsAction, IsInvariant, IsAssumption, IsStateLevel, IsConstantLevel, AreInvariants, AreAssumptions, assumptions_of, defined, definition_of}
+use Rattle.tla_defs.proofs.Unique.{same_body}
 
--- what stands before primes
-record IsPrimed (k : Primes) (o : Option Expr) (e : Expr) : Type 0 where
-  before : Expr
-  is_before : o ≡ Some before
-  primed : primes k before ≡ Some e
+-- nothing of so many primes is within the limits
+abbrev pub NoneShown : Primes → Tree → Scope → Type 0
+NoneShown k t σ = (x : Expr) → shown k (expand t σ 0) ≡ Some x → IsWithinLimits x → ⊥
 
-primed_of : (k : Primes) (o : Option Expr) (e : Expr) → shown k o ≡ Some e → IsPrimed k o e
-primed_of k None e p = let z : ⊥ = cc in absurd z
-primed_of k (Some x) e p = record { before = x; is_before = refl; primed = p }
-
-unprimed_is : (o : Option Expr) (e : Expr) → shown Not o ≡ Some e → o ≡ Some e
+pub unprimed_is : (o : Option Expr) (e : Expr) → shown Not o ≡ Some e → o ≡ Some e
 unprimed_is None e p = p
 unprimed_is (Some x) e p = sym (unprimed x) ∙ p
 
-initial_is : (us : List UnitTree) (x : Name) (e : Expr) → IsFormula us Once State x e → IsInitial us x e
-initial_is us x e h =
-    let b = primed_of Once (expand (variables (variables_of us)) h.body) e h.expanded in
-    record {
-      before = b.before;
-      meaning = record { body = h.body; is_body = h.is_body; expanded = b.is_before };
-      primed = b.primed;
-      limits = h.limits;
-    }
+pub shown_unprimed : (o : Option Expr) (e : Expr) → o ≡ Some e → shown Not o ≡ Some e
+shown_unprimed o e p = ap (λ q. shown Not q) p ∙ unprimed e
 
-meaning_is : (us : List UnitTree) (limit : Level) (x : Name) (e : Expr) → IsFormula us Not limit x e → IsMeaning us x e
-meaning_is us limit x e h = record { body = h.body; is_body = h.is_body; expanded = unprimed_is _ e h.expanded }
+module _ (us : List UnitTree) (x : Name) (t : Tree) (σ : Scope) (at : σ ≡ global us) (is_body : definition_of x us ≡ defined 0 t) where
+  meaning_is : (e : Expr) → expand t σ 0 ≡ Some e → IsMeaning us x e
+  meaning_is e p = record { body = t; is_body = is_body; expanded = ap (λ τ. expand t τ 0) (sym at) ∙ p }
 
-action_is : (us : List UnitTree) (x : Name) (e : Expr) → IsFormula us Not Action x e → IsAction us x e
-action_is us x e h = record { meaning = meaning_is us Action x e h; limits = h.limits }
+  expanded_is : (e : Expr) → IsMeaning us x e → expand t σ 0 ≡ Some e
+  expanded_is e m =
+      let same = same_body (definition_of x us) m.body t m.is_body is_body in
+      ap (λ τ. expand t τ 0) at ∙ ap (λ u. expand u (global us) 0) (sym same) ∙ m.expanded
 
-pub invariant_is : (us : List UnitTree) (x : Name) (e : Expr) → IsFormula us Not State x e → IsInvariant us x e
-invariant_is us x e h =
-    let m = meaning_is us State x e h in
-    record { meaning = m; level = level_state (variables_of us) h.body e (unprimed_is _ e h.expanded) h.levelled; limits = h.limits }
+  pub found_initial : (e : Expr) → shown Once (expand t σ 0) ≡ Some e → IsWithinLimits e → IsInitial us x e
+  found_initial e p h =
+      let b = inv (expand t σ 0) (primes Once) e p in
+      record { before = b.0; meaning = meaning_is b.0 b.1; primed = b.2; limits = h }
+
+  pub no_initial : NoneShown Once t σ → (e : Expr) → IsInitial us x e → ⊥
+  no_initial none e h = none e (ap (λ o. o >>= primes Once) (expanded_is h.before h.meaning) ∙ h.primed) h.limits
+
+  pub found_action : (e : Expr) → shown Not (expand t σ 0) ≡ Some e → IsWithinLimits e → IsAction us x e
+  found_action e p h = record { meaning = meaning_is e (unprimed_is (expand t σ 0) e p); limits = h }
+
+  pub no_action : NoneShown Not t σ → (e : Expr) → IsAction us x e → ⊥
+  no_action none e h = none e (shown_unprimed (expand t σ 0) e (expanded_is e h.meaning)) h.limits
+
+  pub found_invariant : (e : Expr) → shown Not (expand t σ 0) ≡ Some e → IsWithinLimits e → IsStateLevel e → IsInvariant us x e
+  found_invariant e p h l = record { meaning = meaning_is e (unprimed_is (expand t σ 0) e p); level = l; limits = h }
+
+  pub no_invariant : NoneShown Not t σ → (e : Expr) → IsInvariant us x e → ⊥
+  no_invariant none e h = none e (shown_unprimed (expand t σ 0) e (expanded_is e h.meaning)) h.limits
+
+  -- what is found is the only expansion
+  pub high_invariant : (d : Expr) → shown Not (expand t σ 0) ≡ Some d → (IsStateLevel d → ⊥) → (e : Expr) → IsInvariant us x e → ⊥
+  high_invariant d p high e h =
+      let q = unprimed_is (expand t σ 0) d p in
+      let r = expanded_is e h.meaning in
+      let same : e ≡ d = cc in
+      high (subst (λ f. IsStateLevel f) same h.level)
+
+pub found_assumption : (us : List UnitTree) (t : Tree) (σ : Scope) (e : Expr) → σ ≡ global us → shown Not (expand t σ 0) ≡ Some e → IsWithinLimits e → IsConstantLevel e → IsAssumption us t e
+found_assumption us t σ e at p h level = record { expanded = ap (λ τ. expand t τ 0) (sym at) ∙ unprimed_is (expand t σ 0) e p; level = level; limits = h }
+
+pub no_assumption : (us : List UnitTree) (t : Tree) (σ : Scope) → σ ≡ global us → NoneShown Not t σ → (e : Expr) → IsAssumption us t e → ⊥
+no_assumption us t σ at none e h = none e (shown_unprimed (expand t σ 0) e (ap (λ τ. expand t τ 0) at ∙ h.expanded)) h.limits
+
+pub high_assumption : (us : List UnitTree) (t : Tree) (σ : Scope) → σ ≡ global us → (d : Expr) → shown Not (expand t σ 0) ≡ Some d → (IsConstantLevel d → ⊥) → (e : Expr) → IsAssumption us t e → ⊥
+high_assumption us t σ at d p high e h =
+    let q = unprimed_is (expand t σ 0) d p in
+    let r = ap (λ τ. expand t τ 0) at ∙ h.expanded in
+    let same : e ≡ d = cc in
+    high (subst (λ f. IsConstantLevel f) same h.level)
 
 are_invariants : (us : List UnitTree) (is : List (Name × Expr)) → EachIsInvariant us is → AreInvariants us (names_of is) is
 are_invariants us [] h = tt
 are_invariants us (i ∷ is) h = (refl, h.0, are_invariants us is h.1)
 
-pub each_append : (us : List UnitTree) (is js : List (Name × Expr)) → EachIsInvariant us is → EachIsInvariant us js → EachIsInvariant us (is ++ js)
+each_append : (us : List UnitTree) (is js : List (Name × Expr)) → EachIsInvariant us is → EachIsInvariant us js → EachIsInvariant us (is ++ js)
 each_append us [] js a b = b
 each_append us (i ∷ is) js a b = (a.0, each_append us is js a.1 b)
 
-pub model_is : (us : List UnitTree) (cs : List Statement) (m : ModelTree) (i n : Name) → left_out cs ≡ None → misuse us ≡ None → initials_of cs ≡ i ∷ [] → nexts_of cs ≡ n ∷ []
-    → m.variables ≡ variables_of us → m.assumptions ≡ [] → IsFormula us Once State i m.init → IsFormula us Not Action n m.next
-    → EachIsInvariant us m.invariants → names_of m.invariants ≡ invariants_of cs → m.check_deadlock ≡ checks_deadlock cs → IsModel us cs m
-model_is us cs m i n whole known one_init one_next vs none init next each names check =
+-- the model of parts in memory
+pub parts_model : (us : List UnitTree) (cs : List Statement) (vs : List Name) (assumed : List Core) (init next : Core) (is : List Invariant) (check : Bool) (i n : Name)
+    → left_out cs ≡ None → misuse us ≡ None → unvalued us ≡ None → initials_of cs ≡ i ∷ [] → nexts_of cs ≡ n ∷ [] → vs ≡ variables_of us → AreAssumptions us (assumptions_of us) (map expr_of assumed)
+    → IsInitial us i (expr_of init) → IsAction us n (expr_of next)
+    → EachIsInvariant us (map invariant_of is) → names_of (map invariant_of is) ≡ invariants_of cs → check ≡ checks_deadlock cs
+    → IsModel us cs (tree_of_parts vs assumed init next is check)
+parts_model us cs vs assumed init next is check i n whole known valued one_init one_next names assumptions initial action each named deadlock =
     record {
       whole = whole;
       known = known;
+      valued = valued;
       init_name = i;
       next_name = n;
       one_init = one_init;
       one_next = one_next;
-      variables = vs;
-      assumptions = none;
-      init = initial_is us i m.init init;
-      next = action_is us n m.next next;
-      invariants = rw (sym names) (are_invariants us m.invariants each);
-      check_deadlock = check;
+      variables = names;
+      assumptions = assumptions;
+      init = initial;
+      next = action;
+      invariants = rw (sym named) (are_invariants us (map invariant_of is) each);
+      check_deadlock = deadlock;
     }
-
--- a body of its level and within the limits is not refused
-pub body_fine : (vs : List Name) (k : Primes) (limit : Level) (t : Tree) (e : Expr) → IsOk (level limit t) → shown k (expand (variables vs) t) ≡ Some e → IsWithinLimits e → body_refused vs k limit t ≡ None
-body_fine vs k limit t e l p h = by_level_none (level limit t) _ (place t) l (ap (λ o. is_within o) p ∙ within_is e h)
-
--- the model of parts in memory
-pub parts_model : (us : List UnitTree) (cs : List Statement) (vs : List Name) (assumed : List Core) (init next : Core) (is : List Invariant) (check : Bool) (i n : Name)
-    → left_out cs ≡ None → misuse us ≡ None → initials_of cs ≡ i ∷ [] → nexts_of cs ≡ n ∷ [] → vs ≡ variables_of us → assumed ≡ []
-    → IsFormula us Once State i (expr_of init) → IsFormula us Not Action n (expr_of next)
-    → EachIsInvariant us (map invariant_of is) → names_of (map invariant_of is) ≡ invariants_of cs → check ≡ checks_deadlock cs
-    → IsModel us cs (tree_of_parts vs assumed init next is check)
-parts_model us cs vs assumed init next is check i n whole known one_init one_next names none initial action each named deadlock =
-    model_is us cs (tree_of_parts vs assumed init next is check) i n whole known one_init one_next names (ap (λ es. map expr_of es) none) initial action each named deadlock
 
 -- one invariant more
 map_push : (is : List Invariant) (i : Invariant) → map invariant_of (is ++ i ∷ []) ≡ map invariant_of is ++ invariant_of i ∷ []
@@ -117,6 +133,15 @@ names_push (j ∷ is) i = ap (λ xs. j.0 ∷ xs) (names_push is i)
 pub pushed_names : (old new : List Invariant) (i : Invariant) → new ≡ old ++ i ∷ [] → names_of (map invariant_of new) ≡ names_of (map invariant_of old) ++ i.name ∷ []
 pushed_names old new i p = ap (λ xs. names_of (map invariant_of xs)) p ∙ ap names_of (map_push old i) ∙ names_push (map invariant_of old) (invariant_of i)
 
-pub pushed_each : (us : List UnitTree) (old new : List Invariant) (i : Invariant) → new ≡ old ++ i ∷ [] → IsFormula us Not State i.name (expr_of i.core)
+pub pushed_each : (us : List UnitTree) (old new : List Invariant) (i : Invariant) → new ≡ old ++ i ∷ [] → IsInvariant us i.name (expr_of i.core)
     → EachIsInvariant us (map invariant_of old) → EachIsInvariant us (map invariant_of new)
-pushed_each us old new i p f h = rw (p, map_push old i) (each_append us (map invariant_of old) (invariant_of i ∷ []) h (invariant_is us i.name (expr_of i.core) f, tt))
+pushed_each us old new i p f h = rw (p, map_push old i) (each_append us (map invariant_of old) (invariant_of i ∷ []) h (f, tt))
+
+-- where no unit is left, the assumptions are all there
+pub assumptions_end : (us : List UnitTree) (left : List Unit) (all : List Tree) (done : List Expr) → length left < 1
+    → ((es : List Expr) → AreAssumptions us (assumptions_of (map unit_view left)) es → AreAssumptions us all (done ++ es)) → AreAssumptions us all done
+assumptions_end us [] all done h f = subst (λ xs. AreAssumptions us all xs) (append-nil done) (f [] tt)
+assumptions_end us (u ∷ left) all done h f = absurd (omega (arith, h))
+
+pub not_both : (b : Bool) → b ≡ true → b ≡ false → ⊥
+not_both b p q = let z : ⊥ = cc in z

@@ -1,11 +1,7 @@
+pub mod Stacks
 pub mod Unique
 pub mod Worked
-pub mod Primed
-pub mod Forms
-pub mod Sizes
-pub mod Conjunctions
-pub mod Arms
-pub mod Levelled
+pub mod NamedWorked
 pub mod Behaviours
 pub mod Nones
 pub mod Sound

@@ -5,7 +5,7 @@ use Rattle.tla_eval.specs.Expr.{Expr}
 use Rattle.tla_model.specs.Size.{nodes, depth, IsWithinLimits}
 use Rattle.tla_defs.specs.Rows.{init_tree, init_before, counter_tree, invariant_tree, bounded_tree, plus_tree, CounterOfThree, CounterOfFive, BoundedSteps, BoundedStepsMayEnd, LargestNumber}
 
-within : (e : Expr) (n d : ℕ) → nodes e ≡ n → depth e ≡ d → n ≤ 200000 → d ≤ 300 → IsWithinLimits e
+pub within : (e : Expr) (n d : ℕ) → nodes e ≡ n → depth e ≡ d → n ≤ 200000 → d ≤ 300 → IsWithinLimits e
 within e n d a b p q = record { small = rw a p; shallow = rw b q }
 
 pub counter_of_three : CounterOfThree
@@ -13,12 +13,13 @@ counter_of_three =
     record {
       whole = refl;
       known = refl;
+      valued = refl;
       init_name = codes "Init";
       next_name = codes "Next";
       one_init = refl;
       one_next = refl;
       variables = refl;
-      assumptions = refl;
+      assumptions = tt;
       init = record {
         before = init_before 0;
         meaning = record { body = init_tree 0; is_body = refl; expanded = refl };
@@ -35,12 +36,13 @@ counter_of_five =
     record {
       whole = refl;
       known = refl;
+      valued = refl;
       init_name = codes "Init";
       next_name = codes "Next";
       one_init = refl;
       one_next = refl;
       variables = refl;
-      assumptions = refl;
+      assumptions = tt;
       init = record {
         before = init_before 0;
         meaning = record { body = init_tree 0; is_body = refl; expanded = refl };
@@ -57,12 +59,13 @@ bounded_steps =
     record {
       whole = refl;
       known = refl;
+      valued = refl;
       init_name = codes "Init";
       next_name = codes "Next";
       one_init = refl;
       one_next = refl;
       variables = refl;
-      assumptions = refl;
+      assumptions = tt;
       init = record {
         before = init_before 0;
         meaning = record { body = init_tree 0; is_body = refl; expanded = refl };
@@ -79,12 +82,13 @@ bounded_steps_may_end =
     record {
       whole = refl;
       known = refl;
+      valued = refl;
       init_name = codes "Init";
       next_name = codes "Next";
       one_init = refl;
       one_next = refl;
       variables = refl;
-      assumptions = refl;
+      assumptions = tt;
       init = record {
         before = init_before 0;
         meaning = record { body = init_tree 0; is_body = refl; expanded = refl };
@@ -101,12 +105,13 @@ largest_number =
     record {
       whole = refl;
       known = refl;
+      valued = refl;
       init_name = codes "Init";
       next_name = codes "Next";
       one_init = refl;
       one_next = refl;
       variables = refl;
-      assumptions = refl;
+      assumptions = tt;
       init = record {
         before = init_before 9223372036854775807;
         meaning = record { body = init_tree 9223372036854775807; is_body = refl; expanded = refl };

@@ -2,7 +2,7 @@
 use Rattle.std.specs.Prelude.{List, [], ◌∷◌, Option, Some, None, codes}
 use Rattle.tla_parse.specs.declared.word.Written.{Written}
 use Rattle.tla_config.specs.Statements.{Statement, Specification, Constants}
-use Rattle.tla_defs.specs.Maybe.{or_else}
+use Rattle.tla_expand.specs.Maybe.{or_else}
 
 -- the word of such a statement, at its place; CONSTANTS is named CONSTANT
 abbrev pub left_out_word : Statement → Option Written

@@ -1,32 +1,21 @@
 -- Why a module and a configuration name no model: the first step that refuses them, and where (this project's own choice).
-use Rattle.std.specs.Prelude.{Bool, true, false, ◌&&◌, nat_le, List, [], ◌∷◌, Option, Some, None, is_some, Result, Ok, Err, if◌then◌else◌}
-use Rattle.std.specs.List.{flat_map}
+use Rattle.std.specs.Prelude.{◌≡◌, ◌≢◌, Bool, true, false, is_some, List, [], ◌∷◌, Option, Some, None, option_map, Result, Ok, Err}
 use Rattle.tla_lex.specs.declared.token.Place.{Place}
-use Rattle.tla_eval.specs.Expr.{Expr}
 use Rattle.tla_parse.specs.declared.word.Written.{Written}
-use Rattle.tla_parse.specs.Edges.{place}
-use Rattle.tla_parse.specs.Tree.{Tree}
 use Rattle.tla_parse.specs.Units.{UnitTree}
 use Rattle.tla_config.specs.declared.error.DefsCode.{DefsCode}
 use Rattle.tla_config.specs.declared.error.DefsCode.TheVariants as c
 use Rattle.tla_config.specs.declared.error.DefsError.{DefsError}
 use Rattle.tla_config.specs.declared.error.Source.{Source}
 use Rattle.tla_config.specs.declared.error.Source.TheVariants as source
-use Rattle.tla_config.specs.Names.{Name}
 use Rattle.tla_config.specs.Statements.{Statement, Specification, Init, Next, Invariants, Constants, CheckDeadlock}
 use Rattle.tla_config.specs.View.{ConfigTree}
-use Rattle.tla_model.specs.Size.{nodes, depth}
-use Rattle.tla_defs.specs.declared.level.Level.{Level}
-use Rattle.tla_defs.specs.declared.level.Level.TheVariants.{State, Action}
-use Rattle.tla_defs.specs.declared.primes.Primes.{Primes}
-use Rattle.tla_defs.specs.declared.primes.Primes.TheVariants.{Not, Once}
-use Rattle.tla_defs.specs.Maybe.{◌>>=◌, or_else}
-use Rattle.tla_defs.specs.Primes.{primes}
-use Rattle.tla_defs.specs.Expand.{expand, variables}
+use Rattle.tla_expand.specs.Maybe.{or_else}
 use Rattle.tla_defs.specs.LeftOut.{left_out}
-use Rattle.tla_defs.specs.Known.{Misuse, Twice, Unknown, misuse, variables_of}
-use Rattle.tla_defs.specs.Levels.{level}
-use Rattle.tla_defs.specs.Model.{body_of}
+use Rattle.tla_defs.specs.Known.{Misuse, Twice, Unknown, Arguments, applied}
+use Rattle.tla_defs.specs.Constants.{unvalued}
+use Rattle.tla_defs.specs.Misuses.{misuse}
+use Rattle.tla_defs.specs.Model.{Defined, definition_of}
 
 -- a refusal with the name that it prints, and one without
 abbrev pub refusal_of : DefsCode → Source → Written → DefsError
@@ -35,13 +24,25 @@ refusal_of code source w = record { code = code; source = source; place = Some w
 abbrev pub refusal_at : DefsCode → Source → Place → DefsError
 refusal_at code source at = record { code = code; source = source; place = Some at; name = None }
 
-abbrev pub misuse_refused : Misuse → DefsError
-misuse_refused (Twice w) = refusal_of c.DefinedTwice source.Module w
-misuse_refused (Unknown w) = refusal_of c.UnknownName source.Module w
+-- a misuse of a name in the module or the configuration
+abbrev pub misuse_refused : Source → Misuse → DefsError
+misuse_refused s (Twice w) = refusal_of c.DefinedTwice s w
+misuse_refused s (Unknown w) = refusal_of c.UnknownName s w
+misuse_refused s (Arguments w) = refusal_of c.ArgumentCount s w
 
-abbrev pub refusal_for : Option Misuse → Option DefsError
-refusal_for None = None
-refusal_for (Some m) = Some (misuse_refused m)
+abbrev pub refusal_for : Source → Option Misuse → Option DefsError
+refusal_for s None = None
+refusal_for s (Some m) = Some (misuse_refused s m)
+
+-- A misuse, if any, is what is refused. Memory may be refused at any time.
+abbrev pub Says : Source → Result (Unit {0}) DefsError → Option Misuse → Type 0
+Says s (Ok _) o = o ≡ None
+Says s (Err e) o = e.code ≢ c.Memory → refusal_for s o ≡ Some e
+
+-- a constant without a value
+abbrev pub constant_refused : Option Written → Option DefsError
+constant_refused None = None
+constant_refused (Some w) = Some (refusal_of c.ConstantWithoutValue source.Module w)
 
 -- the first statement that has no meaning for a model yet, if any
 abbrev pub statement_left_out : Option Written → Option DefsError
@@ -66,10 +67,13 @@ behaviour (CheckDeadlock at check ∷ cs) end i n = behaviour cs end i n
 behaviour (Specification at w ∷ cs) end i n = behaviour cs end i n
 behaviour (Constants at is ∷ cs) end i n = behaviour cs end i n
 
--- the first of these names that no definition has
-abbrev pub undefined : List UnitTree → List Written → Option Written
-undefined us [] = None
-undefined us (w ∷ ws) = if is_some (body_of w.word us) then undefined us ws else Some w
+-- a name of the configuration is that of a definition without parameters
+abbrev pub misnamed : List UnitTree → Written → Option Misuse
+misnamed us w = applied w 0 (option_map (λ (d : Defined). d.arity) (definition_of w.word us))
+
+abbrev pub each_misnamed : List UnitTree → List Written → Option Misuse
+each_misnamed us [] = None
+each_misnamed us (w ∷ ws) = or_else (misnamed us w) (each_misnamed us ws)
 
 abbrev pub named : Statement → List Written
 named (Init at w) = w ∷ []
@@ -79,56 +83,37 @@ named (CheckDeadlock at check) = []
 named (Specification at w) = []
 named (Constants at is) = []
 
-abbrev pub undefined_in : List UnitTree → List Statement → Option Written
-undefined_in us [] = None
-undefined_in us (c ∷ cs) = or_else (undefined us (named c)) (undefined_in us cs)
-
-abbrev pub is_within : Option Expr → Bool
-is_within None = false
-is_within (Some e) = nat_le (nodes e) 200000 && nat_le (depth e) 300
-
--- a formula under so many primes and of such a level: the first expression that is too high, or the formula where it is too large
-abbrev pub by_size : Bool → Place → Option DefsError
-by_size true at = None
-by_size false at = Some (refusal_at c.ExpansionTooLarge source.Module at)
-
-abbrev pub by_level : Result Level Place → Bool → Place → Option DefsError
-by_level (Err p) small at = Some (refusal_at c.Level source.Module p)
-by_level (Ok l) small at = by_size small at
-
-abbrev pub body_refused : List Name → Primes → Level → Tree → Option DefsError
-body_refused vs k limit t = by_level (level limit t) (is_within (expand (variables vs) t >>= primes k)) (place t)
-
-abbrev pub named_body_refused : List Name → Primes → Level → Written → Option Tree → Option DefsError
-named_body_refused vs k limit w (Some t) = body_refused vs k limit t
-named_body_refused vs k limit w None = Some (refusal_of c.UnknownName source.Configuration w)
-
-abbrev pub formula_refused : List UnitTree → Primes → Level → Written → Option DefsError
-formula_refused us k limit w = named_body_refused (variables_of us) k limit w (body_of w.word us)
-
-abbrev pub invariants_refused : List UnitTree → List Written → Option DefsError
-invariants_refused us [] = None
-invariants_refused us (w ∷ ws) = or_else (formula_refused us Not State w) (invariants_refused us ws)
-
-abbrev pub invariants_in : Statement → List Written
-invariants_in (Invariants at ws) = ws
-invariants_in _ = []
-
--- Init, Next, and the invariants in their order
-abbrev pub formulas_refused : List UnitTree → Behaviour → List Written → Option DefsError
-formulas_refused us b ws =
-    or_else (formula_refused us Once State b.initial) (or_else (formula_refused us Not Action b.next) (invariants_refused us ws))
-
-abbrev pub names_refused : Option Written → Option DefsError
-names_refused None = None
-names_refused (Some w) = Some (refusal_of c.UnknownName source.Configuration w)
+abbrev pub names_misused : List UnitTree → List Statement → Option Misuse
+names_misused us [] = None
+names_misused us (c ∷ cs) = or_else (each_misnamed us (named c)) (names_misused us cs)
 
 abbrev pub behaviour_refused : List UnitTree → List Statement → Result Behaviour Place → Option DefsError
 behaviour_refused us cs (Err p) = Some (refusal_at c.BehaviourCount source.Configuration p)
-behaviour_refused us cs (Ok b) = or_else (names_refused (undefined_in us cs)) (formulas_refused us b (flat_map invariants_in cs))
+behaviour_refused us cs (Ok b) = refusal_for source.Configuration (names_misused us cs)
 
--- The statements left out, then the names of the module, then the behaviour, then the names of the configuration, then the formulas.
+-- The statements left out, then the names of the module, then a constant without a value, then the behaviour, then the names of the configuration.
 abbrev pub refused : List UnitTree → ConfigTree → Option DefsError
 refused us config =
     or_else (statement_left_out (left_out config.statements))
-    (or_else (refusal_for (misuse us)) (behaviour_refused us config.statements (behaviour config.statements config.end None None)))
+    (or_else (refusal_for source.Module (misuse us))
+    (or_else (constant_refused (unvalued us)) (behaviour_refused us config.statements (behaviour config.statements config.end None None))))
+
+abbrev pub is_of_formula : DefsCode → Bool
+is_of_formula c.Level = true
+is_of_formula c.ExpansionTooLarge = true
+is_of_formula _ = false
+
+-- a formula is of too high a level or too large, at some place of the module
+pub record IsOfFormula (e : DefsError) : Type 0 where
+  pub code : is_of_formula e.code ≡ true
+  pub source : e.source ≡ source.Module
+  pub place : is_some e.place ≡ true
+  pub name : e.name ≡ None
+
+abbrev pub refusal_is : Option DefsError → DefsError → Type 0
+refusal_is (Some r) e = r ≡ e
+refusal_is None e = IsOfFormula e
+
+-- The first step that refuses a module and a configuration, or, where none does, a formula.
+abbrev pub IsRefusal : List UnitTree → ConfigTree → DefsError → Type 0
+IsRefusal us config e = refusal_is (refused us config) e

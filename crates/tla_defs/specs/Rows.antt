@@ -8,7 +8,7 @@ use Rattle.tla_parse.specs.declared.word.Written.{Written}
 use Rattle.tla_parse.specs.declared.tree.Infix.TheVariants as op
 use Rattle.tla_parse.specs.Tree.{Tree, Name, Number, Paren, Prime, Binary}
 use Rattle.tla_parse.specs.Units.{UnitTree, Extends, Variables, Operator}
-use Rattle.tla_defs.specs.Expand.{place_of}
+use Rattle.tla_expand.specs.Places.{place_of}
 use Rattle.tla_config.specs.Statements.{Statement, CheckDeadlock}
 use Rattle.tla_config.specs.Statements as s
 use Rattle.tla_model.specs.ModelTree.{ModelTree}

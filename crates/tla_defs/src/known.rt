@@ -1,40 +1,31 @@
-//! The names of a module: each is brought in once, and known where it is used.
+//! The names of expressions: each is brought in once, known where it is used, and used with its number of arguments.
 
-ghost use Rattle.std.specs.Prelude.{◌≡◌, ◌≢◌, ◌++◌, ◌∷◌, [], List, None, Some, true, false, IfOk, IfErr, OnOk, map, option_map, is_some};
-ghost use Rattle.std.specs.List.{list_any};
+ghost use Rattle.std.specs.Prelude.{◌≡◌, ◌≢◌, ◌++◌, ◌∷◌, [], List, None, Some, true, false, IfOk, IfErr, OnOk, map, option_map, is_some, length, take};
 ghost use Rattle.tla_config.specs.declared.error.DefsCode.TheVariants.{Memory};
-ghost use Rattle.tla_config.specs.Names.{Name, words, is_among};
-ghost use Rattle.tla_parse.specs.View.{view, definition_view};
-ghost use Rattle.tla_parse.specs.Units.{UnitTree};
-ghost use Rattle.tla_parse.specs.UnitsView.{unit_view};
+ghost use Rattle.tla_config.specs.Names.{Name, words};
+ghost use Rattle.tla_parse.specs.Tree.{trees, binders, arms, definitions};
+ghost use Rattle.tla_parse.specs.View.{view, group_view, choice_view, definition_view};
+ghost use Rattle.tla_defs.specs.Scope as scope_of;
 ghost use Rattle.tla_defs.specs.Operators as operators;
 ghost use Rattle.tla_defs.specs.Known as known;
+ghost use Rattle.tla_expand.specs.Maybe.{or_else};
 ghost use Rattle.tla_defs.specs.Mentions.{written_of};
-ghost use Rattle.tla_defs.specs.Refused.{misuse_refused, refusal_for};
+ghost use Rattle.tla_defs.specs.Refused.{Says};
 
 use crate::mention::Mention;
 use crate::names::Names;
-use crate::nodes::{has_node, unary_for};
 use crate::refusal::refusal_of;
+use crate::scope::Scope;
 use std::alloc::Global;
 use tla_config::{DefsCode, DefsError, Source};
 use tla_lex::Place;
-use tla_parse::{Brackets, Bullet, Definition, Expr, Infix, Prefix, Quantifier, Unit, Written};
-
-/// What the units so far bring in.
-#[derive(Drop)]
-struct Brought<'a> {
-    modules: Names<'a>,
-    names: Names<'a>,
-    variables: Names<'a>,
-}
+use tla_parse::{Arm, Binder, Definition, Expr, Infix, Prefix, Written};
 
 /// Whether an infix operator may be used where these modules are extended.
 fn infix_known(modules: &Names<'_>, operator: Infix) -> bool
     ensures { result ≡ operators.infix_known modules.now operator }
 {
     match operator {
-        Infix::LeadsTo => true,
         Infix::Less
         | Infix::Greater
         | Infix::AtMost
@@ -44,8 +35,11 @@ fn infix_known(modules: &Names<'_>, operator: Infix) -> bool
         | Infix::Times
         | Infix::Quotient
         | Infix::Remainder
-        | Infix::Power => modules.contains(b"Naturals") || modules.contains(b"Integers"),
-        _ => has_node(operator),
+        | Infix::Power
+        | Infix::Range => modules.contains(b"Naturals") || modules.contains(b"Integers"),
+        Infix::Concatenation => modules.contains(b"Sequences"),
+        Infix::Pair | Infix::Override => modules.contains(b"TLC"),
+        _ => true,
     }
 }
 
@@ -54,9 +48,8 @@ fn prefix_known(modules: &Names<'_>, operator: Prefix) -> bool
     ensures { result ≡ operators.prefix_known modules.now operator }
 {
     match operator {
-        Prefix::Not | Prefix::Always | Prefix::Eventually => true,
         Prefix::Negate => modules.contains(b"Integers"),
-        _ => false,
+        _ => true,
     }
 }
 
@@ -76,206 +69,361 @@ fn prefix_word(operator: Prefix) -> &'static [u8]
     }
 }
 
-/// The first word of a form that is left out for now.
-fn form_word<'a>(tree: &'a Expr) -> &'a [u8]
-    ensures { result.now ≡ operators.form_word (view tree.now) }
+/// The use of a name with so many arguments.
+fn used(alloc: Global, scope: &Scope<'_>, name: &Written, count: usize) -> Result<(), DefsError>
+    ensures { Says Source.Module result (known.used scope.now name.now count) }
 {
-    match tree {
-        Expr::Text(_, _) => b"\"",
-        Expr::Listing(_, Brackets::Set, _) => b"{",
-        Expr::Listing(_, Brackets::Tuple, _) => b"<<",
-        Expr::Call(name, _) => name.word.as_bytes(),
-        Expr::Index(_, _, _) => b"[",
-        Expr::Field(_, _, _) => b".",
-        Expr::Quantified(_, Quantifier::ForAll, _, _) => b"\\A",
-        Expr::Quantified(_, Quantifier::Exists, _, _) => b"\\E",
-        Expr::Choose(_, _, _, _) => b"CHOOSE",
-        Expr::Case(_, _, _) => b"CASE",
-        Expr::Let(_, _, _) => b"LET",
-        Expr::Junction(_, Bullet::And, _) => b"/\\",
-        Expr::Junction(_, Bullet::Or, _) => b"\\/",
-        Expr::Name(_)
-        | Expr::Number(_, _)
-        | Expr::Constant(_, _)
-        | Expr::At(_)
-        | Expr::Paren(_, _)
-        | Expr::Prime(_, _)
-        | Expr::Unary(_, _, _)
-        | Expr::Binary(_, _, _, _, _)
-        | Expr::If(_, _, _, _) => b"@",
+    match scope.arity(name.word.as_bytes()) {
+        None => Err(refusal_of(
+            alloc,
+            DefsCode::UnknownName,
+            Source::Module,
+            Mention::of(name),
+        )),
+        Some(arity) => {
+            if count == arity {
+                Ok(())
+            } else {
+                Err(refusal_of(
+                    alloc,
+                    DefsCode::ArgumentCount,
+                    Source::Module,
+                    Mention::of(name),
+                ))
+            }
+        }
     }
 }
 
-/// The first name, operator or form that may not be used where these modules are extended and these variables declared.
-fn unknown<'a>(tree: &'a Expr, modules: &Names<'_>, variables: &Names<'_>) -> Option<Mention<'a>>
-    ensures { option_map written_of result ≡ known.unknown modules.entry.now variables.entry.now (view tree.entry.now) }
+/// A name that is not in scope.
+pub(crate) fn new_name(alloc: Global, scope: &Scope<'_>, name: &Written) -> Result<(), DefsError>
+    ensures { Says Source.Module result (known.new_name scope.now name.now) }
 {
-    match tree {
-        Expr::Name(name) => {
-            if variables.contains(name.word.as_bytes()) {
-                None
-            } else {
-                Some(Mention::of(name))
-            }
-        }
-        Expr::Number(_, _) | Expr::Constant(_, _) => None,
-        Expr::Paren(_, inner) | Expr::Prime(_, inner) => unknown(inner, modules, variables),
-        Expr::Unary(place, operator, operand) => {
-            if prefix_known(modules, *operator) {
-                unknown(operand, modules, variables)
-            } else {
-                Some(Mention {
-                    place: *place,
-                    word: prefix_word(*operator),
-                })
-            }
-        }
-        Expr::Binary(_, operator, written, first, second) => {
-            match unknown(first, modules, variables) {
-                Some(found) => Some(found),
-                None => {
-                    if infix_known(modules, *operator) {
-                        unknown(second, modules, variables)
-                    } else {
-                        Some(Mention::of(written))
-                    }
-                }
-            }
-        }
-        Expr::If(_, condition, yes, no) => match unknown(condition, modules, variables) {
-            Some(found) => Some(found),
-            None => match unknown(yes, modules, variables) {
-                Some(found) => Some(found),
-                None => unknown(no, modules, variables),
-            },
-        },
-        _ => Some(Mention {
-            place: tree.place(),
-            word: form_word(tree),
-        }),
-    }
-}
-
-/// A name more, which is new.
-fn bring<'a>(
-    alloc: Global,
-    modules: &Names<'_>,
-    names: &mut Names<'a>,
-    written: &'a Written,
-) -> Result<(), DefsError>
-    ensures new { OnOk result (known.is_taken modules.now names.old written.now.word ≡ false) }
-    ensures ok { OnOk result (names.new ≡ names.old ++ written.now.word ∷ []) }
-    ensures twice { IfErr result (λ e. e.code ≢ Memory → known.is_taken modules.now names.old written.now.word ≡ true) }
-    ensures err { IfErr result (λ e. e.code ≢ Memory → e ≡ misuse_refused (known.Twice written.now)) }
-{
-    let name = written.word.as_bytes();
-    if names.contains(name) || modules.bring_in(name) {
+    if scope.knows(name.word.as_bytes()) {
         return Err(refusal_of(
             alloc,
             DefsCode::DefinedTwice,
             Source::Module,
-            Mention::of(written),
+            Mention::of(name),
         ));
     }
-    names.push(&written.word)
+    Ok(())
 }
 
-/// Names more, each of which is new.
-fn bring_all<'a>(
+/// New names more, none of which is in scope.
+fn bring<'a>(
+    alloc: Global,
+    scope: &Scope<'_>,
+    new: &mut Names<'a>,
+    names: &'a [Written],
+) -> Result<(), DefsError>
+    ensures ok { OnOk result (new.new ≡ new.old ++ words names.now) }
+    ensures first { Says Source.Module result (known.brought scope.now new.old names.now) }
+{
+    let mut left = names;
+    while let [first, rest @ ..] = left {
+        let name = first.word.as_bytes();
+        if scope.knows(name) || new.contains(name) {
+            return Err(refusal_of(
+                alloc,
+                DefsCode::DefinedTwice,
+                Source::Module,
+                Mention::of(first),
+            ));
+        }
+        new.push(&first.word)?;
+        left = rest;
+    }
+    Ok(())
+}
+
+/// Names that are not in scope, each once.
+pub(crate) fn new_names(
+    alloc: Global,
+    scope: &Scope<'_>,
+    names: &[Written],
+) -> Result<(), DefsError>
+    ensures { Says Source.Module result (known.brought scope.now [] names.now) }
+{
+    let mut new = Names::new(alloc);
+    bring(alloc, scope, &mut new, names)
+}
+
+/// An operator that may be used.
+fn operator(alloc: Global, is_known: bool, place: Place, word: &[u8]) -> Result<(), DefsError>
+    ensures { Says Source.Module result (known.if_not is_known place word.now) }
+{
+    if is_known {
+        return Ok(());
+    }
+    let mention = Mention { place, word };
+    Err(refusal_of(alloc, DefsCode::UnknownName, Source::Module, mention))
+}
+
+/// An expression of which each name is used as it may be.
+#[cycle(known)]
+pub(crate) fn expression<'a>(
     alloc: Global,
     modules: &Names<'_>,
-    names: &mut Names<'a>,
-    written: &'a [Written],
+    scope: &mut Scope<'a>,
+    tree: &'a Expr,
 ) -> Result<(), DefsError>
-    ensures new { OnOk result (known.twice modules.now names.old written.now ≡ None) }
-    ensures ok { OnOk result (names.new ≡ names.old ++ words written.now) }
-    ensures err { IfErr result (λ e. e.code ≢ Memory → refusal_for (known.misused known.Twice (known.twice modules.now names.old written.now)) ≡ Some e) }
+    ensures same { OnOk result (scope.new ≡ scope.old) }
+    ensures first { Says Source.Module result (known.misused modules.now scope.old (view tree.now)) }
 {
-    let mut left = written;
+    match tree {
+        Expr::Name(name) => used(alloc, scope, name, 0),
+        Expr::Number(_, _) | Expr::Text(_, _) | Expr::Constant(_, _) | Expr::At(_) => Ok(()),
+        Expr::Paren(_, inner) | Expr::Prime(_, inner) | Expr::Field(_, inner, _) => {
+            expression(alloc, modules, scope, inner)
+        }
+        Expr::Listing(_, _, items) => each(alloc, modules, scope, items),
+        Expr::Junction(_, _, items) => each(alloc, modules, scope, items),
+        Expr::Call(name, arguments) => call(alloc, modules, scope, name, arguments),
+        Expr::Index(_, function, arguments) => index(alloc, modules, scope, function, arguments),
+        Expr::Unary(place, prefix, operand) => {
+            let is_known = prefix_known(modules, *prefix);
+            operator(alloc, is_known, *place, prefix_word(*prefix))?;
+            expression(alloc, modules, scope, operand)
+        }
+        Expr::Binary(_, infix, written, first, second) => {
+            expression(alloc, modules, scope, first)?;
+            let is_known = infix_known(modules, *infix);
+            operator(alloc, is_known, written.place, written.word.as_bytes())?;
+            expression(alloc, modules, scope, second)
+        }
+        Expr::Quantified(_, _, groups, body) => bound(alloc, modules, scope, groups, body),
+        Expr::Choose(_, name, set, body) => {
+            new_name(alloc, scope, name)?;
+            expression(alloc, modules, scope, set)?;
+            let mark = scope.len();
+            scope.push(name.word.as_bytes(), 0)?;
+            expression(alloc, modules, scope, body)?;
+            scope.truncate(mark);
+            Ok(())
+        }
+        Expr::If(_, condition, yes, no) => {
+            expression(alloc, modules, scope, condition)?;
+            expression(alloc, modules, scope, yes)?;
+            expression(alloc, modules, scope, no)
+        }
+        Expr::Case(_, arms, other) => match other {
+            None => each_arm(alloc, modules, scope, arms),
+            Some(value) => case(alloc, modules, scope, arms, value),
+        },
+        Expr::Let(_, definitions, body) => within(alloc, modules, scope, definitions, body),
+    }
+}
+
+/// An operator on arguments.
+#[cycle(known)]
+#[tactic(auto, using(crate::proofs::Stacks::count_trees))]
+fn call<'a>(
+    alloc: Global,
+    modules: &Names<'_>,
+    scope: &mut Scope<'a>,
+    name: &Written,
+    arguments: &'a [Expr],
+) -> Result<(), DefsError>
+    ensures same { OnOk result (scope.new ≡ scope.old) }
+    ensures first { Says Source.Module result (or_else (known.used scope.old name.now (length arguments.now)) (known.misused_each modules.now scope.old (trees (map view arguments.now)))) }
+{
+    used(alloc, scope, name, arguments.len())?;
+    each(alloc, modules, scope, arguments)
+}
+
+/// A function at arguments.
+#[cycle(known)]
+fn index<'a>(
+    alloc: Global,
+    modules: &Names<'_>,
+    scope: &mut Scope<'a>,
+    function: &'a Expr,
+    arguments: &'a [Expr],
+) -> Result<(), DefsError>
+    ensures same { OnOk result (scope.new ≡ scope.old) }
+    ensures first { Says Source.Module result (or_else (known.misused modules.now scope.old (view function.now)) (known.misused_each modules.now scope.old (trees (map view arguments.now)))) }
+{
+    expression(alloc, modules, scope, function)?;
+    each(alloc, modules, scope, arguments)
+}
+
+/// A body behind a binder list.
+#[cycle(known)]
+#[tactic(auto, using(crate::proofs::Stacks::cut_back))]
+fn bound<'a>(
+    alloc: Global,
+    modules: &Names<'_>,
+    scope: &mut Scope<'a>,
+    groups: &'a [Binder],
+    body: &'a Expr,
+) -> Result<(), DefsError>
+    ensures same { OnOk result (scope.new ≡ scope.old) }
+    ensures first { Says Source.Module result (or_else (known.misused_sets modules.now scope.old [] (binders (map group_view groups.now))) (known.misused modules.now (scope.old ++ scope_of.plain (scope_of.bound_names (binders (map group_view groups.now)))) (view body.now))) }
+{
+    let mark = scope.len();
+    bind(alloc, modules, scope, groups)?;
+    expression(alloc, modules, scope, body)?;
+    scope.truncate(mark);
+    Ok(())
+}
+
+/// A body behind definitions.
+#[cycle(known)]
+#[tactic(auto, using(crate::proofs::Stacks::cut_back))]
+fn within<'a>(
+    alloc: Global,
+    modules: &Names<'_>,
+    scope: &mut Scope<'a>,
+    items: &'a [Definition],
+    body: &'a Expr,
+) -> Result<(), DefsError>
+    ensures same { OnOk result (scope.new ≡ scope.old) }
+    ensures first { Says Source.Module result (or_else (known.misused_definitions modules.now scope.old (definitions (map definition_view items.now))) (known.misused modules.now (scope.old ++ scope_of.signatures (definitions (map definition_view items.now))) (view body.now))) }
+{
+    let mark = scope.len();
+    define(alloc, modules, scope, items)?;
+    expression(alloc, modules, scope, body)?;
+    scope.truncate(mark);
+    Ok(())
+}
+
+/// Arms, and the value for other cases.
+#[cycle(known)]
+fn case<'a>(
+    alloc: Global,
+    modules: &Names<'_>,
+    scope: &mut Scope<'a>,
+    items: &'a [Arm],
+    other: &'a Expr,
+) -> Result<(), DefsError>
+    ensures same { OnOk result (scope.new ≡ scope.old) }
+    ensures first { Says Source.Module result (or_else (known.misused_arms modules.now scope.old (arms (map choice_view items.now))) (known.misused modules.now scope.old (view other.now))) }
+{
+    each_arm(alloc, modules, scope, items)?;
+    expression(alloc, modules, scope, other)
+}
+
+/// Expressions of which each name is used as it may be.
+#[cycle(known)]
+fn each<'a>(
+    alloc: Global,
+    modules: &Names<'_>,
+    scope: &mut Scope<'a>,
+    items: &'a [Expr],
+) -> Result<(), DefsError>
+    ensures same { OnOk result (scope.new ≡ scope.old) }
+    ensures first { Says Source.Module result (known.misused_each modules.now scope.old (trees (map view items.now))) }
+{
+    let mut left = items;
     while let [first, rest @ ..] = left {
-        bring(alloc, modules, names, first)?;
+        expression(alloc, modules, scope, first)?;
         left = rest;
     }
     Ok(())
 }
 
-/// Names more.
-fn push_all<'a>(names: &mut Names<'a>, written: &'a [Written]) -> Result<(), DefsError>
-    ensures ok { OnOk result (names.new ≡ names.old ++ words written.now) }
-    ensures err { IfErr result (λ e. e.code ≡ Memory) }
+/// Arms of which each name is used as it may be.
+#[cycle(known)]
+fn each_arm<'a>(
+    alloc: Global,
+    modules: &Names<'_>,
+    scope: &mut Scope<'a>,
+    items: &'a [Arm],
+) -> Result<(), DefsError>
+    ensures same { OnOk result (scope.new ≡ scope.old) }
+    ensures first { Says Source.Module result (known.misused_arms modules.now scope.old (arms (map choice_view items.now))) }
 {
-    let mut left = written;
+    let mut left = items;
     while let [first, rest @ ..] = left {
-        names.push(&first.word)?;
+        expression(alloc, modules, scope, &first.guard)?;
+        expression(alloc, modules, scope, &first.value)?;
         left = rest;
     }
     Ok(())
 }
 
-/// The name that is defined.
-fn defined_name<'a>(definition: &'a Definition) -> &'a Written
-    ensures { result.now ≡ known.defined_name (definition_view definition.now) }
+/// The names of a binder list more. Its sets see none of them.
+#[cycle(known)]
+fn bind<'a>(
+    alloc: Global,
+    modules: &Names<'_>,
+    scope: &mut Scope<'a>,
+    groups: &'a [Binder],
+) -> Result<(), DefsError>
+    ensures more { OnOk result (scope.new ≡ scope.old ++ scope_of.plain (scope_of.bound_names (binders (map group_view groups.now)))) }
+    ensures first { Says Source.Module result (known.misused_sets modules.now scope.old [] (binders (map group_view groups.now))) }
+{
+    let mut new = Names::new(alloc);
+    let mut left = groups;
+    while let [first, rest @ ..] = left {
+        bring(alloc, scope, &mut new, &first.names)?;
+        expression(alloc, modules, scope, &first.set)?;
+        left = rest;
+    }
+    scope.push_names(&new)
+}
+
+/// The definition of a function.
+#[cycle(known)]
+fn function<'a>(
+    alloc: Global,
+    modules: &Names<'_>,
+    scope: &mut Scope<'a>,
+    name: &'a Written,
+    groups: &'a [Binder],
+    body: &'a Expr,
+) -> Result<(), DefsError>
+    ensures more { OnOk result (scope.new ≡ scope.old ++ (name.now.word, 0) ∷ []) }
+    ensures first { Says Source.Module result (or_else (known.new_name scope.old name.now) (or_else (known.misused_sets modules.now scope.old [] (binders (map group_view groups.now))) (known.misused modules.now (scope.old ++ scope_of.plain (scope_of.bound_names (binders (map group_view groups.now)))) (view body.now)))) }
+{
+    new_name(alloc, scope, name)?;
+    bound(alloc, modules, scope, groups, body)?;
+    scope.push(name.word.as_bytes(), 0)
+}
+
+/// A definition of which each name is used as it may be.
+#[cycle(known)]
+pub(crate) fn definition<'a>(
+    alloc: Global,
+    modules: &Names<'_>,
+    scope: &mut Scope<'a>,
+    definition: &'a Definition,
+) -> Result<(), DefsError>
+    ensures more { OnOk result (scope.new ≡ scope.old ++ scope_of.signature (definition_view definition.now) ∷ []) }
+    ensures first { Says Source.Module result (known.misused_definition modules.now scope.old (definition_view definition.now)) }
 {
     match definition {
-        Definition::Operator(name, _, _) | Definition::Function(name, _, _) => name,
+        Definition::Operator(name, parameters, body) => {
+            let mark = scope.len();
+            new_name(alloc, scope, name)?;
+            new_names(alloc, scope, parameters)?;
+            scope.push_all(parameters)?;
+            expression(alloc, modules, scope, body)?;
+            scope.truncate(mark);
+            scope.push(name.word.as_bytes(), parameters.len())
+        }
+        Definition::Function(name, groups, body) => {
+            function(alloc, modules, scope, name, groups, body)
+        }
     }
 }
 
-/// The refusal of a unit that has no meaning for a model yet, by its first word.
-fn left_out(alloc: Global, place: Place, word: &[u8]) -> DefsError
-    ensures { result.code ≢ Memory → refusal_for (known.left_out place word.now) ≡ Some result }
+/// Definitions more, each of which sees those before it.
+#[cycle(known)]
+fn define<'a>(
+    alloc: Global,
+    modules: &Names<'_>,
+    scope: &mut Scope<'a>,
+    items: &'a [Definition],
+) -> Result<(), DefsError>
+    ensures more { OnOk result (scope.new ≡ scope.old ++ scope_of.signatures (definitions (map definition_view items.now))) }
+    ensures first { Says Source.Module result (known.misused_definitions modules.now scope.old (definitions (map definition_view items.now))) }
 {
-    let mention = Mention { place, word };
-    refusal_of(alloc, DefsCode::UnknownName, Source::Module, mention)
-}
-
-/// What one unit more brings in.
-fn bring_unit<'a>(alloc: Global, brought: &mut Brought<'a>, unit: &'a Unit) -> Result<(), DefsError>
-    ensures known { OnOk result ((us : List UnitTree) → known.misuse_from brought.old.modules brought.old.names brought.old.variables (unit_view unit.now ∷ us) ≡ known.misuse_from brought.new.modules brought.new.names brought.new.variables us) }
-    ensures variables { OnOk result (brought.new.variables ≡ brought.old.variables ++ known.declared (unit_view unit.now)) }
-    ensures err { IfErr result (λ e. e.code ≢ Memory → (us : List UnitTree) → refusal_for (known.misuse_from brought.old.modules brought.old.names brought.old.variables (unit_view unit.now ∷ us)) ≡ Some e) }
-{
-    match unit {
-        Unit::Separator(_) | Unit::Theorem(_, _, _) => Ok(()),
-        Unit::Extends(_, modules) => push_all(&mut brought.modules, modules),
-        Unit::Variables(_, names) => {
-            bring_all(alloc, &brought.modules, &mut brought.names, names)?;
-            push_all(&mut brought.variables, names)
-        }
-        Unit::Operator(name, body) => {
-            bring(alloc, &brought.modules, &mut brought.names, name)?;
-            match unknown(body, &brought.modules, &brought.variables) {
-                None => Ok(()),
-                Some(found) => {
-                    Err(refusal_of(alloc, DefsCode::UnknownName, Source::Module, found))
-                }
-            }
-        }
-        Unit::Defines(definition) => {
-            let name = Mention::of(defined_name(definition));
-            Err(refusal_of(alloc, DefsCode::UnknownName, Source::Module, name))
-        }
-        Unit::Local(place, _) => Err(left_out(alloc, *place, b"LOCAL")),
-        Unit::Constants(place, _) => Err(left_out(alloc, *place, b"CONSTANT")),
-        Unit::Assume(place, _, _) => Err(left_out(alloc, *place, b"ASSUME")),
-    }
-}
-
-/// The variables of a module, each of whose names is brought in once and known where it is used.
-pub(crate) fn variables<'a>(alloc: Global, units: &'a [Unit]) -> Result<Names<'a>, DefsError>
-    ensures known { OnOk result (known.misuse (map unit_view units.now) ≡ None) }
-    ensures variables { IfOk result (λ vs. vs ≡ known.variables_of (map unit_view units.now)) }
-    ensures err { IfErr result (λ e. e.code ≢ Memory → refusal_for (known.misuse (map unit_view units.now)) ≡ Some e) }
-{
-    let mut brought = Brought {
-        modules: Names::new(alloc),
-        names: Names::new(alloc),
-        variables: Names::new(alloc),
-    };
-    let mut left = units;
+    let mut left = items;
     while let [first, rest @ ..] = left {
-        bring_unit(alloc, &mut brought, first)?;
+        definition(alloc, modules, scope, first)?;
         left = rest;
     }
-    Ok(brought.variables)
+    Ok(())
 }

@@ -2,6 +2,7 @@
 
 ghost use Rattle.tla_defs.specs.Laws.{OnlyModel, NoneRefused, IsAlwaysSound};
 ghost use Rattle.tla_defs.specs.Rows.{CounterOfThree, CounterOfFive, BoundedSteps, BoundedStepsMayEnd, LargestNumber};
+ghost use Rattle.tla_defs.specs.NamedRows.{WithParameter, WithLet, WithoutCapture};
 
 /// A module and a configuration name at most one model.
 pub fn one_model()
@@ -25,4 +26,7 @@ pub fn models()
     ensures bounded_steps { BoundedSteps }
     ensures bounded_steps_may_end { BoundedStepsMayEnd }
     ensures largest_number { LargestNumber }
+    ensures with_parameter { WithParameter }
+    ensures with_let { WithLet }
+    ensures without_capture { WithoutCapture }
 {}

@@ -6,19 +6,17 @@
 
 mod behaviour;
 mod builder;
-mod expand;
-mod expanded;
-mod failure;
+mod constants;
 mod formula;
+mod global;
 mod known;
 pub mod laws;
 mod left_out;
-mod level;
 mod mention;
 mod names;
-mod nodes;
-mod primes;
 mod refusal;
+mod scope;
+mod units;
 
 pub use builder::build;
 pub use tla_config::{Config, DefsCode, DefsError, Source, parse_config};

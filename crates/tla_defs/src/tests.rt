@@ -77,6 +77,11 @@ fn models(rt: HostRuntime) -> Result<(), Fail> {
             "INIT Init NEXT Next CHECK_DEADLOCK FALSE",
             "x 4:9 5:9 D-",
         ),
+        (
+            "F(y) == LET G == y + 1 IN G\nInit == x = 0\nNext == x' = F(F(x))\nASSUME A == F(1) = 2",
+            "INIT Init NEXT Next INVARIANT A",
+            "x 5:9 6:9 A 7:13 D+",
+        ),
     ];
     for (definitions, config, model) in rows {
         let got = answer(rt.alloc(), definitions, config)?;
@@ -115,9 +120,69 @@ fn refusals(rt: HostRuntime) -> Result<(), Fail> {
             "C5 5:9",
         ),
         (
-            "Init == x = 0\nNext == (x' + x'')' = x\nInv == x = 0",
+            "F(y) == y + 1\nInit == x = F(0)\nNext == x' = F(x)\nInv == x < 3",
+            "INIT Init\nNEXT Next\nINVARIANT F\n",
+            "C4 3:11 F",
+        ),
+        (
+            "F(y) == y + 1\nInit == x = F(0)\nNext == x' = F(x, 1)\nInv == x < 3",
             names,
-            "C5 5:15",
+            "C4 6:14 F",
+        ),
+        (
+            "F(y) == y + 1\nInit == x = F\nNext == x' = F(x)\nInv == x < 3",
+            names,
+            "C4 5:13 F",
+        ),
+        (
+            "F(x) == x + 1\nInit == x = 0\nNext == x' = x\nInv == x < 3",
+            names,
+            "C3 4:3 x",
+        ),
+        (
+            "Init == x = 0\nNext == \\E y \\in {1, y} : x' = y\nInv == x < 3",
+            names,
+            "C2 5:22 y",
+        ),
+        (
+            "Init == x = 0\nNext == \\E y, y \\in {1} : x' = y\nInv == x < 3",
+            names,
+            "C3 5:15 y",
+        ),
+        (
+            "Init == x = 0\nNext == LET F(a) == G(a) G(b) == b IN x' = F(x)\nInv == x < 3",
+            names,
+            "C2 5:21 G",
+        ),
+        (
+            "CONSTANT A\nInit == x = 0\nNext == x' = x\nInv == x = 0",
+            names,
+            "C6 4:10 A",
+        ),
+        (
+            "CONSTANT A, x\nInit == x = 0\nNext == x' = x\nInv == x = 0",
+            names,
+            "C3 4:13 x",
+        ),
+        (
+            "CONSTANT F(_)\nInit == x = F\nNext == x' = x\nInv == x = 0",
+            names,
+            "C4 5:13 F",
+        ),
+        (
+            "Init == x = 0\nNext == x' = Later\nLater == 1\nInv == x = 0",
+            names,
+            "C2 5:14 Later",
+        ),
+        (
+            "Init == x = 0\nNext == x' = x\nInv == CHOOSE x \\in {1} : TRUE",
+            names,
+            "C3 6:15 x",
+        ),
+        (
+            "Init == x = 0\nNext == x' = x\nInv == x' = 0\nASSUME 1 < 2\nASSUME A == x = 1",
+            names,
+            "C5 8:13",
         ),
         (
             "Init == x = 0\nNext == x' = x\nInv == x = 0",

@@ -2,7 +2,6 @@ use Rattle.std.proofs.Common.{map}
 use Rattle.tla_model.specs.Models.{model_of}
 use Rattle.tla_parse.specs.UnitsView.{unit_view}
 use Rattle.tla_defs.proofs.Locating.{refused_located}
-use Rattle.tla_defs.proofs.Nones.{refusal_stops}
 use Rattle.tla_defs.proofs.Unique.{one_model}
 use Rattle.tla_defs.proofs.builder.build.Goals as goal
 
@@ -15,10 +14,11 @@ pub returns-in_default : goal.returns-in_default
 returns-in_default c =
     let us = map unit_view c.args.module.now.units.items in
     let r = rw c.as_slice.ensures.value at c.in-Err.ensures.refused in
+    let none = rw c.as_slice.ensures.value at c.in-Err.ensures.none in
     record {
       found = tt;
       only = tt;
       refused = r;
-      none = λ h n m. refusal_stops us c.args.config.now c.in-Err.e (r h) n m;
+      none = none;
       located = refused_located us c.args.config.now c.in-Err.e (r c.in_default.not-Memory);
     }

@@ -1,5 +1,4 @@
 use Rattle.std.proofs.Common.{◌∙◌, ◌++◌, ◌∷◌, [], ap, map}
-use Rattle.tla_eval.specs.ExprOf.{expr_of}
 use Rattle.tla_model.specs.ModelOf.{invariant_of}
 use Rattle.tla_parse.specs.UnitsView.{unit_view}
 use Rattle.tla_defs.specs.Formulas.{names_of}

@@ -1,4 +1,5 @@
 use Rattle.tla_defs.proofs.Worked as worked
+use Rattle.tla_defs.proofs.NamedWorked as named
 use Rattle.tla_defs.proofs.laws.models.Goals as goal
 
 pub returns-clause-counter_of_three : goal.returns-clause-counter_of_three
@@ -15,3 +16,12 @@ returns-clause-bounded_steps_may_end c = worked.bounded_steps_may_end
 
 pub returns-clause-largest_number : goal.returns-clause-largest_number
 returns-clause-largest_number c = worked.largest_number
+
+pub returns-clause-with_parameter : goal.returns-clause-with_parameter
+returns-clause-with_parameter c = named.with_parameter
+
+pub returns-clause-with_let : goal.returns-clause-with_let
+returns-clause-with_let c = named.with_let
+
+pub returns-clause-without_capture : goal.returns-clause-without_capture
+returns-clause-without_capture c = named.without_capture
