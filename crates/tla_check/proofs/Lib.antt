@@ -4,7 +4,7 @@ pub mod LineLemmas
 pub mod InputLemmas
 mod Lines
 mod Joins
-pub mod NamesFit
+pub mod Told
 pub mod Named
 pub mod Stopped
 pub mod NamesIn

@@ -19,30 +19,22 @@ use Rattle.tla_config.specs.declared.error.DefsError.{DefsError}
 use Rattle.tla_config.specs.declared.error.Source.{Source}
 use Rattle.tla_config.specs.declared.error.Source.TheVariants.{Module, Configuration}
 use Rattle.tla_defs.specs.Model.{IsModel}
-use Rattle.tla_defs.specs.Refused.{refused}
+use Rattle.tla_defs.specs.Refused as defs
 use Rattle.tla_model.specs.ModelTree.{ModelTree}
 use Rattle.tla_check.specs.declared.checked.RefusalCode.{RefusalCode}
 use Rattle.tla_check.specs.declared.checked.RefusalCode.TheVariants.{FormLeftOut}
 use Rattle.tla_check.specs.declared.checked.Checked.{Checked}
 use Rattle.tla_check.specs.declared.checked.Checked.TheVariants.{Answered, Refused, NoMemory, NoWorker}
 use Rattle.tla_check.specs.CarriesOver.{CarriesOver, EndsBy, lex_code, parse_code, defs_code}
+use Rattle.tla_check.proofs.Told.{not-lex-memory, not-memory}
 use Rattle.tla_check.specs.Checks.{IsTreeOf, of_tokens, of_module, of_configuration, of_model, IsStopped, IsFound, IsChecked, NameNone, NameOnly}
-
-none-some : (code : RefusalCode) → (let o : Option RefusalCode = None in o ≡ Some code) → ⊥
-none-some code e = cc
-
-not-lex-memory : (code : LexCode) (told : RefusalCode) → lex_code code ≡ Some told → code ≢ lex.NoMemory
-not-lex-memory code told e m = none-some told (sym (ap lex_code m) ∙ e)
-
-not-memory : (code : DefsCode) (told : RefusalCode) → defs_code code ≡ Some told → code ≢ Memory
-not-memory code told e m = none-some told (sym (ap defs_code m) ∙ e)
 
 module _ (text config : List ℕ) where
   pub stopped-tokens : (e : LexError) (checked : Checked) → (IsFirstFault text e ⊎ (e ≡ no_memory)) → (e.code ≢ lex.NoMemory → NoTokens text)
       → EndsBy Module (lex_code e.code) e.place None checked → IsStopped text config checked
   stopped-tokens e (Answered a) why none ends = absurd ends
   stopped-tokens e (Refused r) why none ends = record {
-    stage = ⊎_elim (λ first. of_tokens e first ends) (λ m. absurd (none-some r.code (sym (ap (λ (x : LexError). lex_code x.code) m) ∙ ends.code))) why;
+    stage = ⊎_elim (λ first. of_tokens e first ends) (λ m. absurd (not-lex-memory e.code r.code ends.code (ap (λ (x : LexError). x.code) m))) why;
     none = λ other m named. none (not-lex-memory e.code r.code ends.code) named.tree.tokens named.tree.are;
   }
   stopped-tokens e NoMemory why none ends = tt
@@ -69,7 +61,7 @@ module _ (text config : List ℕ) where
   stopped-configuration units e NoWorker tree none why source ends = absurd ends
 
   pub stopped-model : (units : List UnitTree) (c : ConfigTree) (e : DefsError) (checked : Checked) → IsTreeOf text units → IsConfiguration config c.statements
-      → c.end ≡ place_at config (length config) → (e.code ≢ Memory → refused units c ≡ Some e) → (e.code ≢ Memory → (m : ModelTree) → IsModel units c.statements m → ⊥)
+      → c.end ≡ place_at config (length config) → (e.code ≢ Memory → defs.IsRefusal units c e) → (e.code ≢ Memory → (m : ModelTree) → IsModel units c.statements m → ⊥)
       → (((m : ModelTree) → IsModel units c.statements m → ⊥) → NameNone text config)
       → EndsBy e.source (defs_code e.code) e.place e.name checked → IsStopped text config checked
   stopped-model units c e (Answered a) tree is end why none names ends = absurd ends

@@ -1,5 +1,5 @@
 -- How a refusal of a stage is told: under the same code and name, at the same place. (This project's own choice.)
-use Rattle.std.specs.Prelude.{◌≡◌, ℕ, List, Option, Some, None, option_map, is_some, ⊤}
+use Rattle.std.specs.Prelude.{◌≡◌, ℕ, List, Option, Some, None, option_map, is_some, IsSome, ⊤}
 use Rattle.tla_lex.specs.declared.error.LexCode.{LexCode}
 use Rattle.tla_lex.specs.declared.error.LexCode.TheVariants as lex
 use Rattle.tla_lex.specs.declared.token.Place as text
@@ -49,10 +49,10 @@ defs_code defs.StatementLeftOut = Some refusal.StatementLeftOut
 defs_code defs.ExpansionTooLarge = Some refusal.ExpansionTooLarge
 defs_code defs.Memory = None
 
--- a code comes with a name exactly where the report prints one
-abbrev pub FitsName : Option RefusalCode → Option (List ℕ) → Type 0
-FitsName None name = ⊤
-FitsName (Some code) name = is_some name ≡ is_named_code code
+-- a refusal that is told has a place, and a name exactly where the report prints one
+abbrev pub IsTold : Option RefusalCode → Option text.Place → Option (List ℕ) → Type 0
+IsTold None place name = ⊤
+IsTold (Some code) place name = IsSome place × (is_some name ≡ is_named_code code)
 
 abbrev pub place_of : text.Place → Place
 place_of p = record { line = p.line; column = p.column }
@@ -64,9 +64,9 @@ pub record CarriesOver (of : Source) (under : Option RefusalCode) (at : Option t
   pub place : option_map place_of at ≡ Some r.place
   pub name : r.name ≡ word
 
--- a stage's refusal ends the check; want of memory says nothing
+-- a stage's refusal ends the check; want of memory is answered only where the stage answered it
 abbrev pub EndsBy : Source → Option RefusalCode → Option text.Place → Option (List ℕ) → Checked → Type 0
 EndsBy source code place name (Answered a) = ⊥
 EndsBy source code place name (Refused r) = CarriesOver source code place name r
-EndsBy source code place name NoMemory = ⊤
+EndsBy source code place name NoMemory = code ≡ None
 EndsBy source code place name NoWorker = ⊥

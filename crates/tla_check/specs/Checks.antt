@@ -14,7 +14,7 @@ use Rattle.tla_config.specs.View.{ConfigTree}
 use Rattle.tla_config.specs.declared.error.DefsError.{DefsError}
 use Rattle.tla_config.specs.declared.error.Source.TheVariants.{Module, Configuration}
 use Rattle.tla_defs.specs.Model.{IsModel}
-use Rattle.tla_defs.specs.Refused.{refused}
+use Rattle.tla_defs.specs.Refused as defs
 use Rattle.tla_levels.specs.Meaning.{IsWithinLimit, SaysExactly}
 use Rattle.tla_model.specs.ModelTree.{ModelTree}
 use Rattle.tla_eval.specs.Expr.{Expr}
@@ -63,7 +63,7 @@ pub data IsRefusal (text config : List ℕ) (r : Refusal) : Type 0 where
       → Explains config e.code e.place e.name → CarriesOver Configuration (defs_code e.code) e.place e.name r → IsRefusal text config r
   -- module and configuration name no model
   of_model : (units : List UnitTree) (c : ConfigTree) (e : DefsError) → IsTreeOf text units → IsConfiguration config c.statements
-      → c.end ≡ place_at config (length config) → refused units c ≡ Some e → ((m : ModelTree) → IsModel units c.statements m → ⊥)
+      → c.end ≡ place_at config (length config) → defs.IsRefusal units c e → ((m : ModelTree) → IsModel units c.statements m → ⊥)
       → CarriesOver e.source (defs_code e.code) e.place e.name r → IsRefusal text config r
 
 -- The texts are refused by the first stage that refuses them, and name no model. For a form that is left out, only that it

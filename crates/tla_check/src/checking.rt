@@ -1,12 +1,11 @@
 //! A check, from two texts to its answer.
-ghost use Rattle.std.specs.Prelude.{◌≡◌, IfOk, IfErr, IfSome, None, Some, is_some, map};
-ghost use Rattle.tla_parse.specs.Parsing.{IsLocated};
+ghost use Rattle.std.specs.Prelude.{◌≡◌, IfOk, IfErr, IsSome, None, Some, is_some, map};
 ghost use Rattle.tla_config.specs.declared.error.Source.TheVariants as source;
 ghost use Rattle.tla_model.specs.ModelOf.{invariant_of};
 ghost use Rattle.tla_model.specs.Models.{model_of};
 ghost use Rattle.counted_writer.specs.Puts.{AddsFirst};
 ghost use Rattle.std.specs.Io.KnownBytes.{Appends};
-ghost use Rattle.tla_check.specs.CarriesOver.{EndsBy, FitsName, defs_code, lex_code, parse_code};
+ghost use Rattle.tla_check.specs.CarriesOver.{EndsBy, IsTold, defs_code, lex_code, parse_code};
 ghost use Rattle.tla_check.specs.Checks.{IsChecked, IsFound, IsStopped, NameOnly, names_in};
 ghost use Rattle.tla_check.specs.Codes.{is_named_code};
 ghost use Rattle.tla_check.specs.Report.{report};
@@ -14,7 +13,7 @@ ghost use Rattle.tla_check.specs.Status.{status_of};
 ghost use Rattle.tla_check.specs.declared.checked.Checked.{Checked};
 
 use crate::carried::{defs_code, lex_code, parse_code};
-use crate::checked::{Answered, Checked, Names, Refusal, RefusalCode};
+use crate::checked::{Answered, Checked, Names, Refusal, RefusalCode, RefusalName};
 use crate::report::{WriteFault, write_report};
 use std::alloc::Global;
 use std::io::Write;
@@ -68,6 +67,7 @@ fn read_model(alloc: Global, module: &[u8], config: &[u8]) -> Result<Model, Chec
 }
 
 fn stopped_by_tokens(error: LexError) -> Checked
+    requires { IsTold (lex_code error.code) error.place None }
     ensures { EndsBy source.Module (lex_code error.code) error.place None result }
 {
     match lex_code(error.code) {
@@ -77,62 +77,65 @@ fn stopped_by_tokens(error: LexError) -> Checked
 }
 
 fn stopped_by_module(error: ParseError) -> Checked
-    requires { IsLocated error.code error.place error.name }
+    requires { IsTold (parse_code error.code) error.place error.name }
     ensures { EndsBy source.Module (parse_code error.code) error.place error.name result }
 {
-    let Some(code) = parse_code(error.code) else {
-        return Checked::NoMemory;
-    };
-    match name_of(error.name) {
-        Some(name) => refused(Source::Module, code, error.place, name),
+    match parse_code(error.code) {
+        Some(code) => refused(Source::Module, code, error.place, name_of_word(error.name)),
         None => Checked::NoMemory,
     }
 }
 
 fn stopped_by_definitions(error: DefsError) -> Checked
-    requires { FitsName (defs_code error.code) error.name }
+    requires { IsTold (defs_code error.code) error.place error.name }
     ensures { EndsBy error.source (defs_code error.code) error.place error.name result }
 {
     match defs_code(error.code) {
-        Some(code) => refused(error.source, code, error.place, error.name),
+        Some(code) => refused(error.source, code, error.place, name_of_text(error.name)),
         None => Checked::NoMemory,
     }
 }
 
-/// The refusal of a text. Want of memory alone has no place.
+/// The refusal of a text.
 fn refused(
     source: Source,
     code: RefusalCode,
     place: Option<tla_lex::Place>,
-    name: Option<Text>,
+    name: Option<RefusalName>,
 ) -> Checked
-    requires { is_some name ≡ is_named_code code }
+    requires place { IsSome place }
+    requires name { is_some name ≡ is_named_code code }
     ensures { EndsBy source (Some code) place name result }
 {
-    match place {
-        Some(place) => Checked::Refused(Refusal {
-            source,
-            code,
-            place: Place {
-                line: place.line,
-                column: place.column,
-            },
-            name,
-        }),
-        None => Checked::NoMemory,
+    let Some(place) = place else {
+        unreachable!();
+    };
+    Checked::Refused(Refusal {
+        source,
+        code,
+        place: Place {
+            line: place.line,
+            column: place.column,
+        },
+        name,
+    })
+}
+
+fn name_of_word(word: Option<Word>) -> Option<RefusalName>
+    ensures { result ≡ word }
+{
+    match word {
+        Some(word) => Some(RefusalName::new(word.into_bytes())),
+        None => None,
     }
 }
 
-/// The text of a word, where memory is had. Each word of a token is UTF-8.
-fn name_of(word: Option<Word>) -> Option<Option<Text>>
-    ensures { IfSome result (λ name. name ≡ word) }
+fn name_of_text(text: Option<Text>) -> Option<RefusalName>
+    ensures { result ≡ text }
 {
-    let Some(word) = word else {
-        return Some(None);
-    };
-    match String::from_utf8(word.into_bytes()) {
-        Ok(name) => Some(Some(Text::new(name))),
-        Err(_) => None,
+    match text {
+        Some(text) => Some(RefusalName::new(text.into_string().into_bytes())),
+        None => None,
     }
 }
 

@@ -9,7 +9,7 @@ mod line;
 mod report;
 mod status;
 
-pub use checked::{Answered, Checked, Names, Refusal, RefusalCode};
+pub use checked::{Answered, Checked, Names, Refusal, RefusalCode, RefusalName};
 pub use checking::{check, check_and_report};
 pub use input::{ReadFault, read_whole};
 pub use line::{Line, LineFault, read_line};

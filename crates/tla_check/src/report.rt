@@ -198,7 +198,7 @@ fn put_refusal<W: Write>(refusal: &Refusal, out: &mut W) -> Result<u64, ShortWri
         Some(name) => {
             let pieces = [
                 Piece::Text(": "),
-                Piece::Text(name.as_str()),
+                Piece::Bytes(name.as_bytes()),
                 Piece::Text("."),
             ];
             put_line(&pieces, out, written)
@@ -296,6 +296,7 @@ fn put_counts<W: Write>(counts: Counts, out: &mut W, written: u64) -> Result<u64
 #[derive(Clone, Copy)]
 enum Piece<'a> {
     Text(&'a str),
+    Bytes(&'a [u8]),
     Number(u128),
     Value(&'a Value),
 }
@@ -326,6 +327,7 @@ fn put_piece<W: Write>(piece: &Piece<'_>, out: &mut W, written: u64) -> Result<u
 {
     match piece {
         Piece::Text(text) => put(out, written, text.as_bytes()),
+        Piece::Bytes(bytes) => put(out, written, bytes),
         Piece::Number(number) => put_number(out, written, *number),
         Piece::Value(value) => value.put_text(out, written),
     }

@@ -109,9 +109,10 @@ fn tells_faults(rt: HostRuntime) -> Result<(), Fail> {
 
 #[test]
 fn refuses_words(rt: HostRuntime) {
-    let cases: [&[&str]; 6] = [
+    let cases: [&[&str]; 7] = [
         &[],
         &["tlacheck"],
+        &["tlacheck", "M.tla"],
         &["tlacheck", "M.tla", "M.cfg", "more"],
         &["tlacheck", "M.tla", "M.cfg", "--depth", "3"],
         &["tlacheck", "M.tla", "M.cfg", "--workers"],

@@ -181,7 +181,7 @@ fn reports_of_refusals(rt: HostRuntime) -> Result<(), Fail> {
         source: Source::Configuration,
         code: RefusalCode::StatementLeftOut,
         place: Place { line: 3, column: 1 },
-        name: Some(Text::new(String::from_str(alloc, "PROPERTY")?)),
+        name: Some(RefusalName::new(String::from_str(alloc, "PROPERTY")?.into_bytes())),
     };
     let report = "Configuration refused: C10 at line 3, column 1: PROPERTY.\n";
     assert_report(&rt, alloc, &Checked::Refused(refusal), 20, report);

@@ -5,7 +5,23 @@ use Rattle.tla_parse.specs.UnitsView.{unit_view}
 use Rattle.tla_model.specs.Models.{model_of}
 use Rattle.tla_check.proofs.Named.{none-by-module, none-by-model, named-only}
 use Rattle.tla_check.proofs.Stopped.{stopped-tokens, stopped-module, stopped-configuration, stopped-model}
+use Rattle.tla_check.proofs.Told.{lex-told, parse-told, defs-told}
 use Rattle.tla_check.proofs.checking.read_model.Goals as goal
+
+pub stopped_by_tokens-requires : goal.stopped_by_tokens-requires
+stopped_by_tokens-requires c = lex-told c.in-Err.error.code c.in-Err.error.place c.in-Err.ensures.placed
+
+pub stopped_by_module-requires : goal.stopped_by_module-requires
+stopped_by_module-requires c =
+    parse-told c.in-Err-parse_module.error.code c.in-Err-parse_module.error.place c.in-Err-parse_module.error.name c.in-Err-parse_module.ensures.located
+
+pub stopped_by_definitions-requires : goal.stopped_by_definitions-requires
+stopped_by_definitions-requires c =
+    defs-told c.in-Err-parse_config.error.code c.in-Err-parse_config.error.place c.in-Err-parse_config.error.name c.in-Err-parse_config.ensures.located
+
+pub stopped_by_definitions-requires-in-Err-build : goal.stopped_by_definitions-requires-in-Err-build
+stopped_by_definitions-requires-in-Err-build c =
+    defs-told c.in-Err-build.error.code c.in-Err-build.error.place c.in-Err-build.error.name c.in-Err-build.ensures.located
 
 pub returns-in-Err-clause-stopped : goal.returns-in-Err-clause-stopped
 returns-in-Err-clause-stopped c =

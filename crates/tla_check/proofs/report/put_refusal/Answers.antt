@@ -29,4 +29,4 @@ pub returns-in-Some : goal.returns-in-Some
 returns-in-Some g c =
     let r = c.args.refusal.now in
     let joined = refusal_joins (source_text r.source) (codes " refused: ") (refusal_code r.code) (place_text r.place) (ending r.name) (codes "\n") in
-    rw (joined, c.in-Some.is, ← c.source_name.ensures, ← c.refusal_code_text.ensures, ← c.as_str.ensures.bytes) (puts_then (puts_then c.in_ok-written.ensures c.in_ok-written-2.ensures) c.put_line.ensures)
+    rw (joined, c.in-Some.is, ← c.source_name.ensures, ← c.refusal_code_text.ensures, ← c.as_bytes.ensures) (puts_then (puts_then c.in_ok-written.ensures c.in_ok-written-2.ensures) c.put_line.ensures)
