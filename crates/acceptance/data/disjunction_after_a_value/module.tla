@@ -1,0 +1,7 @@
+---- MODULE M ----
+EXTENDS Integers
+VARIABLE x
+Init == x = 0
+Next == x' = 1 /\ (x' = 2 \/ x' = 1)
+Inv == x = 0
+====
