@@ -23,4 +23,6 @@ pub use fault::{Fault, FaultCode, Place};
 pub use partial::Partial;
 
 #[cfg(test)]
+mod depth_tests;
+#[cfg(test)]
 mod tests;
