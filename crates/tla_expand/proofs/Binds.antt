@@ -8,7 +8,8 @@ use Rattle.tla_expand.specs.declared.arena.Entry.{Entry}
 use Rattle.tla_expand.specs.declared.arena.What.TheVariants.{Definition}
 use Rattle.tla_eval.specs.declared.fault.Place.{Place}
 use Rattle.tla_parse.specs.View.{view}
-use Rattle.tla_expand.specs.Expand.{Scope, Argument, Meaning, with_parameters, with_name, parameter, expand}
+use Rattle.tla_expand.specs.Meanings.{Scope, Argument, Meaning, with_parameters, with_name, parameter}
+use Rattle.tla_expand.specs.Expand.{expand}
 use Rattle.tla_expand.specs.Scopes.{entry_scope, scope_at, meaning_of, Extends, arguments_in}
 use Rattle.tla_expand.proofs.Links.{scope_keep}
 

@@ -1,14 +1,18 @@
 -- Scopes stay as entries are added.
-use Rattle.std.proofs.Common.{◌≡◌, ℕ, suc, zero, ◌==◌, true, false, ◌+◌, ◌≤◌, ◌<◌, List, [], ◌∷◌, ◌++◌, length, get_or, take, refl, ap, sym, ◌∙◌, arith, Some, None, length-append, append_assoc, add-one}
+use Rattle.std.proofs.Common.{◌≡◌, ℕ, suc, zero, ◌==◌, true, false, ◌+◌, ◌≤◌, ◌<◌, List, [], ◌∷◌, ◌++◌, length, get_or, take, map, refl, ap, sym, ◌∙◌, arith, Some, None, length-append, append_assoc, add-one}
 use Rattle.std.proofs.Math.ListN.{get_or-append}
 use Rattle.std.proofs.Math.Seq.{get_or-append_seam}
 use Rattle.std.specs.Str.{bytes_eq}
 use Rattle.tla_expand.specs.Places.{Name}
 use Rattle.tla_expand.specs.declared.arena.Entry.{Entry}
 use Rattle.tla_expand.specs.declared.arena.What.{What}
-use Rattle.tla_expand.specs.declared.arena.What.TheVariants.{Bound, Variable, Value, Argument, Definition, Unknown}
-use Rattle.tla_expand.specs.Expand.{Scope, standard, with_name, unknown, bound_name, variable, value_name, parameter, operator, expand}
-use Rattle.tla_parse.specs.View.{view}
+use Rattle.tla_expand.specs.declared.arena.What.TheVariants.{Bound, Variable, Value, Argument, Definition, Function}
+use Rattle.tla_expand.specs.Meanings.{Scope, standard, with_name, bound_name, variable, value_name, parameter, operator}
+use Rattle.tla_expand.specs.declared.nodes.Gather.TheVariants as gathers
+use Rattle.tla_expand.specs.Bound.{gathered}
+use Rattle.tla_expand.specs.Expand.{expand, binds_of}
+use Rattle.tla_parse.specs.Tree.{binders}
+use Rattle.tla_parse.specs.View.{view, group_view}
 use Rattle.tla_expand.specs.Scopes.{meaning_of, at_of, entry_scope, grow, scope_at, IsBelow, LinkedFrom, AreLinked, Extends}
 
 pub agree : (at at2 : ℕ → Scope) (n : ℕ) (w : What) (rest : ℕ) (x : Name) → ((r : ℕ) → r ≤ n → at r ≡ at2 r) → IsBelow n w rest
@@ -16,7 +20,8 @@ pub agree : (at at2 : ℕ → Scope) (n : ℕ) (w : What) (rest : ℕ) (x : Name
 agree at at2 n (Bound i) rest x h b = ap (λ (σ : Scope). with_name x (bound_name i) σ) (h rest b)
 agree at at2 n (Variable i) rest x h b = ap (λ (σ : Scope). with_name x (variable i) σ) (h rest b)
 agree at at2 n (Value v) rest x h b = ap (λ (σ : Scope). with_name x (value_name v.now) σ) (h rest b)
-agree at at2 n Unknown rest x h b = ap (λ (σ : Scope). with_name x unknown σ) (h rest b)
+agree at at2 n (Function p bs body) rest x h b =
+    ap (λ (σ : Scope). with_name x (parameter (gathered gathers.Function p (binds_of (binders (map group_view bs.now)) σ) (expand (view body.now)) σ)) σ) (h rest b)
 agree at at2 n (Argument t s) rest x h b =
     ap (λ (σ : Scope). with_name x (parameter (expand (view t.now) σ)) (at rest)) (h s b.0)
     ∙ ap (λ (σ : Scope). with_name x (parameter (expand (view t.now) (at2 s))) σ) (h rest b.1)
@@ -99,7 +104,7 @@ pub below_rest : (n : ℕ) (w : What) (rest : ℕ) → IsBelow n w rest → rest
 below_rest n (Bound i) rest b = b
 below_rest n (Variable i) rest b = b
 below_rest n (Value v) rest b = b
-below_rest n Unknown rest b = b
+below_rest n (Function p bs body) rest b = b
 below_rest n (Argument t s) rest b = b.1
 below_rest n (Definition xs body) rest b = b
 
@@ -107,7 +112,7 @@ pub below_more : (n m : ℕ) (w : What) (rest : ℕ) → n ≤ m → IsBelow n w
 below_more n m (Bound i) rest h b = omega arith
 below_more n m (Variable i) rest h b = omega arith
 below_more n m (Value v) rest h b = omega arith
-below_more n m Unknown rest h b = omega arith
+below_more n m (Function p bs body) rest h b = omega arith
 below_more n m (Argument t s) rest h b = (omega (arith, b.0), omega (arith, b.1))
 below_more n m (Definition xs body) rest h b = omega arith
 

@@ -1,7 +1,7 @@
 -- The scope that the names known so far make.
 use Rattle.std.specs.Prelude.{length}
 use Rattle.tla_expand.specs.declared.scopes.Scopes.{Scopes}
-use Rattle.tla_expand.specs.Expand.{Scope}
+use Rattle.tla_expand.specs.Meanings.{Scope}
 use Rattle.tla_expand.specs.Scopes.{scope_at}
 
 abbrev pub scope_of : Scopes → Scope

@@ -1,12 +1,16 @@
--- The scopes that a list of entries makes: entry k makes the scope k + 1 from earlier ones. Scope 0 is that of the modules. Private contracts alone cite this, but for the scope of all entries.
+-- The scopes that a list of entries makes: entry k makes the scope k + 1 from earlier ones. Scope 0 is that of the modules. Private contracts alone cite this.
 use Rattle.std.specs.Prelude.{◌≡◌, ℕ, ◌+◌, ◌≤◌, List, [], ◌∷◌, ◌++◌, map, length, get_or}
 use Rattle.tla_parse.specs.declared.tree.Expr as s
-use Rattle.tla_parse.specs.View.{view}
+use Rattle.tla_parse.specs.Tree.{binders}
+use Rattle.tla_parse.specs.View.{view, group_view}
+use Rattle.tla_expand.specs.declared.nodes.Gather.TheVariants as gathers
 use Rattle.tla_expand.specs.declared.arena.Entry.{Entry}
 use Rattle.tla_expand.specs.declared.arena.What.{What}
-use Rattle.tla_expand.specs.declared.arena.What.TheVariants.{Bound, Variable, Value, Argument, Definition, Unknown}
-use Rattle.tla_expand.specs.Expand as x
-use Rattle.tla_expand.specs.Expand.{Scope, Meaning, standard, with_name, unknown, bound_name, variable, value_name, parameter, operator, expand}
+use Rattle.tla_expand.specs.declared.arena.What.TheVariants.{Bound, Variable, Value, Argument, Definition, Function}
+use Rattle.tla_expand.specs.Meanings as x
+use Rattle.tla_expand.specs.Meanings.{Scope, Meaning, standard, with_name, bound_name, variable, value_name, parameter, operator}
+use Rattle.tla_expand.specs.Bound.{gathered}
+use Rattle.tla_expand.specs.Expand.{expand, binds_of}
 
 -- the arguments of a use
 abbrev pub arguments_in : List s.Expr → Scope → List x.Argument
@@ -19,7 +23,7 @@ meaning_of at (Variable i) rest = variable i
 meaning_of at (Value v) rest = value_name v.now
 meaning_of at (Argument t s) rest = parameter (expand (view t.now) (at s))
 meaning_of at (Definition ws body) rest = operator ws.now (expand (view body.now)) (at rest)
-meaning_of at Unknown rest = unknown
+meaning_of at (Function p bs body) rest = parameter (gathered gathers.Function p (binds_of (binders (map group_view bs.now)) (at rest)) (expand (view body.now)) (at rest))
 
 abbrev pub at_of : List Scope → ℕ → Scope
 at_of σs i = get_or σs i standard
@@ -49,7 +53,3 @@ pub record AreLinked (es : List Entry) : Type 0 where
 -- nothing but more entries
 abbrev pub Extends : List Entry → List Entry → Type 0
 Extends new old = (extra : List Entry) × (new ≡ old ++ extra)
-
--- the scope of all entries
-abbrev pub scope_of : List Entry → Scope
-scope_of es = scope_at es (length es)

@@ -1,11 +1,12 @@
 //! Scopes in memory.
 
 ghost use Rattle.std.specs.Prelude.{◌≡◌, ◌≤◌, length, IfSome, IfNone, IfOk, OnOk, IfErr, Some, ◌++◌, ◌∷◌, []};
-ghost use Rattle.tla_expand.specs.Expand.{standard, with_parameters};
+ghost use Rattle.tla_expand.specs.Meanings.{standard, with_parameters};
 ghost use Rattle.tla_expand.specs.Scopes.{AreLinked, IsBelow, Extends, scope_at, entry_scope, meaning_of, arguments_in};
 
 use crate::failure::Failure;
-use tla_parse::{Expr, Written};
+use tla_eval::Place;
+use tla_parse::{Binder, Expr, Written};
 use tla_value::Value;
 
 /// What a name means.
@@ -18,8 +19,8 @@ pub(crate) enum What<'a> {
     Argument(&'a Expr, usize),
     /// The parameters and the body of a definition.
     Definition(&'a [Written], &'a Expr),
-    /// A definition without expansion.
-    Unknown,
+    /// The place, the binder list and the body of a function that is defined by its name.
+    Function(Place, &'a [Binder], &'a Expr),
 }
 
 /// A name put before an earlier scope.

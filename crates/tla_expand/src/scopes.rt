@@ -1,14 +1,16 @@
 //! The names of a module, with what they mean.
 
-ghost use Rattle.std.specs.Prelude.{◌≡◌, ◌≢◌, [], length, IfOk, IfErr, Some};
+ghost use Rattle.std.specs.Prelude.{◌≡◌, ◌≢◌, [], length, IfOk, IfErr, Some, None};
+ghost use Rattle.tla_eval.specs.declared.fault.Place.{Place};
 ghost use Rattle.tla_eval.specs.Expr as expr;
 ghost use Rattle.tla_eval.specs.ExprOf.{expr_of};
 ghost use Rattle.tla_model.specs.Size.{IsWithinLimits};
 ghost use Rattle.tla_parse.specs.View.{view, definition_view};
-ghost use Rattle.tla_expand.specs.Expand.{standard, with_name, variable, value_name, operator, definition_in, expand};
+ghost use Rattle.tla_expand.specs.Meanings.{standard, with_name, variable, value_name, operator};
+ghost use Rattle.tla_expand.specs.Expand.{definition_in, expand};
 ghost use Rattle.tla_expand.specs.Scopes.{AreLinked, IsBelow, entry_scope, scope_at};
 ghost use Rattle.tla_expand.specs.Linked.{AreLinked-prop};
-ghost use Rattle.tla_expand.specs.Gives.{shown};
+ghost use Rattle.tla_expand.specs.Primes.{with_primes};
 
 use crate::arena::{Entry, What, enter};
 use crate::expand::expansion;
@@ -103,9 +105,10 @@ impl<'a> Scopes<'a> {
     /// The expansion of an expression under these names, with at most 200,000 nodes, of which at most 300 on a path.
     /// `Primes::Once` takes each variable as the variable next.
     pub fn expansion(&self, alloc: Global, tree: &'a Expr, primes: Primes) -> Result<Core, Failure>
-        ensures found { IfOk result (λ c. shown primes (expand (view tree.now) (scope_of self.now) 0) ≡ Some (expr_of c)) }
+        ensures found { IfOk result (λ c. with_primes primes (expand (view tree.now) (scope_of self.now) 0) ≡ Some (expr_of c)) }
         ensures limits { IfOk result (λ c. IsWithinLimits (expr_of c)) }
-        ensures none { IfErr result (λ f. f ≢ Failure.Memory → (e : expr.Expr) → shown primes (expand (view tree.now) (scope_of self.now) 0) ≡ Some e → IsWithinLimits e → ⊥) }
+        ensures gone { IfErr result (λ f. (p : Place) → f ≡ Failure.NoExpansion p → with_primes primes (expand (view tree.now) (scope_of self.now) 0) ≡ None) }
+        ensures none { IfErr result (λ f. f ≢ Failure.Memory → (e : expr.Expr) → with_primes primes (expand (view tree.now) (scope_of self.now) 0) ≡ Some e → IsWithinLimits e → ⊥) }
     {
         match Vec::from_slice(alloc, self.entries.as_slice()) {
             Ok(mut entries) => {

@@ -1,5 +1,5 @@
 use Rattle.std.proofs.Common.{rules, ◌≡◌, ◌≤◌, ◌<◌, ◌+◌, ℕ, length, Some, None, ◌∷◌, [], ap, ◌∙◌, map}
-use Rattle.tla_expand.specs.Expand.{Meaning}
+use Rattle.tla_expand.specs.Meanings.{Meaning}
 use Rattle.tla_expand.specs.Scopes.{scope_at, arguments_in}
 use Rattle.tla_expand.proofs.Binds.{mismatch}
 use Rattle.tla_expand.proofs.heads.use_of.Goals as goal

@@ -1,0 +1,11 @@
+use Rattle.std.proofs.Common.{◌≡◌, map, ap, refl}
+use Rattle.tla_parse.specs.Tree as t
+use Rattle.tla_parse.specs.View.{view, group_view, definition_view, bound_views_items}
+use Rattle.tla_expand.proofs.heads.entry_of.Goals as goal
+
+pub returns-in-Function-clause-scope : goal.returns-in-Function-clause-scope
+returns-in-Function-clause-scope c =
+    let m = c.in-Function in
+    let same : definition_view c.args.definition.now ≡ t.DefinesFunction m.name (t.binders (map group_view c.as_slice-in-Function.result.now)) (view m.body) =
+    rw (m.is, c.as_slice-in-Function.ensures.value) (ap (λ x. t.DefinesFunction m.name x (view m.body)) (bound_views_items m.groups)) in
+    λ at. rw (same, c.as_bytes-in-Function.ensures, c.place_of.ensures) refl
