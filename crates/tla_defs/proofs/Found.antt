@@ -3,12 +3,15 @@ use Rattle.std.proofs.Common.{◌≡◌, refl, ap, sym, ◌∙◌, inl, inr, Boo
 use Rattle.tla_eval.specs.Expr.{Expr}
 use Rattle.tla_eval.specs.ExprOf.{expr_of}
 use Rattle.tla_eval.specs.declared.expression.Core.{Core}
+use Rattle.std.specs.Borrow.{Bor}
+use Rattle.tla_parse.specs.declared.word.Written.{Written}
 use Rattle.tla_parse.specs.Tree.{Tree}
+use Rattle.tla_parse.specs.Tree as t
 use Rattle.tla_parse.specs.declared.units.Unit.{Unit}
 use Rattle.tla_parse.specs.Units.{UnitTree}
 use Rattle.tla_parse.specs.UnitsView.{unit_view}
 use Rattle.tla_config.specs.Names.{Name}
-use Rattle.tla_config.specs.Statements.{Statement, initials_of, nexts_of, invariants_of, checks_deadlock}
+use Rattle.tla_config.specs.Statements.{Statement, items_of, checks_deadlock}
 use Rattle.tla_expand.specs.declared.primes.Primes.{Primes}
 use Rattle.tla_expand.specs.declared.primes.Primes.TheVariants.{Not, Once}
 use Rattle.tla_expand.specs.Expand.{Scope, expand}
@@ -21,13 +24,14 @@ use Rattle.tla_model.specs.ModelTree.{ModelTree}
 use Rattle.tla_model.specs.ModelOf.{invariant_of, tree_of_parts}
 use Rattle.tla_model.specs.declared.invariant.Invariant.{Invariant}
 use Rattle.tla_model.specs.Size.{IsWithinLimits}
-use Rattle.tla_defs.specs.Formulas.{EachIsInvariant, names_of}
+use Rattle.tla_defs.specs.Formulas.{Follow, mentions}
 use Rattle.tla_defs.specs.Global.{global}
 use Rattle.tla_defs.specs.LeftOut.{left_out}
 use Rattle.tla_defs.specs.Constants.{unvalued}
 use Rattle.tla_defs.specs.Misuses.{misuse, variables_of}
-use Rattle.tla_defs.specs.Model.{IsModel, IsMeaning, IsInitial, IsAction, IsInvariant, IsAssumption, IsStateLevel, IsConstantLevel, AreInvariants, AreAssumptions, assumptions_of, defined, definition_of}
-use Rattle.tla_defs.proofs.Unique.{same_body}
+use Rattle.tla_defs.specs.Items.{definitions_of, replaceable_of, replaced_names, items_misused}
+use Rattle.tla_defs.specs.Named.{names_misused}
+use Rattle.tla_defs.specs.Model.{IsModel, meaning_in, IsInitial, IsAction, IsInvariant, IsAssumption, IsStateLevel, IsConstantLevel, AreInvariants, AreAssumptions, assumptions_of, initials_named, nexts_named, invariants_named}
 
 -- nothing of so many primes is within the limits
 abbrev pub NoneShown : Primes → Tree → Scope → Type 0
@@ -40,108 +44,102 @@ unprimed_is (Some x) e p = sym (unprimed x) ∙ p
 pub shown_unprimed : (o : Option Expr) (e : Expr) → o ≡ Some e → shown Not o ≡ Some e
 shown_unprimed o e p = ap (λ q. shown Not q) p ∙ unprimed e
 
-module _ (us : List UnitTree) (x : Name) (t : Tree) (σ : Scope) (at : σ ≡ global us) (is_body : definition_of x us ≡ defined 0 t) where
-  meaning_is : (e : Expr) → expand t σ 0 ≡ Some e → IsMeaning us x e
-  meaning_is e p = record { body = t; is_body = is_body; expanded = ap (λ τ. expand t τ 0) (sym at) ∙ p }
-
-  expanded_is : (e : Expr) → IsMeaning us x e → expand t σ 0 ≡ Some e
-  expanded_is e m =
-      let same = same_body (definition_of x us) m.body t m.is_body is_body in
-      ap (λ τ. expand t τ 0) at ∙ ap (λ u. expand u (global us) 0) (sym same) ∙ m.expanded
-
-  pub found_initial : (e : Expr) → shown Once (expand t σ 0) ≡ Some e → IsWithinLimits e → IsInitial us x e
+module _ (σ : Scope) (w : Written) where
+  pub found_initial : (e : Expr) → shown Once (meaning_in σ w) ≡ Some e → IsWithinLimits e → IsInitial σ w e
   found_initial e p h =
-      let b = inv (expand t σ 0) (primes Once) e p in
-      record { before = b.0; meaning = meaning_is b.0 b.1; primed = b.2; limits = h }
+      let b = inv (meaning_in σ w) (primes Once) e p in
+      record { before = b.0; meaning = b.1; primed = b.2; limits = h }
 
-  pub no_initial : NoneShown Once t σ → (e : Expr) → IsInitial us x e → ⊥
-  no_initial none e h = none e (ap (λ o. o >>= primes Once) (expanded_is h.before h.meaning) ∙ h.primed) h.limits
+  pub no_initial : NoneShown Once (t.Name w) σ → (e : Expr) → IsInitial σ w e → ⊥
+  no_initial none e h = none e (ap (λ o. o >>= primes Once) h.meaning ∙ h.primed) h.limits
 
-  pub found_action : (e : Expr) → shown Not (expand t σ 0) ≡ Some e → IsWithinLimits e → IsAction us x e
-  found_action e p h = record { meaning = meaning_is e (unprimed_is (expand t σ 0) e p); limits = h }
+  pub found_action : (e : Expr) → shown Not (meaning_in σ w) ≡ Some e → IsWithinLimits e → IsAction σ w e
+  found_action e p h = record { meaning = unprimed_is (meaning_in σ w) e p; limits = h }
 
-  pub no_action : NoneShown Not t σ → (e : Expr) → IsAction us x e → ⊥
-  no_action none e h = none e (shown_unprimed (expand t σ 0) e (expanded_is e h.meaning)) h.limits
+  pub no_action : NoneShown Not (t.Name w) σ → (e : Expr) → IsAction σ w e → ⊥
+  no_action none e h = none e (shown_unprimed (meaning_in σ w) e h.meaning) h.limits
 
-  pub found_invariant : (e : Expr) → shown Not (expand t σ 0) ≡ Some e → IsWithinLimits e → IsStateLevel e → IsInvariant us x e
-  found_invariant e p h l = record { meaning = meaning_is e (unprimed_is (expand t σ 0) e p); level = l; limits = h }
+  pub found_invariant : (e : Expr) → shown Not (meaning_in σ w) ≡ Some e → IsWithinLimits e → IsStateLevel e → IsInvariant σ w e
+  found_invariant e p h l = record { meaning = unprimed_is (meaning_in σ w) e p; level = l; limits = h }
 
-  pub no_invariant : NoneShown Not t σ → (e : Expr) → IsInvariant us x e → ⊥
-  no_invariant none e h = none e (shown_unprimed (expand t σ 0) e (expanded_is e h.meaning)) h.limits
+  pub no_invariant : NoneShown Not (t.Name w) σ → (e : Expr) → IsInvariant σ w e → ⊥
+  no_invariant none e h = none e (shown_unprimed (meaning_in σ w) e h.meaning) h.limits
 
   -- what is found is the only expansion
-  pub high_invariant : (d : Expr) → shown Not (expand t σ 0) ≡ Some d → (IsStateLevel d → ⊥) → (e : Expr) → IsInvariant us x e → ⊥
+  pub high_invariant : (d : Expr) → shown Not (meaning_in σ w) ≡ Some d → (IsStateLevel d → ⊥) → (e : Expr) → IsInvariant σ w e → ⊥
   high_invariant d p high e h =
-      let q = unprimed_is (expand t σ 0) d p in
-      let r = expanded_is e h.meaning in
+      let q = unprimed_is (meaning_in σ w) d p in
+      let r = h.meaning in
       let same : e ≡ d = cc in
       high (subst (λ f. IsStateLevel f) same h.level)
 
-pub found_assumption : (us : List UnitTree) (t : Tree) (σ : Scope) (e : Expr) → σ ≡ global us → shown Not (expand t σ 0) ≡ Some e → IsWithinLimits e → IsConstantLevel e → IsAssumption us t e
-found_assumption us t σ e at p h level = record { expanded = ap (λ τ. expand t τ 0) (sym at) ∙ unprimed_is (expand t σ 0) e p; level = level; limits = h }
+module _ (σ : Scope) (tree : Tree) where
+  pub found_assumption : (e : Expr) → shown Not (expand tree σ 0) ≡ Some e → IsWithinLimits e → IsConstantLevel e → IsAssumption σ tree e
+  found_assumption e p h level = record { expanded = unprimed_is (expand tree σ 0) e p; level = level; limits = h }
 
-pub no_assumption : (us : List UnitTree) (t : Tree) (σ : Scope) → σ ≡ global us → NoneShown Not t σ → (e : Expr) → IsAssumption us t e → ⊥
-no_assumption us t σ at none e h = none e (shown_unprimed (expand t σ 0) e (ap (λ τ. expand t τ 0) at ∙ h.expanded)) h.limits
+  pub no_assumption : NoneShown Not tree σ → (e : Expr) → IsAssumption σ tree e → ⊥
+  no_assumption none e h = none e (shown_unprimed (expand tree σ 0) e h.expanded) h.limits
 
-pub high_assumption : (us : List UnitTree) (t : Tree) (σ : Scope) → σ ≡ global us → (d : Expr) → shown Not (expand t σ 0) ≡ Some d → (IsConstantLevel d → ⊥) → (e : Expr) → IsAssumption us t e → ⊥
-high_assumption us t σ at d p high e h =
-    let q = unprimed_is (expand t σ 0) d p in
-    let r = ap (λ τ. expand t τ 0) at ∙ h.expanded in
-    let same : e ≡ d = cc in
-    high (subst (λ f. IsConstantLevel f) same h.level)
-
-are_invariants : (us : List UnitTree) (is : List (Name × Expr)) → EachIsInvariant us is → AreInvariants us (names_of is) is
-are_invariants us [] h = tt
-are_invariants us (i ∷ is) h = (refl, h.0, are_invariants us is h.1)
-
-each_append : (us : List UnitTree) (is js : List (Name × Expr)) → EachIsInvariant us is → EachIsInvariant us js → EachIsInvariant us (is ++ js)
-each_append us [] js a b = b
-each_append us (i ∷ is) js a b = (a.0, each_append us is js a.1 b)
+  pub high_assumption : (d : Expr) → shown Not (expand tree σ 0) ≡ Some d → (IsConstantLevel d → ⊥) → (e : Expr) → IsAssumption σ tree e → ⊥
+  high_assumption d p high e h =
+      let q = unprimed_is (expand tree σ 0) d p in
+      let r = h.expanded in
+      let same : e ≡ d = cc in
+      high (subst (λ f. IsConstantLevel f) same h.level)
 
 -- the model of parts in memory
-pub parts_model : (us : List UnitTree) (cs : List Statement) (vs : List Name) (assumed : List Core) (init next : Core) (is : List Invariant) (check : Bool) (i n : Name)
-    → left_out cs ≡ None → misuse us ≡ None → unvalued us ≡ None → initials_of cs ≡ i ∷ [] → nexts_of cs ≡ n ∷ [] → vs ≡ variables_of us → AreAssumptions us (assumptions_of us) (map expr_of assumed)
-    → IsInitial us i (expr_of init) → IsAction us n (expr_of next)
-    → EachIsInvariant us (map invariant_of is) → names_of (map invariant_of is) ≡ invariants_of cs → check ≡ checks_deadlock cs
+pub parts_model : (us : List UnitTree) (cs : List Statement) (σ : Scope) (vs : List Name) (assumed : List Core) (init next : Core) (is : List Invariant) (check : Bool) (i n : Written) (ws : List Written)
+    → σ ≡ global us (items_of cs) → ws ≡ invariants_named cs
+    → left_out cs ≡ None → misuse us ≡ None → items_misused (replaceable_of us) [] (items_of cs) ≡ None → unvalued (replaced_names (items_of cs)) us ≡ None → names_misused (definitions_of us) cs ≡ None
+    → initials_named cs ≡ i ∷ [] → nexts_named cs ≡ n ∷ [] → vs ≡ variables_of us → AreAssumptions σ (assumptions_of us) (map expr_of assumed)
+    → IsInitial σ i (expr_of init) → IsAction σ n (expr_of next)
+    → AreInvariants σ ws (map invariant_of is) → check ≡ checks_deadlock cs
     → IsModel us cs (tree_of_parts vs assumed init next is check)
-parts_model us cs vs assumed init next is check i n whole known valued one_init one_next names assumptions initial action each named deadlock =
+parts_model us cs σ vs assumed init next is check i n ws at invariants whole known given valued named one_init one_next names assumptions initial action each deadlock =
     record {
       whole = whole;
       known = known;
+      given = given;
       valued = valued;
+      named = named;
       init_name = i;
       next_name = n;
       one_init = one_init;
       one_next = one_next;
       variables = names;
-      assumptions = assumptions;
-      init = initial;
-      next = action;
-      invariants = rw (sym named) (are_invariants us (map invariant_of is) each);
+      assumptions = rw (sym at) assumptions;
+      init = rw (sym at) initial;
+      next = rw (sym at) action;
+      invariants = rw (sym at, sym invariants) each;
       check_deadlock = deadlock;
     }
 
--- one invariant more
+-- where no unit is left, the assumptions are all there
+pub assumptions_end : (σ : Scope) (left : List Unit) (all : List Tree) (done : List Expr) → length left < 1
+    → ((es : List Expr) → AreAssumptions σ (assumptions_of (map unit_view left)) es → AreAssumptions σ all (done ++ es)) → AreAssumptions σ all done
+assumptions_end σ [] all done h f = subst (λ xs. AreAssumptions σ all xs) (append-nil done) (f [] tt)
+assumptions_end σ (u ∷ left) all done h f = absurd (omega (arith, h))
+
+snoc : {A : Type 0} (xs : List A) (x : A) (ys : List A) → (xs ++ x ∷ []) ++ ys ≡ xs ++ x ∷ ys
+snoc [] x ys = refl
+snoc (y ∷ xs) x ys = ap (λ zs. y ∷ zs) (snoc xs x ys)
+
 map_push : (is : List Invariant) (i : Invariant) → map invariant_of (is ++ i ∷ []) ≡ map invariant_of is ++ invariant_of i ∷ []
 map_push [] i = refl
 map_push (j ∷ is) i = ap (λ xs. invariant_of j ∷ xs) (map_push is i)
 
-names_push : (is : List (Name × Expr)) (i : Name × Expr) → names_of (is ++ i ∷ []) ≡ names_of is ++ i.0 ∷ []
-names_push [] i = refl
-names_push (j ∷ is) i = ap (λ xs. j.0 ∷ xs) (names_push is i)
+-- one invariant more
+pub invariants_step : (σ : Scope) (w : Written) (left all : List Written) (done new : List Invariant) (i : Invariant) → new ≡ done ++ i ∷ [] → i.name ≡ w.word → IsInvariant σ w (expr_of i.core)
+    → Follow σ (w ∷ left) all (map invariant_of done) → Follow σ left all (map invariant_of new)
+invariants_step σ w left all done new i pushed name found f is h =
+    let more = ap (λ xs. map invariant_of xs ++ is) pushed ∙ ap (λ xs. xs ++ is) (map_push done i) ∙ snoc (map invariant_of done) (invariant_of i) is in
+    subst (λ xs. AreInvariants σ all xs) (sym more) (f (invariant_of i ∷ is) (name, found, h))
 
-pub pushed_names : (old new : List Invariant) (i : Invariant) → new ≡ old ++ i ∷ [] → names_of (map invariant_of new) ≡ names_of (map invariant_of old) ++ i.name ∷ []
-pushed_names old new i p = ap (λ xs. names_of (map invariant_of xs)) p ∙ ap names_of (map_push old i) ∙ names_push (map invariant_of old) (invariant_of i)
-
-pub pushed_each : (us : List UnitTree) (old new : List Invariant) (i : Invariant) → new ≡ old ++ i ∷ [] → IsInvariant us i.name (expr_of i.core)
-    → EachIsInvariant us (map invariant_of old) → EachIsInvariant us (map invariant_of new)
-pushed_each us old new i p f h = rw (p, map_push old i) (each_append us (map invariant_of old) (invariant_of i ∷ []) h (f, tt))
-
--- where no unit is left, the assumptions are all there
-pub assumptions_end : (us : List UnitTree) (left : List Unit) (all : List Tree) (done : List Expr) → length left < 1
-    → ((es : List Expr) → AreAssumptions us (assumptions_of (map unit_view left)) es → AreAssumptions us all (done ++ es)) → AreAssumptions us all done
-assumptions_end us [] all done h f = subst (λ xs. AreAssumptions us all xs) (append-nil done) (f [] tt)
-assumptions_end us (u ∷ left) all done h f = absurd (omega (arith, h))
+-- where no name is left, the invariants are all there
+pub invariants_end : (σ : Scope) (left : List (Bor Written)) (all : List Written) (done : List (Name × Expr)) → length left < 1
+    → Follow σ (mentions left) all done → AreInvariants σ all done
+invariants_end σ [] all done h f = subst (λ xs. AreInvariants σ all xs) (append-nil done) (f [] tt)
+invariants_end σ (w ∷ left) all done h f = absurd (omega (arith, h))
 
 pub not_both : (b : Bool) → b ≡ true → b ≡ false → ⊥
 not_both b p q = let z : ⊥ = cc in z

@@ -2,8 +2,10 @@ pub mod Stacks
 pub mod Unique
 pub mod Worked
 pub mod NamedWorked
+pub mod GivenWorked
 pub mod Behaviours
 pub mod Nones
 pub mod Sound
 pub mod Found
 pub mod Locating
+pub mod Walks

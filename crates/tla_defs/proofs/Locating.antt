@@ -1,5 +1,5 @@
 -- Each refusal has its place, and its name where it prints one.
-use Rattle.std.proofs.Common.{◌≡◌, refl, sym, ap, List, Option, Some, None, Bool, true, false, Result, Ok, Err}
+use Rattle.std.proofs.Common.{◌≡◌, refl, sym, ap, List, [], Option, Some, None, Bool, true, false, Result, Ok, Err}
 use Rattle.std.specs.Prelude.{is_some}
 use Rattle.tla_lex.specs.declared.token.Place.{Place}
 use Rattle.tla_parse.specs.declared.word.Written.{Written}
@@ -11,14 +11,16 @@ use Rattle.tla_config.specs.declared.error.Source.{Source}
 use Rattle.tla_config.specs.declared.error.Source.TheVariants as source
 use Rattle.tla_config.specs.Names.{Name}
 use Rattle.tla_config.specs.Refusals.{IsLocated}
-use Rattle.tla_config.specs.Statements.{Statement}
+use Rattle.tla_config.specs.Statements.{Statement, Item, items_of}
 use Rattle.tla_config.specs.View.{ConfigTree}
 use Rattle.tla_expand.specs.Maybe.{or_else}
 use Rattle.tla_defs.specs.LeftOut.{left_out}
 use Rattle.tla_defs.specs.Known.{Misuse, Twice, Unknown, Arguments}
 use Rattle.tla_defs.specs.Constants.{unvalued}
+use Rattle.tla_defs.specs.Items.{definitions_of, replaceable_of, replaced_names, items_misused}
+use Rattle.tla_defs.specs.Named.{names_misused}
 use Rattle.tla_defs.specs.Misuses.{misuse}
-use Rattle.tla_defs.specs.Refused.{Behaviour, behaviour, behaviour_refused, names_misused, constant_refused, refusal_for, refused, statement_left_out, IsRefusal, refusal_is, IsOfFormula, is_of_formula}
+use Rattle.tla_defs.specs.Refused.{Behaviour, behaviour, behaviour_refused, constant_refused, items_refused, refusal_for, refused, statement_left_out, IsRefusal, refusal_is, IsOfFormula, is_of_formula}
 
 -- the refusal, if there is one
 abbrev Located : Option DefsError → Type 0
@@ -50,15 +52,23 @@ of_constant (Some w) = one _ refl
 
 of_behaviour : (us : List UnitTree) (cs : List Statement) (r : Result Behaviour Place) → Located (behaviour_refused us cs r)
 of_behaviour us cs (Err p) = one _ refl
-of_behaviour us cs (Ok b) = of_misuse source.Configuration (names_misused us cs)
+of_behaviour us cs (Ok b) = of_misuse source.Configuration (names_misused (definitions_of us) cs)
+
+of_items : (us : List UnitTree) (is : List Item) → Located (items_refused us is)
+of_items us is =
+    let given = items_misused (replaceable_of us) [] is in
+    let valued = unvalued (replaced_names is) us in
+    either (refusal_for source.Configuration given) (constant_refused valued) (of_misuse source.Configuration given) (of_constant valued)
 
 of_step : (us : List UnitTree) (config : ConfigTree) → Located (refused us config)
 of_step us config =
-    let behaves = behaviour_refused us config.statements (behaviour config.statements config.end None None) in
-    let rest = or_else (constant_refused (unvalued us)) behaves in
+    let is = items_of config.statements in
+    let named = behaviour config.statements config.end None None in
+    let behaves = behaviour_refused us config.statements named in
+    let rest = or_else (items_refused us is) behaves in
     either (statement_left_out (left_out config.statements)) (or_else (refusal_for source.Module (misuse us)) rest) (of_left_out (left_out config.statements))
     (either (refusal_for source.Module (misuse us)) rest (of_misuse source.Module (misuse us))
-    (either (constant_refused (unvalued us)) behaves (of_constant (unvalued us)) (of_behaviour us config.statements (behaviour config.statements config.end None None))))
+    (either (items_refused us is) behaves (of_items us is) (of_behaviour us config.statements named)))
 
 -- a place, and no name
 placed : (k : DefsCode) (p : Option Place) (x : Option Name) → is_of_formula k ≡ true → is_some p ≡ true → x ≡ None → IsLocated k p x

@@ -1,10 +1,13 @@
--- What the names of a module mean (book, chapter 17): its variables by their numbers, and its definitions, each known to the units after it.
-use Rattle.std.specs.Prelude.{ℕ, ◌+◌, List, [], ◌∷◌, Some, length}
+-- What the names of a module mean (book, chapters 14 and 17): those with an item by it, its variables by their numbers, and its definitions, each known to the units after it.
+use Rattle.std.specs.Prelude.{ℕ, ◌+◌, Bool, true, false, List, [], ◌∷◌, Some, length}
 use Rattle.tla_parse.specs.declared.word.Written.{Written}
 use Rattle.tla_parse.specs.Tree.{Tree}
 use Rattle.tla_parse.specs.Units.{UnitTree, Variables, Operator, Defines, Local, Assume}
-use Rattle.tla_config.specs.Names.{Name}
+use Rattle.tla_config.specs.Names.{Name, is_among}
+use Rattle.tla_config.specs.Statements.{Item, Value, Replaces}
 use Rattle.tla_expand.specs.Expand.{Scope, standard, with_name, variable, operator, expand, definition_in}
+use Rattle.tla_defs.specs.Scope.{signature}
+use Rattle.tla_defs.specs.Items.{replaced_names, with_items}
 
 abbrev pub with_variable : ℕ → Name → Scope → Scope
 with_variable i x σ = with_name x (variable i) σ
@@ -18,15 +21,30 @@ abbrev pub variables_in : ℕ → List Written → Scope → Scope
 variables_in i [] σ = σ
 variables_in i (w ∷ ws) σ = variables_in (i + 1) ws (with_variable i w.word σ)
 
--- units behind so many variables
-abbrev pub units_in : ℕ → List UnitTree → Scope → Scope
-units_in i [] σ = σ
-units_in i (Variables at ws ∷ us) σ = units_in (i + length ws) us (variables_in i ws σ)
-units_in i (Operator w e ∷ us) σ = units_in i us (with_operator w.word e σ)
-units_in i (Defines d ∷ us) σ = units_in i us (definition_in d σ)
-units_in i (Local at d ∷ us) σ = units_in i us (definition_in d σ)
-units_in i (Assume at (Some w) e ∷ us) σ = units_in i us (with_operator w.word e σ)
-units_in i (u ∷ us) σ = units_in i us σ
+-- what this scope says, where the name is not replaced
+abbrev pub unless : Bool → Scope → Scope → Scope
+unless true τ σ = σ
+unless false τ σ = τ
 
-abbrev pub global : List UnitTree → Scope
-global us = units_in 0 us standard
+-- units behind so many variables, where these names are replaced
+abbrev pub units_in : List Name → ℕ → List UnitTree → Scope → Scope
+units_in xs i [] σ = σ
+units_in xs i (Variables at ws ∷ us) σ = units_in xs (i + length ws) us (variables_in i ws σ)
+units_in xs i (Operator w e ∷ us) σ = units_in xs i us (unless (is_among w.word xs) (with_operator w.word e σ) σ)
+units_in xs i (Defines d ∷ us) σ = units_in xs i us (unless (is_among (signature d).0 xs) (definition_in d σ) σ)
+units_in xs i (Local at d ∷ us) σ = units_in xs i us (unless (is_among (signature d).0 xs) (definition_in d σ) σ)
+units_in xs i (Assume at (Some w) e ∷ us) σ = units_in xs i us (unless (is_among w.word xs) (with_operator w.word e σ) σ)
+units_in xs i (u ∷ us) σ = units_in xs i us σ
+
+-- what the names mean, where operators that replace names mean this
+abbrev pub meant : List UnitTree → List Item → Scope → Scope
+meant us is ρ = units_in (replaced_names is) 0 us (with_items ρ is standard)
+
+-- An operator that replaces a name may be defined behind its uses, so that each such item gives all names their meaning once more.
+abbrev pub raised : List UnitTree → List Item → List Item → Scope → Scope
+raised us is [] ρ = ρ
+raised us is (Value w v ∷ js) ρ = raised us is js ρ
+raised us is (Replaces w op ∷ js) ρ = raised us is js (meant us is ρ)
+
+abbrev pub global : List UnitTree → List Item → Scope
+global us is = raised us is is (meant us is standard)

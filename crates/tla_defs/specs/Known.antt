@@ -2,7 +2,7 @@
 use Rattle.std.specs.Prelude.{ℕ, zero, suc, ◌+◌, nat_eq, Bool, true, false, ◌||◌, List, [], ◌∷◌, ◌++◌, Option, Some, None, is_some, if◌then◌else◌}
 use Rattle.tla_lex.specs.declared.token.Place.{Place}
 use Rattle.tla_parse.specs.declared.word.Written.{Written}
-use Rattle.tla_parse.specs.Tree.{Tree, Trees, none, more, Binders, unbound, bound, Arms, no_arms, arm, Other, no_other, other, Definition, DefinesOperator, DefinesFunction, Definitions, undefined, defined}
+use Rattle.tla_parse.specs.Tree.{Tree, Trees, none, more, Binders, unbound, bound, Arms, no_arms, arm, Other, no_other, other, Definition, DefinesOperator, DefinesFunction, Definitions, undefined, defined, Fields, no_fields, field, Key, AtIndex, AtField, Keys, no_keys, key, Updates, no_updates, update}
 use Rattle.tla_parse.specs.Tree as t
 use Rattle.tla_config.specs.Names.{Name, words, is_among}
 use Rattle.tla_expand.specs.Maybe.{or_else}
@@ -30,6 +30,10 @@ brought σ new (w ∷ ws) = if is_some (arity σ w.word) || is_among w.word new 
 
 abbrev pub new_name : Scope → Written → Option Misuse
 new_name σ w = if is_some (arity σ w.word) then Some (Twice w) else None
+
+-- a name behind these
+abbrev pub again : List Name → Written → Option Misuse
+again before w = if is_among w.word before then Some (Twice w) else None
 
 abbrev pub if_not : Bool → Place → Name → Option Misuse
 if_not true at x = None
@@ -61,6 +65,17 @@ abbrev mutual
   misused ms σ (t.Case at cs o) = or_else (misused_arms ms σ cs) (misused_other ms σ o)
   misused ms σ (t.Let at ds e) = or_else (misused_definitions ms σ ds) (misused ms (σ ++ signatures ds) e)
   misused ms σ (t.Junction at b es) = misused_each ms σ es
+  misused ms σ (t.Filter at w s e) = or_else (new_name σ w) (or_else (misused ms σ s) (misused ms (σ ++ plain (w.word ∷ [])) e))
+  -- the element stands before the names that it uses
+  misused ms σ (t.Image at e bs) = or_else (misused ms (σ ++ plain (bound_names bs)) e) (misused_sets ms σ [] bs)
+  misused ms σ (t.Function at bs e) = or_else (misused_sets ms σ [] bs) (misused ms (σ ++ plain (bound_names bs)) e)
+  misused ms σ (t.FunctionSet at s e) = or_else (misused ms σ s) (misused ms σ e)
+  misused ms σ (t.Record at fs) = misused_fields ms σ [] fs
+  misused ms σ (t.RecordSet at fs) = misused_fields ms σ [] fs
+  misused ms σ (t.Except at e us) = or_else (misused ms σ e) (misused_updates ms σ us)
+  misused ms σ (t.Action at step a v) = or_else (misused ms σ a) (misused ms σ v)
+  misused ms σ (t.Fair at f v a) = or_else (misused ms σ v) (misused ms σ a)
+  misused ms σ (t.Product at e es) = or_else (misused ms σ e) (misused_each ms σ es)
 
   pub misused_each : List Name → Scope → Trees → Option Misuse
   misused_each ms σ none = None
@@ -78,6 +93,23 @@ abbrev mutual
   pub misused_other : List Name → Scope → Other → Option Misuse
   misused_other ms σ no_other = None
   misused_other ms σ (other e) = misused ms σ e
+
+  -- fields behind others of these names: each name once
+  pub misused_fields : List Name → Scope → List Name → Fields → Option Misuse
+  misused_fields ms σ before no_fields = None
+  misused_fields ms σ before (field w e fs) = or_else (again before w) (or_else (misused ms σ e) (misused_fields ms σ (before ++ w.word ∷ []) fs))
+
+  pub misused_key : List Name → Scope → Key → Option Misuse
+  misused_key ms σ (AtIndex es) = misused_each ms σ es
+  misused_key ms σ (AtField w) = None
+
+  pub misused_keys : List Name → Scope → Keys → Option Misuse
+  misused_keys ms σ no_keys = None
+  misused_keys ms σ (key k ks) = or_else (misused_key ms σ k) (misused_keys ms σ ks)
+
+  pub misused_updates : List Name → Scope → Updates → Option Misuse
+  misused_updates ms σ no_updates = None
+  misused_updates ms σ (update ks e us) = or_else (misused_keys ms σ ks) (or_else (misused ms σ e) (misused_updates ms σ us))
 
   -- a definition doesn't see its own name
   pub misused_definition : List Name → Scope → Definition → Option Misuse

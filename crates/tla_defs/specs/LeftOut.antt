@@ -1,13 +1,12 @@
 -- Statements that have no meaning for a model yet: they are refused and never passed over (this project's own choice).
 use Rattle.std.specs.Prelude.{List, [], ◌∷◌, Option, Some, None, codes}
 use Rattle.tla_parse.specs.declared.word.Written.{Written}
-use Rattle.tla_config.specs.Statements.{Statement, Specification, Constants}
+use Rattle.tla_config.specs.Statements.{Statement, Specification}
 use Rattle.tla_expand.specs.Maybe.{or_else}
 
--- the word of such a statement, at its place; CONSTANTS is named CONSTANT
+-- the word of such a statement, at its place
 abbrev pub left_out_word : Statement → Option Written
 left_out_word (Specification at w) = Some (record { place = at; word = codes "SPECIFICATION" })
-left_out_word (Constants at is) = Some (record { place = at; word = codes "CONSTANT" })
 left_out_word _ = None
 
 -- the first of them

@@ -2,7 +2,12 @@ pub mod Operators
 pub mod Scope
 pub mod Known
 pub mod Constants
+pub mod Items
+pub mod Leads
+pub mod Circles
+pub mod Reached
 pub mod Misuses
+pub mod Named
 pub mod LeftOut
 pub mod Global
 pub mod Model
@@ -10,5 +15,6 @@ pub mod Refused
 pub mod Laws
 pub mod Rows
 pub mod NamedRows
+pub mod GivenRows
 pub mod Mentions
 pub mod Formulas

@@ -3,6 +3,9 @@ use Rattle.std.specs.Prelude.{◌≡◌, Option, Result, Ok, Err, option_map}
 use Rattle.std.specs.Borrow.{Bor}
 use Rattle.tla_parse.specs.declared.word.Written.{Written}
 use Rattle.tla_lex.specs.declared.token.Place.{Place}
+use Rattle.tla_config.specs.declared.statement.Item as c
+use Rattle.tla_config.specs.Statements as s
+use Rattle.tla_config.specs.View.{item_view}
 use Rattle.tla_defs.specs.declared.mention.Mention.{Mention}
 use Rattle.tla_defs.specs.declared.behaviour.Behaviour.{Behaviour}
 use Rattle.tla_defs.specs.Refused as spec
@@ -10,6 +13,10 @@ use Rattle.tla_defs.specs.Refused as spec
 -- a name, an operator or the first word of a form, as it is written
 abbrev pub written_of : Mention → Written
 written_of m = record { place = m.place; word = m.word.now }
+
+-- an item in memory
+abbrev pub item_of : Bor c.Item → s.Item
+item_of i = item_view i.now
 
 -- the bodies, and the names of INIT and NEXT, where they were found
 abbrev pub behaviour_of : Behaviour → spec.Behaviour

@@ -1,5 +1,5 @@
 -- Why a module and a configuration name no model: the first step that refuses them, and where (this project's own choice).
-use Rattle.std.specs.Prelude.{◌≡◌, ◌≢◌, Bool, true, false, is_some, List, [], ◌∷◌, Option, Some, None, option_map, Result, Ok, Err}
+use Rattle.std.specs.Prelude.{◌≡◌, ◌≢◌, ◌⊎◌, Bool, true, false, is_some, List, [], ◌∷◌, Option, Some, None, Result, Ok, Err}
 use Rattle.tla_lex.specs.declared.token.Place.{Place}
 use Rattle.tla_parse.specs.declared.word.Written.{Written}
 use Rattle.tla_parse.specs.Units.{UnitTree}
@@ -8,14 +8,16 @@ use Rattle.tla_config.specs.declared.error.DefsCode.TheVariants as c
 use Rattle.tla_config.specs.declared.error.DefsError.{DefsError}
 use Rattle.tla_config.specs.declared.error.Source.{Source}
 use Rattle.tla_config.specs.declared.error.Source.TheVariants as source
-use Rattle.tla_config.specs.Statements.{Statement, Specification, Init, Next, Invariants, Constants, CheckDeadlock}
+use Rattle.tla_config.specs.Statements.{Statement, Specification, Init, Next, Invariants, Constants, CheckDeadlock, Item, items_of}
 use Rattle.tla_config.specs.View.{ConfigTree}
 use Rattle.tla_expand.specs.Maybe.{or_else}
 use Rattle.tla_defs.specs.LeftOut.{left_out}
-use Rattle.tla_defs.specs.Known.{Misuse, Twice, Unknown, Arguments, applied}
+use Rattle.tla_defs.specs.Items.{definitions_of, replaceable_of, nameable_of, replaced_names, items_misused}
+use Rattle.tla_defs.specs.Known.{Misuse, Twice, Unknown, Arguments}
 use Rattle.tla_defs.specs.Constants.{unvalued}
 use Rattle.tla_defs.specs.Misuses.{misuse}
-use Rattle.tla_defs.specs.Model.{Defined, definition_of}
+use Rattle.tla_defs.specs.Circles.{AreStraight, IsFirstCircle}
+use Rattle.tla_defs.specs.Named.{names_misused}
 
 -- a refusal with the name that it prints, and one without
 abbrev pub refusal_of : DefsCode → Source → Written → DefsError
@@ -67,36 +69,21 @@ behaviour (CheckDeadlock at check ∷ cs) end i n = behaviour cs end i n
 behaviour (Specification at w ∷ cs) end i n = behaviour cs end i n
 behaviour (Constants at is ∷ cs) end i n = behaviour cs end i n
 
--- a name of the configuration is that of a definition without parameters
-abbrev pub misnamed : List UnitTree → Written → Option Misuse
-misnamed us w = applied w 0 (option_map (λ (d : Defined). d.arity) (definition_of w.word us))
-
-abbrev pub each_misnamed : List UnitTree → List Written → Option Misuse
-each_misnamed us [] = None
-each_misnamed us (w ∷ ws) = or_else (misnamed us w) (each_misnamed us ws)
-
-abbrev pub named : Statement → List Written
-named (Init at w) = w ∷ []
-named (Next at w) = w ∷ []
-named (Invariants at ws) = ws
-named (CheckDeadlock at check) = []
-named (Specification at w) = []
-named (Constants at is) = []
-
-abbrev pub names_misused : List UnitTree → List Statement → Option Misuse
-names_misused us [] = None
-names_misused us (c ∷ cs) = or_else (each_misnamed us (named c)) (names_misused us cs)
-
 abbrev pub behaviour_refused : List UnitTree → List Statement → Result Behaviour Place → Option DefsError
 behaviour_refused us cs (Err p) = Some (refusal_at c.BehaviourCount source.Configuration p)
-behaviour_refused us cs (Ok b) = refusal_for source.Configuration (names_misused us cs)
+behaviour_refused us cs (Ok b) = refusal_for source.Configuration (names_misused (definitions_of us) cs)
 
--- The statements left out, then the names of the module, then a constant without a value, then the behaviour, then the names of the configuration.
+-- the items of CONSTANT, then a constant without a value
+abbrev pub items_refused : List UnitTree → List Item → Option DefsError
+items_refused us is = or_else (refusal_for source.Configuration (items_misused (replaceable_of us) (nameable_of us) [] is)) (constant_refused (unvalued (replaced_names is) us))
+
+-- The statements left out, then the names of the module, then the items of CONSTANT, then a constant without a value, then the behaviour, then the
+-- names of the configuration.
 abbrev pub refused : List UnitTree → ConfigTree → Option DefsError
 refused us config =
     or_else (statement_left_out (left_out config.statements))
     (or_else (refusal_for source.Module (misuse us))
-    (or_else (constant_refused (unvalued us)) (behaviour_refused us config.statements (behaviour config.statements config.end None None))))
+    (or_else (items_refused us (items_of config.statements)) (behaviour_refused us config.statements (behaviour config.statements config.end None None))))
 
 abbrev pub is_of_formula : DefsCode → Bool
 is_of_formula c.Level = true
@@ -110,10 +97,16 @@ pub record IsOfFormula (e : DefsError) : Type 0 where
   pub place : is_some e.place ≡ true
   pub name : e.name ≡ None
 
-abbrev pub refusal_is : Option DefsError → DefsError → Type 0
-refusal_is (Some r) e = r ≡ e
-refusal_is None e = IsOfFormula e
+-- the first item that leads back to its name
+pub record IsOfCircle (us : List UnitTree) (is : List Item) (e : DefsError) : Type 0 where
+  pub name : Written
+  pub first : IsFirstCircle us is is name
+  pub refused : refusal_of c.CircularReplacement source.Configuration name ≡ e
 
--- The first step that refuses a module and a configuration, or, where none does, a formula.
+abbrev pub refusal_is : List UnitTree → List Item → Option DefsError → DefsError → Type 0
+refusal_is us is (Some r) e = r ≡ e
+refusal_is us is None e = IsOfCircle us is e ⊎ (AreStraight us is is × IsOfFormula e)
+
+-- The first step that refuses a module and a configuration, or, where none does, the first item that leads back to its name, or else a formula.
 abbrev pub IsRefusal : List UnitTree → ConfigTree → DefsError → Type 0
-IsRefusal us config e = refusal_is (refused us config) e
+IsRefusal us config e = refusal_is us (items_of config.statements) (refused us config) e

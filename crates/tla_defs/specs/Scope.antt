@@ -4,6 +4,7 @@ use Rattle.std.specs.List.{flat_map}
 use Rattle.std.specs.Str.{bytes_eq}
 use Rattle.tla_parse.specs.Tree.{Definition, Definitions, DefinesOperator, DefinesFunction, undefined, defined, Binders, unbound, bound}
 use Rattle.tla_config.specs.Names.{Name, words}
+use Rattle.tla_expand.specs.Maybe.{or_else}
 
 -- a name and how many arguments it takes
 abbrev pub Signature : Type 0
@@ -12,10 +13,10 @@ Signature = Name × ℕ
 abbrev pub Scope : Type 0
 Scope = List Signature
 
--- how many arguments a name takes, where it is in scope
+-- how many arguments a name takes, where it is in scope: the last one of the name counts
 abbrev pub arity : Scope → Name → Option ℕ
 arity [] x = None
-arity (s ∷ σ) x = if bytes_eq x s.0 then Some s.1 else arity σ x
+arity (s ∷ σ) x = or_else (arity σ x) (if bytes_eq x s.0 then Some s.1 else None)
 
 -- names without parameters
 abbrev pub plain : List Name → Scope

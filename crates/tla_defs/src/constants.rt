@@ -1,4 +1,4 @@
-//! Constants. They have no value yet.
+//! Constants, and those that have no value.
 
 ghost use Rattle.std.specs.Prelude.{◌≡◌, ◌++◌, OnOk, map, option_map};
 ghost use Rattle.tla_parse.specs.UnitsView.{unit_view, declared};
@@ -8,6 +8,7 @@ ghost use Rattle.tla_defs.specs.Refused.{Says};
 
 use crate::known::new_name;
 use crate::mention::Mention;
+use crate::names::Names;
 use crate::scope::Scope;
 use std::alloc::Global;
 use tla_config::{DefsError, Source};
@@ -31,26 +32,37 @@ pub(crate) fn declare<'a>(
     Ok(())
 }
 
-/// The first constant of a unit.
-fn declared_first<'a>(unit: &'a Unit) -> Option<Mention<'a>>
-    ensures { option_map written_of result ≡ spec.declared_first (unit_view unit.entry.now) }
+/// The first of these constants that has no item.
+fn first_unvalued<'a>(replaced: &Names<'_>, declarations: &'a [Declaration]) -> Option<Mention<'a>>
+    ensures { option_map written_of result ≡ spec.first_unvalued replaced.now (map declared declarations.entry.now) }
+{
+    let mut left = declarations;
+    while let [first, rest @ ..] = left {
+        if !replaced.contains(first.name.word.as_bytes()) {
+            return Some(Mention::of(&first.name));
+        }
+        left = rest;
+    }
+    None
+}
+
+/// The first constant of a unit that has no item.
+fn declared_unvalued<'a>(replaced: &Names<'_>, unit: &'a Unit) -> Option<Mention<'a>>
+    ensures { option_map written_of result ≡ spec.declared_unvalued replaced.now (unit_view unit.entry.now) }
 {
     match unit {
-        Unit::Constants(_, declarations) => match declarations.as_slice() {
-            [first, ..] => Some(Mention::of(&first.name)),
-            [] => None,
-        },
+        Unit::Constants(_, declarations) => first_unvalued(replaced, declarations),
         _ => None,
     }
 }
 
 /// The first constant that has no value.
-pub(crate) fn unvalued<'a>(units: &'a [Unit]) -> Option<Mention<'a>>
-    ensures { option_map written_of result ≡ spec.unvalued (map unit_view units.entry.now) }
+pub(crate) fn unvalued<'a>(replaced: &Names<'_>, units: &'a [Unit]) -> Option<Mention<'a>>
+    ensures { option_map written_of result ≡ spec.unvalued replaced.now (map unit_view units.entry.now) }
 {
     let mut left = units;
     while let [first, rest @ ..] = left {
-        if let Some(found) = declared_first(first) {
+        if let Some(found) = declared_unvalued(replaced, first) {
             return Some(found);
         }
         left = rest;

@@ -2,16 +2,22 @@
 
 ghost use Rattle.std.specs.Prelude.{◌≡◌, ◌+◌, ◌∷◌, length, List, IfOk, IfErr, map};
 ghost use Rattle.tla_config.specs.declared.error.DefsCode.TheVariants.{Memory};
+ghost use Rattle.tla_config.specs.Names.{is_among};
+ghost use Rattle.tla_config.specs.View.{item_view};
 ghost use Rattle.tla_expand.specs.Expand.{definition_in};
-ghost use Rattle.tla_expand.specs.Names.{scope_of};
+ghost use Rattle.tla_expand.specs.Names.{scope_of, outer_of};
 ghost use Rattle.tla_parse.specs.Units.{UnitTree};
 ghost use Rattle.tla_parse.specs.UnitsView.{unit_view};
 ghost use Rattle.tla_parse.specs.View.{view, definition_view};
 ghost use Rattle.tla_defs.specs.Global as global;
+ghost use Rattle.tla_defs.specs.Items as items;
+ghost use Rattle.tla_defs.specs.Scope.{signature};
 
+use crate::items::Items;
+use crate::names::Names;
 use crate::refusal::no_memory;
 use std::alloc::Global;
-use tla_config::DefsError;
+use tla_config::{DefsError, Item};
 use tla_expand::Scopes;
 use tla_parse::{Definition, Expr, Unit, Word, Written};
 
@@ -86,18 +92,64 @@ fn with_definition<'a>(
     }
 }
 
-/// With the names of a unit more.
-fn with_unit<'a>(counted: Counted<'a>, unit: &'a Unit) -> Result<Counted<'a>, DefsError>
-    ensures ok { IfOk result (λ c. (us : List UnitTree) → global.units_in counted.entry.variables (unit_view unit.now ∷ us) (scope_of counted.entry.scopes) ≡ global.units_in c.variables us (scope_of c.scopes)) }
+/// With a name more that stands for an expression, where it isn't replaced.
+fn with_operator_unless<'a>(
+    counted: Counted<'a>,
+    replaced: &Names<'_>,
+    name: &'a Word,
+    body: &'a Expr,
+) -> Result<Counted<'a>, DefsError>
+    ensures ok { IfOk result (λ c. scope_of c.scopes ≡ global.unless (is_among name.now replaced.now) (global.with_operator name.now (view body.now) (scope_of counted.entry.scopes)) (scope_of counted.entry.scopes)) }
+    ensures same { IfOk result (λ c. c.variables ≡ counted.entry.variables) }
+    ensures err { IfErr result (λ e. e.code ≡ Memory) }
+{
+    if replaced.contains(name.as_bytes()) {
+        return Ok(counted);
+    }
+    with_operator(counted, name, body)
+}
+
+/// The name of a definition.
+fn name_of<'a>(definition: &'a Definition) -> &'a Word
+    ensures { result.now ≡ (signature (definition_view definition.entry.now)).0 }
+{
+    match definition {
+        Definition::Operator(name, _, _) | Definition::Function(name, _, _) => &name.word,
+    }
+}
+
+/// With a definition more, where its name isn't replaced.
+fn with_definition_unless<'a>(
+    counted: Counted<'a>,
+    replaced: &Names<'_>,
+    definition: &'a Definition,
+) -> Result<Counted<'a>, DefsError>
+    ensures ok { IfOk result (λ c. scope_of c.scopes ≡ global.unless (is_among (signature (definition_view definition.now)).0 replaced.now) (definition_in (definition_view definition.now) (scope_of counted.entry.scopes)) (scope_of counted.entry.scopes)) }
+    ensures same { IfOk result (λ c. c.variables ≡ counted.entry.variables) }
+    ensures err { IfErr result (λ e. e.code ≡ Memory) }
+{
+    if replaced.contains(name_of(definition).as_bytes()) {
+        return Ok(counted);
+    }
+    with_definition(counted, definition)
+}
+
+/// With the names of a unit more, where they aren't replaced.
+fn with_unit<'a>(
+    counted: Counted<'a>,
+    replaced: &Names<'_>,
+    unit: &'a Unit,
+) -> Result<Counted<'a>, DefsError>
+    ensures ok { IfOk result (λ c. (us : List UnitTree) → global.units_in replaced.now counted.entry.variables (unit_view unit.now ∷ us) (scope_of counted.entry.scopes) ≡ global.units_in replaced.now c.variables us (scope_of c.scopes)) }
     ensures err { IfErr result (λ e. e.code ≡ Memory) }
 {
     match unit {
         Unit::Variables(_, names) => with_variables(counted, names),
         Unit::Operator(name, body) | Unit::Assume(_, Some(name), body) => {
-            with_operator(counted, &name.word, body)
+            with_operator_unless(counted, replaced, &name.word, body)
         }
         Unit::Defines(definition) | Unit::Local(_, definition) => {
-            with_definition(counted, definition)
+            with_definition_unless(counted, replaced, definition)
         }
         Unit::Separator(_)
         | Unit::Extends(_, _)
@@ -107,19 +159,104 @@ fn with_unit<'a>(counted: Counted<'a>, unit: &'a Unit) -> Result<Counted<'a>, De
     }
 }
 
-/// The scope of a module. The only error is want of memory.
-pub(crate) fn global_scope<'a>(alloc: Global, units: &'a [Unit]) -> Result<Scopes<'a>, DefsError>
-    ensures ok { IfOk result (λ s. scope_of s ≡ global.global (map unit_view units.now)) }
+/// With the name of an item more.
+fn with_item<'a>(scopes: Scopes<'a>, item: &'a Item) -> Result<Scopes<'a>, DefsError>
+    ensures ok { IfOk result (λ s. scope_of s ≡ items.with_item (outer_of scopes.entry) (item_view item.now) (scope_of scopes.entry)) }
+    ensures outer { IfOk result (λ s. outer_of s ≡ outer_of scopes.entry) }
     ensures err { IfErr result (λ e. e.code ≡ Memory) }
 {
-    let mut counted = Counted {
-        scopes: Scopes::new(alloc),
-        variables: 0,
+    let found = match item {
+        Item::Value(name, value) => scopes.with_value(&name.word, value),
+        Item::Replaces(name, operator) => scopes.with_replacement(&name.word, &operator.word),
     };
-    let mut left = units;
+    match found {
+        Ok(scopes) => Ok(scopes),
+        Err(_) => Err(no_memory()),
+    }
+}
+
+/// With the names of items more.
+fn with_items<'a>(scopes: Scopes<'a>, given: &Items<'a>) -> Result<Scopes<'a>, DefsError>
+    ensures ok { IfOk result (λ s. scope_of s ≡ items.with_items (outer_of scopes.entry) given.now (scope_of scopes.entry)) }
+    ensures err { IfErr result (λ e. e.code ≡ Memory) }
+{
+    let mut all = scopes;
+    let mut left = given.list();
     while let [first, rest @ ..] = left {
-        counted = with_unit(counted, first)?;
+        all = with_item(all, first)?;
         left = rest;
     }
-    Ok(counted.scopes)
+    Ok(all)
+}
+
+/// The scope behind units, where these names are replaced.
+fn with_units<'a>(
+    counted: Counted<'a>,
+    replaced: &Names<'_>,
+    units: &'a [Unit],
+) -> Result<Scopes<'a>, DefsError>
+    ensures ok { IfOk result (λ s. scope_of s ≡ global.units_in replaced.now counted.entry.variables (map unit_view units.now) (scope_of counted.entry.scopes)) }
+    ensures err { IfErr result (λ e. e.code ≡ Memory) }
+{
+    let mut all = counted;
+    let mut left = units;
+    while let [first, rest @ ..] = left {
+        all = with_unit(all, replaced, first)?;
+        left = rest;
+    }
+    Ok(all.scopes)
+}
+
+/// What the names mean, where operators that replace names mean what they did so far.
+fn meant<'a>(
+    scopes: Scopes<'a>,
+    replaced: &Names<'_>,
+    given: &Items<'a>,
+    units: &'a [Unit],
+) -> Result<Scopes<'a>, DefsError>
+    requires { replaced.now ≡ items.replaced_names given.now }
+    ensures ok { IfOk result (λ s. scope_of s ≡ global.meant (map unit_view units.now) given.now (scope_of scopes.entry)) }
+    ensures err { IfErr result (λ e. e.code ≡ Memory) }
+{
+    let counted = Counted {
+        scopes: with_items(scopes.anew(), given)?,
+        variables: 0,
+    };
+    with_units(counted, replaced, units)
+}
+
+/// What the names mean, once more for each item with an operator.
+fn raised<'a>(
+    scopes: Scopes<'a>,
+    replaced: &Names<'_>,
+    given: &Items<'a>,
+    units: &'a [Unit],
+) -> Result<Scopes<'a>, DefsError>
+    requires { replaced.now ≡ items.replaced_names given.now }
+    ensures ok { IfOk result (λ s. scope_of s ≡ global.raised (map unit_view units.now) given.now given.now (scope_of scopes.entry)) }
+    ensures err { IfErr result (λ e. e.code ≡ Memory) }
+{
+    let mut all = scopes;
+    let mut left = given.list();
+    while let [first, rest @ ..] = left {
+        if let Item::Replaces(_, _) = first {
+            all = meant(all, replaced, given, units)?;
+        }
+        left = rest;
+    }
+    Ok(all)
+}
+
+/// The scope of a module where the configuration has these items. The only error is want of memory.
+pub(crate) fn global_scope<'a>(
+    alloc: Global,
+    units: &'a [Unit],
+    given: &Items<'a>,
+) -> Result<Scopes<'a>, DefsError>
+    ensures ok { IfOk result (λ s. scope_of s ≡ global.global (map unit_view units.now) given.now) }
+    ensures err { IfErr result (λ e. e.code ≡ Memory) }
+{
+    let replaced = given.names(alloc)?;
+    let first = meant(Scopes::new(alloc), &replaced, given, units)?;
+    raised(first, &replaced, given, units)
 }

@@ -3,8 +3,8 @@
 ghost use Rattle.std.specs.Prelude.{◌≡◌, ◌≢◌, ◌++◌, ◌∷◌, [], List, None, Some, true, false, IfOk, IfErr, OnOk, map, option_map, is_some, length, take};
 ghost use Rattle.tla_config.specs.declared.error.DefsCode.TheVariants.{Memory};
 ghost use Rattle.tla_config.specs.Names.{Name, words};
-ghost use Rattle.tla_parse.specs.Tree.{trees, binders, arms, definitions};
-ghost use Rattle.tla_parse.specs.View.{view, group_view, choice_view, definition_view};
+ghost use Rattle.tla_parse.specs.Tree.{trees, binders, arms, definitions, fields, keys, updates};
+ghost use Rattle.tla_parse.specs.View.{view, group_view, choice_view, definition_view, field_view, key_view, update_view};
 ghost use Rattle.tla_defs.specs.Scope as scope_of;
 ghost use Rattle.tla_defs.specs.Operators as operators;
 ghost use Rattle.tla_defs.specs.Known as known;
@@ -19,7 +19,7 @@ use crate::scope::Scope;
 use std::alloc::Global;
 use tla_config::{DefsCode, DefsError, Source};
 use tla_lex::Place;
-use tla_parse::{Arm, Binder, Definition, Expr, Infix, Prefix, Written};
+use tla_parse::{Arm, Binder, Definition, Expr, Field, Infix, Key, Prefix, Update, Written};
 
 /// Whether an infix operator may be used where these modules are extended.
 fn infix_known(modules: &Names<'_>, operator: Infix) -> bool
@@ -149,6 +149,21 @@ pub(crate) fn new_names(
     bring(alloc, scope, &mut new, names)
 }
 
+/// A name behind others.
+fn once(alloc: Global, before: &Names<'_>, name: &Written) -> Result<(), DefsError>
+    ensures { Says Source.Module result (known.again before.now name.now) }
+{
+    if before.contains(name.word.as_bytes()) {
+        return Err(refusal_of(
+            alloc,
+            DefsCode::DefinedTwice,
+            Source::Module,
+            Mention::of(name),
+        ));
+    }
+    Ok(())
+}
+
 /// An operator that may be used.
 fn operator(alloc: Global, is_known: bool, place: Place, word: &[u8]) -> Result<(), DefsError>
     ensures { Says Source.Module result (known.if_not is_known place word.now) }
@@ -193,15 +208,7 @@ pub(crate) fn expression<'a>(
             expression(alloc, modules, scope, second)
         }
         Expr::Quantified(_, _, groups, body) => bound(alloc, modules, scope, groups, body),
-        Expr::Choose(_, name, set, body) => {
-            new_name(alloc, scope, name)?;
-            expression(alloc, modules, scope, set)?;
-            let mark = scope.len();
-            scope.push(name.word.as_bytes(), 0)?;
-            expression(alloc, modules, scope, body)?;
-            scope.truncate(mark);
-            Ok(())
-        }
+        Expr::Choose(_, name, set, body) => chosen(alloc, modules, scope, name, set, body),
         Expr::If(_, condition, yes, no) => {
             expression(alloc, modules, scope, condition)?;
             expression(alloc, modules, scope, yes)?;
@@ -212,6 +219,19 @@ pub(crate) fn expression<'a>(
             Some(value) => case(alloc, modules, scope, arms, value),
         },
         Expr::Let(_, definitions, body) => within(alloc, modules, scope, definitions, body),
+        Expr::Filter(_, name, set, body) => chosen(alloc, modules, scope, name, set, body),
+        Expr::Image(_, element, groups) => image(alloc, modules, scope, element, groups),
+        Expr::Function(_, groups, body) => bound(alloc, modules, scope, groups, body),
+        Expr::FunctionSet(_, first, second)
+        | Expr::Action(_, _, first, second)
+        | Expr::Fair(_, _, first, second) => {
+            expression(alloc, modules, scope, first)?;
+            expression(alloc, modules, scope, second)
+        }
+        Expr::Record(_, fields) => each_field(alloc, modules, scope, fields),
+        Expr::RecordSet(_, fields) => each_field(alloc, modules, scope, fields),
+        Expr::Except(_, function, updates) => except(alloc, modules, scope, function, updates),
+        Expr::Product(_, first, others) => index(alloc, modules, scope, first, others),
     }
 }
 
@@ -246,6 +266,144 @@ fn index<'a>(
 {
     expression(alloc, modules, scope, function)?;
     each(alloc, modules, scope, arguments)
+}
+
+/// A body behind one name, whose set doesn't see it.
+#[cycle(known)]
+#[tactic(auto, using(crate::proofs::Stacks::cut_back))]
+fn chosen<'a>(
+    alloc: Global,
+    modules: &Names<'_>,
+    scope: &mut Scope<'a>,
+    name: &'a Written,
+    set: &'a Expr,
+    body: &'a Expr,
+) -> Result<(), DefsError>
+    ensures same { OnOk result (scope.new ≡ scope.old) }
+    ensures first { Says Source.Module result (or_else (known.new_name scope.old name.now) (or_else (known.misused modules.now scope.old (view set.now)) (known.misused modules.now (scope.old ++ scope_of.plain (name.now.word ∷ [])) (view body.now)))) }
+{
+    new_name(alloc, scope, name)?;
+    expression(alloc, modules, scope, set)?;
+    let mark = scope.len();
+    scope.push(name.word.as_bytes(), 0)?;
+    expression(alloc, modules, scope, body)?;
+    scope.truncate(mark);
+    Ok(())
+}
+
+/// An element before the binder list of its names.
+#[cycle(known)]
+#[tactic(auto, using(crate::proofs::Stacks::cut_back))]
+fn image<'a>(
+    alloc: Global,
+    modules: &Names<'_>,
+    scope: &mut Scope<'a>,
+    element: &'a Expr,
+    groups: &'a [Binder],
+) -> Result<(), DefsError>
+    ensures same { OnOk result (scope.new ≡ scope.old) }
+    ensures first { Says Source.Module result (or_else (known.misused modules.now (scope.old ++ scope_of.plain (scope_of.bound_names (binders (map group_view groups.now)))) (view element.now)) (known.misused_sets modules.now scope.old [] (binders (map group_view groups.now)))) }
+{
+    let mark = scope.len();
+    scope.push_bound(groups)?;
+    expression(alloc, modules, scope, element)?;
+    scope.truncate(mark);
+    bind(alloc, modules, scope, groups)?;
+    scope.truncate(mark);
+    Ok(())
+}
+
+/// Fields of which each name stands once.
+#[cycle(known)]
+fn each_field<'a>(
+    alloc: Global,
+    modules: &Names<'_>,
+    scope: &mut Scope<'a>,
+    items: &'a [Field],
+) -> Result<(), DefsError>
+    ensures same { OnOk result (scope.new ≡ scope.old) }
+    ensures first { Says Source.Module result (known.misused_fields modules.now scope.old [] (fields (map field_view items.now))) }
+{
+    let mut before = Names::new(alloc);
+    let mut left = items;
+    while let [first, rest @ ..] = left {
+        once(alloc, &before, &first.name)?;
+        expression(alloc, modules, scope, &first.value)?;
+        before.push(&first.name.word)?;
+        left = rest;
+    }
+    Ok(())
+}
+
+/// A function and its updates.
+#[cycle(known)]
+fn except<'a>(
+    alloc: Global,
+    modules: &Names<'_>,
+    scope: &mut Scope<'a>,
+    function: &'a Expr,
+    items: &'a [Update],
+) -> Result<(), DefsError>
+    ensures same { OnOk result (scope.new ≡ scope.old) }
+    ensures first { Says Source.Module result (or_else (known.misused modules.now scope.old (view function.now)) (known.misused_updates modules.now scope.old (updates (map update_view items.now)))) }
+{
+    expression(alloc, modules, scope, function)?;
+    each_update(alloc, modules, scope, items)
+}
+
+/// Updates of which each name is used as it may be.
+#[cycle(known)]
+fn each_update<'a>(
+    alloc: Global,
+    modules: &Names<'_>,
+    scope: &mut Scope<'a>,
+    items: &'a [Update],
+) -> Result<(), DefsError>
+    ensures same { OnOk result (scope.new ≡ scope.old) }
+    ensures first { Says Source.Module result (known.misused_updates modules.now scope.old (updates (map update_view items.now))) }
+{
+    let mut left = items;
+    while let [first, rest @ ..] = left {
+        one_update(alloc, modules, scope, first)?;
+        left = rest;
+    }
+    Ok(())
+}
+
+/// The path and the value of an update.
+#[cycle(known)]
+fn one_update<'a>(
+    alloc: Global,
+    modules: &Names<'_>,
+    scope: &mut Scope<'a>,
+    update: &'a Update,
+) -> Result<(), DefsError>
+    ensures same { OnOk result (scope.new ≡ scope.old) }
+    ensures first { Says Source.Module result (or_else (known.misused_keys modules.now scope.old (update_view update.now).0) (known.misused modules.now scope.old (update_view update.now).1)) }
+{
+    path(alloc, modules, scope, &update.path)?;
+    expression(alloc, modules, scope, &update.value)
+}
+
+/// The path of an update.
+#[cycle(known)]
+fn path<'a>(
+    alloc: Global,
+    modules: &Names<'_>,
+    scope: &mut Scope<'a>,
+    items: &'a [Key],
+) -> Result<(), DefsError>
+    ensures same { OnOk result (scope.new ≡ scope.old) }
+    ensures first { Says Source.Module result (known.misused_keys modules.now scope.old (keys (map key_view items.now))) }
+{
+    let mut left = items;
+    while let [first, rest @ ..] = left {
+        if let Key::Index(arguments) = first {
+            each(alloc, modules, scope, arguments)?;
+        }
+        left = rest;
+    }
+    Ok(())
 }
 
 /// A body behind a binder list.

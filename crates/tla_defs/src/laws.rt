@@ -2,6 +2,7 @@
 
 ghost use Rattle.tla_defs.specs.Laws.{OnlyModel, NoneRefused, IsAlwaysSound};
 ghost use Rattle.tla_defs.specs.Rows.{CounterOfThree, CounterOfFive, BoundedSteps, BoundedStepsMayEnd, LargestNumber};
+ghost use Rattle.tla_defs.specs.GivenRows.{WithValue, TwoVariables};
 ghost use Rattle.tla_defs.specs.NamedRows.{WithParameter, WithLet, WithoutCapture};
 
 /// A module and a configuration name at most one model.
@@ -29,4 +30,6 @@ pub fn models()
     ensures with_parameter { WithParameter }
     ensures with_let { WithLet }
     ensures without_capture { WithoutCapture }
+    ensures with_value { WithValue }
+    ensures two_variables { TwoVariables }
 {}

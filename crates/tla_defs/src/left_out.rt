@@ -17,10 +17,6 @@ fn left_out_word<'a>(statement: &'a Statement) -> Option<Mention<'a>>
             place: *place,
             word: b"SPECIFICATION",
         }),
-        Statement::Constants(place, _) => Some(Mention {
-            place: *place,
-            word: b"CONSTANT",
-        }),
         _ => None,
     }
 }

@@ -6,11 +6,14 @@
 
 mod behaviour;
 mod builder;
+mod circle;
 mod constants;
 mod formula;
 mod global;
+mod items;
 mod known;
 pub mod laws;
+mod leads;
 mod left_out;
 mod mention;
 mod names;

@@ -1,16 +1,20 @@
 //! The names in scope.
 
-ghost use Rattle.std.specs.Prelude.{◌≡◌, ◌++◌, ◌∷◌, [], OnOk, IfErr, take, length, is_some};
+ghost use Rattle.std.specs.Prelude.{◌≡◌, ◌++◌, ◌∷◌, [], OnOk, IfErr, take, length, is_some, map};
 ghost use Rattle.tla_config.specs.declared.error.DefsCode.TheVariants.{Memory};
 ghost use Rattle.tla_config.specs.Names.{words};
-ghost use Rattle.tla_defs.specs.Scope.{arity, plain, module_names, extended};
+ghost use Rattle.tla_parse.specs.Tree.{binders};
+ghost use Rattle.tla_parse.specs.View.{group_view};
+ghost use Rattle.tla_parse.specs.UnitsView.{declared};
+ghost use Rattle.tla_defs.specs.Constants.{constants};
+ghost use Rattle.tla_defs.specs.Scope.{arity, plain, bound_names, module_names, extended};
 
 use crate::names::Names;
 use crate::refusal::no_memory;
 use std::alloc::Global;
 use std::marker::Model;
 use tla_config::DefsError;
-use tla_parse::Written;
+use tla_parse::{Binder, Declaration, Written};
 
 /// A name, and how many arguments it takes.
 #[derive(Clone, Copy)]
@@ -81,6 +85,19 @@ impl<'a> Scope<'a> {
         Ok(())
     }
 
+    /// The names of a binder list more. The only error is want of memory.
+    pub(crate) fn push_bound(&mut self, groups: &'a [Binder]) -> Result<(), DefsError>
+        ensures ok { OnOk result (self.new ≡ self.old ++ plain (bound_names (binders (map group_view groups.entry.now)))) }
+        ensures err { IfErr result (λ e. e.code ≡ Memory) }
+    {
+        let mut left = groups;
+        while let [first, rest @ ..] = left {
+            self.push_all(&first.names)?;
+            left = rest;
+        }
+        Ok(())
+    }
+
     /// Names more, without parameters. The only error is want of memory.
     pub(crate) fn push_names(&mut self, names: &Names<'a>) -> Result<(), DefsError>
         ensures ok { OnOk result (self.new ≡ self.old ++ plain names.now) }
@@ -94,14 +111,28 @@ impl<'a> Scope<'a> {
         Ok(())
     }
 
+    /// Constants more. The only error is want of memory.
+    pub(crate) fn push_declared(&mut self, declarations: &'a [Declaration]) -> Result<(), DefsError>
+        ensures ok { OnOk result (self.new ≡ self.old ++ constants (map declared declarations.entry.now)) }
+        ensures err { IfErr result (λ e. e.code ≡ Memory) }
+    {
+        let mut left = declarations;
+        while let [first, rest @ ..] = left {
+            self.push(first.name.word.as_bytes(), first.arity)?;
+            left = rest;
+        }
+        Ok(())
+    }
+
     /// How many arguments a name takes, where it is in scope.
+    #[tactic(auto, using(crate::proofs::Stacks::arity_last))]
     pub(crate) fn arity(&self, name: &[u8]) -> Option<usize>
         ensures { result ≡ arity self.now name.now }
     {
         let mut left = self.names.as_slice();
-        while let [first, rest @ ..] = left {
-            if name == first.name {
-                return Some(first.arity);
+        while let [rest @ .., last] = left {
+            if name == last.name {
+                return Some(last.arity);
             }
             left = rest;
         }
@@ -128,24 +159,24 @@ impl<'a> Scope<'a> {
     }
 
     /// The names of a module more. The only error is want of memory.
-    fn extend(&mut self, module: &[u8]) -> Result<(), DefsError>
-        ensures ok { OnOk result (self.new ≡ self.old ++ module_names module.now) }
+    fn extend(&mut self, name: &[u8]) -> Result<(), DefsError>
+        ensures ok { OnOk result (self.new ≡ self.old ++ module_names name.now) }
         ensures err { IfErr result (λ e. e.code ≡ Memory) }
     {
-        if module == b"Naturals".as_slice() {
+        if name == b"Naturals".as_slice() {
             self.push(b"Nat", 0)
-        } else if module == b"Integers".as_slice() {
+        } else if name == b"Integers".as_slice() {
             self.push_two((b"Nat", 0), (b"Int", 0))
-        } else if module == b"Sequences".as_slice() {
+        } else if name == b"Sequences".as_slice() {
             self.push(b"Seq", 1)?;
             self.push(b"Len", 1)?;
             self.push(b"Append", 2)?;
             self.push(b"Head", 1)?;
             self.push(b"Tail", 1)?;
             self.push(b"SubSeq", 3)
-        } else if module == b"FiniteSets".as_slice() {
+        } else if name == b"FiniteSets".as_slice() {
             self.push_two((b"IsFiniteSet", 1), (b"Cardinality", 1))
-        } else if module == b"TLC".as_slice() {
+        } else if name == b"TLC".as_slice() {
             self.push(b"Assert", 2)
         } else {
             Ok(())

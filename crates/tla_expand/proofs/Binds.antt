@@ -8,8 +8,7 @@ use Rattle.tla_expand.specs.declared.arena.Entry.{Entry}
 use Rattle.tla_expand.specs.declared.arena.What.TheVariants.{Definition}
 use Rattle.tla_eval.specs.declared.fault.Place.{Place}
 use Rattle.tla_parse.specs.View.{view}
-use Rattle.tla_expand.specs.Meanings.{Scope, Argument, Meaning, with_parameters, with_name, parameter}
-use Rattle.tla_expand.specs.Expand.{expand}
+use Rattle.tla_expand.specs.Expand.{Scope, Argument, Meaning, with_parameters, with_name, parameter, expand}
 use Rattle.tla_expand.specs.Scopes.{entry_scope, scope_at, meaning_of, Extends, arguments_in}
 use Rattle.tla_expand.proofs.Links.{scope_keep}
 
@@ -48,8 +47,8 @@ parameters_mismatch (x ∷ xs) [] σ h = refl
 parameters_mismatch (x ∷ xs) (a ∷ args) σ h = parameters_mismatch xs args (with_name x.word (parameter a) σ) (λ e. h (ap suc e))
 
 -- an operator with another number of arguments
-pub mismatch : (at : ℕ → Scope) (args : List syntax.Expr) (σ : Scope) (p : Place) (d : ℕ) (m : Meaning) (e : Entry) (xs : Bor (List Written)) (body : Bor syntax.Expr)
-    → m ≡ meaning_of at e.what e.rest → e.what ≡ Definition xs body → (length xs.now ≡ length args → ⊥) → m p (arguments_in args σ) d ≡ None
-mismatch at args σ p d m e xs body h w n =
+pub mismatch : (at : ℕ → Scope) (args : List syntax.Expr) (σ : Scope) (p : Place) (d : ℕ) (m : Meaning) (e : Entry) (xs : Bor (List Written)) (body : Bor syntax.Expr) (home : ℕ)
+    → m ≡ meaning_of at e.what → e.what ≡ Definition xs body home → (length xs.now ≡ length args → ⊥) → m p (arguments_in args σ) d ≡ None
+mismatch at args σ p d m e xs body home h w n =
     let q : length (arguments_in args σ) ≡ length args = length-map args (λ (t : syntax.Expr). expand (view t) σ) in
-    rw (h, w, parameters_mismatch xs.now (arguments_in args σ) (at e.rest) (λ z. n (z ∙ q))) refl
+    rw (h, w, parameters_mismatch xs.now (arguments_in args σ) (at home) (λ z. n (z ∙ q))) refl

@@ -6,14 +6,12 @@ pub mod Steps
 pub mod Sizes
 pub mod Made
 pub mod Lists
-pub mod Named
 pub mod Keeps
 pub mod Kept
 pub mod Groups
 pub mod Arms
 pub mod Plain
 pub mod Nested
-pub mod Gathered
 pub mod Rows
 pub mod PrimesFit
 pub mod UnchangedFits

@@ -13,8 +13,7 @@ use Rattle.tla_parse.specs.declared.tree.Quantifier.TheVariants as quantifier
 use Rattle.tla_parse.specs.Tree.{Tree, Trees, none, more, unbound, undefined, defined, DefinesOperator, Name, Number, Call, Prime, Listing, Unary, Binary, Quantified, Let}
 use Rattle.tla_parse.specs.Tree as t
 use Rattle.tla_expand.specs.Places as names
-use Rattle.tla_expand.specs.Meanings.{Scope, standard, with_name, variable}
-use Rattle.tla_expand.specs.Expand.{expand}
+use Rattle.tla_expand.specs.Expand.{Scope, standard, with_name, variable, expand}
 
 abbrev at : text.Place
 at = record { line = 1; column = 1 }

@@ -6,8 +6,6 @@ pub mod Primes
 pub mod Unchanged
 pub mod Operators
 pub mod Library
-pub mod Meanings
-pub mod Bound
 pub mod Expand
 pub mod Forms
 pub mod Scopes

@@ -14,7 +14,6 @@ abbrev pub library : Name → Option Builtin
 library x =
     if bytes_eq x (codes "Nat") then Some (builtin.Kinds k.Naturals)
     else if bytes_eq x (codes "Int") then Some (builtin.Kinds k.Integers)
-    else if bytes_eq x (codes "Seq") then Some builtin.Sequences
     else if bytes_eq x (codes "Len") then Some (builtin.One u.Len)
     else if bytes_eq x (codes "Head") then Some (builtin.One u.Head)
     else if bytes_eq x (codes "Tail") then Some (builtin.One u.Tail)

@@ -4,17 +4,15 @@ ghost use Rattle.std.specs.Prelude.{◌≡◌, ◌≤◌, length, ℕ, List, map
 ghost use Rattle.tla_parse.specs.View.{view, definition_view};
 ghost use Rattle.tla_parse.specs.Tree.{definitions as definitions_of};
 ghost use Rattle.tla_expand.specs.declared.arena.Entry as arena_entry;
-ghost use Rattle.tla_expand.specs.Meanings.{Scope, standard};
-ghost use Rattle.tla_expand.specs.Expand.{expand, definitions_in, definition_in};
+ghost use Rattle.tla_expand.specs.Expand.{Scope, standard, builtin_meaning, expand, definitions_in, definition_in};
 ghost use Rattle.tla_expand.specs.Scopes.{AreLinked, IsBelow, Extends, scope_at, entry_scope, arguments_in};
-ghost use Rattle.tla_expand.specs.Gives.{step_gives, head_gives, IsWithin, Explains};
-ghost use Rattle.tla_expand.specs.Primes.{with_primes};
+ghost use Rattle.tla_expand.specs.Gives.{shown, step_gives, head_gives, IsWithin, Explains};
 
 use crate::arena::{Entry, What, bind, enter, find};
 use crate::builders::place_of;
 use crate::failure::Failure;
 use crate::forms::{builtin_form, form_of};
-use crate::nodes::{Binders, Form, Gather, Leaf, Shape};
+use crate::nodes::{Builtin, Form, Leaf, Shape};
 use crate::operators::builtin_for;
 use crate::primes::{Primes, one_more};
 use tla_eval::Place;
@@ -44,12 +42,27 @@ fn use_of_module<'a>(
     primes: Primes,
 ) -> Result<Head<'a>, Failure>
     ensures scope { IfOk result (λ h. h.scope ≡ scope) }
-    ensures same { IfOk result (λ h. (es : List arena_entry.Entry) (d : ℕ) → with_primes primes (standard name.now place (arguments_in arguments.now (scope_at es scope)) d) ≡ head_gives es h d) }
+    ensures same { IfOk result (λ h. (es : List arena_entry.Entry) (d : ℕ) → shown primes (standard name.now place (arguments_in arguments.now (scope_at es scope)) d) ≡ head_gives es h d) }
     ensures err { IfErr result (λ e. (σ : Scope) → Explains e (λ d. standard name.now place (arguments_in arguments.now σ) d)) }
 {
     let Some(builtin) = builtin_for(name) else {
         return Err(Failure::NoExpansion(place));
     };
+    use_of_builtin(place, builtin, arguments, scope, primes)
+}
+
+/// The use of an operator of a module.
+fn use_of_builtin<'a>(
+    place: Place,
+    builtin: Builtin,
+    arguments: &'a [Expr],
+    scope: usize,
+    primes: Primes,
+) -> Result<Head<'a>, Failure>
+    ensures scope { IfOk result (λ h. h.scope ≡ scope) }
+    ensures same { IfOk result (λ h. (es : List arena_entry.Entry) (d : ℕ) → shown primes (builtin_meaning builtin place (arguments_in arguments.now (scope_at es scope)) d) ≡ head_gives es h d) }
+    ensures err { IfErr result (λ e. (σ : Scope) → Explains e (λ d. builtin_meaning builtin place (arguments_in arguments.now σ) d)) }
+{
     match builtin_form(place, builtin, arguments) {
         Some(form) => Ok(Head {
             form,
@@ -61,7 +74,7 @@ fn use_of_module<'a>(
 }
 
 /// What the use of a name goes on with.
-fn use_of<'a>(
+pub(crate) fn use_of<'a>(
     entries: &mut Vec<Entry<'a>>,
     place: Place,
     name: &[u8],
@@ -74,36 +87,35 @@ fn use_of<'a>(
     ensures linked { OnOk result (AreLinked entries.new.items) }
     ensures extends { OnOk result (Extends entries.new.items entries.old.items) }
     ensures within { IfOk result (λ s. IsWithin entries.new.items s) }
-    ensures same { IfOk result (λ s. (d : ℕ) → with_primes primes (scope_at entries.old.items scope name.now place (arguments_in arguments.now (scope_at entries.old.items scope)) d) ≡ step_gives entries.new.items s d) }
+    ensures same { IfOk result (λ s. (d : ℕ) → shown primes (scope_at entries.old.items scope name.now place (arguments_in arguments.now (scope_at entries.old.items scope)) d) ≡ step_gives entries.new.items s d) }
     ensures err { IfErr result (λ e. Explains e (λ d. scope_at entries.old.items scope name.now place (arguments_in arguments.now (scope_at entries.old.items scope)) d)) }
 {
     let Some(entry) = find(entries.as_slice(), scope, name) else {
         let head = use_of_module(place, name, arguments, scope, primes)?;
         return Ok(Step::Ends(head));
     };
-    if let What::Definition(parameters, body) = entry.what {
+    if let What::Definition(parameters, body, home) = entry.what {
         if parameters.len() != arguments.len() {
             return Err(Failure::NoExpansion(place));
         }
-        let inner = bind(entries, parameters, entry.rest, arguments, scope)?;
+        let inner = bind(entries, parameters, home, arguments, scope)?;
         return Ok(Step::Goes(body, inner, primes));
+    }
+    if let What::Module(builtin) = entry.what {
+        let head = use_of_builtin(place, builtin, arguments, scope, primes)?;
+        return Ok(Step::Ends(head));
     }
     if arguments.len() > 0 {
         return Err(Failure::NoExpansion(place));
     }
     let form = match entry.what {
         What::Argument(tree, from) => return Ok(Step::Goes(tree, from, primes)),
-        What::Function(at, groups, body) => {
-            return Ok(Step::Ends(Head {
-                form: Form::Binders(at, Binders::Gathered(Gather::Function), groups, body),
-                scope: entry.rest,
-                primes,
-            }));
-        }
         What::Bound(index) => Form::Leaf(place, Leaf::Bound(index)),
         What::Variable(index) => Form::Variable(place, index),
         What::Value(value) => Form::Leaf(place, Leaf::Value(value)),
-        What::Definition(_, _) => return Err(Failure::NoExpansion(place)),
+        What::Definition(_, _, _) | What::Module(_) | What::Unknown => return Err(
+            Failure::NoExpansion(place),
+        ),
     };
     Ok(Step::Ends(Head {
         form,
@@ -143,12 +155,12 @@ pub(crate) fn entry_of<'a>(definition: &'a Definition, scope: usize) -> Entry<'a
     match definition {
         Definition::Operator(name, parameters, body) => Entry {
             name: name.word.as_bytes(),
-            what: What::Definition(parameters.as_slice(), body),
+            what: What::Definition(parameters.as_slice(), body, scope),
             rest: scope,
         },
-        Definition::Function(name, groups, body) => Entry {
+        Definition::Function(name, _, _) => Entry {
             name: name.word.as_bytes(),
-            what: What::Function(place_of(name.place), groups.as_slice(), body),
+            what: What::Unknown,
             rest: scope,
         },
     }
@@ -166,7 +178,7 @@ fn go<'a>(
     ensures linked { OnOk result (AreLinked entries.new.items) }
     ensures extends { OnOk result (Extends entries.new.items entries.old.items) }
     ensures within { IfOk result (λ s. IsWithin entries.new.items s) }
-    ensures same { IfOk result (λ s. (d : ℕ) → with_primes primes (expand (view tree.now) (scope_at entries.old.items scope) d) ≡ step_gives entries.new.items s d) }
+    ensures same { IfOk result (λ s. (d : ℕ) → shown primes (expand (view tree.now) (scope_at entries.old.items scope) d) ≡ step_gives entries.new.items s d) }
     ensures err { IfErr result (λ e. Explains e (λ d. expand (view tree.now) (scope_at entries.old.items scope) d)) }
 {
     match tree {
@@ -179,7 +191,6 @@ fn go<'a>(
             let arguments = arguments.as_slice();
             use_of(entries, at, name.word.as_bytes(), arguments, scope, primes)
         }
-        Expr::At(at) => use_of(entries, place_of(*at), b"@".as_slice(), &[], scope, primes),
         Expr::Paren(_, inner) => Ok(Step::Goes(inner, scope, primes)),
         Expr::Prime(_, inner) => Ok(Step::Goes(inner, scope, one_more(primes))),
         Expr::Let(_, definitions, inner) => {
@@ -202,7 +213,7 @@ fn next_step<'a>(
     ensures linked { OnOk result (AreLinked entries.new.items) }
     ensures extends { OnOk result (Extends entries.new.items entries.old.items) }
     ensures within { IfOk result (λ s. IsWithin entries.new.items s) }
-    ensures same { IfOk result (λ s. (d : ℕ) → with_primes primes (expand (view tree.now) (scope_at entries.old.items scope) d) ≡ step_gives entries.new.items s d) }
+    ensures same { IfOk result (λ s. (d : ℕ) → shown primes (expand (view tree.now) (scope_at entries.old.items scope) d) ≡ step_gives entries.new.items s d) }
     ensures err { IfErr result (λ e. Explains e (λ d. expand (view tree.now) (scope_at entries.old.items scope) d)) }
 {
     match form_of(tree) {
@@ -228,8 +239,8 @@ pub(crate) fn find_head<'a>(
     ensures linked { OnOk result (AreLinked entries.new.items) }
     ensures extends { OnOk result (Extends entries.new.items entries.old.items) }
     ensures within { IfOk result (λ h. h.scope ≤ length entries.new.items) }
-    ensures same { IfOk result (λ h. (d : ℕ) → with_primes primes (expand (view start.now) (scope_at entries.old.items scope) d) ≡ head_gives entries.new.items h d) }
-    ensures err { IfErr result (λ e. Explains e (λ d. with_primes primes (expand (view start.now) (scope_at entries.old.items scope) d))) }
+    ensures same { IfOk result (λ h. (d : ℕ) → shown primes (expand (view start.now) (scope_at entries.old.items scope) d) ≡ head_gives entries.new.items h d) }
+    ensures err { IfErr result (λ e. Explains e (λ d. shown primes (expand (view start.now) (scope_at entries.old.items scope) d))) }
 {
     let mut tree = start;
     let mut at = scope;

@@ -13,6 +13,7 @@ mod failure;
 mod forms;
 mod heads;
 pub mod laws;
+mod named;
 mod nodes;
 mod operators;
 mod primes;

@@ -6,7 +6,7 @@ ghost use Rattle.tla_expand.specs.Primes as primes_of;
 /// The third prime adds nothing to what the second does.
 #[derive(Clone, Copy, Debug, PartialEq, Eq)]
 pub enum Primes {
-    Never,
+    Not,
     Once,
     Twice,
 }
@@ -15,7 +15,7 @@ pub(crate) fn one_more(primes: Primes) -> Primes
     ensures { result ≡ primes_of.one_more primes }
 {
     match primes {
-        Primes::Never => Primes::Once,
+        Primes::Not => Primes::Once,
         Primes::Once | Primes::Twice => Primes::Twice,
     }
 }

@@ -1,5 +1,6 @@
 use Rattle.std.proofs.Common.{map}
 use Rattle.tla_eval.specs.ExprOf.{expr_of}
+use Rattle.tla_expand.specs.Names.{scope_of}
 use Rattle.tla_parse.specs.UnitsView.{unit_view}
 use Rattle.tla_defs.specs.Model.{assumptions_of}
 use Rattle.tla_defs.proofs.Found.{assumptions_end}
@@ -7,5 +8,4 @@ use Rattle.tla_defs.proofs.builder.assumptions.Goals as goal
 
 pub returns-clause-found : goal.returns-clause-found
 returns-clause-found c =
-    let us = map unit_view c.args.units.now in
-    assumptions_end us c.loop-left.left.now (assumptions_of us) (map expr_of c.loop-left.assumptions.items) c.in_default.len_below c.loop-left.invariant.found
+    assumptions_end (scope_of c.args.scopes.now) c.loop-left.left.now (assumptions_of (map unit_view c.args.units.now)) (map expr_of c.loop-left.assumptions.items) c.in_default.len_below c.loop-left.invariant.found

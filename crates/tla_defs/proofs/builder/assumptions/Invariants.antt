@@ -1,6 +1,7 @@
 use Rattle.std.proofs.Common.{◌≡◌, ◌++◌, List, length, map}
 use Rattle.tla_eval.specs.Expr.{Expr}
 use Rattle.tla_eval.specs.ExprOf.{expr_of}
+use Rattle.tla_expand.specs.Names.{scope_of}
 use Rattle.tla_parse.specs.UnitsView.{unit_view}
 use Rattle.tla_defs.specs.Formulas.{LacksAssumption}
 use Rattle.tla_defs.specs.Model.{AreAssumptions, assumptions_of}
@@ -8,8 +9,8 @@ use Rattle.tla_defs.proofs.builder.assumptions.Given as goal
 
 abbrev pub invariant-loop-left : goal.invariant-loop-left
 invariant-loop-left l = record {
-  found : (es : List Expr) → AreAssumptions (map unit_view l.units) (assumptions_of (map unit_view l.left)) es → AreAssumptions (map unit_view l.units) (assumptions_of (map unit_view l.units)) (map expr_of l.assumptions.items ++ es);
-  lacks : LacksAssumption (map unit_view l.units) (assumptions_of (map unit_view l.left)) → LacksAssumption (map unit_view l.units) (assumptions_of (map unit_view l.units));
+  found : (es : List Expr) → AreAssumptions (scope_of l.scopes) (assumptions_of (map unit_view l.left)) es → AreAssumptions (scope_of l.scopes) (assumptions_of (map unit_view l.units)) (map expr_of l.assumptions.items ++ es);
+  lacks : LacksAssumption (scope_of l.scopes) (assumptions_of (map unit_view l.left)) → LacksAssumption (scope_of l.scopes) (assumptions_of (map unit_view l.units));
 }
 
 abbrev pub decreases-loop-left : goal.decreases-loop-left

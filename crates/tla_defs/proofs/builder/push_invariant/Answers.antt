@@ -1,17 +1,7 @@
-use Rattle.std.proofs.Common.{◌∙◌, ◌++◌, ◌∷◌, [], ap, map}
-use Rattle.tla_model.specs.ModelOf.{invariant_of}
-use Rattle.tla_parse.specs.UnitsView.{unit_view}
-use Rattle.tla_defs.specs.Formulas.{names_of}
-use Rattle.tla_defs.proofs.Found.{pushed_each, pushed_names}
+use Rattle.tla_expand.specs.Names.{scope_of}
+use Rattle.tla_defs.proofs.Found.{invariants_step}
 use Rattle.tla_defs.proofs.builder.push_invariant.Goals as goal
 
-pub returns-clause-each : goal.returns-clause-each
-returns-clause-each c = λ h.
-    let same = c.in_ok-name.ensures.ok ∙ c.as_bytes.ensures in
-    pushed_each (map unit_view c.args.units.now) c.args.invariants.now.items c.push.new.invariants.items _ c.in_ok-push.ensures.ok (rw same c.in_ok-core.ensures.found) h
-
-pub returns-clause-names : goal.returns-clause-names
-returns-clause-names c =
-    let same = c.in_ok-name.ensures.ok ∙ c.as_bytes.ensures in
-    pushed_names c.args.invariants.now.items c.push.new.invariants.items _ c.in_ok-push.ensures.ok
-    ∙ ap (λ x. names_of (map invariant_of c.args.invariants.now.items) ++ x ∷ []) same
+pub returns-clause-found : goal.returns-clause-found
+returns-clause-found c = λ left all f.
+    invariants_step (scope_of c.args.scopes.now) c.args.name.now left all c.args.invariants.now.items c.push.new.invariants.items _ c.in_ok-push.ensures.ok c.in_ok-invariant.ensures.name c.in_ok-invariant.ensures.found f

@@ -4,7 +4,7 @@ use Rattle.tla_defs.specs.Constants as spec
 use Rattle.tla_defs.proofs.constants.unvalued.Given as goal
 
 abbrev pub invariant-loop-left : goal.invariant-loop-left
-invariant-loop-left l = spec.unvalued (map unit_view l.units) ≡ spec.unvalued (map unit_view l.left)
+invariant-loop-left l = spec.unvalued l.replaced (map unit_view l.units) ≡ spec.unvalued l.replaced (map unit_view l.left)
 
 abbrev pub decreases-loop-left : goal.decreases-loop-left
 decreases-loop-left l = length l.left

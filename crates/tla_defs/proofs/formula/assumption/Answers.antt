@@ -1,21 +1,17 @@
-use Rattle.std.proofs.Common.{◌≡◌, map, sym, ◌∙◌}
+use Rattle.std.proofs.Common.{sym, ◌∙◌}
 use Rattle.tla_eval.specs.ExprOf.{expr_of}
 use Rattle.tla_expand.specs.Names.{scope_of}
-use Rattle.tla_parse.specs.UnitsView.{unit_view}
 use Rattle.tla_parse.specs.View.{view}
 use Rattle.tla_defs.proofs.Found.{found_assumption, no_assumption, high_assumption, not_both}
 use Rattle.tla_defs.proofs.formula.assumption.Goals as goal
 
 pub returns-then-fits-clause-found : goal.returns-then-fits-clause-found
 returns-then-fits-clause-found c =
-    found_assumption (map unit_view c.args.units.now) (view c.args.tree.now) (scope_of c.args.scopes.now) (expr_of c.in-Ok.core) c.requires.scope
-    c.in-Ok.ensures.found c.in-Ok.ensures.limits (sym c.fits.ensures ∙ c.if-fits.true)
+    found_assumption (scope_of c.args.scopes.now) (view c.args.tree.now) (expr_of c.in-Ok.core) c.in-Ok.ensures.found c.in-Ok.ensures.limits (sym c.fits.ensures ∙ c.if-fits.true)
 
 pub returns-else-fits-clause-none : goal.returns-else-fits-clause-none
 returns-else-fits-clause-none c = λ h.
-    high_assumption (map unit_view c.args.units.now) (view c.args.tree.now) (scope_of c.args.scopes.now) c.requires.scope (expr_of c.in-Ok.core)
-    c.in-Ok.ensures.found (λ low. not_both _ low (sym c.fits.ensures ∙ c.if-fits.false))
+    high_assumption (scope_of c.args.scopes.now) (view c.args.tree.now) (expr_of c.in-Ok.core) c.in-Ok.ensures.found (λ low. not_both _ low (sym c.fits.ensures ∙ c.if-fits.false))
 
 pub returns-in-Err-clause-none : goal.returns-in-Err-clause-none
-returns-in-Err-clause-none c = λ h.
-    no_assumption (map unit_view c.args.units.now) (view c.args.tree.now) (scope_of c.args.scopes.now) c.requires.scope (c.in-Err.ensures.none h)
+returns-in-Err-clause-none c = λ h. no_assumption (scope_of c.args.scopes.now) (view c.args.tree.now) (c.in-Err.ensures.none (λ m. h (c.refusal.ensures.memory m)))

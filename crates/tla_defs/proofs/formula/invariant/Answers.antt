@@ -1,21 +1,18 @@
-use Rattle.std.proofs.Common.{◌≡◌, map, sym, ◌∙◌}
+use Rattle.std.proofs.Common.{sym, ◌∙◌}
 use Rattle.tla_eval.specs.ExprOf.{expr_of}
 use Rattle.tla_expand.specs.Names.{scope_of}
-use Rattle.tla_parse.specs.UnitsView.{unit_view}
-use Rattle.tla_parse.specs.View.{view}
 use Rattle.tla_defs.proofs.Found.{found_invariant, no_invariant, high_invariant, not_both}
 use Rattle.tla_defs.proofs.formula.invariant.Goals as goal
 
 pub returns-else-is_primed-clause-found : goal.returns-else-is_primed-clause-found
 returns-else-is_primed-clause-found c =
-    found_invariant (map unit_view c.args.units.now) c.args.name.now.word (view c.body_of-body.result.now) (scope_of c.args.scopes.now) c.requires.scope c.body_of-body.ensures
-    (expr_of c.in-Ok.core) c.in-Ok.ensures.found c.in-Ok.ensures.limits (sym c.is_primed.ensures ∙ c.if-is_primed.false)
+    found_invariant (scope_of c.args.scopes.now) c.args.name.now (expr_of c.in-Ok.core) c.in-Ok.ensures.found c.in-Ok.ensures.limits
+    (sym c.is_primed.ensures ∙ c.if-is_primed.false)
 
 pub returns-then-is_primed-clause-none : goal.returns-then-is_primed-clause-none
 returns-then-is_primed-clause-none c = λ h.
-    high_invariant (map unit_view c.args.units.now) c.args.name.now.word (view c.body_of-body.result.now) (scope_of c.args.scopes.now) c.requires.scope c.body_of-body.ensures
-    (expr_of c.in-Ok.core) c.in-Ok.ensures.found (λ low. not_both _ (sym c.is_primed.ensures ∙ c.if-is_primed.true) low)
+    high_invariant (scope_of c.args.scopes.now) c.args.name.now (expr_of c.in-Ok.core) c.in-Ok.ensures.found
+    (λ low. not_both _ (sym c.is_primed.ensures ∙ c.if-is_primed.true) low)
 
 pub returns-in-Err-clause-none : goal.returns-in-Err-clause-none
-returns-in-Err-clause-none c = λ h.
-    no_invariant (map unit_view c.args.units.now) c.args.name.now.word (view c.body_of-body.result.now) (scope_of c.args.scopes.now) c.requires.scope c.body_of-body.ensures (c.in-Err.ensures.none h)
+returns-in-Err-clause-none c = λ h. no_invariant (scope_of c.args.scopes.now) c.args.name.now (c.in-Err.ensures.none (λ m. h (c.refusal.ensures.memory m)))

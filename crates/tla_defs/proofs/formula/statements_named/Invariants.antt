@@ -1,11 +1,10 @@
 use Rattle.std.proofs.Common.{◌≡◌, length, map}
 use Rattle.tla_config.specs.View.{statement_view}
-use Rattle.tla_parse.specs.UnitsView.{unit_view}
-use Rattle.tla_defs.specs.Refused.{names_misused}
+use Rattle.tla_defs.specs.Named.{names_misused}
 use Rattle.tla_defs.proofs.formula.statements_named.Given as goal
 
 abbrev pub invariant-loop-left : goal.invariant-loop-left
-invariant-loop-left l = names_misused (map unit_view l.units) (map statement_view l.statements) ≡ names_misused (map unit_view l.units) (map statement_view l.left)
+invariant-loop-left l = names_misused l.definitions (map statement_view l.statements) ≡ names_misused l.definitions (map statement_view l.left)
 
 abbrev pub decreases-loop-left : goal.decreases-loop-left
 decreases-loop-left l = length l.left

@@ -1,9 +1,9 @@
 use Rattle.std.proofs.Common.{rules, ap, sym, ◌∙◌, ◌++◌, [], None, length, map}
 use Rattle.std.proofs.lemmas.Grind.{common_steps}
 use Rattle.tla_parse.specs.Tree.{trees, binders, arms, definitions, no_other, other}
-use Rattle.tla_parse.specs.View.{view, group_view, definition_view, choice_view, views_items, bound_views_items, arm_views_items, definition_views_items}
+use Rattle.tla_parse.specs.View.{view, group_view, definition_view, choice_view, views_items, bound_views_items, arm_views_items, definition_views_items, field_views_items, update_views_items}
 use Rattle.tla_expand.specs.Maybe.{or_else}
-use Rattle.tla_defs.specs.Known.{misused, misused_each, misused_arms, misused_sets, misused_definition, misused_definitions, used, new_name, count}
+use Rattle.tla_defs.specs.Known.{misused, misused_fields, misused_updates, misused_each, misused_arms, misused_sets, misused_definition, misused_definitions, used, new_name, count}
 use Rattle.tla_defs.specs.Scope.{plain, bound_names, signatures}
 use Rattle.tla_defs.proofs.Stacks.{count_trees, or_else_none}
 use Rattle.tla_defs.proofs.known.+known.Goals as goal
@@ -77,3 +77,45 @@ definition-returns-in-Function-clause-first t c =
     let σ = c.args.scope.now in
     rw (ap (λ k. misused_definition ms σ (definition_view k)) m.is
     ∙ ap (λ x. or_else (new_name σ m.name) (or_else (misused_sets ms σ [] x) (misused ms (σ ++ plain (bound_names x)) (view m.body)))) (bound_views_items m.groups)) (search rules)
+
+pub expression-returns-in-Image-clause-first : goal.expression-returns-in-Image-clause-first
+expression-returns-in-Image-clause-first t c =
+    let m = c.in-Image in
+    let ms = c.args.modules.now in
+    let σ = c.args.scope.now in
+    rw (ap (λ k. misused ms σ (view k)) m.is ∙ ap (λ x. or_else (misused ms (σ ++ plain (bound_names x)) (view m.element.value)) (misused_sets ms σ [] x)) (bound_views_items m.groups)) (search rules)
+
+pub expression-returns-in-Function-clause-first : goal.expression-returns-in-Function-clause-first
+expression-returns-in-Function-clause-first t c =
+    let m = c.in-Function in
+    let ms = c.args.modules.now in
+    let σ = c.args.scope.now in
+    rw (ap (λ k. misused ms σ (view k)) m.is ∙ ap (λ x. or_else (misused_sets ms σ [] x) (misused ms (σ ++ plain (bound_names x)) (view m.body.value))) (bound_views_items m.groups)) (search rules)
+
+pub expression-returns-in-Record-clause-first : goal.expression-returns-in-Record-clause-first
+expression-returns-in-Record-clause-first t c =
+    let m = c.in-Record in
+    let ms = c.args.modules.now in
+    let σ = c.args.scope.now in
+    rw (ap (λ k. misused ms σ (view k)) m.is ∙ ap (λ x. misused_fields ms σ [] x) (field_views_items m.fields)) (search rules)
+
+pub expression-returns-in-RecordSet-clause-first : goal.expression-returns-in-RecordSet-clause-first
+expression-returns-in-RecordSet-clause-first t c =
+    let m = c.in-RecordSet in
+    let ms = c.args.modules.now in
+    let σ = c.args.scope.now in
+    rw (ap (λ k. misused ms σ (view k)) m.is ∙ ap (λ x. misused_fields ms σ [] x) (field_views_items m.fields)) (search rules)
+
+pub expression-returns-in-Except-clause-first : goal.expression-returns-in-Except-clause-first
+expression-returns-in-Except-clause-first t c =
+    let m = c.in-Except in
+    let ms = c.args.modules.now in
+    let σ = c.args.scope.now in
+    rw (ap (λ k. misused ms σ (view k)) m.is ∙ ap (λ x. or_else (misused ms σ (view m.function.value)) (misused_updates ms σ x)) (update_views_items m.updates)) (search rules)
+
+pub expression-returns-in-Product-clause-first : goal.expression-returns-in-Product-clause-first
+expression-returns-in-Product-clause-first t c =
+    let m = c.in-Product in
+    let ms = c.args.modules.now in
+    let σ = c.args.scope.now in
+    rw (ap (λ k. misused ms σ (view k)) m.is ∙ ap (λ x. or_else (misused ms σ (view m.first.value)) (misused_each ms σ x)) (views_items m.others)) (search rules)

@@ -1,13 +1,16 @@
 use Rattle.std.proofs.Common.{◌≡◌, ◌≤◌, ◌+◌, ◌*◌, max, ◌++◌, ◌∷◌, [], length, map}
-use Rattle.tla_parse.specs.Tree.{trees, binders, arms, definitions}
-use Rattle.tla_parse.specs.View.{view, group_view, choice_view, definition_view}
+use Rattle.tla_parse.specs.Tree.{trees, binders, arms, definitions, fields, keys, updates}
+use Rattle.tla_parse.specs.View.{view, group_view, choice_view, definition_view, field_view, key_view, update_view}
 use Rattle.tla_defs.specs.Scope.{bound_names, signatures}
-use Rattle.tla_defs.specs.Known.{misused_each, misused_arms, misused_sets, misused_definitions}
+use Rattle.tla_defs.specs.Known.{misused_each, misused_arms, misused_sets, misused_definitions, misused_fields, misused_keys, misused_updates}
 use denote.Param.Weighed.{most}
 use Rattle.tla_parse.specs.declared.tree.Expr.{size-Expr}
 use Rattle.tla_parse.specs.declared.tree.Definition.{size-Definition}
 use Rattle.tla_parse.specs.declared.tree.Arm.{size-Arm}
 use Rattle.tla_parse.specs.declared.tree.Binder.{size-Binder}
+use Rattle.tla_parse.specs.declared.tree.Field.{size-Field}
+use Rattle.tla_parse.specs.declared.tree.Update.{size-Update}
+use Rattle.tla_parse.specs.declared.tree.Key.{size-Key}
 use Rattle.tla_defs.proofs.known.+known.Given as goal
 
 abbrev pub invariant-each-loop-left : goal.invariant-each-loop-left
@@ -51,6 +54,36 @@ invariant-define-loop-left l = record {
 abbrev pub decreases-define-loop-left : goal.decreases-define-loop-left
 decreases-define-loop-left l = length l.left
 
+abbrev pub invariant-each_field-loop-left : goal.invariant-each_field-loop-left
+invariant-each_field-loop-left l = record {
+  shallow : most size-Field l.left ≤ most size-Field l.items;
+  kept : l.scope ≡ l.fn.scope;
+  same : misused_fields l.modules l.fn.scope [] (fields (map field_view l.items)) ≡ misused_fields l.modules l.fn.scope l.before (fields (map field_view l.left));
+}
+
+abbrev pub decreases-each_field-loop-left : goal.decreases-each_field-loop-left
+decreases-each_field-loop-left l = length l.left
+
+abbrev pub invariant-each_update-loop-left : goal.invariant-each_update-loop-left
+invariant-each_update-loop-left l = record {
+  shallow : most size-Update l.left ≤ most size-Update l.items;
+  kept : l.scope ≡ l.fn.scope;
+  same : misused_updates l.modules l.fn.scope (updates (map update_view l.items)) ≡ misused_updates l.modules l.fn.scope (updates (map update_view l.left));
+}
+
+abbrev pub decreases-each_update-loop-left : goal.decreases-each_update-loop-left
+decreases-each_update-loop-left l = length l.left
+
+abbrev pub invariant-path-loop-left : goal.invariant-path-loop-left
+invariant-path-loop-left l = record {
+  shallow : most size-Key l.left ≤ most size-Key l.items;
+  kept : l.scope ≡ l.fn.scope;
+  same : misused_keys l.modules l.fn.scope (keys (map key_view l.items)) ≡ misused_keys l.modules l.fn.scope (keys (map key_view l.left));
+}
+
+abbrev pub decreases-path-loop-left : goal.decreases-path-loop-left
+decreases-path-loop-left l = length l.left
+
 -- ---- how deep what is left is, and then which function comes before which
 abbrev pub decreases-expression : goal.decreases-expression
 decreases-expression l = 4 * size-Expr l.tree.now
@@ -87,3 +120,24 @@ decreases-definition l = 4 * size-Definition l.definition.now
 
 abbrev pub decreases-define : goal.decreases-define
 decreases-define l = 4 * most size-Definition l.items.now + 1
+
+abbrev pub decreases-chosen : goal.decreases-chosen
+decreases-chosen l = 4 * max (size-Expr l.set.now) (size-Expr l.body.now) + 2
+
+abbrev pub decreases-image : goal.decreases-image
+decreases-image l = 4 * max (size-Expr l.element.now) (most size-Binder l.groups.now) + 2
+
+abbrev pub decreases-each_field : goal.decreases-each_field
+decreases-each_field l = 4 * most size-Field l.items.now + 1
+
+abbrev pub decreases-except : goal.decreases-except
+decreases-except l = 4 * max (size-Expr l.function.now) (most size-Update l.items.now) + 2
+
+abbrev pub decreases-each_update : goal.decreases-each_update
+decreases-each_update l = 4 * most size-Update l.items.now + 1
+
+abbrev pub decreases-one_update : goal.decreases-one_update
+decreases-one_update l = 4 * size-Update l.update.now
+
+abbrev pub decreases-path : goal.decreases-path
+decreases-path l = 4 * most size-Key l.items.now + 1

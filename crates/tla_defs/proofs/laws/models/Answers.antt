@@ -1,5 +1,6 @@
 use Rattle.tla_defs.proofs.Worked as worked
 use Rattle.tla_defs.proofs.NamedWorked as named
+use Rattle.tla_defs.proofs.GivenWorked as given
 use Rattle.tla_defs.proofs.laws.models.Goals as goal
 
 pub returns-clause-counter_of_three : goal.returns-clause-counter_of_three
@@ -25,3 +26,9 @@ returns-clause-with_let c = named.with_let
 
 pub returns-clause-without_capture : goal.returns-clause-without_capture
 returns-clause-without_capture c = named.without_capture
+
+pub returns-clause-with_value : goal.returns-clause-with_value
+returns-clause-with_value c = given.with_value
+
+pub returns-clause-two_variables : goal.returns-clause-two_variables
+returns-clause-two_variables c = given.two_variables

@@ -1,8 +1,4 @@
-use Rattle.std.proofs.Common.{◌≡◌, ◌∙◌, ap, map, length, arith}
-use Rattle.std.proofs.lemmas.List.{drop_all}
-use Rattle.tla_parse.specs.Tree.{definitions}
-use Rattle.tla_parse.specs.View.{definition_view}
-use Rattle.tla_expand.specs.Expand.{definitions_in}
+use Rattle.std.proofs.Common.{◌≡◌, ◌∙◌, length, arith}
 use Rattle.tla_expand.specs.Scopes.{scope_at}
 use Rattle.tla_expand.proofs.Links.{below_more}
 use Rattle.tla_expand.proofs.Binds.{extends_more}
@@ -22,8 +18,3 @@ loop-i-preserved c =
       within = omega arith;
       same = c.loop-i.invariant.same ∙ define_more (scope_at c.loop-i.entries.items c.loop-i.at) (scope_at c.enter.new.entries.items c.in_ok-at.at) c.args.definitions.now c.loop-i.i c.index-definitions-i.result (omega arith) c.index-definitions-i.is (e.scope ∙ c.entry_of-entry.ensures.scope (scope_at c.loop-i.entries.items));
     }
-
-pub returns-clause-same : goal.returns-clause-same
-returns-clause-same c =
-    c.loop-i.invariant.same
-    ∙ ap (λ ds. definitions_in (definitions (map definition_view ds)) (scope_at c.loop-i.entries.items c.loop-i.at)) (drop_all c.loop-i.i c.args.definitions.now (omega arith))

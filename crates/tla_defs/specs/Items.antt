@@ -1,0 +1,81 @@
+-- The items of CONSTANT: the names that they are for, and what these mean (book, chapter 14).
+use Rattle.std.specs.Prelude.{ℕ, nat_eq, Bool, List, [], ◌∷◌, ◌++◌, Option, Some, None, is_some, if◌then◌else◌, map}
+use Rattle.std.specs.List.{flat_map}
+use Rattle.tla_value.specs.Tree as value
+use Rattle.tla_eval.specs.Expr.{constant}
+use Rattle.tla_parse.specs.declared.word.Written.{Written}
+use Rattle.tla_parse.specs.Units.{UnitTree, Extends, Operator, Defines, Local, Assume, Constants}
+use Rattle.tla_config.specs.Names.{Name, words, is_among}
+use Rattle.tla_config.specs.Statements.{Item, Value, Replaces}
+use Rattle.tla_expand.specs.Maybe.{or_else}
+use Rattle.tla_expand.specs.Expand as x
+use Rattle.tla_expand.specs.Expand.{with_name, alone}
+use Rattle.tla_defs.specs.Scope.{Scope, arity, signature, extended}
+use Rattle.tla_defs.specs.Constants.{constants}
+use Rattle.tla_defs.specs.Known.{Misuse, Unknown, Arguments, used, again}
+
+abbrev pub replaced_name : Item → Written
+replaced_name (Value w v) = w
+replaced_name (Replaces w op) = w
+
+-- the names that have an item
+abbrev pub replaced_names : List Item → List Name
+replaced_names is = map (λ (i : Item). (replaced_name i).word) is
+
+-- a value, at the place of its use
+abbrev pub fixed : value.Tree → x.Meaning
+fixed v = alone (λ p d. Some (constant p v))
+
+-- what an item makes of its name, where operators mean this
+abbrev pub with_item : x.Scope → Item → x.Scope → x.Scope
+with_item ρ (Value w v) σ = with_name w.word (fixed v) σ
+with_item ρ (Replaces w op) σ = with_name w.word (ρ op.word) σ
+
+abbrev pub with_items : x.Scope → List Item → x.Scope → x.Scope
+with_items ρ [] σ = σ
+with_items ρ (i ∷ is) σ = with_items ρ is (with_item ρ i σ)
+
+-- what a unit defines; an assumption's name is defined too
+abbrev pub defined : UnitTree → Scope
+defined (Operator w e) = (w.word, 0) ∷ []
+defined (Defines d) = signature d ∷ []
+defined (Local at d) = signature d ∷ []
+defined (Assume at (Some w) e) = (w.word, 0) ∷ []
+defined _ = []
+
+-- the definitions of a module, each with its number of parameters
+abbrev pub definitions_of : List UnitTree → Scope
+definitions_of us = flat_map defined us
+
+-- what may have an item: constants and definitions
+abbrev pub replaceable : UnitTree → Scope
+replaceable (Constants at ds) = constants ds
+replaceable u = defined u
+
+abbrev pub replaceable_of : List UnitTree → Scope
+replaceable_of us = flat_map replaceable us
+
+abbrev pub unknown : Scope → Written → Option Misuse
+unknown σ w = if is_some (arity σ w.word) then None else Some (Unknown w)
+
+-- what may stand for another name, and may have an item `c <- Op`: operators of modules too
+abbrev pub nameable : UnitTree → Scope
+nameable (Extends at ws) = extended (words ws)
+nameable u = replaceable u
+
+abbrev pub nameable_of : List UnitTree → Scope
+nameable_of us = flat_map nameable us
+
+abbrev pub differ : Written → Option ℕ → Option ℕ → Option Misuse
+differ w (Some m) (Some n) = if nat_eq m n then None else Some (Arguments w)
+differ w _ _ = None
+
+-- An item behind items for other names: its name is known, has no item yet, and takes no argument or as many as the operator. Values are for the names of δ, operators for those of μ.
+abbrev pub item_misused : Scope → Scope → List Name → Item → Option Misuse
+item_misused δ μ before (Value w v) = or_else (unknown δ w) (or_else (again before w) (used δ w 0))
+item_misused δ μ before (Replaces w op) = or_else (unknown μ w) (or_else (again before w) (or_else (unknown μ op) (differ w (arity μ w.word) (arity μ op.word))))
+
+-- the first misuse of a name in items, in the order of the configuration
+abbrev pub items_misused : Scope → Scope → List Name → List Item → Option Misuse
+items_misused δ μ before [] = None
+items_misused δ μ before (i ∷ is) = or_else (item_misused δ μ before i) (items_misused δ μ (before ++ (replaced_name i).word ∷ []) is)

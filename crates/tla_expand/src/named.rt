@@ -1,0 +1,49 @@
+//! The expansion of a name.
+
+ghost use Rattle.std.specs.Prelude.{◌≡◌, ◌≢◌, ◌≤◌, length, Some, IfOk, IfErr};
+ghost use Rattle.tla_eval.specs.Expr as expr;
+ghost use Rattle.tla_eval.specs.ExprOf.{expr_of};
+ghost use Rattle.tla_model.specs.Size.{IsWithinLimits};
+ghost use Rattle.tla_parse.specs.Tree.{Name};
+ghost use Rattle.tla_expand.specs.Expand as expansion;
+ghost use Rattle.tla_expand.specs.Gives.{shown};
+ghost use Rattle.tla_expand.specs.Scopes.{AreLinked, scope_at};
+
+use crate::arena::Entry;
+use crate::builders::place_of;
+use crate::expand::{expand, node_of};
+use crate::failure::Failure;
+use crate::heads::{Step, use_of};
+use crate::primes::Primes;
+use std::alloc::Global;
+use tla_eval::Core;
+use tla_parse::Written;
+
+/// The expansion of a name without arguments in a scope, under so many primes, with at most 200,000 nodes, of which at
+/// most 300 on a path.
+pub(crate) fn named_expansion<'a>(
+    alloc: Global,
+    entries: &mut Vec<Entry<'a>>,
+    name: &Written,
+    scope: usize,
+    primes: Primes,
+) -> Result<Core, Failure>
+    requires linked { AreLinked entries.old.items }
+    requires scope { scope ≤ length entries.old.items }
+    ensures found { IfOk result (λ c. shown primes (expansion.expand (Name name.now) (scope_at entries.old.items scope) 0) ≡ Some (expr_of c)) }
+    ensures limits { IfOk result (λ c. IsWithinLimits (expr_of c)) }
+    ensures none { IfErr result (λ f. f ≢ Failure.Memory → (e : expr.Expr) → shown primes (expansion.expand (Name name.now) (scope_at entries.old.items scope) 0) ≡ Some e → IsWithinLimits e → ⊥) }
+{
+    let at = place_of(name.place);
+    let word = name.word.as_bytes();
+    match use_of(entries, at, word, &[], scope, primes)? {
+        Step::Goes(tree, inner, more) => {
+            let made = expand(alloc, entries, tree, inner, more, 0, 300, 200_000)?;
+            Ok(made.core)
+        }
+        Step::Ends(head) => {
+            let made = node_of(alloc, entries, head, 0, 299, 199_999)?;
+            Ok(made.core)
+        }
+    }
+}
