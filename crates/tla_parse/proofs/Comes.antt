@@ -1,11 +1,11 @@
 -- How the reading of an expression comes by its tree.
-use Rattle.std.proofs.Common.{◌≡◌, ℕ, zero, suc, ◌+◌, ◌-◌, ◌<◌, ◌≤◌, true, false, nat_lt, nat_le, List, Some, None, Ok, refl, sym, ap, ◌∙◌, arith}
+use Rattle.std.proofs.Common.{◌≡◌, ℕ, zero, suc, ◌+◌, ◌-◌, ◌<◌, ◌≤◌, Bool, true, false, nat_lt, nat_le, List, Some, None, Ok, refl, sym, ap, ◌∙◌, arith}
 use Rattle.tla_lex.specs.declared.token.Token.{Token}
 use Rattle.tla_lex.specs.declared.token.Kind.{Kind}
 use Rattle.tla_lex.specs.declared.token.Kind.TheVariants as k
 use Rattle.tla_parse.specs.declared.scope.Scope.{Scope}
 use Rattle.tla_parse.specs.declared.tokens.Postfix.{Postfix}
-use Rattle.tla_parse.specs.Tree.{Tree, Trees, Binders, Arms, Other, Definition, Definitions, none, more, unbound, bound, no_arms, arm, no_other, other, DefinesOperator, DefinesFunction, undefined, defined}
+use Rattle.tla_parse.specs.Tree.{Tree, Name, Trees, Binders, Arms, Other, Definition, Definitions, none, more, unbound, bound, no_arms, arm, no_other, other, DefinesOperator, DefinesFunction, undefined, defined, Filter, Image, Function, FunctionSet, Record, RecordSet, Except, Action, Fair, Product, Fields, Key, Keys, Updates, no_fields, field, AtIndex, AtField, no_keys, key, no_updates, update}
 use Rattle.tla_parse.specs.Edges.{top_above, is_closed, depth}
 use Rattle.tla_parse.specs.Tokens.{seen, goes_on, Has}
 use Rattle.tla_parse.specs.Kinds.{kind_at}
@@ -15,6 +15,10 @@ use Rattle.tla_parse.specs.Reading.{postfix_at, behind, postfix, climb, operand,
 use Rattle.tla_parse.proofs.Steps.{postfix_more, postfix_done, climb_done}
 use Rattle.tla_parse.proofs.Follow.{end_postfix, end_call, end_plain, stops_plain}
 use Rattle.tla_parse.proofs.Shapes.{spine, spine_depth, tails, tails_depth, top_zero, advances}
+
+abbrev pub is_name : Tree → Bool
+is_name (Name _) = true
+is_name _ = false
 
 module _ (text : List ℕ) (ts : List Token) where
   -- The next token doesn't go on with the tree.
@@ -36,12 +40,12 @@ module _ (text : List ℕ) (ts : List Token) where
 
   -- a closed form is read up to its postfix forms
   abbrev pub Stands : Tree → Type 0
-  Stands t = (n : ℕ) (s : Scope) (from to : ℕ) → Spells text ts s t from to → is_closed t ≡ true → depth t ≤ n + 1 → NoCall s to
+  Stands t = (n : ℕ) (s : Scope) (from to : ℕ) → Spells text ts s t from to → is_closed t ≡ true → depth t ≤ n + 1 → (is_name t ≡ true → NoCall s to)
       → operand text ts (expr text ts n) (n + 1) s from ≡ postfix text ts (expr text ts n) (n + 1 - tails t) (n + 1) s t to
 
   -- a closed form that is no postfix form
   abbrev pub Opens : Tree → Type 0
-  Opens t = (n : ℕ) (s : Scope) (from to : ℕ) → Spells text ts s t from to → depth t ≤ n + 1 → NoCall s to
+  Opens t = (n : ℕ) (s : Scope) (from to : ℕ) → Spells text ts s t from to → depth t ≤ n + 1 → (is_name t ≡ true → NoCall s to)
       → operand text ts (expr text ts n) (n + 1) s from ≡ postfix text ts (expr text ts n) (n + 1) (n + 1) s t to
 
   pub record Both (t : Tree) : Type 0 where
@@ -72,6 +76,22 @@ module _ (text : List ℕ) (ts : List Token) where
   AllDefined undefined = Unit {0}
   AllDefined (defined d ds) = DefinitionComes d × AllDefined ds
 
+  abbrev pub AllFields : Fields → Type 0
+  AllFields no_fields = Unit {0}
+  AllFields (field w e fs) = Comes e × AllFields fs
+
+  abbrev pub KeyComes : Key → Type 0
+  KeyComes (AtIndex es) = AllCome es
+  KeyComes (AtField w) = Unit {0}
+
+  abbrev pub AllKeys : Keys → Type 0
+  AllKeys no_keys = Unit {0}
+  AllKeys (key x ks) = KeyComes x × AllKeys ks
+
+  abbrev pub AllUpdates : Updates → Type 0
+  AllUpdates no_updates = Unit {0}
+  AllUpdates (update ks e us) = AllKeys ks × Comes e × AllUpdates us
+
   pub finish : (t : Tree) → Comes t → (n : ℕ) (s : Scope) (floor from to : ℕ) → Spells text ts s t from to → Fits s t to → top_above floor t ≡ true → depth t ≤ n → Stops s floor to
       → expr text ts n s floor from ≡ Ok (t, to)
   finish t h zero s floor from to x f a d z = absurd (let y = spine_depth t in omega (arith, y, d))
@@ -86,7 +106,7 @@ module _ (text : List ℕ) (ts : List Token) where
   closed_comes : (t : Tree) → is_closed t ≡ true → spine t ≡ 0 → Stands t → Comes t
   closed_comes t c z h n s floor from to x f a d =
       by_operand t n s floor from to z
-      (h n s from to x c (omega (arith, d)) (end_call t (seen ts s.column to) f) ∙ postfix_done text ts (expr text ts n) (n + 1 - tails t) (n + 1) s t to (end_postfix t (seen ts s.column to) f))
+      (h n s from to x c (omega (arith, d)) (λ w. end_call t (seen ts s.column to) f) ∙ postfix_done text ts (expr text ts n) (n + 1 - tails t) (n + 1) s t to (end_postfix t (seen ts s.column to) f))
 
   pub closed_both : (t : Tree) → is_closed t ≡ true → spine t ≡ 0 → Stands t → Both t
   closed_both t c z h = record { comes = closed_comes t c z h; stands = h }
@@ -101,7 +121,7 @@ module _ (text : List ℕ) (ts : List Token) where
   behind_stands t u h e n s from mid to v x c d nc p b =
       let l = tails_depth t in
       let m : n + 1 - tails t ≡ (n + 1 - tails u) + 1 = omega (arith, e, l, d) in
-      h n s from mid x c (omega (arith, d)) nc ∙ postfix_more text ts (expr text ts n) (n + 1 - tails t) (n + 1 - tails u) (n + 1) s t mid v u to m p b
+      h n s from mid x c (omega (arith, d)) (λ w. nc) ∙ postfix_more text ts (expr text ts n) (n + 1 - tails t) (n + 1 - tails u) (n + 1) s t mid v u to m p b
 
   -- an expression that is read whole
   abbrev pub ReadAt : ℕ → Scope → Tree → ℕ → ℕ → Type 0

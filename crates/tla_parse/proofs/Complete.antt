@@ -16,21 +16,24 @@ use Rattle.tla_parse.specs.declared.tree.Brackets.{Brackets}
 use Rattle.tla_parse.specs.declared.tree.Brackets.TheVariants as br
 use Rattle.tla_parse.specs.declared.tree.Quantifier.{Quantifier}
 use Rattle.tla_parse.specs.declared.tree.Constant.{Constant}
-use Rattle.tla_parse.specs.Tree.{Tree, Trees, Binders, Arms, Other, Definition, Definitions, none, more, unbound, bound, no_arms, arm, no_other, other, DefinesOperator, DefinesFunction, undefined, defined, Case, Let, Name, Number, Text, Word, At, Paren, Listing, Call, Prime, Index, Field, Unary, Binary, Quantified, Choose, If, Junction}
-use Rattle.tla_parse.specs.Operators.{low, high, prefix_low, prefix_high, prefix_of, bullet_of, quantifier_of, constant_of}
+use Rattle.tla_parse.specs.Tree.{Tree, Trees, Binders, Arms, Other, Definition, Definitions, none, more, unbound, bound, no_arms, arm, no_other, other, DefinesOperator, DefinesFunction, undefined, defined, Case, Let, Name, Number, Text, Word, At, Paren, Listing, Call, Prime, Index, Field, Unary, Binary, Quantified, Choose, If, Junction, Filter, Image, Function, FunctionSet, Record, RecordSet, Except, Action, Fair, Product, Fields, Key, Keys, Updates, no_fields, field, AtIndex, AtField, no_keys, key, no_updates, update}
+use Rattle.tla_parse.specs.Operators.{low, high, prefix_low, prefix_high, prefix_of, bullet_of, quantifier_of, constant_of, is_product}
 use Rattle.tla_parse.specs.Edges.{yields, edge_allows, top_above, is_closed, place, depth, definition_depth}
 use Rattle.tla_parse.specs.Tokens.{seen, written, goes_on, is_bullet_at, may_follow, Has}
 use Rattle.tla_parse.specs.Kinds.{kind_at}
 use Rattle.tla_parse.specs.Grammar.{Spells, Defines, within}
-use Rattle.tla_parse.specs.Reading.{name_at, postfix_at, call, named, indexed, behind, turn, junction, paren, quantified, chosen, cases, lets, choice, prefix, by_class, operand, definition, expr}
+use Rattle.tla_parse.specs.ReadingLists.{name_at, call, paren}
+use Rattle.tla_parse.specs.Reading.{postfix_at, named, indexed, behind, turn, junction, quantified, chosen, cases, lets, choice, prefix, by_class, operand, definition, expr}
 use Rattle.tla_parse.proofs.Inversion.{and_true, ok_to}
 use Rattle.tla_parse.proofs.Steps.{climb_more}
 use Rattle.tla_parse.proofs.Follow.{low_high, prefix_low_high, yields_low, end_mono, stop_by, end_plain, stops_plain, end_infix, sees_infix, not_true}
 use Rattle.tla_parse.proofs.Classes.{prefix_class, bullet_class, quantifier_class, constant_class}
 use Rattle.tla_parse.proofs.Shapes.{spine, spine_depth, left_top, top_zero, starts, opens}
 use Rattle.tla_parse.proofs.Lists.{trees_list, binders_list, arms_list, definitions_list}
-use Rattle.tla_parse.proofs.Comes.{Fits, Stops, NoCall, Comes, Stands, Opens, Both, AllCome, AllBound, AllArms, OtherComes, DefinitionComes, AllDefined, finish, by_operand, closed_both, opens_both, behind_stands}
+use Rattle.tla_parse.proofs.CompleteBrackets.{PartsCome, listing_opens, fair_opens, filter_opens, image_opens, action_opens, function_opens, function_set_opens, except_opens, record_opens, record_set_opens}
+use Rattle.tla_parse.proofs.Comes.{AllFields, KeyComes, AllKeys, AllUpdates, Fits, Stops, NoCall, Comes, Stands, Opens, Both, AllCome, AllBound, AllArms, OtherComes, DefinitionComes, AllDefined, finish, by_operand, closed_both, opens_both, behind_stands}
 use Rattle.tla_parse.proofs.CompleteCase.{AnyEnds, chosen_complete, definition_read, defined_complete}
+use Rattle.tla_parse.proofs.CompleteProduct.{product_comes}
 use Rattle.tla_parse.proofs.CompleteLists.{paren_ends, bracket_ends, colon_ends, some_complete, listing_complete, bound_complete, items_complete}
 
 module _ (text : List ℕ) (ts : List Token) where
@@ -38,7 +41,7 @@ module _ (text : List ℕ) (ts : List Token) where
 
   name_opens : (w : Written) → Opens text ts (Name w)
   unfolding operand named
-  name_opens w n s from to x d nc = let no : NoCall text ts s (from + 1) = rw (← x.1) nc in rw (x.0.1, x.0.2, no, x.0.3, x.1) refl
+  name_opens w n s from to x d nc = let no : NoCall text ts s (from + 1) = rw (← x.1) (nc refl) in rw (x.0.1, x.0.2, no, x.0.3, x.1) refl
 
   call_opens : (w : Written) (es : Trees) → AllCome text ts es → Opens text ts (Call w es)
   unfolding operand named call
@@ -72,15 +75,6 @@ module _ (text : List ℕ) (ts : List Token) where
       let fits = end_plain e ts s.column x.0 k.RightParen x.3 refl in
       let r = finish text ts e h n s 0 (from + 1) x.0 x.2 fits (top_zero e) (omega (arith, d)) (stops_plain ts s.column 0 x.0 k.RightParen x.3 refl) in
       rw (x.1.1, x.1.2, x.1.3, r, x.3.1, x.3.2, x.4) refl
-
-  listing_opens : (p : Place) (b : Brackets) (es : Trees) → AllCome text ts es → Opens text ts (Listing p b es)
-  unfolding operand
-  listing_opens p br.Set es h n s from to x d nc =
-      let r = listing_complete text ts es h n s p br.Set from to x.1 (omega (arith, d)) in
-      rw (x.0.1, x.0.2, x.0.3, r) refl
-  listing_opens p br.Tuple es h n s from to x d nc =
-      let r = listing_complete text ts es h n s p br.Tuple from to x.1 (omega (arith, d)) in
-      rw (x.0.1, x.0.2, x.0.3, r) refl
 
   junction_opens : (p : Place) (b : Bullet) (es : Trees) → AllCome text ts es → Opens text ts (Junction p b es)
   unfolding operand by_class junction
@@ -211,22 +205,26 @@ module _ (text : List ℕ) (ts : List Token) where
       let z = low_high op in omega (arith, g, z)) f in
       let rr = finish text ts r hr n s (high op) (x.0 + 1) to x.5 fits_r x.7 (omega (arith, d)) stops_r in
       let room : nat_le (depth (Binary (place l) op (written text u) l r)) (n + 1) ≡ true = le-leb _ _ (omega (arith, d)) in
-      let t : turn text ts (expr text ts n) (n + 1) s l op x.0 ≡ Ok (Binary (place l) op (written text u) l r, to) = rw (x.6, x.3.1, rr, room) refl in
+      let t : turn text ts (expr text ts n) (n + 1) s l op x.0 ≡ Ok (Binary (place l) op (written text u) l r, to) = (let other = not_true (is_product op) x.9 in rw (other, x.6, x.3.1, rr, room) refl) in
       let m : n - spine l ≡ (n - (spine l + 1)) + 1 = (let y = spine_depth l in omega (arith, d, y)) in
       rl ∙ climb_more text ts (expr text ts n) (n - spine l) (n - (spine l + 1)) (n + 1) s floor l x.0 op (Binary (place l) op (written text u) l r) to m (sees_infix ts s.column floor x.0 u op x.3.1 is_op above_floor) t ∙ rw (x.3.3, x.8) refl
 
   no_stand : (t : Tree) → is_closed t ≡ false → Stands text ts t
   no_stand t h n s from to x c d nc = absurd (let z : ⊥ = cc in z)
 
+  -- a form that no tokens spell
+  none_both : (t : Tree) → ((s : Scope) (from to : ℕ) → Spells text ts s t from to → ⊥) → Both text ts t
+  none_both t h = record { comes = λ n s floor from to x. absurd (h s from to x); stands = λ n s from to x. absurd (h s from to x) }
+
   mutual
-    main : (t : Tree) → Both text ts t
+    pub main : (t : Tree) → Both text ts t
     main (Name w) = opens_both text ts (Name w) refl refl refl (name_opens w)
     main (Number p m) = opens_both text ts (Number p m) refl refl refl (number_opens p m)
     main (Text p y) = opens_both text ts (Text p y) refl refl refl (text_opens p y)
     main (Word p c) = opens_both text ts (Word p c) refl refl refl (word_opens p c)
     main (At p) = opens_both text ts (At p) refl refl refl (at_opens p)
     main (Paren p e) = opens_both text ts (Paren p e) refl refl refl (paren_opens p e (main e).comes)
-    main (Listing p b es) = opens_both text ts (Listing p b es) refl refl refl (listing_opens p b es (main_all es))
+    main (Listing p b es) = opens_both text ts (Listing p b es) refl refl refl (listing_opens text ts p b es (main_all es))
     main (Call w es) = opens_both text ts (Call w es) refl refl refl (call_opens w es (main_all es))
     main (Prime p e) = closed_both text ts (Prime p e) refl refl (prime_stands p e (main e).stands)
     main (Index p e es) = closed_both text ts (Index p e es) refl refl (index_stands p e es (main e).stands (main_all es))
@@ -239,6 +237,38 @@ module _ (text : List ℕ) (ts : List Token) where
     main (Case p cs o) = record { comes = cases_comes p cs o (main_arms cs) (main_other o); stands = no_stand (Case p cs o) refl }
     main (Let p ds e) = record { comes = lets_comes p ds e (main_defined ds) (main e).comes; stands = no_stand (Let p ds e) refl }
     main (Junction p b es) = opens_both text ts (Junction p b es) refl refl refl (junction_opens p b es (main_all es))
+    main (Filter p w a e) = opens_both text ts (Filter p w a e) refl refl refl (filter_opens text ts p w a e (main a).comes (main e).comes)
+    main (Image p e bs) = opens_both text ts (Image p e bs) refl refl refl (image_opens text ts p e bs (main e).comes (main_bound bs))
+    main (Function p bs e) = opens_both text ts (Function p bs e) refl refl refl (function_opens text ts p bs e (main_bound bs) (main e).comes)
+    main (FunctionSet p a e) = opens_both text ts (FunctionSet p a e) refl refl refl (function_set_opens text ts p a e (main a).comes (main e).comes)
+    main (Record p fs) = opens_both text ts (Record p fs) refl refl refl (record_opens text ts p fs (main_fields fs))
+    main (RecordSet p fs) = opens_both text ts (RecordSet p fs) refl refl refl (record_set_opens text ts p fs (main_fields fs))
+    main (Except p f us) = opens_both text ts (Except p f us) refl refl refl (except_opens text ts p f us (main f).comes (main_updates us))
+    main (Action p g a v) = opens_both text ts (Action p g a v) refl refl refl (action_opens text ts p g a v (main a).comes (main_parts v))
+    main (Fair p f v a) = opens_both text ts (Fair p f v a) refl refl refl (fair_opens text ts p f v a (main_parts v) (main a).comes)
+    main (Product p e es) = record { comes = product_comes text ts p e es (main e).comes (main_all es); stands = no_stand (Product p e es) refl }
+
+    main_parts : (t : Tree) → PartsCome text ts t
+    main_parts (Paren p e) = (main e).comes
+    main_parts (Listing p b es) = main_all es
+    main_parts (Name w) = tt
+    main_parts _ = tt
+
+    main_fields : (fs : Fields) → AllFields text ts fs
+    main_fields no_fields = tt
+    main_fields (field w e fs) = ((main e).comes, main_fields fs)
+
+    main_key : (y : Key) → KeyComes text ts y
+    main_key (AtIndex es) = main_all es
+    main_key (AtField w) = tt
+
+    main_keys : (ks : Keys) → AllKeys text ts ks
+    main_keys no_keys = tt
+    main_keys (key y ks) = (main_key y, main_keys ks)
+
+    main_updates : (us : Updates) → AllUpdates text ts us
+    main_updates no_updates = tt
+    main_updates (update ks e us) = (main_keys ks, (main e).comes, main_updates us)
 
     main_all : (es : Trees) → AllCome text ts es
     main_all none = tt

@@ -16,7 +16,8 @@ use Rattle.tla_parse.specs.Tokens.{seen, goes_on, is_bullet_at, may_follow, Has,
 use Rattle.tla_parse.specs.Kinds.{same_kind, kind_at, closing}
 use Rattle.tla_parse.specs.Grammar.{Spells, Items, Listed, Others, Bound, MoreBound, is_some}
 use Rattle.tla_parse.specs.Outcome.{◌>>=◌}
-use Rattle.tla_parse.specs.Reading.{following, exprs, some, listing, group, groups, expr}
+use Rattle.tla_parse.specs.ReadingLists.{following, exprs, some, listing, group, groups}
+use Rattle.tla_parse.specs.Reading.{expr}
 use Rattle.tla_parse.proofs.Sequence.{Behind, Follows, follows_fit, sequence_complete}
 use Rattle.tla_parse.proofs.NameLists.{seen_within, names_fit, names_within, names_complete}
 use Rattle.tla_parse.proofs.Lists.{list, trees_list, group_list, binders_list, comma_here, rises}
@@ -49,16 +50,16 @@ length_list none = refl
 length_list (more e es) = let h = length_list es in omega (arith, h)
 
 module _ (text : List ℕ) (ts : List Token) where
-  no_more : (column at : ℕ) (kind : Kind) → Has ts column kind at → Ends kind → following ts column between.Comma at ≡ None
+  pub no_more : (column at : ℕ) (kind : Kind) → Has ts column kind at → Ends kind → following ts column between.Comma at ≡ None
   no_more column at kind h e = let n = e.no_comma in rw (h.1, h.2, n) refl
 
   -- ---- expressions
 
-  others_next : (es : Trees) (s : Scope) (close : Kind) (from to : ℕ) → Ends close → Others text ts s close es from to → (kind : Kind) × Has ts s.column kind from × (goes_on kind ≡ false)
+  pub others_next : (es : Trees) (s : Scope) (close : Kind) (from to : ℕ) → Ends close → Others text ts s close es from to → (kind : Kind) × Has ts s.column kind from × (goes_on kind ≡ false)
   others_next none s close from to p x = (close, x.0, p.plain)
   others_next (more e es) s close from to p x = (k.Comma, x.1, refl)
 
-  others_read : (es : Trees) → AllCome text ts es → (n : ℕ) (s : Scope) (close : Kind) (from to : ℕ) → Ends close → Others text ts s close es from to → depths es ≤ n
+  pub others_read : (es : Trees) → AllCome text ts es → (n : ℕ) (s : Scope) (close : Kind) (from to : ℕ) → Ends close → Others text ts s close es from to → depths es ≤ n
       → (mid : ℕ) × Behind (ReadAt text ts n s) (following ts s.column between.Comma) (list es) from mid × Has ts s.column close mid × (to ≡ mid + 1)
   others_read none h n s close from to p x d = (from, (no_more s.column from close x.0 p, refl), x.0, x.1)
   others_read (more e es) h n s close from to p x d =

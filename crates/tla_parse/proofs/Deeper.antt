@@ -8,6 +8,7 @@ use Rattle.tla_lex.specs.declared.token.Kind.TheVariants as k
 use Rattle.tla_lex.specs.Strings.{string_text}
 use Rattle.tla_parse.specs.declared.scope.Scope.{Scope}
 use Rattle.tla_parse.specs.declared.tree.Infix.{Infix}
+use Rattle.tla_parse.specs.declared.tree.Infix.TheVariants as i
 use Rattle.tla_parse.specs.declared.tree.Prefix.{Prefix}
 use Rattle.tla_parse.specs.declared.tree.Bullet.{Bullet}
 use Rattle.tla_parse.specs.declared.tree.Brackets.{Brackets}
@@ -17,79 +18,26 @@ use Rattle.tla_parse.specs.declared.tokens.Between.TheVariants as between
 use Rattle.tla_parse.specs.declared.tokens.Postfix.{Postfix}
 use Rattle.tla_parse.specs.declared.tokens.Postfix.TheVariants as form
 use Rattle.tla_parse.specs.declared.tree.Quantifier.{Quantifier}
-use Rattle.tla_parse.specs.Tree.{Tree, Group, Choice, Definition, arms, definitions, no_other, Case, none, Name, Number, Text, Word, At, Listing, Prime, Index, Field, Binary}
-use Rattle.tla_parse.specs.Operators.{high, prefix_high, prefix_of, bullet_of, quantifier_of, constant_of}
+use Rattle.tla_parse.specs.Tree.{Tree, Group, Choice, Definition, arms, definitions, no_other, Case, none, Name, Number, Text, Word, At, Listing, Prime, Index, Field, Binary, Product, trees}
+use Rattle.tla_parse.specs.Operators.{high, is_product, prefix_high, prefix_of, bullet_of, quantifier_of, constant_of}
 use Rattle.tla_parse.specs.Edges.{edge_allows, place, depth}
 use Rattle.tla_parse.specs.Tokens.{seen, word_of, written}
 use Rattle.tla_parse.specs.Kinds.{kind_at, closing}
 use Rattle.tla_parse.specs.Grammar.{within}
 use Rattle.tla_parse.specs.Ending.{above, infix_at}
 use Rattle.tla_parse.specs.Outcome.{Outcome, Refused, Nested, ◌>>=◌, need, room, at_op, sequence}
-use Rattle.tla_parse.specs.Reading.{name_at, postfix_at, following, names, exprs, some, listing, call, group, groups, indexed, behind, postfix, postfixes, turn, climb, junction, paren, quantified, chosen, arm_at, arms_at, cases, operator, function, defined, definition, definitions_at, lets, choice, prefix, by_class, named, operand_by, operand, level, expr}
-
--- the first was nested too deep, or the second is the same
-abbrev pub Refines : {A : Type 0} → Outcome A → Outcome A → Type 0
-Refines r s = (r ≡ Err Nested) ⊎ (r ≡ s)
-
-bind_same : {A B : Type 0} (r s : Outcome A) (f g : A → ℕ → Outcome B) → r ≡ s → ((x : A) (m : ℕ) → Refines (f x m) (g x m)) → Refines (r >>= f) (s >>= g)
-bind_same (Ok p) s f g e h = rw (← e) (h p.0 p.1)
-bind_same (Err x) s f g e h = rw (← e) (inr refl)
-
-pub bind : {A B : Type 0} (r s : Outcome A) (f g : A → ℕ → Outcome B) → Refines r s → ((x : A) (m : ℕ) → Refines (f x m) (g x m)) → Refines (r >>= f) (s >>= g)
-bind r s f g e h = elim e [ inl w ↦ inl (ap (λ x. x >>= f) w) | inr w ↦ bind_same r s f g w h ]
-
-pub needs : {A : Type 0} (t : Bool) (x y : Outcome A) → Refines x y → Refines (need t x) (need t y)
-needs true x y h = h
-needs false x y h = inr refl
-
-rooms : {A : Type 0} (t u : Bool) (x : Outcome A) → (t ≡ true → u ≡ true) → Refines (room t x) (room u x)
-rooms true u x h = rw (h refl) (inr refl)
-rooms false u x h = inl refl
-
-more_room : {A : Type 0} (d most : ℕ) (x : Outcome A) → Refines (room (nat_le d most) x) (room (nat_le d (most + 1)) x)
-more_room d most x = rooms (nat_le d most) (nat_le d (most + 1)) x (λ h. let l = leb-true d most h in le-leb d (most + 1) (omega (arith, l)))
-
-pub ops : {A X : Type 0} (o : Option X) (x y : Outcome A) (f g : X → Outcome A) → Refines x y → ((op : X) → Refines (f op) (g op)) → Refines (at_op o x f) (at_op o y g)
-ops None x y f g h k = h
-ops (Some op) x y f g h k = k op
-
-pub choices : {A : Type 0} (t : Bool) (x y u v : Outcome A) → Refines x u → Refines y v → Refines (if t then x else y) (if t then u else v)
-choices true x y u v h k = h
-choices false x y u v h k = k
-
-pub sequences : {A : Type 0} (f g : ℕ → Outcome A) (next : ℕ → Option ℕ) → ((at : ℕ) → Refines (f at) (g at)) → (n : ℕ) (front : List A) (at : ℕ) → Refines (sequence f next n front at) (sequence g next n front at)
-unfolding sequence
-sequences f g next d zero front at = inr refl
-sequences f g next d (suc n) front at = bind (f at) (g at) _ _ (d at) (λ x after. ops (next after) _ _ _ _ (inr refl) (λ start. sequences f g next d n (front ++ x ∷ []) start))
+use Rattle.tla_parse.specs.ReadingLists.{name_at, following, names, exprs, some, listing, call, group, groups, paren}
+use Rattle.tla_parse.specs.Reading.{postfix_at, indexed, behind, postfix, postfixes, turn, climb, junction, quantified, chosen, arm_at, arms_at, cases, operator, function, defined, definition, definitions_at, lets, choice, prefix, by_class, named, operand_by, operand, level, expr, factor, factors, product}
+use Rattle.tla_parse.specs.declared.tree.Fairness.TheVariants as fa
+use Rattle.tla_parse.specs.ReadingBrackets.{fair, brace, tuple, bracket}
+use Rattle.tla_parse.proofs.DeeperLists.{Refines, bind, needs, more_room, ops, choices, sequences, somes, nameds, group_deeper, parens}
+use Rattle.tla_parse.proofs.DeeperBrackets.{fairs, braces, tuples, brackets}
 
 module _ (text : List ℕ) (ts : List Token) where
   module _ (inner outer : Scope → ℕ → ℕ → Outcome Tree) (deeper : (s : Scope) (floor at : ℕ) → Refines (inner s floor at) (outer s floor at)) where
-    somes : (s : Scope) (close : Kind) (at : ℕ) → Refines (some text ts inner s close at) (some text ts outer s close at)
-    unfolding some
-    somes s close at = bind (exprs text ts inner (length ts) [] s between.Comma at) (exprs text ts outer (length ts) [] s between.Comma at) _ _
-        (sequences (inner s 0) (outer s 0) (following ts s.column between.Comma) (deeper s 0) (length ts) [] at) (λ es after. inr refl)
-
-    listings : (s : Scope) (p : Place) (b : Brackets) (at : ℕ) → Refines (listing text ts inner s p b at) (listing text ts outer s p b at)
-    unfolding listing
-    listings s p b at = choices (kind_at (closing b) (seen ts s.column (at + 1))) _ _ _ _ (inr refl)
-        (bind (some text ts inner s (closing b) (at + 1)) (some text ts outer s (closing b) (at + 1)) _ _ (somes s (closing b) (at + 1)) (λ es end. inr refl))
-
-    calls : (s : Scope) (t : Token) (at : ℕ) → Refines (call text ts inner s t at) (call text ts outer s t at)
-    unfolding call
-    calls s t at = bind (some text ts inner s k.RightParen (at + 2)) (some text ts outer s k.RightParen (at + 2)) _ _ (somes s k.RightParen (at + 2)) (λ es end. inr refl)
-
-    nameds : (s : Scope) (t : Token) (at : ℕ) → Refines (named text ts inner s t at) (named text ts outer s t at)
-    unfolding named
-    nameds s t at = choices (kind_at k.LeftParen (seen ts s.column (at + 1))) _ _ _ _ (calls s t at) (inr refl)
-
-    group_deeper : (s : Scope) (at : ℕ) → Refines (group text ts inner s at) (group text ts outer s at)
-    unfolding group
-    group_deeper s at = bind (names text ts (length ts) [] s.column at) (names text ts (length ts) [] s.column at) _ _ (inr refl) (λ ws after. needs (kind_at k.Member (seen ts s.column after)) _ _
-        (bind (inner s 0 (after + 1)) (outer s 0 (after + 1)) _ _ (deeper s 0 (after + 1)) (λ e end. inr refl)))
-
     indexeds : (most : ℕ) (s : Scope) (t : Tree) (at : ℕ) → Refines (indexed text ts inner most s t at) (indexed text ts outer (most + 1) s t at)
     unfolding indexed
-    indexeds most s t at = bind (some text ts inner s k.RightBracket (at + 1)) (some text ts outer s k.RightBracket (at + 1)) _ _ (somes s k.RightBracket (at + 1))
+    indexeds most s t at = bind (some text ts inner s k.RightBracket (at + 1)) (some text ts outer s k.RightBracket (at + 1)) _ _ (somes text ts inner outer deeper s k.RightBracket (at + 1))
         (λ es end. more_room (depth (Index (place t) t es)) most (Ok (Index (place t) t es, end)))
 
     behinds : (most : ℕ) (s : Scope) (t : Tree) (f : Postfix) (at : ℕ) → Refines (behind text ts inner most s t f at) (behind text ts outer (most + 1) s t f at)
@@ -109,11 +57,21 @@ module _ (text : List ℕ) (ts : List Token) where
     more_postfixes : (most : ℕ) (s : Scope) (t : Tree) (at : ℕ) → Refines (postfixes text ts inner most s t at) (postfixes text ts outer (most + 1) s t at)
     more_postfixes most s t at = more_postfix most (most + 1) most s t at (omega arith)
 
+    factor_deeper : (s : Scope) (at : ℕ) → Refines (factor text ts inner s at) (factor text ts outer s at)
+    unfolding factor
+    factor_deeper s at = bind (inner s (high i.Product) at) (outer s (high i.Product) at) _ _ (deeper s (high i.Product) at) (λ e after. inr refl)
+
+    products : (most : ℕ) (s : Scope) (t : Tree) (at : ℕ) → Refines (product text ts inner most s t at) (product text ts outer (most + 1) s t at)
+    unfolding product
+    products most s t at = needs (edge_allows t i.Product) _ _
+        (bind (factors text ts inner (length ts) [] s (at + 1)) (factors text ts outer (length ts) [] s (at + 1)) _ _
+        (sequences (factor text ts inner s) (factor text ts outer s) (following ts s.column between.Product) (factor_deeper s) (length ts) [] (at + 1)) (λ es after. more_room (depth (Product (place t) t (trees es))) most (Ok (Product (place t) t (trees es), after))))
+
     turns : (most : ℕ) (s : Scope) (t : Tree) (op : Infix) (at : ℕ) → Refines (turn text ts inner most s t op at) (turn text ts outer (most + 1) s t op at)
     unfolding turn
-    turns most s t op at = needs (edge_allows t op) _ _ (ops (seen ts s.column at) _ _ _ _ (inr refl) (λ sign.
+    turns most s t op at = choices (is_product op) _ _ _ _ (products most s t at) (needs (edge_allows t op) _ _ (ops (seen ts s.column at) _ _ _ _ (inr refl) (λ sign.
         bind (inner s (high op) (at + 1)) (outer s (high op) (at + 1)) _ _ (deeper s (high op) (at + 1))
-        (λ r after. more_room (depth (Binary (place t) op (written text sign) t r)) most (Ok (Binary (place t) op (written text sign) t r, after)))))
+        (λ r after. more_room (depth (Binary (place t) op (written text sign) t r)) most (Ok (Binary (place t) op (written text sign) t r, after))))))
 
     climbs : (n m most : ℕ) (s : Scope) (floor : ℕ) (t : Tree) (at : ℕ) → n ≤ m → Refines (climb text ts inner n most s floor t at) (climb text ts outer m (most + 1) s floor t at)
     unfolding climb
@@ -129,14 +87,10 @@ module _ (text : List ℕ) (ts : List Token) where
     junctions s p b at = bind (exprs text ts inner (length ts) [] (within s p.column) (between.Bullet b) (at + 1)) (exprs text ts outer (length ts) [] (within s p.column) (between.Bullet b) (at + 1)) _ _
         (sequences (inner (within s p.column) 0) (outer (within s p.column) 0) (following ts p.column (between.Bullet b)) (deeper (within s p.column) 0) (length ts) [] (at + 1)) (λ es after. inr refl)
 
-    parens : (s : Scope) (p : Place) (at : ℕ) → Refines (paren text ts inner s p at) (paren text ts outer s p at)
-    unfolding paren
-    parens s p at = bind (inner s 0 (at + 1)) (outer s 0 (at + 1)) _ _ (deeper s 0 (at + 1)) (λ e after. inr refl)
-
     quantifieds : (s : Scope) (p : Place) (q : Quantifier) (at : ℕ) → Refines (quantified text ts inner s p q at) (quantified text ts outer s p q at)
     unfolding quantified
     quantifieds s p q at = bind (groups text ts inner (length ts) [] s (at + 1)) (groups text ts outer (length ts) [] s (at + 1)) _ _
-        (sequences (group text ts inner s) (group text ts outer s) (following ts s.column between.Comma) (group_deeper s) (length ts) [] (at + 1)) (λ gs after. needs (kind_at k.Colon (seen ts s.column after)) _ _
+        (sequences (group text ts inner s) (group text ts outer s) (following ts s.column between.Comma) (group_deeper text ts inner outer deeper s) (length ts) [] (at + 1)) (λ gs after. needs (kind_at k.Colon (seen ts s.column after)) _ _
         (bind (inner s 0 (after + 1)) (outer s 0 (after + 1)) _ _ (deeper s 0 (after + 1)) (λ e end. inr refl)))
 
     choosings : (s : Scope) (p : Place) (at : ℕ) → Refines (chosen text ts inner s p at) (chosen text ts outer s p at)
@@ -165,7 +119,7 @@ module _ (text : List ℕ) (ts : List Token) where
     functions : (s : Scope) (t : Token) (at : ℕ) → Refines (function text ts inner s t at) (function text ts outer s t at)
     unfolding function
     functions s t at = bind (groups text ts inner (length ts) [] s at) (groups text ts outer (length ts) [] s at) _ _
-        (sequences (group text ts inner s) (group text ts outer s) (following ts s.column between.Comma) (group_deeper s) (length ts) [] at) (λ gs after. needs (kind_at k.RightBracket (seen ts s.column after)) _ _ (needs (kind_at k.Define (seen ts s.column (after + 1))) _ _
+        (sequences (group text ts inner s) (group text ts outer s) (following ts s.column between.Comma) (group_deeper text ts inner outer deeper s) (length ts) [] at) (λ gs after. needs (kind_at k.RightBracket (seen ts s.column after)) _ _ (needs (kind_at k.Define (seen ts s.column (after + 1))) _ _
         (bind (inner s 0 (after + 2)) (outer s 0 (after + 2)) _ _ (deeper s 0 (after + 2)) (λ e end. inr refl))))
 
     pub definition_deeper : (s : Scope) (at : ℕ) → Refines (definition text ts inner s at) (definition text ts outer s at)
@@ -202,16 +156,19 @@ module _ (text : List ℕ) (ts : List Token) where
         (λ b. bind (junction text ts inner s t.place b at) (junction text ts outer s t.place b at) _ _ (junctions s t.place b at) (λ e after. more_postfixes most s e after))
 
     kinds : (most : ℕ) (s : Scope) (t : Token) (at : ℕ) (kind : Kind) → Refines (operand_by text ts inner most s t at kind) (operand_by text ts outer (most + 1) s t at kind)
-    kinds most s t at k.Name = bind (named text ts inner s t at) (named text ts outer s t at) _ _ (nameds s t at) (λ e after. more_postfixes most s e after)
+    kinds most s t at k.Name = bind (named text ts inner s t at) (named text ts outer s t at) _ _ (nameds text ts inner outer deeper s t at) (λ e after. more_postfixes most s e after)
     kinds most s t at k.Text = more_postfixes most s (Text t.place (string_text (word_of text t))) (at + 1)
-    kinds most s t at k.LeftBrace = bind (listing text ts inner s t.place br.Set at) (listing text ts outer s t.place br.Set at) _ _ (listings s t.place br.Set at) (λ e after. more_postfixes most s e after)
-    kinds most s t at k.LeftTuple = bind (listing text ts inner s t.place br.Tuple at) (listing text ts outer s t.place br.Tuple at) _ _ (listings s t.place br.Tuple at) (λ e after. more_postfixes most s e after)
+    kinds most s t at k.LeftBrace = bind (brace text ts inner s t.place at) (brace text ts outer s t.place at) _ _ (braces text ts inner outer deeper s t.place at) (λ e after. more_postfixes most s e after)
+    kinds most s t at k.LeftTuple = bind (tuple text ts inner most s t.place at) (tuple text ts outer (most + 1) s t.place at) _ _ (tuples text ts inner outer deeper most s t.place at) (λ e after. more_postfixes most s e after)
+    kinds most s t at k.LeftBracket = bind (bracket text ts inner most s t.place at) (bracket text ts outer (most + 1) s t.place at) _ _ (brackets text ts inner outer deeper most s t.place at) (λ e after. more_postfixes most s e after)
+    kinds most s t at k.WeakFairness = bind (fair text ts inner most s t.place fa.Weak at) (fair text ts outer (most + 1) s t.place fa.Weak at) _ _ (fairs text ts inner outer deeper most s t.place fa.Weak at) (λ e after. more_postfixes most s e after)
+    kinds most s t at k.StrongFairness = bind (fair text ts inner most s t.place fa.Strong at) (fair text ts outer (most + 1) s t.place fa.Strong at) _ _ (fairs text ts inner outer deeper most s t.place fa.Strong at) (λ e after. more_postfixes most s e after)
     kinds most s t at k.Choose = choosings s t.place at
     kinds most s t at k.Case = cases_deeper s t.place at
     kinds most s t at k.Let = lets_deeper s t.place at
     kinds most s t at (k.Number n) = more_postfixes most s (Number t.place n) (at + 1)
     kinds most s t at k.At = needs s.updating _ _ (more_postfixes most s (At t.place) (at + 1))
-    kinds most s t at k.LeftParen = bind (paren text ts inner s t.place at) (paren text ts outer s t.place at) _ _ (parens s t.place at) (λ e after. more_postfixes most s e after)
+    kinds most s t at k.LeftParen = bind (paren text ts inner s t.place at) (paren text ts outer s t.place at) _ _ (parens text ts inner outer deeper s t.place at) (λ e after. more_postfixes most s e after)
     kinds most s t at k.If = conditionals s t.place at
     kinds most s t at kind = classes most s t at
 

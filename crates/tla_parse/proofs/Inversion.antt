@@ -15,7 +15,8 @@ use Rattle.tla_parse.specs.Kinds.{same_kind, kind_at}
 use Rattle.tla_parse.specs.LeftOut.{KindAt, Commas}
 use Rattle.tla_parse.specs.Ending.{above, infix_at}
 use Rattle.tla_parse.specs.Outcome.{Outcome, ◌>>=◌, need, room, at_op}
-use Rattle.tla_parse.specs.Reading.{name_at, postfix_of, postfix_at}
+use Rattle.tla_parse.specs.ReadingLists.{name_at}
+use Rattle.tla_parse.specs.Reading.{postfix_of, postfix_at}
 
 un : {A : Type 0} → A × ℕ → Outcome A → A × ℕ
 un d (Ok x) = x
@@ -82,6 +83,15 @@ same_is k.Arrow k.Arrow h = refl
 same_is k.MapsTo k.MapsTo h = refl
 same_is k.Other k.Other h = refl
 same_is k.Equal k.Equal h = refl
+same_is k.RightBracketSubscript k.RightBracketSubscript h = refl
+same_is k.RightTupleSubscript k.RightTupleSubscript h = refl
+same_is k.Except k.Except h = refl
+same_is k.Bang k.Bang h = refl
+same_is k.Dot k.Dot h = refl
+same_is k.LeftTuple k.LeftTuple h = refl
+same_is k.Extends k.Extends h = refl
+same_is k.Choose k.Choose h = refl
+same_is k.Product k.Product h = refl
 same_is _ _ h = absurd (no h)
 
 -- the token that begins a postfix form

@@ -1,5 +1,5 @@
 -- The lists of the grammar, as sequences of what is read.
-use Rattle.std.proofs.Common.{◌≡◌, ℕ, ◌+◌, ◌-◌, ◌<◌, ◌≤◌, true, false, inl, inr, if◌then◌else◌, not, ◌&&◌, slice_get, length, List, [], ◌∷◌, ◌++◌, Some, None, refl, ap, sym, ◌∙◌, arith}
+use Rattle.std.proofs.Common.{◌≡◌, ℕ, ◌+◌, ◌-◌, ◌<◌, ◌≤◌, true, false, inl, inr, if◌then◌else◌, not, ◌&&◌, ◌||◌, slice_get, length, List, [], ◌∷◌, ◌++◌, Some, None, refl, ap, sym, ◌∙◌, arith}
 use Rattle.tla_lex.specs.declared.token.Token.{Token}
 use Rattle.tla_lex.specs.declared.token.Kind.{Kind}
 use Rattle.tla_lex.specs.declared.token.Kind.TheVariants as k
@@ -12,7 +12,7 @@ use Rattle.tla_parse.specs.Tree.{Tree, Trees, Binders, Arms, Other, Definition, 
 use Rattle.tla_parse.specs.Tokens.{seen, is_bullet_at, Has, Names}
 use Rattle.tla_parse.specs.Kinds.{kind_at}
 use Rattle.tla_parse.specs.Grammar.{Spells, Items, Listed, Others, Bound, MoreBound, Chosen, MoreChosen, Defines, Defined, is_some, is_defined}
-use Rattle.tla_parse.specs.Reading.{following}
+use Rattle.tla_parse.specs.ReadingLists.{following}
 use Rattle.tla_parse.proofs.Inversion.{choice_ok, has_kind, and_true}
 use Rattle.tla_parse.proofs.NameLists.{seen_within}
 use Rattle.tla_parse.proofs.Sequence.{Behind, Follows}
@@ -89,10 +89,26 @@ module _ (text : List ℕ) (ts : List Token) where
     | inr w ↦ absurd (let z : ⊥ = cc in z)
   ]
 
+  -- `[` or `.`, where a step of a path begins
+  pub key_here : (column at start : ℕ) → following ts column between.Key at ≡ Some start → start ≡ at
+  key_here column at start h = elim (choice_ok (kind_at k.LeftBracket (seen ts column at) || kind_at k.Dot (seen ts column at)) (Some at) None (Some start) h) [
+    | inl w ↦ cc
+    | inr w ↦ absurd (let z : ⊥ = cc in z)
+  ]
+
+  -- `\X`, and the token behind it
+  pub product_is : (column at start : ℕ) → following ts column between.Product at ≡ Some start → Has ts column k.Product at × (start ≡ at + 1)
+  product_is column at start h = elim (choice_ok (kind_at k.Product (seen ts column at)) (Some (at + 1)) None (Some start) h) [
+    | inl w ↦ (let e : start ≡ at + 1 = cc in (has_kind ts column at k.Product w.0, e))
+    | inr w ↦ absurd (let z : ⊥ = cc in z)
+  ]
+
   pub rises : (column : ℕ) (m : Between) (from start : ℕ) → following ts column m from ≡ Some start → from ≤ start
   rises column between.Comma from start h = let w = comma_is column from start h in omega (arith, w)
   rises column (between.Bullet b) from start h = let w = bullet_is column b from start h in omega (arith, w)
   rises column between.Arm from start h = let w = arm_is column from start h in omega (arith, w)
+  rises column between.Key from start h = let w = key_here column from start h in omega (arith, w)
+  rises column between.Product from start h = let w = product_is column from start h in omega (arith, w)
   rises column between.Nothing from start h = let w = name_here column from start h in omega (arith, w)
 
   -- ---- from what was read

@@ -7,7 +7,7 @@ use Rattle.tla_parse.specs.declared.word.Written.{Written}
 use Rattle.tla_parse.specs.Tokens.{seen, written, Has, Writes, Names}
 use Rattle.tla_parse.specs.Kinds.{kind_at}
 use Rattle.tla_parse.specs.Outcome.{Outcome, Refused, at_op}
-use Rattle.tla_parse.specs.Reading.{name_at, names}
+use Rattle.tla_parse.specs.ReadingLists.{name_at, names}
 use Rattle.tla_parse.proofs.Inversion.{ok_to, at_op_ok, choice_ok, has_kind, has_name, seen_is}
 
 module _ (text : List ℕ) (ts : List Token) where

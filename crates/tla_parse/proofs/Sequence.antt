@@ -40,7 +40,7 @@ module _ {A : Type 0} (P : A → ℕ → ℕ → Type 0) (next : ℕ → Option 
   Follows [] from to = ⊥
   Follows (x ∷ xs) from to = (mid : ℕ) × P x from mid × Behind xs mid to
 
-  behind_all : (xs : List A) (from start to : ℕ) → next from ≡ Some start → Follows xs start to → Behind xs from to
+  pub behind_all : (xs : List A) (from start to : ℕ) → next from ≡ Some start → Follows xs start to → Behind xs from to
   behind_all [] from start to h f = absurd f
   behind_all (x ∷ xs) from start to h f = (start, f.0, h, f.1, f.2)
 

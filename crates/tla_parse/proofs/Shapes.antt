@@ -6,25 +6,28 @@ use Rattle.tla_lex.specs.declared.token.Kind.{Kind}
 use Rattle.tla_lex.specs.declared.token.Kind.TheVariants as k
 use Rattle.tla_parse.specs.declared.scope.Scope.{Scope}
 use Rattle.tla_parse.specs.declared.tree.Infix.{Infix}
+use Rattle.tla_parse.specs.declared.tree.Infix.TheVariants as i
 use Rattle.tla_parse.specs.declared.tree.Bullet.{Bullet}
-use Rattle.tla_parse.specs.Tree.{Tree, Trees, Binders, Arms, Other, Definition, Definitions, none, more, unbound, bound, no_arms, arm, no_other, other, DefinesOperator, DefinesFunction, undefined, defined, Case, Let, Name, Number, Text, Word, At, Paren, Listing, Call, Prime, Index, Field, Unary, Binary, Quantified, Choose, If, Junction}
+use Rattle.tla_parse.specs.Tree.{Tree, Trees, Binders, Arms, Other, Definition, Definitions, none, more, unbound, bound, no_arms, arm, no_other, other, DefinesOperator, DefinesFunction, undefined, defined, Case, Let, Name, Number, Text, Word, At, Paren, Listing, Call, Prime, Index, Field, Unary, Binary, Quantified, Choose, If, Junction, Filter, Image, Function, FunctionSet, Record, RecordSet, Except, Action, Fair, Product, Fields, Key, Keys, Updates, no_fields, field, AtIndex, AtField, no_keys, key, no_updates, update}
 use Rattle.tla_parse.specs.Operators.{low}
-use Rattle.tla_parse.specs.Edges.{yields, edge_allows, top_above, depth}
+use Rattle.tla_parse.specs.Edges.{yields, edge_allows, last_allows, top_above, depth}
 use Rattle.tla_parse.specs.Kinds.{closing}
 use Rattle.tla_parse.specs.Tokens.{is_bullet_at, may_follow}
-use Rattle.tla_parse.specs.Grammar.{Spells, Items, Listed, Others, Bound, MoreBound, Chosen, MoreChosen, Otherwise, Defines, Defined, within}
+use Rattle.tla_parse.specs.Grammar.{Fielded, MoreFields, Leads, Selects, Updated, MoreUpdates, updating, Spells, Items, Listed, Others, Bound, MoreBound, Chosen, MoreChosen, Otherwise, Defines, Defined, within, Factors}
 use Rattle.tla_parse.proofs.Inversion.{and_true, first_bullet}
 use Rattle.tla_parse.proofs.Steps.{bullet_within}
-use Rattle.tla_parse.proofs.NameLists.{names_fit}
+use Rattle.tla_parse.proofs.NameLists.{names_fit, seen_within}
 use Rattle.tla_parse.proofs.Follow.{low_some, yields_low, not_true}
 
 -- how many infix forms lie on the left edge
 abbrev pub spine : Tree → ℕ
 spine (Binary _ _ _ l _) = spine l + 1
+spine (Product _ e _) = spine e + 1
 spine _ = 0
 
 pub spine_depth : (t : Tree) → spine t < depth t
 spine_depth (Binary at op w l r) = let h = spine_depth l in omega (arith, h)
+spine_depth (Product at e es) = let h = spine_depth e in omega (arith, h)
 spine_depth (Name _) = omega arith
 spine_depth _ = omega arith
 
@@ -47,6 +50,10 @@ left_top floor (Binary at first w x y) op h f =
     let w = and_true (yields first op) (edge_allows y op) h in
     let s = yields_low first op w.0 in
     lt-ltb floor (low first) (omega (arith, s, f))
+left_top floor (Product at e es) op h f =
+    let w = and_true (yields i.Product op) (last_allows es op) h in
+    let s = yields_low i.Product op w.0 in
+    lt-ltb floor (low i.Product) (omega (arith, s, f))
 left_top floor (Name _) op h f = refl
 left_top floor _ op h f = refl
 
@@ -91,52 +98,96 @@ module _ (text : List ℕ) (ts : List Token) where
         let f = first_bullet ts s.column from t b x.1.1 (rw x.1.2 x.2) in
         let g : is_bullet_at p.column b (slice_get ts from) ≡ true = rw (← x.1.3) f in
         items_advance es (within s p.column) b from to x.3 (starts es (within s p.column) b from to x.3 g (and_true (not (is_bullet_at p.column b (slice_get ts to))) (may_follow p.column (slice_get ts to)) x.4).0)
+    advances (Filter p w b e) s from to x = let h = advances b s (from + 3) x.0 x.5 in let g = advances e s (x.0 + 1) x.1 x.7 in omega (arith, h, g, x.9)
+    advances (Image p e bs) s from to x = let h = advances e s (from + 1) x.0 x.4 in let g = bound_advance bs s (x.0 + 1) x.1 x.6 in omega (arith, h, g, x.8)
+    advances (Function p bs e) s from to x = let h = bound_advance bs s (from + 1) x.0 x.3 in let g = advances e s (x.0 + 1) x.1 x.5 in omega (arith, h, g, x.7)
+    advances (FunctionSet p a b) s from to x = let h = advances a s (from + 1) x.0 x.3 in let g = advances b s (x.0 + 1) x.1 x.5 in omega (arith, h, g, x.7)
+    advances (Record p fs) s from to x = let h = fielded_advance fs s k.MapsTo (from + 1) x.0 x.2 in omega (arith, h, x.4)
+    advances (RecordSet p fs) s from to x = let h = fielded_advance fs s k.Colon (from + 1) x.0 x.2 in omega (arith, h, x.4)
+    advances (Except p f us) s from to x = let h = advances f s (from + 1) x.0 x.3 in let g = updated_advance us s (x.0 + 1) x.1 x.5 in omega (arith, h, g, x.7)
+    advances (Action p g a v) s from to x = let h = advances a s (from + 1) x.0 x.2 in let i = advances v s (x.0 + 1) to x.4 in omega (arith, h, i)
+    advances (Fair p f v a) s from to x = let h = advances v s (from + 1) x.0 x.3 in let g = advances a s (x.0 + 1) x.1 x.6 in omega (arith, h, g, x.8)
+    advances (Product p e es) s from to x = let h = advances e s from x.0 x.1 in let g = factors_rise es s x.0 to x.2 in omega (arith, h, g)
+
+    pub fielded_advance : (fs : Fields) (s : Scope) (mark : Kind) (from to : ℕ) → Fielded text ts s mark fs from to → from < to
+    fielded_advance no_fields s mark from to x = absurd x
+    fielded_advance (field w e fs) s mark from to x = let h = advances e s (from + 2) x.0 x.3 in let g = more_fields_rise fs s mark x.0 to x.4 in omega (arith, h, g)
+
+    pub more_fields_rise : (fs : Fields) (s : Scope) (mark : Kind) (from to : ℕ) → MoreFields text ts s mark fs from to → from ≤ to
+    more_fields_rise no_fields s mark from to x = omega (arith, x)
+    more_fields_rise (field w e fs) s mark from to x = let h = advances e s (from + 3) x.0 x.4 in let g = more_fields_rise fs s mark x.0 to x.5 in omega (arith, h, g)
+
+    pub selects_advance : (x : Key) (s : Scope) (from to : ℕ) → Selects text ts s x from to → from < to
+    selects_advance (AtIndex es) s from to x = let h = listed_advance es s k.RightBracket (from + 1) to x.1 in omega (arith, h)
+    selects_advance (AtField w) s from to x = omega (arith, x.2)
+
+    pub leads_rise : (ks : Keys) (s : Scope) (from to : ℕ) → Leads text ts s ks from to → from ≤ to
+    leads_rise no_keys s from to x = omega (arith, x)
+    leads_rise (key y ks) s from to x = let h = selects_advance y s from x.0 x.1 in let g = leads_rise ks s x.0 to x.2 in omega (arith, h, g)
+
+    pub updated_advance : (us : Updates) (s : Scope) (from to : ℕ) → Updated text ts s us from to → from < to
+    updated_advance no_updates s from to x = absurd x
+    updated_advance (update ks e us) s from to x =
+        let h = leads_rise ks s (from + 1) x.0 x.3 in
+        let g = advances e (updating s) (x.0 + 1) x.1 x.6 in
+        let r = more_updates_rise us s x.1 to x.7 in omega (arith, h, g, r)
+
+    pub more_updates_rise : (us : Updates) (s : Scope) (from to : ℕ) → MoreUpdates text ts s us from to → from ≤ to
+    more_updates_rise no_updates s from to x = omega (arith, x)
+    more_updates_rise (update ks e us) s from to x =
+        let h = leads_rise ks s (from + 2) x.0 x.4 in
+        let g = advances e (updating s) (x.0 + 1) x.1 x.7 in
+        let r = more_updates_rise us s x.1 to x.8 in omega (arith, h, g, r)
 
     items_advance : (es : Trees) (s : Scope) (b : Bullet) (from to : ℕ) → Items text ts s b es from to → 0 < count es → from < to
     items_advance none s b from to x h = absurd (omega (arith, h))
     items_advance (more e es) s b from to x h = let g = advances e s (from + 1) x.0 x.2 in let r = items_rise es s b x.0 to x.3 in omega (arith, g, r)
 
-    items_rise : (es : Trees) (s : Scope) (b : Bullet) (from to : ℕ) → Items text ts s b es from to → from ≤ to
+    pub items_rise : (es : Trees) (s : Scope) (b : Bullet) (from to : ℕ) → Items text ts s b es from to → from ≤ to
     items_rise none s b from to x = omega (arith, x)
     items_rise (more e es) s b from to x = let g = advances e s (from + 1) x.0 x.2 in let r = items_rise es s b x.0 to x.3 in omega (arith, g, r)
 
-    listed_advance : (es : Trees) (s : Scope) (close : Kind) (from to : ℕ) → Listed text ts s close es from to → from < to
+    pub factors_rise : (es : Trees) (s : Scope) (from to : ℕ) → Factors text ts s es from to → from ≤ to
+    factors_rise none s from to x = omega (arith, x)
+    factors_rise (more e es) s from to x = let g = advances e s (from + 1) x.0 x.2 in let r = factors_rise es s x.0 to x.5 in omega (arith, g, r)
+
+    pub listed_advance : (es : Trees) (s : Scope) (close : Kind) (from to : ℕ) → Listed text ts s close es from to → from < to
     listed_advance none s close from to x = omega (arith, x.1)
     listed_advance (more e es) s close from to x = let g = advances e s from x.0 x.1 in let r = others_advance es s close x.0 to x.2 in omega (arith, g, r)
 
-    others_advance : (es : Trees) (s : Scope) (close : Kind) (from to : ℕ) → Others text ts s close es from to → from < to
+    pub others_advance : (es : Trees) (s : Scope) (close : Kind) (from to : ℕ) → Others text ts s close es from to → from < to
     others_advance none s close from to x = omega (arith, x.1)
     others_advance (more e es) s close from to x = let g = advances e s (from + 1) x.0 x.2 in let r = others_advance es s close x.0 to x.3 in omega (arith, g, r)
 
-    bound_advance : (bs : Binders) (s : Scope) (from to : ℕ) → Bound text ts s bs from to → from < to
+    pub bound_advance : (bs : Binders) (s : Scope) (from to : ℕ) → Bound text ts s bs from to → from < to
     bound_advance unbound s from to x = absurd x
     bound_advance (bound ws e bs) s from to x =
         let n = names_fit text ts ws s.column from x.0 x.2 in
         let g = advances e s (x.0 + 1) x.1 x.4 in
         let r = bound_rise bs s x.1 to x.5 in omega (arith, n, g, r)
 
-    bound_rise : (bs : Binders) (s : Scope) (from to : ℕ) → MoreBound text ts s bs from to → from ≤ to
+    pub bound_rise : (bs : Binders) (s : Scope) (from to : ℕ) → MoreBound text ts s bs from to → from ≤ to
     bound_rise unbound s from to x = omega (arith, x)
     bound_rise (bound ws e bs) s from to x =
         let n = names_fit text ts ws s.column (from + 1) x.0 x.3 in
         let g = advances e s (x.0 + 1) x.1 x.5 in
         let r = bound_rise bs s x.1 to x.6 in omega (arith, n, g, r)
 
-    chosen_advance : (cs : Arms) (s : Scope) (from to : ℕ) → Chosen text ts s cs from to → from < to
+    pub chosen_advance : (cs : Arms) (s : Scope) (from to : ℕ) → Chosen text ts s cs from to → from < to
     chosen_advance no_arms s from to x = absurd x
     chosen_advance (arm g e cs) s from to x =
         let h = advances g s from x.0 x.2 in
         let i = advances e s (x.0 + 1) x.1 x.4 in
         let r = chosen_rise cs s x.1 to x.5 in omega (arith, h, i, r)
 
-    chosen_rise : (cs : Arms) (s : Scope) (from to : ℕ) → MoreChosen text ts s cs from to → from ≤ to
+    pub chosen_rise : (cs : Arms) (s : Scope) (from to : ℕ) → MoreChosen text ts s cs from to → from ≤ to
     chosen_rise no_arms s from to x = omega (arith, x)
     chosen_rise (arm g e cs) s from to x =
         let h = advances g s (from + 1) x.0 x.3 in
         let i = advances e s (x.0 + 1) x.1 x.5 in
         let r = chosen_rise cs s x.1 to x.6 in omega (arith, h, i, r)
 
-    otherwise_rise : (o : Other) (s : Scope) (from to : ℕ) → Otherwise text ts s o from to → from ≤ to
+    pub otherwise_rise : (o : Other) (s : Scope) (from to : ℕ) → Otherwise text ts s o from to → from ≤ to
     otherwise_rise no_other s from to x = omega (arith, x.1)
     otherwise_rise (other e) s from to x = let h = advances e s (from + 3) to x.3 in omega (arith, h)
 
@@ -145,7 +196,7 @@ module _ (text : List ℕ) (ts : List Token) where
     defines_advance (DefinesOperator w (v ∷ vs) e) s from to x = let n = names_fit text ts (v ∷ vs) s.column (from + 2) x.0 x.3 in let h = advances e s (x.0 + 2) to x.6 in omega (arith, n, h)
     defines_advance (DefinesFunction w bs e) s from to x = let n = bound_advance bs s (from + 2) x.0 x.3 in let h = advances e s (x.0 + 2) to x.6 in omega (arith, n, h)
 
-    defined_rise : (ds : Definitions) (s : Scope) (from to : ℕ) → Defined text ts s ds from to → from ≤ to
+    pub defined_rise : (ds : Definitions) (s : Scope) (from to : ℕ) → Defined text ts s ds from to → from ≤ to
     defined_rise undefined s from to x = omega (arith, x)
     defined_rise (defined d ds) s from to x = let h = defines_advance d s from x.0 x.1 in let r = defined_rise ds s x.0 to x.2 in omega (arith, h, r)
 
@@ -155,6 +206,13 @@ module _ (text : List ℕ) (ts : List Token) where
       let g = advances e s (from + 1) x.0 x.2 in
       let w = bullet_within ts s.column b from x.1 in
       let r = items_fit es s b x.0 to x.3 in omega (arith, g, w, r)
+
+  pub factors_fit : (es : Trees) (s : Scope) (from to : ℕ) → Factors text ts s es from to → count es ≤ length ts - from
+  factors_fit none s from to x = omega arith
+  factors_fit (more e es) s from to x =
+      let g = advances e s (from + 1) x.0 x.2 in
+      let w = seen_within text ts s.column from x.1.0 x.1.1 in
+      let r = factors_fit es s x.0 to x.5 in omega (arith, g, w, r)
 
   -- the bullet of a list's first token, in the column of the list's place
   pub opens : (s : Scope) (p : _) (b : Bullet) (es : Trees) (from to : ℕ) → (x : Spells text ts s (Junction p b es) from to) → is_bullet_at p.column b (slice_get ts from) ≡ true

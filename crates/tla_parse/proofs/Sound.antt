@@ -17,31 +17,29 @@ use Rattle.tla_parse.specs.declared.tokens.Postfix.{Postfix}
 use Rattle.tla_parse.specs.declared.tokens.Postfix.TheVariants as form
 use Rattle.tla_parse.specs.declared.tree.Quantifier.{Quantifier}
 use Rattle.tla_parse.specs.Tree.{Tree, Trees, Group, none, trees, binders, Name, Number, Text, Word, At, Paren, Listing, Call, Prime, Index, Field, Unary, Binary, Quantified, Choose, If, Junction}
-use Rattle.tla_parse.specs.Operators.{low, high, prefix_high, infix_of, prefix_of, bullet_of, quantifier_of, constant_of}
+use Rattle.tla_parse.specs.Operators.{low, high, prefix_high, is_product, infix_of, prefix_of, bullet_of, quantifier_of, constant_of}
 use Rattle.tla_parse.specs.Edges.{edge_allows, top_above, is_closed, place, depth}
 use Rattle.tla_parse.specs.Tokens.{seen, word_of, written, is_bullet_at, may_follow, Is, Has, Writes}
 use Rattle.tla_parse.specs.Kinds.{kind_at, opening, closing}
 use Rattle.tla_parse.specs.Grammar.{Spells, Items, Listed, is_some, within}
 use Rattle.tla_parse.specs.Ending.{above, infix_at}
 use Rattle.tla_parse.specs.Outcome.{Outcome, Refused, ◌>>=◌, need, room, at_op, sequence}
-use Rattle.tla_parse.specs.Reading.{name_at, postfix_at, following, names, exprs, some, listing, call, group, groups, indexed, behind, postfix, postfixes, turn, climb, junction, paren, quantified, chosen, choice, prefix, by_class, named, operand_by, operand, level, expr}
+use Rattle.tla_parse.specs.ReadingLists.{name_at, following, names, exprs, some, listing, call, group, groups, paren}
+use Rattle.tla_parse.specs.Reading.{postfix_at, indexed, behind, postfix, postfixes, turn, climb, junction, quantified, chosen, choice, prefix, by_class, named, operand_by, operand, level, expr, product}
 use Rattle.tla_parse.proofs.Inversion.{ok_to, bind_ok, need_ok, room_ok, at_op_ok, choice_ok, has_kind, has_name, has_infix, postfix_kind, has_postfix, first_bullet}
 use Rattle.tla_parse.proofs.NameLists.{names_sound}
 use Rattle.tla_parse.proofs.Sequence.{sequence_sound}
 use Rattle.tla_parse.proofs.Lists.{Spelled, GroupAt, listed_of, bound_of, items_of}
-use Rattle.tla_parse.proofs.SoundParts.{Closed, Good, Whole, group_sound, listing_sound, named_sound, postfixes_sound}
+use Rattle.tla_parse.specs.declared.tree.Fairness.TheVariants as fa
+use Rattle.tla_parse.specs.ReadingBrackets.{fair, brace, tuple, bracket}
+use Rattle.tla_parse.proofs.SoundParts.{Closed, Good, Whole, group_sound, paren_sound, named_sound, postfixes_sound}
+use Rattle.tla_parse.proofs.SoundBrackets.{fair_sound, brace_sound, tuple_sound, bracket_sound}
+use Rattle.tla_parse.proofs.SoundProduct.{product_op, product_kind, product_sound}
 use Rattle.tla_parse.proofs.SoundCase.{cases_sound, lets_sound}
 
 module _ (text : List ℕ) (ts : List Token) where
   module _ (inner : Scope → ℕ → ℕ → Outcome Tree) (good : (s : Scope) (floor at : ℕ) (z : Tree × ℕ) → inner s floor at ≡ Ok z → Good text ts s floor at z) where
     -- ---- the forms
-
-    paren_sound : (s : Scope) (t : Token) (at : ℕ) (z : Tree × ℕ) → seen ts s.column at ≡ Some t → t.kind ≡ k.LeftParen → paren text ts inner s t.place at ≡ Ok z → Closed text ts s at z
-    unfolding paren
-    paren_sound s t at z i e h =
-        let x = bind_ok (inner s 0 (at + 1)) _ z h in
-        let n = need_ok _ _ z x.3 in
-        ok_to (Paren t.place x.0, x.1 + 1) z n.1 (Closed text ts s at) ((x.1, (t, i, e, refl), (good s 0 (at + 1) (x.0, x.1) x.2).0, has_kind ts s.column x.1 k.RightParen n.0, refl), refl)
 
     prefix_sound : (s : Scope) (t : Token) (op : Prefix) (at : ℕ) (z : Tree × ℕ) → seen ts s.column at ≡ Some t → prefix_of t.kind ≡ Some op
         → prefix text ts inner s op t.place at ≡ Ok z → Whole text ts s at z
@@ -146,11 +144,20 @@ module _ (text : List ℕ) (ts : List Token) where
         postfixes_sound text ts inner good most s at x.0 x.1 z (named_sound text ts inner good s t at (x.0, x.1) i e x.2) x.3
     by_sound most s t at k.Text z i e h = postfixes_sound text ts inner good most s at (Text t.place (string_text (word_of text t))) (at + 1) z ((t, i, e, refl, refl, refl), refl) h
     by_sound most s t at k.LeftBrace z i e h =
-        let x = bind_ok (listing text ts inner s t.place b.Set at) (postfixes text ts inner most s) z h in
-        postfixes_sound text ts inner good most s at x.0 x.1 z (listing_sound text ts inner good s t b.Set at (x.0, x.1) i e x.2) x.3
+        let x = bind_ok (brace text ts inner s t.place at) (postfixes text ts inner most s) z h in
+        postfixes_sound text ts inner good most s at x.0 x.1 z (brace_sound text ts inner good s t at (x.0, x.1) i e x.2) x.3
+    by_sound most s t at k.LeftBracket z i e h =
+        let x = bind_ok (bracket text ts inner most s t.place at) (postfixes text ts inner most s) z h in
+        postfixes_sound text ts inner good most s at x.0 x.1 z (bracket_sound text ts inner good most s t at (x.0, x.1) i e x.2) x.3
+    by_sound most s t at k.WeakFairness z i e h =
+        let x = bind_ok (fair text ts inner most s t.place fa.Weak at) (postfixes text ts inner most s) z h in
+        postfixes_sound text ts inner good most s at x.0 x.1 z (fair_sound text ts inner good most s t fa.Weak at (x.0, x.1) i e x.2) x.3
+    by_sound most s t at k.StrongFairness z i e h =
+        let x = bind_ok (fair text ts inner most s t.place fa.Strong at) (postfixes text ts inner most s) z h in
+        postfixes_sound text ts inner good most s at x.0 x.1 z (fair_sound text ts inner good most s t fa.Strong at (x.0, x.1) i e x.2) x.3
     by_sound most s t at k.LeftTuple z i e h =
-        let x = bind_ok (listing text ts inner s t.place b.Tuple at) (postfixes text ts inner most s) z h in
-        postfixes_sound text ts inner good most s at x.0 x.1 z (listing_sound text ts inner good s t b.Tuple at (x.0, x.1) i e x.2) x.3
+        let x = bind_ok (tuple text ts inner most s t.place at) (postfixes text ts inner most s) z h in
+        postfixes_sound text ts inner good most s at x.0 x.1 z (tuple_sound text ts inner good most s t at (x.0, x.1) i e x.2) x.3
     by_sound most s t at k.Choose z i e h = chosen_sound s t at z i e h
     by_sound most s t at k.Case z i e h = cases_sound text ts inner good s t at z i e h
     by_sound most s t at k.Let z i e h = lets_sound text ts inner good s t at z i e h
@@ -160,7 +167,7 @@ module _ (text : List ℕ) (ts : List Token) where
         postfixes_sound text ts inner good most s at (At t.place) (at + 1) z (((t, i, e, refl), n.0, refl), refl) n.1
     by_sound most s t at k.LeftParen z i e h =
         let x = bind_ok (paren text ts inner s t.place at) (postfixes text ts inner most s) z h in
-        postfixes_sound text ts inner good most s at x.0 x.1 z (paren_sound s t at (x.0, x.1) i e x.2) x.3
+        postfixes_sound text ts inner good most s at x.0 x.1 z (paren_sound text ts inner good s t at (x.0, x.1) i e x.2) x.3
     by_sound most s t at k.If z i e h = choice_sound s t at z i e h
     by_sound most s t at kind z i e h = class_sound most s t at z i h
 
@@ -175,16 +182,24 @@ module _ (text : List ℕ) (ts : List Token) where
         → seen ts s.column at ≡ Some sign → infix_of sign.kind ≡ Some op → nat_lt floor (low op) ≡ true → turn text ts inner most s t op at ≡ Ok z → Good text ts s floor from z
     unfolding turn
     turn_sound most s floor from t op at sign z c i e f h =
-        let n = need_ok (edge_allows t op) _ z h in
-        elim (at_op_ok (seen ts s.column at) (Err Refused) _ z n.1) [
-          | inl v ↦ absurd (let z : ⊥ = cc in z)
-          | inr v ↦
-              let x = bind_ok (inner s (high op) (at + 1)) _ z v.2 in
-              let r = room_ok _ _ z x.3 in
-              let w = good s (high op) (at + 1) (x.0, x.1) x.2 in
-              let same : v.0 ≡ sign = cc in
-              let kind : infix_of v.0.kind ≡ Some op = rw same e in
-              ok_to (Binary (place t) op (written text v.0) t x.0, x.1) z r.1 (Good text ts s floor from) ((at, v.0.kind, c, (v.0, v.1, refl, refl), kind, w.0, n.0, w.1, refl), f)
+        elim (choice_ok (is_product op) (product text ts inner most s t at) _ (Ok z) h) [
+          | inl y ↦
+              let o = product_op op y.0 in
+              let kind = product_kind sign.kind (rw o at e) in
+              product_sound text ts inner good most s floor from t at z c (sign, i, kind) (rw o at f) y.1
+          | inr y ↦
+              let n = need_ok (edge_allows t op) _ z y.1 in
+              elim (at_op_ok (seen ts s.column at) (Err Refused) _ z n.1) [
+                | inl v ↦ absurd (let z : ⊥ = cc in z)
+                | inr v ↦
+                    let x = bind_ok (inner s (high op) (at + 1)) _ z v.2 in
+                    let r = room_ok _ _ z x.3 in
+                    let w = good s (high op) (at + 1) (x.0, x.1) x.2 in
+                    let same : v.0 ≡ sign = cc in
+                    let kind : infix_of v.0.kind ≡ Some op = rw same e in
+                    let other = y.0 in
+                    ok_to (Binary (place t) op (written text v.0) t x.0, x.1) z r.1 (Good text ts s floor from) ((at, v.0.kind, c, (v.0, v.1, refl, refl), kind, w.0, n.0, w.1, refl, rw other refl), f)
+              ]
         ]
 
     climb_sound : (n most : ℕ) (s : Scope) (floor from : ℕ) (t : Tree) (at : ℕ) (z : Tree × ℕ) → Good text ts s floor from (t, at) → climb text ts inner n most s floor t at ≡ Ok z → Good text ts s floor from z

@@ -10,7 +10,8 @@ use Rattle.tla_parse.specs.Tokens.{seen, written, Has, Writes, Names}
 use Rattle.tla_parse.specs.Kinds.{kind_at}
 use Rattle.tla_parse.specs.Grammar.{Spells, Defines, Defined, Chosen, is_defined}
 use Rattle.tla_parse.specs.Outcome.{Outcome, Refused, ◌>>=◌, need, at_op}
-use Rattle.tla_parse.specs.Reading.{name_at, following, names, groups, group, arm_at, arms_at, cases, operator, function, defined, definition, definitions_at, lets}
+use Rattle.tla_parse.specs.ReadingLists.{name_at, following, names, groups, group}
+use Rattle.tla_parse.specs.Reading.{arm_at, arms_at, cases, operator, function, defined, definition, definitions_at, lets}
 use Rattle.tla_parse.proofs.Inversion.{ok_to, bind_ok, need_ok, at_op_ok, choice_ok, has_kind, has_name, name_is}
 use Rattle.tla_parse.proofs.NameLists.{names_sound}
 use Rattle.tla_parse.proofs.Sequence.{sequence_sound}

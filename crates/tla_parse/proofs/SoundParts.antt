@@ -16,7 +16,7 @@ use Rattle.tla_parse.specs.declared.tokens.Between.TheVariants as between
 use Rattle.tla_parse.specs.declared.tokens.Postfix.{Postfix}
 use Rattle.tla_parse.specs.declared.tokens.Postfix.TheVariants as form
 use Rattle.tla_parse.specs.declared.tree.Quantifier.{Quantifier}
-use Rattle.tla_parse.specs.Tree.{Tree, Trees, Group, none, trees, binders, Name, Number, Text, Word, At, Paren, Listing, Call, Prime, Index, Field, Unary, Binary, Quantified, Choose, If, Junction}
+use Rattle.tla_parse.specs.Tree.{Tree, Trees, Group, none, trees, binders, Name, Number, Text, Word, At, Paren, Listing, Call, Prime, Index, Field, Unary, Binary, Quantified, Choose, If, Junction, Product}
 use Rattle.tla_parse.specs.Operators.{low, high, prefix_high, infix_of, prefix_of, bullet_of, quantifier_of, constant_of}
 use Rattle.tla_parse.specs.Edges.{edge_allows, top_above, is_closed, place, depth}
 use Rattle.tla_parse.specs.Tokens.{seen, word_of, written, is_bullet_at, may_follow, Is, Has, Writes}
@@ -24,7 +24,8 @@ use Rattle.tla_parse.specs.Kinds.{kind_at, opening, closing}
 use Rattle.tla_parse.specs.Grammar.{Spells, Items, Listed, is_some, within}
 use Rattle.tla_parse.specs.Ending.{above, infix_at}
 use Rattle.tla_parse.specs.Outcome.{Outcome, Refused, ◌>>=◌, need, room, at_op, sequence}
-use Rattle.tla_parse.specs.Reading.{name_at, postfix_at, following, names, exprs, some, listing, call, group, groups, indexed, behind, postfix, postfixes, turn, climb, junction, paren, quantified, chosen, choice, prefix, by_class, named, operand_by, operand, level, expr}
+use Rattle.tla_parse.specs.ReadingLists.{name_at, following, names, exprs, some, listing, call, group, groups, paren}
+use Rattle.tla_parse.specs.Reading.{postfix_at, indexed, behind, postfix, postfixes, turn, climb, junction, quantified, chosen, choice, prefix, by_class, named, operand_by, operand, level, expr}
 use Rattle.tla_parse.proofs.Inversion.{ok_to, bind_ok, need_ok, room_ok, at_op_ok, choice_ok, has_kind, has_name, has_infix, postfix_kind, has_postfix, first_bullet}
 use Rattle.tla_parse.proofs.NameLists.{names_sound}
 use Rattle.tla_parse.proofs.Sequence.{sequence_sound}
@@ -32,6 +33,7 @@ use Rattle.tla_parse.proofs.Lists.{Spelled, GroupAt, listed_of, bound_of, items_
 
 closed_top : (floor : ℕ) (t : Tree) → IsTrue (is_closed t) → IsTrue (top_above floor t)
 closed_top floor (Binary at op w l r) h = absurd (let z : ⊥ = cc in z)
+closed_top floor (Product at e es) h = absurd (let z : ⊥ = cc in z)
 closed_top floor _ h = refl
 
 module _ (text : List ℕ) (ts : List Token) where
@@ -89,6 +91,13 @@ module _ (text : List ℕ) (ts : List Token) where
         let y = bind_ok (inner s 0 (x.1 + 1)) _ (g, to) n.1 in
         let r = names_sound text ts (length ts) [] s.column at (x.0, x.1) x.2 in
         ok_to ((x.0, y.0), y.1) (g, to) y.3 (λ v. GroupAt text ts s v.0 at v.1) (x.1, rw r.1 r.2, has_kind ts s.column x.1 k.Member n.0, (good s 0 (x.1 + 1) (y.0, y.1) y.2).0)
+
+    pub paren_sound : (s : Scope) (t : Token) (at : ℕ) (z : Tree × ℕ) → seen ts s.column at ≡ Some t → t.kind ≡ k.LeftParen → paren text ts inner s t.place at ≡ Ok z → Closed s at z
+    unfolding paren
+    paren_sound s t at z i e h =
+        let x = bind_ok (inner s 0 (at + 1)) _ z h in
+        let n = need_ok _ _ z x.3 in
+        ok_to (Paren t.place x.0, x.1 + 1) z n.1 (Closed s at) ((x.1, (t, i, e, refl), (good s 0 (at + 1) (x.0, x.1) x.2).0, has_kind ts s.column x.1 k.RightParen n.0, refl), refl)
 
     -- ---- postfix forms
 

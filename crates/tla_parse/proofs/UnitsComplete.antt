@@ -13,7 +13,8 @@ use Rattle.tla_parse.specs.Tokens.{seen, word_of, written, goes_on, Has, Is, Wri
 use Rattle.tla_parse.specs.Kinds.{same_kind, kind_at}
 use Rattle.tla_parse.specs.Units.{UnitTree, Separator, Extends, Variables, Operator, Defines, Local, Constants, Assume, Theorem, Declared, Blanks, Declares, MoreDeclared, AllDeclared, Claims, has_parameters, is_extends, is_separator, unit_depth, units_depth, outermost, SpellsUnit, Units, SpellsModule}
 use Rattle.tla_parse.specs.Outcome.{◌>>=◌}
-use Rattle.tla_parse.specs.Reading.{name_at, following, names, definition, expr}
+use Rattle.tla_parse.specs.ReadingLists.{name_at, following, names}
+use Rattle.tla_parse.specs.Reading.{definition, expr}
 use Rattle.tla_parse.specs.UnitsReading.{modules, blanks, declared, constants, claim_name, claim, unit_of, unit_by, unit, units, whole}
 use Rattle.tla_parse.proofs.Inversion.{and_true, seen_is}
 use Rattle.tla_parse.proofs.Follow.{end_plain, stops_plain}
@@ -71,6 +72,10 @@ name_none (Some t) h = rw h refl
 either_none : (b : Bool) → ◌≡◌ {A = Option Token} (if b then None else None) None
 either_none true = refl
 either_none false = refl
+
+or_true : (b : Bool) → (b || true) ≡ true
+or_true true = refl
+or_true false = refl
 
 module _ (text : List ℕ) (ts : List Token) where
   modules_complete : (ws : List Written) (front : List Written) (from to fuel : ℕ) → Names ts text 0 ws from to → list_all (λ w. is_module w.word) ws ≡ true
@@ -180,7 +185,7 @@ module _ (text : List ℕ) (ts : List Token) where
   claim_advance (Some w) e from to x = let h = advances text ts e outermost (from + 2) to x.2 in omega (arith, h)
 
   no_claim_name : (e : Tree) (from to : ℕ) → Spells text ts outermost e from to → Starts to → claim_name ts from ≡ None
-  no_claim_name e from to x st = elim (second_token text ts e outermost from to x) [
+  no_claim_name e from to x st = elim (second_token text ts k.Define refl e outermost from to x) [
     | inl a ↦ (let n = name_none (seen ts 0 from) a in rw n (either_none (kind_at k.Define (seen ts 0 (from + 1)))))
     | inr a ↦ (elim a [
       | inl b ↦ rw b refl
@@ -281,6 +286,20 @@ module _ (text : List ℕ) (ts : List Token) where
   units_fit [] first from to x = omega (arith, x)
   units_fit (u ∷ us) first from to x = let h = unit_advances u from x.0 x.1 in let g = units_fit us (first && is_separator u) x.0 to x.3 in omega (arith, h, g)
 
+  not_extends : (first : Bool) (from : ℕ) (kind : Kind) → Has ts 0 kind from → same_kind k.Extends kind ≡ false → (first || not (kind_at k.Extends (seen ts 0 from))) ≡ true
+  not_extends first from kind h s = rw (h.1, h.2, s) (or_true first)
+
+  stands_at : (u : UnitTree) (first : Bool) (from to : ℕ) → SpellsUnit text ts u from to → (first || not (is_extends u)) ≡ true → (first || not (kind_at k.Extends (seen ts 0 from))) ≡ true
+  stands_at (Extends p ws) first from to x h = rw (x.0.1, x.0.2) h
+  stands_at (Separator p) first from to x h = not_extends first from k.Separator (x.0.0, x.0.1, x.0.2) refl
+  stands_at (Variables p ws) first from to x h = not_extends first from k.Variable (x.0.0, x.0.1, x.0.2) refl
+  stands_at (Operator w e) first from to x h = not_extends first from k.Name (x.0.0, x.0.1, x.0.2) refl
+  stands_at (Defines d) first from to x h = let n = defines_name text ts d outermost from to x.0 in not_extends first from k.Name (n.0, n.1, n.2) refl
+  stands_at (Local p d) first from to x h = not_extends first from k.Local (x.0.0, x.0.1, x.0.2) refl
+  stands_at (Constants p ds) first from to x h = not_extends first from k.Constant (x.0.0, x.0.1, x.0.2) refl
+  stands_at (Assume p w e) first from to x h = not_extends first from k.Assume (x.0.0, x.0.1, x.0.2) refl
+  stands_at (Theorem p w e) first from to x h = not_extends first from k.Theorem (x.0.0, x.0.1, x.0.2) refl
+
   units_complete : (us : List UnitTree) (n m : ℕ) (front : List UnitTree) (first : Bool) (from to : ℕ) → Units text ts first us from to → Has ts 0 k.Closing to → units_depth us ≤ n → length us < m
       → units text ts n m front first from ≡ Ok (front ++ us, to)
   unfolding units
@@ -292,7 +311,7 @@ module _ (text : List ℕ) (ts : List Token) where
       let o = unit_opens u from x.0 x.1 in
       let r = unit_complete u n from x.0 x.1 (omega (arith, d)) (next_starts us (first && is_separator u) x.0 to x.3 h) in
       let rest = units_complete us n m (front ++ u ∷ []) (first && is_separator u) x.0 to x.3 h (omega (arith, d)) (omega (arith, l)) in
-      rw (o.1, r, x.2, rest, append_assoc front (u ∷ []) us) refl
+      rw (o.1, stands_at u first from x.0 x.1 x.2, r, rest, append_assoc front (u ∷ []) us) refl
 
   pub module_complete : (n : ℕ) (us : List UnitTree) (x : SpellsModule text ts us) → units_depth us ≤ n → whole text ts n ≡ Ok (us, x.0)
   unfolding whole

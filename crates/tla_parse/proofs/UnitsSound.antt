@@ -1,20 +1,22 @@
 -- Units that are read are spelled so.
-use Rattle.std.proofs.Common.{◌≡◌, ℕ, zero, suc, ◌+◌, Bool, true, false, not, ◌&&◌, ◌||◌, inl, inr, IsTrue, nat_eq, length, List, [], ◌∷◌, ◌++◌, Some, None, Ok, Err, refl, ap, sym, ◌∙◌, subst, append_assoc, arith}
+use Rattle.std.proofs.Common.{◌≡◌, ◌<◌, nat_lt, ℕ, zero, suc, ◌+◌, Bool, true, false, not, ◌&&◌, ◌||◌, inl, inr, IsTrue, nat_eq, length, List, [], ◌∷◌, ◌++◌, Some, None, Ok, Err, refl, ap, sym, ◌∙◌, subst, append_assoc, arith}
 use Rattle.std.specs.List.{list_all}
-use Rattle.std.proofs.lemmas.Bool.{eqb-true}
+use Rattle.std.proofs.lemmas.Bool.{eqb-true, ltb-true, ltb-false}
 use Rattle.std.proofs.lemmas.List.{append-nil}
 use Rattle.tla_lex.specs.declared.token.Token.{Token}
 use Rattle.tla_lex.specs.declared.token.Kind.{Kind}
 use Rattle.tla_lex.specs.declared.token.Kind.TheVariants as k
 use Rattle.tla_parse.specs.declared.word.Written.{Written}
+use Rattle.tla_parse.specs.LeftOut.{KindAt, OnlySeparators}
 use Rattle.tla_parse.specs.Modules.{is_module}
 use Rattle.tla_parse.specs.Tokens.{seen, word_of, written, Has, Writes, Names}
 use Rattle.tla_parse.specs.Kinds.{kind_at}
 use Rattle.tla_parse.specs.Units.{UnitTree, Separator, Extends, Variables, Operator, Defines, Local, Constants, Assume, Theorem, Declared, Blanks, Declares, MoreDeclared, AllDeclared, Claims, is_extends, is_separator, outermost, SpellsUnit, Units, SpellsModule}
 use Rattle.tla_parse.specs.Outcome.{Outcome, Refused, ◌>>=◌, at_op, need}
-use Rattle.tla_parse.specs.Reading.{name_at, following, names, definition, expr}
+use Rattle.tla_parse.specs.ReadingLists.{name_at, following, names}
+use Rattle.tla_parse.specs.Reading.{definition, expr}
 use Rattle.tla_parse.specs.UnitsReading.{Claim, modules, blanks, declared, constants, claim_name, claim, unit_of, unit_by, unit, units, whole}
-use Rattle.tla_parse.proofs.Inversion.{ok_to, bind_ok, need_ok, at_op_ok, choice_ok, and_true, has_kind, has_name}
+use Rattle.tla_parse.proofs.Inversion.{ok_to, bind_ok, need_ok, at_op_ok, choice_ok, and_true, has_kind, has_name, seen_is}
 use Rattle.tla_parse.proofs.NameLists.{names_cons, names_sound}
 use Rattle.tla_parse.proofs.Sequence.{Behind, Follows, sequence_sound}
 use Rattle.tla_parse.proofs.Lists.{comma_is}
@@ -24,7 +26,18 @@ use Rattle.tla_parse.specs.declared.tokens.Between.TheVariants as between
 use Rattle.tla_parse.specs.Grammar as Grammar
 use Rattle.tla_parse.specs.Tree.{Definition, DefinesOperator, DefinesFunction}
 
+or_true : (b : Bool) → (b || true) ≡ true
+or_true true = refl
+or_true false = refl
+
 module _ (text : List ℕ) (ts : List Token) where
+  only_by : (at i : ℕ) (b : Bool) → nat_lt i at ≡ b → i < at + 1 → KindAt ts at k.Separator → (i < at → KindAt ts i k.Separator) → KindAt ts i k.Separator
+  only_by at i true e l x f = f (ltb-true i at e)
+  only_by at i false e l x f = let g = ltb-false i at e in let same : at ≡ i = omega (arith, g, l) in rw (← same) x
+
+  only_more : (at end : ℕ) → end ≡ at + 1 → KindAt ts at k.Separator → OnlySeparators ts at → OnlySeparators ts end
+  only_more at end e x o i a b = only_by at i (nat_lt i at) refl (omega (arith, b, e)) x (o i a)
+
   abbrev Extended : List Written → ℕ → List Written × ℕ → Type 0
   Extended front at z = (ws : List Written) × (z.0 ≡ front ++ ws) × Names ts text 0 ws at z.1 × (list_all (λ w. is_module w.word) ws ≡ true)
 
@@ -155,6 +168,20 @@ module _ (text : List ℕ) (ts : List Token) where
     | inr w ↦ by_sound n w.0 at w.0.kind z w.1 refl w.2
   ]
 
+  may_stand : (u : UnitTree) (first : Bool) (at end : ℕ) → SpellsUnit text ts u at end → (first || not (kind_at k.Extends (seen ts 0 at))) ≡ true → (first || not (is_extends u)) ≡ true
+  may_stand (Extends p ws) first at end x h = let e : kind_at k.Extends (seen ts 0 at) ≡ true = rw (x.0.1, x.0.2) refl in rw e at h
+  may_stand (Separator p) first at end x h = or_true first
+  may_stand _ first at end x h = or_true first
+
+  -- one separator more
+  pub separators_more : (n at : ℕ) (u : UnitTree) (end : ℕ) (first : Bool) → unit text ts n at ≡ Ok (u, end) → (first ≡ true → OnlySeparators ts at) → (first && is_separator u) ≡ true → OnlySeparators ts end
+  separators_more n at (Separator p) end first h o b =
+      let s = unit_sound n at (Separator p, end) h in
+      let t = s.0 in
+      let w = and_true first true b in
+      only_more at end s.1 (t.0, seen_is ts 0 at t.0 t.1, t.2) (o w.0)
+  separators_more n at u end first h o b = absurd (let w = and_true first (is_separator u) b in let z : ⊥ = cc in z)
+
   abbrev Listed : List UnitTree → Bool → ℕ → List UnitTree × ℕ → Type 0
   Listed front first at z = (us : List UnitTree) × (z.0 ≡ front ++ us) × Units text ts first us at z.1 × Has ts 0 k.Closing z.1
 
@@ -164,10 +191,11 @@ module _ (text : List ℕ) (ts : List Token) where
   units_sound n (suc m) front first at z h = elim (choice_ok (kind_at k.Closing (seen ts 0 at)) (Ok (front, at)) _ (Ok z) h) [
     | inl w ↦ ok_to (front, at) z w.1 (Listed front first at) ([], sym (append-nil front), refl, has_kind ts 0 at k.Closing w.0)
     | inr w ↦
-        let x = bind_ok (unit text ts n at) _ z w.1 in
-        let a = need_ok (first || not (is_extends x.0)) _ z x.3 in
-        let r = units_sound n m (front ++ x.0 ∷ []) (first && is_separator x.0) x.1 z a.1 in
-        (x.0 ∷ r.0, r.1 ∙ append_assoc front (x.0 ∷ []) r.0, (x.1, unit_sound n at (x.0, x.1) x.2, a.0, r.2), r.3)
+        let a = need_ok (first || not (kind_at k.Extends (seen ts 0 at))) _ z w.1 in
+        let x = bind_ok (unit text ts n at) _ z a.1 in
+        let s = unit_sound n at (x.0, x.1) x.2 in
+        let r = units_sound n m (front ++ x.0 ∷ []) (first && is_separator x.0) x.1 z x.3 in
+        (x.0 ∷ r.0, r.1 ∙ append_assoc front (x.0 ∷ []) r.0, (x.1, s, may_stand x.0 first at x.1 s a.0, r.2), r.3)
   ]
 
   pub module_sound : (n : ℕ) (us : List UnitTree) (end : ℕ) → whole text ts n ≡ Ok (us, end) → SpellsModule text ts us

@@ -14,8 +14,8 @@ use Rattle.tla_parse.specs.Modules.{is_module}
 use Rattle.tla_parse.specs.Tokens.{seen, word_of, written}
 use Rattle.tla_parse.specs.Kinds.{kind_at}
 use Rattle.tla_parse.specs.Outcome.{Outcome, Refused, ◌>>=◌, need}
-use Rattle.tla_parse.specs.Reading.{name_at}
-use Rattle.tla_parse.specs.Units.{UnitTree, is_extends, is_separator, unit_depth, units_depth}
+use Rattle.tla_parse.specs.ReadingLists.{name_at}
+use Rattle.tla_parse.specs.Units.{UnitTree, is_separator, unit_depth, units_depth}
 use Rattle.tla_parse.specs.UnitsReading.{modules, blanks, unit_by, unit, units}
 
 -- kinds of tokens that begin a unit
@@ -93,24 +93,24 @@ module _ (text : List ℕ) (ts : List Token) where
   units_done n m l front first at h p = rw (h, add-one, p) refl
 
   pub units_is : (n m l : ℕ) (front : List UnitTree) (first : Bool) (at : ℕ) → m ≡ l + 1 → kind_at k.Closing (seen ts 0 at) ≡ false
-      → units text ts n m front first at ≡ (unit text ts n at >>= λ u end. need (first || not (is_extends u)) (units text ts n l (front ++ u ∷ []) (first && is_separator u) end))
+      → units text ts n m front first at ≡ need (first || not (kind_at k.Extends (seen ts 0 at))) (unit text ts n at >>= λ u end. units text ts n l (front ++ u ∷ []) (first && is_separator u) end)
   unfolding units
   units_is n m l front first at h p = rw (h, add-one, p) refl
 
   pub units_more : (n m l : ℕ) (front : List UnitTree) (first : Bool) (at : ℕ) (u : UnitTree) (end : ℕ) → m ≡ l + 1 → kind_at k.Closing (seen ts 0 at) ≡ false
-      → unit text ts n at ≡ Ok (u, end) → (first || not (is_extends u)) ≡ true
+      → unit text ts n at ≡ Ok (u, end) → (first || not (kind_at k.Extends (seen ts 0 at))) ≡ true
       → units text ts n m front first at ≡ units text ts n l (front ++ u ∷ []) (first && is_separator u) end
   units_more n m l front first at u end h p q e = rw (units_is n m l front first at h p, q, e) refl
 
-  pub units_late : (n m l : ℕ) (front : List UnitTree) (first : Bool) (at : ℕ) (u : UnitTree) (end : ℕ) → m ≡ l + 1 → kind_at k.Closing (seen ts 0 at) ≡ false
-      → unit text ts n at ≡ Ok (u, end) → (first || not (is_extends u)) ≡ false → units text ts n m front first at ≡ Err Refused
-  units_late n m l front first at u end h p q e = rw (units_is n m l front first at h p, q, e) refl
+  pub units_late : (n m l : ℕ) (front : List UnitTree) (first : Bool) (at : ℕ) → m ≡ l + 1 → kind_at k.Closing (seen ts 0 at) ≡ false
+      → (first || not (kind_at k.Extends (seen ts 0 at))) ≡ false → units text ts n m front first at ≡ Err Refused
+  units_late n m l front first at h p e = rw (units_is n m l front first at h p, e) refl
 
   pub units_fails : (x : Refusal) (n m l : ℕ) (front : List UnitTree) (first : Bool) (at : ℕ) → m ≡ l + 1 → kind_at k.Closing (seen ts 0 at) ≡ false
-      → Fails text ts x (unit text ts n at) → Fails text ts x (units text ts n m front first at)
-  units_fails x n m l front first at h p f =
+      → (first || not (kind_at k.Extends (seen ts 0 at))) ≡ true → Fails text ts x (unit text ts n at) → Fails text ts x (units text ts n m front first at)
+  units_fails x n m l front first at h p e f =
       let P : Outcome (List UnitTree) → Type 0 = λ y. Fails text ts x y in
-      subst P (sym (units_is n m l front first at h p)) (fails_bind text ts x (unit text ts n at) _ f)
+      subst P (sym (units_is n m l front first at h p)) (rw e (fails_bind text ts x (unit text ts n at) _ f))
 
   pub units_full : (n m : ℕ) (front : List UnitTree) (first : Bool) (at : ℕ) → m ≡ 0 → units text ts n m front first at ≡ Err Refused
   unfolding units

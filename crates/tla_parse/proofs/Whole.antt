@@ -5,13 +5,14 @@ use Rattle.tla_lex.specs.declared.token.Kind.{Kind}
 use Rattle.tla_lex.specs.declared.token.Kind.TheVariants as k
 use Rattle.tla_parse.specs.Tokens.{seen}
 use Rattle.tla_parse.specs.Kinds.{kind_at}
-use Rattle.tla_parse.specs.Units.{UnitTree, is_extends, is_separator, units_depth, outermost, SpellsModule}
+use Rattle.tla_parse.specs.Units.{UnitTree, is_separator, units_depth, outermost, SpellsModule}
 use Rattle.tla_parse.specs.Outcome.{Outcome, Refused, Nested, ◌>>=◌}
 use Rattle.tla_parse.specs.Reading.{definition, expr}
 use Rattle.tla_parse.specs.UnitsReading.{claim_name, claim, unit_by, unit, units, whole}
 use Rattle.tla_parse.specs.Parsing.{NoneSpells, NoneSpellsWithin}
 use Rattle.tla_parse.proofs.Inversion.{ok_to}
-use Rattle.tla_parse.proofs.Deeper.{Refines, bind, needs, ops, choices, definition_deeper, deeper}
+use Rattle.tla_parse.proofs.DeeperLists.{Refines, bind, needs, ops, choices}
+use Rattle.tla_parse.proofs.Deeper.{definition_deeper, deeper}
 use Rattle.tla_parse.proofs.UnitsSound.{module_sound}
 use Rattle.tla_parse.proofs.UnitsComplete.{module_complete}
 
@@ -48,8 +49,8 @@ module _ (text : List ℕ) (ts : List Token) where
   unfolding units
   units_deeper n zero front first at = inr refl
   units_deeper n (suc m) front first at = choices (kind_at k.Closing (seen ts 0 at)) _ _ _ _ (inr refl)
-      (bind (unit text ts n at) (unit text ts (suc n) at) _ _ (unit_deeper n at)
-      (λ u end. needs (first || not (is_extends u)) _ _ (units_deeper n m (front ++ u ∷ []) (first && is_separator u) end)))
+      (needs (first || not (kind_at k.Extends (seen ts 0 at))) _ _
+      (bind (unit text ts n at) (unit text ts (suc n) at) _ _ (unit_deeper n at) (λ u end. units_deeper n m (front ++ u ∷ []) (first && is_separator u) end)))
 
   module_deeper : (n : ℕ) → Refines (whole text ts n) (whole text ts (suc n))
   unfolding whole

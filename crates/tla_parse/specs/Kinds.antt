@@ -1,10 +1,15 @@
 -- Whether a token is of a kind that a reading asks for.
-use Rattle.std.specs.Prelude.{Bool, true, false, Option, Some, None, List}
+use Rattle.std.specs.Prelude.{ℕ, ◌+◌, Bool, true, false, ◌&&◌, Option, Some, None, List}
 use Rattle.tla_lex.specs.declared.token.Kind.{Kind}
 use Rattle.tla_lex.specs.declared.token.Kind.TheVariants as k
 use Rattle.tla_lex.specs.declared.token.Token.{Token}
 use Rattle.tla_parse.specs.declared.tree.Brackets.{Brackets}
 use Rattle.tla_parse.specs.declared.tree.Brackets.TheVariants as b
+use Rattle.tla_parse.specs.declared.tree.Step.{Step}
+use Rattle.tla_parse.specs.declared.tree.Step.TheVariants as step
+use Rattle.tla_parse.specs.declared.tree.Fairness.{Fairness}
+use Rattle.tla_parse.specs.declared.tree.Fairness.TheVariants as fair
+use Rattle.tla_parse.specs.Tokens.{seen}
 
 -- the same kind, of those that stand between the parts of forms and units
 abbrev pub same_kind : Kind → Kind → Bool
@@ -32,11 +37,37 @@ same_kind k.Arrow k.Arrow = true
 same_kind k.MapsTo k.MapsTo = true
 same_kind k.Other k.Other = true
 same_kind k.Equal k.Equal = true
+same_kind k.RightBracketSubscript k.RightBracketSubscript = true
+same_kind k.RightTupleSubscript k.RightTupleSubscript = true
+same_kind k.Except k.Except = true
+same_kind k.Bang k.Bang = true
+same_kind k.Dot k.Dot = true
+same_kind k.LeftTuple k.LeftTuple = true
+same_kind k.Extends k.Extends = true
+same_kind k.Choose k.Choose = true
+same_kind k.Product k.Product = true
 same_kind _ _ = false
 
 abbrev pub kind_at : Kind → Option Token → Bool
 kind_at kind None = false
 kind_at kind (Some t) = same_kind kind t.kind
+
+-- a name and `\in`
+abbrev pub binds : List Token → ℕ → ℕ → Bool
+binds ts column at = kind_at k.Name (seen ts column at) && kind_at k.Member (seen ts column (at + 1))
+
+-- the tokens round an action with a subscript
+abbrev pub step_opening : Step → Kind
+step_opening step.Box = k.LeftBracket
+step_opening step.Angle = k.LeftTuple
+
+abbrev pub step_closing : Step → Kind
+step_closing step.Box = k.RightBracketSubscript
+step_closing step.Angle = k.RightTupleSubscript
+
+abbrev pub fairness_word : Fairness → Kind
+fairness_word fair.Weak = k.WeakFairness
+fairness_word fair.Strong = k.StrongFairness
 
 -- the tokens of two kinds of brackets
 abbrev pub opening : Brackets → Kind

@@ -1,5 +1,5 @@
 -- The forms of the book's language that this one leaves out.
-use Rattle.std.specs.Prelude.{◌≡◌, ℕ, zero, suc, ◌+◌, Bool, true, false, not, ◌||◌, IsTrue, List, Some, slice_get}
+use Rattle.std.specs.Prelude.{◌≡◌, ◌≤◌, ◌<◌, ℕ, zero, suc, ◌+◌, Bool, true, false, not, IsTrue, List, Some, slice_get}
 use Rattle.tla_lex.specs.declared.token.Token.{Token}
 use Rattle.tla_lex.specs.declared.token.Kind.{Kind}
 use Rattle.tla_lex.specs.declared.token.Kind.TheVariants as k
@@ -22,22 +22,29 @@ is_left_out k.TemporalExists = true
 is_left_out k.Composition = true
 is_left_out k.MinusMinus = true
 is_left_out k.Guarantees = true
-is_left_out k.Bang = true
+is_left_out k.Product = true
 is_left_out _ = false
 
--- forms that are left out for now, by a token that begins them
-abbrev pub is_not_yet_read : Kind → Bool
-is_not_yet_read k.WeakFairness = true
-is_not_yet_read k.StrongFairness = true
-is_not_yet_read k.LeftBracket = true
-is_not_yet_read k.Product = true
-is_not_yet_read _ = false
+abbrev pub is_quantifier : Kind → Bool
+is_quantifier k.ForAll = true
+is_quantifier k.Exists = true
+is_quantifier _ = false
 
-abbrev pub is_binding : Kind → Bool
-is_binding k.ForAll = true
-is_binding k.Exists = true
-is_binding k.Choose = true
-is_binding _ = false
+-- a binder may begin behind such a token
+abbrev pub binds : Kind → Bool
+binds k.ForAll = true
+binds k.Exists = true
+binds k.Choose = true
+binds k.LeftBrace = true
+binds k.LeftBracket = true
+binds k.Colon = true
+binds k.Comma = true
+binds _ = false
+
+-- `!` behind such a token begins no update: it selects from a module
+abbrev pub may_select : Kind → Bool
+may_select k.Except = false
+may_select _ = true
 
 module _ (ts : List Token) where
   -- a token of this kind has this number
@@ -46,36 +53,60 @@ module _ (ts : List Token) where
 
   -- a word or symbol that is left out
   abbrev pub IsWordLeftOut : ℕ → Type 0
-  IsWordLeftOut at = (t : Token) × (slice_get ts at ≡ Some t) × IsTrue (is_left_out t.kind || is_not_yet_read t.kind)
+  IsWordLeftOut at = (t : Token) × (slice_get ts at ≡ Some t) × IsTrue (is_left_out t.kind)
+
+  -- `!`, but for one directly behind EXCEPT
+  abbrev pub IsSelector : ℕ → Type 0
+  IsSelector at = (before : ℕ) × (t : Token) × (slice_get ts before ≡ Some t) × IsTrue (may_select t.kind) × (at ≡ before + 1) × KindAt at k.Bang
 
   -- so many names from the first number up to the second, each with a comma behind it
   abbrev pub Commas : ℕ → ℕ → ℕ → Type 0
   Commas zero from at = at ≡ from
   Commas (suc n) from at = (before : ℕ) × Commas n from before × KindAt before k.Name × KindAt (before + 1) k.Comma × (at ≡ before + 2)
 
-  -- a quantifier or CHOOSE over names without a set
+  -- a quantifier over names without a set, \A x, y : p
   abbrev pub IsUnbounded : ℕ → Type 0
-  IsUnbounded at = (n : ℕ) × (last : ℕ) × (t : Token) × (slice_get ts at ≡ Some t) × IsTrue (is_binding t.kind) × Commas n (at + 1) last × KindAt last k.Name × KindAt (last + 1) k.Colon
+  IsUnbounded at = (n : ℕ) × (last : ℕ) × (t : Token) × (slice_get ts at ≡ Some t) × IsTrue (is_quantifier t.kind) × Commas n (at + 1) last × KindAt last k.Name × KindAt (last + 1) k.Colon
+
+  -- CHOOSE x : p
+  abbrev pub IsUnboundedChoice : ℕ → Type 0
+  IsUnboundedChoice at = KindAt at k.Choose × KindAt (at + 1) k.Name × KindAt (at + 2) k.Colon
+
+  -- a tuple of names in a binder, <<x, y>> \in S
+  abbrev pub IsPattern : ℕ → Type 0
+  IsPattern at = (before : ℕ) × (n : ℕ) × (last : ℕ) × (t : Token) × (slice_get ts before ≡ Some t) × IsTrue (binds t.kind) × (at ≡ before + 1) × KindAt at k.LeftTuple
+      × Commas n (at + 1) last × KindAt last k.Name × KindAt (last + 1) k.RightTuple × KindAt (last + 2) k.Member
 
   -- a definition with an operator as parameter, Op(F(_), ..) ==
   abbrev pub HasOperatorParameter : ℕ → Type 0
   HasOperatorParameter at = (n : ℕ) × (last : ℕ) × KindAt at k.Name × KindAt (at + 1) k.LeftParen × Commas n (at + 2) last × KindAt last k.Name × KindAt (last + 1) k.LeftParen × KindAt (last + 2) k.Underscore
 
-  -- the token behind EXTENDS and so many names with a comma each
+  -- no unit but separators stands before the token: a module's name and a separator come before its units
+  abbrev pub OnlySeparators : ℕ → Type 0
+  OnlySeparators to = (at : ℕ) → 2 ≤ at → at < to → KindAt at k.Separator
+
+  -- the token behind a first EXTENDS and so many names with a comma each
   abbrev pub IsExtended : ℕ → ℕ → Type 0
-  IsExtended zero at = (before : ℕ) × KindAt before k.Extends × (at ≡ before + 1)
+  IsExtended zero at = (before : ℕ) × KindAt before k.Extends × OnlySeparators before × (at ≡ before + 1)
   IsExtended (suc n) at = (before : ℕ) × IsExtended n before × KindAt before k.Name × KindAt (before + 1) k.Comma × (at ≡ before + 2)
 
   -- a second header: MODULE behind a line of dashes
   abbrev pub IsSecondHeader : ℕ → Type 0
   IsSecondHeader at = (before : ℕ) × KindAt before k.Separator × KindAt (before + 1) k.Module × (at ≡ before + 1)
 
+  -- the list of the forms left out
+  pub data LeftOut (at : ℕ) : Type 0 where
+    word : IsWordLeftOut at → LeftOut at
+    selector : IsSelector at → LeftOut at
+    unbounded : IsUnbounded at → LeftOut at
+    unbounded_choice : IsUnboundedChoice at → LeftOut at
+    pattern : IsPattern at → LeftOut at
+    parameter : HasOperatorParameter at → LeftOut at
+    second_header : IsSecondHeader at → LeftOut at
+
   -- a form that is left out begins at the token of this number
-  pub data BeginsLeftOut (at : ℕ) : Type 0 where
-    word : IsWordLeftOut at → BeginsLeftOut at
-    unbounded : IsUnbounded at → BeginsLeftOut at
-    parameter : HasOperatorParameter at → BeginsLeftOut at
-    second_header : IsSecondHeader at → BeginsLeftOut at
+  unfoldable pub BeginsLeftOut : ℕ → Type 0
+  BeginsLeftOut at = LeftOut at
 
   -- a name under EXTENDS that is none of the modules known
   abbrev pub IsUnknownModule : List ℕ → ℕ → Type 0

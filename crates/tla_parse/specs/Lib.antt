@@ -13,8 +13,12 @@ pub mod Parsing
 pub mod Kinds
 pub mod LeftOut
 pub mod Outcome
+pub mod Ahead
+pub mod ReadingLists
+pub mod ReadingBrackets
 pub mod Reading
 pub mod Gives
+pub mod GivesRecords
 pub mod Nests
 pub mod UnitsReading
 pub mod UnitsGive

@@ -38,14 +38,16 @@ low i.Range = 9
 low i.Plus = 10
 low i.Remainder = 10
 low i.Minus = 11
+low i.Product = 10
 low i.Times = 13
 low i.Quotient = 13
 low i.Concatenation = 13
 low i.Power = 14
 
--- the high end: `%` alone has a range of more than one number
+-- the high end: `%` and `\X` have ranges of more than one number
 abbrev pub high : Infix → ℕ
 high i.Remainder = 11
+high i.Product = 13
 high op = low op
 
 -- the ranges of the prefix operators
@@ -69,7 +71,7 @@ prefix_high p.Subset = 8
 prefix_high p.Union = 8
 prefix_high p.Domain = 9
 
--- a number for each operator that groups to the left, and 0 for the others
+-- a number for each operator that groups to the left, else 0
 abbrev pub left_group : Infix → ℕ
 left_group i.And = 1
 left_group i.Or = 2
@@ -82,6 +84,11 @@ left_group i.Times = 8
 left_group i.Concatenation = 9
 left_group i.Remainder = 10
 left_group _ = 0
+
+-- `\X`, which makes one product of all its operands
+abbrev pub is_product : Infix → Bool
+is_product i.Product = true
+is_product _ = false
 
 -- what a token writes behind an operand
 abbrev pub infix_of : Kind → Option Infix
@@ -108,6 +115,7 @@ infix_of k.Range = Some i.Range
 infix_of k.Plus = Some i.Plus
 infix_of k.Remainder = Some i.Remainder
 infix_of k.Minus = Some i.Minus
+infix_of k.Product = Some i.Product
 infix_of k.Times = Some i.Times
 infix_of k.Quotient = Some i.Quotient
 infix_of k.Concatenation = Some i.Concatenation

@@ -26,7 +26,7 @@ module _ (text : List ℕ) (ts : List Token) where
   Justified code.Precedence p x = NoneSpells
   Justified code.Column p x = NoneSpells
   Justified code.Nesting p x = NoneSpellsWithin 200
-  Justified code.LeftOut p x = IsLeftOut p x
+  Justified code.LeftOut p x = IsLeftOut p x × NoneSpells
   Justified code.NoMemory p x = Unit {0}
 
 -- there is a place but for want of memory, and a name with a form left out alone

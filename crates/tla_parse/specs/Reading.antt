@@ -1,5 +1,5 @@
 -- The one tree that tokens can spell, found from the left. Private contracts alone cite this; what a tree spells is said in Grammar.
-use Rattle.std.specs.Prelude.{ℕ, zero, suc, ◌+◌, ◌-◌, Bool, true, false, not, ◌&&◌, nat_lt, nat_le, if◌then◌else◌, List, [], ◌∷◌, ◌++◌, length, Option, Some, None, slice_get, Result, Ok, Err}
+use Rattle.std.specs.Prelude.{ℕ, zero, suc, ◌+◌, ◌-◌, Bool, true, false, not, ◌&&◌, ◌||◌, nat_lt, nat_le, if◌then◌else◌, List, [], ◌∷◌, ◌++◌, length, Option, Some, None, slice_get, Result, Ok, Err}
 use Rattle.tla_lex.specs.declared.token.Place.{Place}
 use Rattle.tla_lex.specs.declared.token.Token.{Token}
 use Rattle.tla_lex.specs.declared.token.Kind.{Kind}
@@ -9,6 +9,7 @@ use Rattle.tla_parse.specs.declared.scope.Scope.{Scope}
 use Rattle.tla_parse.specs.declared.tokens.Between.{Between}
 use Rattle.tla_parse.specs.declared.tokens.Between.TheVariants as between
 use Rattle.tla_parse.specs.declared.tree.Infix.{Infix}
+use Rattle.tla_parse.specs.declared.tree.Infix.TheVariants as i
 use Rattle.tla_parse.specs.declared.tree.Prefix.{Prefix}
 use Rattle.tla_parse.specs.declared.tree.Bullet.{Bullet}
 use Rattle.tla_parse.specs.declared.tree.Brackets.{Brackets}
@@ -17,19 +18,17 @@ use Rattle.tla_parse.specs.declared.tree.Quantifier.{Quantifier}
 use Rattle.tla_parse.specs.declared.tokens.Postfix.{Postfix}
 use Rattle.tla_parse.specs.declared.tokens.Postfix.TheVariants as form
 use Rattle.tla_parse.specs.declared.word.Written.{Written}
-use Rattle.tla_parse.specs.Tree.{Tree, Trees, Group, Choice, Definition, trees, binders, arms, definitions, none, no_other, other, DefinesOperator, DefinesFunction, Case, Let, Name, Number, Text, Word, At, Paren, Listing, Call, Prime, Index, Field, Unary, Binary, Quantified, Choose, If, Junction}
-use Rattle.tla_parse.specs.Operators.{high, prefix_high, prefix_of, bullet_of, quantifier_of, constant_of}
+use Rattle.tla_parse.specs.Tree.{Tree, Trees, Group, Choice, Definition, trees, binders, arms, definitions, none, no_other, other, DefinesOperator, DefinesFunction, Case, Let, Name, Number, Text, Word, At, Paren, Listing, Call, Prime, Index, Field, Unary, Binary, Quantified, Choose, If, Junction, Product}
+use Rattle.tla_parse.specs.Operators.{high, prefix_high, is_product, prefix_of, bullet_of, quantifier_of, constant_of}
 use Rattle.tla_parse.specs.Edges.{edge_allows, place, depth}
 use Rattle.tla_parse.specs.Tokens.{seen, word_of, written, is_bullet_at, may_follow}
 use Rattle.tla_parse.specs.Kinds.{same_kind, kind_at, closing}
 use Rattle.tla_parse.specs.Ending.{above, infix_at}
 use Rattle.tla_parse.specs.Grammar.{within}
+use Rattle.tla_parse.specs.ReadingLists.{name_at, following, names, exprs, some, listing, call, group, groups, paren}
+use Rattle.tla_parse.specs.ReadingBrackets.{fair, brace, tuple, bracket}
+use Rattle.tla_parse.specs.declared.tree.Fairness.TheVariants as fa
 use Rattle.tla_parse.specs.Outcome.{Fault, Refused, Nested, Outcome, ◌>>=◌, need, room, at_op, sequence}
-
--- the token, where it is a name
-abbrev pub name_at : Option Token → Option Token
-name_at None = None
-name_at (Some t) = if same_kind k.Name t.kind then Some t else None
 
 abbrev pub postfix_of : Kind → Option Postfix
 postfix_of k.Prime = Some form.Prime
@@ -42,45 +41,11 @@ abbrev pub postfix_at : Option Token → Option Postfix
 postfix_at None = None
 postfix_at (Some t) = postfix_of t.kind
 
--- where the next item of a list begins, behind this token
-abbrev pub following : List Token → ℕ → Between → ℕ → Option ℕ
-following ts column between.Comma at = if kind_at k.Comma (seen ts column at) then Some (at + 1) else None
-following ts column (between.Bullet b) at = if is_bullet_at column b (slice_get ts at) then Some (at + 1) else None
-following ts column between.Arm at = if kind_at k.Box (seen ts column at) && not (kind_at k.Other (seen ts column (at + 1))) then Some (at + 1) else None
-following ts column between.Nothing at = if kind_at k.Name (seen ts column at) then Some at else None
-
 module _ (text : List ℕ) (ts : List Token) where
-  -- names with commas between them
-  unfoldable pub names : ℕ → List Written → ℕ → ℕ → Outcome (List Written)
-  names zero front column at = Err Refused
-  names (suc n) front column at = at_op (name_at (seen ts column at)) (Err Refused) (λ t.
-      if kind_at k.Comma (seen ts column (at + 1)) then names n (front ++ written text t ∷ []) column (at + 2) else Ok (front ++ written text t ∷ [], at + 1))
-
   -- `inner` reads an expression in a scope, whose top is above a floor, one level deeper
   module _ (inner : Scope → ℕ → ℕ → Outcome Tree) where
-    -- expressions with commas or bullets between them
-    abbrev pub exprs : ℕ → List Tree → Scope → Between → ℕ → Outcome (List Tree)
-    exprs n front s m at = sequence (inner s 0) (following ts s.column m) n front at
-
-    -- one expression or more, and the closing bracket
-    unfoldable pub some : Scope → Kind → ℕ → Outcome Trees
-    some s close at = exprs (length ts) [] s between.Comma at >>= λ es after. need (kind_at close (seen ts s.column after)) (Ok (trees es, after + 1))
-
-    unfoldable pub listing : Scope → Place → Brackets → ℕ → Outcome Tree
-    listing s p b at = if kind_at (closing b) (seen ts s.column (at + 1)) then Ok (Listing p b none, at + 2) else (some s (closing b) (at + 1) >>= λ es end. Ok (Listing p b es, end))
-
-    unfoldable pub call : Scope → Token → ℕ → Outcome Tree
-    call s t at = some s k.RightParen (at + 2) >>= λ es end. Ok (Call (written text t) es, end)
-
-    -- a group of a binder list
-    unfoldable pub group : Scope → ℕ → Outcome Group
-    group s at = names (length ts) [] s.column at >>= λ ws after. need (kind_at k.Member (seen ts s.column after)) (inner s 0 (after + 1) >>= λ e end. Ok ((ws, e), end))
-
-    abbrev pub groups : ℕ → List Group → Scope → ℕ → Outcome (List Group)
-    groups n front s at = sequence (group s) (following ts s.column between.Comma) n front at
-
     unfoldable pub indexed : ℕ → Scope → Tree → ℕ → Outcome Tree
-    indexed most s t at = some s k.RightBracket (at + 1) >>= λ es end. room (nat_le (depth (Index (place t) t es)) most) (Ok (Index (place t) t es, end))
+    indexed most s t at = some text ts inner s k.RightBracket (at + 1) >>= λ es end. room (nat_le (depth (Index (place t) t es)) most) (Ok (Index (place t) t es, end))
 
     -- one more postfix form behind the tree
     abbrev pub behind : ℕ → Scope → Tree → Postfix → ℕ → Outcome Tree
@@ -96,9 +61,21 @@ module _ (text : List ℕ) (ts : List Token) where
     abbrev pub postfixes : ℕ → Scope → Tree → ℕ → Outcome Tree
     postfixes most s t at = postfix most most s t at
 
+    -- an operand of a product behind the first
+    unfoldable pub factor : Scope → ℕ → Outcome Tree
+    factor s at = inner s (high i.Product) at >>= λ e after. need (not (kind_at k.Product (seen ts s.column after)) || edge_allows e i.Product) (Ok (e, after))
+
+    abbrev pub factors : ℕ → List Tree → Scope → ℕ → Outcome (List Tree)
+    factors n front s at = sequence (factor s) (following ts s.column between.Product) n front at
+
+    -- the product of the tree and the operands behind it
+    unfoldable pub product : ℕ → Scope → Tree → ℕ → Outcome Tree
+    product most s t at = need (edge_allows t i.Product) (factors (length ts) [] s (at + 1) >>= λ es after.
+        room (nat_le (depth (Product (place t) t (trees es))) most) (Ok (Product (place t) t (trees es), after)))
+
     -- the tree under one more operator
     unfoldable pub turn : ℕ → Scope → Tree → Infix → ℕ → Outcome Tree
-    turn most s t op at = need (edge_allows t op) (at_op (seen ts s.column at) (Err Refused) (λ sign. inner s (high op) (at + 1) >>= λ r after.
+    turn most s t op at = if is_product op then product most s t at else need (edge_allows t op) (at_op (seen ts s.column at) (Err Refused) (λ sign. inner s (high op) (at + 1) >>= λ r after.
         room (nat_le (depth (Binary (place t) op (written text sign) t r)) most) (Ok (Binary (place t) op (written text sign) t r, after))))
 
     -- under the operators that follow, of which so many may come
@@ -108,14 +85,11 @@ module _ (text : List ℕ) (ts : List Token) where
         turn most s t op at >>= climb n most s floor)
 
     unfoldable pub junction : Scope → Place → Bullet → ℕ → Outcome Tree
-    junction s p b at = exprs (length ts) [] (within s p.column) (between.Bullet b) (at + 1) >>= λ es after.
+    junction s p b at = exprs text ts inner (length ts) [] (within s p.column) (between.Bullet b) (at + 1) >>= λ es after.
         need (may_follow p.column (slice_get ts after)) (Ok (Junction p b (trees es), after))
 
-    unfoldable pub paren : Scope → Place → ℕ → Outcome Tree
-    paren s p at = inner s 0 (at + 1) >>= λ e after. need (kind_at k.RightParen (seen ts s.column after)) (Ok (Paren p e, after + 1))
-
     unfoldable pub quantified : Scope → Place → Quantifier → ℕ → Outcome Tree
-    quantified s p q at = groups (length ts) [] s (at + 1) >>= λ gs after. need (kind_at k.Colon (seen ts s.column after)) (inner s 0 (after + 1) >>= λ e end. Ok (Quantified p q (binders gs) e, end))
+    quantified s p q at = groups text ts inner (length ts) [] s (at + 1) >>= λ gs after. need (kind_at k.Colon (seen ts s.column after)) (inner s 0 (after + 1) >>= λ e end. Ok (Quantified p q (binders gs) e, end))
 
     unfoldable pub chosen : Scope → Place → ℕ → Outcome Tree
     chosen s p at = at_op (name_at (seen ts s.column (at + 1))) (Err Refused) (λ name.
@@ -140,12 +114,12 @@ module _ (text : List ℕ) (ts : List Token) where
 
     -- Op(p, ..) == e, behind the bracket
     unfoldable pub operator : Scope → Token → ℕ → Outcome Definition
-    operator s t at = names (length ts) [] s.column at >>= λ ws after. need (kind_at k.RightParen (seen ts s.column after))
+    operator s t at = names text ts (length ts) [] s.column at >>= λ ws after. need (kind_at k.RightParen (seen ts s.column after))
         (need (kind_at k.Define (seen ts s.column (after + 1))) (inner s 0 (after + 2) >>= λ e end. Ok (DefinesOperator (written text t) ws e, end)))
 
     -- f[x \in S, ..] == e, behind the bracket
     unfoldable pub function : Scope → Token → ℕ → Outcome Definition
-    function s t at = groups (length ts) [] s at >>= λ gs after. need (kind_at k.RightBracket (seen ts s.column after))
+    function s t at = groups text ts inner (length ts) [] s at >>= λ gs after. need (kind_at k.RightBracket (seen ts s.column after))
         (need (kind_at k.Define (seen ts s.column (after + 1))) (inner s 0 (after + 2) >>= λ e end. Ok (DefinesFunction (written text t) (binders gs) e, end)))
 
     unfoldable pub defined : Scope → Token → ℕ → Outcome Definition
@@ -178,7 +152,7 @@ module _ (text : List ℕ) (ts : List Token) where
 
     -- a name alone, or with arguments
     unfoldable pub named : Scope → Token → ℕ → Outcome Tree
-    named s t at = if kind_at k.LeftParen (seen ts s.column (at + 1)) then call s t at else Ok (Name (written text t), at + 1)
+    named s t at = if kind_at k.LeftParen (seen ts s.column (at + 1)) then call text ts inner s t at else Ok (Name (written text t), at + 1)
 
     -- a form that its first token's kind tells
     abbrev pub operand_by : ℕ → Scope → Token → ℕ → Kind → Outcome Tree
@@ -186,9 +160,12 @@ module _ (text : List ℕ) (ts : List Token) where
     operand_by most s t at (k.Number n) = postfixes most s (Number t.place n) (at + 1)
     operand_by most s t at k.Text = postfixes most s (Text t.place (string_text (word_of text t))) (at + 1)
     operand_by most s t at k.At = need s.updating (postfixes most s (At t.place) (at + 1))
-    operand_by most s t at k.LeftParen = paren s t.place at >>= postfixes most s
-    operand_by most s t at k.LeftBrace = listing s t.place b.Set at >>= postfixes most s
-    operand_by most s t at k.LeftTuple = listing s t.place b.Tuple at >>= postfixes most s
+    operand_by most s t at k.LeftParen = paren text ts inner s t.place at >>= postfixes most s
+    operand_by most s t at k.LeftBrace = brace text ts inner s t.place at >>= postfixes most s
+    operand_by most s t at k.LeftTuple = tuple text ts inner most s t.place at >>= postfixes most s
+    operand_by most s t at k.LeftBracket = bracket text ts inner most s t.place at >>= postfixes most s
+    operand_by most s t at k.WeakFairness = fair text ts inner most s t.place fa.Weak at >>= postfixes most s
+    operand_by most s t at k.StrongFairness = fair text ts inner most s t.place fa.Strong at >>= postfixes most s
     operand_by most s t at k.If = choice s t.place at
     operand_by most s t at k.Choose = chosen s t.place at
     operand_by most s t at k.Case = cases s t.place at

@@ -8,6 +8,8 @@ use Rattle.tla_parse.specs.declared.tree.Bullet.{Bullet}
 use Rattle.tla_parse.specs.declared.tree.Quantifier.{Quantifier}
 use Rattle.tla_parse.specs.declared.tree.Constant.{Constant}
 use Rattle.tla_parse.specs.declared.tree.Brackets.{Brackets}
+use Rattle.tla_parse.specs.declared.tree.Step.{Step}
+use Rattle.tla_parse.specs.declared.tree.Fairness.{Fairness}
 
 mutual
   -- an expression (book, chapter 15); each node has the place of its first token
@@ -39,6 +41,26 @@ mutual
     -- LET definitions IN e
     Let : Place → Definitions → Tree → Tree
     Junction : Place → Bullet → Trees → Tree
+    -- {x \in S : p}
+    Filter : Place → Written → Tree → Tree → Tree
+    -- {e : x, y \in S}
+    Image : Place → Tree → Binders → Tree
+    -- [x, y \in S |-> e]
+    Function : Place → Binders → Tree → Tree
+    -- [S -> T]
+    FunctionSet : Place → Tree → Tree → Tree
+    -- [a |-> e, ..]
+    Record : Place → Fields → Tree
+    -- [a : S, ..]
+    RecordSet : Place → Fields → Tree
+    -- [f EXCEPT !p = e, ..]
+    Except : Place → Tree → Updates → Tree
+    -- [A]_v or <<A>>_v
+    Action : Place → Step → Tree → Tree → Tree
+    -- WF_v(A) or SF_v(A)
+    Fair : Place → Fairness → Tree → Tree → Tree
+    -- a \X b \X ..: the first, and the others
+    Product : Place → Tree → Trees → Tree
 
   pub data Trees : Type 0 where
     none : Trees
@@ -68,6 +90,25 @@ mutual
     undefined : Definitions
     defined : Definition → Definitions → Definitions
 
+  -- a |-> e, or a : S
+  pub data Fields : Type 0 where
+    no_fields : Fields
+    field : Written → Tree → Fields → Fields
+
+  -- a step of a path, [e, ..] or .a
+  pub data Key : Type 0 where
+    AtIndex : Trees → Key
+    AtField : Written → Key
+
+  pub data Keys : Type 0 where
+    no_keys : Keys
+    key : Key → Keys → Keys
+
+  -- !p = e
+  pub data Updates : Type 0 where
+    no_updates : Updates
+    update : Keys → Tree → Updates → Updates
+
 abbrev pub trees : List Tree → Trees
 trees [] = none
 trees (t ∷ ts) = more t (trees ts)
@@ -91,3 +132,23 @@ arms (c ∷ cs) = arm c.0 c.1 (arms cs)
 abbrev pub definitions : List Definition → Definitions
 definitions [] = undefined
 definitions (d ∷ ds) = defined d (definitions ds)
+
+-- the name and the value of one field
+abbrev pub Entry : Type 0
+Entry = Written × Tree
+
+abbrev pub fields : List Entry → Fields
+fields [] = no_fields
+fields (e ∷ es) = field e.0 e.1 (fields es)
+
+abbrev pub keys : List Key → Keys
+keys [] = no_keys
+keys (k ∷ ks) = key k (keys ks)
+
+-- the path and the value of one update
+abbrev pub Change : Type 0
+Change = Keys × Tree
+
+abbrev pub updates : List Change → Updates
+updates [] = no_updates
+updates (c ∷ cs) = update c.0 c.1 (updates cs)

@@ -7,11 +7,12 @@ use Rattle.tla_parse.specs.declared.word.Written.{Written}
 use Rattle.tla_parse.specs.Modules.{is_module}
 use Rattle.tla_parse.specs.Tokens.{seen, word_of, written}
 use Rattle.tla_parse.specs.Kinds.{kind_at}
-use Rattle.tla_parse.specs.Units.{UnitTree, Separator, Extends, Variables, Operator, Defines, Local, Constants, Assume, Theorem, Declared, is_extends, is_separator, outermost}
+use Rattle.tla_parse.specs.Units.{UnitTree, Separator, Extends, Variables, Operator, Defines, Local, Constants, Assume, Theorem, Declared, is_separator, outermost}
 use Rattle.tla_parse.specs.declared.tokens.Between.TheVariants as between
 use Rattle.tla_parse.specs.Tree.{Tree, Definition, DefinesOperator, DefinesFunction}
 use Rattle.tla_parse.specs.Outcome.{Outcome, Refused, ◌>>=◌, need, at_op, sequence}
-use Rattle.tla_parse.specs.Reading.{name_at, following, names, definition, expr}
+use Rattle.tla_parse.specs.ReadingLists.{name_at, following, names}
+use Rattle.tla_parse.specs.Reading.{definition, expr}
 
 -- the name and the expression of an assumption or a theorem
 abbrev pub Claim : Type 0
@@ -66,7 +67,7 @@ module _ (text : List ℕ) (ts : List Token) where
   unfoldable pub units : ℕ → ℕ → List UnitTree → Bool → ℕ → Outcome (List UnitTree)
   units n zero front first at = Err Refused
   units n (suc m) front first at = if kind_at k.Closing (seen ts 0 at) then Ok (front, at)
-      else (unit n at >>= λ u end. need (first || not (is_extends u)) (units n m (front ++ u ∷ []) (first && is_separator u) end))
+      else need (first || not (kind_at k.Extends (seen ts 0 at))) (unit n at >>= λ u end. units n m (front ++ u ∷ []) (first && is_separator u) end)
 
   -- a module whose expressions have so many levels at most
   unfoldable pub whole : ℕ → Outcome (List UnitTree)

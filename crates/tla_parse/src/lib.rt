@@ -1,18 +1,23 @@
 //! The tree of a module's tokens.
 #![tactic(auto)]
 
+mod ahead;
+mod brackets;
 mod error;
+mod forms;
 mod grammar;
+mod items;
 pub mod laws;
 mod modules;
 mod names;
 mod operators;
 mod parse;
 mod parts;
+mod product;
+mod record_parts;
+mod records;
 mod refusal;
 mod scope;
-#[cfg(test)]
-mod tests;
 mod tokens;
 mod tree;
 mod units;
@@ -21,7 +26,8 @@ mod word;
 pub use error::{ParseCode, ParseError};
 pub use parse::{Module, parse_module};
 pub use tree::{
-    Arm, Binder, Brackets, Bullet, Constant, Definition, Expr, Infix, Prefix, Quantifier,
+    Arm, Binder, Brackets, Bullet, Constant, Definition, Expr, Fairness, Field, Infix, Key, Prefix,
+    Quantifier, Step, Update,
 };
 pub use units::{Declaration, Unit};
 pub use word::{Word, Written};

@@ -1,7 +1,7 @@
 //! Names with commas between them.
 
 ghost use Rattle.std.specs.Prelude.{◌≡◌, ◌+◌, ◌≤◌, ◌++◌, ◌∷◌, [], length, IfErr, OnOk};
-ghost use Rattle.tla_parse.specs.Reading as reading;
+ghost use Rattle.tla_parse.specs.ReadingLists as lists;
 ghost use Rattle.tla_parse.specs.Gives.{GivesNames};
 
 use crate::refusal::Refusal;
@@ -37,7 +37,7 @@ pub fn names(
     from: usize,
 ) -> Result<ParsedNames, Refusal>
     requires { from ≤ length tokens.now }
-    ensures { GivesNames text.now tokens.now result (reading.names text.now tokens.now (length tokens.now) [] column from) }
+    ensures { GivesNames text.now tokens.now result (lists.names text.now tokens.now (length tokens.now) [] column from) }
 {
     let mut names = Vec::new(alloc);
     let mut at = from;

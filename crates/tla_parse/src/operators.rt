@@ -28,7 +28,7 @@ pub fn low(op: Infix) -> u8
         Infix::Pair => 7,
         Infix::Cup | Infix::Cap | Infix::Difference => 8,
         Infix::Range => 9,
-        Infix::Plus | Infix::Remainder => 10,
+        Infix::Plus | Infix::Remainder | Infix::Product => 10,
         Infix::Minus => 11,
         Infix::Times | Infix::Quotient | Infix::Concatenation => 13,
         Infix::Power => 14,
@@ -40,6 +40,7 @@ pub fn high(op: Infix) -> u8
 {
     match op {
         Infix::Remainder => 11,
+        Infix::Product => 13,
         other => low(other),
     }
 }
@@ -86,6 +87,13 @@ fn left_group(op: Infix) -> u8
     }
 }
 
+/// Whether it is `\X`, which makes one product of all its operands.
+pub fn is_product(op: Infix) -> bool
+    ensures { result ≡ operators.is_product op }
+{
+    matches!(op, Infix::Product)
+}
+
 /// Whether the first operator is above the second, or is the second and groups to the left.
 fn yields(first: Infix, second: Infix) -> bool
     ensures { result ≡ edges.yields first second }
@@ -121,6 +129,7 @@ pub fn infix_of(kind: Kind) -> Option<Infix>
         Kind::Plus => Some(Infix::Plus),
         Kind::Remainder => Some(Infix::Remainder),
         Kind::Minus => Some(Infix::Minus),
+        Kind::Product => Some(Infix::Product),
         Kind::Times => Some(Infix::Times),
         Kind::Quotient => Some(Infix::Quotient),
         Kind::Concatenation => Some(Infix::Concatenation),
@@ -192,6 +201,13 @@ pub fn edge_allows(tree: &Expr, op: Infix) -> bool
         | Expr::If(_, _, _, _)
         | Expr::Case(_, _, _)
         | Expr::Let(_, _, _) => false,
+        Expr::Product(_, _, others) => {
+            yields(Infix::Product, op)
+                && match others.last() {
+                    Some(last) => edge_allows(last, op),
+                    None => true,
+                }
+        }
         _ => true,
     }
 }

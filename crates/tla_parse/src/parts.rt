@@ -129,6 +129,12 @@ pub fn index_of(at: Place, operand: Box<Expr>, items: Vec<Expr>) -> Expr
     Expr::Index(at, operand, items)
 }
 
+pub fn product_of(at: Place, first: Box<Expr>, others: Vec<Expr>) -> Expr
+    ensures { view result ≡ tree.Product at (view first.value) (trees (map view others.items)) }
+{
+    Expr::Product(at, first, others)
+}
+
 pub fn quantified_of(
     at: Place,
     quantifier: Quantifier,
@@ -185,4 +191,16 @@ pub fn function_of(name: Written, groups: Vec<Binder>, body: Expr) -> Definition
     ensures { definition_view result ≡ tree.DefinesFunction name (binders (map group_view groups.items)) (view body) }
 {
     Definition::Function(name, groups, body)
+}
+
+pub fn image_of(at: Place, element: Box<Expr>, groups: Vec<Binder>) -> Expr
+    ensures { view result ≡ tree.Image at (view element.value) (binders (map group_view groups.items)) }
+{
+    Expr::Image(at, element, groups)
+}
+
+pub fn mapping_of(at: Place, groups: Vec<Binder>, body: Box<Expr>) -> Expr
+    ensures { view result ≡ tree.Function at (binders (map group_view groups.items)) (view body.value) }
+{
+    Expr::Function(at, groups, body)
 }

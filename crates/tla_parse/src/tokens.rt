@@ -1,12 +1,13 @@
 //! Tokens as the grammar reads them: by their number in the list, and only right of a column.
 
-ghost use Rattle.std.specs.Prelude.{◌≡◌, ◌+◌, ◌^◌, ◌<◌, ◌≤◌, length, slice_get, IfOk, IfErr, IfSome, OnSome, IsTrue};
+ghost use Rattle.std.specs.Prelude.{◌≡◌, ℕ, ◌+◌, ◌^◌, ◌<◌, ◌≤◌, length, slice_get, IfOk, IfErr, IfSome, OnSome, IsTrue};
 ghost use Rattle.tla_lex.specs.Strings.{string_text};
 ghost use Rattle.tla_parse.specs.Tokens as spec;
 ghost use Rattle.tla_parse.specs.Kinds as kinds;
 ghost use Rattle.tla_parse.specs.Ending as ending;
 ghost use Rattle.tla_parse.specs.LeftOut as left_out;
 ghost use Rattle.tla_parse.specs.Reading as reading;
+ghost use Rattle.tla_parse.specs.ReadingLists as lists;
 ghost use Rattle.tla_parse.specs.Gives.{Refuses};
 
 use crate::operators::{bullet_of, infix_of, low};
@@ -24,6 +25,10 @@ pub enum Between {
     Bullet(Bullet),
     /// `[]`, before an arm of CASE that is no OTHER.
     Arm,
+    /// `\X`
+    Product,
+    /// Nothing, before a step of a path.
+    Key,
     /// Nothing, before a definition, which begins with a name.
     Nothing,
 }
@@ -98,6 +103,15 @@ pub fn is_kind(kind: Kind, token: Option<Token>) -> bool
         (Kind::MapsTo, Kind::MapsTo) => true,
         (Kind::Other, Kind::Other) => true,
         (Kind::Equal, Kind::Equal) => true,
+        (Kind::RightBracketSubscript, Kind::RightBracketSubscript) => true,
+        (Kind::RightTupleSubscript, Kind::RightTupleSubscript) => true,
+        (Kind::Except, Kind::Except) => true,
+        (Kind::Bang, Kind::Bang) => true,
+        (Kind::Dot, Kind::Dot) => true,
+        (Kind::LeftTuple, Kind::LeftTuple) => true,
+        (Kind::Extends, Kind::Extends) => true,
+        (Kind::Choose, Kind::Choose) => true,
+        (Kind::Product, Kind::Product) => true,
         _ => false,
     }
 }
@@ -122,7 +136,7 @@ pub fn is_bullet_at(tokens: &[Token], column: u128, bullet: Bullet, at: usize) -
 
 /// Where the next item of a list begins, behind this token.
 pub fn following(tokens: &[Token], column: u128, between: Between, at: usize) -> Option<usize>
-    ensures value { result ≡ reading.following tokens.now column between at }
+    ensures value { result ≡ lists.following tokens.now column between at }
     ensures within { IfSome result (λ next. next ≤ length tokens.now) }
 {
     match between {
@@ -138,6 +152,22 @@ pub fn following(tokens: &[Token], column: u128, between: Between, at: usize) ->
                 && !is_kind(Kind::Other, seen(tokens, column, at + 1))
             {
                 Some(at + 1)
+            } else {
+                None
+            }
+        }
+        Between::Product => {
+            if is_kind(Kind::Product, seen(tokens, column, at)) {
+                Some(at + 1)
+            } else {
+                None
+            }
+        }
+        Between::Key => {
+            if is_kind(Kind::LeftBracket, seen(tokens, column, at))
+                || is_kind(Kind::Dot, seen(tokens, column, at))
+            {
+                Some(at)
             } else {
                 None
             }
@@ -212,7 +242,7 @@ pub fn operator_at(token: Option<Token>, floor: u8) -> Option<Infix>
 
 /// The token, where it is a name.
 pub fn name_at(token: Option<Token>) -> Option<Token>
-    ensures { result ≡ reading.name_at token }
+    ensures { result ≡ lists.name_at token }
 {
     match token {
         Some(t) if matches!(t.kind, Kind::Name) => Some(t),
@@ -278,29 +308,52 @@ fn is_left_out(kind: Kind) -> bool
         | Kind::Composition
         | Kind::MinusMinus
         | Kind::Guarantees
-        | Kind::Bang => true,
+        | Kind::Product => true,
         _ => false,
     }
 }
 
-/// Whether a token of this kind begins a form that is left out for now.
-fn is_not_yet_read(kind: Kind) -> bool
-    ensures { result ≡ left_out.is_not_yet_read kind }
+/// Whether `!` behind a token of this kind begins no update.
+fn may_select(kind: Kind) -> bool
+    ensures { result ≡ left_out.may_select kind }
 {
     match kind {
-        Kind::WeakFairness | Kind::StrongFairness | Kind::LeftBracket | Kind::Product => true,
-        _ => false,
+        Kind::Except => false,
+        _ => true,
     }
+}
+
+/// Whether the token before this one lets it select from a module.
+fn is_behind_module(tokens: &[Token], at: usize) -> bool
+    ensures { IsTrue result → (before : ℕ) × (t : Token) × (slice_get tokens.now before ≡ Some t) × IsTrue (left_out.may_select t.kind) × (at ≡ before + 1) }
+{
+    if at == 0 {
+        return false;
+    }
+    match tokens.get(at - 1) {
+        Some(t) => may_select(t.kind),
+        None => false,
+    }
+}
+
+/// Whether `!` stands here, but not directly behind EXCEPT.
+fn is_selector(tokens: &[Token], at: usize) -> bool
+    ensures { IsTrue result → left_out.IsSelector tokens.now at }
+{
+    is_behind_module(tokens, at) && is_kind(Kind::Bang, tokens.get(at).copied())
 }
 
 /// The refusal of a token that doesn't go on with what was read: a form left out, else one at or left of its list's column, else an unexpected one.
+#[tactic(auto, unfolding(crate::specs::LeftOut::BeginsLeftOut))]
 pub fn refused(tokens: &[Token], column: u128, at: usize) -> Refusal
     ensures { Refuses tokens.now result }
 {
     match tokens.get(at) {
         None => Refusal::Unexpected(at),
         Some(t) => {
-            if is_left_out(t.kind) || is_not_yet_read(t.kind) {
+            if is_left_out(t.kind) {
+                Refusal::LeftOut(at)
+            } else if is_selector(tokens, at) {
                 Refusal::LeftOut(at)
             } else if t.place.column <= column {
                 Refusal::Column(at)
@@ -311,14 +364,121 @@ pub fn refused(tokens: &[Token], column: u128, at: usize) -> Refusal
     }
 }
 
-/// Whether a quantifier or CHOOSE stands here over names without a set, all right of the column.
+/// The refusal of a token where an update of EXCEPT must begin: one at or left of its list's column, where it is `!`.
+pub fn refused_update(tokens: &[Token], column: u128, at: usize) -> Refusal
+    ensures { Refuses tokens.now result }
+{
+    if is_kind(Kind::Bang, tokens.get(at).copied()) {
+        Refusal::Column(at)
+    } else {
+        refused(tokens, column, at)
+    }
+}
+
+/// Whether a binder may begin behind a token of this kind.
+fn binds(kind: Kind) -> bool
+    ensures { result ≡ left_out.binds kind }
+{
+    match kind {
+        Kind::ForAll
+        | Kind::Exists
+        | Kind::Choose
+        | Kind::LeftBrace
+        | Kind::LeftBracket
+        | Kind::Colon
+        | Kind::Comma => true,
+        _ => false,
+    }
+}
+
+/// Whether a binder may begin at the token of this number.
+fn may_bind(tokens: &[Token], at: usize) -> bool
+    ensures { IsTrue result → (before : ℕ) × (t : Token) × (slice_get tokens.now before ≡ Some t) × IsTrue (left_out.binds t.kind) × (at ≡ before + 1) }
+{
+    if at == 0 {
+        return false;
+    }
+    match tokens.get(at - 1) {
+        Some(t) => binds(t.kind),
+        None => false,
+    }
+}
+
+/// Whether a tuple of names and `\in` stand here in a binder, all right of the column.
+fn is_pattern(tokens: &[Token], column: u128, from: usize) -> bool
+    ensures { IsTrue result → left_out.IsPattern tokens.now from }
+{
+    if !may_bind(tokens, from) || !is_kind(Kind::LeftTuple, seen(tokens, column, from)) {
+        return false;
+    }
+    let mut at = from + 1;
+    for _turn in 0..tokens.len() {
+        if !is_kind(Kind::Name, seen(tokens, column, at)) {
+            return false;
+        }
+        if is_kind(Kind::RightTuple, seen(tokens, column, at + 1)) {
+            return is_kind(Kind::Member, seen(tokens, column, at + 2));
+        }
+        if !is_kind(Kind::Comma, seen(tokens, column, at + 1)) {
+            return false;
+        }
+        at += 2;
+    }
+    false
+}
+
+/// Whether a tuple of names and `\in` stand behind the first token of the form at `form`.
+fn has_pattern(tokens: &[Token], column: u128, form: usize) -> bool
+    ensures pattern { IsTrue result → left_out.IsPattern tokens.now (form + 1) }
+    ensures within { IsTrue result → form < length tokens.now }
+{
+    form < tokens.len() && is_pattern(tokens, column, form + 1)
+}
+
+/// The refusal of a token of the form at `form`: a tuple of names before `\in` at its beginning, which is left out, else the token.
+#[tactic(auto, unfolding(crate::specs::LeftOut::BeginsLeftOut))]
+pub fn refused_form(tokens: &[Token], column: u128, form: usize, at: usize) -> Refusal
+    ensures { Refuses tokens.now result }
+{
+    if has_pattern(tokens, column, form) {
+        Refusal::LeftOut(form + 1)
+    } else {
+        refused(tokens, column, at)
+    }
+}
+
+/// The refusal of a token where a binder's name has to stand: a tuple of names, which is left out, else the token.
+#[tactic(auto, unfolding(crate::specs::LeftOut::BeginsLeftOut))]
+pub fn refused_name(tokens: &[Token], column: u128, at: usize) -> Refusal
+    ensures { Refuses tokens.now result }
+{
+    if is_pattern(tokens, column, at) {
+        Refusal::LeftOut(at)
+    } else {
+        refused(tokens, column, at)
+    }
+}
+
+/// The refusal of a token where a name has to stand in the binders of the form at `form`.
+#[tactic(auto, unfolding(crate::specs::LeftOut::BeginsLeftOut))]
+pub fn refused_names(tokens: &[Token], column: u128, form: usize, at: usize) -> Refusal
+    ensures { Refuses tokens.now result }
+{
+    if has_pattern(tokens, column, form) {
+        Refusal::LeftOut(form + 1)
+    } else {
+        refused_name(tokens, column, at)
+    }
+}
+
+/// Whether a quantifier stands here over names without a set, all right of the column.
 fn is_unbounded(tokens: &[Token], column: u128, from: usize) -> bool
     ensures { IsTrue result → left_out.IsUnbounded tokens.now from }
 {
     let Some(t) = seen(tokens, column, from) else {
         return false;
     };
-    if !is_binding(t.kind) {
+    if !is_quantifier(t.kind) {
         return false;
     }
     let mut at = from + 1;
@@ -337,21 +497,37 @@ fn is_unbounded(tokens: &[Token], column: u128, from: usize) -> bool
     false
 }
 
-/// Whether a token of this kind begins a quantifier or CHOOSE.
-fn is_binding(kind: Kind) -> bool
-    ensures { result ≡ left_out.is_binding kind }
+fn is_quantifier(kind: Kind) -> bool
+    ensures { result ≡ left_out.is_quantifier kind }
 {
-    matches!(kind, Kind::ForAll | Kind::Exists | Kind::Choose)
+    matches!(kind, Kind::ForAll | Kind::Exists)
+}
+
+/// The refusal of the token behind the name of the CHOOSE at `from`: the form, where it is left out, else the token.
+#[tactic(auto, unfolding(crate::specs::LeftOut::BeginsLeftOut))]
+pub fn refused_choice(tokens: &[Token], column: u128, from: usize) -> Refusal
+    requires { from < length tokens.now }
+    ensures { Refuses tokens.now result }
+{
+    let unbounded = is_kind(Kind::Choose, seen(tokens, column, from))
+        && is_kind(Kind::Name, seen(tokens, column, from + 1))
+        && is_kind(Kind::Colon, seen(tokens, column, from + 2));
+    if unbounded {
+        Refusal::LeftOut(from)
+    } else {
+        refused(tokens, column, from + 2)
+    }
 }
 
 /// The refusal of a token in the binders of the form at `from`: the form, where it is left out, else the token.
+#[tactic(auto, unfolding(crate::specs::LeftOut::BeginsLeftOut))]
 pub fn refused_binder(tokens: &[Token], column: u128, from: usize, at: usize) -> Refusal
     ensures { Refuses tokens.now result }
 {
     if is_unbounded(tokens, column, from) {
         Refusal::LeftOut(from)
     } else {
-        refused(tokens, column, at)
+        refused_form(tokens, column, from, at)
     }
 }
 
@@ -381,6 +557,7 @@ fn has_operator_parameter(tokens: &[Token], column: u128, from: usize) -> bool
 }
 
 /// The refusal of a token in the parameters of the definition at `from`: the definition, where it is left out, else the token.
+#[tactic(auto, unfolding(crate::specs::LeftOut::BeginsLeftOut))]
 pub fn refused_parameter(tokens: &[Token], column: u128, from: usize, at: usize) -> Refusal
     ensures { Refuses tokens.now result }
 {
@@ -392,6 +569,7 @@ pub fn refused_parameter(tokens: &[Token], column: u128, from: usize, at: usize)
 }
 
 /// The refusal of a token that begins no unit.
+#[tactic(auto, unfolding(crate::specs::LeftOut::BeginsLeftOut))]
 pub fn refused_unit(tokens: &[Token], at: usize) -> Refusal
     ensures { Refuses tokens.now result }
 {

@@ -52,6 +52,8 @@ pub enum Infix {
     Remainder,
     /// `-`
     Minus,
+    /// `\X`, whose node is `Expr::Product`
+    Product,
     /// `*`
     Times,
     /// `\div`
@@ -111,6 +113,22 @@ pub enum Brackets {
     Tuple,
 }
 
+/// The brackets of an action with a subscript.
+#[derive(Clone, Copy, Debug)]
+pub enum Step {
+    /// `[A]_v`
+    Box,
+    /// `<<A>>_v`
+    Angle,
+}
+
+/// `WF` or `SF`.
+#[derive(Clone, Copy, Debug)]
+pub enum Fairness {
+    Weak,
+    Strong,
+}
+
 /// A group of a binder list: `x, y \in S`.
 #[cycle(tree)]
 #[derive(Drop)]
@@ -124,6 +142,32 @@ pub struct Binder {
 #[derive(Drop)]
 pub struct Arm {
     pub guard: Expr,
+    pub value: Expr,
+}
+
+/// A field of a record, `a |-> e`, or of a set of records, `a : S`.
+#[cycle(tree)]
+#[derive(Drop)]
+pub struct Field {
+    pub name: Written,
+    pub value: Expr,
+}
+
+/// A step of the path of an update.
+#[cycle(tree)]
+#[derive(Drop)]
+pub enum Key {
+    /// `[e, ..]`, with one argument or more.
+    Index(Vec<Expr>),
+    /// `.a`
+    Field(Written),
+}
+
+/// An update of EXCEPT: `!p = e`, with a path of one step or more.
+#[cycle(tree)]
+#[derive(Drop)]
+pub struct Update {
+    pub path: Vec<Key>,
     pub value: Expr,
 }
 
@@ -177,6 +221,26 @@ pub enum Expr {
     Let(Place, Vec<Definition>, Box<Expr>),
     /// A junction list, of one item or more.
     Junction(Place, Bullet, Vec<Expr>),
+    /// `{x \in S : p}`
+    Filter(Place, Written, Box<Expr>, Box<Expr>),
+    /// `{e : x, y \in S, z \in T}`
+    Image(Place, Box<Expr>, Vec<Binder>),
+    /// `[x, y \in S, z \in T |-> e]`
+    Function(Place, Vec<Binder>, Box<Expr>),
+    /// `[S -> T]`
+    FunctionSet(Place, Box<Expr>, Box<Expr>),
+    /// `[a |-> e, ..]`, with one field or more.
+    Record(Place, Vec<Field>),
+    /// `[a : S, ..]`, with one field or more.
+    RecordSet(Place, Vec<Field>),
+    /// `[f EXCEPT !p = e, ..]`, with one update or more.
+    Except(Place, Box<Expr>, Vec<Update>),
+    /// `[A]_v` or `<<A>>_v`: the action, and the subscript.
+    Action(Place, Step, Box<Expr>, Box<Expr>),
+    /// `WF_v(A)` or `SF_v(A)`: the subscript, and the action.
+    Fair(Place, Fairness, Box<Expr>, Box<Expr>),
+    /// `a \X b \X ..`: the first operand, and the others, one or more.
+    Product(Place, Box<Expr>, Vec<Expr>),
 }
 
 impl Expr {
@@ -208,6 +272,16 @@ impl Expr {
             Expr::Case(at, _, _) => *at,
             Expr::Let(at, _, _) => *at,
             Expr::Junction(at, _, _) => *at,
+            Expr::Filter(at, _, _, _) => *at,
+            Expr::Image(at, _, _) => *at,
+            Expr::Function(at, _, _) => *at,
+            Expr::FunctionSet(at, _, _) => *at,
+            Expr::Record(at, _) => *at,
+            Expr::RecordSet(at, _) => *at,
+            Expr::Except(at, _, _) => *at,
+            Expr::Action(at, _, _, _) => *at,
+            Expr::Fair(at, _, _, _) => *at,
+            Expr::Product(at, _, _) => *at,
         }
     }
 }

@@ -1,10 +1,13 @@
 //! The units of a module.
 
-ghost use Rattle.std.specs.Prelude.{◌≡◌, ◌+◌, ◌<◌, ◌≤◌, ◌++◌, ◌∷◌, ◌&&◌, ◌||◌, [], length, true, not, IfErr, OnOk, OnSome};
+ghost use Rattle.std.specs.Prelude.{◌≡◌, ◌+◌, ◌<◌, ◌≤◌, ◌++◌, ◌∷◌, ◌&&◌, ◌||◌, [], length, true, not, IfErr, OnOk, OnSome, IsTrue};
 ghost use Rattle.tla_parse.specs.Units as units;
 ghost use Rattle.tla_parse.specs.UnitsView.{unit_view};
 ghost use Rattle.tla_parse.specs.UnitsReading as reading;
-ghost use Rattle.tla_parse.specs.LeftOut.{IsExtended};
+ghost use Rattle.tla_parse.specs.LeftOut.{IsExtended, OnlySeparators};
+ghost use Rattle.tla_parse.specs.Kinds.{kind_at};
+ghost use Rattle.tla_parse.specs.Tokens.{seen};
+ghost use Rattle.tla_lex.specs.declared.token.Kind.TheVariants as k;
 ghost use Rattle.tla_parse.specs.Gives.{GivesNames};
 ghost use Rattle.tla_parse.specs.View.{definition_view};
 ghost use Rattle.tla_parse.specs.UnitsGive.{GivesDeclared, GivesConstants, GivesClaim, GivesUnit, GivesUnits};
@@ -58,13 +61,6 @@ pub struct Declaration {
 }
 
 impl Unit {
-    /// Whether it may stand here, where EXTENDS is or is no more allowed.
-    fn may_stand(&self, first: bool) -> bool
-        ensures { result ≡ (first || not (units.is_extends (unit_view self.now))) }
-    {
-        first || !matches!(self, Unit::Extends(_, _))
-    }
-
     /// Whether EXTENDS may stand behind it.
     fn stays_first(&self, first: bool) -> bool
         ensures { result ≡ (first && units.is_separator (unit_view self.now)) }
@@ -311,6 +307,7 @@ fn unit_of(definition: Definition) -> Unit
 /// The unit that begins at the token of this number.
 #[tactic(auto, unfolding(crate::specs::UnitsReading::unit))]
 fn unit_at(alloc: Global, text: &[u8], tokens: &[Token], from: usize) -> Result<ParsedUnit, Refusal>
+    requires extends { IsTrue (kind_at k.Extends (seen tokens.now 0 from)) → OnlySeparators tokens.now from }
     ensures { GivesUnit text.now tokens.now result (reading.unit text.now tokens.now 200 from) }
 {
     let Some(t) = seen(tokens, 0, from) else {
@@ -383,6 +380,13 @@ fn unit_at(alloc: Global, text: &[u8], tokens: &[Token], from: usize) -> Result<
     }
 }
 
+/// Whether the token may begin a unit here: EXTENDS only where no other unit but separators came before.
+fn may_begin(tokens: &[Token], first: bool, at: usize) -> bool
+    ensures { result ≡ (first || not (kind_at k.Extends (seen tokens.now 0 at))) }
+{
+    first || !is_kind(Kind::Extends, seen(tokens, 0, at))
+}
+
 /// The units up to the closing line.
 #[tactic(auto, using(crate::proofs::UnitsSteps::units_more, crate::proofs::UnitsSteps::units_done, crate::proofs::UnitsSteps::units_full))]
 fn units_from(
@@ -391,6 +395,7 @@ fn units_from(
     tokens: &[Token],
     from: usize,
 ) -> Result<ParsedUnits, Refusal>
+    requires { OnlySeparators tokens.now from }
     ensures { GivesUnits text.now tokens.now result (reading.units text.now tokens.now 200 (length tokens.now) [] true from) }
 {
     let mut units = Vec::new(alloc);
@@ -400,10 +405,10 @@ fn units_from(
         if is_kind(Kind::Closing, seen(tokens, 0, at)) {
             return Ok(ParsedUnits { units, end: at });
         }
-        let found = unit_at(alloc, text, tokens, at)?;
-        if !found.unit.may_stand(first) {
+        if !may_begin(tokens, first, at) {
             return Err(refused(tokens, 0, at));
         }
+        let found = unit_at(alloc, text, tokens, at)?;
         at = found.end;
         first = found.unit.stays_first(first);
         push_unit(&mut units, found.unit)?;

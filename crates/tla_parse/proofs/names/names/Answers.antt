@@ -2,7 +2,7 @@ use Rattle.std.proofs.Common.{◌≡◌, ◌+◌, ◌-◌, ◌++◌, ◌∷◌, 
 use Rattle.tla_lex.specs.declared.token.Kind.TheVariants as k
 use Rattle.tla_parse.specs.Tokens.{seen, written}
 use Rattle.tla_parse.specs.Kinds.{kind_at}
-use Rattle.tla_parse.specs.Reading.{name_at}
+use Rattle.tla_parse.specs.ReadingLists.{name_at}
 use Rattle.tla_parse.proofs.Fails.{refuses_fails}
 use Rattle.tla_parse.proofs.NameLists.{names_none, names_last}
 use Rattle.tla_parse.proofs.names.names.Goals as goal

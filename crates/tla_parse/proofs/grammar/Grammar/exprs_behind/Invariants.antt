@@ -1,14 +1,15 @@
-use Rattle.std.proofs.Common.{◌≡◌, ◌-◌, ◌≤◌, length, map, []}
+use Rattle.std.proofs.Common.{◌≡◌, ◌-◌, ◌≤◌, length, map}
 use Rattle.tla_parse.specs.View.{view}
 use Rattle.tla_parse.specs.Tree.{trees}
 use Rattle.tla_parse.specs.Edges.{depths}
-use Rattle.tla_parse.specs.Reading.{exprs, expr}
-use Rattle.tla_parse.proofs.grammar.Grammar.exprs.Given as goal
+use Rattle.tla_parse.specs.ReadingLists.{exprs}
+use Rattle.tla_parse.specs.Reading.{expr}
+use Rattle.tla_parse.proofs.grammar.Grammar.exprs_behind.Given as goal
 
 abbrev pub invariant-loop-turn : goal.invariant-loop-turn
 invariant-loop-turn g l = record {
   same : exprs l.text l.tokens (expr l.text l.tokens l.self.depth) (length l.tokens - l._turn) (map view l.items.items) l.scope l.between l.at
-      ≡ exprs l.text l.tokens (expr l.text l.tokens l.self.depth) (length l.tokens) [] l.scope l.between l.fn.from;
+      ≡ exprs l.text l.tokens (expr l.text l.tokens l.self.depth) (length l.tokens) (map view l.fn.front.items.items) l.scope l.between l.fn.front.end;
   depth : l.depth ≡ depths (trees (map view l.items.items));
   shallow : l.depth ≤ l.self.depth;
 }

@@ -1,0 +1,93 @@
+-- With more levels lists are read the same, or were nested too deep.
+use Rattle.std.proofs.Common.{◌≡◌, ℕ, zero, suc, ◌+◌, ◌-◌, ◌≤◌, Bool, true, false, not, ◌⊎◌, inl, inr, nat_le, slice_get, length, List, [], ◌∷◌, ◌++◌, if◌then◌else◌, Option, Some, None, Ok, Err, refl, ap, sym, ◌∙◌, arith}
+use Rattle.std.proofs.lemmas.Bool.{leb-true, le-leb}
+use Rattle.tla_lex.specs.declared.token.Place.{Place}
+use Rattle.tla_lex.specs.declared.token.Token.{Token}
+use Rattle.tla_lex.specs.declared.token.Kind.{Kind}
+use Rattle.tla_lex.specs.declared.token.Kind.TheVariants as k
+use Rattle.tla_lex.specs.Strings.{string_text}
+use Rattle.tla_parse.specs.declared.scope.Scope.{Scope}
+use Rattle.tla_parse.specs.declared.tree.Infix.{Infix}
+use Rattle.tla_parse.specs.declared.tree.Prefix.{Prefix}
+use Rattle.tla_parse.specs.declared.tree.Bullet.{Bullet}
+use Rattle.tla_parse.specs.declared.tree.Brackets.{Brackets}
+use Rattle.tla_parse.specs.declared.tree.Brackets.TheVariants as br
+use Rattle.tla_parse.specs.declared.tokens.Between.{Between}
+use Rattle.tla_parse.specs.declared.tokens.Between.TheVariants as between
+use Rattle.tla_parse.specs.declared.tokens.Postfix.{Postfix}
+use Rattle.tla_parse.specs.declared.tokens.Postfix.TheVariants as form
+use Rattle.tla_parse.specs.declared.tree.Quantifier.{Quantifier}
+use Rattle.tla_parse.specs.Tree.{Tree, Group, Choice, Definition, arms, definitions, no_other, Case, none, Name, Number, Text, Word, At, Listing, Prime, Index, Field, Binary}
+use Rattle.tla_parse.specs.Operators.{high, prefix_high, prefix_of, bullet_of, quantifier_of, constant_of}
+use Rattle.tla_parse.specs.Edges.{edge_allows, place, depth}
+use Rattle.tla_parse.specs.Tokens.{seen, word_of, written}
+use Rattle.tla_parse.specs.Kinds.{kind_at, closing}
+use Rattle.tla_parse.specs.Grammar.{within}
+use Rattle.tla_parse.specs.Ending.{above, infix_at}
+use Rattle.tla_parse.specs.Outcome.{Outcome, Refused, Nested, ◌>>=◌, need, room, at_op, sequence}
+use Rattle.tla_parse.specs.ReadingLists.{name_at, following, names, exprs, some, listing, call, group, groups, paren}
+use Rattle.tla_parse.specs.Reading.{postfix_at, indexed, behind, postfix, postfixes, turn, climb, junction, quantified, chosen, arm_at, arms_at, cases, operator, function, defined, definition, definitions_at, lets, choice, prefix, by_class, named, operand_by, operand, level, expr}
+
+-- the first was nested too deep, or the second is the same
+abbrev pub Refines : {A : Type 0} → Outcome A → Outcome A → Type 0
+Refines r s = (r ≡ Err Nested) ⊎ (r ≡ s)
+
+bind_same : {A B : Type 0} (r s : Outcome A) (f g : A → ℕ → Outcome B) → r ≡ s → ((x : A) (m : ℕ) → Refines (f x m) (g x m)) → Refines (r >>= f) (s >>= g)
+bind_same (Ok p) s f g e h = rw (← e) (h p.0 p.1)
+bind_same (Err x) s f g e h = rw (← e) (inr refl)
+
+pub bind : {A B : Type 0} (r s : Outcome A) (f g : A → ℕ → Outcome B) → Refines r s → ((x : A) (m : ℕ) → Refines (f x m) (g x m)) → Refines (r >>= f) (s >>= g)
+bind r s f g e h = elim e [ inl w ↦ inl (ap (λ x. x >>= f) w) | inr w ↦ bind_same r s f g w h ]
+
+pub needs : {A : Type 0} (t : Bool) (x y : Outcome A) → Refines x y → Refines (need t x) (need t y)
+needs true x y h = h
+needs false x y h = inr refl
+
+rooms : {A : Type 0} (t u : Bool) (x : Outcome A) → (t ≡ true → u ≡ true) → Refines (room t x) (room u x)
+rooms true u x h = rw (h refl) (inr refl)
+rooms false u x h = inl refl
+
+pub more_room : {A : Type 0} (d most : ℕ) (x : Outcome A) → Refines (room (nat_le d most) x) (room (nat_le d (most + 1)) x)
+more_room d most x = rooms (nat_le d most) (nat_le d (most + 1)) x (λ h. let l = leb-true d most h in le-leb d (most + 1) (omega (arith, l)))
+
+pub ops : {A X : Type 0} (o : Option X) (x y : Outcome A) (f g : X → Outcome A) → Refines x y → ((op : X) → Refines (f op) (g op)) → Refines (at_op o x f) (at_op o y g)
+ops None x y f g h k = h
+ops (Some op) x y f g h k = k op
+
+pub choices : {A : Type 0} (t : Bool) (x y u v : Outcome A) → Refines x u → Refines y v → Refines (if t then x else y) (if t then u else v)
+choices true x y u v h k = h
+choices false x y u v h k = k
+
+pub sequences : {A : Type 0} (f g : ℕ → Outcome A) (next : ℕ → Option ℕ) → ((at : ℕ) → Refines (f at) (g at)) → (n : ℕ) (front : List A) (at : ℕ) → Refines (sequence f next n front at) (sequence g next n front at)
+unfolding sequence
+sequences f g next d zero front at = inr refl
+sequences f g next d (suc n) front at = bind (f at) (g at) _ _ (d at) (λ x after. ops (next after) _ _ _ _ (inr refl) (λ start. sequences f g next d n (front ++ x ∷ []) start))
+
+module _ (text : List ℕ) (ts : List Token) where
+  module _ (inner outer : Scope → ℕ → ℕ → Outcome Tree) (deeper : (s : Scope) (floor at : ℕ) → Refines (inner s floor at) (outer s floor at)) where
+    pub somes : (s : Scope) (close : Kind) (at : ℕ) → Refines (some text ts inner s close at) (some text ts outer s close at)
+    unfolding some
+    somes s close at = bind (exprs text ts inner (length ts) [] s between.Comma at) (exprs text ts outer (length ts) [] s between.Comma at) _ _
+        (sequences (inner s 0) (outer s 0) (following ts s.column between.Comma) (deeper s 0) (length ts) [] at) (λ es after. inr refl)
+
+    pub listings : (s : Scope) (p : Place) (b : Brackets) (at : ℕ) → Refines (listing text ts inner s p b at) (listing text ts outer s p b at)
+    unfolding listing
+    listings s p b at = choices (kind_at (closing b) (seen ts s.column (at + 1))) _ _ _ _ (inr refl)
+        (bind (some text ts inner s (closing b) (at + 1)) (some text ts outer s (closing b) (at + 1)) _ _ (somes s (closing b) (at + 1)) (λ es end. inr refl))
+
+    pub calls : (s : Scope) (t : Token) (at : ℕ) → Refines (call text ts inner s t at) (call text ts outer s t at)
+    unfolding call
+    calls s t at = bind (some text ts inner s k.RightParen (at + 2)) (some text ts outer s k.RightParen (at + 2)) _ _ (somes s k.RightParen (at + 2)) (λ es end. inr refl)
+
+    pub nameds : (s : Scope) (t : Token) (at : ℕ) → Refines (named text ts inner s t at) (named text ts outer s t at)
+    unfolding named
+    nameds s t at = choices (kind_at k.LeftParen (seen ts s.column (at + 1))) _ _ _ _ (calls s t at) (inr refl)
+
+    pub group_deeper : (s : Scope) (at : ℕ) → Refines (group text ts inner s at) (group text ts outer s at)
+    unfolding group
+    group_deeper s at = bind (names text ts (length ts) [] s.column at) (names text ts (length ts) [] s.column at) _ _ (inr refl) (λ ws after. needs (kind_at k.Member (seen ts s.column after)) _ _
+        (bind (inner s 0 (after + 1)) (outer s 0 (after + 1)) _ _ (deeper s 0 (after + 1)) (λ e end. inr refl)))
+
+    pub parens : (s : Scope) (p : Place) (at : ℕ) → Refines (paren text ts inner s p at) (paren text ts outer s p at)
+    unfolding paren
+    parens s p at = bind (inner s 0 (at + 1)) (outer s 0 (at + 1)) _ _ (deeper s 0 (at + 1)) (λ e after. inr refl)

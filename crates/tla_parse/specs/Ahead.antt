@@ -1,0 +1,60 @@
+-- What comes behind an identifier and `\in` after an opening bracket: the token that tells a binder from an operator.
+use Rattle.std.specs.Prelude.{ℕ, zero, suc, ◌+◌, Bool, ◌&&◌, ◌||◌, List, [], ◌∷◌, Option, Some, None, drop}
+use Rattle.tla_lex.specs.declared.token.Token.{Token}
+use Rattle.tla_lex.specs.declared.token.Kind.{Kind}
+use Rattle.tla_lex.specs.declared.token.Kind.TheVariants as k
+use Rattle.tla_parse.specs.declared.ahead.Role.{Role}
+use Rattle.tla_parse.specs.declared.ahead.Role.TheVariants as role
+use Rattle.tla_parse.specs.Kinds.{kind_at, binds}
+
+abbrev pub role_of : Kind → Role
+role_of k.LeftParen = role.Opens
+role_of k.LeftBracket = role.Opens
+role_of k.LeftBrace = role.Opens
+role_of k.LeftTuple = role.Opens
+role_of k.RightParen = role.Closes
+role_of k.RightBracket = role.Closes
+role_of k.RightBracketSubscript = role.Closes
+role_of k.RightBrace = role.Closes
+role_of k.RightTuple = role.Closes
+role_of k.RightTupleSubscript = role.Closes
+role_of k.ForAll = role.Binds
+role_of k.Exists = role.Binds
+role_of k.Choose = role.Binds
+role_of k.Colon = role.Colon
+role_of k.Comma = role.Separates
+role_of k.MapsTo = role.Separates
+role_of k.Except = role.Separates
+role_of _ = role.Plain
+
+-- Inside so many brackets, and behind so many quantifiers and CHOOSEs whose colons are still to come: the same behind a token in this role, but for one that ends a part of the open bracket.
+abbrev pub behind : ℕ → ℕ → Role → Option (ℕ × ℕ)
+behind deep bound role.Plain = Some (deep, bound)
+behind deep bound role.Opens = Some (deep + 1, bound)
+behind zero bound role.Closes = None
+behind (suc deep) bound role.Closes = Some (deep, bound)
+behind zero bound role.Binds = Some (0, bound + 1)
+behind (suc deep) bound role.Binds = Some (suc deep, bound)
+behind zero zero role.Colon = None
+behind zero (suc bound) role.Colon = Some (0, bound)
+behind (suc deep) bound role.Colon = Some (suc deep, bound)
+behind zero zero role.Separates = None
+behind zero (suc bound) role.Separates = Some (0, suc bound)
+behind (suc deep) bound role.Separates = Some (suc deep, bound)
+
+abbrev pub onward : Option (ℕ × ℕ) → Option Token → (ℕ → ℕ → Option Token) → Option Token
+onward None t f = t
+onward (Some x) t f = f x.0 x.1
+
+-- the first token that ends a part of the open bracket
+unfoldable pub ending : ℕ → ℕ → List Token → Option Token
+ending deep bound [] = None
+ending deep bound (t ∷ ts) = onward (behind deep bound (role_of t.kind)) (Some t) (λ d b. ending d b ts)
+
+-- `x \in`, and a colon ends the part
+abbrev pub filters : List Token → ℕ → ℕ → Bool
+filters ts column at = binds ts column at && kind_at k.Colon (ending 0 0 (drop (at + 2) ts))
+
+-- `x \in`, and `|->` or a comma ends the part
+abbrev pub maps : List Token → ℕ → ℕ → Bool
+maps ts column at = binds ts column at && (kind_at k.MapsTo (ending 0 0 (drop (at + 2) ts)) || kind_at k.Comma (ending 0 0 (drop (at + 2) ts)))

@@ -1,0 +1,74 @@
+-- Lists of expressions and of binders, read from the left. Private contracts alone cite this.
+use Rattle.std.specs.Prelude.{ℕ, zero, suc, ◌+◌, ◌-◌, Bool, true, false, not, ◌&&◌, ◌||◌, nat_lt, nat_le, if◌then◌else◌, List, [], ◌∷◌, ◌++◌, length, Option, Some, None, slice_get, Result, Ok, Err}
+use Rattle.tla_lex.specs.declared.token.Place.{Place}
+use Rattle.tla_lex.specs.declared.token.Token.{Token}
+use Rattle.tla_lex.specs.declared.token.Kind.{Kind}
+use Rattle.tla_lex.specs.declared.token.Kind.TheVariants as k
+use Rattle.tla_lex.specs.Strings.{string_text}
+use Rattle.tla_parse.specs.declared.scope.Scope.{Scope}
+use Rattle.tla_parse.specs.declared.tokens.Between.{Between}
+use Rattle.tla_parse.specs.declared.tokens.Between.TheVariants as between
+use Rattle.tla_parse.specs.declared.tree.Infix.{Infix}
+use Rattle.tla_parse.specs.declared.tree.Prefix.{Prefix}
+use Rattle.tla_parse.specs.declared.tree.Bullet.{Bullet}
+use Rattle.tla_parse.specs.declared.tree.Brackets.{Brackets}
+use Rattle.tla_parse.specs.declared.tree.Brackets.TheVariants as b
+use Rattle.tla_parse.specs.declared.tree.Quantifier.{Quantifier}
+use Rattle.tla_parse.specs.declared.tokens.Postfix.{Postfix}
+use Rattle.tla_parse.specs.declared.tokens.Postfix.TheVariants as form
+use Rattle.tla_parse.specs.declared.word.Written.{Written}
+use Rattle.tla_parse.specs.Tree.{Tree, Trees, Group, Choice, Definition, trees, binders, arms, definitions, none, no_other, other, DefinesOperator, DefinesFunction, Case, Let, Name, Number, Text, Word, At, Paren, Listing, Call, Prime, Index, Field, Unary, Binary, Quantified, Choose, If, Junction}
+use Rattle.tla_parse.specs.Operators.{high, prefix_high, prefix_of, bullet_of, quantifier_of, constant_of}
+use Rattle.tla_parse.specs.Edges.{edge_allows, place, depth}
+use Rattle.tla_parse.specs.Tokens.{seen, word_of, written, is_bullet_at, may_follow}
+use Rattle.tla_parse.specs.Kinds.{same_kind, kind_at, closing}
+use Rattle.tla_parse.specs.Ending.{above, infix_at}
+use Rattle.tla_parse.specs.Grammar.{within}
+use Rattle.tla_parse.specs.Outcome.{Fault, Refused, Nested, Outcome, ◌>>=◌, need, room, at_op, sequence}
+
+-- the token, where it is a name
+abbrev pub name_at : Option Token → Option Token
+name_at None = None
+name_at (Some t) = if same_kind k.Name t.kind then Some t else None
+
+-- where the next item of a list begins, behind this token
+abbrev pub following : List Token → ℕ → Between → ℕ → Option ℕ
+following ts column between.Comma at = if kind_at k.Comma (seen ts column at) then Some (at + 1) else None
+following ts column (between.Bullet b) at = if is_bullet_at column b (slice_get ts at) then Some (at + 1) else None
+following ts column between.Arm at = if kind_at k.Box (seen ts column at) && not (kind_at k.Other (seen ts column (at + 1))) then Some (at + 1) else None
+following ts column between.Key at = if kind_at k.LeftBracket (seen ts column at) || kind_at k.Dot (seen ts column at) then Some at else None
+following ts column between.Product at = if kind_at k.Product (seen ts column at) then Some (at + 1) else None
+following ts column between.Nothing at = if kind_at k.Name (seen ts column at) then Some at else None
+
+module _ (text : List ℕ) (ts : List Token) where
+  -- names with commas between them
+  unfoldable pub names : ℕ → List Written → ℕ → ℕ → Outcome (List Written)
+  names zero front column at = Err Refused
+  names (suc n) front column at = at_op (name_at (seen ts column at)) (Err Refused) (λ t.
+      if kind_at k.Comma (seen ts column (at + 1)) then names n (front ++ written text t ∷ []) column (at + 2) else Ok (front ++ written text t ∷ [], at + 1))
+
+  -- `inner` reads an expression in a scope, whose top is above a floor, one level deeper
+  module _ (inner : Scope → ℕ → ℕ → Outcome Tree) where
+    -- expressions with commas or bullets between them
+    abbrev pub exprs : ℕ → List Tree → Scope → Between → ℕ → Outcome (List Tree)
+    exprs n front s m at = sequence (inner s 0) (following ts s.column m) n front at
+
+    -- one expression or more, and the closing bracket
+    unfoldable pub some : Scope → Kind → ℕ → Outcome Trees
+    some s close at = exprs (length ts) [] s between.Comma at >>= λ es after. need (kind_at close (seen ts s.column after)) (Ok (trees es, after + 1))
+
+    unfoldable pub listing : Scope → Place → Brackets → ℕ → Outcome Tree
+    listing s p b at = if kind_at (closing b) (seen ts s.column (at + 1)) then Ok (Listing p b none, at + 2) else (some s (closing b) (at + 1) >>= λ es end. Ok (Listing p b es, end))
+
+    unfoldable pub call : Scope → Token → ℕ → Outcome Tree
+    call s t at = some s k.RightParen (at + 2) >>= λ es end. Ok (Call (written text t) es, end)
+
+    -- a group of a binder list
+    unfoldable pub group : Scope → ℕ → Outcome Group
+    group s at = names (length ts) [] s.column at >>= λ ws after. need (kind_at k.Member (seen ts s.column after)) (inner s 0 (after + 1) >>= λ e end. Ok ((ws, e), end))
+
+    abbrev pub groups : ℕ → List Group → Scope → ℕ → Outcome (List Group)
+    groups n front s at = sequence (group s) (following ts s.column between.Comma) n front at
+
+    unfoldable pub paren : Scope → Place → ℕ → Outcome Tree
+    paren s p at = inner s 0 (at + 1) >>= λ e after. need (kind_at k.RightParen (seen ts s.column after)) (Ok (Paren p e, after + 1))

@@ -1,0 +1,459 @@
+//! Forms in brackets and braces, and subscripts.
+
+ghost use Rattle.std.specs.Prelude.{◌≡◌, ℕ, ◌+◌, ◌-◌, ◌≤◌, ◌<◌, length, slice_get, suc, IfOk, IfErr, OnOk, map, [], ◌∷◌, ◌++◌};
+ghost use Rattle.tla_parse.specs.View.{view, group_view, field_view, key_view, update_view};
+ghost use Rattle.tla_parse.specs.Tree as tree;
+ghost use Rattle.tla_parse.specs.Tree.{trees, binders};
+ghost use Rattle.tla_parse.specs.Edges as edges;
+ghost use Rattle.tla_parse.specs.Reading.{expr};
+ghost use Rattle.tla_parse.specs.ReadingBrackets as reading;
+ghost use Rattle.tla_parse.specs.Gives.{Gives, GivesItems, GivesTrees};
+ghost use Rattle.tla_parse.specs.Nests.{Nests};
+
+use crate::ahead::{Opened, binds, filters, opened_by};
+use crate::grammar::Grammar;
+use crate::parts::{Parsed, ParsedItems, boxed, image_of, listing_of, mapping_of, push};
+use crate::refusal::Refusal;
+use crate::scope::Scope;
+use crate::tokens::{Between, following, is_kind, name_at, refused, refused_form, seen, written};
+use crate::tree::{Brackets, Expr, Fairness, Step};
+use std::alloc::Global;
+use tla_lex::{Kind, Place, Token};
+
+impl<F: Fn(Global, &[u8], &[Token], usize, Scope, u8, usize) -> Result<Parsed, Refusal>> Grammar<
+    F,
+> {
+    /// The expressions behind the first, and the closing bracket.
+    #[tactic(auto, unfolding(crate::specs::ReadingBrackets::others))]
+    fn others(
+        &self,
+        text: &[u8],
+        tokens: &[Token],
+        scope: Scope,
+        close: Kind,
+        first: Parsed,
+    ) -> Result<ParsedItems, Refusal>
+        requires nests { Nests self.now.depth (F.pre self.now.expr) (F.post self.now.expr) }
+        requires depth { first.depth ≡ edges.depth (view first.tree) }
+        requires shallow { first.depth ≤ self.now.depth }
+        ensures { GivesTrees text.now tokens.now self.now.depth result (reading.others text.now tokens.now (expr text.now tokens.now self.now.depth) scope close (view first.tree) first.end) }
+    {
+        let mut items = Vec::new(self.alloc);
+        push(&mut items, first.tree)?;
+        let depth = first.depth;
+        let found = match following(tokens, scope.column, Between::Comma, first.end) {
+            None => ParsedItems {
+                items,
+                end: first.end,
+                depth,
+            },
+            Some(end) => {
+                let front = ParsedItems { items, end, depth };
+                self.exprs_behind(text, tokens, scope, Between::Comma, front)?
+            }
+        };
+        if !is_kind(close, seen(tokens, scope.column, found.end)) {
+            return Err(refused(tokens, scope.column, found.end));
+        }
+        Ok(ParsedItems {
+            items: found.items,
+            end: found.end + 1,
+            depth: found.depth,
+        })
+    }
+
+    /// A subscript: a name, a tuple or `(e)`.
+    #[tactic(auto, unfolding(crate::specs::ReadingBrackets::subscript), using(crate::proofs::Fails::refuses_fails))]
+    fn subscript(
+        &self,
+        text: &[u8],
+        tokens: &[Token],
+        scope: Scope,
+        from: usize,
+    ) -> Result<Parsed, Refusal>
+        requires nests { Nests self.now.depth (F.pre self.now.expr) (F.post self.now.expr) }
+        requires small { self.now.depth < 900 }
+        ensures { Gives text.now tokens.now (self.now.depth + 1) result (reading.subscript text.now tokens.now (expr text.now tokens.now self.now.depth) scope from) }
+    {
+        let Some(t) = seen(tokens, scope.column, from) else {
+            return Err(refused(tokens, scope.column, from));
+        };
+        match t.kind {
+            Kind::Name => Ok(Parsed {
+                tree: Expr::Name(written(self.alloc, text, t)?),
+                end: from + 1,
+                depth: 1,
+            }),
+            Kind::LeftTuple => self.listing(text, tokens, scope, t.place, Brackets::Tuple, from),
+            Kind::LeftParen => self.paren(text, tokens, scope, t.place, from),
+            _ => Err(refused(tokens, scope.column, from)),
+        }
+    }
+
+    /// The action that began at a token of this number, with the subscript behind its closing bracket.
+    #[tactic(auto, unfolding(crate::specs::ReadingBrackets::action))]
+    fn action(
+        &self,
+        text: &[u8],
+        tokens: &[Token],
+        scope: Scope,
+        start: usize,
+        at: Place,
+        step: Step,
+        first: Parsed,
+    ) -> Result<Parsed, Refusal>
+        requires nests { Nests self.now.depth (F.pre self.now.expr) (F.post self.now.expr) }
+        requires within { first.end < length tokens.now }
+        requires depth { first.depth ≡ edges.depth (view first.tree) }
+        requires shallow { first.depth ≤ self.now.depth }
+        requires small { self.now.depth < 900 }
+        ensures { Gives text.now tokens.now (self.now.depth + 1) result (reading.action text.now tokens.now (expr text.now tokens.now self.now.depth) (self.now.depth + 1) scope at step (view first.tree) first.end) }
+    {
+        let subscript = self.subscript(text, tokens, scope, first.end + 1)?;
+        let depth = first.depth.max(subscript.depth) + 1;
+        if depth > self.depth + 1 {
+            return Err(Refusal::Nesting(start));
+        }
+        let end = subscript.end;
+        let action = boxed(self.alloc, first.tree)?;
+        let subscript = boxed(self.alloc, subscript.tree)?;
+        Ok(Parsed {
+            tree: Expr::Action(at, step, action, subscript),
+            end,
+            depth,
+        })
+    }
+
+    /// `WF_v(A)` or `SF_v(A)`
+    #[tactic(auto, unfolding(crate::specs::ReadingBrackets::fair))]
+    pub fn fair(
+        &self,
+        text: &[u8],
+        tokens: &[Token],
+        scope: Scope,
+        at: Place,
+        fairness: Fairness,
+        from: usize,
+    ) -> Result<Parsed, Refusal>
+        requires nests { Nests self.now.depth (F.pre self.now.expr) (F.post self.now.expr) }
+        requires within { from < length tokens.now }
+        requires small { self.now.depth < 900 }
+        ensures { Gives text.now tokens.now (self.now.depth + 1) result (reading.fair text.now tokens.now (expr text.now tokens.now self.now.depth) (self.now.depth + 1) scope at fairness from) }
+    {
+        let subscript = self.subscript(text, tokens, scope, from + 1)?;
+        if !is_kind(Kind::LeftParen, seen(tokens, scope.column, subscript.end)) {
+            return Err(refused(tokens, scope.column, subscript.end));
+        }
+        let action = self.inner(text, tokens, scope, 0, subscript.end + 1)?;
+        if !is_kind(Kind::RightParen, seen(tokens, scope.column, action.end)) {
+            return Err(refused(tokens, scope.column, action.end));
+        }
+        let depth = subscript.depth.max(action.depth) + 1;
+        if depth > self.depth + 1 {
+            return Err(Refusal::Nesting(from));
+        }
+        let end = action.end + 1;
+        let subscript = boxed(self.alloc, subscript.tree)?;
+        let action = boxed(self.alloc, action.tree)?;
+        Ok(Parsed {
+            tree: Expr::Fair(at, fairness, subscript, action),
+            end,
+            depth,
+        })
+    }
+
+    /// `{x \in S : p}`
+    #[tactic(auto, unfolding(crate::specs::ReadingBrackets::filter))]
+    fn filter(
+        &self,
+        text: &[u8],
+        tokens: &[Token],
+        scope: Scope,
+        at: Place,
+        from: usize,
+    ) -> Result<Parsed, Refusal>
+        requires nests { Nests self.now.depth (F.pre self.now.expr) (F.post self.now.expr) }
+        requires within { from < length tokens.now }
+        requires small { self.now.depth < 900 }
+        ensures { Gives text.now tokens.now (self.now.depth + 1) result (reading.filter text.now tokens.now (expr text.now tokens.now self.now.depth) scope at from) }
+    {
+        let Some(name) = name_at(seen(tokens, scope.column, from + 1)) else {
+            return Err(refused(tokens, scope.column, from + 1));
+        };
+        let name = written(self.alloc, text, name)?;
+        let set = self.inner(text, tokens, scope, 0, from + 3)?;
+        if !is_kind(Kind::Colon, seen(tokens, scope.column, set.end)) {
+            return Err(refused(tokens, scope.column, set.end));
+        }
+        let test = self.inner(text, tokens, scope, 0, set.end + 1)?;
+        if !is_kind(Kind::RightBrace, seen(tokens, scope.column, test.end)) {
+            return Err(refused(tokens, scope.column, test.end));
+        }
+        let end = test.end + 1;
+        let depth = set.depth.max(test.depth) + 1;
+        let set = boxed(self.alloc, set.tree)?;
+        let test = boxed(self.alloc, test.tree)?;
+        Ok(Parsed {
+            tree: Expr::Filter(at, name, set, test),
+            end,
+            depth,
+        })
+    }
+
+    /// `{e : x, y \in S}`, behind e; the form begins at a token of this number.
+    #[tactic(auto, unfolding(crate::specs::ReadingBrackets::image))]
+    fn image(
+        &self,
+        text: &[u8],
+        tokens: &[Token],
+        scope: Scope,
+        at: Place,
+        start: usize,
+        first: Parsed,
+    ) -> Result<Parsed, Refusal>
+        requires nests { Nests self.now.depth (F.pre self.now.expr) (F.post self.now.expr) }
+        requires within { first.end < length tokens.now }
+        requires depth { first.depth ≡ edges.depth (view first.tree) }
+        requires shallow { first.depth ≤ self.now.depth }
+        requires small { self.now.depth < 900 }
+        ensures { Gives text.now tokens.now (self.now.depth + 1) result (reading.image text.now tokens.now (expr text.now tokens.now self.now.depth) scope at (view first.tree) first.end) }
+    {
+        let found = self.groups(text, tokens, scope, start, first.end + 1)?;
+        if !is_kind(Kind::RightBrace, seen(tokens, scope.column, found.end)) {
+            return Err(refused(tokens, scope.column, found.end));
+        }
+        let end = found.end + 1;
+        let depth = first.depth.max(found.depth) + 1;
+        let element = boxed(self.alloc, first.tree)?;
+        Ok(Parsed {
+            tree: image_of(at, element, found.binders),
+            end,
+            depth,
+        })
+    }
+
+    /// A set, behind its first expression.
+    #[tactic(auto, unfolding(crate::specs::ReadingBrackets::set_of))]
+    fn set_of(
+        &self,
+        text: &[u8],
+        tokens: &[Token],
+        scope: Scope,
+        at: Place,
+        from: usize,
+        first: Parsed,
+    ) -> Result<Parsed, Refusal>
+        requires nests { Nests self.now.depth (F.pre self.now.expr) (F.post self.now.expr) }
+        requires within { from < length tokens.now }
+        requires depth { first.depth ≡ edges.depth (view first.tree) }
+        requires shallow { first.depth ≤ self.now.depth }
+        requires small { self.now.depth < 900 }
+        ensures { Gives text.now tokens.now (self.now.depth + 1) result (reading.set_of text.now tokens.now (expr text.now tokens.now self.now.depth) scope at from (view first.tree) first.end) }
+    {
+        if is_kind(Kind::Colon, seen(tokens, scope.column, first.end)) {
+            if binds(tokens, scope.column, from + 1) {
+                return Err(refused(tokens, scope.column, first.end));
+            }
+            return self.image(text, tokens, scope, at, from, first);
+        }
+        let found = self.others(text, tokens, scope, Kind::RightBrace, first)?;
+        let end = found.end;
+        let depth = found.depth + 1;
+        Ok(Parsed {
+            tree: listing_of(at, Brackets::Set, found.items),
+            end,
+            depth,
+        })
+    }
+
+    /// A form in braces.
+    #[tactic(auto, unfolding(crate::specs::ReadingBrackets::brace))]
+    pub fn brace(
+        &self,
+        text: &[u8],
+        tokens: &[Token],
+        scope: Scope,
+        at: Place,
+        from: usize,
+    ) -> Result<Parsed, Refusal>
+        requires nests { Nests self.now.depth (F.pre self.now.expr) (F.post self.now.expr) }
+        requires within { from < length tokens.now }
+        requires small { self.now.depth < 900 }
+        ensures { Gives text.now tokens.now (self.now.depth + 1) result (reading.brace text.now tokens.now (expr text.now tokens.now self.now.depth) scope at from) }
+    {
+        if is_kind(Kind::RightBrace, seen(tokens, scope.column, from + 1)) {
+            return Ok(Parsed {
+                tree: listing_of(at, Brackets::Set, Vec::new(self.alloc)),
+                end: from + 2,
+                depth: 1,
+            });
+        }
+        if filters(tokens, scope.column, from + 1) {
+            return self.filter(text, tokens, scope, at, from);
+        }
+        let first = self.inner(text, tokens, scope, 0, from + 1)?;
+        self.set_of(text, tokens, scope, at, from, first)
+    }
+
+    /// `<<e, ..>>` or `<<A>>_v`
+    #[tactic(auto, unfolding(crate::specs::ReadingBrackets::tuple))]
+    pub fn tuple(
+        &self,
+        text: &[u8],
+        tokens: &[Token],
+        scope: Scope,
+        at: Place,
+        from: usize,
+    ) -> Result<Parsed, Refusal>
+        requires nests { Nests self.now.depth (F.pre self.now.expr) (F.post self.now.expr) }
+        requires within { from < length tokens.now }
+        requires small { self.now.depth < 900 }
+        ensures { Gives text.now tokens.now (self.now.depth + 1) result (reading.tuple text.now tokens.now (expr text.now tokens.now self.now.depth) (self.now.depth + 1) scope at from) }
+    {
+        if is_kind(Kind::RightTuple, seen(tokens, scope.column, from + 1)) {
+            return Ok(Parsed {
+                tree: listing_of(at, Brackets::Tuple, Vec::new(self.alloc)),
+                end: from + 2,
+                depth: 1,
+            });
+        }
+        let first = self.inner(text, tokens, scope, 0, from + 1)?;
+        if is_kind(
+            Kind::RightTupleSubscript,
+            seen(tokens, scope.column, first.end),
+        ) {
+            return self.action(text, tokens, scope, from, at, Step::Angle, first);
+        }
+        let found = self.others(text, tokens, scope, Kind::RightTuple, first)?;
+        let end = found.end;
+        let depth = found.depth + 1;
+        Ok(Parsed {
+            tree: listing_of(at, Brackets::Tuple, found.items),
+            end,
+            depth,
+        })
+    }
+
+    /// `[x, y \in S |-> e]`
+    #[tactic(auto, unfolding(crate::specs::ReadingBrackets::mapping))]
+    fn mapping(
+        &self,
+        text: &[u8],
+        tokens: &[Token],
+        scope: Scope,
+        at: Place,
+        from: usize,
+    ) -> Result<Parsed, Refusal>
+        requires nests { Nests self.now.depth (F.pre self.now.expr) (F.post self.now.expr) }
+        requires within { from < length tokens.now }
+        requires small { self.now.depth < 900 }
+        ensures { Gives text.now tokens.now (self.now.depth + 1) result (reading.mapping text.now tokens.now (expr text.now tokens.now self.now.depth) scope at from) }
+    {
+        let found = self.groups(text, tokens, scope, from, from + 1)?;
+        if !is_kind(Kind::MapsTo, seen(tokens, scope.column, found.end)) {
+            return Err(refused(tokens, scope.column, found.end));
+        }
+        let body = self.inner(text, tokens, scope, 0, found.end + 1)?;
+        if !is_kind(Kind::RightBracket, seen(tokens, scope.column, body.end)) {
+            return Err(refused(tokens, scope.column, body.end));
+        }
+        let end = body.end + 1;
+        let depth = found.depth.max(body.depth) + 1;
+        let body = boxed(self.alloc, body.tree)?;
+        Ok(Parsed {
+            tree: mapping_of(at, found.binders, body),
+            end,
+            depth,
+        })
+    }
+
+    /// `[S -> T]`, behind S.
+    #[tactic(auto, unfolding(crate::specs::ReadingBrackets::function_set))]
+    fn function_set(
+        &self,
+        text: &[u8],
+        tokens: &[Token],
+        scope: Scope,
+        at: Place,
+        first: Parsed,
+    ) -> Result<Parsed, Refusal>
+        requires nests { Nests self.now.depth (F.pre self.now.expr) (F.post self.now.expr) }
+        requires within { first.end < length tokens.now }
+        requires depth { first.depth ≡ edges.depth (view first.tree) }
+        requires shallow { first.depth ≤ self.now.depth }
+        requires small { self.now.depth < 900 }
+        ensures { Gives text.now tokens.now (self.now.depth + 1) result (reading.function_set text.now tokens.now (expr text.now tokens.now self.now.depth) scope at (view first.tree) first.end) }
+    {
+        let range = self.inner(text, tokens, scope, 0, first.end + 1)?;
+        if !is_kind(Kind::RightBracket, seen(tokens, scope.column, range.end)) {
+            return Err(refused(tokens, scope.column, range.end));
+        }
+        let end = range.end + 1;
+        let depth = first.depth.max(range.depth) + 1;
+        let domain = boxed(self.alloc, first.tree)?;
+        let range = boxed(self.alloc, range.tree)?;
+        Ok(Parsed {
+            tree: Expr::FunctionSet(at, domain, range),
+            end,
+            depth,
+        })
+    }
+
+    /// A form in brackets that begins with an expression, behind that.
+    #[tactic(auto, unfolding(crate::specs::ReadingBrackets::behind_first))]
+    fn behind_first(
+        &self,
+        text: &[u8],
+        tokens: &[Token],
+        scope: Scope,
+        at: Place,
+        start: usize,
+        first: Parsed,
+    ) -> Result<Parsed, Refusal>
+        requires nests { Nests self.now.depth (F.pre self.now.expr) (F.post self.now.expr) }
+        requires depth { first.depth ≡ edges.depth (view first.tree) }
+        requires shallow { first.depth ≤ self.now.depth }
+        requires small { self.now.depth < 900 }
+        ensures { Gives text.now tokens.now (self.now.depth + 1) result (reading.behind_first text.now tokens.now (expr text.now tokens.now self.now.depth) (self.now.depth + 1) scope at (view first.tree) first.end) }
+    {
+        if is_kind(Kind::Arrow, seen(tokens, scope.column, first.end)) {
+            return self.function_set(text, tokens, scope, at, first);
+        }
+        if is_kind(Kind::Except, seen(tokens, scope.column, first.end)) {
+            return self.except(text, tokens, scope, at, first);
+        }
+        if !is_kind(
+            Kind::RightBracketSubscript,
+            seen(tokens, scope.column, first.end),
+        ) {
+            return Err(refused_form(tokens, scope.column, start, first.end));
+        }
+        self.action(text, tokens, scope, start, at, Step::Box, first)
+    }
+
+    /// A form in brackets.
+    #[tactic(auto, unfolding(crate::specs::ReadingBrackets::bracket))]
+    pub fn bracket(
+        &self,
+        text: &[u8],
+        tokens: &[Token],
+        scope: Scope,
+        at: Place,
+        from: usize,
+    ) -> Result<Parsed, Refusal>
+        requires nests { Nests self.now.depth (F.pre self.now.expr) (F.post self.now.expr) }
+        requires within { from < length tokens.now }
+        requires small { self.now.depth < 900 }
+        ensures { Gives text.now tokens.now (self.now.depth + 1) result (reading.bracket text.now tokens.now (expr text.now tokens.now self.now.depth) (self.now.depth + 1) scope at from) }
+    {
+        match opened_by(tokens, scope.column, from + 1) {
+            Opened::Record => self.record(text, tokens, scope, at, from),
+            Opened::RecordSet => self.record_set(text, tokens, scope, at, from),
+            Opened::Binders => self.mapping(text, tokens, scope, at, from),
+            Opened::Expression => {
+                let first = self.inner(text, tokens, scope, 0, from + 1)?;
+                self.behind_first(text, tokens, scope, at, from, first)
+            }
+        }
+    }
+}

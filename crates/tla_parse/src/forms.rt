@@ -1,0 +1,404 @@
+//! Forms that begin with a word or a quantifier, and definitions.
+
+ghost use Rattle.std.specs.Prelude.{◌+◌, ◌-◌, ◌≤◌, ◌<◌, length, []};
+ghost use Rattle.tla_parse.specs.Reading as reading;
+ghost use Rattle.tla_parse.specs.Gives.{Gives, GivesArm, GivesArms, GivesDefinition, GivesDefinitions};
+ghost use Rattle.tla_parse.specs.Nests.{Nests};
+
+use crate::grammar::Grammar;
+use crate::names::names;
+use crate::parts::{
+    Parsed, ParsedArm, ParsedArms, ParsedDefinition, ParsedDefinitions, boxed, case_of,
+    case_with_other, function_of, let_of, push_arm, push_definition, quantified_of,
+};
+use crate::refusal::Refusal;
+use crate::scope::Scope;
+use crate::tokens::{
+    Between, following, is_kind, name_at, refused, refused_choice, refused_name, refused_parameter,
+    seen, written,
+};
+use crate::tree::{Arm, Definition, Expr, Quantifier};
+use std::alloc::Global;
+use tla_lex::{Kind, Place, Token};
+
+impl<F: Fn(Global, &[u8], &[Token], usize, Scope, u8, usize) -> Result<Parsed, Refusal>> Grammar<
+    F,
+> {
+    /// `\A x, y \in S, z \in T : p` or `\E x, y \in S, z \in T : p`
+    #[tactic(auto, unfolding(crate::specs::Reading::quantified))]
+    pub fn quantified(
+        &self,
+        text: &[u8],
+        tokens: &[Token],
+        scope: Scope,
+        at: Place,
+        quantifier: Quantifier,
+        from: usize,
+    ) -> Result<Parsed, Refusal>
+        requires nests { Nests self.now.depth (F.pre self.now.expr) (F.post self.now.expr) }
+        requires within { from < length tokens.now }
+        requires small { self.now.depth < 900 }
+        ensures { Gives text.now tokens.now (self.now.depth + 1) result (reading.quantified text.now tokens.now (reading.expr text.now tokens.now self.now.depth) scope at quantifier from) }
+    {
+        let found = self.groups(text, tokens, scope, from, from + 1)?;
+        if !is_kind(Kind::Colon, seen(tokens, scope.column, found.end)) {
+            return Err(refused(tokens, scope.column, found.end));
+        }
+        let body = self.inner(text, tokens, scope, 0, found.end + 1)?;
+        let end = body.end;
+        let depth = found.depth.max(body.depth) + 1;
+        let body = boxed(self.alloc, body.tree)?;
+        Ok(Parsed {
+            tree: quantified_of(at, quantifier, found.binders, body),
+            end,
+            depth,
+        })
+    }
+
+    /// `CHOOSE x \in S : p`
+    #[tactic(auto, unfolding(crate::specs::Reading::chosen))]
+    pub fn chosen(
+        &self,
+        text: &[u8],
+        tokens: &[Token],
+        scope: Scope,
+        at: Place,
+        from: usize,
+    ) -> Result<Parsed, Refusal>
+        requires nests { Nests self.now.depth (F.pre self.now.expr) (F.post self.now.expr) }
+        requires within { from < length tokens.now }
+        requires small { self.now.depth < 900 }
+        ensures { Gives text.now tokens.now (self.now.depth + 1) result (reading.chosen text.now tokens.now (reading.expr text.now tokens.now self.now.depth) scope at from) }
+    {
+        let Some(name) = name_at(seen(tokens, scope.column, from + 1)) else {
+            return Err(refused_name(tokens, scope.column, from + 1));
+        };
+        let name = written(self.alloc, text, name)?;
+        if !is_kind(Kind::Member, seen(tokens, scope.column, from + 2)) {
+            return Err(refused_choice(tokens, scope.column, from));
+        }
+        let set = self.inner(text, tokens, scope, 0, from + 3)?;
+        if !is_kind(Kind::Colon, seen(tokens, scope.column, set.end)) {
+            return Err(refused(tokens, scope.column, set.end));
+        }
+        let body = self.inner(text, tokens, scope, 0, set.end + 1)?;
+        let end = body.end;
+        let depth = set.depth.max(body.depth) + 1;
+        let set = boxed(self.alloc, set.tree)?;
+        let body = boxed(self.alloc, body.tree)?;
+        Ok(Parsed {
+            tree: Expr::Choose(at, name, set, body),
+            end,
+            depth,
+        })
+    }
+
+    /// `IF p THEN a ELSE b`
+    #[tactic(auto, unfolding(crate::specs::Reading::choice))]
+    pub fn choice(
+        &self,
+        text: &[u8],
+        tokens: &[Token],
+        scope: Scope,
+        at: Place,
+        from: usize,
+    ) -> Result<Parsed, Refusal>
+        requires nests { Nests self.now.depth (F.pre self.now.expr) (F.post self.now.expr) }
+        requires within { from < length tokens.now }
+        requires small { self.now.depth < 900 }
+        ensures { Gives text.now tokens.now (self.now.depth + 1) result (reading.choice text.now tokens.now (reading.expr text.now tokens.now self.now.depth) scope at from) }
+    {
+        let condition = self.inner(text, tokens, scope, 0, from + 1)?;
+        if !is_kind(Kind::Then, seen(tokens, scope.column, condition.end)) {
+            return Err(refused(tokens, scope.column, condition.end));
+        }
+        let first = self.inner(text, tokens, scope, 0, condition.end + 1)?;
+        if !is_kind(Kind::Else, seen(tokens, scope.column, first.end)) {
+            return Err(refused(tokens, scope.column, first.end));
+        }
+        let second = self.inner(text, tokens, scope, 0, first.end + 1)?;
+        let end = second.end;
+        let depth = condition.depth.max(first.depth.max(second.depth)) + 1;
+        let condition = boxed(self.alloc, condition.tree)?;
+        let first = boxed(self.alloc, first.tree)?;
+        let second = boxed(self.alloc, second.tree)?;
+        Ok(Parsed {
+            tree: Expr::If(at, condition, first, second),
+            end,
+            depth,
+        })
+    }
+
+    /// An arm of CASE.
+    #[tactic(auto, unfolding(crate::specs::Reading::arm_at))]
+    fn arm_at(
+        &self,
+        text: &[u8],
+        tokens: &[Token],
+        scope: Scope,
+        from: usize,
+    ) -> Result<ParsedArm, Refusal>
+        requires nests { Nests self.now.depth (F.pre self.now.expr) (F.post self.now.expr) }
+        ensures { GivesArm text.now tokens.now self.now.depth result (reading.arm_at text.now tokens.now (reading.expr text.now tokens.now self.now.depth) scope from) }
+    {
+        let guard = self.inner(text, tokens, scope, 0, from)?;
+        if !is_kind(Kind::Arrow, seen(tokens, scope.column, guard.end)) {
+            return Err(refused(tokens, scope.column, guard.end));
+        }
+        let value = self.inner(text, tokens, scope, 0, guard.end + 1)?;
+        Ok(ParsedArm {
+            arm: Arm {
+                guard: guard.tree,
+                value: value.tree,
+            },
+            end: value.end,
+            depth: guard.depth.max(value.depth),
+        })
+    }
+
+    /// The arms of CASE, but for OTHER.
+    #[tactic(auto, using(crate::proofs::Steps::arms_depth_snoc))]
+    fn arms_at(
+        &self,
+        text: &[u8],
+        tokens: &[Token],
+        scope: Scope,
+        from: usize,
+    ) -> Result<ParsedArms, Refusal>
+        requires nests { Nests self.now.depth (F.pre self.now.expr) (F.post self.now.expr) }
+        ensures { GivesArms text.now tokens.now self.now.depth result (reading.arms_at text.now tokens.now (reading.expr text.now tokens.now self.now.depth) (length tokens.now) [] scope from) }
+    {
+        let mut arms = Vec::new(self.alloc);
+        let mut depth = 0;
+        let mut at = from;
+        for _turn in 0..tokens.len() {
+            let found = self.arm_at(text, tokens, scope, at)?;
+            let end = found.end;
+            depth = depth.max(found.depth);
+            push_arm(&mut arms, found.arm)?;
+            let Some(next) = following(tokens, scope.column, Between::Arm, end) else {
+                return Ok(ParsedArms { arms, end, depth });
+            };
+            at = next;
+        }
+        Err(refused(tokens, scope.column, at))
+    }
+
+    /// `CASE p -> a [] .. [] OTHER -> b`
+    #[tactic(auto, unfolding(crate::specs::Reading::cases))]
+    pub fn cases(
+        &self,
+        text: &[u8],
+        tokens: &[Token],
+        scope: Scope,
+        at: Place,
+        from: usize,
+    ) -> Result<Parsed, Refusal>
+        requires nests { Nests self.now.depth (F.pre self.now.expr) (F.post self.now.expr) }
+        requires within { from < length tokens.now }
+        requires small { self.now.depth < 900 }
+        ensures { Gives text.now tokens.now (self.now.depth + 1) result (reading.cases text.now tokens.now (reading.expr text.now tokens.now self.now.depth) scope at from) }
+    {
+        let found = self.arms_at(text, tokens, scope, from + 1)?;
+        let end = found.end;
+        if !is_kind(Kind::Box, seen(tokens, scope.column, end)) {
+            let depth = found.depth + 1;
+            return Ok(Parsed {
+                tree: case_of(at, found.arms),
+                end,
+                depth,
+            });
+        }
+        if !is_kind(Kind::Other, seen(tokens, scope.column, end + 1)) {
+            return Err(refused(tokens, scope.column, end + 1));
+        }
+        if !is_kind(Kind::Arrow, seen(tokens, scope.column, end + 2)) {
+            return Err(refused(tokens, scope.column, end + 2));
+        }
+        let value = self.inner(text, tokens, scope, 0, end + 3)?;
+        let depth = found.depth.max(value.depth) + 1;
+        let end = value.end;
+        let value = boxed(self.alloc, value.tree)?;
+        Ok(Parsed {
+            tree: case_with_other(at, found.arms, value),
+            end,
+            depth,
+        })
+    }
+
+    /// `Op(p, ..) == e`, from its first parameter on; the name is the token at `form`.
+    #[tactic(auto, unfolding(crate::specs::Reading::operator))]
+    fn operator(
+        &self,
+        text: &[u8],
+        tokens: &[Token],
+        scope: Scope,
+        t: Token,
+        form: usize,
+        from: usize,
+    ) -> Result<ParsedDefinition, Refusal>
+        requires nests { Nests self.now.depth (F.pre self.now.expr) (F.post self.now.expr) }
+        requires within { from ≤ length tokens.now }
+        ensures { GivesDefinition text.now tokens.now self.now.depth result (reading.operator text.now tokens.now (reading.expr text.now tokens.now self.now.depth) scope t from) }
+    {
+        let found = names(self.alloc, text, tokens, scope.column, from)?;
+        let end = found.end;
+        if !is_kind(Kind::RightParen, seen(tokens, scope.column, end)) {
+            return Err(refused_parameter(tokens, scope.column, form, end));
+        }
+        if !is_kind(Kind::Define, seen(tokens, scope.column, end + 1)) {
+            return Err(refused(tokens, scope.column, end + 1));
+        }
+        let body = self.inner(text, tokens, scope, 0, end + 2)?;
+        let name = written(self.alloc, text, t)?;
+        Ok(ParsedDefinition {
+            definition: Definition::Operator(name, found.names, body.tree),
+            end: body.end,
+            depth: body.depth,
+        })
+    }
+
+    /// `f[x \in S, ..] == e`, from its first parameter on; the name is the token at `form`.
+    #[tactic(auto, unfolding(crate::specs::Reading::function))]
+    fn function(
+        &self,
+        text: &[u8],
+        tokens: &[Token],
+        scope: Scope,
+        t: Token,
+        form: usize,
+        from: usize,
+    ) -> Result<ParsedDefinition, Refusal>
+        requires nests { Nests self.now.depth (F.pre self.now.expr) (F.post self.now.expr) }
+        requires within { from ≤ length tokens.now }
+        ensures { GivesDefinition text.now tokens.now self.now.depth result (reading.function text.now tokens.now (reading.expr text.now tokens.now self.now.depth) scope t from) }
+    {
+        let found = self.groups(text, tokens, scope, form, from)?;
+        let end = found.end;
+        if !is_kind(Kind::RightBracket, seen(tokens, scope.column, end)) {
+            return Err(refused(tokens, scope.column, end));
+        }
+        if !is_kind(Kind::Define, seen(tokens, scope.column, end + 1)) {
+            return Err(refused(tokens, scope.column, end + 1));
+        }
+        let body = self.inner(text, tokens, scope, 0, end + 2)?;
+        let name = written(self.alloc, text, t)?;
+        Ok(ParsedDefinition {
+            definition: function_of(name, found.binders, body.tree),
+            end: body.end,
+            depth: found.depth.max(body.depth),
+        })
+    }
+
+    /// The definition that begins with this name.
+    #[tactic(auto, unfolding(crate::specs::Reading::defined))]
+    fn defined(
+        &self,
+        text: &[u8],
+        tokens: &[Token],
+        scope: Scope,
+        t: Token,
+        from: usize,
+    ) -> Result<ParsedDefinition, Refusal>
+        requires nests { Nests self.now.depth (F.pre self.now.expr) (F.post self.now.expr) }
+        requires within { from < length tokens.now }
+        ensures { GivesDefinition text.now tokens.now self.now.depth result (reading.defined text.now tokens.now (reading.expr text.now tokens.now self.now.depth) scope t from) }
+    {
+        if is_kind(Kind::Define, seen(tokens, scope.column, from + 1)) {
+            let body = self.inner(text, tokens, scope, 0, from + 2)?;
+            let name = written(self.alloc, text, t)?;
+            return Ok(ParsedDefinition {
+                definition: Definition::Operator(name, Vec::new(self.alloc), body.tree),
+                end: body.end,
+                depth: body.depth,
+            });
+        }
+        if is_kind(Kind::LeftParen, seen(tokens, scope.column, from + 1)) {
+            return self.operator(text, tokens, scope, t, from, from + 2);
+        }
+        if !is_kind(Kind::LeftBracket, seen(tokens, scope.column, from + 1)) {
+            return Err(refused(tokens, scope.column, from + 1));
+        }
+        self.function(text, tokens, scope, t, from, from + 2)
+    }
+
+    /// A definition.
+    #[tactic(auto, unfolding(crate::specs::Reading::definition))]
+    pub fn definition(
+        &self,
+        text: &[u8],
+        tokens: &[Token],
+        scope: Scope,
+        from: usize,
+    ) -> Result<ParsedDefinition, Refusal>
+        requires nests { Nests self.now.depth (F.pre self.now.expr) (F.post self.now.expr) }
+        ensures { GivesDefinition text.now tokens.now self.now.depth result (reading.definition text.now tokens.now (reading.expr text.now tokens.now self.now.depth) scope from) }
+    {
+        let Some(t) = name_at(seen(tokens, scope.column, from)) else {
+            return Err(refused(tokens, scope.column, from));
+        };
+        self.defined(text, tokens, scope, t, from)
+    }
+
+    /// The definitions of LET.
+    #[tactic(auto, using(crate::proofs::Steps::definitions_depth_snoc))]
+    fn definitions_at(
+        &self,
+        text: &[u8],
+        tokens: &[Token],
+        scope: Scope,
+        from: usize,
+    ) -> Result<ParsedDefinitions, Refusal>
+        requires nests { Nests self.now.depth (F.pre self.now.expr) (F.post self.now.expr) }
+        ensures { GivesDefinitions text.now tokens.now self.now.depth result (reading.definitions_at text.now tokens.now (reading.expr text.now tokens.now self.now.depth) (length tokens.now) [] scope from) }
+    {
+        let mut definitions = Vec::new(self.alloc);
+        let mut depth = 0;
+        let mut at = from;
+        for _turn in 0..tokens.len() {
+            let found = self.definition(text, tokens, scope, at)?;
+            let end = found.end;
+            depth = depth.max(found.depth);
+            push_definition(&mut definitions, found.definition)?;
+            let Some(next) = following(tokens, scope.column, Between::Nothing, end) else {
+                return Ok(ParsedDefinitions {
+                    definitions,
+                    end,
+                    depth,
+                });
+            };
+            at = next;
+        }
+        Err(refused(tokens, scope.column, at))
+    }
+
+    /// `LET` definitions `IN e`
+    #[tactic(auto, unfolding(crate::specs::Reading::lets))]
+    pub fn lets(
+        &self,
+        text: &[u8],
+        tokens: &[Token],
+        scope: Scope,
+        at: Place,
+        from: usize,
+    ) -> Result<Parsed, Refusal>
+        requires nests { Nests self.now.depth (F.pre self.now.expr) (F.post self.now.expr) }
+        requires within { from < length tokens.now }
+        requires small { self.now.depth < 900 }
+        ensures { Gives text.now tokens.now (self.now.depth + 1) result (reading.lets text.now tokens.now (reading.expr text.now tokens.now self.now.depth) scope at from) }
+    {
+        let found = self.definitions_at(text, tokens, scope, from + 1)?;
+        if !is_kind(Kind::In, seen(tokens, scope.column, found.end)) {
+            return Err(refused(tokens, scope.column, found.end));
+        }
+        let body = self.inner(text, tokens, scope, 0, found.end + 1)?;
+        let end = body.end;
+        let depth = found.depth.max(body.depth) + 1;
+        let body = boxed(self.alloc, body.tree)?;
+        Ok(Parsed {
+            tree: let_of(at, found.definitions, body),
+            end,
+            depth,
+        })
+    }
+}
