@@ -1,5 +1,5 @@
 -- Whether the arguments of some pairs are the values beside them.
-use Rattle.std.proofs.Common.{◌≡◌, ℕ, suc, ◌+◌, ◌<◌, Bool, true, false, List, [], ◌∷◌, map, length, drop, get_or, refl, sym, ap, ◌∙◌, subst, true≢false, add-one}
+use Rattle.std.proofs.Common.{◌≡◌, ℕ, suc, ◌+◌, ◌<◌, Bool, true, false, List, ◌∷◌, map, length, drop, get_or, refl, sym, ap, ◌∙◌, true≢false, add-one}
 use Rattle.tla_value.specs.Tree.{Tree, Trees, set, more_trees, trees, members-trees, members}
 use Rattle.tla_value.specs.TreeOf.{tree_of, pair_of}
 use Rattle.tla_value.specs.Order.{tree_eq}

@@ -1,5 +1,5 @@
 -- The values of a body for all choices from some lists, and what is kept of a list.
-use Rattle.std.proofs.Common.{◌≡◌, ℕ, suc, ◌+◌, ◌<◌, Bool, true, false, cond, List, [], ◌∷◌, ◌++◌, map, length, drop, get_or, Ok, Err, refl, sym, ap, subst, ◌∙◌, add-one, drop-cons, append_assoc}
+use Rattle.std.proofs.Common.{◌≡◌, ℕ, suc, ◌+◌, ◌<◌, Bool, true, false, cond, List, [], ◌∷◌, ◌++◌, map, length, drop, get_or, Ok, Err, refl, sym, ap, ◌∙◌, add-one, drop-cons, append_assoc}
 use Rattle.std.proofs.lemmas.List.{map-append}
 use Rattle.tla_value.specs.Tree.{Tree}
 use Rattle.tla_value.specs.TreeOf.{tree_of}
@@ -83,7 +83,7 @@ module _ (e : Meaning) (b : Bound) (s : Present) (t : Next) (kept : List Tree) w
       → then_more kept (values_for e b s t (map tree_of (drop i items) ∷ rest)) ≡ then_more new (values_for e b s t (map tree_of (drop (i + 1) items) ∷ rest))
   chosen_step items i x rest new is h k = chosen_from items i x rest is h ∙ ap (λ (o : Outcome (List Tree)). o >>= λ n. then_more n (values_for e b s t (map tree_of (drop (i + 1) items) ∷ rest))) k
 
-bind_assoc : {A B C : Type 0} (o : Outcome A) (k : A → Outcome B) (l : B → Outcome C) → ((o >>= k) >>= l) ≡ (o >>= λ x. k x >>= l)
+pub bind_assoc : {A B C : Type 0} (o : Outcome A) (k : A → Outcome B) (l : B → Outcome C) → ((o >>= k) >>= l) ≡ (o >>= λ x. k x >>= l)
 bind_assoc (Ok x) k l = refl
 bind_assoc (Err e) k l = refl
 
@@ -106,7 +106,7 @@ function_is p ms e b s t = go (each (λ (m : Meaning). m.value b s t) ms)
     go (Ok vs) = both (each (as_set p) vs)
 
 -- as many values as choices
-same_list : {A : Type 0} (xs ys : List A) → (let r : Outcome (List A) = Ok xs in r ≡ Ok ys) → xs ≡ ys
+pub same_list : {A : Type 0} (xs ys : List A) → (let r : Outcome (List A) = Ok xs in r ≡ Ok ys) → xs ≡ ys
 same_list xs ys h = cc
 
 pub each_long : {A B : Type 0} (f : A → Outcome B) (xs : List A) (ys : List B) → each f xs ≡ Ok ys → length ys ≡ length xs

@@ -1,5 +1,5 @@
 -- What is evaluated one by one and kept: one more turn of a loop, and its end.
-use Rattle.std.proofs.Common.{◌≡◌, ℕ, suc, ◌+◌, ◌<◌, ◌≤◌, max, Bool, true, false, cond, zip, List, [], ◌∷◌, ◌++◌, map, length, drop, get_or, Ok, Err, ap, sym, refl, ◌∙◌, append_assoc, arith}
+use Rattle.std.proofs.Common.{◌≡◌, ℕ, ◌≤◌, max, Bool, true, false, cond, zip, List, [], ◌∷◌, ◌++◌, map, length, Ok, Err, ap, sym, refl, ◌∙◌, append_assoc, arith}
 use Rattle.tla_value.specs.Tree.{Tree, text, fun, pairs, deepest_pair}
 use Rattle.std.specs.BTreeMap.{insert_entry}
 use Rattle.std.specs.Ordering.{match_ordering}
@@ -7,7 +7,7 @@ use Rattle.std.specs.declared.cmp.Ordering.TheVariants.{Less, Equal, Greater}
 use Rattle.tla_value.specs.Order.{tree_cmp}
 use Rattle.tla_value.specs.Funs.{fun_of}
 use Rattle.tla_value.specs.Choices.{keys_of, parts_of, choices}
-use Rattle.tla_eval.specs.Kinds.{within, as_set, make_set, make_fun}
+use Rattle.tla_eval.specs.Kinds.{within, make_fun}
 use Rattle.tla_eval.specs.Functions.{argument_of, function_on}
 use Rattle.tla_eval.specs.Meaning.{Meaning, Bound, Present, Next, means-record_of}
 use Rattle.tla_eval.specs.Gives.{named_value, record_rule}

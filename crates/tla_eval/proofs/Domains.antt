@@ -1,5 +1,5 @@
 -- The function on all choices from some lists: its arguments are the tuples in their order.
-use Rattle.std.proofs.Common.{◌≡◌, ◌⊎◌, ⊎_elim, ℕ, suc, ◌+◌, ◌<◌, ◌≤◌, nat_lt, max, Bool, true, false, List, [], ◌∷◌, ◌++◌, map, length, get_or, zip, refl, sym, ap, subst, ◌∙◌, Result, Ok, Err, Some, None, inl, inr, arith, pos}
+use Rattle.std.proofs.Common.{◌≡◌, ◌⊎◌, ⊎_elim, ℕ, suc, ◌+◌, ◌<◌, ◌≤◌, nat_lt, max, Bool, true, false, List, [], ◌∷◌, ◌++◌, map, length, get_or, zip, refl, sym, ap, subst, ◌∙◌, Ok, Err, Some, None, inl, inr, arith, pos}
 use Rattle.std.specs.List.{AllByRecursion}
 use Rattle.std.specs.List.Sorted.{IsStrictlySortedBy}
 use Rattle.std.proofs.lemmas.List.{length-map, map-append}
@@ -19,7 +19,7 @@ use Rattle.tla_value.proofs.Ranges.{length-counted_up}
 use Rattle.tla_value.proofs.Choosing.{long-choices, rising-functions_by}
 use Rattle.tla_value.proofs.FunctionSets.{most-functions_by}
 use Rattle.tla_value.proofs.Tuples.{tuples_are}
-use Rattle.tla_eval.specs.Fault.{Place, Fault, FaultCode, Outcome, ◌>>=◌, TooMany, TooDeep, fault, out_of_memory}
+use Rattle.tla_eval.specs.Fault.{Place, Fault, FaultCode, Outcome, ◌>>=◌, out_of_memory}
 use Rattle.tla_eval.specs.Kinds.{as_set, within, make_fun, make_function_set, size_of_functions}
 use Rattle.tla_eval.specs.Lists.{each}
 use Rattle.tla_eval.specs.Functions.{argument_of, names_in, function_on}

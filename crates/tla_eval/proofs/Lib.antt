@@ -12,6 +12,7 @@ pub mod Loops
 pub mod Numbered
 pub mod Collected
 pub mod Parts
+pub mod RecordSets
 pub mod Arguments
 pub mod Choices
 pub mod Domains

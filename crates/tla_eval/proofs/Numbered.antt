@@ -1,11 +1,10 @@
 -- Sequences: the pairs of a value that is one, and the sequence of some values.
-use Rattle.std.proofs.Common.{◌≡◌, ℕ, zero, suc, ◌+◌, ◌-◌, ◌≤◌, ◌<◌, max, Bool, true, false, List, [], ◌∷◌, ◌++◌, ℤ, map, length, take, drop, Option, Some, None, option_map, is_some, Ok, ap, refl, sym, ◌∙◌, arith, pos}
-use Rattle.std.specs.List.Sorted.{IsStrictlySortedBy}
+use Rattle.std.proofs.Common.{◌≡◌, ℕ, zero, suc, ◌+◌, ◌≤◌, ◌<◌, Bool, true, false, List, [], ◌∷◌, ◌++◌, ℤ, map, length, take, drop, Option, Some, None, option_map, is_some, Ok, ap, refl, sym, ◌∙◌, arith, pos}
 use Rattle.std.proofs.lemmas.List.{length-map, map-append}
-use Rattle.tla_value.specs.Tree.{Tree, int, fun, trees, pairs, entries, entries-pairs, depth, deepest, deepest_pair}
+use Rattle.tla_value.specs.Tree.{Tree, int, fun, trees, pairs, entries-pairs, deepest, deepest_pair}
 use Rattle.tla_value.specs.TreeOf.{tree_of, pair_of}
 use Rattle.tla_value.specs.IsValue.{IsValue, IsFunList}
-use Rattle.tla_value.specs.Order.{tree_cmp, tree_eq}
+use Rattle.tla_value.specs.Order.{tree_eq}
 use Rattle.tla_value.specs.Funs.{arguments, with_item, items_from, items_of, fun_of}
 use Rattle.tla_value.specs.FunLaws.{is-fun_of}
 use Rattle.tla_value.specs.Choices.{numbered, sequence, counted_up}
@@ -13,7 +12,7 @@ use Rattle.tla_value.proofs.Ranges.{rising-counted_up}
 use Rattle.tla_value.specs.declared.value.Value.{Value}
 use Rattle.tla_value.specs.declared.value.Value.TheVariants.{Int, Fun}
 use Rattle.tla_eval.specs.Fault.{Place, WrongKind, TooMany, fault}
-use Rattle.tla_eval.specs.Kinds.{or_fault, items, as_sequence, rising_fun, make_sequence}
+use Rattle.tla_eval.specs.Kinds.{or_fault, items, as_sequence, make_sequence}
 use Rattle.tla_eval.specs.Gives.{values_of}
 use Rattle.tla_eval.proofs.Made.{within_ok, within_many}
 

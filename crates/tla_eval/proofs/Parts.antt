@@ -6,9 +6,10 @@ use Rattle.tla_eval.specs.Fits.{fits, fits_all, fits_fields, fits_arms, fits_upd
 use Rattle.tla_eval.specs.Fault.{Place}
 use Rattle.tla_eval.specs.ExprOf.{expr_of, exprs_of, fields_of, arms_of, updates_of, exprs_of_arm, parts_of_cores, fields_of_cores, arms_of_cores, updates_of_cores, update_fits}
 use Rattle.tla_eval.specs.Value.{means, mean_all, mean_fields, mean_arms, means_other, mean_updates}
-use Rattle.tla_eval.specs.Meaning.{Meaning, means-enumerated, means-tuple, means-record_of}
+use Rattle.tla_eval.specs.Meaning.{means-enumerated, means-tuple, means-record_of}
 use Rattle.tla_eval.specs.Logic.{means-conjunction, means-disjunction, means-cases}
 use Rattle.tla_eval.specs.Functions.{means-image, means-function, means-except}
+use Rattle.tla_eval.specs.SetForms.{means-records, means-product}
 use Rattle.tla_eval.specs.declared.expression.Core.{Core, Row_of-Core, end_of-Core, more_of-Core, items-the_row-Core, Row_of-Core-Record-1-2, end_of-Core-Record-1-2, more_of-Core-Record-1-2, items-the_row-Core-Record-1-2, Row_of-Core-Cases-1-2, end_of-Core-Cases-1-2, more_of-Core-Cases-1-2, items-the_row-Core-Cases-1-2, Row_of-Core-Except-2-3, end_of-Core-Except-2-3, more_of-Core-Except-2-3, items-the_row-Core-Except-2-3, items_shown-the_row-Core-0}
 use Rattle.tla_eval.specs.declared.expression.Core.TheViews as views
 use Rattle.tla_eval.specs.declared.expression.Core.TheViews.{the_lemmas}
@@ -42,6 +43,12 @@ tuple_parts at parts = search (rules, the_lemmas, row_parts)
 pub means_tuple : (core : Core) (at : Place) (parts : Vec Core Global) → core ≡ views.Tuple at parts → means (expr_of core) ≡ means-tuple at (parts_of_cores parts.items)
 means_tuple core at parts e = ap (λ k. means (expr_of k)) e ∙ tuple_parts at parts
 
+pub product_parts : (at : Place) (parts : Vec Core Global) → means (expr_of (views.Product at parts)) ≡ means-product at (parts_of_cores parts.items)
+product_parts at parts = search (rules, the_lemmas, row_parts)
+
+pub means_product : (core : Core) (at : Place) (parts : Vec Core Global) → core ≡ views.Product at parts → means (expr_of core) ≡ means-product at (parts_of_cores parts.items)
+means_product core at parts e = ap (λ k. means (expr_of k)) e ∙ product_parts at parts
+
 pub image_parts : (at : Place) (sets : Vec Core Global) (body : Box Core Global) → means (expr_of (views.Image at sets body)) ≡ means-image at (parts_of_cores sets.items) (means (expr_of body.value))
 image_parts at sets body = search (rules, the_lemmas, row_parts)
 
@@ -63,6 +70,12 @@ record_parts at fields = search (rules, the_lemmas, row_fields)
 
 pub means_record : (core : Core) (at : Place) (fields : Vec (List ℕ × Core) Global) → core ≡ views.Record at fields → means (expr_of core) ≡ means-record_of at (fields_of_cores fields.items)
 means_record core at fields e = ap (λ k. means (expr_of k)) e ∙ record_parts at fields
+
+pub records_parts : (at : Place) (fields : Vec (List ℕ × Core) Global) → means (expr_of (views.Records at fields)) ≡ means-records at (fields_of_cores fields.items)
+records_parts at fields = search (rules, the_lemmas, row_fields)
+
+pub means_records : (core : Core) (at : Place) (fields : Vec (List ℕ × Core) Global) → core ≡ views.Records at fields → means (expr_of core) ≡ means-records at (fields_of_cores fields.items)
+means_records core at fields e = ap (λ k. means (expr_of k)) e ∙ records_parts at fields
 
 pub row_updates : (n : Count) (row : Row_of-Core-Except-2-3 n) → mean_updates (updates_of row) ≡ updates_of_cores (items-the_row-Core-Except-2-3 n row)
 row_updates n end_of-Core-Except-2-3 = refl
@@ -96,6 +109,9 @@ row_fields_fit b n now k (more_of-Core-Record-1-2 name e rest) = ap (λ x. fits 
 
 pub record_fits : (at : Place) (fields : Vec (List ℕ × Core) Global) (b n : ℕ) (now : Bool) → fits (expr_of (views.Record at fields)) b n now ≡ list_all (λ (e : Expr). fits e b n now) (map (λ (f : List ℕ × Core). expr_of f.1) fields.items)
 record_fits at fields b n now = search (rules, the_lemmas, row_fields_fit b n now)
+
+pub records_fits : (at : Place) (fields : Vec (List ℕ × Core) Global) (b n : ℕ) (now : Bool) → fits (expr_of (views.Records at fields)) b n now ≡ list_all (λ (e : Expr). fits e b n now) (map (λ (f : List ℕ × Core). expr_of f.1) fields.items)
+records_fits at fields b n now = search (rules, the_lemmas, row_fields_fit b n now)
 
 four : (a b c d : Bool) → (a && (b && (c && d))) ≡ (((a && b) && c) && d)
 four true true c d = refl
@@ -150,6 +166,9 @@ enumerated_fits at parts b n now = search (rules, the_lemmas, row_fits b n now)
 
 pub tuple_fits : (at : Place) (parts : Vec Core Global) (b n : ℕ) (now : Bool) → fits (expr_of (views.Tuple at parts)) b n now ≡ list_all (λ (e : Expr). fits e b n now) (map expr_of parts.items)
 tuple_fits at parts b n now = search (rules, the_lemmas, row_fits b n now)
+
+pub product_fits : (at : Place) (parts : Vec Core Global) (b n : ℕ) (now : Bool) → fits (expr_of (views.Product at parts)) b n now ≡ list_all (λ (e : Expr). fits e b n now) (map expr_of parts.items)
+product_fits at parts b n now = search (rules, the_lemmas, row_fits b n now)
 
 row_count : (k : Count) (row : Row_of-Core k) → count (exprs_of row) ≡ length (items-the_row-Core k row)
 row_count k end_of-Core = refl

@@ -1,18 +1,19 @@
 -- What a call answers: the value or the fault that the definition gives, unless memory ran out. (This project's own choice.)
-use Rattle.std.specs.Prelude.{◌≡◌, ℕ, Bool, ◌⊎◌, ℤ, List, [], ◌∷◌, ◌++◌, map, Some, None, Result, Ok, Err}
+use Rattle.std.specs.Prelude.{◌≡◌, ℕ, Bool, cond, ◌⊎◌, ℤ, List, ◌++◌, map, zip, Some, None, Result, Ok, Err}
 use Rattle.tla_value.specs.Tree.{Tree, text}
 use Rattle.tla_value.specs.TreeOf.{tree_of}
 use Rattle.tla_value.specs.declared.value.Value.{Value}
 use Rattle.std.proofs.Common.{Bor}
 use Rattle.tla_value.specs.Sets.{is_member}
-use Rattle.tla_value.specs.Choices.{choices, subsets_of}
+use Rattle.tla_value.specs.Choices.{choices, subsets_of, tuples_of, records_of, keys_of, parts_of, is_each_once}
 use Rattle.tla_value.specs.declared.error.ValueError.{ValueError}
 use Rattle.tla_value.specs.declared.error.ValueError.TheVariants.{TooMany, TooDeep, Memory}
-use Rattle.tla_eval.specs.Fault.{Place, Fault, FaultCode, Outcome, ◌>>=◌, out_of_memory}
-use Rattle.tla_eval.specs.Kinds.{as_int, as_set, make_set, make_fun}
+use Rattle.tla_eval.specs.Fault.{Place, Fault, FaultCode, NoField, Outcome, ◌>>=◌, fault, out_of_memory}
+use Rattle.tla_eval.specs.Kinds.{as_int, as_set, make_set, make_fun, make_function_set}
 use Rattle.tla_eval.specs.Lists.{each}
 use Rattle.tla_eval.specs.Meaning.{Meaning, Bound, Present, Next}
 use Rattle.tla_eval.specs.Functions.{function_on}
+use Rattle.tla_eval.specs.SetForms.{names_of}
 
 abbrev pub GivesBy : {X A : Type 0} → (X → A) → Result X Fault → Outcome A → Type 0
 GivesBy view (Ok x) o = o ≡ Ok (view x)
@@ -95,6 +96,33 @@ chosen_function_rule p ms e b s t = do
   vs ← each (λ (m : Meaning). m.value b s t) ms
   ys ← chosen_rule p e b s t vs
   function_rule p vs ys
+
+-- the tuples with one part of each value, and the records with each field in the value beside it
+abbrev pub tuples_rule : Place → List Tree → Outcome Tree
+tuples_rule p vs = do
+  lists ← each (as_set p) vs
+  make_function_set p (tuples_of lists)
+
+abbrev pub named_sets : Place → List (List ℕ × Meaning) → List Tree → Outcome (List (List ℕ × List Tree))
+named_sets p fs vs = do
+  lists ← each (as_set p) vs
+  Ok (zip (names_of fs) lists)
+
+abbrev pub records_rule : Place → List (List ℕ × Meaning) → List Tree → Outcome Tree
+records_rule p fs vs = do
+  sets ← named_sets p fs vs
+  cond (is_each_once (keys_of fs)) (make_function_set p (records_of sets)) (fault NoField p)
+
+-- the same of what is evaluated
+abbrev pub product_rule : Place → List Meaning → Bound → Present → Next → Outcome Tree
+product_rule p ms b s t = do
+  vs ← each (λ (m : Meaning). m.value b s t) ms
+  tuples_rule p vs
+
+abbrev pub record_set_rule : Place → List (List ℕ × Meaning) → Bound → Present → Next → Outcome Tree
+record_set_rule p fs b s t = do
+  vs ← each (λ (m : Meaning). m.value b s t) (parts_of fs)
+  records_rule p fs vs
 
 -- some values, and then those that come
 abbrev pub then_more : List Tree → Outcome (List Tree) → Outcome (List Tree)

@@ -1,5 +1,5 @@
 -- The kinds of values, and the limits of those that are made. A value of the wrong kind is a fault of the node. (Book, chapter 16; the limits are this project's own choice.)
-use Rattle.std.specs.Prelude.{ℕ, max, nat_lt, ℤ, pos, negsuc, int_le, Bool, ◌&&◌, List, [], ◌∷◌, length, Option, Some, None, Ok, if◌then◌else◌}
+use Rattle.std.specs.Prelude.{ℕ, max, nat_lt, ℤ, pos, negsuc, int_le, Bool, ◌&&◌, List, length, Option, Some, None, Ok, if◌then◌else◌}
 use Rattle.tla_value.specs.Tree.{Tree, truth, int, set, fun, trees, pairs, members, entries, deepest, deepest_pair}
 use Rattle.tla_value.specs.Sets.{set_of, most_pairs}
 use Rattle.tla_value.specs.Funs.{fun_of, items_of}

@@ -128,6 +128,10 @@ pub enum Core {
     Power(Place, Box<Core>),
     /// `[S -> T]`
     Functions(Place, Box<Core>, Box<Core>),
+    /// `[a : S, ..]`: a name that stands twice has no set.
+    Records(Place, Vec<(Text, Core)>),
+    /// `S \X T ..`
+    Product(Place, Vec<Core>),
     /// `\cup`
     Cup(Place, Box<Core>, Box<Core>),
     /// `\cap`
@@ -180,6 +184,8 @@ impl Core {
             Core::Sequences(place, _) => *place,
             Core::Power(place, _) => *place,
             Core::Functions(place, _, _) => *place,
+            Core::Records(place, _) => *place,
+            Core::Product(place, _) => *place,
             Core::Cup(place, _, _) => *place,
             Core::Cap(place, _, _) => *place,
             Core::Minus(place, _, _) => *place,

@@ -1,6 +1,6 @@
 //! Functions and records.
-ghost use Rattle.std.specs.Prelude.{◌≡◌, ℕ, List, Ok, option_map};
-ghost use Rattle.tla_value.specs.Tree.{Tree, text, fun, pairs};
+ghost use Rattle.std.specs.Prelude.{◌≡◌, ℕ, List, option_map};
+ghost use Rattle.tla_value.specs.Tree.{Tree, text};
 ghost use Rattle.tla_value.specs.TreeOf.{tree_of};
 ghost use Rattle.tla_value.specs.Funs.{MakesFun};
 ghost use Rattle.tla_eval.specs.Expr.{Apply, Domain, Field, Single, Override};
@@ -27,10 +27,38 @@ pub(crate) fn made_fun(place: Place, made: Result<FunValue, ValueError>) -> Resu
     }
 }
 
-/// A value that is a function.
+/// A value that is a function, copied where it was borrowed.
+pub(crate) fn into_function(
+    alloc: Global,
+    place: Place,
+    value: Evaluated<'_>,
+) -> Result<FunValue, Fault>
+    ensures { GivesBy (λ f. f) result (as_fun place (tree_of_evaluated value.entry)) }
+{
+    match value {
+        Evaluated::Borrowed(value) => copied_function(alloc, place, value),
+        Evaluated::Owned(value) => owned_function(place, value),
+    }
+}
+
+/// A copy of a value that is a function.
 #[tactic(auto, using(crate::proofs::Known::as_fun_known))]
-pub(crate) fn as_function<'a>(place: Place, value: &'a Value) -> Result<&'a FunValue, Fault>
-    ensures { GivesBy (λ f. f.now) result (as_fun place (tree_of value.now)) }
+fn copied_function(alloc: Global, place: Place, value: &Value) -> Result<FunValue, Fault>
+    ensures { GivesBy (λ f. f) result (as_fun place (tree_of value.now)) }
+{
+    match value {
+        Value::Fun(fun) => match fun.copy(alloc) {
+            Ok(fun) => Ok(fun),
+            Err(_) => Err(memory()),
+        },
+        _ => Err(fault_at(FaultCode::WrongKind, place)),
+    }
+}
+
+/// A value that is a function, by value.
+#[tactic(auto, using(crate::proofs::Known::as_fun_known))]
+fn owned_function(place: Place, value: Value) -> Result<FunValue, Fault>
+    ensures { GivesBy (λ f. f) result (as_fun place (tree_of value)) }
 {
     match value {
         Value::Fun(fun) => Ok(fun),
@@ -46,16 +74,6 @@ pub(crate) fn if_function<'a>(value: &'a Value) -> Option<&'a FunValue>
     match value {
         Value::Fun(fun) => Some(fun),
         _ => None,
-    }
-}
-
-/// The same function.
-pub(crate) fn copied_function(alloc: Global, function: &FunValue) -> Result<Value, Fault>
-    ensures { Gives result (Ok (fun (pairs function.now))) }
-{
-    match function.copy(alloc) {
-        Ok(function) => Ok(Value::Fun(function)),
-        Err(_) => Err(memory()),
     }
 }
 

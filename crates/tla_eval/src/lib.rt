@@ -7,6 +7,7 @@ mod environment;
 mod evaluation;
 mod expression;
 mod fault;
+mod fields;
 mod functions;
 pub mod laws;
 mod names;
@@ -21,8 +22,3 @@ pub use evaluation::{eval, member};
 pub use expression::{Binary, Core, Kind, Unary};
 pub use fault::{Fault, FaultCode, Place};
 pub use partial::Partial;
-
-#[cfg(test)]
-mod depth_tests;
-#[cfg(test)]
-mod tests;

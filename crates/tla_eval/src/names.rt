@@ -105,6 +105,8 @@ fn fits_within(core: &Core, names: Option<usize>, variables: usize, now: bool) -
         Core::Tuple(_, parts) => all_fit(parts, names, variables, now),
         Core::Record(_, fields) => fields_fit(fields, names, variables, now),
         Core::Conjunction(_, parts) => all_fit(parts, names, variables, now),
+        Core::Records(_, fields) => fields_fit(fields, names, variables, now),
+        Core::Product(_, parts) => all_fit(parts, names, variables, now),
         Core::Disjunction(_, parts) => all_fit(parts, names, variables, now),
     }
 }

@@ -65,6 +65,8 @@ fn has_next(core: &Core) -> bool
         Core::Function(_, sets, body) => some_has_next(sets) || has_next(body),
         Core::Except(_, function, updates) => has_next(function) || updates_have_next(updates),
         Core::Conjunction(_, parts) => some_has_next(parts),
+        Core::Records(_, fields) => fields_have_next(fields),
+        Core::Product(_, parts) => some_has_next(parts),
         Core::Disjunction(_, parts) => some_has_next(parts),
     }
 }

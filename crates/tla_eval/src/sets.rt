@@ -4,15 +4,15 @@ ghost use Rattle.tla_value.specs.Tree.{Tree, truth, set, trees};
 ghost use Rattle.tla_value.specs.TreeOf.{tree_of, pair_of};
 ghost use Rattle.tla_value.specs.Order.{tree_eq};
 ghost use Rattle.tla_value.specs.Funs.{arguments};
-ghost use Rattle.tla_value.specs.Sets.{is_member, MakesSet};
-ghost use Rattle.tla_eval.specs.Kinds.{as_set, members_of, rising_set};
+ghost use Rattle.tla_value.specs.Sets.{is_member, MakesSet, MakesSetOfFunctions};
+ghost use Rattle.tla_eval.specs.Kinds.{as_set, members_of, rising_set, sized_set, size_of_functions};
 ghost use Rattle.tla_value.specs.Choices.{range_of, functions_of};
 ghost use Rattle.tla_eval.specs.Fault.{out_of_memory};
 ghost use Rattle.tla_eval.specs.Expr.{Union};
 ghost use Rattle.tla_eval.specs.Operators.{joined_sets, unary_rule};
 ghost use Rattle.tla_eval.specs.Lists.{each};
 ghost use Rattle.tla_eval.specs.SetForms.{on_sets};
-ghost use Rattle.tla_eval.specs.Gives.{Gives, GivesBy, GivesTruth, IsRefusal, contains_rule, subsets_rule};
+ghost use Rattle.tla_eval.specs.Gives.{Gives, GivesBy, GivesTruth, IsRefusal, contains_rule, subsets_rule, tuples_rule};
 ghost use Rattle.tla_eval.specs.Environment.{Evaluates, tree_of_evaluated};
 
 use crate::environment::Evaluated;
@@ -160,9 +160,35 @@ pub(crate) fn functions_between(
     }
 }
 
+/// The set of functions that a call made, or the fault for the limit that it would pass.
+#[tactic(auto, using(crate::proofs::Made::functions_made, crate::proofs::Made::functions_refused))]
+pub(crate) fn made_functions(
+    place: Place,
+    made: Result<SetValue, ValueError>,
+) -> Result<Value, Fault>
+    ensures { (ts : List Tree) → MakesSetOfFunctions ts made → Gives result (sized_set place (size_of_functions ts) ts) }
+{
+    match made {
+        Ok(set) => Ok(Value::Set(set)),
+        Err(error) => Err(refused(place, error)),
+    }
+}
+
+/// The tuples with one part of each value.
+pub(crate) fn tuples_with(
+    alloc: Global,
+    place: Place,
+    values: &[Evaluated<'_>],
+) -> Result<Value, Fault>
+    ensures { Gives result (tuples_rule place (map tree_of_evaluated values.now)) }
+{
+    let sets = as_sets(alloc, place, values)?;
+    made_functions(place, SetValue::product(alloc, sets.as_slice()))
+}
+
 /// A copy of a value that is a set.
 #[tactic(auto, using(crate::proofs::Known::as_set_known))]
-fn copied_set(alloc: Global, place: Place, value: &Value) -> Result<SetValue, Fault>
+pub(crate) fn copied_set(alloc: Global, place: Place, value: &Value) -> Result<SetValue, Fault>
     ensures { GivesBy (λ s. s) result (as_set place (tree_of value.now)) }
 {
     match value {

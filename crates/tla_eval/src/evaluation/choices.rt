@@ -52,7 +52,7 @@ pub(super) fn function<'a>(
 
 /// The values of some expressions, from left to right, lent where they can be.
 #[cycle(evaluate)]
-fn evaluated_each<'a>(
+pub(super) fn evaluated_each<'a>(
     alloc: Global,
     cores: &'a [Core],
     env: Environment<'a>,

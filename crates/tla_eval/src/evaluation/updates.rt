@@ -1,6 +1,5 @@
 //! EXCEPT.
 ghost use Rattle.std.specs.Prelude.{◌∷◌};
-ghost use Rattle.tla_value.specs.TreeOf.{tree_of};
 ghost use Rattle.tla_eval.specs.Functions.{means-except, update, update_all};
 ghost use Rattle.tla_eval.specs.Value.{means};
 ghost use Rattle.tla_eval.specs.ExprOf.{expr_of, parts_of_cores, updates_of_cores};
@@ -12,7 +11,7 @@ use crate::evaluation::binding::value_with;
 use crate::evaluation::evaluate;
 use crate::expression::Core;
 use crate::fault::{Fault, Place};
-use crate::functions::{as_function, copied_function, made_fun};
+use crate::functions::{into_function, made_fun};
 use std::alloc::Global;
 use tla_value::Value;
 
@@ -44,15 +43,8 @@ fn updated_by_all<'a>(
 {
     let mut value = base;
     for update in updates {
-        let new = updated(
-            alloc,
-            place,
-            update.0.as_slice(),
-            &update.1,
-            value.value(),
-            env,
-        )?;
-        value = Evaluated::Owned(new);
+        let keys = update.0.as_slice();
+        value = Evaluated::Owned(updated(alloc, place, keys, &update.1, value, env)?);
     }
     Ok(value)
 }
@@ -64,13 +56,13 @@ fn updated<'a>(
     place: Place,
     keys: &'a [Core],
     body: &'a Core,
-    value: &'a Value,
+    value: Evaluated<'a>,
     env: Environment<'a>,
 ) -> Result<Value, Fault>
-    ensures { Gives result (update place (parts_of_cores keys.now) (means (expr_of body.now)) (bound_in env.entry) (present_in env.entry) (next_in env.entry) (tree_of value.now)) }
+    ensures { Gives result (update place (parts_of_cores keys.now) (means (expr_of body.now)) (bound_in env.entry) (present_in env.entry) (next_in env.entry) (tree_of_evaluated value.entry)) }
 {
     match keys.split_first() {
-        None => value_with(alloc, body, value, env),
+        None => value_with(alloc, body, value.value(), env),
         Some((key, rest)) => updated_at(alloc, place, rest, key, body, value, env),
     }
 }
@@ -83,18 +75,18 @@ fn updated_at<'a>(
     rest: &'a [Core],
     key: &'a Core,
     body: &'a Core,
-    value: &'a Value,
+    value: Evaluated<'a>,
     env: Environment<'a>,
 ) -> Result<Value, Fault>
-    ensures { Gives result (update place (means (expr_of key.now) ∷ parts_of_cores rest.now) (means (expr_of body.now)) (bound_in env.entry) (present_in env.entry) (next_in env.entry) (tree_of value.now)) }
+    ensures { Gives result (update place (means (expr_of key.now) ∷ parts_of_cores rest.now) (means (expr_of body.now)) (bound_in env.entry) (present_in env.entry) (next_in env.entry) (tree_of_evaluated value.entry)) }
 {
-    let function = as_function(place, value)?;
+    let function = into_function(alloc, place, value)?;
     let key = evaluate(alloc, key, env)?;
     match function.apply(key.value()) {
-        None => copied_function(alloc, function),
+        None => Ok(Value::Fun(function)),
         Some(old) => {
-            let new = updated(alloc, place, rest, body, old, env)?;
-            made_fun(place, function.except(alloc, key.value(), new))
+            let new = updated(alloc, place, rest, body, Evaluated::Borrowed(old), env)?;
+            made_fun(place, function.with_value(key.value(), new))
         }
     }
 }

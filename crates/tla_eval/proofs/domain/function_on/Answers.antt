@@ -1,10 +1,10 @@
-use Rattle.std.proofs.Common.{◌≡◌, length, map, [], ◌∷◌, ap, sym, subst, ◌∙◌, Ok, arith}
+use Rattle.std.proofs.Common.{map, [], ◌∷◌, ap, sym, subst, ◌∙◌, arith}
 use Rattle.tla_value.specs.Tree.{Tree}
 use Rattle.tla_value.specs.TreeOf.{tree_of, pair_of}
 use Rattle.tla_value.specs.Funs.{fun_of}
 use Rattle.tla_eval.specs.Environment.{tree_of_evaluated}
 use Rattle.tla_eval.specs.Fault.{Outcome}
-use Rattle.tla_eval.specs.Gives.{Gives, function_rule}
+use Rattle.tla_eval.specs.Gives.{Gives}
 use Rattle.tla_eval.specs.Kinds.{as_set, make_fun}
 use Rattle.tla_eval.proofs.Collected.{function_on_single}
 use Rattle.tla_eval.proofs.Domains.{one_item, one_list, rule_is}

@@ -1,13 +1,13 @@
 use Rattle.std.proofs.Common.{◌≡◌, length, map, zip, ap, sym, subst, ◌∙◌, Err, Ok}
 use Rattle.std.proofs.lemmas.List.{length-map}
-use Rattle.tla_value.specs.Tree.{Tree, set, trees}
+use Rattle.tla_value.specs.Tree.{Tree}
 use Rattle.tla_value.specs.TreeOf.{tree_of, pair_of}
 use Rattle.tla_value.specs.Funs.{fun_of}
 use Rattle.tla_value.specs.Sets.{set_of, MakesSetOfFunctions}
 use Rattle.tla_value.specs.Choices.{tuples_of}
 use Rattle.tla_eval.specs.Environment.{tree_of_evaluated}
 use Rattle.tla_eval.specs.Fault.{Outcome}
-use Rattle.tla_eval.specs.Gives.{Gives, function_rule}
+use Rattle.tla_eval.specs.Gives.{Gives}
 use Rattle.tla_eval.proofs.Domains.{AllRise, tuples_made, tuples_refused}
 use Rattle.tla_eval.proofs.domain.function_on_tuples.Goals as goal
 

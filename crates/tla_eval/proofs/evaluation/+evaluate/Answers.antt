@@ -1,4 +1,4 @@
-use Rattle.std.proofs.Common.{rules, map, Bor, List, ◌++◌, ◌∷◌, [], Bool, Some, None, Ok, ap, sym, ◌∙◌, subst}
+use Rattle.std.proofs.Common.{rules, arith, map, length, option_map, Bor, List, ◌++◌, ◌∷◌, [], Bool, Some, None, Ok, ap, sym, ◌∙◌, subst}
 use Rattle.tla_eval.specs.Logic.{means-conjunction, means-disjunction, means-cases}
 use Rattle.tla_eval.specs.Meaning.{Meaning, asks, means-enumerated, means-tuple}
 use Rattle.tla_eval.specs.Functions.{means-except}
@@ -6,15 +6,18 @@ use Rattle.tla_eval.specs.Value.{means, mem}
 use Rattle.tla_eval.specs.ExprOf.{expr_of, parts_of_cores, fields_of_cores, arms_of_cores, updates_of_cores}
 use Rattle.tla_value.specs.Tree.{Tree}
 use Rattle.tla_eval.specs.Fault.{Outcome}
-use Rattle.tla_eval.specs.Gives.{GivesBy, GivesTruth, record_rule, image_rule, chosen_function_rule}
-use Rattle.tla_value.specs.TreeOf.{tree_of}
+use Rattle.tla_eval.specs.Gives.{GivesBy, GivesTruth, record_rule, image_rule, chosen_function_rule, product_rule, record_set_rule, values_of}
+use Rattle.tla_value.specs.TreeOf.{tree_of, pair_of}
 use Rattle.tla_eval.specs.declared.expression.Core.{Core}
 use Rattle.tla_value.specs.declared.value.Value.{Value}
 use Rattle.tla_eval.specs.Environment.{Evaluates, tree_of_evaluated, bound_in, present_in, next_in}
 use Rattle.tla_eval.proofs.Loops.{all_hold_step, some_hold_step, first_passing_step}
 use Rattle.tla_eval.proofs.Collected.{record_is}
 use Rattle.tla_eval.proofs.Choices.{image_is, function_is, chosen_step, chosen_from, chosen_long, passing_step}
-use Rattle.tla_eval.proofs.Parts.{means_conjunction, means_disjunction, means_enumerated, means_tuple, means_record, means_image, means_function, means_except, means_cases, means_cases_or}
+use Rattle.tla_eval.proofs.Parts.{means_conjunction, means_disjunction, means_enumerated, means_tuple, means_record, means_image, means_function, means_except, means_cases, means_cases_or, means_records, means_product}
+use Rattle.tla_eval.proofs.RecordSets.{product_is, record_set_is, fields_long, tuple_long, tuple_other, same_number, number_same}
+use Rattle.tla_eval.specs.Kinds.{items}
+use Rattle.tla_eval.specs.SetForms.{means-records, means-product}
 use Rattle.tla_eval.proofs.evaluation.+evaluate.Goals as goal
 
 pub evaluate-returns-in-Conjunction : goal.evaluate-returns-in-Conjunction
@@ -126,6 +129,36 @@ evaluate-returns-in-Except t c =
     ∙ ap (λ (k : Core). means-except n.place (means (expr_of k)) (updates_of_cores c.deref-in-Except.result.now)) (sym c.deref-in-Except-2.ensures) in
     subst (λ (m : Meaning). Evaluates c.except.result (m.value b s q)) (sym e) c.except.ensures
 
+pub evaluate-returns-in-Records : goal.evaluate-returns-in-Records
+evaluate-returns-in-Records t c =
+    let n = c.in-Records in
+    let b = bound_in c.args.env in let s = present_in c.args.env in let q = next_in c.args.env in
+    let e = ap (λ (m : Meaning). m.value b s q) (means_records c.args.core.now n.place n.fields n.is)
+    ∙ record_set_is n.place (fields_of_cores n.fields.items) b s q
+    ∙ ap (λ us. record_set_rule n.place (fields_of_cores us) b s q) (sym c.deref-in-Records.ensures.value) in
+    subst (λ (o : Outcome Tree). Evaluates c.records.result o) (sym e) c.records.ensures
+
+pub evaluate-returns-in-Product : goal.evaluate-returns-in-Product
+evaluate-returns-in-Product t c =
+    let n = c.in-Product in
+    let b = bound_in c.args.env in let s = present_in c.args.env in let q = next_in c.args.env in
+    let e = ap (λ (m : Meaning). m.value b s q) (means_product c.args.core.now n.place n.parts n.is)
+    ∙ product_is n.place (parts_of_cores n.parts.items) b s q
+    ∙ ap (λ us. product_rule n.place (parts_of_cores us) b s q) (sym c.deref-in-Product.ensures.value) in
+    subst (λ (o : Outcome Tree). Evaluates c.product.result o) (sym e) c.product.ensures
+
+pub has-returns-in-Records : goal.has-returns-in-Records
+has-returns-in-Records t c =
+    let n = c.in-Records in
+    let e = means_records c.args.core.now n.field-0 n.fields n.is ∙ ap (λ us. means-records n.field-0 (fields_of_cores us)) (sym c.deref-in-Records.ensures.value) in
+    subst (λ (m : Meaning). GivesTruth c.is_record_of.result (m.has (tree_of c.args.value.now) (bound_in c.args.env) (present_in c.args.env) (next_in c.args.env))) (sym e) (c.is_record_of.ensures n.field-0)
+
+pub has-returns-in-Product : goal.has-returns-in-Product
+has-returns-in-Product t c =
+    let n = c.in-Product in
+    let e = means_product c.args.core.now n.field-0 n.parts n.is ∙ ap (λ us. means-product n.field-0 (parts_of_cores us)) (sym c.deref-in-Product.ensures.value) in
+    subst (λ (m : Meaning). GivesTruth c.is_tuple_of.result (m.has (tree_of c.args.value.now) (bound_in c.args.env) (present_in c.args.env) (next_in c.args.env))) (sym e) (c.is_tuple_of.ensures n.field-0)
+
 pub binding::passing-loop-value-preserved : goal.binding::passing-loop-value-preserved
 binding::passing-loop-value-preserved t c =
     c.loop-value.invariant
@@ -145,3 +178,21 @@ choices::add_chosen_from-returns-in_err-add_chosen t c =
 pub choices::function-function_on-requires : goal.choices::function-function_on-requires
 choices::function-function_on-requires t c = λ lists h.
     chosen_long c.args.place (means (expr_of c.args.body.now)) (bound_in c.args.env) (present_in c.args.env) (next_in c.args.env) (map tree_of_evaluated c.as_slice-sets.result.now) (map tree_of c.in_ok-values.values.items) c.in_ok-values.ensures lists h
+
+pub products::records-records_with-requires : goal.products::records-records_with-requires
+products::records-records_with-requires t c =
+    fields_long (λ (m : Meaning). m.value (bound_in c.args.env) (present_in c.args.env) (next_in c.args.env)) c.args.fields.now c.in_ok-sets.sets.items c.in_ok-sets.ensures ∙ ap length (sym c.as_slice.ensures.value)
+
+pub products::is_tuple_of-returns-then-pairs-parts : goal.products::is_tuple_of-returns-then-pairs-parts
+products::is_tuple_of-returns-then-pairs-parts t c = λ p.
+    let vs = values_of (map pair_of c.in-Some.pairs.now) in
+    let ms = parts_of_cores c.args.parts.now in
+    let e = tuple_long ms vs (items (tree_of c.args.value.now)) (sym c.sequence_pairs.ensures ∙ ap (option_map (λ (ps : Bor (List (Value × Value))). values_of (map pair_of ps.now))) c.in-Some.is) (bound_in c.args.env) (present_in c.args.env) (next_in c.args.env) (same_number c.in-Some.pairs.now c.args.parts.now (omega (arith, c.if-pairs-parts.true))) in
+    subst (λ (o : Outcome Bool). GivesTruth c.parts_have.result o) (sym e) c.parts_have.ensures
+
+pub products::is_tuple_of-returns-else-pairs-parts : goal.products::is_tuple_of-returns-else-pairs-parts
+products::is_tuple_of-returns-else-pairs-parts t c = λ p.
+    let vs = values_of (map pair_of c.in-Some.pairs.now) in
+    let ms = parts_of_cores c.args.parts.now in
+    tuple_other ms vs (items (tree_of c.args.value.now)) (sym c.sequence_pairs.ensures ∙ ap (option_map (λ (ps : Bor (List (Value × Value))). values_of (map pair_of ps.now))) c.in-Some.is) (bound_in c.args.env) (present_in c.args.env) (next_in c.args.env)
+    (λ e. let h = number_same c.in-Some.pairs.now c.args.parts.now e in omega (arith, c.if-pairs-parts.false))

@@ -3,6 +3,8 @@ use Rattle.tla_value.specs.TreeOf.{tree_of, pair_of}
 use Rattle.tla_eval.specs.Lists.{each, all_hold, some_hold, first_passing, passing}
 use Rattle.tla_eval.specs.Fault.{◌>>=◌}
 use Rattle.tla_eval.specs.Gives.{named_value, values_of, values_for, then_more}
+use Rattle.tla_value.specs.Choices.{parts_of}
+use Rattle.tla_eval.specs.SetForms.{field_has, parts_have}
 use Rattle.tla_eval.specs.Meaning.{Meaning, asks}
 use Rattle.tla_eval.specs.Logic.{means-cases}
 use Rattle.tla_eval.specs.Functions.{update_all}
@@ -181,7 +183,44 @@ decreases-set_forms::has_values l = 2 ^ 66 * size-Core l.core.now + 2
 abbrev pub decreases-set_forms::is_function_into : goal.decreases-set_forms::is_function_into
 decreases-set_forms::is_function_into l = 2 ^ 66 * max (size-Core l.domain.now) (size-Core l.range.now) + 3
 
+-- products
+abbrev pub decreases-products::records : goal.decreases-products::records
+decreases-products::records l = 2 ^ 66 * goal.size-products::records l + 4
+
+abbrev pub decreases-products::field_sets : goal.decreases-products::field_sets
+decreases-products::field_sets l = 2 ^ 66 * goal.size-products::field_sets l + 1
+
+abbrev pub decreases-products::product : goal.decreases-products::product
+decreases-products::product l = 2 ^ 66 * goal.size-products::product l + 4
+
+abbrev pub decreases-products::is_record_of : goal.decreases-products::is_record_of
+decreases-products::is_record_of l = 2 ^ 66 * goal.size-products::is_record_of l + 4
+
+abbrev pub decreases-products::fields_have : goal.decreases-products::fields_have
+decreases-products::fields_have l = 2 ^ 66 * goal.size-products::fields_have l + 3
+
+abbrev pub decreases-products::is_tuple_of : goal.decreases-products::is_tuple_of
+decreases-products::is_tuple_of l = 2 ^ 66 * goal.size-products::is_tuple_of l + 4
+
+abbrev pub decreases-products::parts_have : goal.decreases-products::parts_have
+decreases-products::parts_have l = 2 ^ 66 * goal.size-products::parts_have l + 3
+
 -- ---- what is left of a list decides
+abbrev pub invariant-products::field_sets-loop-field : goal.invariant-products::field_sets-loop-field
+invariant-products::field_sets-loop-field l =
+    each (λ (m : Meaning). m.value (bound_in l.env) (present_in l.env) (next_in l.env)) (parts_of (fields_of_cores l.fields))
+    ≡ (each (λ (m : Meaning). m.value (bound_in l.env) (present_in l.env) (next_in l.env)) (parts_of (fields_of_cores (drop l.field-index l.fields))) >>= λ ys. Ok (map tree_of_evaluated l.values.items ++ ys))
+
+abbrev pub invariant-products::fields_have-loop-field : goal.invariant-products::fields_have-loop-field
+invariant-products::fields_have-loop-field l =
+    all_hold (field_has (map pair_of l.pairs) (bound_in l.env) (present_in l.env) (next_in l.env)) (fields_of_cores l.fields)
+    ≡ all_hold (field_has (map pair_of l.pairs) (bound_in l.env) (present_in l.env) (next_in l.env)) (fields_of_cores (drop l.field-index l.fields))
+
+abbrev pub invariant-products::parts_have-loop-i : goal.invariant-products::parts_have-loop-i
+invariant-products::parts_have-loop-i l =
+    parts_have (parts_of_cores l.parts) (values_of (map pair_of l.pairs)) (bound_in l.env) (present_in l.env) (next_in l.env)
+    ≡ parts_have (parts_of_cores (drop l.i l.parts)) (values_of (map pair_of (drop l.i l.pairs))) (bound_in l.env) (present_in l.env) (next_in l.env)
+
 abbrev pub invariant-binding::passing-loop-value : goal.invariant-binding::passing-loop-value
 invariant-binding::passing-loop-value l =
     passing (λ v. asks l.place (means (expr_of l.body)) (bound_in l.env ++ v ∷ []) (present_in l.env) (next_in l.env)) (map tree_of l.values)

@@ -1,4 +1,4 @@
-use Rattle.std.proofs.Common.{◌++◌, Ok, sym, subst}
+use Rattle.std.proofs.Common.{◌++◌, sym, subst}
 use Rattle.tla_value.specs.Tree.{Tree}
 use Rattle.tla_value.specs.Funs.{fun_of}
 use Rattle.tla_eval.specs.Fault.{Outcome}

@@ -5,7 +5,7 @@ use Rattle.tla_eval.specs.ExprOf.{expr_of, exprs_of_arm, update_fits}
 use Rattle.tla_eval.specs.declared.expression.Core.{Core}
 use Rattle.tla_eval.specs.Fits.{fits, Counts}
 use Rattle.tla_eval.proofs.Loops.{list_all_step, list_all_stop, list_all_end}
-use Rattle.tla_eval.proofs.Parts.{enumerated_fits, tuple_fits, conjunction_fits, disjunction_fits, record_fits, image_fits, function_fits, except_fits, arm_fits, cases_fit, cases_or_fit}
+use Rattle.tla_eval.proofs.Parts.{enumerated_fits, tuple_fits, conjunction_fits, disjunction_fits, record_fits, image_fits, function_fits, records_fits, product_fits, except_fits, arm_fits, cases_fit, cases_or_fit}
 use Rattle.tla_eval.proofs.names.+fits.Goals as goal
 
 pub fits_within-returns-in-Enumerated : goal.fits_within-returns-in-Enumerated
@@ -59,6 +59,20 @@ fits_within-returns-in-Record t c = λ n h.
     c.fields_fit.ensures n h
     ∙ ap (λ us. list_all (λ (e : Expr). fits e n c.args.variables c.args.now) (map (λ (f : List ℕ × Core). expr_of f.1) us)) c.deref-in-Record.ensures.value
     ∙ sym (ap (λ k. fits (expr_of k) n c.args.variables c.args.now) m.is ∙ record_fits m.field-0 m.fields n c.args.variables c.args.now)
+
+pub fits_within-returns-in-Records : goal.fits_within-returns-in-Records
+fits_within-returns-in-Records t c = λ n h.
+    let m = c.in-Records in
+    c.fields_fit-in-Records.ensures n h
+    ∙ ap (λ us. list_all (λ (e : Expr). fits e n c.args.variables c.args.now) (map (λ (f : List ℕ × Core). expr_of f.1) us)) c.deref-in-Records.ensures.value
+    ∙ sym (ap (λ k. fits (expr_of k) n c.args.variables c.args.now) m.is ∙ records_fits m.field-0 m.fields n c.args.variables c.args.now)
+
+pub fits_within-returns-in-Product : goal.fits_within-returns-in-Product
+fits_within-returns-in-Product t c = λ n h.
+    let m = c.in-Product in
+    c.all_fit-in-Product.ensures n h
+    ∙ ap (λ us. list_all (λ (e : Expr). fits e n c.args.variables c.args.now) (map expr_of us)) c.deref-in-Product.ensures.value
+    ∙ sym (ap (λ k. fits (expr_of k) n c.args.variables c.args.now) m.is ∙ product_fits m.field-0 m.parts n c.args.variables c.args.now)
 
 pub fits_within-returns-in-None : goal.fits_within-returns-in-None
 fits_within-returns-in-None t c = λ n h.

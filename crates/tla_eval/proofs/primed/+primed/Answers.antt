@@ -6,7 +6,7 @@ use Rattle.tla_eval.specs.Logic.{arms_primed}
 use Rattle.tla_eval.specs.Functions.{updates_primed}
 use Rattle.tla_eval.specs.Value.{means}
 use Rattle.tla_eval.specs.Meaning.{any_primed}
-use Rattle.tla_eval.proofs.Parts.{means_enumerated, means_tuple, means_conjunction, means_disjunction, means_record, means_image, means_function, means_except, means_cases, means_cases_or}
+use Rattle.tla_eval.proofs.Parts.{means_enumerated, means_tuple, means_conjunction, means_disjunction, means_record, means_records, means_product, means_image, means_function, means_except, means_cases, means_cases_or}
 use Rattle.tla_eval.proofs.primed.+primed.Goals as goal
 
 pub has_next-returns-in-Enumerated : goal.has_next-returns-in-Enumerated
@@ -47,6 +47,20 @@ has_next-returns-in-Record t c =
     c.fields_have_next.ensures
     ∙ ap (λ us. any_primed (parts_of (fields_of_cores us))) c.deref-in-Record.ensures.value
     ∙ sym (ap (λ m. m.primed) (means_record c.args.core.now n.field-0 n.fields n.is))
+
+pub has_next-returns-in-Records : goal.has_next-returns-in-Records
+has_next-returns-in-Records t c =
+    let n = c.in-Records in
+    c.fields_have_next-in-Records.ensures
+    ∙ ap (λ us. any_primed (parts_of (fields_of_cores us))) c.deref-in-Records.ensures.value
+    ∙ sym (ap (λ m. m.primed) (means_records c.args.core.now n.field-0 n.fields n.is))
+
+pub has_next-returns-in-Product : goal.has_next-returns-in-Product
+has_next-returns-in-Product t c =
+    let n = c.in-Product in
+    c.some_has_next-in-Product.ensures
+    ∙ ap (λ us. any_primed (parts_of_cores us)) c.deref-in-Product.ensures.value
+    ∙ sym (ap (λ m. m.primed) (means_product c.args.core.now n.field-0 n.parts n.is))
 
 pub has_next-returns-in-None : goal.has_next-returns-in-None
 has_next-returns-in-None t c =

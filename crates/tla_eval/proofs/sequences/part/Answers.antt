@@ -1,4 +1,4 @@
-use Rattle.std.proofs.Common.{◌≡◌, ◌++◌, ◌-◌, List, map, take, drop, ap, ◌∙◌, subst, Ok}
+use Rattle.std.proofs.Common.{◌++◌, ◌-◌, map, take, drop, ap, ◌∙◌, subst}
 use Rattle.tla_value.specs.Tree.{Tree}
 use Rattle.tla_value.specs.TreeOf.{tree_of, pair_of}
 use Rattle.tla_eval.specs.Fault.{Outcome}

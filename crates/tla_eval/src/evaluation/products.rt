@@ -1,0 +1,152 @@
+//! Sets of records and of tuples.
+ghost use Rattle.std.specs.Prelude.{◌≡◌, length, map};
+ghost use Rattle.tla_value.specs.TreeOf.{tree_of, pair_of};
+ghost use Rattle.tla_value.specs.Choices.{parts_of};
+ghost use Rattle.tla_eval.specs.Lists.{each, all_hold};
+ghost use Rattle.tla_eval.specs.Meaning.{Meaning};
+ghost use Rattle.tla_eval.specs.SetForms.{means-records, means-product, field_has, parts_have};
+ghost use Rattle.tla_eval.specs.ExprOf.{parts_of_cores, fields_of_cores};
+ghost use Rattle.tla_eval.specs.Gives.{GivesBy, GivesTruth, values_of, product_rule, record_set_rule};
+ghost use Rattle.tla_eval.specs.Environment.{Evaluates, tree_of_evaluated, bound_in, present_in, next_in};
+
+use crate::environment::{Environment, Evaluated};
+use crate::evaluation::choices::evaluated_each;
+use crate::evaluation::{evaluate, has};
+use crate::expression::Core;
+use crate::fault::{Fault, Place};
+use crate::fields::{field_in, has_just, records_with};
+use crate::functions::if_function;
+use crate::sequences::sequence_pairs;
+use crate::sets::tuples_with;
+use std::alloc::Global;
+use tla_value::{Text, Value};
+
+/// The records with each field in its set.
+#[cycle(evaluate)]
+pub(super) fn records<'a>(
+    alloc: Global,
+    place: Place,
+    fields: &'a [(Text, Core)],
+    env: Environment<'a>,
+) -> Result<Evaluated<'a>, Fault>
+    ensures { Evaluates result (record_set_rule place (fields_of_cores fields.now) (bound_in env.entry) (present_in env.entry) (next_in env.entry)) }
+{
+    let sets = field_sets(alloc, fields, env)?;
+    Ok(Evaluated::Owned(records_with(alloc, place, fields, sets.as_slice())?))
+}
+
+/// The values of some fields, from left to right, lent where they can be.
+#[cycle(evaluate)]
+fn field_sets<'a>(
+    alloc: Global,
+    fields: &'a [(Text, Core)],
+    env: Environment<'a>,
+) -> Result<Vec<Evaluated<'a>>, Fault>
+    ensures { GivesBy (λ v. map tree_of_evaluated v.items) result (each (λ (m : Meaning). m.value (bound_in env.entry) (present_in env.entry) (next_in env.entry)) (parts_of (fields_of_cores fields.now))) }
+{
+    let mut values = Vec::with_capacity(alloc, fields.len())?;
+    for field in fields {
+        values.push(evaluate(alloc, &field.1, env)?)?;
+    }
+    Ok(values)
+}
+
+/// The tuples with one part of each set.
+#[cycle(evaluate)]
+pub(super) fn product<'a>(
+    alloc: Global,
+    place: Place,
+    parts: &'a [Core],
+    env: Environment<'a>,
+) -> Result<Evaluated<'a>, Fault>
+    ensures { Evaluates result (product_rule place (parts_of_cores parts.now) (bound_in env.entry) (present_in env.entry) (next_in env.entry)) }
+{
+    let sets = evaluated_each(alloc, parts, env)?;
+    Ok(Evaluated::Owned(tuples_with(alloc, place, sets.as_slice())?))
+}
+
+/// Whether a value is a record with just these fields, each a member of the field's expression.
+#[cycle(evaluate)]
+pub(super) fn is_record_of<'a>(
+    alloc: Global,
+    fields: &'a [(Text, Core)],
+    value: &'a Value,
+    env: Environment<'a>,
+) -> Result<bool, Fault>
+    ensures { (p : Place) → GivesTruth result ((means-records p (fields_of_cores fields.now)).has (tree_of value.now) (bound_in env.entry) (present_in env.entry) (next_in env.entry)) }
+{
+    match if_function(value) {
+        Some(function) => {
+            if has_just(function, fields) {
+                fields_have(alloc, fields, function.pairs(), env)
+            } else {
+                Ok(false)
+            }
+        }
+        None => Ok(false),
+    }
+}
+
+/// Whether the expression of each field has the value of that field, up to the first that has it not.
+#[cycle(evaluate)]
+fn fields_have<'a>(
+    alloc: Global,
+    fields: &'a [(Text, Core)],
+    pairs: &'a [(Value, Value)],
+    env: Environment<'a>,
+) -> Result<bool, Fault>
+    ensures { GivesTruth result (all_hold (field_has (map pair_of pairs.now) (bound_in env.entry) (present_in env.entry) (next_in env.entry)) (fields_of_cores fields.now)) }
+{
+    for field in fields {
+        match field_in(pairs, &field.0) {
+            Some(value) => {
+                if !has(alloc, &field.1, value, env)? {
+                    return Ok(false);
+                }
+            }
+            None => return Ok(false),
+        }
+    }
+    Ok(true)
+}
+
+/// Whether a value is a tuple with each part a member of the expression at its place.
+#[cycle(evaluate)]
+pub(super) fn is_tuple_of<'a>(
+    alloc: Global,
+    parts: &'a [Core],
+    value: &'a Value,
+    env: Environment<'a>,
+) -> Result<bool, Fault>
+    ensures { (p : Place) → GivesTruth result ((means-product p (parts_of_cores parts.now)).has (tree_of value.now) (bound_in env.entry) (present_in env.entry) (next_in env.entry)) }
+{
+    match sequence_pairs(value) {
+        Some(pairs) => {
+            if pairs.len() == parts.len() {
+                parts_have(alloc, parts, pairs, env)
+            } else {
+                Ok(false)
+            }
+        }
+        None => Ok(false),
+    }
+}
+
+/// Whether each of these expressions has the value at its place, up to the first that has it not.
+#[cycle(evaluate)]
+fn parts_have<'a>(
+    alloc: Global,
+    parts: &'a [Core],
+    pairs: &'a [(Value, Value)],
+    env: Environment<'a>,
+) -> Result<bool, Fault>
+    requires { length pairs.now ≡ length parts.now }
+    ensures { GivesTruth result (parts_have (parts_of_cores parts.now) (values_of (map pair_of pairs.now)) (bound_in env.entry) (present_in env.entry) (next_in env.entry)) }
+{
+    for i in 0..parts.len() {
+        if !has(alloc, &parts[i], &pairs[i].1, env)? {
+            return Ok(false);
+        }
+    }
+    Ok(true)
+}
