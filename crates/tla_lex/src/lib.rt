@@ -24,6 +24,3 @@ pub use lexer::{configuration_tokens, tokens};
 pub use scan::{Scan, Stop};
 pub use string::string_text;
 pub use token::{Kind, Place, Token};
-
-#[cfg(test)]
-mod tests;

@@ -26,8 +26,3 @@ pub use show::TextFault;
 pub use state::State;
 pub use text::Text;
 pub use value::{FunValue, SetValue, Value};
-
-#[cfg(test)]
-mod tests;
-#[cfg(test)]
-mod text_tests;
