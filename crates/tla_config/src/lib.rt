@@ -19,6 +19,3 @@ pub use config::Config;
 pub use error::{DefsCode, DefsError, Source};
 pub use parse::parse_config;
 pub use statement::{Item, Statement};
-
-#[cfg(test)]
-mod tests;

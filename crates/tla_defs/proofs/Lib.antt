@@ -8,4 +8,3 @@ pub mod Nones
 pub mod Sound
 pub mod Found
 pub mod Locating
-pub mod Walks

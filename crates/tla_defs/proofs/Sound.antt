@@ -19,7 +19,7 @@ use Rattle.tla_expand.proofs.Fitting.{expand_fits, definition_fits, name_fits, v
 use Rattle.tla_model.specs.IsSound.{IsSound, IsUsable, AreUsable, bodies}
 use Rattle.tla_model.specs.ModelTree.{ModelTree}
 use Rattle.tla_model.specs.Size.{IsWithinLimits}
-use Rattle.tla_defs.specs.Global.{global, meant, raised, units_in, unless, variables_in, with_variable, with_operator}
+use Rattle.tla_defs.specs.Global.{global, units_in, unless, variables_in, with_variable, with_operator}
 use Rattle.tla_defs.specs.Items.{fixed, with_items, replaced_names}
 use Rattle.tla_defs.specs.Scope.{signature}
 use Rattle.tla_defs.specs.Misuses.{variables_of}
@@ -60,24 +60,16 @@ fixed_fits n v p [] d l r e q =
     rw (sym same) refl
 fixed_fits n v p (a ∷ args) d l r e q = let z : ⊥ = cc in absurd z
 
-items_fit : (ρ : Scope) (is : List Item) (n : ℕ) (σ : Scope) → FitsScope n 0 ρ → FitsScope n 0 σ → FitsScope n 0 (with_items ρ is σ)
-items_fit ρ [] n σ r s = s
-items_fit ρ (Value w v ∷ is) n σ r s = items_fit ρ is n (with_name w.word (fixed v) σ) r (name_fits n 0 w.word (fixed v) σ (fixed_fits n v) s)
-items_fit ρ (Replaces w op ∷ is) n σ r s = items_fit ρ is n (with_name w.word (ρ op.word) σ) r (name_fits n 0 w.word (ρ op.word) σ (r op.word) s)
-
-meant_fits : (us : List UnitTree) (is : List Item) (ρ : Scope) → FitsScope (length (variables_of us)) 0 ρ → FitsScope (length (variables_of us)) 0 (meant us is ρ)
-meant_fits us is ρ r =
-    let n = length (variables_of us) in
-    units_fit (replaced_names is) us 0 n (with_items ρ is standard) (omega arith) (items_fit ρ is n standard r (standard_fits n 0))
-
-raised_fits : (us : List UnitTree) (is js : List Item) (ρ : Scope) → FitsScope (length (variables_of us)) 0 ρ → FitsScope (length (variables_of us)) 0 (raised us is js ρ)
-raised_fits us is [] ρ r = r
-raised_fits us is (Value w v ∷ js) ρ r = raised_fits us is js ρ r
-raised_fits us is (Replaces w op ∷ js) ρ r = raised_fits us is js (meant us is ρ) (meant_fits us is ρ r)
+items_fit : (is : List Item) (n : ℕ) (σ : Scope) → FitsScope n 0 σ → FitsScope n 0 (with_items is σ)
+items_fit [] n σ s = s
+items_fit (Value w v ∷ is) n σ s = items_fit is n (with_name w.word (fixed v) σ) (name_fits n 0 w.word (fixed v) σ (fixed_fits n v) s)
+items_fit (Replaces w op ∷ is) n σ s = items_fit is n σ s
 
 -- the names of a module stand for what exists
 global_fits : (us : List UnitTree) (is : List Item) → FitsScope (length (variables_of us)) 0 (global us is)
-global_fits us is = raised_fits us is is (meant us is standard) (meant_fits us is standard (standard_fits (length (variables_of us)) 0))
+global_fits us is =
+    let n = length (variables_of us) in
+    units_fit (replaced_names is) us 0 n (with_items is standard) (omega arith) (items_fit is n standard (standard_fits n 0))
 
 usable : (n : ℕ) (s : Bool) (e : Expr) → fits e 0 n s ≡ true → IsWithinLimits e → IsUsable n s e
 usable n s e p h = record { named = p; shallow = h.shallow }

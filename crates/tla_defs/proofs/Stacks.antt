@@ -1,15 +1,14 @@
 -- Names in scope as a stack.
-use Rattle.std.proofs.Common.{◌≡◌, ◌++◌, ℕ, List, [], ◌∷◌, Option, Some, None, if◌then◌else◌, arith, map, take, length, refl, sym, ap, ◌∙◌}
+use Rattle.std.proofs.Common.{◌≡◌, ◌++◌, ℕ, List, [], ◌∷◌, Option, Some, None, arith, map, take, length, refl, sym, ap, ◌∙◌}
 use Rattle.std.proofs.lemmas.List.{take-map}
 use Rattle.std.proofs.Math.Seq.{take-append_seam}
-use Rattle.std.specs.Str.{bytes_eq}
 use Rattle.tla_defs.specs.declared.scope.Signature.{Signature}
 use Rattle.tla_parse.specs.declared.tree.Expr.{Expr}
 use Rattle.tla_parse.specs.Tree.{trees}
 use Rattle.tla_parse.specs.View.{view}
 use Rattle.tla_expand.specs.Maybe.{or_else}
 use Rattle.tla_defs.specs.Known.{Misuse, count}
-use Rattle.tla_defs.specs.Scope.{Scope, arity}
+use Rattle.tla_defs.specs.Scope.{Scope}
 
 abbrev pub known : Signature → List ℕ × ℕ
 known k = (k.name.now, k.arity)
@@ -29,15 +28,6 @@ pub or_else_none : (o : Option Misuse) → or_else o None ≡ o
 or_else_none None = refl
 or_else_none (Some m) = refl
 
-or_else_some : {A : Type 0} (o : Option A) → or_else None o ≡ or_else o None
-or_else_some None = refl
-or_else_some (Some x) = refl
-
-or_else_assoc : {A : Type 0} (a b c : Option A) → or_else (or_else a b) c ≡ or_else a (or_else b c)
+pub or_else_assoc : (a b c : Option ℕ) → or_else (or_else a b) c ≡ or_else a (or_else b c)
 or_else_assoc None b c = refl
 or_else_assoc (Some x) b c = refl
-
--- what was brought in last counts
-pub arity_last : (σ : Scope) (s : List ℕ × ℕ) (x : List ℕ) → arity (σ ++ s ∷ []) x ≡ or_else (if bytes_eq x s.0 then Some s.1 else None) (arity σ x)
-arity_last [] s x = or_else_some (if bytes_eq x s.0 then Some s.1 else None)
-arity_last (r ∷ σ) s x = rw (arity_last σ s x) (or_else_assoc (if bytes_eq x s.0 then Some s.1 else None) (arity σ x) (if bytes_eq x r.0 then Some r.1 else None))

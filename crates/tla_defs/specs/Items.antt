@@ -1,18 +1,18 @@
 -- The items of CONSTANT: the names that they are for, and what these mean (book, chapter 14).
-use Rattle.std.specs.Prelude.{ℕ, nat_eq, Bool, List, [], ◌∷◌, ◌++◌, Option, Some, None, is_some, if◌then◌else◌, map}
+use Rattle.std.specs.Prelude.{ℕ, Bool, List, [], ◌∷◌, ◌++◌, Option, Some, None, is_some, if◌then◌else◌, map}
 use Rattle.std.specs.List.{flat_map}
 use Rattle.tla_value.specs.Tree as value
 use Rattle.tla_eval.specs.Expr.{constant}
 use Rattle.tla_parse.specs.declared.word.Written.{Written}
-use Rattle.tla_parse.specs.Units.{UnitTree, Extends, Operator, Defines, Local, Assume, Constants}
-use Rattle.tla_config.specs.Names.{Name, words, is_among}
+use Rattle.tla_parse.specs.Units.{UnitTree, Operator, Defines, Local, Assume, Constants}
+use Rattle.tla_config.specs.Names.{Name, is_among}
 use Rattle.tla_config.specs.Statements.{Item, Value, Replaces}
 use Rattle.tla_expand.specs.Maybe.{or_else}
 use Rattle.tla_expand.specs.Expand as x
 use Rattle.tla_expand.specs.Expand.{with_name, alone}
-use Rattle.tla_defs.specs.Scope.{Scope, arity, signature, extended}
+use Rattle.tla_defs.specs.Scope.{Scope, arity, signature}
 use Rattle.tla_defs.specs.Constants.{constants}
-use Rattle.tla_defs.specs.Known.{Misuse, Unknown, Arguments, used, again}
+use Rattle.tla_defs.specs.Known.{Misuse, Unknown, used, again}
 
 abbrev pub replaced_name : Item → Written
 replaced_name (Value w v) = w
@@ -26,14 +26,13 @@ replaced_names is = map (λ (i : Item). (replaced_name i).word) is
 abbrev pub fixed : value.Tree → x.Meaning
 fixed v = alone (λ p d. Some (constant p v))
 
--- what an item makes of its name, where operators mean this
-abbrev pub with_item : x.Scope → Item → x.Scope → x.Scope
-with_item ρ (Value w v) σ = with_name w.word (fixed v) σ
-with_item ρ (Replaces w op) σ = with_name w.word (ρ op.word) σ
+abbrev pub with_item : Item → x.Scope → x.Scope
+with_item (Value w v) σ = with_name w.word (fixed v) σ
+with_item (Replaces w op) σ = σ
 
-abbrev pub with_items : x.Scope → List Item → x.Scope → x.Scope
-with_items ρ [] σ = σ
-with_items ρ (i ∷ is) σ = with_items ρ is (with_item ρ i σ)
+abbrev pub with_items : List Item → x.Scope → x.Scope
+with_items [] σ = σ
+with_items (i ∷ is) σ = with_items is (with_item i σ)
 
 -- what a unit defines; an assumption's name is defined too
 abbrev pub defined : UnitTree → Scope
@@ -58,24 +57,12 @@ replaceable_of us = flat_map replaceable us
 abbrev pub unknown : Scope → Written → Option Misuse
 unknown σ w = if is_some (arity σ w.word) then None else Some (Unknown w)
 
--- what may stand for another name, and may have an item `c <- Op`: operators of modules too
-abbrev pub nameable : UnitTree → Scope
-nameable (Extends at ws) = extended (words ws)
-nameable u = replaceable u
-
-abbrev pub nameable_of : List UnitTree → Scope
-nameable_of us = flat_map nameable us
-
-abbrev pub differ : Written → Option ℕ → Option ℕ → Option Misuse
-differ w (Some m) (Some n) = if nat_eq m n then None else Some (Arguments w)
-differ w _ _ = None
-
--- An item behind items for other names: its name is known, has no item yet, and takes no argument or as many as the operator. Values are for the names of δ, operators for those of μ.
-abbrev pub item_misused : Scope → Scope → List Name → Item → Option Misuse
-item_misused δ μ before (Value w v) = or_else (unknown δ w) (or_else (again before w) (used δ w 0))
-item_misused δ μ before (Replaces w op) = or_else (unknown μ w) (or_else (again before w) (or_else (unknown μ op) (differ w (arity μ w.word) (arity μ op.word))))
+-- an item behind items for other names: its name is known, has no item yet, and takes no argument
+abbrev pub item_misused : Scope → List Name → Item → Option Misuse
+item_misused σ before (Value w v) = or_else (unknown σ w) (or_else (again before w) (used σ w 0))
+item_misused σ before (Replaces w op) = None
 
 -- the first misuse of a name in items, in the order of the configuration
-abbrev pub items_misused : Scope → Scope → List Name → List Item → Option Misuse
-items_misused δ μ before [] = None
-items_misused δ μ before (i ∷ is) = or_else (item_misused δ μ before i) (items_misused δ μ (before ++ (replaced_name i).word ∷ []) is)
+abbrev pub items_misused : Scope → List Name → List Item → Option Misuse
+items_misused σ before [] = None
+items_misused σ before (i ∷ is) = or_else (item_misused σ before i) (items_misused σ (before ++ (replaced_name i).word ∷ []) is)

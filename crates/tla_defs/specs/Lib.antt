@@ -3,9 +3,6 @@ pub mod Scope
 pub mod Known
 pub mod Constants
 pub mod Items
-pub mod Leads
-pub mod Circles
-pub mod Reached
 pub mod Misuses
 pub mod Named
 pub mod LeftOut

@@ -18,8 +18,7 @@ use Rattle.tla_model.specs.Size.{IsWithinLimits}
 use Rattle.tla_defs.specs.LeftOut.{left_out}
 use Rattle.tla_defs.specs.Global.{global}
 use Rattle.tla_defs.specs.Constants.{unvalued}
-use Rattle.tla_defs.specs.Items.{definitions_of, replaceable_of, nameable_of, replaced_names, items_misused}
-use Rattle.tla_defs.specs.Circles.{AreStraight}
+use Rattle.tla_defs.specs.Items.{definitions_of, replaceable_of, replaced_names, items_misused}
 use Rattle.tla_defs.specs.Named.{names_misused}
 use Rattle.tla_defs.specs.Misuses.{variables_of, misuse}
 
@@ -99,15 +98,14 @@ nexts_named cs = flat_map named_next cs
 abbrev pub invariants_named : List Statement → List Written
 invariants_named cs = flat_map named_invariants cs
 
--- No name is brought in twice or used as it may not be, each constant has one value, no replacement leads back to its name, exactly one INIT and one NEXT name the behaviour, the
+-- No name is brought in twice or used as it may not be, each constant has one value, exactly one INIT and one NEXT name the behaviour, the
 -- configuration names definitions without parameters, and no statement stands that has no meaning yet.
 pub record IsModel (us : List UnitTree) (cs : List Statement) (m : ModelTree) : Type 0 where
   pub whole : left_out cs ≡ None
   pub known : misuse us ≡ None
-  pub given : items_misused (replaceable_of us) (nameable_of us) [] (items_of cs) ≡ None
+  pub given : items_misused (replaceable_of us) [] (items_of cs) ≡ None
   pub valued : unvalued (replaced_names (items_of cs)) us ≡ None
   pub named : names_misused (definitions_of us) cs ≡ None
-  pub straight : AreStraight us (items_of cs) (items_of cs)
   pub init_name : Written
   pub next_name : Written
   pub one_init : initials_named cs ≡ init_name ∷ []

@@ -1,5 +1,5 @@
 -- Why a module and a configuration name no model: the first step that refuses them, and where (this project's own choice).
-use Rattle.std.specs.Prelude.{◌≡◌, ◌≢◌, ◌⊎◌, Bool, true, false, is_some, List, [], ◌∷◌, Option, Some, None, Result, Ok, Err}
+use Rattle.std.specs.Prelude.{◌≡◌, ◌≢◌, Bool, true, false, is_some, List, [], ◌∷◌, Option, Some, None, Result, Ok, Err}
 use Rattle.tla_lex.specs.declared.token.Place.{Place}
 use Rattle.tla_parse.specs.declared.word.Written.{Written}
 use Rattle.tla_parse.specs.Units.{UnitTree}
@@ -12,11 +12,10 @@ use Rattle.tla_config.specs.Statements.{Statement, Specification, Init, Next, In
 use Rattle.tla_config.specs.View.{ConfigTree}
 use Rattle.tla_expand.specs.Maybe.{or_else}
 use Rattle.tla_defs.specs.LeftOut.{left_out}
-use Rattle.tla_defs.specs.Items.{definitions_of, replaceable_of, nameable_of, replaced_names, items_misused}
+use Rattle.tla_defs.specs.Items.{definitions_of, replaceable_of, replaced_names, items_misused}
 use Rattle.tla_defs.specs.Known.{Misuse, Twice, Unknown, Arguments}
 use Rattle.tla_defs.specs.Constants.{unvalued}
 use Rattle.tla_defs.specs.Misuses.{misuse}
-use Rattle.tla_defs.specs.Circles.{AreStraight, IsFirstCircle}
 use Rattle.tla_defs.specs.Named.{names_misused}
 
 -- a refusal with the name that it prints, and one without
@@ -75,7 +74,7 @@ behaviour_refused us cs (Ok b) = refusal_for source.Configuration (names_misused
 
 -- the items of CONSTANT, then a constant without a value
 abbrev pub items_refused : List UnitTree → List Item → Option DefsError
-items_refused us is = or_else (refusal_for source.Configuration (items_misused (replaceable_of us) (nameable_of us) [] is)) (constant_refused (unvalued (replaced_names is) us))
+items_refused us is = or_else (refusal_for source.Configuration (items_misused (replaceable_of us) [] is)) (constant_refused (unvalued (replaced_names is) us))
 
 -- The statements left out, then the names of the module, then the items of CONSTANT, then a constant without a value, then the behaviour, then the
 -- names of the configuration.
@@ -97,16 +96,10 @@ pub record IsOfFormula (e : DefsError) : Type 0 where
   pub place : is_some e.place ≡ true
   pub name : e.name ≡ None
 
--- the first item that leads back to its name
-pub record IsOfCircle (us : List UnitTree) (is : List Item) (e : DefsError) : Type 0 where
-  pub name : Written
-  pub first : IsFirstCircle us is is name
-  pub refused : refusal_of c.CircularReplacement source.Configuration name ≡ e
+abbrev pub refusal_is : Option DefsError → DefsError → Type 0
+refusal_is (Some r) e = r ≡ e
+refusal_is None e = IsOfFormula e
 
-abbrev pub refusal_is : List UnitTree → List Item → Option DefsError → DefsError → Type 0
-refusal_is us is (Some r) e = r ≡ e
-refusal_is us is None e = IsOfCircle us is e ⊎ (AreStraight us is is × IsOfFormula e)
-
--- The first step that refuses a module and a configuration, or, where none does, the first item that leads back to its name, or else a formula.
+-- The first step that refuses a module and a configuration, or, where none does, a formula.
 abbrev pub IsRefusal : List UnitTree → ConfigTree → DefsError → Type 0
-IsRefusal us config e = refusal_is us (items_of config.statements) (refused us config) e
+IsRefusal us config e = refusal_is (refused us config) e

@@ -13,7 +13,6 @@ ghost use Rattle.tla_model.specs.ModelOf.{invariant_of};
 ghost use Rattle.tla_model.specs.Models.{model_of};
 ghost use Rattle.tla_parse.specs.declared.word.Written as written;
 ghost use Rattle.tla_parse.specs.UnitsView.{unit_view};
-ghost use Rattle.tla_defs.specs.Circles.{AreStraight};
 ghost use Rattle.tla_defs.specs.Constants.{unvalued};
 ghost use Rattle.tla_defs.specs.Formulas.{LacksInvariant, LacksAssumption, Follow, mentions};
 ghost use Rattle.tla_defs.specs.Items as given;
@@ -24,7 +23,6 @@ ghost use Rattle.tla_defs.specs.Named as named;
 ghost use Rattle.tla_defs.specs.Refused as refused;
 
 use crate::behaviour::{Behaviour, named_behaviour};
-use crate::circle::straight;
 use crate::constants::unvalued;
 use crate::formula::{action, assumption, initial, invariant, statements_named};
 use crate::global::global_scope;
@@ -186,7 +184,7 @@ fn push_assumption(assumptions: &mut Vec<Core>, assumption: Core) -> Result<(), 
 
 /// Items for constants and definitions that may have them, so that each constant has a value.
 fn valued(alloc: Global, units: &[Unit], items: &Items<'_>) -> Result<(), DefsError>
-    ensures given { OnOk result (given.items_misused (given.replaceable_of (map unit_view units.now)) (given.nameable_of (map unit_view units.now)) [] items.now ≡ None) }
+    ensures given { OnOk result (given.items_misused (given.replaceable_of (map unit_view units.now)) [] items.now ≡ None) }
     ensures valued { OnOk result (unvalued (given.replaced_names items.now) (map unit_view units.now) ≡ None) }
     ensures err { IfErr result (λ e. e.code ≢ Memory → refused.items_refused (map unit_view units.now) items.now ≡ Some e) }
 {
@@ -211,10 +209,9 @@ fn model(
     requires whole { spec.left_out (map statement_view statements.now) ≡ None }
     requires known { known.misuse (map unit_view units.now) ≡ None }
     requires items { items.now ≡ items_of (map statement_view statements.now) }
-    requires given { given.items_misused (given.replaceable_of (map unit_view units.now)) (given.nameable_of (map unit_view units.now)) [] items.now ≡ None }
+    requires given { given.items_misused (given.replaceable_of (map unit_view units.now)) [] items.now ≡ None }
     requires valued { unvalued (given.replaced_names items.now) (map unit_view units.now) ≡ None }
     requires named { named.names_misused (given.definitions_of (map unit_view units.now)) (map statement_view statements.now) ≡ None }
-    requires straight { AreStraight (map unit_view units.now) items.now items.now }
     requires variables { variables.now ≡ known.variables_of (map unit_view units.now) }
     requires initial { model.initials_named (map statement_view statements.now) ≡ behaviour.initial.now ∷ [] }
     requires next { model.nexts_named (map statement_view statements.now) ≡ behaviour.next.now ∷ [] }
@@ -256,13 +253,13 @@ fn model_or_refusal(alloc: Global, units: &[Unit], config: &Config) -> Result<Mo
     };
     let definitions = definitions_of(alloc, units)?;
     statements_named(alloc, &definitions, statements)?;
-    straight(alloc, units, &items)?;
     model(alloc, units, &variables, &items, behaviour, statements)
 }
 
 /// The model that a module and a configuration name, or the first step that refuses them: the statements that have no
-/// meaning yet (SPECIFICATION), the names of the module, the items of CONSTANT, a constant without a value, the behaviour,
-/// the names of the configuration, an item that leads back to its name, the assumptions, Init, Next, and the invariants.
+/// meaning yet (SPECIFICATION, and CONSTANT with an item `c <- Op`), the names of the module, the items of CONSTANT, a
+/// constant without a value, the behaviour, the names of the configuration, the assumptions, Init, Next, and the
+/// invariants.
 /// It recurses as deep as the module's trees are nested, which is at most 200 from `parse_module`, and over a formula's
 /// expansion to depth 300.
 pub fn build(alloc: Global, module: &Module, config: &Config) -> Result<Model, DefsError>

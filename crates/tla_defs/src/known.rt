@@ -220,7 +220,7 @@ pub(crate) fn expression<'a>(
         },
         Expr::Let(_, definitions, body) => within(alloc, modules, scope, definitions, body),
         Expr::Filter(_, name, set, body) => chosen(alloc, modules, scope, name, set, body),
-        Expr::Image(_, element, groups) => image(alloc, modules, scope, element, groups),
+        Expr::Image(_, value, groups) => image(alloc, modules, scope, value, groups),
         Expr::Function(_, groups, body) => bound(alloc, modules, scope, groups, body),
         Expr::FunctionSet(_, first, second)
         | Expr::Action(_, _, first, second)
@@ -294,23 +294,55 @@ fn chosen<'a>(
 /// An element before the binder list of its names.
 #[cycle(known)]
 #[tactic(auto, using(crate::proofs::Stacks::cut_back))]
+fn element<'a>(
+    alloc: Global,
+    modules: &Names<'_>,
+    scope: &mut Scope<'a>,
+    value: &'a Expr,
+    groups: &'a [Binder],
+) -> Result<(), DefsError>
+    ensures same { OnOk result (scope.new ≡ scope.old) }
+    ensures first { Says Source.Module result (known.misused modules.now (scope.old ++ scope_of.plain (scope_of.bound_names (binders (map group_view groups.now)))) (view value.now)) }
+{
+    let mark = scope.len();
+    scope.push_bound(groups)?;
+    expression(alloc, modules, scope, value)?;
+    scope.truncate(mark);
+    Ok(())
+}
+
+/// A binder list behind its element.
+#[cycle(known)]
+#[tactic(auto, using(crate::proofs::Stacks::cut_back))]
+fn bound_before<'a>(
+    alloc: Global,
+    modules: &Names<'_>,
+    scope: &mut Scope<'a>,
+    groups: &'a [Binder],
+) -> Result<(), DefsError>
+    ensures same { OnOk result (scope.new ≡ scope.old) }
+    ensures first { Says Source.Module result (known.misused_sets modules.now scope.old [] (binders (map group_view groups.now))) }
+{
+    let mark = scope.len();
+    bind(alloc, modules, scope, groups)?;
+    scope.truncate(mark);
+    Ok(())
+}
+
+/// An element and the binder list of its names.
+#[cycle(known)]
 fn image<'a>(
     alloc: Global,
     modules: &Names<'_>,
     scope: &mut Scope<'a>,
-    element: &'a Expr,
+    value: &'a Expr,
     groups: &'a [Binder],
 ) -> Result<(), DefsError>
     ensures same { OnOk result (scope.new ≡ scope.old) }
-    ensures first { Says Source.Module result (or_else (known.misused modules.now (scope.old ++ scope_of.plain (scope_of.bound_names (binders (map group_view groups.now)))) (view element.now)) (known.misused_sets modules.now scope.old [] (binders (map group_view groups.now)))) }
+    ensures first { Says Source.Module result (or_else (known.misused modules.now (scope.old ++ scope_of.plain (scope_of.bound_names (binders (map group_view groups.now)))) (view value.now)) (known.misused_sets modules.now scope.old [] (binders (map group_view groups.now)))) }
 {
-    let mark = scope.len();
-    scope.push_bound(groups)?;
-    expression(alloc, modules, scope, element)?;
-    scope.truncate(mark);
-    bind(alloc, modules, scope, groups)?;
-    scope.truncate(mark);
-    Ok(())
+    element(alloc, modules, scope, value, groups)?;
+    bound_before(alloc, modules, scope, groups)
 }
 
 /// Fields of which each name stands once.
@@ -385,6 +417,23 @@ fn one_update<'a>(
     expression(alloc, modules, scope, &update.value)
 }
 
+/// A step of a path.
+#[cycle(known)]
+fn one_key<'a>(
+    alloc: Global,
+    modules: &Names<'_>,
+    scope: &mut Scope<'a>,
+    key: &'a Key,
+) -> Result<(), DefsError>
+    ensures same { OnOk result (scope.new ≡ scope.old) }
+    ensures first { Says Source.Module result (known.misused_key modules.now scope.old (key_view key.now)) }
+{
+    match key {
+        Key::Index(arguments) => each(alloc, modules, scope, arguments),
+        Key::Field(_) => Ok(()),
+    }
+}
+
 /// The path of an update.
 #[cycle(known)]
 fn path<'a>(
@@ -398,9 +447,7 @@ fn path<'a>(
 {
     let mut left = items;
     while let [first, rest @ ..] = left {
-        if let Key::Index(arguments) = first {
-            each(alloc, modules, scope, arguments)?;
-        }
+        one_key(alloc, modules, scope, first)?;
         left = rest;
     }
     Ok(())

@@ -6,14 +6,12 @@
 
 mod behaviour;
 mod builder;
-mod circle;
 mod constants;
 mod formula;
 mod global;
 mod items;
 mod known;
 pub mod laws;
-mod leads;
 mod left_out;
 mod mention;
 mod names;
@@ -24,6 +22,3 @@ mod units;
 pub use builder::build;
 pub use tla_config::{Config, DefsCode, DefsError, Source, parse_config};
 pub use tla_model::Model;
-
-#[cfg(test)]
-mod tests;

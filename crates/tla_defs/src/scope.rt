@@ -124,19 +124,20 @@ impl<'a> Scope<'a> {
         Ok(())
     }
 
-    /// How many arguments a name takes, where it is in scope.
-    #[tactic(auto, using(crate::proofs::Stacks::arity_last))]
+    /// How many arguments a name takes, where it is in scope: the last one of the name counts.
+    #[tactic(auto, using(crate::proofs::Stacks::or_else_assoc))]
     pub(crate) fn arity(&self, name: &[u8]) -> Option<usize>
         ensures { result ≡ arity self.now name.now }
     {
+        let mut found = None;
         let mut left = self.names.as_slice();
-        while let [rest @ .., last] = left {
-            if name == last.name {
-                return Some(last.arity);
+        while let [first, rest @ ..] = left {
+            if name == first.name {
+                found = Some(first.arity);
             }
             left = rest;
         }
-        None
+        found
     }
 
     pub(crate) fn knows(&self, name: &[u8]) -> bool

@@ -47,8 +47,8 @@ parameters_mismatch (x ∷ xs) [] σ h = refl
 parameters_mismatch (x ∷ xs) (a ∷ args) σ h = parameters_mismatch xs args (with_name x.word (parameter a) σ) (λ e. h (ap suc e))
 
 -- an operator with another number of arguments
-pub mismatch : (at : ℕ → Scope) (args : List syntax.Expr) (σ : Scope) (p : Place) (d : ℕ) (m : Meaning) (e : Entry) (xs : Bor (List Written)) (body : Bor syntax.Expr) (home : ℕ)
-    → m ≡ meaning_of at e.what → e.what ≡ Definition xs body home → (length xs.now ≡ length args → ⊥) → m p (arguments_in args σ) d ≡ None
-mismatch at args σ p d m e xs body home h w n =
+pub mismatch : (at : ℕ → Scope) (args : List syntax.Expr) (σ : Scope) (p : Place) (d : ℕ) (m : Meaning) (e : Entry) (xs : Bor (List Written)) (body : Bor syntax.Expr)
+    → m ≡ meaning_of at e.what e.rest → e.what ≡ Definition xs body → (length xs.now ≡ length args → ⊥) → m p (arguments_in args σ) d ≡ None
+mismatch at args σ p d m e xs body h w n =
     let q : length (arguments_in args σ) ≡ length args = length-map args (λ (t : syntax.Expr). expand (view t) σ) in
-    rw (h, w, parameters_mismatch xs.now (arguments_in args σ) (at home) (λ z. n (z ∙ q))) refl
+    rw (h, w, parameters_mismatch xs.now (arguments_in args σ) (at e.rest) (λ z. n (z ∙ q))) refl

@@ -4,29 +4,28 @@ use Rattle.tla_parse.specs.declared.tree.Expr as s
 use Rattle.tla_parse.specs.View.{view}
 use Rattle.tla_expand.specs.declared.arena.Entry.{Entry}
 use Rattle.tla_expand.specs.declared.arena.What.{What}
-use Rattle.tla_expand.specs.declared.arena.What.TheVariants.{Bound, Variable, Value, Argument, Definition, Module, Unknown}
+use Rattle.tla_expand.specs.declared.arena.What.TheVariants.{Bound, Variable, Value, Argument, Definition, Unknown}
 use Rattle.tla_expand.specs.Expand as x
-use Rattle.tla_expand.specs.Expand.{Scope, Meaning, standard, with_name, unknown, bound_name, variable, value_name, parameter, operator, expand, builtin_meaning}
+use Rattle.tla_expand.specs.Expand.{Scope, Meaning, standard, with_name, unknown, bound_name, variable, value_name, parameter, operator, expand}
 
 -- the arguments of a use
 abbrev pub arguments_in : List s.Expr → Scope → List x.Argument
 arguments_in es σ = map (λ (e : s.Expr). expand (view e) σ) es
 
 -- what an entry's name means, where the scopes are these
-abbrev pub meaning_of : (ℕ → Scope) → What → Meaning
-meaning_of at (Bound i) = bound_name i
-meaning_of at (Variable i) = variable i
-meaning_of at (Value v) = value_name v.now
-meaning_of at (Argument t s) = parameter (expand (view t.now) (at s))
-meaning_of at (Definition ws body home) = operator ws.now (expand (view body.now)) (at home)
-meaning_of at (Module b) = builtin_meaning b
-meaning_of at Unknown = unknown
+abbrev pub meaning_of : (ℕ → Scope) → What → ℕ → Meaning
+meaning_of at (Bound i) rest = bound_name i
+meaning_of at (Variable i) rest = variable i
+meaning_of at (Value v) rest = value_name v.now
+meaning_of at (Argument t s) rest = parameter (expand (view t.now) (at s))
+meaning_of at (Definition ws body) rest = operator ws.now (expand (view body.now)) (at rest)
+meaning_of at Unknown rest = unknown
 
 abbrev pub at_of : List Scope → ℕ → Scope
 at_of σs i = get_or σs i standard
 
 abbrev pub entry_scope : (ℕ → Scope) → Entry → Scope
-entry_scope at e = with_name e.name.now (meaning_of at e.what) (at e.rest)
+entry_scope at e = with_name e.name.now (meaning_of at e.what e.rest) (at e.rest)
 
 abbrev pub grow : List Scope → List Entry → List Scope
 grow σs [] = σs
@@ -38,7 +37,6 @@ scope_at es i = at_of (grow (standard ∷ []) es) i
 -- an entry speaks of scopes that are there before it
 abbrev pub IsBelow : ℕ → What → ℕ → Type 0
 IsBelow k (Argument t s) rest = (s ≤ k) × (rest ≤ k)
-IsBelow k (Definition ws body home) rest = (home ≤ k) × (rest ≤ k)
 IsBelow k w rest = rest ≤ k
 
 abbrev pub LinkedFrom : ℕ → List Entry → Type 0

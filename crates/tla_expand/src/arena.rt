@@ -5,7 +5,6 @@ ghost use Rattle.tla_expand.specs.Expand.{standard, with_parameters};
 ghost use Rattle.tla_expand.specs.Scopes.{AreLinked, IsBelow, Extends, scope_at, entry_scope, meaning_of, arguments_in};
 
 use crate::failure::Failure;
-use crate::nodes::Builtin;
 use tla_parse::{Expr, Written};
 use tla_value::Value;
 
@@ -17,10 +16,8 @@ pub(crate) enum What<'a> {
     Value(&'a Value),
     /// An argument, in the scope of the use.
     Argument(&'a Expr, usize),
-    /// The parameters and the body of a definition, in the scope where it stands.
-    Definition(&'a [Written], &'a Expr, usize),
-    /// An operator of a module under another name.
-    Module(Builtin),
+    /// The parameters and the body of a definition.
+    Definition(&'a [Written], &'a Expr),
     /// A definition without expansion.
     Unknown,
 }
@@ -37,7 +34,7 @@ pub(crate) struct Entry<'a> {
 pub(crate) fn find<'a>(entries: &[Entry<'a>], scope: usize, name: &[u8]) -> Option<Entry<'a>>
     requires linked { AreLinked entries.now }
     requires within { scope ≤ length entries.now }
-    ensures found { IfSome result (λ e. scope_at entries.now scope name.now ≡ meaning_of (scope_at entries.now) e.what) }
+    ensures found { IfSome result (λ e. scope_at entries.now scope name.now ≡ meaning_of (scope_at entries.now) e.what e.rest) }
     ensures below { IfSome result (λ e. IsBelow (length entries.now) e.what e.rest) }
     ensures none { IfNone result (scope_at entries.now scope name.now ≡ standard name.now) }
 {

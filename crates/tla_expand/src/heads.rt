@@ -4,7 +4,7 @@ ghost use Rattle.std.specs.Prelude.{◌≡◌, ◌≤◌, length, ℕ, List, map
 ghost use Rattle.tla_parse.specs.View.{view, definition_view};
 ghost use Rattle.tla_parse.specs.Tree.{definitions as definitions_of};
 ghost use Rattle.tla_expand.specs.declared.arena.Entry as arena_entry;
-ghost use Rattle.tla_expand.specs.Expand.{Scope, standard, builtin_meaning, expand, definitions_in, definition_in};
+ghost use Rattle.tla_expand.specs.Expand.{Scope, standard, expand, definitions_in, definition_in};
 ghost use Rattle.tla_expand.specs.Scopes.{AreLinked, IsBelow, Extends, scope_at, entry_scope, arguments_in};
 ghost use Rattle.tla_expand.specs.Gives.{shown, step_gives, head_gives, IsWithin, Explains};
 
@@ -12,7 +12,7 @@ use crate::arena::{Entry, What, bind, enter, find};
 use crate::builders::place_of;
 use crate::failure::Failure;
 use crate::forms::{builtin_form, form_of};
-use crate::nodes::{Builtin, Form, Leaf, Shape};
+use crate::nodes::{Form, Leaf, Shape};
 use crate::operators::builtin_for;
 use crate::primes::{Primes, one_more};
 use tla_eval::Place;
@@ -48,21 +48,6 @@ fn use_of_module<'a>(
     let Some(builtin) = builtin_for(name) else {
         return Err(Failure::NoExpansion(place));
     };
-    use_of_builtin(place, builtin, arguments, scope, primes)
-}
-
-/// The use of an operator of a module.
-fn use_of_builtin<'a>(
-    place: Place,
-    builtin: Builtin,
-    arguments: &'a [Expr],
-    scope: usize,
-    primes: Primes,
-) -> Result<Head<'a>, Failure>
-    ensures scope { IfOk result (λ h. h.scope ≡ scope) }
-    ensures same { IfOk result (λ h. (es : List arena_entry.Entry) (d : ℕ) → shown primes (builtin_meaning builtin place (arguments_in arguments.now (scope_at es scope)) d) ≡ head_gives es h d) }
-    ensures err { IfErr result (λ e. (σ : Scope) → Explains e (λ d. builtin_meaning builtin place (arguments_in arguments.now σ) d)) }
-{
     match builtin_form(place, builtin, arguments) {
         Some(form) => Ok(Head {
             form,
@@ -94,16 +79,12 @@ pub(crate) fn use_of<'a>(
         let head = use_of_module(place, name, arguments, scope, primes)?;
         return Ok(Step::Ends(head));
     };
-    if let What::Definition(parameters, body, home) = entry.what {
+    if let What::Definition(parameters, body) = entry.what {
         if parameters.len() != arguments.len() {
             return Err(Failure::NoExpansion(place));
         }
-        let inner = bind(entries, parameters, home, arguments, scope)?;
+        let inner = bind(entries, parameters, entry.rest, arguments, scope)?;
         return Ok(Step::Goes(body, inner, primes));
-    }
-    if let What::Module(builtin) = entry.what {
-        let head = use_of_builtin(place, builtin, arguments, scope, primes)?;
-        return Ok(Step::Ends(head));
     }
     if arguments.len() > 0 {
         return Err(Failure::NoExpansion(place));
@@ -113,9 +94,7 @@ pub(crate) fn use_of<'a>(
         What::Bound(index) => Form::Leaf(place, Leaf::Bound(index)),
         What::Variable(index) => Form::Variable(place, index),
         What::Value(value) => Form::Leaf(place, Leaf::Value(value)),
-        What::Definition(_, _, _) | What::Module(_) | What::Unknown => return Err(
-            Failure::NoExpansion(place),
-        ),
+        What::Definition(_, _) | What::Unknown => return Err(Failure::NoExpansion(place)),
     };
     Ok(Step::Ends(Head {
         form,
@@ -155,7 +134,7 @@ pub(crate) fn entry_of<'a>(definition: &'a Definition, scope: usize) -> Entry<'a
     match definition {
         Definition::Operator(name, parameters, body) => Entry {
             name: name.word.as_bytes(),
-            what: What::Definition(parameters.as_slice(), body, scope),
+            what: What::Definition(parameters.as_slice(), body),
             rest: scope,
         },
         Definition::Function(name, _, _) => Entry {

@@ -18,8 +18,6 @@ mod nodes;
 mod operators;
 mod primes;
 mod scopes;
-#[cfg(test)]
-mod tests;
 
 pub use failure::Failure;
 pub use primes::Primes;

@@ -1,22 +1,21 @@
 //! The names of a module, with what they mean.
 
-ghost use Rattle.std.specs.Prelude.{◌≡◌, ◌≢◌, ◌≤◌, [], length, IfOk, IfErr, Some};
+ghost use Rattle.std.specs.Prelude.{◌≡◌, ◌≢◌, [], length, IfOk, IfErr, Some};
 ghost use Rattle.tla_eval.specs.Expr as expr;
 ghost use Rattle.tla_eval.specs.ExprOf.{expr_of};
 ghost use Rattle.tla_model.specs.Size.{IsWithinLimits};
 ghost use Rattle.tla_parse.specs.Tree.{Name};
 ghost use Rattle.tla_parse.specs.View.{view, definition_view};
 ghost use Rattle.tla_expand.specs.Expand.{standard, with_name, variable, value_name, operator, definition_in, expand};
-ghost use Rattle.tla_expand.specs.Scopes.{AreLinked, IsBelow, meaning_of, scope_at};
+ghost use Rattle.tla_expand.specs.Scopes.{AreLinked, IsBelow, entry_scope, scope_at};
 ghost use Rattle.tla_expand.specs.Linked.{AreLinked-prop};
 ghost use Rattle.tla_expand.specs.Gives.{shown};
 
-use crate::arena::{Entry, What, enter, find};
+use crate::arena::{Entry, What, enter};
 use crate::expand::expansion;
 use crate::failure::Failure;
 use crate::heads::entry_of;
 use crate::named::named_expansion;
-use crate::operators::builtin_for;
 use crate::primes::Primes;
 use std::alloc::Global;
 use tla_eval::Core;
@@ -24,118 +23,83 @@ use tla_parse::{Definition, Expr, Word, Written};
 use tla_value::Value;
 
 /// The names that are known so far, each with its meaning. Those of the modules' own operators, as `Len`, always are.
-/// Round them stands the scope that was made before, if any.
 #[derive(Drop)]
 pub struct Scopes<'a> {
     entries: Vec<Entry<'a>>,
-    current: usize,
-    outer: usize,
     ghost linked: { AreLinked entries.items } by { AreLinked-prop entries.items },
-    ghost current_within: { current ≤ length entries.items },
-    ghost outer_within: { outer ≤ length entries.items },
 }
 
 impl<'a> Scopes<'a> {
-    ghost use Rattle.tla_expand.specs.Names.{scope_of, outer_of};
+    ghost use Rattle.tla_expand.specs.Names.{scope_of};
 
-    /// The scope round a module, and no names before it.
+    /// The scope round a module.
     pub fn new(alloc: Global) -> Scopes<'a>
-        ensures current { scope_of result ≡ standard }
-        ensures outer { outer_of result ≡ standard }
+        ensures { scope_of result ≡ standard }
     {
         Scopes {
             entries: Vec::new(alloc),
-            current: 0,
-            outer: 0,
         }
     }
 
-    /// The scope round a module once more; what was known so far is before it.
-    pub fn anew(self) -> Scopes<'a>
-        ensures current { scope_of result ≡ standard }
-        ensures outer { outer_of result ≡ scope_of self.entry }
-    {
-        Scopes {
-            entries: self.entries,
-            current: 0,
-            outer: self.current,
-        }
-    }
-
-    /// With a name more and what it means. The only error is want of memory.
-    fn with_entry(self, name: &'a [u8], what: What<'a>) -> Result<Scopes<'a>, Failure>
-        requires { IsBelow (length self.entries.items) what self.current }
-        ensures ok { IfOk result (λ s. scope_of s ≡ with_name name.entry.now (meaning_of (scope_at self.entry.entries.items) what.entry) (scope_of self.entry)) }
-        ensures outer { IfOk result (λ s. outer_of s ≡ outer_of self.entry) }
+    /// One entry more. The only error is want of memory.
+    fn with_entry(self, entry: Entry<'a>) -> Result<Scopes<'a>, Failure>
+        requires { IsBelow (length self.entries.items) entry.what entry.rest }
+        ensures ok { IfOk result (λ s. scope_of s ≡ entry_scope (scope_at self.entry.entries.items) entry.entry) }
         ensures err { IfErr result (λ e. e ≡ Failure.Memory) }
     {
-        let outer = self.outer;
-        let entry = Entry {
-            name,
-            what,
-            rest: self.current,
-        };
         let mut entries = self.entries;
-        let current = enter(&mut entries, entry)?;
-        Ok(Scopes {
-            entries,
-            current,
-            outer,
-        })
+        match enter(&mut entries, entry) {
+            Ok(_) => Ok(Scopes { entries }),
+            Err(e) => Err(e),
+        }
     }
 
     /// With a variable and its number. The only error is want of memory.
     pub fn with_variable(self, name: &'a Word, number: usize) -> Result<Scopes<'a>, Failure>
         ensures ok { IfOk result (λ s. scope_of s ≡ with_name name.now (variable number) (scope_of self.entry)) }
-        ensures outer { IfOk result (λ s. outer_of s ≡ outer_of self.entry) }
         ensures err { IfErr result (λ e. e ≡ Failure.Memory) }
     {
-        self.with_entry(name.as_bytes(), What::Variable(number))
+        let rest = self.entries.len();
+        self.with_entry(Entry {
+            name: name.as_bytes(),
+            what: What::Variable(number),
+            rest,
+        })
     }
 
     /// With a constant and its value. The only error is want of memory.
     pub fn with_value(self, name: &'a Word, value: &'a Value) -> Result<Scopes<'a>, Failure>
         ensures ok { IfOk result (λ s. scope_of s ≡ with_name name.now (value_name value.now) (scope_of self.entry)) }
-        ensures outer { IfOk result (λ s. outer_of s ≡ outer_of self.entry) }
         ensures err { IfErr result (λ e. e ≡ Failure.Memory) }
     {
-        self.with_entry(name.as_bytes(), What::Value(value))
-    }
-
-    /// With a name that means what another one meant before. The only error is want of memory.
-    pub fn with_replacement(self, name: &'a Word, operator: &Word) -> Result<Scopes<'a>, Failure>
-        ensures ok { IfOk result (λ s. scope_of s ≡ with_name name.now (outer_of self.entry operator.now) (scope_of self.entry)) }
-        ensures outer { IfOk result (λ s. outer_of s ≡ outer_of self.entry) }
-        ensures err { IfErr result (λ e. e ≡ Failure.Memory) }
-    {
-        let what = match find(self.entries.as_slice(), self.outer, operator.as_bytes()) {
-            Some(entry) => entry.what,
-            None => match builtin_for(operator.as_bytes()) {
-                Some(builtin) => What::Module(builtin),
-                None => What::Unknown,
-            },
-        };
-        self.with_entry(name.as_bytes(), what)
+        let rest = self.entries.len();
+        self.with_entry(Entry {
+            name: name.as_bytes(),
+            what: What::Value(value),
+            rest,
+        })
     }
 
     /// With a definition without parameters. The only error is want of memory.
     pub fn with_operator(self, name: &'a Word, body: &'a Expr) -> Result<Scopes<'a>, Failure>
         ensures ok { IfOk result (λ s. scope_of s ≡ with_name name.now (operator [] (expand (view body.now)) (scope_of self.entry)) (scope_of self.entry)) }
-        ensures outer { IfOk result (λ s. outer_of s ≡ outer_of self.entry) }
         ensures err { IfErr result (λ e. e ≡ Failure.Memory) }
     {
-        let home = self.current;
-        self.with_entry(name.as_bytes(), What::Definition(&[], body, home))
+        let rest = self.entries.len();
+        self.with_entry(Entry {
+            name: name.as_bytes(),
+            what: What::Definition(&[], body),
+            rest,
+        })
     }
 
     /// With a definition. The only error is want of memory.
     pub fn with_definition(self, definition: &'a Definition) -> Result<Scopes<'a>, Failure>
         ensures ok { IfOk result (λ s. scope_of s ≡ definition_in (definition_view definition.now) (scope_of self.entry)) }
-        ensures outer { IfOk result (λ s. outer_of s ≡ outer_of self.entry) }
         ensures err { IfErr result (λ e. e ≡ Failure.Memory) }
     {
-        let entry = entry_of(definition, self.current);
-        self.with_entry(entry.name, entry.what)
+        let rest = self.entries.len();
+        self.with_entry(entry_of(definition, rest))
     }
 
     /// The expansion of an expression under these names, with at most 200,000 nodes, of which at most 300 on a path.
@@ -147,7 +111,7 @@ impl<'a> Scopes<'a> {
     {
         match Vec::from_slice(alloc, self.entries.as_slice()) {
             Ok(mut entries) => {
-                let scope = self.current;
+                let scope = entries.len();
                 expansion(alloc, &mut entries, tree, scope, primes)
             }
             Err(_) => Err(Failure::Memory),
@@ -163,7 +127,7 @@ impl<'a> Scopes<'a> {
     {
         match Vec::from_slice(alloc, self.entries.as_slice()) {
             Ok(mut entries) => {
-                let scope = self.current;
+                let scope = entries.len();
                 named_expansion(alloc, &mut entries, name, scope, primes)
             }
             Err(_) => Err(Failure::Memory),

@@ -1,9 +1,9 @@
 use Rattle.std.proofs.Common.{rules, ap, sym, ◌∙◌, ◌++◌, [], None, length, map}
 use Rattle.std.proofs.lemmas.Grind.{common_steps}
 use Rattle.tla_parse.specs.Tree.{trees, binders, arms, definitions, no_other, other}
-use Rattle.tla_parse.specs.View.{view, group_view, definition_view, choice_view, views_items, bound_views_items, arm_views_items, definition_views_items, field_views_items, update_views_items}
+use Rattle.tla_parse.specs.View.{view, key_view, group_view, definition_view, choice_view, views_items, bound_views_items, arm_views_items, definition_views_items, field_views_items, update_views_items}
 use Rattle.tla_expand.specs.Maybe.{or_else}
-use Rattle.tla_defs.specs.Known.{misused, misused_fields, misused_updates, misused_each, misused_arms, misused_sets, misused_definition, misused_definitions, used, new_name, count}
+use Rattle.tla_defs.specs.Known.{misused, misused_key, misused_fields, misused_updates, misused_each, misused_arms, misused_sets, misused_definition, misused_definitions, used, new_name, count}
 use Rattle.tla_defs.specs.Scope.{plain, bound_names, signatures}
 use Rattle.tla_defs.proofs.Stacks.{count_trees, or_else_none}
 use Rattle.tla_defs.proofs.known.+known.Goals as goal
@@ -83,7 +83,7 @@ expression-returns-in-Image-clause-first t c =
     let m = c.in-Image in
     let ms = c.args.modules.now in
     let σ = c.args.scope.now in
-    rw (ap (λ k. misused ms σ (view k)) m.is ∙ ap (λ x. or_else (misused ms (σ ++ plain (bound_names x)) (view m.element.value)) (misused_sets ms σ [] x)) (bound_views_items m.groups)) (search rules)
+    rw (ap (λ k. misused ms σ (view k)) m.is ∙ ap (λ x. or_else (misused ms (σ ++ plain (bound_names x)) (view m.value.value)) (misused_sets ms σ [] x)) (bound_views_items m.groups)) (search rules)
 
 pub expression-returns-in-Function-clause-first : goal.expression-returns-in-Function-clause-first
 expression-returns-in-Function-clause-first t c =
@@ -119,3 +119,10 @@ expression-returns-in-Product-clause-first t c =
     let ms = c.args.modules.now in
     let σ = c.args.scope.now in
     rw (ap (λ k. misused ms σ (view k)) m.is ∙ ap (λ x. or_else (misused ms σ (view m.first.value)) (misused_each ms σ x)) (views_items m.others)) (search rules)
+
+pub one_key-returns-in-Index-clause-first : goal.one_key-returns-in-Index-clause-first
+one_key-returns-in-Index-clause-first t c =
+    let m = c.in-Index in
+    let ms = c.args.modules.now in
+    let σ = c.args.scope.now in
+    rw (ap (λ k. misused_key ms σ (key_view k)) m.is ∙ ap (λ x. misused_each ms σ x) (views_items m.arguments)) (search rules)

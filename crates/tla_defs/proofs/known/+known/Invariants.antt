@@ -124,8 +124,14 @@ decreases-define l = 4 * most size-Definition l.items.now + 1
 abbrev pub decreases-chosen : goal.decreases-chosen
 decreases-chosen l = 4 * max (size-Expr l.set.now) (size-Expr l.body.now) + 2
 
+abbrev pub decreases-element : goal.decreases-element
+decreases-element l = 4 * size-Expr l.value.now + 1
+
+abbrev pub decreases-bound_before : goal.decreases-bound_before
+decreases-bound_before l = 4 * most size-Binder l.groups.now + 2
+
 abbrev pub decreases-image : goal.decreases-image
-decreases-image l = 4 * max (size-Expr l.element.now) (most size-Binder l.groups.now) + 2
+decreases-image l = 4 * max (size-Expr l.value.now) (most size-Binder l.groups.now) + 3
 
 abbrev pub decreases-each_field : goal.decreases-each_field
 decreases-each_field l = 4 * most size-Field l.items.now + 1
@@ -138,6 +144,9 @@ decreases-each_update l = 4 * most size-Update l.items.now + 1
 
 abbrev pub decreases-one_update : goal.decreases-one_update
 decreases-one_update l = 4 * size-Update l.update.now
+
+abbrev pub decreases-one_key : goal.decreases-one_key
+decreases-one_key l = 4 * size-Key l.key.now
 
 abbrev pub decreases-path : goal.decreases-path
 decreases-path l = 4 * most size-Key l.items.now + 1
