@@ -1,5 +1,5 @@
 -- The texts name one model at most, and none where a stage refuses.
-use Rattle.std.proofs.Common.{◌≡◌, ◌≢◌, ℕ, List, Option, Some, None, sym, subst}
+use Rattle.std.proofs.Common.{◌≡◌, ℕ, List, Option, Some, None, subst}
 use Rattle.tla_lex.specs.Tokens.{AreTokens}
 use Rattle.tla_lex.specs.declared.token.Place.{Place}
 use Rattle.tla_lex.specs.declared.token.Token.{Token}
@@ -12,15 +12,11 @@ use Rattle.tla_config.specs.Statements.{Statement}
 use Rattle.tla_defs.specs.Model.{IsModel}
 use Rattle.tla_model.specs.ModelTree.{ModelTree}
 use Rattle.tla_check.specs.declared.checked.RefusalCode.{RefusalCode}
-use Rattle.tla_check.specs.declared.checked.RefusalCode.TheVariants.{FormLeftOut}
 use Rattle.tla_check.specs.CarriesOver.{parse_code}
 use Rattle.tla_check.specs.Checks.{IsTreeOf, NameModel, NameNone, NameOnly}
 
 none-some : (code : RefusalCode) → (let o : Option RefusalCode = None in o ≡ Some code) → ⊥
 none-some code e = cc
-
-some-is : (v w : RefusalCode) → (let o : Option RefusalCode = Some v in o ≡ Some w) → v ≡ w
-some-is v w e = cc
 
 -- the text has no other tokens than these
 module _ (text config : List ℕ) (tokens : List Token) (only-tokens : (ts : List Token) → AreTokens text ts → ts ≡ tokens) where
@@ -31,13 +27,13 @@ module _ (text config : List ℕ) (tokens : List Token) (only-tokens : (ts : Lis
   none-by-units none m h = none h.units h.tree.shallow (spells-these h.units h.tree)
 
   pub none-by-module : (code : ParseCode) (place : Option Place) (name : Option (List ℕ)) (told : RefusalCode) → Justified text tokens code place name
-      → parse_code code ≡ Some told → told ≢ FormLeftOut → NameNone text config
-  none-by-module parse.Unexpected place name told why e other = none-by-units (λ us shallow. why us)
-  none-by-module parse.Precedence place name told why e other = none-by-units (λ us shallow. why us)
-  none-by-module parse.Column place name told why e other = none-by-units (λ us shallow. why us)
-  none-by-module parse.Nesting place name told why e other = none-by-units why
-  none-by-module parse.LeftOut place name told why e other = absurd (other (sym (some-is FormLeftOut told e)))
-  none-by-module parse.NoMemory place name told why e other = absurd (none-some told e)
+      → parse_code code ≡ Some told → NameNone text config
+  none-by-module parse.Unexpected place name told why e = none-by-units (λ us shallow. why us)
+  none-by-module parse.Precedence place name told why e = none-by-units (λ us shallow. why us)
+  none-by-module parse.Column place name told why e = none-by-units (λ us shallow. why us)
+  none-by-module parse.Nesting place name told why e = none-by-units why
+  none-by-module parse.LeftOut place name told (left-out, none) e = none-by-units (λ us shallow. none us)
+  none-by-module parse.NoMemory place name told why e = absurd (none-some told e)
 
   -- no other units are spelled, and the configuration says no other statements
   module _ (units : List UnitTree) (only-units : (us : List UnitTree) → SpellsModule text tokens us → us ≡ units)

@@ -22,7 +22,6 @@ use Rattle.tla_defs.specs.Model.{IsModel}
 use Rattle.tla_defs.specs.Refused as defs
 use Rattle.tla_model.specs.ModelTree.{ModelTree}
 use Rattle.tla_check.specs.declared.checked.RefusalCode.{RefusalCode}
-use Rattle.tla_check.specs.declared.checked.RefusalCode.TheVariants.{FormLeftOut}
 use Rattle.tla_check.specs.declared.checked.Checked.{Checked}
 use Rattle.tla_check.specs.declared.checked.Checked.TheVariants.{Answered, Refused, NoMemory, NoWorker}
 use Rattle.tla_check.specs.CarriesOver.{CarriesOver, EndsBy, lex_code, parse_code, defs_code}
@@ -35,13 +34,13 @@ module _ (text config : List ℕ) where
   stopped-tokens e (Answered a) why none ends = absurd ends
   stopped-tokens e (Refused r) why none ends = record {
     stage = ⊎_elim (λ first. of_tokens e first ends) (λ m. absurd (not-lex-memory e.code r.code ends.code (ap (λ (x : LexError). x.code) m))) why;
-    none = λ other m named. none (not-lex-memory e.code r.code ends.code) named.tree.tokens named.tree.are;
+    none = λ m named. none (not-lex-memory e.code r.code ends.code) named.tree.tokens named.tree.are;
   }
   stopped-tokens e NoMemory why none ends = tt
   stopped-tokens e NoWorker why none ends = absurd ends
 
   pub stopped-module : (tokens : List Token) (e : ParseError) (checked : Checked) → AreTokens text tokens → Justified text tokens e.code e.place e.name
-      → ((told : RefusalCode) → parse_code e.code ≡ Some told → told ≢ FormLeftOut → NameNone text config)
+      → ((told : RefusalCode) → parse_code e.code ≡ Some told → NameNone text config)
       → EndsBy Module (parse_code e.code) e.place e.name checked → IsStopped text config checked
   stopped-module tokens e (Answered a) are why none ends = absurd ends
   stopped-module tokens e (Refused r) are why none ends = record { stage = of_module tokens e are why ends; none = none r.code ends.code }
@@ -55,7 +54,7 @@ module _ (text config : List ℕ) where
       let says-none = none (not-memory e.code r.code ends.code) in
       record {
         stage = of_configuration units e tree says-none why (subst (λ (x : Source). CarriesOver x (defs_code e.code) e.place e.name r) source ends);
-        none = λ other m named. says-none named.statements named.configuration;
+        none = λ m named. says-none named.statements named.configuration;
       }
   stopped-configuration units e NoMemory tree none why source ends = tt
   stopped-configuration units e NoWorker tree none why source ends = absurd ends
@@ -67,7 +66,7 @@ module _ (text config : List ℕ) where
   stopped-model units c e (Answered a) tree is end why none names ends = absurd ends
   stopped-model units c e (Refused r) tree is end why none names ends =
       let named = not-memory e.code r.code ends.code in
-      record { stage = of_model units c e tree is end (why named) (none named) ends; none = λ other. names (none named) }
+      record { stage = of_model units c e tree is end (why named) (none named) ends; none = names (none named) }
   stopped-model units c e NoMemory tree is end why none names ends = tt
   stopped-model units c e NoWorker tree is end why none names ends = absurd ends
 

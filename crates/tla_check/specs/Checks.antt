@@ -1,5 +1,5 @@
 -- What a check of two texts answers: the stages are tokens, module, configuration, model and search, and the first that refuses ends it. (This project's own choice.)
-use Rattle.std.specs.Prelude.{◌≡◌, ◌≢◌, ◌≤◌, ℕ, List, length, map, Some, None, ⊤}
+use Rattle.std.specs.Prelude.{◌≡◌, ◌≤◌, ℕ, List, length, map, Some, None, ⊤}
 use Rattle.tla_lex.specs.Places.{place_at}
 use Rattle.tla_lex.specs.Tokens.{AreTokens, IsFirstFault}
 use Rattle.tla_lex.specs.declared.token.Token.{Token}
@@ -24,7 +24,6 @@ use Rattle.tla_check.specs.declared.checked.Answered.{Answered as AnsweredCheck}
 use Rattle.tla_check.specs.declared.checked.Checked.{Checked}
 use Rattle.tla_check.specs.declared.checked.Checked.TheVariants.{Answered, Refused, NoMemory, NoWorker}
 use Rattle.tla_check.specs.declared.checked.Refusal.{Refusal}
-use Rattle.tla_check.specs.declared.checked.RefusalCode.TheVariants.{FormLeftOut}
 use Rattle.tla_check.specs.CarriesOver.{CarriesOver, lex_code, parse_code, defs_code}
 
 -- the units are those of the module's tokens, and their expressions are within the limit
@@ -55,7 +54,7 @@ NameNone text config = (m : ModelTree) → NameModel text config m → ⊥
 pub data IsRefusal (text config : List ℕ) (r : Refusal) : Type 0 where
   -- the text has no tokens: this is its first fault
   of_tokens : (e : LexError) → IsFirstFault text e → CarriesOver Module (lex_code e.code) e.place None r → IsRefusal text config r
-  -- no units spell the tokens, or they hold a form that is left out
+  -- no units within the depth spell the tokens
   of_module : (tokens : List Token) (e : ParseError) → AreTokens text tokens → Justified text tokens e.code e.place e.name
       → CarriesOver Module (parse_code e.code) e.place e.name r → IsRefusal text config r
   -- the configuration has no statements
@@ -66,11 +65,10 @@ pub data IsRefusal (text config : List ℕ) (r : Refusal) : Type 0 where
       → c.end ≡ place_at config (length config) → defs.IsRefusal units c e → ((m : ModelTree) → IsModel units c.statements m → ⊥)
       → CarriesOver e.source (defs_code e.code) e.place e.name r → IsRefusal text config r
 
--- The texts are refused by the first stage that refuses them, and name no model. For a form that is left out, only that it
--- stands at its place is said.
+-- the texts are refused by the first stage that refuses them, and name no model
 pub record AreRefused (text config : List ℕ) (r : Refusal) : Type 0 where
   pub stage : IsRefusal text config r
-  pub none : r.code ≢ FormLeftOut → NameNone text config
+  pub none : NameNone text config
 
 abbrev pub names_in : List (List ℕ × Expr) → List (List ℕ)
 names_in invariants = map (λ (i : List ℕ × Expr). i.0) invariants
