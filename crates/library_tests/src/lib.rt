@@ -1,0 +1,25 @@
+//! Tests of the libraries' public calls: with ample memory, and of what no clause says.
+//!
+//! They stand in a crate of their own, since a crate with tests is proved a second time.
+#![tactic(auto)]
+
+#[cfg(test)]
+mod configurations;
+#[cfg(test)]
+mod expansions;
+#[cfg(test)]
+mod expression_depths;
+#[cfg(test)]
+mod expressions;
+#[cfg(test)]
+mod models;
+#[cfg(test)]
+mod search_options;
+#[cfg(test)]
+mod tokens;
+#[cfg(test)]
+mod trees;
+#[cfg(test)]
+mod value_texts;
+#[cfg(test)]
+mod values;
