@@ -9,6 +9,9 @@ pub enum Wanted {
     Status(u8),
     /// Of the module cut short after n bytes, line n of the report.
     Prefixes,
+    /// Of the module with a line of `lines` and the closing line behind it, for each line in turn, the next part of the
+    /// report.
+    Lines,
 }
 
 /// A line of the list.
@@ -24,6 +27,8 @@ impl Wanted {
     fn read(word: &str) -> Option<Wanted> {
         if word == "prefixes" {
             Some(Wanted::Prefixes)
+        } else if word == "lines" {
+            Some(Wanted::Lines)
         } else {
             Some(Wanted::Status(word.parse().ok()?))
         }

@@ -3,14 +3,16 @@
 //! The file `active` has a line for each case, `waiting` for those that the language doesn't reach yet: the name of the
 //! case's folder, the status that is wanted, and words of the command line. The folder has `module.tla`, `model.cfg` and
 //! `report`. Where the word `prefixes` stands for the status, the module is checked cut short after 0, 1, .. bytes, each
-//! time with the next line of `report` as the report that is wanted, and status 20.
+//! time with the next line of `report` as the report that is wanted, and status 20. Where it is `lines`, the folder has a
+//! file `lines` too: each of its lines ends the module in turn, and `report` has what is wanted of each, one behind the
+//! other.
 #![tactic(auto)]
 
 mod case;
 mod outcome;
 
 use case::{Case, Wanted};
-use outcome::{Files, is_as_wanted, prefixes_are_as_wanted};
+use outcome::{Files, is_as_wanted, lines_are_as_wanted, prefixes_are_as_wanted};
 use std::{fs, io};
 
 fn bytes_of(rt: &HostRuntime, case: &str, file: &str) -> io::Result<Vec<u8>> {
@@ -40,6 +42,10 @@ fn passes(rt: &HostRuntime, case: &Case<'_>) -> io::Result<bool> {
             )
         }
         Wanted::Prefixes => prefixes_are_as_wanted(rt.alloc(), &files),
+        Wanted::Lines => {
+            let lines = bytes_of(rt, case.name, "lines")?;
+            lines_are_as_wanted(rt.alloc(), &files, lines.as_slice())
+        }
     }
 }
 

@@ -18,7 +18,28 @@ const REFUSED_LINE: u8 = 21;
 /// The status of a text that is refused.
 const REFUSED_TEXT: u8 = 20;
 
-/// Whether the check of these texts writes this report and ends with this status. `options` are words of the command line.
+/// The status of a check of these texts and what it reports, or none where the report isn't written. `options` are words
+/// of the command line.
+fn reported(
+    alloc: Global,
+    module: &[u8],
+    config: &[u8],
+    options: &[&str],
+) -> io::Result<Option<(u8, Vec<u8>)>> {
+    let mut words = vec![in alloc; "tlacheck", "MODULE", "CONFIG"]?;
+    words.extend_from_slice(options)?;
+    let mut report = Vec::new(alloc);
+    let Ok(line) = read_line(alloc, words.as_slice()) else {
+        return Ok(Some((REFUSED_LINE, report)));
+    };
+    let checked = check(alloc, module, config, &line.options, &NoGate);
+    match write_report(&checked, &mut report) {
+        Ok(()) => Ok(Some((checked.status(), report))),
+        Err(_) => Ok(None),
+    }
+}
+
+/// Whether the check of these texts writes this report and ends with this status.
 pub fn is_as_wanted(
     alloc: Global,
     module: &[u8],
@@ -27,16 +48,9 @@ pub fn is_as_wanted(
     status: u8,
     report: &[u8],
 ) -> io::Result<bool> {
-    let mut words = vec![in alloc; "tlacheck", "MODULE", "CONFIG"]?;
-    words.extend_from_slice(options)?;
-    let Ok(line) = read_line(alloc, words.as_slice()) else {
-        return Ok(status == REFUSED_LINE && report.is_empty());
-    };
-    let checked = check(alloc, module, config, &line.options, &NoGate);
-    let mut written = Vec::new(alloc);
-    match write_report(&checked, &mut written) {
-        Ok(()) => Ok(checked.status() == status && written.as_slice() == report),
-        Err(_) => Ok(false),
+    match reported(alloc, module, config, options)? {
+        Some(answer) => Ok(answer.0 == status && answer.1.as_slice() == report),
+        None => Ok(false),
     }
 }
 
@@ -52,4 +66,26 @@ pub fn prefixes_are_as_wanted(alloc: Global, files: &Files) -> io::Result<bool> 
         }
     }
     Ok(true)
+}
+
+/// What ends a module.
+const CLOSING: &[u8] = b"====\n";
+
+/// Whether the reports of the module with each of these lines as its last, one behind the other, are that of the case.
+pub fn lines_are_as_wanted(alloc: Global, files: &Files, lines: &[u8]) -> io::Result<bool> {
+    let mut wanted = files.report.as_slice();
+    for line in lines.split_inclusive(|b| *b == b'\n') {
+        let mut module = Vec::new(alloc);
+        module.extend_from_slice(&files.module)?;
+        module.extend_from_slice(line)?;
+        module.extend_from_slice(CLOSING)?;
+        let Some(answer) = reported(alloc, &module, &files.config, &[])? else {
+            return Ok(false);
+        };
+        let Some(rest) = wanted.strip_prefix(answer.1.as_slice()) else {
+            return Ok(false);
+        };
+        wanted = rest;
+    }
+    Ok(wanted.is_empty())
 }

@@ -1,0 +1,8 @@
+---- MODULE M ----
+EXTENDS Integers
+VARIABLE x
+ASSUME \A v \in {1} : \A v \in {1} : TRUE
+Init == x = 0
+Next == x' = (x + 1) % 3
+Inv == x < 3
+====

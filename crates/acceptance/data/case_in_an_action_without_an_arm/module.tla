@@ -1,0 +1,6 @@
+---- MODULE M ----
+EXTENDS Integers, Sequences, FiniteSets, TLC
+VARIABLE x
+Init == x = 0
+Next == CASE x = 1 -> x' = 1
+====

@@ -1,0 +1,9 @@
+---- MODULE M ----
+EXTENDS Integers
+VARIABLE x
+Two == 2
+ASSUME Two = 3
+Init == x = 0
+Next == x' = (x + 1) % 3
+Inv == x < 3
+====

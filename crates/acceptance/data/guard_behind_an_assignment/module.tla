@@ -1,0 +1,6 @@
+---- MODULE M ----
+EXTENDS Integers, Sequences, FiniteSets, TLC
+VARIABLE x
+Init == x = 0
+Next == x' = 1 \div x /\ x # 0
+====

@@ -1,0 +1,6 @@
+---- MODULE M ----
+EXTENDS Integers, Sequences, FiniteSets, TLC
+VARIABLE x
+Init == FALSE
+Next == x' = x
+====

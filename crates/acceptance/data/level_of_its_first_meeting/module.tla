@@ -1,0 +1,6 @@
+---- MODULE M ----
+EXTENDS Integers, Sequences, FiniteSets, TLC
+VARIABLE x
+Init == x = 1
+Next == x' \in {(x * 2) % 7, (x + 3) % 7}
+====

@@ -1,0 +1,9 @@
+---- MODULE M ----
+EXTENDS Integers, Sequences, FiniteSets, TLC
+VARIABLE x
+F == 5
+ASSUME F[1] = 1
+Init == x = 0
+Next == x' = (x + 1) % 3
+Inv == x < 3
+====

@@ -1,0 +1,10 @@
+---- MODULE M ----
+EXTENDS Integers
+VARIABLE x
+ASSUME 1 = 1
+ASSUME 1 = 2
+ASSUME 1 = 3
+Init == x = 0
+Next == x' = (x + 1) % 3
+Inv == x < 3
+====

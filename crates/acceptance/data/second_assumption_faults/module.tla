@@ -1,0 +1,9 @@
+---- MODULE M ----
+EXTENDS Integers, Sequences, FiniteSets, TLC
+VARIABLE x
+ASSUME TRUE
+ASSUME 1 \div 0 = 1
+Init == x = 0
+Next == x' = (x + 1) % 3
+Inv == x < 3
+====

@@ -1,0 +1,7 @@
+---- MODULE M ----
+EXTENDS Integers, Sequences, TLC
+VARIABLE x
+Init == x \in {<< >>, {1, 2}}
+Next == x' = x
+Inv == x = 7
+====

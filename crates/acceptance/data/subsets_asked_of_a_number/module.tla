@@ -1,0 +1,8 @@
+---- MODULE M ----
+EXTENDS Integers, Sequences, FiniteSets, TLC
+VARIABLE x
+ASSUME 5 \notin SUBSET {1 \div 0}
+Init == x = 0
+Next == x' = (x + 1) % 3
+Inv == x < 3
+====

@@ -1,0 +1,7 @@
+---- MODULE M ----
+EXTENDS Integers, Sequences, FiniteSets, TLC
+VARIABLES x, y
+vars == <<x, y>>
+Init == x = 0 /\ y = 1
+Next == UNCHANGED vars
+====
