@@ -12,6 +12,8 @@ pub enum Wanted {
     /// Of the module with a line of `lines` and the closing line behind it, for each line in turn, the next part of the
     /// report.
     Lines,
+    /// Of each module of `texts` with the configuration behind it, in turn, the next part of the report.
+    Texts,
 }
 
 /// A line of the list.
@@ -29,6 +31,8 @@ impl Wanted {
             Some(Wanted::Prefixes)
         } else if word == "lines" {
             Some(Wanted::Lines)
+        } else if word == "texts" {
+            Some(Wanted::Texts)
         } else {
             Some(Wanted::Status(word.parse().ok()?))
         }

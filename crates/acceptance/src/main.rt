@@ -5,14 +5,18 @@
 //! `report`. Where the word `prefixes` stands for the status, the module is checked cut short after 0, 1, .. bytes, each
 //! time with the next line of `report` as the report that is wanted, and status 20. Where it is `lines`, the folder has a
 //! file `lines` too: each of its lines ends the module in turn, and `report` has what is wanted of each, one behind the
-//! other.
+//! other. Where it is `texts`, the folder has a file `texts` and no module or configuration of its own: modules, each
+//! with its configuration behind it, a form feed between each two of these texts, and `report` has what is wanted of
+//! each.
 #![tactic(auto)]
 
 mod case;
 mod outcome;
 
 use case::{Case, Wanted};
-use outcome::{Files, is_as_wanted, lines_are_as_wanted, prefixes_are_as_wanted};
+use outcome::{
+    Files, is_as_wanted, lines_are_as_wanted, prefixes_are_as_wanted, texts_are_as_wanted,
+};
 use std::{fs, io};
 
 fn bytes_of(rt: &HostRuntime, case: &str, file: &str) -> io::Result<Vec<u8>> {
@@ -29,9 +33,9 @@ fn files_of(rt: &HostRuntime, case: &str) -> io::Result<Files> {
 }
 
 fn passes(rt: &HostRuntime, case: &Case<'_>) -> io::Result<bool> {
-    let files = files_of(rt, case.name)?;
     match case.wanted {
         Wanted::Status(status) => {
+            let files = files_of(rt, case.name)?;
             is_as_wanted(
                 rt.alloc(),
                 &files.module,
@@ -41,10 +45,16 @@ fn passes(rt: &HostRuntime, case: &Case<'_>) -> io::Result<bool> {
                 &files.report,
             )
         }
-        Wanted::Prefixes => prefixes_are_as_wanted(rt.alloc(), &files),
+        Wanted::Prefixes => prefixes_are_as_wanted(rt.alloc(), &files_of(rt, case.name)?),
         Wanted::Lines => {
+            let files = files_of(rt, case.name)?;
             let lines = bytes_of(rt, case.name, "lines")?;
             lines_are_as_wanted(rt.alloc(), &files, lines.as_slice())
+        }
+        Wanted::Texts => {
+            let texts = bytes_of(rt, case.name, "texts")?;
+            let report = bytes_of(rt, case.name, "report")?;
+            texts_are_as_wanted(rt.alloc(), texts.as_slice(), report.as_slice())
         }
     }
 }

@@ -89,3 +89,28 @@ pub fn lines_are_as_wanted(alloc: Global, files: &Files, lines: &[u8]) -> io::Re
     }
     Ok(wanted.is_empty())
 }
+
+/// What stands between two texts of a file `texts`.
+const BETWEEN: u8 = b'\x0c';
+
+/// Whether the reports of each module of these texts with the configuration behind it, one behind the other, are this
+/// one.
+pub fn texts_are_as_wanted(alloc: Global, texts: &[u8], report: &[u8]) -> io::Result<bool> {
+    let mut wanted = report;
+    let mut module: Option<&[u8]> = None;
+    for text in texts.split(|b| *b == BETWEEN) {
+        let Some(first) = module else {
+            module = Some(text);
+            continue;
+        };
+        let Some(answer) = reported(alloc, first, text, &[])? else {
+            return Ok(false);
+        };
+        let Some(rest) = wanted.strip_prefix(answer.1.as_slice()) else {
+            return Ok(false);
+        };
+        wanted = rest;
+        module = None;
+    }
+    Ok(wanted.is_empty())
+}

@@ -6,6 +6,8 @@
 #[cfg(test)]
 mod configurations;
 #[cfg(test)]
+mod expansion_texts;
+#[cfg(test)]
 mod expansions;
 #[cfg(test)]
 mod expression_depths;
@@ -15,6 +17,8 @@ mod expressions;
 mod models;
 #[cfg(test)]
 mod search_options;
+#[cfg(test)]
+mod steps;
 #[cfg(test)]
 mod tokens;
 #[cfg(test)]

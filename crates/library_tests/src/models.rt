@@ -87,6 +87,31 @@ fn models(rt: HostRuntime) -> Result<(), Fail> {
             "INIT Init NEXT Next CONSTANT N = 3",
             "x 5:9 6:9 D+",
         ),
+        (
+            "CONSTANT N\nInit == x = 0\nNext == x' = (x + 1) % N\nThree == 3",
+            "INIT Init NEXT Next CONSTANT N <- Three",
+            "x 5:9 6:9 D+",
+        ),
+        (
+            "Small == 0..3\nInit == x = 0\nNext == x' \\in Nat",
+            "INIT Init NEXT Next CONSTANT Nat <- Small",
+            "x 5:9 6:9 D+",
+        ),
+        (
+            "Init == x = 0\nNext == x' = x\nFirst == x = 2",
+            "INIT Init NEXT Next CONSTANT Init <- First",
+            "x 6:10 5:9 D+",
+        ),
+        (
+            "A == x = 0\nB == x = 1\nInit == A\nNext == x' = x\nC == x = 2",
+            "INIT Init NEXT Next CONSTANT A <- B, B <- C",
+            "x 8:6 7:9 D+",
+        ),
+        (
+            "CONSTANT F(_)\nInit == F(x)\nNext == x' = x\nInv == F(x)\nG(y) == y = 0",
+            "INIT Init NEXT Next INVARIANT Inv CONSTANT F <- G",
+            "x 8:9 6:9 Inv 8:9 D+",
+        ),
     ];
     for (definitions, config, model) in rows {
         let got = answer(rt.alloc(), definitions, config)?;
@@ -222,12 +247,97 @@ fn refusals(rt: HostRuntime) -> Result<(), Fail> {
         (
             "Init == x = 0\nNext == x' = x\nInv == x = 0",
             "INIT Init\nNEXT Next\nCONSTANT c = 1 SPECIFICATION Spec",
-            "C10 3:16 SPECIFICATION",
+            "C2 3:10 c",
         ),
         (
             "Init == x = 0\nNext == x' = y\nInv == x = 0",
             "SPECIFICATION Spec",
-            "C10 1:1 SPECIFICATION",
+            "C2 5:14 y",
+        ),
+        (
+            "CONSTANT A\nB == A + 1\nInit == x = 0\nNext == x' = x",
+            "INIT Init\nNEXT Next\nCONSTANT A <- B",
+            "C7 3:10 A",
+        ),
+        (
+            "A == 1\nB == 2\nInit == x = A\nNext == x' = B",
+            "INIT Init\nNEXT Next\nCONSTANT B <- A A <- B",
+            "C7 3:10 B",
+        ),
+        (
+            "A == 1\nB == 2\nC == 3\nInit == x = A\nNext == x' = B",
+            "INIT Init\nNEXT Next\nCONSTANT A <- B B <- C C <- B",
+            "C7 3:17 B",
+        ),
+        (
+            "A == 1\nInit == x = A\nNext == x' = x",
+            "INIT Init\nNEXT Next\nCONSTANT A <- A",
+            "C7 3:10 A",
+        ),
+        (
+            "A == 1\nB == A + 1\nInit == x' = A\nNext == x' = x",
+            "INIT Init\nNEXT Next\nCONSTANT A <- B",
+            "C7 3:10 A",
+        ),
+        (
+            "A == 1\nf[i \\in {1}] == A + i\nB == f[1]\nInit == x = A\nNext == x' = x",
+            "INIT Init\nNEXT Next\nCONSTANT A <- B",
+            "C7 3:10 A",
+        ),
+        (
+            "A == 1\nB == LET y == A IN y\nInit == x = A\nNext == x' = x",
+            "INIT Init\nNEXT Next\nCONSTANT A <- B",
+            "C7 3:10 A",
+        ),
+        (
+            "ASSUME A == TRUE\nInit == x = 0\nNext == x' = x\nB == A",
+            "INIT Init\nNEXT Next\nCONSTANT A <- B",
+            "C7 3:10 A",
+        ),
+        (
+            "CONSTANT D\nA == 1\nB == A + 1\nInit == x = A\nNext == x' = x",
+            "INIT Init\nNEXT Next\nCONSTANT A <- B",
+            "C6 4:10 D",
+        ),
+        (
+            "CONSTANT F(_)\nG(a, b) == a + b\nInit == x = 0\nNext == x' = F(x)",
+            "INIT Init\nNEXT Next\nCONSTANT F <- G",
+            "C4 3:10 F",
+        ),
+        (
+            "Init == x = 0\nNext == x' = x",
+            "INIT Init\nNEXT Next\nCONSTANT c <- Init",
+            "C2 3:10 c",
+        ),
+        (
+            "CONSTANT c\nInit == x = c\nNext == x' = x",
+            "INIT Init\nNEXT Next\nCONSTANT c <- x",
+            "C2 3:15 x",
+        ),
+        (
+            "CONSTANT c\nOne == 1\nInit == x = c\nNext == x' = x",
+            "INIT Init\nNEXT Next\nCONSTANT c <- One, c = 1",
+            "C3 3:20 c",
+        ),
+        (
+            "CONSTANT c\nOne == 1\nInit == x = c\nNext == x' = x",
+            "INIT Init\nNEXT Next\nCONSTANT c = 1, c <- Foo",
+            "C3 3:17 c",
+        ),
+        (
+            "CONSTANT c\nOp == x'\nInit == x = 0\nNext == x' = c'",
+            "INIT Init\nNEXT Next\nCONSTANT c <- Op",
+            "C5 5:7",
+        ),
+        (
+            "Init == x = 0\nNext == x' = x",
+            "INIT Init\nNEXT Next\nCONSTANT Nat = 3",
+            "C2 3:10 Nat",
+        ),
+        (
+            "A == 1\nB == A + 1\nInit == x = A\nNext == x' = x",
+            "INIT Init\nNEXT Other\nCONSTANT A <- B",
+            "C2 2:6 Other",
         ),
     ];
     for (definitions, config, refusal) in rows {

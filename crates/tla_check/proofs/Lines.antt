@@ -59,8 +59,3 @@ pub whole_at : (variables : ℕ) (ss : List (List Tree)) (i : ℕ) (d : List Tre
 whole_at variables [] i d whole l = absurd (omega arith)
 whole_at variables (s ∷ ss) zero d whole l = whole.0
 whole_at variables (s ∷ ss) (suc i) d whole l = whole_at variables ss i d whole.1 (omega arith)
-
--- one more whole state
-pub whole_more : (variables : ℕ) (ss : List (List Tree)) (s : List Tree) → AreWhole variables ss → length s ≡ variables → AreWhole variables (ss ++ s ∷ [])
-whole_more variables [] s whole e = (e, tt)
-whole_more variables (t ∷ ss) s whole e = (whole.0, whole_more variables ss s whole.1 e)

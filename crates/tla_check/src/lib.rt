@@ -18,6 +18,3 @@ pub use tla_config::Source;
 pub use tla_search::{
     Answer, Counts, Gate, GatePlace, NoGate, Options, Part, Pass, SearchError, Trace,
 };
-
-#[cfg(test)]
-mod tests;

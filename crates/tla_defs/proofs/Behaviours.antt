@@ -1,20 +1,24 @@
--- The behaviour of a configuration, and the names of its INIT and NEXT.
-use Rattle.std.proofs.Common.{◌≡◌, refl, sym, List, [], ◌∷◌, ◌++◌, Option, Some, None, Result, Ok, Err}
+-- The behaviour of a configuration, and the names of its INIT, NEXT and SPECIFICATION.
+use Rattle.std.proofs.Common.{◌≡◌, refl, ap, sym, inl, inr, List, [], ◌∷◌, ◌++◌, Option, Some, None, Result, Ok, Err}
 use Rattle.tla_lex.specs.declared.token.Place.{Place}
 use Rattle.tla_parse.specs.declared.word.Written.{Written}
+use Rattle.tla_parse.specs.Tree.{Tree}
+use Rattle.tla_parse.specs.Units.{UnitTree}
 use Rattle.tla_config.specs.Statements.{Statement, Specification, Init, Next, Invariants, Constants, CheckDeadlock}
-use Rattle.tla_defs.specs.Model.{initials_named, nexts_named}
-use Rattle.tla_defs.specs.Refused.{Behaviour, behaviour}
+use Rattle.tla_defs.specs.Model.{IsBehaviour, initials_named, nexts_named, specifications_named}
+use Rattle.tla_defs.specs.Refused.{Behaviour, Named, Specified, alone, behaviour}
+use Rattle.tla_defs.specs.Specified.{IsOnly, init_names, next_names, specification_names}
 
 -- a name that was found before
 abbrev pub before : Option Written → List Written
 before None = []
 before (Some w) = w ∷ []
 
--- the names of INIT and of NEXT are those of the behaviour
-pub record IsNamed (i n : Option Written) (cs : List Statement) (b : Behaviour) : Type 0 where
-  pub initial : before i ++ initials_named cs ≡ b.initial ∷ []
-  pub next : before n ++ nexts_named cs ≡ b.next ∷ []
+-- behind an INIT and a NEXT or not, nothing else names a behaviour
+pub record IsOnlyBehind (i n : Option Written) (cs : List Statement) (b : Behaviour) : Type 0 where
+  pub init : before i ++ initials_named cs ≡ init_names b
+  pub next : before n ++ nexts_named cs ≡ next_names b
+  pub specification : specifications_named cs ≡ specification_names b
 
 abbrev failed : Place → Result Behaviour Place
 failed at = Err at
@@ -22,47 +26,85 @@ failed at = Err at
 no_ok : (at : Place) (b : Behaviour) → failed at ≡ Ok b → ⊥
 no_ok at b p = let z : ⊥ = cc in z
 
-pub behaviour_named : (i n : Option Written) (cs : List Statement) (end : Place) (b : Behaviour) → behaviour cs end i n ≡ Ok b → IsNamed i n cs b
-behaviour_named None n [] end b p = absurd (no_ok end b p)
-behaviour_named (Some i) None [] end b p = absurd (no_ok end b p)
-behaviour_named (Some i) (Some n) [] end b p =
-    let same : record { initial = i; next = n } ≡ b = cc in
-    rw (sym same) (record { initial = refl; next = refl })
-behaviour_named None n (Init at w ∷ cs) end b p = let h = behaviour_named (Some w) n cs end b p in record { initial = h.initial; next = h.next }
-behaviour_named (Some i) n (Init at w ∷ cs) end b p = absurd (no_ok at b p)
-behaviour_named i None (Next at w ∷ cs) end b p = let h = behaviour_named i (Some w) cs end b p in record { initial = h.initial; next = h.next }
-behaviour_named i (Some n) (Next at w ∷ cs) end b p = absurd (no_ok at b p)
-behaviour_named i n (Invariants at ws ∷ cs) end b p = let h = behaviour_named i n cs end b p in record { initial = h.initial; next = h.next }
-behaviour_named i n (CheckDeadlock at check ∷ cs) end b p = let h = behaviour_named i n cs end b p in record { initial = h.initial; next = h.next }
-behaviour_named i n (Specification at w ∷ cs) end b p = let h = behaviour_named i n cs end b p in record { initial = h.initial; next = h.next }
-behaviour_named i n (Constants at is ∷ cs) end b p = let h = behaviour_named i n cs end b p in record { initial = h.initial; next = h.next }
+heads : {X : Type 0} (x y : X) (xs ys : List X) → x ∷ xs ≡ y ∷ ys → x ≡ y
+heads x y xs ys p = cc
 
--- where INIT and NEXT name one each, the behaviour is found
-pub record IsFound (i n : Option Written) (cs : List Statement) (end : Place) (x y : Written) : Type 0 where
-  pub found : Behaviour
-  pub is_found : behaviour cs end i n ≡ Ok found
-  pub initial : found.initial ≡ x
-  pub next : found.next ≡ y
+tails : {X : Type 0} (x y : X) (xs ys : List X) → x ∷ xs ≡ y ∷ ys → xs ≡ ys
+tails x y xs ys p = cc
 
-heads : {X : Type 0} (x y : X) (xs : List X) → x ∷ xs ≡ y ∷ [] → x ≡ y
-heads x y xs p = cc
+-- SPECIFICATION is alone
+pub record IsAlone (p : Place) (v : Written) (cs : List Statement) (b : Behaviour) : Type 0 where
+  pub same : b ≡ Specified p v
+  pub init : initials_named cs ≡ []
+  pub next : nexts_named cs ≡ []
+  pub specification : specifications_named cs ≡ []
 
-pub behaviour_found : (i n : Option Written) (cs : List Statement) (end : Place) (x y : Written) → before i ++ initials_named cs ≡ x ∷ [] → before n ++ nexts_named cs ≡ y ∷ [] → IsFound i n cs end x y
-behaviour_found (Some i) (Some n) [] end x y p q =
-    record { found = record { initial = i; next = n }; is_found = refl; initial = heads i x [] p; next = heads n y [] q }
-behaviour_found None n [] end x y p q = let z : ⊥ = cc in absurd z
-behaviour_found (Some i) None [] end x y p q = let z : ⊥ = cc in absurd z
-behaviour_found None n (Init at w ∷ cs) end x y p q =
-    let h = behaviour_found (Some w) n cs end x y p q in record { found = h.found; is_found = h.is_found; initial = h.initial; next = h.next }
-behaviour_found (Some i) n (Init at w ∷ cs) end x y p q = let z : ⊥ = cc in absurd z
-behaviour_found i None (Next at w ∷ cs) end x y p q =
-    let h = behaviour_found i (Some w) cs end x y p q in record { found = h.found; is_found = h.is_found; initial = h.initial; next = h.next }
-behaviour_found i (Some n) (Next at w ∷ cs) end x y p q = let z : ⊥ = cc in absurd z
-behaviour_found i n (Invariants at ws ∷ cs) end x y p q =
-    let h = behaviour_found i n cs end x y p q in record { found = h.found; is_found = h.is_found; initial = h.initial; next = h.next }
-behaviour_found i n (CheckDeadlock at check ∷ cs) end x y p q =
-    let h = behaviour_found i n cs end x y p q in record { found = h.found; is_found = h.is_found; initial = h.initial; next = h.next }
-behaviour_found i n (Specification at w ∷ cs) end x y p q =
-    let h = behaviour_found i n cs end x y p q in record { found = h.found; is_found = h.is_found; initial = h.initial; next = h.next }
-behaviour_found i n (Constants at is ∷ cs) end x y p q =
-    let h = behaviour_found i n cs end x y p q in record { found = h.found; is_found = h.is_found; initial = h.initial; next = h.next }
+alone_only : (p : Place) (v : Written) (cs : List Statement) (b : Behaviour) → alone p v cs ≡ Ok b → IsAlone p v cs b
+alone_only p v [] b h = let same : Specified p v ≡ b = cc in record { same = sym same; init = refl; next = refl; specification = refl }
+alone_only p v (Init at w ∷ cs) b h = absurd (no_ok at b h)
+alone_only p v (Next at w ∷ cs) b h = absurd (no_ok at b h)
+alone_only p v (Specification at w ∷ cs) b h = absurd (no_ok at b h)
+alone_only p v (Invariants at ws ∷ cs) b h = let g = alone_only p v cs b h in record { same = g.same; init = g.init; next = g.next; specification = g.specification }
+alone_only p v (CheckDeadlock at check ∷ cs) b h = let g = alone_only p v cs b h in record { same = g.same; init = g.init; next = g.next; specification = g.specification }
+alone_only p v (Constants at is ∷ cs) b h = let g = alone_only p v cs b h in record { same = g.same; init = g.init; next = g.next; specification = g.specification }
+
+only_behind : (i n : Option Written) (cs : List Statement) (end : Place) (b : Behaviour) → behaviour cs end i n ≡ Ok b → IsOnlyBehind i n cs b
+only_behind None n [] end b p = absurd (no_ok end b p)
+only_behind (Some i) None [] end b p = absurd (no_ok end b p)
+only_behind (Some i) (Some n) [] end b p =
+    let same : Named i n ≡ b = cc in
+    rw (sym same) (record { init = refl; next = refl; specification = refl })
+only_behind None n (Init at w ∷ cs) end b p = let h = only_behind (Some w) n cs end b p in record { init = h.init; next = h.next; specification = h.specification }
+only_behind (Some i) n (Init at w ∷ cs) end b p = absurd (no_ok at b p)
+only_behind i None (Next at w ∷ cs) end b p = let h = only_behind i (Some w) cs end b p in record { init = h.init; next = h.next; specification = h.specification }
+only_behind i (Some n) (Next at w ∷ cs) end b p = absurd (no_ok at b p)
+only_behind None None (Specification at w ∷ cs) end b p =
+    let h = alone_only at w cs b p in
+    rw h.same (record { init = h.init; next = h.next; specification = ap (λ ws. w ∷ ws) h.specification })
+only_behind None (Some n) (Specification at w ∷ cs) end b p = absurd (no_ok at b p)
+only_behind (Some i) n (Specification at w ∷ cs) end b p = absurd (no_ok at b p)
+only_behind i n (Invariants at ws ∷ cs) end b p = let h = only_behind i n cs end b p in record { init = h.init; next = h.next; specification = h.specification }
+only_behind i n (CheckDeadlock at check ∷ cs) end b p = let h = only_behind i n cs end b p in record { init = h.init; next = h.next; specification = h.specification }
+only_behind i n (Constants at is ∷ cs) end b p = let h = only_behind i n cs end b p in record { init = h.init; next = h.next; specification = h.specification }
+
+pub behaviour_only : (cs : List Statement) (end : Place) (b : Behaviour) → behaviour cs end None None ≡ Ok b → IsOnly cs b
+behaviour_only cs end b p = let h = only_behind None None cs end b p in record { init = h.init; next = h.next; specification = h.specification }
+
+-- the behaviour is found
+abbrev pub IsFound : Result Behaviour Place → Type 0
+IsFound r = (b : Behaviour) × (r ≡ Ok b)
+
+named_found : (i n : Option Written) (cs : List Statement) (end : Place) (x y : Written) → before i ++ initials_named cs ≡ x ∷ [] → before n ++ nexts_named cs ≡ y ∷ [] → specifications_named cs ≡ [] → IsFound (behaviour cs end i n)
+named_found (Some i) (Some n) [] end x y p q r = (Named i n, refl)
+named_found None n [] end x y p q r = let z : ⊥ = cc in absurd z
+named_found (Some i) None [] end x y p q r = let z : ⊥ = cc in absurd z
+named_found None n (Init at w ∷ cs) end x y p q r = named_found (Some w) n cs end x y p q r
+named_found (Some i) n (Init at w ∷ cs) end x y p q r = let z : ⊥ = cc in absurd z
+named_found i None (Next at w ∷ cs) end x y p q r = named_found i (Some w) cs end x y p q r
+named_found i (Some n) (Next at w ∷ cs) end x y p q r = let z : ⊥ = cc in absurd z
+named_found i n (Specification at w ∷ cs) end x y p q r = let z : ⊥ = cc in absurd z
+named_found i n (Invariants at ws ∷ cs) end x y p q r = named_found i n cs end x y p q r
+named_found i n (CheckDeadlock at check ∷ cs) end x y p q r = named_found i n cs end x y p q r
+named_found i n (Constants at is ∷ cs) end x y p q r = named_found i n cs end x y p q r
+
+alone_found : (p : Place) (v : Written) (cs : List Statement) → initials_named cs ≡ [] → nexts_named cs ≡ [] → specifications_named cs ≡ [] → IsFound (alone p v cs)
+alone_found p v [] i n s = (Specified p v, refl)
+alone_found p v (Init at w ∷ cs) i n s = let z : ⊥ = cc in absurd z
+alone_found p v (Next at w ∷ cs) i n s = let z : ⊥ = cc in absurd z
+alone_found p v (Specification at w ∷ cs) i n s = let z : ⊥ = cc in absurd z
+alone_found p v (Invariants at ws ∷ cs) i n s = alone_found p v cs i n s
+alone_found p v (CheckDeadlock at check ∷ cs) i n s = alone_found p v cs i n s
+alone_found p v (Constants at is ∷ cs) i n s = alone_found p v cs i n s
+
+specified_found : (cs : List Statement) (end : Place) (v : Written) → initials_named cs ≡ [] → nexts_named cs ≡ [] → specifications_named cs ≡ v ∷ [] → IsFound (behaviour cs end None None)
+specified_found [] end v i n s = let z : ⊥ = cc in absurd z
+specified_found (Init at w ∷ cs) end v i n s = let z : ⊥ = cc in absurd z
+specified_found (Next at w ∷ cs) end v i n s = let z : ⊥ = cc in absurd z
+specified_found (Specification at w ∷ cs) end v i n s = alone_found at w cs i n (tails w v (specifications_named cs) [] s)
+specified_found (Invariants at ws ∷ cs) end v i n s = specified_found cs end v i n s
+specified_found (CheckDeadlock at check ∷ cs) end v i n s = specified_found cs end v i n s
+specified_found (Constants at is ∷ cs) end v i n s = specified_found cs end v i n s
+
+pub behaviour_found : (us : List UnitTree) (cs : List Statement) (end : Place) (i a : Tree) → IsBehaviour us cs i a → IsFound (behaviour cs end None None)
+behaviour_found us cs end i a (inl h) = named_found None None cs end h.init_name h.next_name h.one_init h.one_next h.no_specification
+behaviour_found us cs end i a (inr h) = specified_found cs end h.name h.no_init h.no_next h.one_specification

@@ -1,5 +1,5 @@
 -- The formulas of a model as the code finds them, or why there are none; and the model of its parts.
-use Rattle.std.proofs.Common.{◌≡◌, refl, ap, sym, ◌∙◌, inl, inr, Bool, true, false, List, [], ◌∷◌, ◌++◌, Option, Some, None, ℕ, ◌<◌, length, arith, subst, append-nil, map}
+use Rattle.std.proofs.Common.{◌≡◌, refl, ap, sym, ◌∙◌, Bool, true, false, List, [], ◌∷◌, ◌++◌, Option, Some, None, ◌<◌, length, arith, subst, append-nil, map}
 use Rattle.tla_eval.specs.Expr.{Expr}
 use Rattle.tla_eval.specs.ExprOf.{expr_of}
 use Rattle.tla_eval.specs.declared.expression.Core.{Core}
@@ -13,60 +13,62 @@ use Rattle.tla_parse.specs.UnitsView.{unit_view}
 use Rattle.tla_config.specs.Names.{Name}
 use Rattle.tla_config.specs.Statements.{Statement, items_of, checks_deadlock}
 use Rattle.tla_expand.specs.declared.primes.Primes.{Primes}
-use Rattle.tla_expand.specs.declared.primes.Primes.TheVariants.{Not, Once}
-use Rattle.tla_expand.specs.Expand.{Scope, expand}
-use Rattle.tla_expand.specs.Gives.{shown}
+use Rattle.tla_expand.specs.declared.primes.Primes.TheVariants.{Never, Once}
+use Rattle.tla_expand.specs.Meanings.{Scope}
+use Rattle.tla_expand.specs.Expand.{expand}
+use Rattle.tla_expand.specs.Primes.{with_primes}
 use Rattle.tla_expand.specs.Maybe.{◌>>=◌}
 use Rattle.tla_expand.specs.Primes.{primes}
 use Rattle.tla_expand.proofs.Primed.{unprimed}
 use Rattle.tla_expand.proofs.PrimesFit.{inv}
-use Rattle.tla_model.specs.ModelTree.{ModelTree}
 use Rattle.tla_model.specs.ModelOf.{invariant_of, tree_of_parts}
 use Rattle.tla_model.specs.declared.invariant.Invariant.{Invariant}
 use Rattle.tla_model.specs.Size.{IsWithinLimits}
 use Rattle.tla_defs.specs.Formulas.{Follow, mentions}
 use Rattle.tla_defs.specs.Global.{global}
-use Rattle.tla_defs.specs.LeftOut.{left_out}
 use Rattle.tla_defs.specs.Constants.{unvalued}
 use Rattle.tla_defs.specs.Misuses.{misuse, variables_of}
-use Rattle.tla_defs.specs.Items.{definitions_of, replaceable_of, replaced_names, items_misused}
+use Rattle.tla_defs.specs.Items.{definitions_of, replaceable_of, nameable_of, replaced_names, items_misused}
+use Rattle.tla_defs.specs.Leads.{leads}
+use Rattle.tla_defs.specs.Circles.{AreStraight}
 use Rattle.tla_defs.specs.Named.{names_misused}
-use Rattle.tla_defs.specs.Model.{IsModel, meaning_in, IsInitial, IsAction, IsInvariant, IsAssumption, IsStateLevel, IsConstantLevel, AreInvariants, AreAssumptions, assumptions_of, initials_named, nexts_named, invariants_named}
+use Rattle.tla_defs.specs.Model.{IsModel, IsBehaviour, meaning_in, IsInitial, IsAction, IsInvariant, IsAssumption, IsStateLevel, IsConstantLevel, AreInvariants, AreAssumptions, assumptions_of, invariants_named}
 
 -- nothing of so many primes is within the limits
 abbrev pub NoneShown : Primes → Tree → Scope → Type 0
-NoneShown k t σ = (x : Expr) → shown k (expand t σ 0) ≡ Some x → IsWithinLimits x → ⊥
+NoneShown k t σ = (x : Expr) → with_primes k (expand t σ 0) ≡ Some x → IsWithinLimits x → ⊥
 
-pub unprimed_is : (o : Option Expr) (e : Expr) → shown Not o ≡ Some e → o ≡ Some e
+pub unprimed_is : (o : Option Expr) (e : Expr) → with_primes Never o ≡ Some e → o ≡ Some e
 unprimed_is None e p = p
 unprimed_is (Some x) e p = sym (unprimed x) ∙ p
 
-pub shown_unprimed : (o : Option Expr) (e : Expr) → o ≡ Some e → shown Not o ≡ Some e
-shown_unprimed o e p = ap (λ q. shown Not q) p ∙ unprimed e
+pub shown_unprimed : (o : Option Expr) (e : Expr) → o ≡ Some e → with_primes Never o ≡ Some e
+shown_unprimed o e p = ap (λ q. with_primes Never q) p ∙ unprimed e
 
-module _ (σ : Scope) (w : Written) where
-  pub found_initial : (e : Expr) → shown Once (meaning_in σ w) ≡ Some e → IsWithinLimits e → IsInitial σ w e
+module _ (σ : Scope) (tree : Tree) where
+  pub found_initial : (e : Expr) → with_primes Once (expand tree σ 0) ≡ Some e → IsWithinLimits e → IsInitial σ tree e
   found_initial e p h =
-      let b = inv (meaning_in σ w) (primes Once) e p in
+      let b = inv (expand tree σ 0) (primes Once) e p in
       record { before = b.0; meaning = b.1; primed = b.2; limits = h }
 
-  pub no_initial : NoneShown Once (t.Name w) σ → (e : Expr) → IsInitial σ w e → ⊥
+  pub no_initial : NoneShown Once tree σ → (e : Expr) → IsInitial σ tree e → ⊥
   no_initial none e h = none e (ap (λ o. o >>= primes Once) h.meaning ∙ h.primed) h.limits
 
-  pub found_action : (e : Expr) → shown Not (meaning_in σ w) ≡ Some e → IsWithinLimits e → IsAction σ w e
-  found_action e p h = record { meaning = unprimed_is (meaning_in σ w) e p; limits = h }
+  pub found_action : (e : Expr) → with_primes Never (expand tree σ 0) ≡ Some e → IsWithinLimits e → IsAction σ tree e
+  found_action e p h = record { meaning = unprimed_is (expand tree σ 0) e p; limits = h }
 
-  pub no_action : NoneShown Not (t.Name w) σ → (e : Expr) → IsAction σ w e → ⊥
-  no_action none e h = none e (shown_unprimed (meaning_in σ w) e h.meaning) h.limits
+  pub no_action : NoneShown Never tree σ → (e : Expr) → IsAction σ tree e → ⊥
+  no_action none e h = none e (shown_unprimed (expand tree σ 0) e h.meaning) h.limits
 
-  pub found_invariant : (e : Expr) → shown Not (meaning_in σ w) ≡ Some e → IsWithinLimits e → IsStateLevel e → IsInvariant σ w e
+module _ (σ : Scope) (w : Written) where
+  pub found_invariant : (e : Expr) → with_primes Never (meaning_in σ w) ≡ Some e → IsWithinLimits e → IsStateLevel e → IsInvariant σ w e
   found_invariant e p h l = record { meaning = unprimed_is (meaning_in σ w) e p; level = l; limits = h }
 
-  pub no_invariant : NoneShown Not (t.Name w) σ → (e : Expr) → IsInvariant σ w e → ⊥
+  pub no_invariant : NoneShown Never (t.Name w) σ → (e : Expr) → IsInvariant σ w e → ⊥
   no_invariant none e h = none e (shown_unprimed (meaning_in σ w) e h.meaning) h.limits
 
   -- what is found is the only expansion
-  pub high_invariant : (d : Expr) → shown Not (meaning_in σ w) ≡ Some d → (IsStateLevel d → ⊥) → (e : Expr) → IsInvariant σ w e → ⊥
+  pub high_invariant : (d : Expr) → with_primes Never (meaning_in σ w) ≡ Some d → (IsStateLevel d → ⊥) → (e : Expr) → IsInvariant σ w e → ⊥
   high_invariant d p high e h =
       let q = unprimed_is (meaning_in σ w) d p in
       let r = h.meaning in
@@ -74,13 +76,13 @@ module _ (σ : Scope) (w : Written) where
       high (subst (λ f. IsStateLevel f) same h.level)
 
 module _ (σ : Scope) (tree : Tree) where
-  pub found_assumption : (e : Expr) → shown Not (expand tree σ 0) ≡ Some e → IsWithinLimits e → IsConstantLevel e → IsAssumption σ tree e
+  pub found_assumption : (e : Expr) → with_primes Never (expand tree σ 0) ≡ Some e → IsWithinLimits e → IsConstantLevel e → IsAssumption σ tree e
   found_assumption e p h level = record { expanded = unprimed_is (expand tree σ 0) e p; level = level; limits = h }
 
-  pub no_assumption : NoneShown Not tree σ → (e : Expr) → IsAssumption σ tree e → ⊥
+  pub no_assumption : NoneShown Never tree σ → (e : Expr) → IsAssumption σ tree e → ⊥
   no_assumption none e h = none e (shown_unprimed (expand tree σ 0) e h.expanded) h.limits
 
-  pub high_assumption : (d : Expr) → shown Not (expand tree σ 0) ≡ Some d → (IsConstantLevel d → ⊥) → (e : Expr) → IsAssumption σ tree e → ⊥
+  pub high_assumption : (d : Expr) → with_primes Never (expand tree σ 0) ≡ Some d → (IsConstantLevel d → ⊥) → (e : Expr) → IsAssumption σ tree e → ⊥
   high_assumption d p high e h =
       let q = unprimed_is (expand tree σ 0) d p in
       let r = h.expanded in
@@ -88,24 +90,24 @@ module _ (σ : Scope) (tree : Tree) where
       high (subst (λ f. IsConstantLevel f) same h.level)
 
 -- the model of parts in memory
-pub parts_model : (us : List UnitTree) (cs : List Statement) (σ : Scope) (vs : List Name) (assumed : List Core) (init next : Core) (is : List Invariant) (check : Bool) (i n : Written) (ws : List Written)
+pub parts_model : (us : List UnitTree) (cs : List Statement) (σ : Scope) (vs : List Name) (assumed : List Core) (init next : Core) (is : List Invariant) (check : Bool) (i n : Tree) (ws : List Written)
     → σ ≡ global us (items_of cs) → ws ≡ invariants_named cs
-    → left_out cs ≡ None → misuse us ≡ None → items_misused (replaceable_of us) [] (items_of cs) ≡ None → unvalued (replaced_names (items_of cs)) us ≡ None → names_misused (definitions_of us) cs ≡ None
-    → initials_named cs ≡ i ∷ [] → nexts_named cs ≡ n ∷ [] → vs ≡ variables_of us → AreAssumptions σ (assumptions_of us) (map expr_of assumed)
+    → misuse us ≡ None → items_misused (replaceable_of us) (nameable_of us) [] (items_of cs) ≡ None → unvalued (replaced_names (items_of cs)) us ≡ None → names_misused (definitions_of us) cs ≡ None
+    → AreStraight (leads us (items_of cs)) (items_of cs)
+    → IsBehaviour us cs i n → vs ≡ variables_of us → AreAssumptions σ (assumptions_of us) (map expr_of assumed)
     → IsInitial σ i (expr_of init) → IsAction σ n (expr_of next)
     → AreInvariants σ ws (map invariant_of is) → check ≡ checks_deadlock cs
     → IsModel us cs (tree_of_parts vs assumed init next is check)
-parts_model us cs σ vs assumed init next is check i n ws at invariants whole known given valued named one_init one_next names assumptions initial action each deadlock =
+parts_model us cs σ vs assumed init next is check i n ws at invariants known given valued named straight behaviour names assumptions initial action each deadlock =
     record {
-      whole = whole;
       known = known;
       given = given;
       valued = valued;
       named = named;
-      init_name = i;
-      next_name = n;
-      one_init = one_init;
-      one_next = one_next;
+      straight = straight;
+      initial = i;
+      action = n;
+      behaviour = behaviour;
       variables = names;
       assumptions = rw (sym at) assumptions;
       init = rw (sym at) initial;

@@ -1,22 +1,25 @@
 -- The models of modules with a constant, with variables in two places, and with UNCHANGED, by computation.
-use Rattle.std.proofs.Common.{◌≡◌, refl, arith}
+use Rattle.std.proofs.Common.{refl, arith, [], ◌∷◌}
 use Rattle.std.specs.Prelude.{codes}
-use Rattle.tla_defs.specs.GivenRows.{WithValue, TwoVariables}
+use Rattle.tla_parse.specs.Tree.{Name}
+use Rattle.tla_defs.specs.GivenRows.{constant_unit, given_tree, given_item, replaced_units, replacement, WithValue, WithReplacement, Circle, TwoVariables}
+use Rattle.tla_defs.specs.Leads.{leads}
+use Rattle.tla_defs.specs.NamedRows.{behind}
 use Rattle.tla_defs.specs.Rows.{word, init_before}
-use Rattle.tla_defs.proofs.Worked.{within}
+use Rattle.tla_defs.proofs.Walks.{leads_nowhere, leads_to_end}
+use Rattle.tla_defs.proofs.Worked.{within, by_names}
 
 pub with_value : WithValue
 with_value =
     record {
-      whole = refl;
       known = refl;
       given = refl;
       valued = refl;
       named = refl;
-      init_name = word 1 6 (codes "Init");
-      next_name = word 2 6 (codes "Next");
-      one_init = refl;
-      one_next = refl;
+      straight = (leads_nowhere (leads (behind constant_unit given_tree) (given_item ∷ [])) (codes "N") refl, tt);
+      initial = Name (word 1 6 (codes "Init"));
+      action = Name (word 2 6 (codes "Next"));
+      behaviour = by_names _ _ _ _ refl refl refl;
       variables = refl;
       assumptions = tt;
       init = record { before = init_before 0; meaning = refl; primed = refl; limits = within _ 3 2 refl refl (omega arith) (omega arith) };
@@ -25,18 +28,39 @@ with_value =
       check_deadlock = refl;
     }
 
-pub two_variables : TwoVariables
-two_variables =
+pub with_replacement : WithReplacement
+with_replacement =
     record {
-      whole = refl;
       known = refl;
       given = refl;
       valued = refl;
       named = refl;
-      init_name = word 1 6 (codes "Init");
-      next_name = word 2 6 (codes "Next");
-      one_init = refl;
-      one_next = refl;
+      straight = (leads_to_end (leads replaced_units (replacement ∷ [])) (codes "N") (codes "Three") refl refl refl, tt);
+      initial = Name (word 1 6 (codes "Init"));
+      action = Name (word 2 6 (codes "Next"));
+      behaviour = by_names _ _ _ _ refl refl refl;
+      variables = refl;
+      assumptions = tt;
+      init = record { before = init_before 0; meaning = refl; primed = refl; limits = within _ 3 2 refl refl (omega arith) (omega arith) };
+      next = record { meaning = refl; limits = within _ 3 2 refl refl (omega arith) (omega arith) };
+      invariants = tt;
+      check_deadlock = refl;
+    }
+
+pub circle : Circle
+circle = (codes "Three" ∷ [], (refl, refl))
+
+pub two_variables : TwoVariables
+two_variables =
+    record {
+      known = refl;
+      given = refl;
+      valued = refl;
+      named = refl;
+      straight = tt;
+      initial = Name (word 1 6 (codes "Init"));
+      action = Name (word 2 6 (codes "Next"));
+      behaviour = by_names _ _ _ _ refl refl refl;
       variables = refl;
       assumptions = tt;
       init = record { before = init_before 0; meaning = refl; primed = refl; limits = within _ 3 2 refl refl (omega arith) (omega arith) };

@@ -1,5 +1,5 @@
 -- Each refusal has its place, and its name where it prints one.
-use Rattle.std.proofs.Common.{◌≡◌, refl, sym, ap, List, [], Option, Some, None, Bool, true, false, Result, Ok, Err}
+use Rattle.std.proofs.Common.{◌≡◌, refl, sym, ap, inl, inr, List, [], Option, Some, None, Bool, true, false, Result, Ok, Err}
 use Rattle.std.specs.Prelude.{is_some}
 use Rattle.tla_lex.specs.declared.token.Place.{Place}
 use Rattle.tla_parse.specs.declared.word.Written.{Written}
@@ -14,13 +14,12 @@ use Rattle.tla_config.specs.Refusals.{IsLocated}
 use Rattle.tla_config.specs.Statements.{Statement, Item, items_of}
 use Rattle.tla_config.specs.View.{ConfigTree}
 use Rattle.tla_expand.specs.Maybe.{or_else}
-use Rattle.tla_defs.specs.LeftOut.{left_out}
 use Rattle.tla_defs.specs.Known.{Misuse, Twice, Unknown, Arguments}
 use Rattle.tla_defs.specs.Constants.{unvalued}
-use Rattle.tla_defs.specs.Items.{definitions_of, replaceable_of, replaced_names, items_misused}
+use Rattle.tla_defs.specs.Items.{definitions_of, replaceable_of, nameable_of, replaced_names, items_misused}
 use Rattle.tla_defs.specs.Named.{names_misused}
 use Rattle.tla_defs.specs.Misuses.{misuse}
-use Rattle.tla_defs.specs.Refused.{Behaviour, behaviour, behaviour_refused, constant_refused, items_refused, refusal_for, refused, statement_left_out, IsRefusal, refusal_is, IsOfFormula, is_of_formula}
+use Rattle.tla_defs.specs.Refused.{Behaviour, Named, Specified, behaviour, behaviour_refused, form_refused, constant_refused, items_refused, refusal_for, refused, IsLast, IsRefusal, refusal_is, IsOfFormula, is_of_formula}
 
 -- the refusal, if there is one
 abbrev Located : Option DefsError → Type 0
@@ -42,10 +41,6 @@ of_misuse s (Some (Twice w)) = one _ refl
 of_misuse s (Some (Unknown w)) = one _ refl
 of_misuse s (Some (Arguments w)) = one _ refl
 
-of_left_out : (o : Option Written) → Located (statement_left_out o)
-of_left_out None = none
-of_left_out (Some w) = one _ refl
-
 of_constant : (o : Option Written) → Located (constant_refused o)
 of_constant None = none
 of_constant (Some w) = one _ refl
@@ -56,7 +51,7 @@ of_behaviour us cs (Ok b) = of_misuse source.Configuration (names_misused (defin
 
 of_items : (us : List UnitTree) (is : List Item) → Located (items_refused us is)
 of_items us is =
-    let given = items_misused (replaceable_of us) [] is in
+    let given = items_misused (replaceable_of us) (nameable_of us) [] is in
     let valued = unvalued (replaced_names is) us in
     either (refusal_for source.Configuration given) (constant_refused valued) (of_misuse source.Configuration given) (of_constant valued)
 
@@ -66,9 +61,8 @@ of_step us config =
     let named = behaviour config.statements config.end None None in
     let behaves = behaviour_refused us config.statements named in
     let rest = or_else (items_refused us is) behaves in
-    either (statement_left_out (left_out config.statements)) (or_else (refusal_for source.Module (misuse us)) rest) (of_left_out (left_out config.statements))
-    (either (refusal_for source.Module (misuse us)) rest (of_misuse source.Module (misuse us))
-    (either (items_refused us is) behaves (of_items us is) (of_behaviour us config.statements named)))
+    either (refusal_for source.Module (misuse us)) rest (of_misuse source.Module (misuse us))
+    (either (items_refused us is) behaves (of_items us is) (of_behaviour us config.statements named))
 
 -- a place, and no name
 placed : (k : DefsCode) (p : Option Place) (x : Option Name) → is_of_formula k ≡ true → is_some p ≡ true → x ≡ None → IsLocated k p x
@@ -86,9 +80,24 @@ placed c.BehaviourCount (Some p) x a b d = let z : ⊥ = cc in absurd z
 placed c.StatementLeftOut (Some p) x a b d = let z : ⊥ = cc in absurd z
 placed c.Memory (Some p) x a b d = let z : ⊥ = cc in absurd z
 
-of_refusal : (o : Option DefsError) → Located o → (e : DefsError) → refusal_is o e → IsLocated e.code e.place e.name
-of_refusal None h e r = placed e.code e.place e.name r.code r.place r.name
-of_refusal (Some d) h e r = h e (ap (λ x. Some x) r)
+of_formula : (e : DefsError) → IsOfFormula e → IsLocated e.code e.place e.name
+of_formula e r = placed e.code e.place e.name r.code r.place r.name
+
+of_form : (b : Result Behaviour Place) → Located (form_refused b)
+of_form (Ok (Specified p w)) = one _ refl
+of_form (Ok (Named i n)) = none
+of_form (Err p) = none
+
+of_last : (form : Option DefsError) → Located form → (e : DefsError) → IsLast form e → IsLocated e.code e.place e.name
+of_last form g e (inl r) = g e r
+of_last form g e (inr r) = of_formula e r
+
+of_refusal : (us : List UnitTree) (is : List Item) (o form : Option DefsError) → Located o → Located form → (e : DefsError) → refusal_is us is o form e → IsLocated e.code e.place e.name
+of_refusal us is (Some d) form h g e r = h e (ap (λ x. Some x) r)
+of_refusal us is None form h g e (inl r) = rw (sym r.refused) refl
+of_refusal us is None form h g e (inr r) = of_last form g e r.1
 
 pub refused_located : (us : List UnitTree) (config : ConfigTree) (e : DefsError) → IsRefusal us config e → IsLocated e.code e.place e.name
-refused_located us config e r = of_refusal (refused us config) (of_step us config) e r
+refused_located us config e r =
+    let named = behaviour config.statements config.end None None in
+    of_refusal us (items_of config.statements) (refused us config) (form_refused named) (of_step us config) (of_form named) e r

@@ -1,22 +1,22 @@
 -- The models of modules with names in their expressions, by computation.
-use Rattle.std.proofs.Common.{◌≡◌, refl, arith}
+use Rattle.std.proofs.Common.{refl, arith}
 use Rattle.std.specs.Prelude.{codes}
+use Rattle.tla_parse.specs.Tree.{Name}
 use Rattle.tla_defs.specs.NamedRows.{WithParameter, WithLet, WithoutCapture}
 use Rattle.tla_defs.specs.Rows.{word, init_before}
-use Rattle.tla_defs.proofs.Worked.{within}
+use Rattle.tla_defs.proofs.Worked.{within, by_names}
 
 pub with_parameter : WithParameter
 with_parameter =
     record {
-      whole = refl;
       known = refl;
       given = refl;
       valued = refl;
       named = refl;
-      init_name = word 1 6 (codes "Init");
-      next_name = word 2 6 (codes "Next");
-      one_init = refl;
-      one_next = refl;
+      straight = tt;
+      initial = Name (word 1 6 (codes "Init"));
+      action = Name (word 2 6 (codes "Next"));
+      behaviour = by_names _ _ _ _ refl refl refl;
       variables = refl;
       assumptions = tt;
       init = record { before = init_before 0; meaning = refl; primed = refl; limits = within _ 3 2 refl refl (omega arith) (omega arith) };
@@ -28,15 +28,14 @@ with_parameter =
 pub with_let : WithLet
 with_let =
     record {
-      whole = refl;
       known = refl;
       given = refl;
       valued = refl;
       named = refl;
-      init_name = word 1 6 (codes "Init");
-      next_name = word 2 6 (codes "Next");
-      one_init = refl;
-      one_next = refl;
+      straight = tt;
+      initial = Name (word 1 6 (codes "Init"));
+      action = Name (word 2 6 (codes "Next"));
+      behaviour = by_names _ _ _ _ refl refl refl;
       variables = refl;
       assumptions = tt;
       init = record { before = init_before 0; meaning = refl; primed = refl; limits = within _ 3 2 refl refl (omega arith) (omega arith) };
@@ -48,15 +47,14 @@ with_let =
 pub without_capture : WithoutCapture
 without_capture =
     record {
-      whole = refl;
       known = refl;
       given = refl;
       valued = refl;
       named = refl;
-      init_name = word 1 6 (codes "Init");
-      next_name = word 2 6 (codes "Next");
-      one_init = refl;
-      one_next = refl;
+      straight = tt;
+      initial = Name (word 1 6 (codes "Init"));
+      action = Name (word 2 6 (codes "Next"));
+      behaviour = by_names _ _ _ _ refl refl refl;
       variables = refl;
       assumptions = tt;
       init = record { before = init_before 0; meaning = refl; primed = refl; limits = within _ 3 2 refl refl (omega arith) (omega arith) };

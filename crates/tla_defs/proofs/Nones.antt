@@ -1,5 +1,5 @@
 -- Where there is a model, no step refuses.
-use Rattle.std.proofs.Common.{◌≡◌, refl, ap, sym, ◌∙◌, inl, inr, List, [], ◌∷◌, ◌++◌, Option, Some, None, Err, Ok, subst}
+use Rattle.std.proofs.Common.{◌≡◌, refl, sym, inl, inr, List, [], ◌∷◌, Some, None, Err, subst}
 use Rattle.tla_eval.specs.Expr.{Expr}
 use Rattle.tla_lex.specs.declared.token.Place.{Place}
 use Rattle.tla_parse.specs.declared.word.Written.{Written}
@@ -8,29 +8,31 @@ use Rattle.tla_parse.specs.Units.{UnitTree}
 use Rattle.tla_config.specs.declared.error.DefsError.{DefsError}
 use Rattle.tla_config.specs.declared.error.Source.TheVariants as source
 use Rattle.tla_config.specs.Names.{Name}
-use Rattle.tla_config.specs.Statements.{Statement, items_of}
+use Rattle.tla_config.specs.Statements.{Statement, Item, items_of}
 use Rattle.tla_config.specs.View.{ConfigTree}
-use Rattle.tla_expand.specs.Expand.{Scope}
+use Rattle.tla_expand.specs.Meanings.{Scope}
 use Rattle.tla_model.specs.ModelTree.{ModelTree}
 use Rattle.tla_defs.specs.Formulas.{LacksInvariant, LacksAssumption}
 use Rattle.tla_defs.specs.Global.{global}
 use Rattle.tla_defs.specs.Items.{definitions_of}
-use Rattle.tla_defs.specs.Model.{IsModel, IsInitial, IsAction, IsInvariant, IsAssumption, AreInvariants, AreAssumptions, assumptions_of, initials_named, nexts_named, invariants_named}
+use Rattle.tla_defs.specs.Leads.{Lead, leads, IsCircular}
+use Rattle.tla_defs.specs.Circles.{AreStraight, IsFirstCircle}
+use Rattle.tla_defs.specs.Model.{IsModel, IsBehaviour, IsInitial, IsAction, IsInvariant, IsAssumption, AreInvariants, AreAssumptions, assumptions_of, invariants_named}
 use Rattle.tla_defs.specs.Named.{names_misused}
-use Rattle.tla_defs.specs.Refused.{refused, behaviour, refusal_for, items_refused}
+use Rattle.tla_defs.specs.Refused.{refused, behaviour, refusal_for, items_refused, IsOfCircle}
 use Rattle.tla_defs.proofs.Behaviours.{behaviour_found}
-use Rattle.tla_defs.proofs.Unique.{same_one}
+use Rattle.tla_defs.proofs.Unique.{one_behaviour}
 
 -- no step refuses what names a model
 pub no_refusal : (us : List UnitTree) (config : ConfigTree) (m : ModelTree) → IsModel us config.statements m → refused us config ≡ None
 no_refusal us config m h =
-    let f = behaviour_found None None config.statements config.end h.init_name h.next_name h.one_init h.one_next in
-    rw (h.whole, h.known, h.given, h.valued, f.is_found, h.named) refl
+    let f = behaviour_found us config.statements config.end h.initial h.action h.behaviour in
+    rw (h.known, h.given, h.valued, f.1, h.named) refl
 
 pub no_behaviour : (us : List UnitTree) (config : ConfigTree) (p : Place) → behaviour config.statements config.end None None ≡ Err p → (m : ModelTree) → IsModel us config.statements m → ⊥
 no_behaviour us config p q m h =
-    let f = behaviour_found None None config.statements config.end h.init_name h.next_name h.one_init h.one_next in
-    let g = f.is_found in
+    let f = behaviour_found us config.statements config.end h.initial h.action h.behaviour in
+    let g = f.1 in
     let z : ⊥ = cc in
     z
 
@@ -49,6 +51,15 @@ no_names us cs e p m h =
 pub refusal_stops : (us : List UnitTree) (config : ConfigTree) (e : DefsError) → refused us config ≡ Some e → (m : ModelTree) → IsModel us config.statements m → ⊥
 refusal_stops us config e p m h = let q = no_refusal us config m h in cc
 
+-- the first circle is one
+circle_stops : (ls : List Lead) (is : List Item) (w : Written) → IsFirstCircle ls is w → AreStraight ls is → ⊥
+circle_stops ls [] w c h = c
+circle_stops ls (i ∷ is) w (inl c) h = h.0 (subst (λ (v : Written). IsCircular ls v.word) (sym c.0) c.1)
+circle_stops ls (i ∷ is) w (inr c) h = circle_stops ls is w c.1 h.1
+
+pub no_circle : (us : List UnitTree) (cs : List Statement) (e : DefsError) → IsOfCircle (leads us (items_of cs)) (items_of cs) e → (m : ModelTree) → IsModel us cs m → ⊥
+no_circle us cs e c m h = circle_stops (leads us (items_of cs)) (items_of cs) c.name c.first h.straight
+
 -- a name without invariant stands for no list of them
 pub lacks_invariant : (σ : Scope) (ws : List Written) (is : List (Name × Expr)) → LacksInvariant σ ws → AreInvariants σ ws is → ⊥
 lacks_invariant σ [] is l h = l
@@ -62,12 +73,16 @@ lacks_assumption σ (t ∷ ts) [] l h = h
 lacks_assumption σ (t ∷ ts) (e ∷ es) (inl l) h = l e h.0
 lacks_assumption σ (t ∷ ts) (e ∷ es) (inr l) h = lacks_assumption σ ts es l h.1
 
--- without the formulas of these names there is no model
-pub no_init : (us : List UnitTree) (cs : List Statement) (σ : Scope) (w : Written) → σ ≡ global us (items_of cs) → initials_named cs ≡ w ∷ [] → ((e : Expr) → IsInitial σ w e → ⊥) → (m : ModelTree) → IsModel us cs m → ⊥
-no_init us cs σ w at p none m h = none m.init (rw at (subst (λ v. IsInitial (global us (items_of cs)) v m.init) (same_one (initials_named cs) h.init_name w h.one_init p) h.init))
+-- without the formulas that the behaviour names there is no model
+pub no_init : (us : List UnitTree) (cs : List Statement) (σ : Scope) (i a : Tree) → σ ≡ global us (items_of cs) → IsBehaviour us cs i a → ((e : Expr) → IsInitial σ i e → ⊥) → (m : ModelTree) → IsModel us cs m → ⊥
+no_init us cs σ i a at p none m h =
+    let same = one_behaviour us cs h.initial h.action i a h.behaviour p in
+    none m.init (rw at (subst (λ v. IsInitial (global us (items_of cs)) v m.init) same.0 h.init))
 
-pub no_next : (us : List UnitTree) (cs : List Statement) (σ : Scope) (w : Written) → σ ≡ global us (items_of cs) → nexts_named cs ≡ w ∷ [] → ((e : Expr) → IsAction σ w e → ⊥) → (m : ModelTree) → IsModel us cs m → ⊥
-no_next us cs σ w at p none m h = none m.next (rw at (subst (λ v. IsAction (global us (items_of cs)) v m.next) (same_one (nexts_named cs) h.next_name w h.one_next p) h.next))
+pub no_next : (us : List UnitTree) (cs : List Statement) (σ : Scope) (i a : Tree) → σ ≡ global us (items_of cs) → IsBehaviour us cs i a → ((e : Expr) → IsAction σ a e → ⊥) → (m : ModelTree) → IsModel us cs m → ⊥
+no_next us cs σ i a at p none m h =
+    let same = one_behaviour us cs h.initial h.action i a h.behaviour p in
+    none m.next (rw at (subst (λ v. IsAction (global us (items_of cs)) v m.next) same.1 h.next))
 
 pub no_invariants : (us : List UnitTree) (cs : List Statement) (σ : Scope) (ws : List Written) → σ ≡ global us (items_of cs) → ws ≡ invariants_named cs → LacksInvariant σ ws → (m : ModelTree) → IsModel us cs m → ⊥
 no_invariants us cs σ ws at named l m h = lacks_invariant σ ws m.invariants l (rw (at, named) h.invariants)

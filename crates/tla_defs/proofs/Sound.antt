@@ -1,5 +1,5 @@
 -- The parts of a model can be evaluated: what they name exists.
-use Rattle.std.proofs.Common.{◌≡◌, ◌≤◌, ℕ, ◌+◌, true, false, Bool, refl, ap, sym, ◌∙◌, arith, length, List, [], ◌∷◌, ◌++◌, Some, None, length-append}
+use Rattle.std.proofs.Common.{◌≡◌, ◌≤◌, ℕ, ◌+◌, true, false, Bool, refl, sym, ◌∙◌, arith, length, List, [], ◌∷◌, Some, None, length-append}
 use Rattle.std.proofs.lemmas.List.{length-map}
 use Rattle.std.proofs.lemmas.Bool.{lt-ltb}
 use Rattle.tla_value.specs.Tree as value
@@ -12,14 +12,14 @@ use Rattle.tla_parse.specs.Units.{UnitTree, Separator, Extends, Variables, Opera
 use Rattle.tla_config.specs.Names.{Name, words, is_among}
 use Rattle.tla_config.specs.Statements.{Statement, Item, Value, Replaces, items_of}
 use Rattle.tla_expand.specs.declared.primes.Primes.TheVariants.{Once}
-use Rattle.tla_expand.specs.Expand.{Scope, standard, variable, with_name}
+use Rattle.tla_expand.specs.Meanings.{Scope, standard, variable, with_name}
 use Rattle.tla_expand.specs.Fits.{FitsScope, FitsMeaning}
 use Rattle.tla_expand.proofs.PrimesFit.{primes_fit}
 use Rattle.tla_expand.proofs.Fitting.{expand_fits, definition_fits, name_fits, variable_fits, standard_fits}
 use Rattle.tla_model.specs.IsSound.{IsSound, IsUsable, AreUsable, bodies}
 use Rattle.tla_model.specs.ModelTree.{ModelTree}
 use Rattle.tla_model.specs.Size.{IsWithinLimits}
-use Rattle.tla_defs.specs.Global.{global, units_in, unless, variables_in, with_variable, with_operator}
+use Rattle.tla_defs.specs.Global.{global, meant, raised, units_in, unless, variables_in, with_variable, with_operator}
 use Rattle.tla_defs.specs.Items.{fixed, with_items, replaced_names}
 use Rattle.tla_defs.specs.Scope.{signature}
 use Rattle.tla_defs.specs.Misuses.{variables_of}
@@ -60,16 +60,24 @@ fixed_fits n v p [] d l r e q =
     rw (sym same) refl
 fixed_fits n v p (a ∷ args) d l r e q = let z : ⊥ = cc in absurd z
 
-items_fit : (is : List Item) (n : ℕ) (σ : Scope) → FitsScope n 0 σ → FitsScope n 0 (with_items is σ)
-items_fit [] n σ s = s
-items_fit (Value w v ∷ is) n σ s = items_fit is n (with_name w.word (fixed v) σ) (name_fits n 0 w.word (fixed v) σ (fixed_fits n v) s)
-items_fit (Replaces w op ∷ is) n σ s = items_fit is n σ s
+items_fit : (ρ : Scope) (is : List Item) (n : ℕ) (σ : Scope) → FitsScope n 0 ρ → FitsScope n 0 σ → FitsScope n 0 (with_items ρ is σ)
+items_fit ρ [] n σ r s = s
+items_fit ρ (Value w v ∷ is) n σ r s = items_fit ρ is n (with_name w.word (fixed v) σ) r (name_fits n 0 w.word (fixed v) σ (fixed_fits n v) s)
+items_fit ρ (Replaces w op ∷ is) n σ r s = items_fit ρ is n (with_name w.word (ρ op.word) σ) r (name_fits n 0 w.word (ρ op.word) σ (r op.word) s)
+
+meant_fits : (us : List UnitTree) (is : List Item) (ρ : Scope) → FitsScope (length (variables_of us)) 0 ρ → FitsScope (length (variables_of us)) 0 (meant us is ρ)
+meant_fits us is ρ r =
+    let n = length (variables_of us) in
+    units_fit (replaced_names is) us 0 n (with_items ρ is standard) (omega arith) (items_fit ρ is n standard r (standard_fits n 0))
+
+raised_fits : (us : List UnitTree) (is js : List Item) (ρ : Scope) → FitsScope (length (variables_of us)) 0 ρ → FitsScope (length (variables_of us)) 0 (raised us is js ρ)
+raised_fits us is [] ρ r = r
+raised_fits us is (Value w v ∷ js) ρ r = raised_fits us is js ρ r
+raised_fits us is (Replaces w op ∷ js) ρ r = raised_fits us is js (meant us is ρ) (meant_fits us is ρ r)
 
 -- the names of a module stand for what exists
 global_fits : (us : List UnitTree) (is : List Item) → FitsScope (length (variables_of us)) 0 (global us is)
-global_fits us is =
-    let n = length (variables_of us) in
-    units_fit (replaced_names is) us 0 n (with_items is standard) (omega arith) (items_fit is n standard (standard_fits n 0))
+global_fits us is = raised_fits us is is (meant us is standard) (meant_fits us is standard (standard_fits (length (variables_of us)) 0))
 
 usable : (n : ℕ) (s : Bool) (e : Expr) → fits e 0 n s ≡ true → IsWithinLimits e → IsUsable n s e
 usable n s e p h = record { named = p; shallow = h.shallow }
@@ -97,10 +105,10 @@ sound us cs m h =
     let v = length (variables_of us) in
     let σ = global us (items_of cs) in
     let scope = global_fits us (items_of cs) in
-    let init : fits m.init 0 v false ≡ true = primes_fit Once v v false refl h.init.before 0 m.init h.init.primed ∙ meaning_fits v σ scope h.init_name h.init.before h.init.meaning in
+    let init : fits m.init 0 v false ≡ true = primes_fit Once v v false refl h.init.before 0 m.init h.init.primed ∙ expand_fits h.initial σ v 0 scope h.init.before h.init.meaning in
     record {
       assumptions = assumptions_usable v σ scope (assumptions_of us) m.assumptions h.assumptions;
       init = rw n (usable v false m.init init h.init.limits);
-      next = rw n (usable v true m.next (meaning_fits v σ scope h.next_name m.next h.next.meaning) h.next.limits);
+      next = rw n (usable v true m.next (expand_fits h.action σ v 0 scope m.next h.next.meaning) h.next.limits);
       invariants = rw n (invariants_usable v σ scope (invariants_named cs) m.invariants h.invariants);
     }

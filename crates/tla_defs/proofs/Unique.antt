@@ -1,19 +1,24 @@
 -- A module and a configuration name at most one model.
-use Rattle.std.proofs.Common.{◌≡◌, List, [], ◌∷◌, Option, Some, refl, ap, sym, ◌∙◌}
+use Rattle.std.proofs.Common.{◌≡◌, ℕ, List, [], ◌∷◌, Option, Some, refl, ap, sym, ◌∙◌, inl, inr, length}
 use Rattle.tla_eval.specs.Expr.{Expr}
 use Rattle.tla_parse.specs.declared.word.Written.{Written}
 use Rattle.tla_parse.specs.Tree.{Tree}
+use Rattle.tla_parse.specs.Tree as t
 use Rattle.tla_parse.specs.Units.{UnitTree}
 use Rattle.tla_config.specs.Names.{Name}
-use Rattle.tla_config.specs.Statements.{Statement, items_of}
+use Rattle.tla_config.specs.Statements.{Statement, Item, items_of}
 use Rattle.tla_expand.specs.declared.primes.Primes.TheVariants.{Once}
-use Rattle.tla_expand.specs.Expand.{Scope, expand}
+use Rattle.tla_expand.specs.Meanings.{Scope}
+use Rattle.tla_expand.specs.Expand.{expand}
 use Rattle.tla_expand.specs.Primes.{primes}
 use Rattle.tla_model.specs.ModelTree.{ModelTree}
 use Rattle.tla_defs.specs.Global.{global}
-use Rattle.tla_defs.specs.Model.{meaning_in, IsInitial, AreInvariants, AreAssumptions, IsModel, assumptions_of, initials_named, nexts_named, invariants_named}
+use Rattle.tla_defs.specs.Misuses.{variables_of}
+use Rattle.tla_defs.specs.Model.{meaning_in, IsInitial, IsBehaviour, AreInvariants, AreAssumptions, IsModel, assumptions_of, initials_named, nexts_named, specifications_named, invariants_named}
+use Rattle.tla_defs.specs.Bodies.{body_of}
+use Rattle.tla_defs.specs.Specification.{IsSpecification, conjuncts, conjunction_of, initials_of, steps_of}
 
-same_some : {A : Type 0} (o : Option A) (a b : A) → o ≡ Some a → o ≡ Some b → a ≡ b
+pub same_some : {A : Type 0} (o : Option A) (a b : A) → o ≡ Some a → o ≡ Some b → a ≡ b
 same_some o a b p q = cc
 
 same_primed : (d c e f : Expr) → d ≡ c → primes Once d ≡ Some e → primes Once c ≡ Some f → e ≡ f
@@ -22,8 +27,11 @@ same_primed d c e f same p q = same_some (primes Once d) e f p (ap (λ z. primes
 one_meaning : (σ : Scope) (w v : Written) (e f : Expr) → w ≡ v → meaning_in σ w ≡ Some e → meaning_in σ v ≡ Some f → e ≡ f
 one_meaning σ w v e f same a b = same_some (meaning_in σ w) e f a (ap (λ u. meaning_in σ u) same ∙ b)
 
-one_initial : (σ : Scope) (w v : Written) (e f : Expr) → w ≡ v → IsInitial σ w e → IsInitial σ v f → e ≡ f
-one_initial σ w v e f same a b = same_primed a.before b.before e f (one_meaning σ w v a.before b.before same a.meaning b.meaning) a.primed b.primed
+one_expansion : (σ : Scope) (t u : Tree) (e f : Expr) → t ≡ u → expand t σ 0 ≡ Some e → expand u σ 0 ≡ Some f → e ≡ f
+one_expansion σ t u e f same a b = same_some (expand t σ 0) e f a (ap (λ v. expand v σ 0) same ∙ b)
+
+one_initial : (σ : Scope) (t u : Tree) (e f : Expr) → t ≡ u → IsInitial σ t e → IsInitial σ u f → e ≡ f
+one_initial σ t u e f same a b = same_primed a.before b.before e f (one_expansion σ t u a.before b.before same a.meaning b.meaning) a.primed b.primed
 
 one_list : (σ : Scope) (ws : List Written) (is js : List (Name × Expr)) → AreInvariants σ ws is → AreInvariants σ ws js → is ≡ js
 one_list σ [] [] [] a b = refl
@@ -54,11 +62,41 @@ same_one ws w v p q = cc
 same_model : (m n : ModelTree) → m.variables ≡ n.variables → m.assumptions ≡ n.assumptions → m.init ≡ n.init → m.next ≡ n.next → m.invariants ≡ n.invariants → m.check_deadlock ≡ n.check_deadlock → m ≡ n
 same_model m n a b c d e f = λ k. record { variables = a k; assumptions = b k; init = c k; next = d k; invariants = e k; check_deadlock = f k }
 
+-- an initial predicate and an action
+abbrev pub Same : Tree → Tree → Tree → Tree → Type 0
+Same i a j b = (i ≡ j) × (a ≡ b)
+
+no_two : {A : Type 0} (xs : List A) (x : A) → xs ≡ x ∷ [] → xs ≡ [] → ⊥
+no_two xs x p q = let z : ⊥ = cc in z
+
+one_step : (steps : List (Tree × Tree)) (a b u v : Tree) → steps ≡ (a, u) ∷ [] → steps ≡ (b, v) ∷ [] → a ≡ b
+one_step steps a b u v p q = let same : (a, u) ≡ (b, v) = cc in ap (λ (s : Tree × Tree). s.0) same
+
+one_form : (us : List UnitTree) (is : List Item) (σ : Scope) (n : ℕ) (w v : Written) (i a j b : Tree) → w ≡ v → IsSpecification us is σ n w i a → IsSpecification us is σ n v j b → Same i a j b
+one_form us is σ n w v i a j b same g h =
+    let known = body_of us is in
+    let body = same_some (known w.word) g.body h.body g.is_body (ap (λ (x : Written). known x.word) same ∙ h.is_body) in
+    let split = ap (λ e. conjuncts (length us) known e) body in (
+      same_some (conjunction_of (initials_of (length us) known (conjuncts (length us) known g.body))) i j g.is_initial (ap (λ es. conjunction_of (initials_of (length us) known es)) split ∙ h.is_initial),
+      one_step (steps_of (conjuncts (length us) known g.body)) a b g.subscript h.subscript g.one_step (ap (λ es. steps_of es) split ∙ h.one_step),
+    )
+
+pub one_behaviour : (us : List UnitTree) (cs : List Statement) (i a j b : Tree) → IsBehaviour us cs i a → IsBehaviour us cs j b → Same i a j b
+one_behaviour us cs i a j b (inl g) (inl h) = (
+  g.initial_is ∙ ap (λ w. t.Name w) (same_one (initials_named cs) g.init_name h.init_name g.one_init h.one_init) ∙ sym h.initial_is,
+  g.action_is ∙ ap (λ w. t.Name w) (same_one (nexts_named cs) g.next_name h.next_name g.one_next h.one_next) ∙ sym h.action_is,
+)
+one_behaviour us cs i a j b (inl g) (inr h) = absurd (no_two (specifications_named cs) h.name h.one_specification g.no_specification)
+one_behaviour us cs i a j b (inr g) (inl h) = absurd (no_two (specifications_named cs) g.name g.one_specification h.no_specification)
+one_behaviour us cs i a j b (inr g) (inr h) =
+    one_form us (items_of cs) (global us (items_of cs)) (length (variables_of us)) g.name h.name i a j b (same_one (specifications_named cs) g.name h.name g.one_specification h.one_specification) g.form h.form
+
 pub one_model : (us : List UnitTree) (cs : List Statement) (m n : ModelTree) → IsModel us cs m → IsModel us cs n → m ≡ n
 one_model us cs m n a b =
     let σ = global us (items_of cs) in
+    let same = one_behaviour us cs a.initial a.action b.initial b.action a.behaviour b.behaviour in
     same_model m n (a.variables ∙ sym b.variables) (one_assumption σ (assumptions_of us) m.assumptions n.assumptions a.assumptions b.assumptions)
-    (one_initial σ a.init_name b.init_name m.init n.init (same_one (initials_named cs) a.init_name b.init_name a.one_init b.one_init) a.init b.init)
-    (one_meaning σ a.next_name b.next_name m.next n.next (same_one (nexts_named cs) a.next_name b.next_name a.one_next b.one_next) a.next.meaning b.next.meaning)
+    (one_initial σ a.initial b.initial m.init n.init same.0 a.init b.init)
+    (one_expansion σ a.action b.action m.next n.next same.1 a.next.meaning b.next.meaning)
     (one_list σ (invariants_named cs) m.invariants n.invariants a.invariants b.invariants)
     (a.check_deadlock ∙ sym b.check_deadlock)

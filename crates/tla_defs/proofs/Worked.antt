@@ -1,25 +1,33 @@
 -- The models of some modules and configurations, by computation.
-use Rattle.std.proofs.Common.{◌≡◌, ◌≤◌, ℕ, refl, arith}
+use Rattle.std.proofs.Common.{◌≡◌, ◌≤◌, ℕ, List, [], ◌∷◌, refl, arith, inl}
 use Rattle.std.specs.Prelude.{codes}
 use Rattle.tla_eval.specs.Expr.{Expr}
+use Rattle.tla_parse.specs.declared.word.Written.{Written}
+use Rattle.tla_parse.specs.Tree.{Name}
+use Rattle.tla_parse.specs.Units.{UnitTree}
+use Rattle.tla_config.specs.Statements.{Statement}
 use Rattle.tla_model.specs.Size.{nodes, depth, IsWithinLimits}
+use Rattle.tla_defs.specs.Model.{IsBehaviour, initials_named, nexts_named, specifications_named}
 use Rattle.tla_defs.specs.Rows.{word, init_before, CounterOfThree, CounterOfFive, BoundedSteps, BoundedStepsMayEnd, LargestNumber}
 
 pub within : (e : Expr) (n d : ℕ) → nodes e ≡ n → depth e ≡ d → n ≤ 200000 → d ≤ 300 → IsWithinLimits e
 within e n d a b p q = record { small = rw a p; shallow = rw b q }
 
+-- INIT and NEXT alone name the behaviour
+pub by_names : (us : List UnitTree) (cs : List Statement) (w v : Written) → initials_named cs ≡ w ∷ [] → nexts_named cs ≡ v ∷ [] → specifications_named cs ≡ [] → IsBehaviour us cs (Name w) (Name v)
+by_names us cs w v i n s = inl (record { init_name = w; next_name = v; one_init = i; one_next = n; no_specification = s; initial_is = refl; action_is = refl })
+
 pub counter_of_three : CounterOfThree
 counter_of_three =
     record {
-      whole = refl;
       known = refl;
       given = refl;
       valued = refl;
       named = refl;
-      init_name = word 1 6 (codes "Init");
-      next_name = word 2 6 (codes "Next");
-      one_init = refl;
-      one_next = refl;
+      straight = tt;
+      initial = Name (word 1 6 (codes "Init"));
+      action = Name (word 2 6 (codes "Next"));
+      behaviour = by_names _ _ _ _ refl refl refl;
       variables = refl;
       assumptions = tt;
       init = record {
@@ -36,15 +44,14 @@ counter_of_three =
 pub counter_of_five : CounterOfFive
 counter_of_five =
     record {
-      whole = refl;
       known = refl;
       given = refl;
       valued = refl;
       named = refl;
-      init_name = word 1 6 (codes "Init");
-      next_name = word 2 6 (codes "Next");
-      one_init = refl;
-      one_next = refl;
+      straight = tt;
+      initial = Name (word 1 6 (codes "Init"));
+      action = Name (word 2 6 (codes "Next"));
+      behaviour = by_names _ _ _ _ refl refl refl;
       variables = refl;
       assumptions = tt;
       init = record {
@@ -61,15 +68,14 @@ counter_of_five =
 pub bounded_steps : BoundedSteps
 bounded_steps =
     record {
-      whole = refl;
       known = refl;
       given = refl;
       valued = refl;
       named = refl;
-      init_name = word 1 6 (codes "Init");
-      next_name = word 2 6 (codes "Next");
-      one_init = refl;
-      one_next = refl;
+      straight = tt;
+      initial = Name (word 1 6 (codes "Init"));
+      action = Name (word 2 6 (codes "Next"));
+      behaviour = by_names _ _ _ _ refl refl refl;
       variables = refl;
       assumptions = tt;
       init = record {
@@ -86,15 +92,14 @@ bounded_steps =
 pub bounded_steps_may_end : BoundedStepsMayEnd
 bounded_steps_may_end =
     record {
-      whole = refl;
       known = refl;
       given = refl;
       valued = refl;
       named = refl;
-      init_name = word 1 6 (codes "Init");
-      next_name = word 2 6 (codes "Next");
-      one_init = refl;
-      one_next = refl;
+      straight = tt;
+      initial = Name (word 1 6 (codes "Init"));
+      action = Name (word 2 6 (codes "Next"));
+      behaviour = by_names _ _ _ _ refl refl refl;
       variables = refl;
       assumptions = tt;
       init = record {
@@ -111,15 +116,14 @@ bounded_steps_may_end =
 pub largest_number : LargestNumber
 largest_number =
     record {
-      whole = refl;
       known = refl;
       given = refl;
       valued = refl;
       named = refl;
-      init_name = word 1 6 (codes "Init");
-      next_name = word 2 6 (codes "Next");
-      one_init = refl;
-      one_next = refl;
+      straight = tt;
+      initial = Name (word 1 6 (codes "Init"));
+      action = Name (word 2 6 (codes "Next"));
+      behaviour = by_names _ _ _ _ refl refl refl;
       variables = refl;
       assumptions = tt;
       init = record {

@@ -1,5 +1,5 @@
 -- Constants of a module, and those that have no value (book, chapter 14).
-use Rattle.std.specs.Prelude.{ℕ, List, [], ◌∷◌, ◌++◌, Option, Some, None, map, if◌then◌else◌}
+use Rattle.std.specs.Prelude.{List, [], ◌∷◌, ◌++◌, Option, Some, None, map, if◌then◌else◌}
 use Rattle.tla_parse.specs.declared.word.Written.{Written}
 use Rattle.tla_parse.specs.Units.{UnitTree, Declared, Constants}
 use Rattle.tla_config.specs.Names.{Name, is_among}

@@ -1,18 +1,19 @@
 -- Modules with a constant that the configuration gives a value, with variables in two places, and with UNCHANGED, and the models that they name.
-use Rattle.std.specs.Prelude.{pos, true, List, [], ◌∷◌, codes}
+use Rattle.std.specs.Prelude.{pos, true, List, [], ◌∷◌, ◌++◌, codes}
 use Rattle.tla_value.specs.Tree as value
 use Rattle.tla_eval.specs.Expr.{Expr, next, now, equal, conjunction, no_exprs, more_exprs}
 use Rattle.tla_parse.specs.declared.tree.Brackets.TheVariants as brackets
 use Rattle.tla_parse.specs.declared.tree.Infix.TheVariants as op
 use Rattle.tla_parse.specs.declared.tree.Prefix.TheVariants as prefix
 use Rattle.tla_parse.specs.Tree.{Tree, Prime, Binary, Unary, Listing, more, none}
-use Rattle.tla_parse.specs.Units.{UnitTree, Variables, Constants}
+use Rattle.tla_parse.specs.Units.{UnitTree, Variables, Constants, Operator}
 use Rattle.tla_expand.specs.Places.{place_of}
+use Rattle.tla_config.specs.Statements.{Item}
 use Rattle.tla_config.specs.Statements as s
-use Rattle.tla_model.specs.ModelTree.{ModelTree}
+use Rattle.tla_defs.specs.Leads.{leads, IsCircular}
 use Rattle.tla_defs.specs.Model.{IsModel}
 use Rattle.tla_defs.specs.NamedRows.{behind, name_at}
-use Rattle.tla_defs.specs.Rows.{place, word, x_at, number_at, constant_at, now_at, statements, model}
+use Rattle.tla_defs.specs.Rows.{place, word, x_at, number_at, constant_at, statements, model}
 
 -- CONSTANT N
 abbrev pub constant_unit : UnitTree
@@ -27,8 +28,31 @@ abbrev pub given_step : Expr
 given_step = equal (place_of (place 5 9)) (next (place_of (place 5 9)) 0) (constant_at 5 14 3)
 
 -- CONSTANT N = 3
+abbrev pub given_item : Item
+given_item = s.Value (word 3 10 (codes "N")) (value.int (pos 3))
+
 abbrev pub WithValue : Type 0
-WithValue = IsModel (behind constant_unit given_tree) (statements (s.Constants (place 3 1) (s.Value (word 3 10 (codes "N")) (value.int (pos 3)) ∷ []) ∷ [])) (model 0 given_step [] true)
+WithValue = IsModel (behind constant_unit given_tree) (statements (s.Constants (place 3 1) (given_item ∷ []) ∷ [])) (model 0 given_step [] true)
+
+-- CONSTANT N <- Three, where Three == 3 is defined behind the use of N: its number stands where it is written
+abbrev pub replaced_units : List UnitTree
+replaced_units = behind constant_unit given_tree ++ Operator (word 6 1 (codes "Three")) (number_at 6 10 3) ∷ []
+
+abbrev pub replaced_step : Expr
+replaced_step = equal (place_of (place 5 9)) (next (place_of (place 5 9)) 0) (constant_at 6 10 3)
+
+abbrev pub replacement : Item
+replacement = s.Replaces (word 3 10 (codes "N")) (word 3 15 (codes "Three"))
+
+abbrev pub WithReplacement : Type 0
+WithReplacement = IsModel replaced_units (statements (s.Constants (place 3 1) (replacement ∷ []) ∷ [])) (model 0 replaced_step [] true)
+
+-- CONSTANT N <- Three and Three == N + 1: N leads to Three, and Three to N
+abbrev pub circular_units : List UnitTree
+circular_units = behind constant_unit given_tree ++ Operator (word 6 1 (codes "Three")) (Binary (place 6 10) op.Plus (word 6 12 (codes "+")) (name_at 6 10 (codes "N")) (number_at 6 14 1)) ∷ []
+
+abbrev pub Circle : Type 0
+Circle = IsCircular (leads circular_units (replacement ∷ [])) (codes "N")
 
 -- VARIABLE y
 abbrev pub variable_unit : UnitTree

@@ -4,8 +4,9 @@ use Rattle.tla_parse.specs.declared.word.Written.{Written}
 use Rattle.tla_parse.specs.Tree.{Tree}
 use Rattle.tla_parse.specs.Units.{UnitTree, Variables, Operator, Defines, Local, Assume}
 use Rattle.tla_config.specs.Names.{Name, is_among}
-use Rattle.tla_config.specs.Statements.{Item}
-use Rattle.tla_expand.specs.Expand.{Scope, standard, with_name, variable, operator, expand, definition_in}
+use Rattle.tla_config.specs.Statements.{Item, Value, Replaces}
+use Rattle.tla_expand.specs.Meanings.{Scope, standard, with_name, variable, operator}
+use Rattle.tla_expand.specs.Expand.{expand, definition_in}
 use Rattle.tla_defs.specs.Scope.{signature}
 use Rattle.tla_defs.specs.Items.{replaced_names, with_items}
 
@@ -36,5 +37,15 @@ units_in xs i (Local at d ∷ us) σ = units_in xs i us (unless (is_among (signa
 units_in xs i (Assume at (Some w) e ∷ us) σ = units_in xs i us (unless (is_among w.word xs) (with_operator w.word e σ) σ)
 units_in xs i (u ∷ us) σ = units_in xs i us σ
 
+-- what the names mean, where operators that replace names mean this
+abbrev pub meant : List UnitTree → List Item → Scope → Scope
+meant us is ρ = units_in (replaced_names is) 0 us (with_items ρ is standard)
+
+-- An operator that replaces a name may be defined behind its uses, so that each such item gives all names their meaning once more.
+abbrev pub raised : List UnitTree → List Item → List Item → Scope → Scope
+raised us is [] ρ = ρ
+raised us is (Value w v ∷ js) ρ = raised us is js ρ
+raised us is (Replaces w op ∷ js) ρ = raised us is js (meant us is ρ)
+
 abbrev pub global : List UnitTree → List Item → Scope
-global us is = units_in (replaced_names is) 0 us (with_items is standard)
+global us is = raised us is is (meant us is standard)

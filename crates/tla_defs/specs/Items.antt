@@ -1,18 +1,19 @@
 -- The items of CONSTANT: the names that they are for, and what these mean (book, chapter 14).
-use Rattle.std.specs.Prelude.{ℕ, Bool, List, [], ◌∷◌, ◌++◌, Option, Some, None, is_some, if◌then◌else◌, map}
+use Rattle.std.specs.Prelude.{ℕ, zero, suc, nat_eq, length, List, [], ◌∷◌, ◌++◌, Option, Some, None, is_some, if◌then◌else◌, map}
 use Rattle.std.specs.List.{flat_map}
+use Rattle.std.specs.Str.{bytes_eq}
 use Rattle.tla_value.specs.Tree as value
 use Rattle.tla_eval.specs.Expr.{constant}
 use Rattle.tla_parse.specs.declared.word.Written.{Written}
-use Rattle.tla_parse.specs.Units.{UnitTree, Operator, Defines, Local, Assume, Constants}
-use Rattle.tla_config.specs.Names.{Name, is_among}
+use Rattle.tla_parse.specs.Units.{UnitTree, Extends, Operator, Defines, Local, Assume, Constants}
+use Rattle.tla_config.specs.Names.{Name, words}
 use Rattle.tla_config.specs.Statements.{Item, Value, Replaces}
 use Rattle.tla_expand.specs.Maybe.{or_else}
-use Rattle.tla_expand.specs.Expand as x
-use Rattle.tla_expand.specs.Expand.{with_name, alone}
-use Rattle.tla_defs.specs.Scope.{Scope, arity, signature}
+use Rattle.tla_expand.specs.Meanings as x
+use Rattle.tla_expand.specs.Meanings.{with_name, alone}
+use Rattle.tla_defs.specs.Scope.{Scope, arity, signature, extended}
 use Rattle.tla_defs.specs.Constants.{constants}
-use Rattle.tla_defs.specs.Known.{Misuse, Unknown, used, again}
+use Rattle.tla_defs.specs.Known.{Misuse, Unknown, Arguments, used, again}
 
 abbrev pub replaced_name : Item → Written
 replaced_name (Value w v) = w
@@ -22,17 +23,37 @@ replaced_name (Replaces w op) = w
 abbrev pub replaced_names : List Item → List Name
 replaced_names is = map (λ (i : Item). (replaced_name i).word) is
 
+-- the item for a name, if any
+abbrev pub item_for : List Item → Name → Option Item
+item_for [] x = None
+item_for (i ∷ is) x = if bytes_eq x (replaced_name i).word then Some i else item_for is x
+
+abbrev pub led_by : (Name → Option Name) → Name → Option Item → Option Name
+led_by ρ x None = Some x
+led_by ρ x (Some (Value w v)) = None
+led_by ρ x (Some (Replaces w op)) = ρ op.word
+
+-- the name that a name leads to by so many items at most, one after the other; none where one of them is a value
+abbrev pub led : List Item → ℕ → Name → Option Name
+led is zero x = Some x
+led is (suc n) x = led_by (led is n) x (item_for is x)
+
+-- The name that a name means: Op, where it has an item `c <- Op`.
+abbrev pub stands_for : List Item → Name → Option Name
+stands_for is x = led is (length is) x
+
 -- a value, at the place of its use
 abbrev pub fixed : value.Tree → x.Meaning
 fixed v = alone (λ p d. Some (constant p v))
 
-abbrev pub with_item : Item → x.Scope → x.Scope
-with_item (Value w v) σ = with_name w.word (fixed v) σ
-with_item (Replaces w op) σ = σ
+-- what an item makes of its name, where operators mean this
+abbrev pub with_item : x.Scope → Item → x.Scope → x.Scope
+with_item ρ (Value w v) σ = with_name w.word (fixed v) σ
+with_item ρ (Replaces w op) σ = with_name w.word (ρ op.word) σ
 
-abbrev pub with_items : List Item → x.Scope → x.Scope
-with_items [] σ = σ
-with_items (i ∷ is) σ = with_items is (with_item i σ)
+abbrev pub with_items : x.Scope → List Item → x.Scope → x.Scope
+with_items ρ [] σ = σ
+with_items ρ (i ∷ is) σ = with_items ρ is (with_item ρ i σ)
 
 -- what a unit defines; an assumption's name is defined too
 abbrev pub defined : UnitTree → Scope
@@ -57,12 +78,24 @@ replaceable_of us = flat_map replaceable us
 abbrev pub unknown : Scope → Written → Option Misuse
 unknown σ w = if is_some (arity σ w.word) then None else Some (Unknown w)
 
--- an item behind items for other names: its name is known, has no item yet, and takes no argument
-abbrev pub item_misused : Scope → List Name → Item → Option Misuse
-item_misused σ before (Value w v) = or_else (unknown σ w) (or_else (again before w) (used σ w 0))
-item_misused σ before (Replaces w op) = None
+-- what may stand for another name, and may have an item `c <- Op`: operators of modules too
+abbrev pub nameable : UnitTree → Scope
+nameable (Extends at ws) = extended (words ws)
+nameable u = replaceable u
+
+abbrev pub nameable_of : List UnitTree → Scope
+nameable_of us = flat_map nameable us
+
+abbrev pub differ : Written → Option ℕ → Option ℕ → Option Misuse
+differ w (Some m) (Some n) = if nat_eq m n then None else Some (Arguments w)
+differ w _ _ = None
+
+-- An item behind items for other names: its name is known, has no item yet, and takes no argument or as many as the operator. Values are for the names of δ, operators for those of μ.
+abbrev pub item_misused : Scope → Scope → List Name → Item → Option Misuse
+item_misused δ μ before (Value w v) = or_else (unknown δ w) (or_else (again before w) (used δ w 0))
+item_misused δ μ before (Replaces w op) = or_else (unknown μ w) (or_else (again before w) (or_else (unknown μ op) (differ w (arity μ w.word) (arity μ op.word))))
 
 -- the first misuse of a name in items, in the order of the configuration
-abbrev pub items_misused : Scope → List Name → List Item → Option Misuse
-items_misused σ before [] = None
-items_misused σ before (i ∷ is) = or_else (item_misused σ before i) (items_misused σ (before ++ (replaced_name i).word ∷ []) is)
+abbrev pub items_misused : Scope → Scope → List Name → List Item → Option Misuse
+items_misused δ μ before [] = None
+items_misused δ μ before (i ∷ is) = or_else (item_misused δ μ before i) (items_misused δ μ (before ++ (replaced_name i).word ∷ []) is)

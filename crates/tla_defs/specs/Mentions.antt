@@ -8,6 +8,7 @@ use Rattle.tla_config.specs.Statements as s
 use Rattle.tla_config.specs.View.{item_view}
 use Rattle.tla_defs.specs.declared.mention.Mention.{Mention}
 use Rattle.tla_defs.specs.declared.behaviour.Behaviour.{Behaviour}
+use Rattle.tla_defs.specs.declared.behaviour.Behaviour.TheVariants.{Named, Specified}
 use Rattle.tla_defs.specs.Refused as spec
 
 -- a name, an operator or the first word of a form, as it is written
@@ -18,9 +19,10 @@ written_of m = record { place = m.place; word = m.word.now }
 abbrev pub item_of : Bor c.Item → s.Item
 item_of i = item_view i.now
 
--- the bodies, and the names of INIT and NEXT, where they were found
+-- what names the behaviour
 abbrev pub behaviour_of : Behaviour → spec.Behaviour
-behaviour_of b = record { initial = b.initial.now; next = b.next.now }
+behaviour_of (Named i n) = spec.Named i.now n.now
+behaviour_of (Specified p w) = spec.Specified p w.now
 
 abbrev pub GivesBehaviour : Result Behaviour Place → Result spec.Behaviour Place → Type 0
 GivesBehaviour (Ok b) r = r ≡ Ok (behaviour_of b)

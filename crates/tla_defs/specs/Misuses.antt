@@ -1,7 +1,6 @@
 -- The first misuse of a name in the units of a module (book, chapter 17).
-use Rattle.std.specs.Prelude.{ℕ, List, [], ◌∷◌, ◌++◌, Option, Some, None}
+use Rattle.std.specs.Prelude.{List, [], ◌∷◌, ◌++◌, Option, Some, None}
 use Rattle.std.specs.List.{flat_map}
-use Rattle.tla_parse.specs.declared.word.Written.{Written}
 use Rattle.tla_parse.specs.Units.{UnitTree, Separator, Extends, Variables, Operator, Defines, Local, Constants, Assume, Theorem}
 use Rattle.tla_config.specs.Names.{Name, words}
 use Rattle.tla_expand.specs.Maybe.{or_else}

@@ -1,5 +1,5 @@
 -- The model that the units of a module and the statements of a configuration name (book, chapter 14).
-use Rattle.std.specs.Prelude.{◌≡◌, false, true, List, [], ◌∷◌, Option, Some, None}
+use Rattle.std.specs.Prelude.{◌≡◌, ◌⊎◌, false, true, List, [], ◌∷◌, Option, Some, None, length}
 use Rattle.std.specs.List.{flat_map}
 use Rattle.tla_eval.specs.Expr.{Expr}
 use Rattle.tla_eval.specs.Fits.{fits}
@@ -9,18 +9,21 @@ use Rattle.tla_parse.specs.Tree.{Tree}
 use Rattle.tla_parse.specs.Tree as t
 use Rattle.tla_parse.specs.Units.{UnitTree, Assume}
 use Rattle.tla_config.specs.Names.{Name}
-use Rattle.tla_config.specs.Statements.{Statement, Init, Next, Invariants, items_of, checks_deadlock}
+use Rattle.tla_config.specs.Statements.{Statement, Specification, Init, Next, Invariants, items_of, checks_deadlock}
 use Rattle.tla_expand.specs.Primes.{primes}
 use Rattle.tla_expand.specs.declared.primes.Primes.TheVariants.{Once}
-use Rattle.tla_expand.specs.Expand.{Scope, expand}
+use Rattle.tla_expand.specs.Meanings.{Scope}
+use Rattle.tla_expand.specs.Expand.{expand}
 use Rattle.tla_model.specs.ModelTree.{ModelTree}
 use Rattle.tla_model.specs.Size.{IsWithinLimits}
-use Rattle.tla_defs.specs.LeftOut.{left_out}
 use Rattle.tla_defs.specs.Global.{global}
 use Rattle.tla_defs.specs.Constants.{unvalued}
-use Rattle.tla_defs.specs.Items.{definitions_of, replaceable_of, replaced_names, items_misused}
+use Rattle.tla_defs.specs.Items.{definitions_of, replaceable_of, nameable_of, replaced_names, items_misused}
+use Rattle.tla_defs.specs.Leads.{leads}
+use Rattle.tla_defs.specs.Circles.{AreStraight}
 use Rattle.tla_defs.specs.Named.{names_misused}
 use Rattle.tla_defs.specs.Misuses.{variables_of, misuse}
+use Rattle.tla_defs.specs.Specification.{IsSpecification}
 
 -- what a name of the configuration says, where the names of the module mean this
 abbrev pub meaning_in : Scope → Written → Option Expr
@@ -35,14 +38,14 @@ abbrev pub IsConstantLevel : Expr → Type 0
 IsConstantLevel e = fits e 0 0 false ≡ true
 
 -- an initial condition: of state level, and with its variables taken as the variables next
-pub record IsInitial (σ : Scope) (w : Written) (e : Expr) : Type 0 where
+pub record IsInitial (σ : Scope) (t : Tree) (e : Expr) : Type 0 where
   pub before : Expr
-  pub meaning : meaning_in σ w ≡ Some before
+  pub meaning : expand t σ 0 ≡ Some before
   pub primed : primes Once before ≡ Some e
   pub limits : IsWithinLimits e
 
-pub record IsAction (σ : Scope) (w : Written) (e : Expr) : Type 0 where
-  pub meaning : meaning_in σ w ≡ Some e
+pub record IsAction (σ : Scope) (t : Tree) (e : Expr) : Type 0 where
+  pub meaning : expand t σ 0 ≡ Some e
   pub limits : IsWithinLimits e
 
 pub record IsInvariant (σ : Scope) (w : Written) (e : Expr) : Type 0 where
@@ -76,7 +79,11 @@ AreAssumptions σ [] (e ∷ es) = ⊥
 AreAssumptions σ (t ∷ ts) [] = ⊥
 AreAssumptions σ (t ∷ ts) (e ∷ es) = IsAssumption σ t e × AreAssumptions σ ts es
 
--- the names of INIT, of NEXT and of INVARIANT, in the order of the configuration
+-- the names of SPECIFICATION, of INIT, of NEXT and of INVARIANT, in the order of the configuration
+abbrev pub named_specification : Statement → List Written
+named_specification (Specification at w) = w ∷ []
+named_specification _ = []
+
 abbrev pub named_initial : Statement → List Written
 named_initial (Init at w) = w ∷ []
 named_initial _ = []
@@ -89,6 +96,9 @@ abbrev pub named_invariants : Statement → List Written
 named_invariants (Invariants at ws) = ws
 named_invariants _ = []
 
+abbrev pub specifications_named : List Statement → List Written
+specifications_named cs = flat_map named_specification cs
+
 abbrev pub initials_named : List Statement → List Written
 initials_named cs = flat_map named_initial cs
 
@@ -98,21 +108,41 @@ nexts_named cs = flat_map named_next cs
 abbrev pub invariants_named : List Statement → List Written
 invariants_named cs = flat_map named_invariants cs
 
--- No name is brought in twice or used as it may not be, each constant has one value, exactly one INIT and one NEXT name the behaviour, the
--- configuration names definitions without parameters, and no statement stands that has no meaning yet.
-pub record IsModel (us : List UnitTree) (cs : List Statement) (m : ModelTree) : Type 0 where
-  pub whole : left_out cs ≡ None
-  pub known : misuse us ≡ None
-  pub given : items_misused (replaceable_of us) [] (items_of cs) ≡ None
-  pub valued : unvalued (replaced_names (items_of cs)) us ≡ None
-  pub named : names_misused (definitions_of us) cs ≡ None
+-- exactly one INIT and one NEXT name the initial predicate and the action
+pub record IsNamed (cs : List Statement) (initial action : Tree) : Type 0 where
   pub init_name : Written
   pub next_name : Written
   pub one_init : initials_named cs ≡ init_name ∷ []
   pub one_next : nexts_named cs ≡ next_name ∷ []
+  pub no_specification : specifications_named cs ≡ []
+  pub initial_is : initial ≡ t.Name init_name
+  pub action_is : action ≡ t.Name next_name
+
+-- SPECIFICATION alone names a formula that they are parts of
+pub record IsSpecified (us : List UnitTree) (cs : List Statement) (initial action : Tree) : Type 0 where
+  pub name : Written
+  pub one_specification : specifications_named cs ≡ name ∷ []
+  pub no_init : initials_named cs ≡ []
+  pub no_next : nexts_named cs ≡ []
+  pub form : IsSpecification us (items_of cs) (global us (items_of cs)) (length (variables_of us)) name initial action
+
+abbrev pub IsBehaviour : List UnitTree → List Statement → Tree → Tree → Type 0
+IsBehaviour us cs initial action = IsNamed cs initial action ⊎ IsSpecified us cs initial action
+
+-- No name is brought in twice or used as it may not be, each constant has one value, no replacement leads back to its name, exactly one INIT and one NEXT name the behaviour, or
+-- SPECIFICATION alone, and the configuration names definitions without parameters.
+pub record IsModel (us : List UnitTree) (cs : List Statement) (m : ModelTree) : Type 0 where
+  pub known : misuse us ≡ None
+  pub given : items_misused (replaceable_of us) (nameable_of us) [] (items_of cs) ≡ None
+  pub valued : unvalued (replaced_names (items_of cs)) us ≡ None
+  pub named : names_misused (definitions_of us) cs ≡ None
+  pub straight : AreStraight (leads us (items_of cs)) (items_of cs)
+  pub initial : Tree
+  pub action : Tree
+  pub behaviour : IsBehaviour us cs initial action
   pub variables : m.variables ≡ variables_of us
   pub assumptions : AreAssumptions (global us (items_of cs)) (assumptions_of us) m.assumptions
-  pub init : IsInitial (global us (items_of cs)) init_name m.init
-  pub next : IsAction (global us (items_of cs)) next_name m.next
+  pub init : IsInitial (global us (items_of cs)) initial m.init
+  pub next : IsAction (global us (items_of cs)) action m.next
   pub invariants : AreInvariants (global us (items_of cs)) (invariants_named cs) m.invariants
   pub check_deadlock : m.check_deadlock ≡ checks_deadlock cs

@@ -19,7 +19,7 @@ named (Init at w) = w ∷ []
 named (Next at w) = w ∷ []
 named (Invariants at ws) = ws
 named (CheckDeadlock at check) = []
-named (Specification at w) = []
+named (Specification at w) = w ∷ []
 named (Constants at is) = []
 
 -- the first misuse of a name where these are defined

@@ -1,5 +1,5 @@
 -- The names in scope, each with its number of parameters, and what the standard modules bring in (book, chapters 17 and 18).
-use Rattle.std.specs.Prelude.{ℕ, Bool, nat_eq, List, [], ◌∷◌, ◌++◌, Option, Some, None, is_some, if◌then◌else◌, map, length, codes}
+use Rattle.std.specs.Prelude.{ℕ, List, [], ◌∷◌, ◌++◌, Option, Some, None, if◌then◌else◌, map, length, codes}
 use Rattle.std.specs.List.{flat_map}
 use Rattle.std.specs.Str.{bytes_eq}
 use Rattle.tla_parse.specs.Tree.{Definition, Definitions, DefinesOperator, DefinesFunction, undefined, defined, Binders, unbound, bound}

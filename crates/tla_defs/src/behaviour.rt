@@ -1,6 +1,7 @@
 //! The behaviour that a configuration names.
 
-ghost use Rattle.std.specs.Prelude.{◌≡◌, None};
+ghost use Rattle.std.specs.Prelude.{◌≡◌, None, map};
+ghost use Rattle.tla_config.specs.View.{statement_view};
 ghost use Rattle.tla_defs.specs.Mentions.{GivesBehaviour};
 ghost use Rattle.tla_defs.specs.Refused as refused;
 
@@ -8,11 +9,36 @@ use tla_config::{Config, Statement};
 use tla_lex::Place;
 use tla_parse::Written;
 
-/// The names of INIT and NEXT.
+/// What names the behaviour.
 #[derive(Clone, Copy)]
-pub(crate) struct Behaviour<'a> {
-    pub(crate) initial: &'a Written,
-    pub(crate) next: &'a Written,
+pub(crate) enum Behaviour<'a> {
+    /// INIT and NEXT.
+    Named(&'a Written, &'a Written),
+    /// SPECIFICATION, at its place.
+    Specified(Place, &'a Written),
+}
+
+/// SPECIFICATION, behind which these statements stand; or the place of one of them that names a behaviour too.
+fn alone<'a>(
+    place: Place,
+    name: &'a Written,
+    statements: &'a [Statement],
+) -> Result<Behaviour<'a>, Place>
+    ensures { GivesBehaviour result (refused.alone place name.entry.now (map statement_view statements.entry.now)) }
+{
+    let mut left = statements;
+    while let [first, rest @ ..] = left {
+        match first {
+            Statement::Init(place, _)
+            | Statement::Next(place, _)
+            | Statement::Specification(place, _) => return Err(*place),
+            Statement::Invariants(_, _)
+            | Statement::Constants(_, _)
+            | Statement::CheckDeadlock(_, _) => {}
+        }
+        left = rest;
+    }
+    Ok(Behaviour::Specified(place, name))
 }
 
 /// The behaviour; or the place of a statement that is one too many, or of the end where one is missing.
@@ -36,15 +62,20 @@ pub(crate) fn named_behaviour(config: &Config) -> Result<Behaviour<'_>, Place>
                 }
                 step = Some(name);
             }
-            Statement::Specification(_, _)
-            | Statement::Invariants(_, _)
+            Statement::Specification(place, name) => {
+                if init.is_some() || step.is_some() {
+                    return Err(*place);
+                }
+                return alone(*place, name, rest);
+            }
+            Statement::Invariants(_, _)
             | Statement::Constants(_, _)
             | Statement::CheckDeadlock(_, _) => {}
         }
         left = rest;
     }
     match (init, step) {
-        (Some(initial), Some(next)) => Ok(Behaviour { initial, next }),
+        (Some(initial), Some(next)) => Ok(Behaviour::Named(initial, next)),
         _ => Err(config.end()),
     }
 }

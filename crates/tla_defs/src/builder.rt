@@ -1,6 +1,6 @@
 //! The model of a module and a configuration.
 
-ghost use Rattle.std.specs.Prelude.{◌≡◌, ◌≢◌, ◌++◌, ◌∷◌, [], None, Some, IfOk, IfErr, OnOk, List, map};
+ghost use Rattle.std.specs.Prelude.{◌≡◌, ◌≢◌, ◌++◌, ◌∷◌, [], None, Some, Ok, IfOk, IfErr, OnOk, List, map};
 ghost use Rattle.tla_config.specs.declared.error.DefsCode.TheVariants.{Memory};
 ghost use Rattle.tla_config.specs.Refusals.{IsLocated};
 ghost use Rattle.tla_config.specs.Statements.{items_of, checks_deadlock};
@@ -13,21 +13,26 @@ ghost use Rattle.tla_model.specs.ModelOf.{invariant_of};
 ghost use Rattle.tla_model.specs.Models.{model_of};
 ghost use Rattle.tla_parse.specs.declared.word.Written as written;
 ghost use Rattle.tla_parse.specs.UnitsView.{unit_view};
+ghost use Rattle.tla_defs.specs.Circles.{AreStraight};
 ghost use Rattle.tla_defs.specs.Constants.{unvalued};
 ghost use Rattle.tla_defs.specs.Formulas.{LacksInvariant, LacksAssumption, Follow, mentions};
 ghost use Rattle.tla_defs.specs.Items as given;
-ghost use Rattle.tla_defs.specs.LeftOut as spec;
+ghost use Rattle.tla_defs.specs.Leads.{leads};
+ghost use Rattle.tla_defs.specs.Mentions.{behaviour_of};
 ghost use Rattle.tla_defs.specs.Misuses as known;
 ghost use Rattle.tla_defs.specs.Model as model;
 ghost use Rattle.tla_defs.specs.Named as named;
 ghost use Rattle.tla_defs.specs.Refused as refused;
+ghost use Rattle.tla_defs.specs.Specified.{IsOnly};
 
 use crate::behaviour::{Behaviour, named_behaviour};
+use crate::bodies::Bodies;
+use crate::circle::straight;
 use crate::constants::unvalued;
-use crate::formula::{action, assumption, initial, invariant, statements_named};
+use crate::formula::{assumption, invariant, statements_named};
 use crate::global::global_scope;
 use crate::items::{Items, definitions_of, items_named};
-use crate::left_out::left_out;
+use crate::meant::{initial_predicate, meaning, next_action};
 use crate::names::Names;
 use crate::refusal::{no_memory, refusal_at, refusal_of, text_of};
 use crate::units::variables;
@@ -99,7 +104,7 @@ fn push(invariants: &mut Vec<Invariant>, invariant: Invariant) -> Result<(), Def
 /// The invariant of this name.
 fn named_invariant(
     alloc: Global,
-    units: &[Unit],
+    bodies: &Bodies<'_, '_>,
     scopes: &Scopes<'_>,
     name: &Written,
 ) -> Result<Invariant, DefsError>
@@ -108,7 +113,7 @@ fn named_invariant(
     ensures formula { IfErr result (λ e. e.code ≢ Memory → refused.IsOfFormula e) }
     ensures none { IfErr result (λ e. e.code ≢ Memory → (x : expr.Expr) → model.IsInvariant (scope_of scopes.now) name.now x → ⊥) }
 {
-    let core = invariant(alloc, units, scopes, name)?;
+    let core = invariant(alloc, bodies, scopes, name)?;
     let name = text_of(alloc, name.word.as_bytes())?;
     Ok(Invariant { name, core })
 }
@@ -116,7 +121,7 @@ fn named_invariant(
 /// One invariant more. Contracts see what it adds to the lists that may still follow.
 fn push_invariant(
     alloc: Global,
-    units: &[Unit],
+    bodies: &Bodies<'_, '_>,
     scopes: &Scopes<'_>,
     name: &Written,
     invariants: &mut Vec<Invariant>,
@@ -125,7 +130,7 @@ fn push_invariant(
     ensures formula { IfErr result (λ e. e.code ≢ Memory → refused.IsOfFormula e) }
     ensures none { IfErr result (λ e. e.code ≢ Memory → (x : expr.Expr) → model.IsInvariant (scope_of scopes.now) name.now x → ⊥) }
 {
-    let invariant = named_invariant(alloc, units, scopes, name)?;
+    let invariant = named_invariant(alloc, bodies, scopes, name)?;
     push(invariants, invariant)?;
     Ok(())
 }
@@ -133,7 +138,7 @@ fn push_invariant(
 /// The invariants of these names, in order.
 fn invariants(
     alloc: Global,
-    units: &[Unit],
+    bodies: &Bodies<'_, '_>,
     scopes: &Scopes<'_>,
     names: &[&Written],
 ) -> Result<Vec<Invariant>, DefsError>
@@ -144,7 +149,7 @@ fn invariants(
     let mut invariants = Vec::new(alloc);
     let mut left = names;
     while let [first, rest @ ..] = left {
-        push_invariant(alloc, units, scopes, first, &mut invariants)?;
+        push_invariant(alloc, bodies, scopes, first, &mut invariants)?;
         left = rest;
     }
     Ok(invariants)
@@ -184,7 +189,7 @@ fn push_assumption(assumptions: &mut Vec<Core>, assumption: Core) -> Result<(), 
 
 /// Items for constants and definitions that may have them, so that each constant has a value.
 fn valued(alloc: Global, units: &[Unit], items: &Items<'_>) -> Result<(), DefsError>
-    ensures given { OnOk result (given.items_misused (given.replaceable_of (map unit_view units.now)) [] items.now ≡ None) }
+    ensures given { OnOk result (given.items_misused (given.replaceable_of (map unit_view units.now)) (given.nameable_of (map unit_view units.now)) [] items.now ≡ None) }
     ensures valued { OnOk result (unvalued (given.replaced_names items.now) (map unit_view units.now) ≡ None) }
     ensures err { IfErr result (λ e. e.code ≢ Memory → refused.items_refused (map unit_view units.now) items.now ≡ Some e) }
 {
@@ -198,33 +203,35 @@ fn valued(alloc: Global, units: &[Unit], items: &Items<'_>) -> Result<(), DefsEr
 }
 
 /// The model of these variables, items, names and statements.
-fn model(
+fn model<'a>(
     alloc: Global,
-    units: &[Unit],
+    units: &'a [Unit],
     variables: &Names<'_>,
-    items: &Items<'_>,
-    behaviour: Behaviour<'_>,
+    items: &Items<'a>,
+    behaviour: Behaviour<'a>,
     statements: &[Statement],
 ) -> Result<Model, DefsError>
-    requires whole { spec.left_out (map statement_view statements.now) ≡ None }
     requires known { known.misuse (map unit_view units.now) ≡ None }
     requires items { items.now ≡ items_of (map statement_view statements.now) }
-    requires given { given.items_misused (given.replaceable_of (map unit_view units.now)) [] items.now ≡ None }
+    requires given { given.items_misused (given.replaceable_of (map unit_view units.now)) (given.nameable_of (map unit_view units.now)) [] items.now ≡ None }
     requires valued { unvalued (given.replaced_names items.now) (map unit_view units.now) ≡ None }
     requires named { named.names_misused (given.definitions_of (map unit_view units.now)) (map statement_view statements.now) ≡ None }
+    requires straight { AreStraight (leads (map unit_view units.now) items.now) items.now }
     requires variables { variables.now ≡ known.variables_of (map unit_view units.now) }
-    requires initial { model.initials_named (map statement_view statements.now) ≡ behaviour.initial.now ∷ [] }
-    requires next { model.nexts_named (map statement_view statements.now) ≡ behaviour.next.now ∷ [] }
+    requires only { IsOnly (map statement_view statements.now) (behaviour_of behaviour) }
     ensures found { IfOk result (λ m. model.IsModel (map unit_view units.now) (map statement_view statements.now) (model_of m)) }
-    ensures formula { IfErr result (λ e. e.code ≢ Memory → refused.IsOfFormula e) }
+    ensures refused { IfErr result (λ e. e.code ≢ Memory → refused.IsLast (refused.form_refused (Ok (behaviour_of behaviour.entry))) e) }
     ensures none { IfErr result (λ e. e.code ≢ Memory → (m : ModelTree) → model.IsModel (map unit_view units.now) (map statement_view statements.now) m → ⊥) }
 {
     let scopes = global_scope(alloc, units, items)?;
+    let bodies = Bodies::of(units, items);
+    let count = variables.words().len();
+    let meant = meaning(alloc, units, items, &scopes, count, behaviour)?;
     let assumptions = assumptions(alloc, units, &scopes)?;
-    let init = initial(alloc, units, &scopes, behaviour.initial)?;
-    let next = action(alloc, units, &scopes, behaviour.next)?;
+    let init = initial_predicate(alloc, &bodies, &scopes, &meant)?;
+    let next = next_action(alloc, &bodies, &scopes, &meant)?;
     let named = invariants_named(alloc, statements)?;
-    let invariants = invariants(alloc, units, &scopes, named.as_slice())?;
+    let invariants = invariants(alloc, &bodies, &scopes, named.as_slice())?;
     let names = variables.texts(alloc)?;
     let check = looks_for_deadlock(statements);
     Ok(Model::new(names, assumptions, init, next, invariants, check))
@@ -237,10 +244,6 @@ fn model_or_refusal(alloc: Global, units: &[Unit], config: &Config) -> Result<Mo
     ensures none { IfErr result (λ e. e.code ≢ Memory → (m : ModelTree) → model.IsModel (map unit_view units.now) config.now.statements m → ⊥) }
 {
     let statements = config.statements();
-    if let Some(found) = left_out(statements) {
-        let source = Source::Configuration;
-        return Err(refusal_of(alloc, DefsCode::StatementLeftOut, source, found));
-    }
     let variables = variables(alloc, units)?;
     let items = Items::of(alloc, statements)?;
     valued(alloc, units, &items)?;
@@ -253,13 +256,13 @@ fn model_or_refusal(alloc: Global, units: &[Unit], config: &Config) -> Result<Mo
     };
     let definitions = definitions_of(alloc, units)?;
     statements_named(alloc, &definitions, statements)?;
+    straight(alloc, units, &items)?;
     model(alloc, units, &variables, &items, behaviour, statements)
 }
 
-/// The model that a module and a configuration name, or the first step that refuses them: the statements that have no
-/// meaning yet (SPECIFICATION, and CONSTANT with an item `c <- Op`), the names of the module, the items of CONSTANT, a
-/// constant without a value, the behaviour, the names of the configuration, the assumptions, Init, Next, and the
-/// invariants.
+/// The model that a module and a configuration name, or the first step that refuses them: the names of the module, the
+/// items of CONSTANT, a constant without a value, the behaviour, the names of the configuration, an item that leads back to
+/// its name, the form of SPECIFICATION, the assumptions, Init, Next, and the invariants.
 /// It recurses as deep as the module's trees are nested, which is at most 200 from `parse_module`, and over a formula's
 /// expansion to depth 300.
 pub fn build(alloc: Global, module: &Module, config: &Config) -> Result<Model, DefsError>

@@ -6,11 +6,13 @@ ghost use Rattle.tla_config.specs.View.{statement_view};
 ghost use Rattle.tla_eval.specs.Expr as expr;
 ghost use Rattle.tla_eval.specs.ExprOf.{expr_of};
 ghost use Rattle.tla_expand.specs.Names.{scope_of};
+ghost use Rattle.tla_parse.specs.Tree.{Name};
 ghost use Rattle.tla_parse.specs.View.{view};
 ghost use Rattle.tla_defs.specs.Model as model;
 ghost use Rattle.tla_defs.specs.Named as naming;
 ghost use Rattle.tla_defs.specs.Refused as refused;
 
+use crate::bodies::Bodies;
 use crate::mention::Mention;
 use crate::refusal::{no_memory, refusal_at, refusal_of};
 use crate::scope::Scope;
@@ -19,7 +21,7 @@ use tla_config::{DefsCode, DefsError, Source, Statement};
 use tla_eval::Core;
 use tla_expand::{Failure, Primes, Scopes};
 use tla_lex::Place;
-use tla_parse::{Definition, Expr, Unit, Written};
+use tla_parse::{Expr, Written};
 
 /// The name of a definition without parameters.
 fn named(alloc: Global, definitions: &Scope<'_>, name: &Written) -> Result<(), DefsError>
@@ -69,11 +71,10 @@ fn statement_named(
     ensures { refused.Says Source.Configuration result (naming.each_misnamed definitions.now (naming.named (statement_view statement.now))) }
 {
     match statement {
-        Statement::Init(_, name) | Statement::Next(_, name) => named(alloc, definitions, name),
+        Statement::Init(_, name) | Statement::Next(_, name) | Statement::Specification(_, name) =>
+            named(alloc, definitions, name),
         Statement::Invariants(_, names) => each_named(alloc, definitions, names),
-        Statement::Specification(_, _)
-        | Statement::Constants(_, _)
-        | Statement::CheckDeadlock(_, _) => Ok(()),
+        Statement::Constants(_, _) | Statement::CheckDeadlock(_, _) => Ok(()),
     }
 }
 
@@ -93,43 +94,6 @@ pub(crate) fn statements_named(
     Ok(())
 }
 
-/// Where the body of a definition begins, if this unit is the one of this name.
-fn begins_in(unit: &Unit, name: &[u8]) -> Option<Place> {
-    match unit {
-        Unit::Operator(written, body)
-        | Unit::Assume(_, Some(written), body)
-        | Unit::Defines(Definition::Operator(written, _, body))
-        | Unit::Local(_, Definition::Operator(written, _, body)) => {
-            if written.word.as_bytes() == name {
-                Some(body.place())
-            } else {
-                None
-            }
-        }
-        Unit::Defines(Definition::Function(written, _, _))
-        | Unit::Local(_, Definition::Function(written, _, _)) => {
-            if written.word.as_bytes() == name {
-                Some(written.place)
-            } else {
-                None
-            }
-        }
-        _ => None,
-    }
-}
-
-/// Where the formula of a name begins.
-fn begins(units: &[Unit], name: &Written) -> Place {
-    let mut left = units;
-    while let [first, rest @ ..] = left {
-        if let Some(place) = begins_in(first, name.word.as_bytes()) {
-            return place;
-        }
-        left = rest;
-    }
-    name.place
-}
-
 /// A place of an expression, as a refusal tells it.
 fn place_of(place: tla_eval::Place) -> Place {
     Place {
@@ -139,7 +103,7 @@ fn place_of(place: tla_eval::Place) -> Place {
 }
 
 /// A refusal of a formula that begins at this place: its level is too high, or it is too large.
-fn refusal(failure: Failure, begins: Place) -> DefsError
+pub(crate) fn refusal(failure: Failure, begins: Place) -> DefsError
     ensures formula { result.code ≢ Memory → refused.IsOfFormula result }
     ensures memory { failure ≡ Failure.Memory → result.code ≡ Memory }
 {
@@ -167,41 +131,41 @@ fn too_high(found: Result<Core, Failure>, begins: Place) -> DefsError
 /// The initial condition of this name, over the variables next.
 pub(crate) fn initial(
     alloc: Global,
-    units: &[Unit],
+    bodies: &Bodies<'_, '_>,
     scopes: &Scopes<'_>,
     name: &Written,
 ) -> Result<Core, DefsError>
-    ensures found { IfOk result (λ c. model.IsInitial (scope_of scopes.now) name.now (expr_of c)) }
+    ensures found { IfOk result (λ c. model.IsInitial (scope_of scopes.now) (Name name.now) (expr_of c)) }
     ensures formula { IfErr result (λ e. e.code ≢ Memory → refused.IsOfFormula e) }
-    ensures none { IfErr result (λ e. e.code ≢ Memory → (x : expr.Expr) → model.IsInitial (scope_of scopes.now) name.now x → ⊥) }
+    ensures none { IfErr result (λ e. e.code ≢ Memory → (x : expr.Expr) → model.IsInitial (scope_of scopes.now) (Name name.now) x → ⊥) }
 {
     match scopes.meaning(alloc, name, Primes::Once) {
         Ok(core) => Ok(core),
-        Err(failure) => Err(refusal(failure, begins(units, name))),
+        Err(failure) => Err(refusal(failure, bodies.begins(name))),
     }
 }
 
 /// The action of this name.
 pub(crate) fn action(
     alloc: Global,
-    units: &[Unit],
+    bodies: &Bodies<'_, '_>,
     scopes: &Scopes<'_>,
     name: &Written,
 ) -> Result<Core, DefsError>
-    ensures found { IfOk result (λ c. model.IsAction (scope_of scopes.now) name.now (expr_of c)) }
+    ensures found { IfOk result (λ c. model.IsAction (scope_of scopes.now) (Name name.now) (expr_of c)) }
     ensures formula { IfErr result (λ e. e.code ≢ Memory → refused.IsOfFormula e) }
-    ensures none { IfErr result (λ e. e.code ≢ Memory → (x : expr.Expr) → model.IsAction (scope_of scopes.now) name.now x → ⊥) }
+    ensures none { IfErr result (λ e. e.code ≢ Memory → (x : expr.Expr) → model.IsAction (scope_of scopes.now) (Name name.now) x → ⊥) }
 {
-    match scopes.meaning(alloc, name, Primes::Not) {
+    match scopes.meaning(alloc, name, Primes::Never) {
         Ok(core) => Ok(core),
-        Err(failure) => Err(refusal(failure, begins(units, name))),
+        Err(failure) => Err(refusal(failure, bodies.begins(name))),
     }
 }
 
 /// The invariant of this name.
 pub(crate) fn invariant(
     alloc: Global,
-    units: &[Unit],
+    bodies: &Bodies<'_, '_>,
     scopes: &Scopes<'_>,
     name: &Written,
 ) -> Result<Core, DefsError>
@@ -209,16 +173,20 @@ pub(crate) fn invariant(
     ensures formula { IfErr result (λ e. e.code ≢ Memory → refused.IsOfFormula e) }
     ensures none { IfErr result (λ e. e.code ≢ Memory → (x : expr.Expr) → model.IsInvariant (scope_of scopes.now) name.now x → ⊥) }
 {
-    match scopes.meaning(alloc, name, Primes::Not) {
+    match scopes.meaning(alloc, name, Primes::Never) {
         Ok(core) => {
             if core.is_primed() {
                 let found = scopes.meaning(alloc, name, Primes::Once);
-                Err(too_high(found, begins(units, name)))
+                Err(too_high(found, bodies.begins(name)))
             } else {
                 Ok(core)
             }
         }
-        Err(failure) => Err(refusal(failure, begins(units, name))),
+        Err(Failure::NoExpansion(_)) => {
+            let found = scopes.meaning(alloc, name, Primes::Once);
+            Err(too_high(found, bodies.begins(name)))
+        }
+        Err(failure) => Err(refusal(failure, bodies.begins(name))),
     }
 }
 
@@ -232,7 +200,7 @@ pub(crate) fn assumption<'a>(
     ensures formula { IfErr result (λ e. e.code ≢ Memory → refused.IsOfFormula e) }
     ensures none { IfErr result (λ e. e.code ≢ Memory → (x : expr.Expr) → model.IsAssumption (scope_of scopes.now) (view tree.entry.now) x → ⊥) }
 {
-    match scopes.expansion(alloc, tree, Primes::Not) {
+    match scopes.expansion(alloc, tree, Primes::Never) {
         Ok(core) => {
             if core.fits(0, 0, false) {
                 Ok(core)
@@ -240,6 +208,10 @@ pub(crate) fn assumption<'a>(
                 let found = scopes.expansion(alloc, tree, Primes::Twice);
                 Err(too_high(found, tree.place()))
             }
+        }
+        Err(Failure::NoExpansion(_)) => {
+            let found = scopes.expansion(alloc, tree, Primes::Twice);
+            Err(too_high(found, tree.place()))
         }
         Err(failure) => Err(refusal(failure, tree.place())),
     }

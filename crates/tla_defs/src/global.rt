@@ -4,8 +4,8 @@ ghost use Rattle.std.specs.Prelude.{◌≡◌, ◌+◌, ◌∷◌, length, List,
 ghost use Rattle.tla_config.specs.declared.error.DefsCode.TheVariants.{Memory};
 ghost use Rattle.tla_config.specs.Names.{is_among};
 ghost use Rattle.tla_config.specs.View.{item_view};
-ghost use Rattle.tla_expand.specs.Expand.{definition_in, standard};
-ghost use Rattle.tla_expand.specs.Names.{scope_of};
+ghost use Rattle.tla_expand.specs.Expand.{definition_in};
+ghost use Rattle.tla_expand.specs.Names.{scope_of, outer_of};
 ghost use Rattle.tla_parse.specs.Units.{UnitTree};
 ghost use Rattle.tla_parse.specs.UnitsView.{unit_view};
 ghost use Rattle.tla_parse.specs.View.{view, definition_view};
@@ -110,7 +110,7 @@ fn with_operator_unless<'a>(
 }
 
 /// The name of a definition.
-fn name_of<'a>(definition: &'a Definition) -> &'a Word
+pub(crate) fn name_of<'a>(definition: &'a Definition) -> &'a Word
     ensures { result.now ≡ (signature (definition_view definition.entry.now)).0 }
 {
     match definition {
@@ -161,30 +161,32 @@ fn with_unit<'a>(
 
 /// With the name of an item more.
 fn with_item<'a>(scopes: Scopes<'a>, item: &'a Item) -> Result<Scopes<'a>, DefsError>
-    ensures ok { IfOk result (λ s. scope_of s ≡ items.with_item (item_view item.now) (scope_of scopes.entry)) }
+    ensures ok { IfOk result (λ s. scope_of s ≡ items.with_item (outer_of scopes.entry) (item_view item.now) (scope_of scopes.entry)) }
+    ensures outer { IfOk result (λ s. outer_of s ≡ outer_of scopes.entry) }
     ensures err { IfErr result (λ e. e.code ≡ Memory) }
 {
-    match item {
-        Item::Value(name, value) => match scopes.with_value(&name.word, value) {
-            Ok(scopes) => Ok(scopes),
-            Err(_) => Err(no_memory()),
-        },
-        Item::Replaces(_, _) => Ok(scopes),
+    let found = match item {
+        Item::Value(name, value) => scopes.with_value(&name.word, value),
+        Item::Replaces(name, operator) => scopes.with_replacement(&name.word, &operator.word),
+    };
+    match found {
+        Ok(scopes) => Ok(scopes),
+        Err(_) => Err(no_memory()),
     }
 }
 
-/// The scope round a module, with the names of items.
-fn with_items<'a>(alloc: Global, given: &Items<'a>) -> Result<Scopes<'a>, DefsError>
-    ensures ok { IfOk result (λ s. scope_of s ≡ items.with_items given.now standard) }
+/// With the names of items more.
+fn with_items<'a>(scopes: Scopes<'a>, given: &Items<'a>) -> Result<Scopes<'a>, DefsError>
+    ensures ok { IfOk result (λ s. scope_of s ≡ items.with_items (outer_of scopes.entry) given.now (scope_of scopes.entry)) }
     ensures err { IfErr result (λ e. e.code ≡ Memory) }
 {
-    let mut scopes = Scopes::new(alloc);
+    let mut all = scopes;
     let mut left = given.list();
     while let [first, rest @ ..] = left {
-        scopes = with_item(scopes, first)?;
+        all = with_item(all, first)?;
         left = rest;
     }
-    Ok(scopes)
+    Ok(all)
 }
 
 /// The scope behind units, where these names are replaced.
@@ -205,6 +207,46 @@ fn with_units<'a>(
     Ok(all.scopes)
 }
 
+/// What the names mean, where operators that replace names mean what they did so far.
+fn meant<'a>(
+    scopes: Scopes<'a>,
+    replaced: &Names<'_>,
+    given: &Items<'a>,
+    units: &'a [Unit],
+) -> Result<Scopes<'a>, DefsError>
+    requires { replaced.now ≡ items.replaced_names given.now }
+    ensures ok { IfOk result (λ s. scope_of s ≡ global.meant (map unit_view units.now) given.now (scope_of scopes.entry)) }
+    ensures err { IfErr result (λ e. e.code ≡ Memory) }
+{
+    let counted = Counted {
+        scopes: with_items(scopes.anew(), given)?,
+        variables: 0,
+    };
+    with_units(counted, replaced, units)
+}
+
+/// What the names mean, once more for each item with an operator.
+fn raised<'a>(
+    scopes: Scopes<'a>,
+    replaced: &Names<'_>,
+    given: &Items<'a>,
+    units: &'a [Unit],
+) -> Result<Scopes<'a>, DefsError>
+    requires { replaced.now ≡ items.replaced_names given.now }
+    ensures ok { IfOk result (λ s. scope_of s ≡ global.raised (map unit_view units.now) given.now given.now (scope_of scopes.entry)) }
+    ensures err { IfErr result (λ e. e.code ≡ Memory) }
+{
+    let mut all = scopes;
+    let mut left = given.list();
+    while let [first, rest @ ..] = left {
+        if let Item::Replaces(_, _) = first {
+            all = meant(all, replaced, given, units)?;
+        }
+        left = rest;
+    }
+    Ok(all)
+}
+
 /// The scope of a module where the configuration has these items. The only error is want of memory.
 pub(crate) fn global_scope<'a>(
     alloc: Global,
@@ -215,9 +257,6 @@ pub(crate) fn global_scope<'a>(
     ensures err { IfErr result (λ e. e.code ≡ Memory) }
 {
     let replaced = given.names(alloc)?;
-    let counted = Counted {
-        scopes: with_items(alloc, given)?,
-        variables: 0,
-    };
-    with_units(counted, &replaced, units)
+    let first = meant(Scopes::new(alloc), &replaced, given, units)?;
+    raised(first, &replaced, given, units)
 }

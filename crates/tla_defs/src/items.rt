@@ -1,11 +1,15 @@
 //! The items of CONSTANT.
 
-ghost use Rattle.std.specs.Prelude.{◌≡◌, ◌≢◌, ◌++◌, ◌∷◌, [], OnOk, IfOk, IfErr, List, map};
+ghost use Rattle.std.specs.Prelude.{◌≡◌, ◌≢◌, ◌++◌, ◌∷◌, [], OnOk, IfOk, IfErr, List, ℕ, map, option_map};
+ghost use Rattle.std.specs.Borrow.{Bor};
 ghost use Rattle.tla_config.specs.declared.error.DefsCode.TheVariants.{Memory};
 ghost use Rattle.tla_config.specs.Statements as config;
 ghost use Rattle.tla_config.specs.View.{item_view, statement_view};
 ghost use Rattle.tla_parse.specs.UnitsView.{unit_view};
+ghost use Rattle.tla_value.specs.Tree as value;
 ghost use Rattle.tla_defs.specs.Items as spec;
+ghost use Rattle.tla_defs.specs.Leads as leads;
+ghost use Rattle.tla_defs.specs.Scope as scopes;
 ghost use Rattle.tla_defs.specs.Mentions.{item_of};
 ghost use Rattle.tla_defs.specs.Refused.{Says, refusal_of};
 ghost use Rattle.tla_defs.specs.Scope.{signature};
@@ -103,6 +107,37 @@ impl<'a> Items<'a> {
         self.list.as_slice()
     }
 
+    /// The item for a name, if any.
+    fn first(&self, name: &[u8]) -> Option<&'a Item>
+        ensures { option_map item_of result ≡ spec.item_for self.now name.now }
+    {
+        let mut left = self.list.as_slice();
+        while let [first, rest @ ..] = left {
+            if name == replaced_name(first).word.as_bytes() {
+                return Some(*first);
+            }
+            left = rest;
+        }
+        None
+    }
+
+    /// The name that a name means: Op, where it has an item `c <- Op`. None where it has a value.
+    pub(crate) fn meant<'n>(&'n self, name: &'n [u8]) -> Option<&'n [u8]>
+        ensures { option_map (λ (w : Bor (List ℕ)). w.now) result ≡ spec.stands_for self.entry.now name.entry.now }
+    {
+        let mut word = name;
+        let mut left = self.list.len();
+        while left > 0 {
+            match self.first(word) {
+                None => return Some(word),
+                Some(Item::Value(_, _)) => return None,
+                Some(Item::Replaces(_, operator)) => word = operator.word.as_bytes(),
+            }
+            left -= 1;
+        }
+        Some(word)
+    }
+
     /// The names that have an item. The only error is want of memory.
     pub(crate) fn names(&self, alloc: Global) -> Result<Names<'a>, DefsError>
         ensures ok { IfOk result (λ xs. xs ≡ spec.replaced_names self.now) }
@@ -119,7 +154,7 @@ impl<'a> Items<'a> {
 }
 
 /// The name that an item is for.
-fn replaced_name<'a>(item: &'a Item) -> &'a Written
+pub(crate) fn replaced_name<'a>(item: &'a Item) -> &'a Written
     ensures { result.now ≡ spec.replaced_name (item_view item.entry.now) }
 {
     match item {
@@ -141,7 +176,7 @@ fn push_definition<'a>(scope: &mut Scope<'a>, definition: &'a Definition) -> Res
 }
 
 /// What a unit defines more.
-fn push_defined<'a>(scope: &mut Scope<'a>, unit: &'a Unit) -> Result<(), DefsError>
+pub(crate) fn push_defined<'a>(scope: &mut Scope<'a>, unit: &'a Unit) -> Result<(), DefsError>
     ensures ok { OnOk result (scope.new ≡ scope.old ++ spec.defined (unit_view unit.entry.now)) }
     ensures err { IfErr result (λ e. e.code ≡ Memory) }
 {
@@ -175,6 +210,19 @@ pub(crate) fn definitions_of<'a>(alloc: Global, units: &'a [Unit]) -> Result<Sco
     Ok(scope)
 }
 
+/// What a unit brings in, more.
+pub(crate) fn push_brought<'a>(scope: &mut Scope<'a>, unit: &'a Unit) -> Result<(), DefsError>
+    ensures ok { OnOk result (scope.new ≡ scope.old ++ leads.brings (unit_view unit.entry.now)) }
+    ensures err { IfErr result (λ e. e.code ≡ Memory) }
+{
+    match unit {
+        Unit::Extends(_, modules) => scope.extend_all(modules),
+        Unit::Variables(_, names) => scope.push_all(names),
+        Unit::Constants(_, declarations) => scope.push_declared(declarations),
+        _ => push_defined(scope, unit),
+    }
+}
+
 /// What may have an item in a unit, more.
 fn push_replaceable<'a>(scope: &mut Scope<'a>, unit: &'a Unit) -> Result<(), DefsError>
     ensures ok { OnOk result (scope.new ≡ scope.old ++ spec.replaceable (unit_view unit.entry.now)) }
@@ -184,6 +232,31 @@ fn push_replaceable<'a>(scope: &mut Scope<'a>, unit: &'a Unit) -> Result<(), Def
         Unit::Constants(_, declarations) => scope.push_declared(declarations),
         _ => push_defined(scope, unit),
     }
+}
+
+/// What may stand for another name in a unit, more.
+fn push_nameable<'a>(scope: &mut Scope<'a>, unit: &'a Unit) -> Result<(), DefsError>
+    ensures ok { OnOk result (scope.new ≡ scope.old ++ spec.nameable (unit_view unit.entry.now)) }
+    ensures err { IfErr result (λ e. e.code ≡ Memory) }
+{
+    match unit {
+        Unit::Extends(_, modules) => scope.extend_all(modules),
+        _ => push_replaceable(scope, unit),
+    }
+}
+
+/// What may stand for another name: constants, definitions and operators of modules. The only error is want of memory.
+fn nameable_of<'a>(alloc: Global, units: &'a [Unit]) -> Result<Scope<'a>, DefsError>
+    ensures ok { IfOk result (λ s. s ≡ spec.nameable_of (map unit_view units.entry.now)) }
+    ensures err { IfErr result (λ e. e.code ≡ Memory) }
+{
+    let mut scope = Scope::new(alloc);
+    let mut left = units;
+    while let [first, rest @ ..] = left {
+        push_nameable(&mut scope, first)?;
+        left = rest;
+    }
+    Ok(scope)
 }
 
 /// What may have an item: constants and definitions. The only error is want of memory.
@@ -207,50 +280,94 @@ fn refused(alloc: Global, code: DefsCode, name: &Written) -> DefsError
     refusal_of(alloc, code, Source::Configuration, Mention::of(name))
 }
 
-/// The name of an item, behind items for other names.
+/// The name of an item with a value, behind items for other names.
+fn value_named(
+    alloc: Global,
+    values: &Scope<'_>,
+    before: &Names<'_>,
+    name: &Written,
+) -> Result<(), DefsError>
+    ensures { (v : value.Tree) (μ : scopes.Scope) → Says Source.Configuration result (spec.item_misused values.now μ before.now (config.Value name.now v)) }
+{
+    let Some(arity) = values.arity(name.word.as_bytes()) else {
+        return Err(refused(alloc, DefsCode::UnknownName, name));
+    };
+    if before.contains(name.word.as_bytes()) {
+        return Err(refused(alloc, DefsCode::DefinedTwice, name));
+    }
+    if arity != 0 {
+        return Err(refused(alloc, DefsCode::ArgumentCount, name));
+    }
+    Ok(())
+}
+
+/// The names of an item with an operator, behind items for other names.
+fn replacement_named(
+    alloc: Global,
+    operators: &Scope<'_>,
+    before: &Names<'_>,
+    name: &Written,
+    operator: &Written,
+) -> Result<(), DefsError>
+    ensures { (δ : scopes.Scope) → Says Source.Configuration result (spec.item_misused δ operators.now before.now (config.Replaces name.now operator.now)) }
+{
+    let Some(arity) = operators.arity(name.word.as_bytes()) else {
+        return Err(refused(alloc, DefsCode::UnknownName, name));
+    };
+    if before.contains(name.word.as_bytes()) {
+        return Err(refused(alloc, DefsCode::DefinedTwice, name));
+    }
+    let Some(taken) = operators.arity(operator.word.as_bytes()) else {
+        return Err(refused(alloc, DefsCode::UnknownName, operator));
+    };
+    if arity != taken {
+        return Err(refused(alloc, DefsCode::ArgumentCount, name));
+    }
+    Ok(())
+}
+
+/// The names of an item, behind items for other names.
 fn item_named(
     alloc: Global,
-    scope: &Scope<'_>,
+    values: &Scope<'_>,
+    operators: &Scope<'_>,
     before: &Names<'_>,
     item: &Item,
 ) -> Result<(), DefsError>
-    ensures { Says Source.Configuration result (spec.item_misused scope.now before.now (item_view item.now)) }
+    ensures { Says Source.Configuration result (spec.item_misused values.now operators.now before.now (item_view item.now)) }
 {
     match item {
-        Item::Value(name, _) => {
-            let Some(arity) = scope.arity(name.word.as_bytes()) else {
-                return Err(refused(alloc, DefsCode::UnknownName, name));
-            };
-            if before.contains(name.word.as_bytes()) {
-                return Err(refused(alloc, DefsCode::DefinedTwice, name));
-            }
-            if arity != 0 {
-                return Err(refused(alloc, DefsCode::ArgumentCount, name));
-            }
-            Ok(())
+        Item::Value(name, _) => value_named(alloc, values, before, name),
+        Item::Replaces(name, operator) => {
+            replacement_named(alloc, operators, before, name, operator)
         }
-        Item::Replaces(_, _) => Ok(()),
     }
 }
 
-/// The names of items for what is in this scope.
-fn each_named(alloc: Global, scope: &Scope<'_>, items: &Items<'_>) -> Result<(), DefsError>
-    ensures { Says Source.Configuration result (spec.items_misused scope.now [] items.now) }
+/// The names of items: values are for the first of these scopes, operators for the second.
+fn each_named(
+    alloc: Global,
+    values: &Scope<'_>,
+    operators: &Scope<'_>,
+    items: &Items<'_>,
+) -> Result<(), DefsError>
+    ensures { Says Source.Configuration result (spec.items_misused values.now operators.now [] items.now) }
 {
     let mut before = Names::new(alloc);
     let mut left = items.list();
     while let [first, rest @ ..] = left {
-        item_named(alloc, scope, &before, first)?;
+        item_named(alloc, values, operators, &before, first)?;
         before.push(&replaced_name(first).word)?;
         left = rest;
     }
     Ok(())
 }
 
-/// The names of items: each is known, has one item, and takes no argument.
+/// The names of items: each is known, has one item, and takes no argument or as many as its operator.
 pub(crate) fn items_named(alloc: Global, units: &[Unit], items: &Items<'_>) -> Result<(), DefsError>
-    ensures { Says Source.Configuration result (spec.items_misused (spec.replaceable_of (map unit_view units.now)) [] items.now) }
+    ensures { Says Source.Configuration result (spec.items_misused (spec.replaceable_of (map unit_view units.now)) (spec.nameable_of (map unit_view units.now)) [] items.now) }
 {
-    let scope = replaceable_of(alloc, units)?;
-    each_named(alloc, &scope, items)
+    let values = replaceable_of(alloc, units)?;
+    let operators = nameable_of(alloc, units)?;
+    each_named(alloc, &values, &operators, items)
 }

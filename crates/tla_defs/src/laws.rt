@@ -2,7 +2,8 @@
 
 ghost use Rattle.tla_defs.specs.Laws.{OnlyModel, NoneRefused, IsAlwaysSound};
 ghost use Rattle.tla_defs.specs.Rows.{CounterOfThree, CounterOfFive, BoundedSteps, BoundedStepsMayEnd, LargestNumber};
-ghost use Rattle.tla_defs.specs.GivenRows.{WithValue, TwoVariables};
+ghost use Rattle.tla_defs.specs.GivenRows.{WithValue, WithReplacement, Circle, TwoVariables};
+ghost use Rattle.tla_defs.specs.SpecificationRows.{Specified, SpecifiedInParts};
 ghost use Rattle.tla_defs.specs.NamedRows.{WithParameter, WithLet, WithoutCapture};
 
 /// A module and a configuration name at most one model.
@@ -31,5 +32,13 @@ pub fn models()
     ensures with_let { WithLet }
     ensures without_capture { WithoutCapture }
     ensures with_value { WithValue }
+    ensures with_replacement { WithReplacement }
     ensures two_variables { TwoVariables }
+    ensures specified { Specified }
+    ensures specified_in_parts { SpecifiedInParts }
+{}
+
+/// A replacement that leads back to its name.
+pub fn circle()
+    ensures { Circle }
 {}

@@ -5,18 +5,27 @@
 #![tactic(auto)]
 
 mod behaviour;
+mod bodies;
 mod builder;
+mod circle;
+mod conjuncts;
 mod constants;
+mod cover;
+mod fairness;
 mod formula;
 mod global;
 mod items;
 mod known;
 pub mod laws;
-mod left_out;
+mod leads;
+mod meant;
 mod mention;
+mod name_set;
 mod names;
+mod names_in;
 mod refusal;
 mod scope;
+mod specification;
 mod units;
 
 pub use builder::build;

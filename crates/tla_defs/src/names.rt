@@ -1,6 +1,6 @@
 //! Lists of names.
 
-ghost use Rattle.std.specs.Prelude.{◌≡◌, ◌++◌, ◌∷◌, [], OnOk, IfOk, IfErr, map, List, ℕ};
+ghost use Rattle.std.specs.Prelude.{◌≡◌, ◌++◌, ◌∷◌, [], OnOk, IfOk, IfErr, IfSome, IfNone, map, List, ℕ};
 ghost use Rattle.std.specs.Borrow.{Bor};
 ghost use Rattle.tla_config.specs.declared.error.DefsCode.TheVariants.{Memory};
 ghost use Rattle.tla_config.specs.Names.{is_among};
@@ -46,6 +46,27 @@ impl<'a> Names<'a> {
             Ok(()) => Ok(()),
             Err(_) => Err(no_memory()),
         }
+    }
+
+    /// Names more. The only error is want of memory.
+    pub(crate) fn push_names(&mut self, names: &Names<'a>) -> Result<(), DefsError>
+        ensures ok { OnOk result (self.new ≡ self.old ++ names.now) }
+        ensures err { IfErr result (λ e. e.code ≡ Memory) }
+    {
+        let mut left = names.words.as_slice();
+        while let [first, rest @ ..] = left {
+            self.push(first)?;
+            left = rest;
+        }
+        Ok(())
+    }
+
+    /// Takes the last name away.
+    pub(crate) fn pop(&mut self) -> Option<&'a Word>
+        ensures some { IfSome result (λ w. self.old ≡ self.new ++ w.now ∷ []) }
+        ensures none { IfNone result (self.old ≡ []) }
+    {
+        self.words.pop()
     }
 
     /// The texts of the names, in order. The only error is want of memory.

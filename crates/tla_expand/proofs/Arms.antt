@@ -1,102 +1,111 @@
--- What a form gives, from what its parts give.
-use Rattle.std.proofs.Common.{◌≡◌, ◌≤◌, ℕ, ◌+◌, List, [], ◌∷◌, map, refl, ap, sym, ◌∙◌, arith, Bor, Option, Some, None}
+-- What a form means under primes, from what its parts mean.
+use Rattle.std.proofs.Common.{◌≡◌, ℕ, List, [], ◌∷◌, map, ap, refl, ◌∙◌, Bor, Some, None}
 use Rattle.tla_eval.specs.declared.fault.Place.{Place}
-use Rattle.tla_eval.specs.Expr.{Expr, Exprs}
-use Rattle.tla_model.specs.Size.{nodes, depth, nodes_each, depth_each}
+use Rattle.tla_eval.specs.Expr as e
+use Rattle.tla_eval.specs.Expr.{cases, product, except}
 use Rattle.tla_parse.specs.declared.tree.Expr as syntax
+use Rattle.tla_parse.specs.declared.tree.Arm.{Arm}
+use Rattle.tla_parse.specs.declared.tree.Field.{Field}
+use Rattle.tla_parse.specs.declared.tree.Update.{Update}
 use Rattle.tla_parse.specs.declared.tree.Binder as bound_names
 use Rattle.tla_parse.specs.declared.word.Written.{Written}
-use Rattle.tla_parse.specs.Tree.{trees, binders}
-use Rattle.tla_parse.specs.View.{view, group_view}
-use Rattle.tla_expand.specs.declared.failure.Failure.{Failure}
+use Rattle.tla_parse.specs.Tree.{trees, binders, arms, fields, updates}
+use Rattle.tla_parse.specs.View.{view, group_view, choice_view, field_view, update_view}
 use Rattle.tla_expand.specs.declared.primes.Primes.{Primes}
+use Rattle.tla_expand.specs.declared.nodes.Headed.TheVariants as headed
+use Rattle.tla_expand.specs.declared.nodes.Binders.TheVariants as under
+use Rattle.tla_parse.specs.declared.tree.Step.TheVariants as steps
 use Rattle.tla_expand.specs.declared.nodes.Form.{Form}
 use Rattle.tla_expand.specs.declared.nodes.Form.TheVariants as form
 use Rattle.tla_expand.specs.declared.nodes.One.{One}
 use Rattle.tla_expand.specs.declared.nodes.Two.{Two}
+use Rattle.tla_expand.specs.declared.nodes.Two.TheVariants as twos
 use Rattle.tla_expand.specs.declared.nodes.Three.{Three}
 use Rattle.tla_expand.specs.declared.nodes.Many.{Many}
 use Rattle.tla_expand.specs.declared.nodes.Binding.{Binding}
-use Rattle.tla_expand.specs.Maybe.{◌>>=◌}
-use Rattle.tla_expand.specs.Primes.{primes, settled_primes}
-use Rattle.tla_expand.specs.Nodes.{one, two, three, many, kept}
-use Rattle.tla_expand.specs.Unchanged.{unchanged}
-use Rattle.tla_expand.specs.Expand.{Scope, expand, expand_each, nested, binds_of}
+use Rattle.tla_expand.specs.declared.nodes.Gather.{Gather}
+use Rattle.tla_expand.specs.declared.nodes.Fielded.{Fielded}
+use Rattle.tla_expand.specs.Maybe.{◌>>=◌, each_of}
+use Rattle.tla_expand.specs.Lists.{exprs, arms_with, fields_of, updates_of}
+use Rattle.tla_expand.specs.Primes.{settled_primes, with_primes}
+use Rattle.tla_expand.specs.Nodes.{one, two, three, many, fielded}
+use Rattle.tla_expand.specs.Unchanged.{unchanged, changed}
+use Rattle.tla_expand.specs.Meanings.{Scope}
+use Rattle.tla_expand.specs.Bound.{nested, gathered}
+use Rattle.tla_expand.specs.Expand.{expand, expand_each, expand_key, expand_arms, expand_fields, expand_updates, binds_of}
 use Rattle.tla_expand.specs.Forms.{form_in}
-use Rattle.tla_expand.specs.Gives.{shown, both, sum_of, larger_of, each_of, shown_part, FailsBy, Fails}
-use Rattle.tla_expand.proofs.Sizes.{first_fails, second_fails, node_fails, node_gives}
-use Rattle.tla_expand.proofs.Made.{one_larger, one_shown, two_larger, two_shown, three_larger, three_shown, many_larger, many_shown, Triple}
-use Rattle.tla_expand.proofs.Lists.{shown_each}
-use Rattle.tla_expand.proofs.Kept.{kept_settled}
+use Rattle.tla_expand.specs.Gives.{both, part_in, key_in, arm_in, field_in, update_in, kept_part, changed_in}
+use Rattle.tla_expand.proofs.Made.{one_shown, two_shown, three_shown, many_shown, cases_shown, fielded_shown, product_shown, except_shown}
+use Rattle.tla_expand.proofs.Lists.{each_in, arms_in, arms_or_in}
+use Rattle.tla_expand.proofs.NamedParts.{fields_in, updates_in}
+use Rattle.tla_expand.proofs.Kept.{kept_settled, changed_shown}
 
-abbrev pub Given : Option Expr → Expr → ℕ → ℕ → ℕ → Type 0
-Given o c rest left room = (o ≡ Some c) × (rest + nodes c ≡ left) × (depth c ≤ room)
+module _ (fm : Form) (σ : Scope) (d : ℕ) (k : Primes) where
+  pub one_form : (p : Place) (f : One) (t : Bor syntax.Expr) → fm ≡ form.One p f t → with_primes k (form_in fm σ d) ≡ (part_in k σ d t.now >>= λ x. Some (one f p x))
+  one_form p f t q = rw q (one_shown f k p (expand (view t.now) σ d))
 
-module _ (fm : Form) (σ : Scope) (d : ℕ) (k : Primes) (s : Failure) (room left : ℕ) where
-  pub one_arm_fails : (p : Place) (f : One) (t : Bor syntax.Expr) → fm ≡ form.One p f t
-      → Fails room left s (shown k (expand (view t.now) σ d)) → Fails (room + 1) (left + 1) s (shown k (form_in fm σ d))
-  one_arm_fails p f t q h = rw (q, one_shown f k p (expand (view t.now) σ d)) (node_fails nodes depth (λ x. one f p x) s (shown k (expand (view t.now) σ d)) room left (one_larger f p) h)
+  pub two_form : (p : Place) (f : Two) (a b : Bor syntax.Expr) → fm ≡ form.Two p f a b
+      → with_primes k (form_in fm σ d) ≡ (both (part_in k σ d a.now) (part_in k σ d b.now) >>= λ xy. Some (two f p xy.0 xy.1))
+  two_form p f a b q = rw q (two_shown f k p (expand (view a.now) σ d) (expand (view b.now) σ d))
 
-  pub two_arm_fails : (p : Place) (f : Two) (a b : Bor syntax.Expr) → fm ≡ form.Two p f a b
-      → FailsBy (sum_of nodes nodes) (larger_of depth depth) room left s (both (shown k (expand (view a.now) σ d)) (shown k (expand (view b.now) σ d))) → Fails (room + 1) (left + 1) s (shown k (form_in fm σ d))
-  two_arm_fails p f a b q h =
-      rw (q, two_shown f k p (expand (view a.now) σ d) (expand (view b.now) σ d))
-      (node_fails (sum_of nodes nodes) (larger_of depth depth) (λ (xy : Expr × Expr). two f p xy.0 xy.1) s (both (shown k (expand (view a.now) σ d)) (shown k (expand (view b.now) σ d))) room left (two_larger f p) h)
+  pub three_form : (p : Place) (f : Three) (a b c : Bor syntax.Expr) → fm ≡ form.Three p f a b c
+      → with_primes k (form_in fm σ d) ≡ (both (both (part_in k σ d a.now) (part_in k σ d b.now)) (part_in k σ d c.now) >>= λ t. Some (three f p t.0.0 t.0.1 t.1))
+  three_form p f a b c q = rw q (three_shown f k p (expand (view a.now) σ d) (expand (view b.now) σ d) (expand (view c.now) σ d))
 
-  three_fails : (p : Place) (f : Three) (a b c : Bor syntax.Expr) → fm ≡ form.Three p f a b c
-      → FailsBy (sum_of (sum_of nodes nodes) nodes) (larger_of (larger_of depth depth) depth) room left s (both (both (shown k (expand (view a.now) σ d)) (shown k (expand (view b.now) σ d))) (shown k (expand (view c.now) σ d)))
-      → Fails (room + 1) (left + 1) s (shown k (form_in fm σ d))
-  three_fails p f a b c q h =
-      rw (q, three_shown f k p (expand (view a.now) σ d) (expand (view b.now) σ d) (expand (view c.now) σ d))
-      (node_fails (sum_of (sum_of nodes nodes) nodes) (larger_of (larger_of depth depth) depth) (λ (t : Triple). three f p t.0.0 t.0.1 t.1) s
-      (both (both (shown k (expand (view a.now) σ d)) (shown k (expand (view b.now) σ d))) (shown k (expand (view c.now) σ d))) room left (three_larger f p) h)
+  pub many_form : (p : Place) (f : Many) (ts : Bor (List syntax.Expr)) → fm ≡ form.Many p f ts
+      → with_primes k (form_in fm σ d) ≡ (each_of (part_in k σ d) ts.now >>= λ xs. Some (many f p (exprs xs)))
+  many_form p f ts q = rw q (many_shown f k p (expand_each (trees (map view ts.now)) σ d) (each_of (part_in k σ d) ts.now) (each_in k ts.now σ d))
 
-  pub three_pair_fails : (p : Place) (f : Three) (a b c : Bor syntax.Expr) → fm ≡ form.Three p f a b c
-      → FailsBy (sum_of nodes nodes) (larger_of depth depth) room left s (both (shown k (expand (view a.now) σ d)) (shown k (expand (view b.now) σ d))) → Fails (room + 1) (left + 1) s (shown k (form_in fm σ d))
-  three_pair_fails p f a b c q h =
-      three_fails p f a b c q (first_fails (sum_of nodes nodes) (larger_of depth depth) nodes depth s (both (shown k (expand (view a.now) σ d)) (shown k (expand (view b.now) σ d))) (shown k (expand (view c.now) σ d)) room left h)
+  pub index_form : (p : Place) (f : Bor syntax.Expr) (ts : Bor (List syntax.Expr)) → fm ≡ form.Headed p headed.Index f ts
+      → with_primes k (form_in fm σ d) ≡ (both (part_in k σ d f.now) (key_in k σ d ts.now) >>= λ xy. Some (two twos.Apply p xy.0 xy.1))
+  index_form p f ts q = rw q (two_shown twos.Apply k p (expand (view f.now) σ d) (expand_key (trees (map view ts.now)) σ d))
 
-  pub three_last_fails : (p : Place) (f : Three) (a b c : Bor syntax.Expr) (x : Expr × Expr) (less : ℕ) → fm ≡ form.Three p f a b c
-      → both (shown k (expand (view a.now) σ d)) (shown k (expand (view b.now) σ d)) ≡ Some x → less + sum_of nodes nodes x ≡ left
-      → Fails room less s (shown k (expand (view c.now) σ d)) → Fails (room + 1) (left + 1) s (shown k (form_in fm σ d))
-  three_last_fails p f a b c x less q g n h =
-      three_fails p f a b c q (second_fails (sum_of nodes nodes) (larger_of depth depth) nodes depth s (both (shown k (expand (view a.now) σ d)) (shown k (expand (view b.now) σ d))) (shown k (expand (view c.now) σ d)) x room left less g n h)
+  pub cases_form : (p : Place) (as' : Bor (List Arm)) → fm ≡ form.Cases p as' None
+      → with_primes k (form_in fm σ d) ≡ (each_of (arm_in k σ d) as'.now >>= λ xs. Some (cases p (arms_with xs e.no_arms)))
+  cases_form p as' q =
+      rw q (cases_shown k p (λ xs. arms_with xs e.no_arms) (expand_arms (arms (map choice_view as'.now)) (Some e.no_arms) σ d) (each_of (arm_in k σ d) as'.now) (arms_in k as'.now σ d))
 
-  pub many_arm_fails : (p : Place) (f : Many) (ts : Bor (List syntax.Expr)) → fm ≡ form.Many p f ts
-      → FailsBy nodes_each depth_each room left s (each_of (shown_part k σ d) ts.now) → Fails (room + 1) (left + 1) s (shown k (form_in fm σ d))
-  many_arm_fails p f ts q h =
-      rw (q, many_shown f k p (expand_each (trees (map view ts.now)) σ d), shown_each k ts.now σ d)
-      (node_fails nodes_each depth_each (λ xs. many f p xs) s (each_of (shown_part k σ d) ts.now) room left (many_larger f p) h)
+  pub cases_or_form : (p : Place) (as' : Bor (List Arm)) (t : Bor syntax.Expr) → fm ≡ form.Cases p as' (Some t)
+      → with_primes k (form_in fm σ d) ≡ (both (each_of (arm_in k σ d) as'.now) (part_in k σ d t.now) >>= λ xs. Some (cases p (arms_with xs.0 (e.other xs.1))))
+  cases_or_form p as' t q =
+      rw q (cases_shown k p (λ xs. arms_with xs.0 (e.other xs.1)) (expand_arms (arms (map choice_view as'.now)) (expand (view t.now) σ d >>= λ x. Some (e.other x)) σ d)
+      (both (each_of (arm_in k σ d) as'.now) (part_in k σ d t.now)) (arms_or_in k as'.now (view t.now) σ d))
 
-module _ (fm : Form) (σ : Scope) (d : ℕ) (k : Primes) (c : Expr) (rest room left : ℕ) where
-  pub one_arm_gives : (p : Place) (f : One) (t : Bor syntax.Expr) (x : Expr) → fm ≡ form.One p f t
-      → Given (shown k (expand (view t.now) σ d)) x rest left room → c ≡ one f p x → Given (shown k (form_in fm σ d)) c rest (left + 1) (room + 1)
-  one_arm_gives p f t x q h e =
-      rw (q, one_shown f k p (expand (view t.now) σ d)) (node_gives nodes depth (λ y. one f p y) (shown k (expand (view t.now) σ d)) x c room left rest (one_larger f p) h.0 h.1 h.2 e)
+  pub unchanged_form : (p : Place) (t : Bor syntax.Expr) → fm ≡ form.Unchanged p t → with_primes k (form_in fm σ d) ≡ kept_part (settled_primes k) p σ d t.now
+  unchanged_form p t q = rw q (kept_settled k p (expand (view t.now) σ d))
 
-  pub two_arm_gives : (p : Place) (f : Two) (a b : Bor syntax.Expr) (x y : Expr) → fm ≡ form.Two p f a b
-      → both (shown k (expand (view a.now) σ d)) (shown k (expand (view b.now) σ d)) ≡ Some (x, y) → rest + sum_of nodes nodes (x, y) ≡ left → larger_of depth depth (x, y) ≤ room
-      → c ≡ two f p x y → Given (shown k (form_in fm σ d)) c rest (left + 1) (room + 1)
-  two_arm_gives p f a b x y q g n l e =
-      rw (q, two_shown f k p (expand (view a.now) σ d) (expand (view b.now) σ d))
-      (node_gives (sum_of nodes nodes) (larger_of depth depth) (λ (xy : Expr × Expr). two f p xy.0 xy.1) (both (shown k (expand (view a.now) σ d)) (shown k (expand (view b.now) σ d))) (x, y) c room left rest (two_larger f p) g n l e)
+  pub binders_form : (p : Place) (f : Binding) (bs : Bor (List bound_names.Binder)) (t : Bor syntax.Expr) → fm ≡ form.Binders p (under.Nested f) bs t
+      → with_primes k (form_in fm σ d) ≡ with_primes k (nested f p (binds_of (binders (map group_view bs.now)) σ) (expand (view t.now)) σ d)
+  binders_form p f bs t q = rw q refl
 
-  pub three_arm_gives : (p : Place) (f : Three) (a b z : Bor syntax.Expr) (x y w : Expr) (less : ℕ) → fm ≡ form.Three p f a b z
-      → both (shown k (expand (view a.now) σ d)) (shown k (expand (view b.now) σ d)) ≡ Some (x, y) → less + sum_of nodes nodes (x, y) ≡ left → larger_of depth depth (x, y) ≤ room
-      → Given (shown k (expand (view z.now) σ d)) w rest less room → c ≡ three f p x y w → Given (shown k (form_in fm σ d)) c rest (left + 1) (room + 1)
-  three_arm_gives p f a b z x y w less q g n l h e =
-      rw (q, three_shown f k p (expand (view a.now) σ d) (expand (view b.now) σ d) (expand (view z.now) σ d))
-      (node_gives (sum_of (sum_of nodes nodes) nodes) (larger_of (larger_of depth depth) depth) (λ (t : Triple). three f p t.0.0 t.0.1 t.1)
-      (both (both (shown k (expand (view a.now) σ d)) (shown k (expand (view b.now) σ d))) (shown k (expand (view z.now) σ d))) ((x, y), w) c room left rest (three_larger f p)
-      (rw (g, h.0) refl) (omega (arith, n, h.1)) (omega (arith, l, h.2)) e)
+  pub binds_form : (p : Place) (f : Binding) (w : Bor Written) (s t : Bor syntax.Expr) → fm ≡ form.Binds p f w s t
+      → with_primes k (form_in fm σ d) ≡ with_primes k (nested f p ((w.now.word, expand (view s.now) σ) ∷ []) (expand (view t.now)) σ d)
+  binds_form p f w s t q = rw q refl
 
-  pub many_arm_gives : (p : Place) (f : Many) (ts : Bor (List syntax.Expr)) (xs : Exprs) → fm ≡ form.Many p f ts
-      → each_of (shown_part k σ d) ts.now ≡ Some xs → rest + nodes_each xs ≡ left → depth_each xs ≤ room → c ≡ many f p xs → Given (shown k (form_in fm σ d)) c rest (left + 1) (room + 1)
-  many_arm_gives p f ts xs q g n l e =
-      rw (q, many_shown f k p (expand_each (trees (map view ts.now)) σ d), shown_each k ts.now σ d)
-      (node_gives nodes_each depth_each (λ ys. many f p ys) (each_of (shown_part k σ d) ts.now) xs c room left rest (many_larger f p) g n l e)
+  pub gather_form : (p : Place) (f : Gather) (bs : Bor (List bound_names.Binder)) (t : Bor syntax.Expr) → fm ≡ form.Binders p (under.Gathered f) bs t
+      → with_primes k (form_in fm σ d) ≡ with_primes k (gathered f p (binds_of (binders (map group_view bs.now)) σ) (expand (view t.now)) σ d)
+  gather_form p f bs t q = rw q refl
 
--- UNCHANGED
-pub unchanged_arm : (fm : Form) (σ : Scope) (d : ℕ) (k : Primes) (p : Place) (t : Bor syntax.Expr) → fm ≡ form.Unchanged p t
-    → shown k (form_in fm σ d) ≡ (shown (settled_primes k) (expand (view t.now) σ d) >>= unchanged p)
-unchanged_arm fm σ d k p t q = rw q (kept_settled k p (expand (view t.now) σ d))
+  pub fields_form : (p : Place) (f : Fielded) (fs : Bor (List Field)) → fm ≡ form.Fields p f fs
+      → with_primes k (form_in fm σ d) ≡ (each_of (field_in k σ d) fs.now >>= λ xs. Some (fielded f p (fields_of xs)))
+  fields_form p f fs q = rw q (fielded_shown f k p (expand_fields (fields (map field_view fs.now)) σ d) (each_of (field_in k σ d) fs.now) (fields_in k fs.now σ d))
+
+  pub product_form : (p : Place) (t : Bor syntax.Expr) (ts : Bor (List syntax.Expr)) → fm ≡ form.Headed p headed.Product t ts
+      → with_primes k (form_in fm σ d) ≡ (both (part_in k σ d t.now) (each_of (part_in k σ d) ts.now) >>= λ xs. Some (product p (exprs (xs.0 ∷ xs.1))))
+  product_form p t ts q = rw q (product_shown k p (expand (view t.now) σ d) (expand_each (trees (map view ts.now)) σ d) (each_of (part_in k σ d) ts.now) (each_in k ts.now σ d))
+
+  pub except_form : (p : Place) (t : Bor syntax.Expr) (us : Bor (List Update)) → fm ≡ form.Except p t us
+      → with_primes k (form_in fm σ d) ≡ (both (part_in k σ d t.now) (each_of (update_in k σ d) us.now) >>= λ xs. Some (except p xs.0 (updates_of xs.1)))
+  except_form p t us q = rw q (except_shown k p (expand (view t.now) σ d) (expand_updates (updates (map update_view us.now)) σ d) (each_of (update_in k σ d) us.now) (updates_in k us.now σ d))
+
+  pub square_form : (p q : Place) (t v : Bor syntax.Expr) → fm ≡ form.Action p steps.Box t q v
+      → with_primes k (form_in fm σ d) ≡ (both (part_in k σ d t.now) (kept_part (settled_primes k) q σ d v.now) >>= λ xy. Some (two twos.Or p xy.0 xy.1))
+  square_form p q t v h =
+      rw h (two_shown twos.Or k p (expand (view t.now) σ d) (expand (view v.now) σ d >>= unchanged q)
+      ∙ ap (λ o. both (part_in k σ d t.now) o >>= λ xy. Some (two twos.Or p xy.0 xy.1)) (kept_settled k q (expand (view v.now) σ d)))
+
+  pub angle_form : (p q : Place) (t v : Bor syntax.Expr) → fm ≡ form.Action p steps.Angle t q v
+      → with_primes k (form_in fm σ d) ≡ (both (part_in k σ d t.now) (changed_in k q σ d v.now) >>= λ xy. Some (two twos.And p xy.0 xy.1))
+  angle_form p q t v h =
+      rw h (two_shown twos.And k p (expand (view t.now) σ d) (expand (view v.now) σ d >>= changed q)
+      ∙ ap (λ o. both (part_in k σ d t.now) o >>= λ xy. Some (two twos.And p xy.0 xy.1)) (changed_shown k q (expand (view v.now) σ d)))

@@ -1,5 +1,5 @@
 -- Arguments put in for parameters.
-use Rattle.std.proofs.Common.{◌≡◌, ℕ, suc, ◌+◌, ◌≤◌, ◌<◌, List, [], ◌∷◌, ◌++◌, length, get_or, drop, append-nil, refl, ap, sym, ◌∙◌, arith, Some, None, Bor, append_assoc, add-one, drop-cons, length-append, length-drop}
+use Rattle.std.proofs.Common.{◌≡◌, ℕ, suc, ◌+◌, ◌≤◌, ◌<◌, List, [], ◌∷◌, ◌++◌, length, get_or, drop, append-nil, refl, ap, sym, ◌∙◌, arith, None, Bor, append_assoc, add-one, drop-cons, length-append}
 use Rattle.std.proofs.lemmas.List.{length-map}
 use Rattle.tla_parse.specs.declared.tree.Expr as syntax
 use Rattle.tla_parse.specs.declared.word.Written.{Written}
@@ -8,8 +8,9 @@ use Rattle.tla_expand.specs.declared.arena.Entry.{Entry}
 use Rattle.tla_expand.specs.declared.arena.What.TheVariants.{Definition}
 use Rattle.tla_eval.specs.declared.fault.Place.{Place}
 use Rattle.tla_parse.specs.View.{view}
-use Rattle.tla_expand.specs.Expand.{Scope, Argument, Meaning, with_parameters, with_name, parameter, expand}
-use Rattle.tla_expand.specs.Scopes.{entry_scope, scope_at, meaning_of, Extends, arguments_in}
+use Rattle.tla_expand.specs.Meanings.{Scope, Argument, Meaning, with_parameters, with_name, parameter}
+use Rattle.tla_expand.specs.Expand.{expand}
+use Rattle.tla_expand.specs.Scopes.{scope_at, meaning_of, Extends, arguments_in}
 use Rattle.tla_expand.proofs.Links.{scope_keep}
 
 pub bind_more : (fns es new : List Entry) (params : List Written) (args : List syntax.Expr) (i at s scope : ℕ) (w : Written) (x : Name) (a : syntax.Expr)
@@ -47,8 +48,8 @@ parameters_mismatch (x ∷ xs) [] σ h = refl
 parameters_mismatch (x ∷ xs) (a ∷ args) σ h = parameters_mismatch xs args (with_name x.word (parameter a) σ) (λ e. h (ap suc e))
 
 -- an operator with another number of arguments
-pub mismatch : (at : ℕ → Scope) (args : List syntax.Expr) (σ : Scope) (p : Place) (d : ℕ) (m : Meaning) (e : Entry) (xs : Bor (List Written)) (body : Bor syntax.Expr)
-    → m ≡ meaning_of at e.what e.rest → e.what ≡ Definition xs body → (length xs.now ≡ length args → ⊥) → m p (arguments_in args σ) d ≡ None
-mismatch at args σ p d m e xs body h w n =
+pub mismatch : (at : ℕ → Scope) (args : List syntax.Expr) (σ : Scope) (p : Place) (d : ℕ) (m : Meaning) (e : Entry) (xs : Bor (List Written)) (body : Bor syntax.Expr) (home : ℕ)
+    → m ≡ meaning_of at e.what → e.what ≡ Definition xs body home → (length xs.now ≡ length args → ⊥) → m p (arguments_in args σ) d ≡ None
+mismatch at args σ p d m e xs body home h w n =
     let q : length (arguments_in args σ) ≡ length args = length-map args (λ (t : syntax.Expr). expand (view t) σ) in
-    rw (h, w, parameters_mismatch xs.now (arguments_in args σ) (at e.rest) (λ z. n (z ∙ q))) refl
+    rw (h, w, parameters_mismatch xs.now (arguments_in args σ) (at home) (λ z. n (z ∙ q))) refl

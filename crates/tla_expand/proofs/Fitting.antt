@@ -1,5 +1,5 @@
 -- What is expanded in a scope whose meanings name what exists names what exists.
-use Rattle.std.proofs.Common.{◌≡◌, ℕ, pos, ◌+◌, ◌≤◌, ◌&&◌, Bool, true, false, if◌then◌else◌, List, [], ◌∷◌, refl, ap, sym, ◌∙◌, arith, Option, Some, None}
+use Rattle.std.proofs.Common.{◌≡◌, ℕ, suc, pos, ◌+◌, ◌≤◌, Bool, true, false, if◌then◌else◌, List, [], ◌∷◌, length, refl, sym, ◌∙◌, arith, Option, Some, None}
 use Rattle.std.proofs.lemmas.Bool.{lt-ltb}
 use Rattle.std.specs.Prelude.{nat_le, nat_lt}
 use Rattle.std.specs.Str.{bytes_eq}
@@ -9,9 +9,8 @@ use Rattle.tla_value.specs.TreeOf.{tree_of}
 use Rattle.tla_eval.specs.declared.fault.Place.{Place}
 use Rattle.tla_eval.specs.ExprOf.{unary_of, kind_of}
 use Rattle.tla_eval.specs.Expr as x
-use Rattle.tla_eval.specs.Expr.{Expr, Exprs, constant, bound, now, unary, binary, enumerated, tuple, conjunction, disjunction, conditional, choose, kind_set, no_exprs, more_exprs}
-use Rattle.tla_eval.specs.Fits.{fits, fits_all}
-use Rattle.tla_lex.specs.declared.token.Place as text
+use Rattle.tla_eval.specs.Expr.{Expr, Exprs, constant, bound, now, unary, binary, enumerated, tuple, conjunction, disjunction, conditional, cases, choose, filtered, functions, record_of, records, product, except, kind_set, sequences, no_exprs, more_exprs}
+use Rattle.tla_eval.specs.Fits.{fits, fits_all, fits_fields, fits_arms, fits_updates, count}
 use Rattle.tla_parse.specs.declared.word.Written.{Written}
 use Rattle.tla_parse.specs.declared.tree.Constant.{Constant}
 use Rattle.tla_parse.specs.declared.tree.Constant.TheVariants.{True, False, Boolean, String}
@@ -19,26 +18,35 @@ use Rattle.tla_parse.specs.declared.tree.Prefix.{Prefix}
 use Rattle.tla_parse.specs.declared.tree.Prefix.TheVariants as prefix
 use Rattle.tla_parse.specs.declared.tree.Bullet.TheVariants as bullet
 use Rattle.tla_parse.specs.declared.tree.Brackets.TheVariants as brackets
-use Rattle.tla_parse.specs.Tree.{Tree, Trees, Binders, Definition, Definitions, none, more, unbound, undefined, defined, DefinesOperator, DefinesFunction, Name, Number, Text, Word, At, Paren, Listing, Call, Prime, Index, Field, Unary, Binary, Quantified, Choose, If, Case, Let, Junction}
+use Rattle.tla_parse.specs.declared.tree.Step.TheVariants as steps
+use Rattle.tla_parse.specs.Tree.{Tree, Trees, Binders, Definition, Definitions, none, more, unbound, undefined, defined, DefinesOperator, DefinesFunction, Name, Number, Text, Word, At, Paren, Listing, Call, Prime, Index, Field, Unary, Binary, Quantified, Choose, If, Case, Let, Junction, Filter, Image, Function, FunctionSet, Record, RecordSet, Except, Action, Fair, Product}
+use Rattle.tla_parse.specs.Edges.{place}
 use Rattle.tla_parse.specs.Tree as t
 use Rattle.tla_expand.specs.declared.nodes.Builtin.{Builtin}
 use Rattle.tla_expand.specs.declared.nodes.Builtin.TheVariants as builtin
 use Rattle.tla_expand.specs.declared.nodes.Binding.{Binding}
 use Rattle.tla_expand.specs.declared.nodes.Binding.TheVariants as binds
+use Rattle.tla_expand.specs.declared.nodes.One.{One}
+use Rattle.tla_expand.specs.declared.nodes.One.TheVariants as ones
+use Rattle.tla_expand.specs.declared.nodes.Gather.{Gather}
+use Rattle.tla_expand.specs.declared.nodes.Gather.TheVariants as gathers
 use Rattle.tla_expand.specs.declared.nodes.Two.{Two}
 use Rattle.tla_expand.specs.declared.nodes.Two.TheVariants as w
 use Rattle.tla_expand.specs.declared.nodes.Three.{Three}
 use Rattle.tla_expand.specs.declared.nodes.Three.TheVariants as h
 use Rattle.tla_expand.specs.declared.primes.Primes.TheVariants.{Once}
-use Rattle.tla_expand.specs.Maybe.{◌>>=◌}
+use Rattle.tla_expand.specs.Maybe.{◌>>=◌, each_of}
 use Rattle.tla_expand.specs.Places as names
-use Rattle.tla_expand.specs.Places.{place_of}
+use Rattle.tla_expand.specs.Places.{place_of, at_name}
+use Rattle.tla_expand.specs.Lists.{exprs}
 use Rattle.tla_expand.specs.Primes.{primes}
-use Rattle.tla_expand.specs.Unchanged.{unchanged}
-use Rattle.tla_expand.specs.Nodes.{constant_of, number_of, largest, two, three, binding}
-use Rattle.tla_expand.specs.Operators.{unary_for, infix_for}
+use Rattle.tla_expand.specs.Unchanged.{unchanged, changed}
+use Rattle.tla_expand.specs.Nodes.{constant_of, largest, one, two, three, binding, gather}
+use Rattle.tla_expand.specs.Operators.{prefix_for, infix_for}
 use Rattle.tla_expand.specs.Library.{library}
-use Rattle.tla_expand.specs.Expand.{Argument, Meaning, Scope, Bind, with_name, unknown, alone, of_one, of_two, of_three, bound_name, variable, value_name, parameter, builtin_meaning, meaning_or, standard, with_parameters, operator, bind_each, last_or, nested, of_quantifier, indexed, applied, prefixed, expand, expand_each, arguments, binds_of, definitions_in, definition_in}
+use Rattle.tla_expand.specs.Meanings.{Argument, Meaning, Scope, with_name, unknown, alone, of_one, of_two, of_three, bound_name, variable, value_name, parameter, builtin_meaning, meaning_or, standard, with_parameters, operator}
+use Rattle.tla_expand.specs.Bound.{Bind, bind_each, nested, with_names, gathered}
+use Rattle.tla_expand.specs.Expand.{of_quantifier, applied, prefixed, expand, expand_each, expand_key, expand_arms, expand_other, expand_fields, expand_step, expand_path, expand_updates, arguments, binds_of, definitions_in, definition_in}
 use Rattle.tla_expand.specs.Fits.{FitsArgument, FitArguments, FitsMeaning, FitsScope}
 use Rattle.tla_expand.proofs.PrimesFit.{inv, primes_fit}
 use Rattle.tla_expand.proofs.UnchangedFits.{unchanged_fits}
@@ -63,6 +71,7 @@ two_fits w.Cup p x y d v i j = rw (i, j) refl
 two_fits w.Cap p x y d v i j = rw (i, j) refl
 two_fits w.Minus p x y d v i j = rw (i, j) refl
 two_fits w.Assert p x y d v i j = rw (i, j) refl
+two_fits w.Functions p x y d v i j = rw (i, j) refl
 
 three_fits : (f : Three) (p : Place) (x y z : Expr) (d v : ℕ) → fits x d v true ≡ true → fits y d v true ≡ true → fits z d v true ≡ true → fits (three f p x y z) d v true ≡ true
 three_fits h.If p x y z d v i j k = rw (i, j, k) refl
@@ -72,6 +81,7 @@ binding_fits : (f : Binding) (p : Place) (s x : Expr) (d v : ℕ) → fits s d v
 binding_fits binds.ForAll p s x d v i j = rw (i, j) refl
 binding_fits binds.ForSome p s x d v i j = rw (i, j) refl
 binding_fits binds.Choose p s x d v i j = rw (i, j) refl
+binding_fits binds.Filter p s x d v i j = rw (i, j) refl
 
 later_meaning : (v b c : ℕ) (m : Meaning) → b ≤ c → FitsMeaning v b m → FitsMeaning v c m
 later_meaning v b c m k g p args d l = g p args d (omega arith)
@@ -134,6 +144,7 @@ of_three_fits v b f k p (a ∷ c ∷ g ∷ n ∷ args) d l r e q = cc
 
 builtin_fits : (v b : ℕ) (u : Builtin) → FitsMeaning v b (builtin_meaning u)
 builtin_fits v b (builtin.Kinds k) = alone_fits v b (λ p d. Some (kind_set p (kind_of k))) (λ p d l e q. some d v (kind_set p (kind_of k)) e q refl)
+builtin_fits v b builtin.Sequences = of_one_fits v b (λ p x. sequences p x) (λ p x d i. i)
 builtin_fits v b (builtin.One u) = of_one_fits v b (λ p x. unary p (unary_of u) x) (λ p x d i. i)
 builtin_fits v b (builtin.Two f) = of_two_fits v b (two f) (λ p x y d i j. two_fits f p x y d v i j)
 builtin_fits v b (builtin.Three f) = of_three_fits v b (three f) (λ p x y z d i j k. three_fits f p x y z d v i j k)
@@ -198,28 +209,71 @@ word_fits p False d v = refl
 word_fits p Boolean d v = refl
 word_fits p String d v = refl
 
-and_left : (a b : Bool) → (a && b) ≡ true → a ≡ true
-and_left true b k = refl
-and_left false b k = cc
+one_fits : (f : One) (p : Place) (x : Expr) (d v : ℕ) → fits x d v true ≡ true → fits (one f p x) d v true ≡ true
+one_fits (ones.Unary u) p x d v i = i
+one_fits ones.Power p x d v i = i
+one_fits ones.Sequences p x d v i = i
+one_fits (ones.Field w) p x d v i = i
 
-indexed_fits : (p : Place) (x : Expr) (ys : Exprs) (d v : ℕ) → fits x d v true ≡ true → fits_all ys d v true ≡ true → (e : Expr) → indexed p x ys ≡ Some e → fits e d v true ≡ true
-indexed_fits p u no_exprs d v i j e q = cc
-indexed_fits p u (more_exprs y no_exprs) d v i j e q = some d v (binary p x.Apply u y) e q (rw (i, and_left (fits y d v true) true j) refl)
-indexed_fits p u (more_exprs y (more_exprs z zs)) d v i j e q = cc
-
-applied_fits : (u : Option x.Unary) (p : Place) (x : Expr) (d v : ℕ) → fits x d v true ≡ true → (e : Expr) → applied u p x ≡ Some e → fits e d v true ≡ true
+applied_fits : (f : Option One) (p : Place) (x : Expr) (d v : ℕ) → fits x d v true ≡ true → (e : Expr) → applied f p x ≡ Some e → fits e d v true ≡ true
 applied_fits None p x d v i e q = cc
-applied_fits (Some u) p x d v i e q = some d v (unary p u x) e q i
+applied_fits (Some f) p x d v i e q = some d v (one f p x) e q (one_fits f p x d v i)
 
 prefixed_fits : (op : Prefix) (p : Place) (x : Expr) (d v : ℕ) → fits x d v true ≡ true → (e : Expr) → prefixed op p x ≡ Some e → fits e d v true ≡ true
 prefixed_fits prefix.Unchanged p x d v i e q = unchanged_fits p x d v e q ∙ i
-prefixed_fits prefix.Not p x d v i e q = applied_fits (unary_for prefix.Not) p x d v i e q
-prefixed_fits prefix.Negate p x d v i e q = applied_fits (unary_for prefix.Negate) p x d v i e q
-prefixed_fits prefix.Always p x d v i e q = applied_fits (unary_for prefix.Always) p x d v i e q
-prefixed_fits prefix.Eventually p x d v i e q = applied_fits (unary_for prefix.Eventually) p x d v i e q
-prefixed_fits prefix.Subset p x d v i e q = applied_fits (unary_for prefix.Subset) p x d v i e q
-prefixed_fits prefix.Union p x d v i e q = applied_fits (unary_for prefix.Union) p x d v i e q
-prefixed_fits prefix.Domain p x d v i e q = applied_fits (unary_for prefix.Domain) p x d v i e q
+prefixed_fits prefix.Not p x d v i e q = applied_fits (prefix_for prefix.Not) p x d v i e q
+prefixed_fits prefix.Negate p x d v i e q = applied_fits (prefix_for prefix.Negate) p x d v i e q
+prefixed_fits prefix.Always p x d v i e q = applied_fits (prefix_for prefix.Always) p x d v i e q
+prefixed_fits prefix.Eventually p x d v i e q = applied_fits (prefix_for prefix.Eventually) p x d v i e q
+prefixed_fits prefix.Subset p x d v i e q = applied_fits (prefix_for prefix.Subset) p x d v i e q
+prefixed_fits prefix.Union p x d v i e q = applied_fits (prefix_for prefix.Union) p x d v i e q
+prefixed_fits prefix.Domain p x d v i e q = applied_fits (prefix_for prefix.Domain) p x d v i e q
+
+some_fields : (d v : ℕ) (x e : x.Fields) → Some x ≡ Some e → fits_fields x d v true ≡ true → fits_fields e d v true ≡ true
+some_fields d v x e q k = let same : x ≡ e = cc in rw (sym same) k
+
+some_updates : (d v : ℕ) (x e : x.Updates) → Some x ≡ Some e → fits_updates x d v true ≡ true → fits_updates e d v true ≡ true
+some_updates d v x e q k = let same : x ≡ e = cc in rw (sym same) k
+
+changed_fits : (p : Place) (x : Expr) (d v : ℕ) → fits x d v true ≡ true → (e : Expr) → changed p x ≡ Some e → fits e d v true ≡ true
+changed_fits p u d v i e q =
+    let j = inv (primes Once u) (λ y. Some (binary p x.Unequal y u)) e q in
+    some d v (binary p x.Unequal j.0 u) e j.2 (rw (primes_fit Once v v true refl u d j.0 j.1, i) refl)
+
+-- names that are bound one after the other
+names_fit : (v : ℕ) (bs : List Bind) (d : ℕ) (σ : Scope) → FitsScope v d σ → FitsScope v (d + length bs) (with_names bs d σ)
+names_fit v [] d σ g = let z : d + 0 ≡ d = omega arith in rw z g
+names_fit v (b ∷ bs) d σ g =
+    let z : d + suc (length bs) ≡ d + 1 + length bs = omega arith in
+    rw z (names_fit v bs (d + 1) (with_name b.0 (bound_name d) σ) (under_name v d b.0 σ g))
+
+sets_fit : (v d : ℕ) (bs : List Bind) → FitBinds v d bs → (xs : List Expr) → each_of (λ (b : Bind). b.1 d) bs ≡ Some xs → (fits_all (exprs xs) d v true ≡ true) × (count (exprs xs) ≡ length bs)
+sets_fit v d [] r xs q = let same : [] ≡ xs = cc in rw (← same) (refl, refl)
+sets_fit v d (b ∷ bs) r xs q =
+    let i = inv (b.1 d) (λ x. each_of (λ (b : Bind). b.1 d) bs >>= λ ys. Some (x ∷ ys)) xs q in
+    let j = inv (each_of (λ (b : Bind). b.1 d) bs) (λ ys. Some (i.0 ∷ ys)) xs i.2 in
+    let same : i.0 ∷ j.0 ≡ xs = cc in
+    let rest = sets_fit v d bs r.1 j.0 j.1 in
+    rw (← same) (rw (r.0 d (omega arith) i.0 i.1) rest.0, omega (arith, rest.1))
+
+gather_fits : (f : Gather) (p : Place) (xs : Exprs) (y : Expr) (d v n : ℕ) → count xs ≡ n → fits_all xs d v true ≡ true → fits y (d + n) v true ≡ true → fits (gather f p xs y) d v true ≡ true
+gather_fits gathers.Image p xs y d v n c i j = rw (c, i, j) refl
+gather_fits gathers.Function p xs y d v n c i j = rw (c, i, j) refl
+
+gathered_fits : (f : Gather) (p : Place) (bs : List Bind) (body : Scope → Argument) (v : ℕ) → BodyFits v body → (σ : Scope) (d : ℕ) → FitsScope v d σ → FitBinds v d bs
+    → (e : Expr) → gathered f p bs body σ d ≡ Some e → fits e d v true ≡ true
+gathered_fits f p bs body v k σ d g r e q =
+    let i = inv (each_of (λ (b : Bind). b.1 d) bs) (λ xs. body (with_names bs d σ) (d + length bs) >>= λ y. Some (gather f p (exprs xs) y)) e q in
+    let j = inv (body (with_names bs d σ) (d + length bs)) (λ y. Some (gather f p (exprs i.0) y)) e i.2 in
+    let s = sets_fit v d bs r i.0 i.1 in
+    some d v (gather f p (exprs i.0) j.0) e j.2 (gather_fits f p (exprs i.0) j.0 d v (length bs) s.1 s.0 (k (with_names bs d σ) (d + length bs) (names_fit v bs d σ g) j.0 j.1))
+
+-- the arms that end a CASE
+abbrev FitLast : ℕ → ℕ → Option x.Arms → Type 0
+FitLast v d last = (xs : x.Arms) → last ≡ Some xs → fits_arms xs d v true ≡ true
+
+some_arms : (d v : ℕ) (x e : x.Arms) → Some x ≡ Some e → fits_arms x d v true ≡ true → fits_arms e d v true ≡ true
+some_arms d v x e q k = let same : x ≡ e = cc in rw (sym same) k
 
 bind_each_fits : (ws : List Written) (s : Argument) (rest : List Bind) (v d : ℕ) → FitsArgument v d s → FitBinds v d rest → FitBinds v d (bind_each ws s rest)
 bind_each_fits [] s rest v d i j = j
@@ -232,7 +286,7 @@ mutual
   expand_fits (Number p n) σ v d g e q = number_fits (place_of p) n d v (nat_le n largest) e q
   expand_fits (Text p cs) σ v d g e q = some d v (constant (place_of p) (value.text cs)) e q refl
   expand_fits (Word p c) σ v d g e q = some d v (constant_of (place_of p) c) e q (word_fits (place_of p) c d v)
-  expand_fits (At p) σ v d g e q = cc
+  expand_fits (At p) σ v d g e q = g at_name (place_of p) [] d (omega arith) tt e q
   expand_fits (Paren p a) σ v d g e q = expand_fits a σ v d g e q
   expand_fits (Prime p a) σ v d g e q = let i = inv (expand a σ d) (primes Once) e q in primes_fit Once v v true refl i.0 d e i.2 ∙ expand_fits a σ v d g i.0 i.1
   expand_fits (Listing p brackets.Set es) σ v d g e q =
@@ -242,9 +296,9 @@ mutual
       let i = inv (expand_each es σ d) (λ xs. Some (tuple (place_of p) xs)) e q in
       some d v (tuple (place_of p) i.0) e i.2 (each_fit es σ v d g i.0 i.1)
   expand_fits (Index p f es) σ v d g e q =
-      let i = inv (expand f σ d) (λ x. expand_each es σ d >>= λ ys. indexed (place_of p) x ys) e q in
-      let j = inv (expand_each es σ d) (λ ys. indexed (place_of p) i.0 ys) e i.2 in
-      indexed_fits (place_of p) i.0 j.0 d v (expand_fits f σ v d g i.0 i.1) (each_fit es σ v d g j.0 j.1) e j.2
+      let i = inv (expand f σ d) (λ y. expand_key es σ d >>= λ z. Some (binary (place_of p) x.Apply y z)) e q in
+      let j = inv (expand_key es σ d) (λ z. Some (binary (place_of p) x.Apply i.0 z)) e i.2 in
+      some d v (binary (place_of p) x.Apply i.0 j.0) e j.2 (rw (expand_fits f σ v d g i.0 i.1, key_fits es σ v d g j.0 j.1) refl)
   expand_fits (Field p a w) σ v d g e q =
       let i = inv (expand a σ d) (λ u. Some (unary (place_of p) (x.Field w.word) u)) e q in
       some d v (unary (place_of p) (x.Field w.word) i.0) e i.2 (expand_fits a σ v d g i.0 i.1)
@@ -263,23 +317,52 @@ mutual
       let j = inv (expand a (with_name w.word (bound_name d) σ) (d + 1)) (λ y. Some (choose (place_of p) i.0 y)) e i.2 in
       let inner = expand_fits a (with_name w.word (bound_name d) σ) v (d + 1) (under_name v d w.word σ g) j.0 j.1 in
       some d v (choose (place_of p) i.0 j.0) e j.2 (binding_fits binds.Choose (place_of p) i.0 j.0 d v (expand_fits s σ v d g i.0 i.1) inner)
+  expand_fits (Filter p w s a) σ v d g e q =
+      let i = inv (expand s σ d) (λ x. expand a (with_name w.word (bound_name d) σ) (d + 1) >>= λ y. Some (filtered (place_of p) x y)) e q in
+      let j = inv (expand a (with_name w.word (bound_name d) σ) (d + 1)) (λ y. Some (filtered (place_of p) i.0 y)) e i.2 in
+      let inner = expand_fits a (with_name w.word (bound_name d) σ) v (d + 1) (under_name v d w.word σ g) j.0 j.1 in
+      some d v (filtered (place_of p) i.0 j.0) e j.2 (binding_fits binds.Filter (place_of p) i.0 j.0 d v (expand_fits s σ v d g i.0 i.1) inner)
+  expand_fits (Image p a bs) σ v d g e q = gathered_fits gathers.Image (place_of p) (binds_of bs σ) (expand a) v (λ τ c. expand_fits a τ v c) σ d g (binds_fit bs σ v d g) e q
+  expand_fits (Function p bs a) σ v d g e q = gathered_fits gathers.Function (place_of p) (binds_of bs σ) (expand a) v (λ τ c. expand_fits a τ v c) σ d g (binds_fit bs σ v d g) e q
+  expand_fits (FunctionSet p a b) σ v d g e q =
+      let i = inv (expand a σ d) (λ x. expand b σ d >>= λ y. Some (functions (place_of p) x y)) e q in
+      let j = inv (expand b σ d) (λ y. Some (functions (place_of p) i.0 y)) e i.2 in
+      some d v (functions (place_of p) i.0 j.0) e j.2 (two_fits w.Functions (place_of p) i.0 j.0 d v (expand_fits a σ v d g i.0 i.1) (expand_fits b σ v d g j.0 j.1))
+  expand_fits (Record p fs) σ v d g e q =
+      let i = inv (expand_fields fs σ d) (λ xs. Some (record_of (place_of p) xs)) e q in
+      some d v (record_of (place_of p) i.0) e i.2 (fields_fit fs σ v d g i.0 i.1)
+  expand_fits (RecordSet p fs) σ v d g e q =
+      let i = inv (expand_fields fs σ d) (λ xs. Some (records (place_of p) xs)) e q in
+      some d v (records (place_of p) i.0) e i.2 (fields_fit fs σ v d g i.0 i.1)
+  expand_fits (Product p a es) σ v d g e q =
+      let i = inv (expand a σ d) (λ x. expand_each es σ d >>= λ xs. Some (product (place_of p) (more_exprs x xs))) e q in
+      let j = inv (expand_each es σ d) (λ xs. Some (product (place_of p) (more_exprs i.0 xs))) e i.2 in
+      some d v (product (place_of p) (more_exprs i.0 j.0)) e j.2 (rw (expand_fits a σ v d g i.0 i.1) (each_fit es σ v d g j.0 j.1))
+  expand_fits (Except p f us) σ v d g e q =
+      let i = inv (expand f σ d) (λ x. expand_updates us σ d >>= λ ys. Some (except (place_of p) x ys)) e q in
+      let j = inv (expand_updates us σ d) (λ ys. Some (except (place_of p) i.0 ys)) e i.2 in
+      some d v (except (place_of p) i.0 j.0) e j.2 (rw (expand_fits f σ v d g i.0 i.1) (updates_fit us σ v d g j.0 j.1))
+  expand_fits (Action p steps.Box a u) σ v d g e q =
+      let i = inv (expand a σ d) (λ x. (expand u σ d >>= unchanged (place_of (place u))) >>= λ y. Some (two w.Or (place_of p) x y)) e q in
+      let j = inv (expand u σ d >>= unchanged (place_of (place u))) (λ y. Some (two w.Or (place_of p) i.0 y)) e i.2 in
+      let m = inv (expand u σ d) (unchanged (place_of (place u))) j.0 j.1 in
+      let kept = unchanged_fits (place_of (place u)) m.0 d v j.0 m.2 ∙ expand_fits u σ v d g m.0 m.1 in
+      some d v (two w.Or (place_of p) i.0 j.0) e j.2 (two_fits w.Or (place_of p) i.0 j.0 d v (expand_fits a σ v d g i.0 i.1) kept)
+  expand_fits (Action p steps.Angle a u) σ v d g e q =
+      let i = inv (expand a σ d) (λ x. (expand u σ d >>= changed (place_of (place u))) >>= λ y. Some (two w.And (place_of p) x y)) e q in
+      let j = inv (expand u σ d >>= changed (place_of (place u))) (λ y. Some (two w.And (place_of p) i.0 y)) e i.2 in
+      let m = inv (expand u σ d) (changed (place_of (place u))) j.0 j.1 in
+      some d v (two w.And (place_of p) i.0 j.0) e j.2 (two_fits w.And (place_of p) i.0 j.0 d v (expand_fits a σ v d g i.0 i.1) (changed_fits (place_of (place u)) m.0 d v (expand_fits u σ v d g m.0 m.1) j.0 m.2))
+  expand_fits (Fair p f u a) σ v d g e q = cc
   expand_fits (If p a b c) σ v d g e q =
       let i = inv (expand a σ d) (λ x. expand b σ d >>= λ y. expand c σ d >>= λ z. Some (conditional (place_of p) x y z)) e q in
       let j = inv (expand b σ d) (λ y. expand c σ d >>= λ z. Some (conditional (place_of p) i.0 y z)) e i.2 in
       let k = inv (expand c σ d) (λ z. Some (conditional (place_of p) i.0 j.0 z)) e j.2 in
       some d v (conditional (place_of p) i.0 j.0 k.0) e k.2
       (three_fits h.If (place_of p) i.0 j.0 k.0 d v (expand_fits a σ v d g i.0 i.1) (expand_fits b σ v d g j.0 j.1) (expand_fits c σ v d g k.0 k.1))
-  expand_fits (Case p arms o) σ v d g e q = cc
-  expand_fits (t.Filter p w s a) σ v d g e q = cc
-  expand_fits (t.Image p a bs) σ v d g e q = cc
-  expand_fits (t.Function p bs a) σ v d g e q = cc
-  expand_fits (t.FunctionSet p s a) σ v d g e q = cc
-  expand_fits (t.Record p fs) σ v d g e q = cc
-  expand_fits (t.RecordSet p fs) σ v d g e q = cc
-  expand_fits (t.Except p a us) σ v d g e q = cc
-  expand_fits (t.Action p step a w) σ v d g e q = cc
-  expand_fits (t.Fair p f w a) σ v d g e q = cc
-  expand_fits (t.Product p a es) σ v d g e q = cc
+  expand_fits (Case p arms o) σ v d g e q =
+      let i = inv (expand_arms arms (expand_other o σ d) σ d) (λ xs. Some (cases (place_of p) xs)) e q in
+      some d v (cases (place_of p) i.0) e i.2 (arms_fit arms (expand_other o σ d) σ v d (other_fits o σ v d g) g i.0 i.1)
   expand_fits (Let p ds a) σ v d g e q = expand_fits a (definitions_in ds σ) v d (definitions_fit ds σ v d g) e q
   expand_fits (Junction p bullet.And es) σ v d g e q =
       let i = inv (expand_each es σ d) (λ xs. Some (conjunction (place_of p) xs)) e q in
@@ -294,6 +377,58 @@ mutual
       let i = inv (expand t σ d) (λ x. expand_each ts σ d >>= λ y. Some (more_exprs x y)) es q in
       let j = inv (expand_each ts σ d) (λ y. Some (more_exprs i.0 y)) es i.2 in
       some_each d v (more_exprs i.0 j.0) es j.2 (rw (expand_fits t σ v d g i.0 i.1) (each_fit ts σ v d g j.0 j.1))
+
+  key_fits : (ts : Trees) (σ : Scope) (v d : ℕ) → FitsScope v d σ → (e : Expr) → expand_key ts σ d ≡ Some e → fits e d v true ≡ true
+  key_fits none σ v d g e q = cc
+  key_fits (more a none) σ v d g e q = expand_fits a σ v d g e q
+  key_fits (more a (more b es)) σ v d g e q =
+      let p = place_of (place a) in
+      let i = inv (expand a σ d) (λ x. expand b σ d >>= λ y. expand_each es σ d >>= λ xs. Some (tuple p (more_exprs x (more_exprs y xs)))) e q in
+      let j = inv (expand b σ d) (λ y. expand_each es σ d >>= λ xs. Some (tuple p (more_exprs i.0 (more_exprs y xs)))) e i.2 in
+      let k = inv (expand_each es σ d) (λ xs. Some (tuple p (more_exprs i.0 (more_exprs j.0 xs)))) e j.2 in
+      some d v (tuple p (more_exprs i.0 (more_exprs j.0 k.0))) e k.2 (rw (expand_fits a σ v d g i.0 i.1, expand_fits b σ v d g j.0 j.1) (each_fit es σ v d g k.0 k.1))
+
+  fields_fit : (fs : t.Fields) (σ : Scope) (v d : ℕ) → FitsScope v d σ → (xs : x.Fields) → expand_fields fs σ d ≡ Some xs → fits_fields xs d v true ≡ true
+  fields_fit t.no_fields σ v d g xs q = some_fields d v x.no_fields xs q refl
+  fields_fit (t.field w a fs) σ v d g xs q =
+      let i = inv (expand a σ d) (λ y. expand_fields fs σ d >>= λ ys. Some (x.more_fields w.word y ys)) xs q in
+      let j = inv (expand_fields fs σ d) (λ ys. Some (x.more_fields w.word i.0 ys)) xs i.2 in
+      some_fields d v (x.more_fields w.word i.0 j.0) xs j.2 (rw (expand_fits a σ v d g i.0 i.1) (fields_fit fs σ v d g j.0 j.1))
+
+  step_fits : (s : t.Key) (σ : Scope) (v d : ℕ) → FitsScope v d σ → (e : Expr) → expand_step s σ d ≡ Some e → fits e d v true ≡ true
+  step_fits (t.AtIndex es) σ v d g e q = key_fits es σ v d g e q
+  step_fits (t.AtField w) σ v d g e q = some d v (constant (place_of w.place) (value.text w.word)) e q refl
+
+  path_fits : (ks : t.Keys) (σ : Scope) (v d : ℕ) → FitsScope v d σ → (es : Exprs) → expand_path ks σ d ≡ Some es → fits_all es d v true ≡ true
+  path_fits t.no_keys σ v d g es q = some_each d v no_exprs es q refl
+  path_fits (t.key s ks) σ v d g es q =
+      let i = inv (expand_step s σ d) (λ y. expand_path ks σ d >>= λ ys. Some (more_exprs y ys)) es q in
+      let j = inv (expand_path ks σ d) (λ ys. Some (more_exprs i.0 ys)) es i.2 in
+      some_each d v (more_exprs i.0 j.0) es j.2 (rw (step_fits s σ v d g i.0 i.1) (path_fits ks σ v d g j.0 j.1))
+
+  updates_fit : (us : t.Updates) (σ : Scope) (v d : ℕ) → FitsScope v d σ → (xs : x.Updates) → expand_updates us σ d ≡ Some xs → fits_updates xs d v true ≡ true
+  updates_fit t.no_updates σ v d g xs q = some_updates d v x.no_updates xs q refl
+  updates_fit (t.update ks a us) σ v d g xs q =
+      let τ = with_name at_name (bound_name d) σ in
+      let i = inv (expand_path ks σ d) (λ ys. expand a τ (d + 1) >>= λ z. expand_updates us σ d >>= λ zs. Some (x.more_updates ys z zs)) xs q in
+      let j = inv (expand a τ (d + 1)) (λ z. expand_updates us σ d >>= λ zs. Some (x.more_updates i.0 z zs)) xs i.2 in
+      let k = inv (expand_updates us σ d) (λ zs. Some (x.more_updates i.0 j.0 zs)) xs j.2 in
+      some_updates d v (x.more_updates i.0 j.0 k.0) xs k.2
+      (rw (path_fits ks σ v d g i.0 i.1, expand_fits a τ v (d + 1) (under_name v d at_name σ g) j.0 j.1) (updates_fit us σ v d g k.0 k.1))
+
+  arms_fit : (arms : t.Arms) (last : Option x.Arms) (σ : Scope) (v d : ℕ) → FitLast v d last → FitsScope v d σ → (xs : x.Arms) → expand_arms arms last σ d ≡ Some xs → fits_arms xs d v true ≡ true
+  arms_fit t.no_arms last σ v d l g xs q = l xs q
+  arms_fit (t.arm a b arms) last σ v d l g xs q =
+      let i = inv (expand a σ d) (λ y. expand b σ d >>= λ z. expand_arms arms last σ d >>= λ zs. Some (x.more_arms y z zs)) xs q in
+      let j = inv (expand b σ d) (λ z. expand_arms arms last σ d >>= λ zs. Some (x.more_arms i.0 z zs)) xs i.2 in
+      let k = inv (expand_arms arms last σ d) (λ zs. Some (x.more_arms i.0 j.0 zs)) xs j.2 in
+      some_arms d v (x.more_arms i.0 j.0 k.0) xs k.2 (rw (expand_fits a σ v d g i.0 i.1, expand_fits b σ v d g j.0 j.1) (arms_fit arms last σ v d l g k.0 k.1))
+
+  other_fits : (o : t.Other) (σ : Scope) (v d : ℕ) → FitsScope v d σ → FitLast v d (expand_other o σ d)
+  other_fits t.no_other σ v d g xs q = some_arms d v x.no_arms xs q refl
+  other_fits (t.other a) σ v d g xs q =
+      let i = inv (expand a σ d) (λ y. Some (x.other y)) xs q in
+      some_arms d v (x.other i.0) xs i.2 (expand_fits a σ v d g i.0 i.1)
 
   pub arguments_fit : (ts : Trees) (σ : Scope) (v d : ℕ) → FitsScope v d σ → FitArguments v d (arguments ts σ)
   arguments_fit none σ v d g = tt
@@ -310,4 +445,7 @@ mutual
   pub definition_fits : (def : Definition) (σ : Scope) (v d : ℕ) → FitsScope v d σ → FitsScope v d (definition_in def σ)
   definition_fits (DefinesOperator w ws a) σ v d g =
       name_fits v d w.word (operator ws (expand a) σ) σ (operator_fits v d ws (expand a) σ g (λ τ c. expand_fits a τ v c)) g
-  definition_fits (DefinesFunction w bs a) σ v d g = name_fits v d w.word unknown σ (unknown_fits v d) g
+  definition_fits (DefinesFunction w bs a) σ v d g =
+      let f = gathered gathers.Function (place_of w.place) (binds_of bs σ) (expand a) σ in
+      let fit : FitsArgument v d f = λ c l. gathered_fits gathers.Function (place_of w.place) (binds_of bs σ) (expand a) v (λ τ b. expand_fits a τ v b) σ c (later v d c σ l g) (later_binds v d c (binds_of bs σ) l (binds_fit bs σ v d g)) in
+      name_fits v d w.word (parameter f) σ (alone_fits v d (λ p c. f c) (λ p c. fit c)) g

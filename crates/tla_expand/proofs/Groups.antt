@@ -1,15 +1,19 @@
 -- The names of binder lists, one after the other.
-use Rattle.std.proofs.Common.{◌≡◌, ◌<◌, ℕ, suc, ◌+◌, List, [], ◌∷◌, ◌++◌, map, length, get_or, drop, refl, ap, sym, ◌∙◌, arith, add-one, drop-cons, append_assoc, append-nil, Bor}
-use Rattle.std.proofs.lemmas.List.{map-append}
+use Rattle.std.proofs.Common.{◌≡◌, ◌<◌, ℕ, suc, ◌+◌, List, [], ◌∷◌, ◌++◌, map, length, get_or, drop, refl, ap, sym, ◌∙◌, arith, add-one, drop-cons, append_assoc}
+use Rattle.std.proofs.lemmas.List.{map-append, length-map}
 use Rattle.tla_parse.specs.declared.word.Written.{Written}
-use Rattle.tla_parse.specs.declared.tree.Expr as syntax
 use Rattle.tla_parse.specs.declared.tree.Binder.{Binder}
 use Rattle.tla_parse.specs.Tree.{binders}
 use Rattle.tla_parse.specs.View.{view, group_view}
 use Rattle.tla_expand.specs.declared.binders.Bind.{Bind}
-use Rattle.tla_expand.specs.Expand as x
-use Rattle.tla_expand.specs.Expand.{Scope, Argument, binds_of, bind_each, expand}
+use Rattle.tla_expand.specs.Bound as x
+use Rattle.tla_expand.specs.Meanings.{Scope, Argument}
+use Rattle.tla_expand.specs.Bound.{bind_each}
+use Rattle.tla_expand.specs.Expand.{binds_of, expand}
 use Rattle.tla_expand.specs.Binders.{binds_in}
+use Rattle.tla_expand.specs.Places.{Name}
+use Rattle.tla_expand.specs.Meanings.{with_name, bound_name}
+use Rattle.tla_expand.specs.Bound.{with_names}
 
 pub bind_each_more : (ws : List Written) (s : Argument) (rest : List x.Bind) → bind_each ws s rest ≡ bind_each ws s [] ++ rest
 bind_each_more [] s rest = refl
@@ -34,3 +38,15 @@ one_group old new gs i g ns σ whole h f m n e =
     let rest = binds_of (binders (map group_view (drop (suc i) gs))) σ in
     let e2 : old ++ bind_each g.names.items (expand (view g.set) σ) rest ≡ whole = (rw p at e) in
     rw (n, m, q) (append_assoc old (bind_each g.names.items (expand (view g.set) σ) []) rest ∙ ap (λ (y : List x.Bind). old ++ y) (sym (bind_each_more g.names.items (expand (view g.set) σ) rest)) ∙ e2)
+
+-- the next of names that are bound one after the other
+pub name_more : (bs : List Bind) (i d : ℕ) (b : Bind) (x : Name) (σ old new : Scope) → i < length bs → b ≡ get_or bs i b → x ≡ b.name.now.word → new ≡ with_name x (bound_name (d + i)) old
+    → with_names (binds_in (drop i bs) σ) (d + i) old ≡ with_names (binds_in (drop (i + 1) bs) σ) (d + (i + 1)) new
+name_more bs i d b x σ old new h g n e =
+    let p : drop i bs ≡ b ∷ drop (suc i) bs = drop-cons bs i b h ∙ ap (λ (y : Bind). y ∷ drop (suc i) bs) (sym g) in
+    let q : i + 1 ≡ suc i = add-one i in
+    let r : d + i + 1 ≡ d + suc i = omega arith in
+    rw (p, q, e, n, ← r) refl
+
+pub binds_length : (bs : List Bind) (σ : Scope) → length (binds_in bs σ) ≡ length bs
+binds_length bs σ = length-map bs (λ (y : Bind). (y.name.now.word, expand (view y.set.now) σ))

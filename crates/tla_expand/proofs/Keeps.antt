@@ -3,18 +3,18 @@ use Rattle.std.proofs.Common.{◌≡◌, ℕ, refl, ◌∙◌, Option, Some, Non
 use Rattle.tla_eval.specs.declared.fault.Place.{Place}
 use Rattle.tla_eval.specs.Expr.{Expr, Exprs, Fields, Arms, Updates, constant, bound, now, next, unary, binary, equal, sub_seq, enumerated, tuple, record_of, conjunction, disjunction, implies, conditional, cases, assert, for_all, for_some, choose, image, function, except, member, not_member, subset, kind_set, booleans, sequences, power, functions, records, product, cup, cap, minus, filtered, no_exprs, more_exprs, no_fields, more_fields, no_arms, other, more_arms, no_updates, more_updates}
 use Rattle.tla_expand.specs.declared.primes.Primes.{Primes}
-use Rattle.tla_expand.specs.declared.primes.Primes.TheVariants.{Not, Once, Twice}
+use Rattle.tla_expand.specs.declared.primes.Primes.TheVariants.{Never, Once, Twice}
 use Rattle.tla_expand.specs.Maybe.{◌>>=◌}
 use Rattle.tla_expand.specs.Primes.{primes, primes_each, primes_fields, primes_arms, primes_updates, one_more, primed_now, primed_next}
 use Rattle.tla_expand.proofs.Primed.{one, two, three}
 
 then_once_now : (k : Primes) (p : Place) (i : ℕ) → (primed_now k p i >>= primes Once) ≡ primed_now (one_more k) p i
-then_once_now Not p i = refl
+then_once_now Never p i = refl
 then_once_now Once p i = refl
 then_once_now Twice p i = refl
 
 then_once_next : (k : Primes) (p : Place) (i : ℕ) → (primed_next k p i >>= primes Once) ≡ primed_next (one_more k) p i
-then_once_next Not p i = refl
+then_once_next Never p i = refl
 then_once_next Once p i = refl
 then_once_next Twice p i = refl
 

@@ -1,16 +1,16 @@
 -- UNCHANGED of what is no tuple, and UNCHANGED under primes.
-use Rattle.std.proofs.Common.{◌≡◌, ℕ, Bool, true, false, refl, ap, sym, ◌∙◌, Option, Some, None}
+use Rattle.std.proofs.Common.{◌≡◌, false, refl, ap, sym, ◌∙◌, Option, Some, None}
 use Rattle.tla_eval.specs.declared.fault.Place.{Place}
-use Rattle.tla_eval.specs.Expr.{Expr, Exprs, Fields, Arms, Updates, constant, bound, now, next, unary, binary, equal, sub_seq, enumerated, tuple, record_of, conjunction, disjunction, implies, conditional, cases, assert, for_all, for_some, choose, image, function, except, member, not_member, subset, kind_set, booleans, sequences, power, functions, records, product, cup, cap, minus, filtered, no_exprs, more_exprs, no_fields, more_fields, no_arms, other, more_arms, no_updates, more_updates}
+use Rattle.tla_eval.specs.Expr.{Unequal, Expr, Exprs, constant, bound, now, next, unary, binary, equal, sub_seq, enumerated, tuple, record_of, conjunction, disjunction, implies, conditional, cases, assert, for_all, for_some, choose, image, function, except, member, not_member, subset, kind_set, booleans, sequences, power, functions, records, product, cup, cap, minus, filtered, no_exprs, more_exprs}
 use Rattle.tla_expand.specs.declared.primes.Primes.{Primes}
-use Rattle.tla_expand.specs.declared.primes.Primes.TheVariants.{Not, Once, Twice}
+use Rattle.tla_expand.specs.declared.primes.Primes.TheVariants.{Never, Once, Twice}
 use Rattle.tla_expand.specs.Maybe.{◌>>=◌}
-use Rattle.tla_expand.specs.Primes.{primes, primes_each, primes_fields, primes_arms, primes_updates, one_more, primed_now, primed_next}
-use Rattle.tla_value.specs.Tree.{truth}
+use Rattle.tla_expand.specs.Primes.{primes, primes_each, primes_fields, primes_arms, primes_updates, one_more}
 use Rattle.tla_expand.specs.Primes.{settled_primes}
 use Rattle.tla_expand.specs.Nodes.{kept}
-use Rattle.tla_expand.specs.Unchanged.{unchanged, unchanged_each}
-use Rattle.tla_expand.specs.Gives.{shown, both, is_tuple, Plain}
+use Rattle.tla_expand.specs.Unchanged.{unchanged, unchanged_each, changed}
+use Rattle.tla_expand.specs.Gives.{both, is_tuple, Plain}
+use Rattle.tla_expand.specs.Primes.{with_primes}
 use Rattle.tla_expand.proofs.Primed.{once, one, two, unprimed}
 use Rattle.tla_expand.proofs.Keeps.{inv, then_once, stays}
 
@@ -53,7 +53,7 @@ unchanged_plain p (filtered q a b) h = refl
 unchanged_plain p (now q i) h = refl
 unchanged_plain p (next q i) h = refl
 
-pub shown_not : (o : Option Expr) → shown Not o ≡ o
+pub shown_not : (o : Option Expr) → with_primes Never o ≡ o
 shown_not None = refl
 shown_not (Some e) = unprimed e
 
@@ -65,14 +65,14 @@ plain_parts k p (Some e) h = unchanged_plain p e (h e refl) ∙ of_some (primes 
     of_some None = refl
     of_some (Some x) = refl
 
-then_more : (k : Primes) (o : Option Expr) → (shown k o >>= primes Once) ≡ shown (one_more k) o
+then_more : (k : Primes) (o : Option Expr) → (with_primes k o >>= primes Once) ≡ with_primes (one_more k) o
 then_more k None = refl
 then_more k (Some e) = then_once k e
 
 -- UNCHANGED of what is no tuple is an equation
-pub kept_equal : (k : Primes) (o : Option Expr) (p : Place) → Plain (shown k o)
-    → (shown k o >>= unchanged p) ≡ (both (shown (one_more k) o) (shown k o) >>= λ (xy : Expr × Expr). Some (equal p xy.0 xy.1))
-kept_equal k o p h = plain_parts k p (shown k o) h ∙ rw (then_more k o) refl
+pub kept_equal : (k : Primes) (o : Option Expr) (p : Place) → Plain (with_primes k o)
+    → (with_primes k o >>= unchanged p) ≡ (both (with_primes (one_more k) o) (with_primes k o) >>= λ (xy : Expr × Expr). Some (equal p xy.0 xy.1))
+kept_equal k o p h = plain_parts k p (with_primes k o) h ∙ rw (then_more k o) refl
 
 none_after : (k : Primes) (p : Place) (e : Expr) (o : Option Expr) → (o >>= primes k) ≡ None → ((o >>= λ x. Some (equal p x e)) >>= primes k) ≡ None
 none_after k p e None h = refl
@@ -151,15 +151,30 @@ mutual
       ∙ rw (unchanged_twice k p e t, unchanged_twice_each k p es t) refl
       ∙ sym (two (λ x y. more_exprs x y) (unchanged p) (unchanged_each p) (unchanged_each p) (λ x y. refl) (primes Twice e) (primes_each Twice es))
 
-kept_primed : (k : Primes) (p : Place) (o : Option Expr) → one_more k ≡ Twice → shown k (o >>= unchanged p) ≡ (shown Twice o >>= unchanged p)
+kept_primed : (k : Primes) (p : Place) (o : Option Expr) → one_more k ≡ Twice → with_primes k (o >>= unchanged p) ≡ (with_primes Twice o >>= unchanged p)
 kept_primed k p None t = refl
 kept_primed k p (Some e) t = unchanged_twice k p e t
 
 -- UNCHANGED with primes on it
-pub kept_settled : (k : Primes) (p : Place) (o : Option Expr) → shown k (o >>= unchanged p) ≡ (shown (settled_primes k) o >>= unchanged p)
-kept_settled Not p o = shown_not (o >>= unchanged p) ∙ ap (λ (q : Option Expr). q >>= unchanged p) (sym (shown_not o))
+pub kept_settled : (k : Primes) (p : Place) (o : Option Expr) → with_primes k (o >>= unchanged p) ≡ (with_primes (settled_primes k) o >>= unchanged p)
+kept_settled Never p o = shown_not (o >>= unchanged p) ∙ ap (λ (q : Option Expr). q >>= unchanged p) (sym (shown_not o))
 kept_settled Once p o = kept_primed Once p o refl
 kept_settled Twice p o = kept_primed Twice p o refl
+
+-- v' # v with primes on it
+changed_of : (k : Primes) (p : Place) (y : Expr) (o : Option Expr) → (o >>= primes k) ≡ primes (one_more k) y
+    → ((o >>= λ x. Some (binary p Unequal x y)) >>= primes k) ≡ (both (primes (one_more k) y) (primes k y) >>= λ (xy : Expr × Expr). Some (binary p Unequal xy.0 xy.1))
+changed_of k p y None h = rw (← h) refl
+changed_of k p y (Some x) h = rw (← h) (of_pair (primes k x) (primes k y))
+  where
+    of_pair : (a b : Option Expr) → (a >>= λ u. b >>= λ v. Some (binary p Unequal u v)) ≡ (both a b >>= λ (xy : Expr × Expr). Some (binary p Unequal xy.0 xy.1))
+    of_pair None b = refl
+    of_pair (Some u) None = refl
+    of_pair (Some u) (Some v) = refl
+
+pub changed_shown : (k : Primes) (p : Place) (o : Option Expr) → with_primes k (o >>= changed p) ≡ (both (with_primes (one_more k) o) (with_primes k o) >>= λ (xy : Expr × Expr). Some (binary p Unequal xy.0 xy.1))
+changed_shown k p None = refl
+changed_shown k p (Some y) = changed_of k p y (primes Once y) (once k y)
 
 pub some_plain : (a x : Expr) → is_tuple a ≡ false → Some a ≡ Some x → is_tuple x ≡ false
 some_plain a x t h = let w : a ≡ x = cc in rw (← w) t
@@ -167,10 +182,10 @@ some_plain a x t h = let w : a ≡ x = cc in rw (← w) t
 -- primes make no tuple of what is none
 pub primes_plain : (k : Primes) (e x : Expr) → is_tuple e ≡ false → primes k e ≡ Some x → is_tuple x ≡ false
 primes_plain k (tuple p es) x t h = cc
-primes_plain Not (now p i) x t h = some_plain (now p i) x t h
+primes_plain Never (now p i) x t h = some_plain (now p i) x t h
 primes_plain Once (now p i) x t h = some_plain (next p i) x refl h
 primes_plain Twice (now p i) x t h = cc
-primes_plain Not (next p i) x t h = some_plain (next p i) x t h
+primes_plain Never (next p i) x t h = some_plain (next p i) x t h
 primes_plain Once (next p i) x t h = cc
 primes_plain Twice (next p i) x t h = cc
 primes_plain k (constant p v) x t h = some_plain (constant p v) x t h

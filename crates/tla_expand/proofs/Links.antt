@@ -1,26 +1,36 @@
 -- Scopes stay as entries are added.
-use Rattle.std.proofs.Common.{◌≡◌, ℕ, suc, zero, ◌==◌, true, false, ◌+◌, ◌≤◌, ◌<◌, List, [], ◌∷◌, ◌++◌, length, get_or, take, refl, ap, sym, ◌∙◌, arith, Some, None, length-append, append_assoc, add-one}
+use Rattle.std.proofs.Common.{◌≡◌, ℕ, suc, zero, true, false, ◌+◌, ◌≤◌, ◌<◌, List, [], ◌∷◌, ◌++◌, length, get_or, take, map, refl, ap, sym, ◌∙◌, arith, length-append}
 use Rattle.std.proofs.Math.ListN.{get_or-append}
 use Rattle.std.proofs.Math.Seq.{get_or-append_seam}
 use Rattle.std.specs.Str.{bytes_eq}
 use Rattle.tla_expand.specs.Places.{Name}
 use Rattle.tla_expand.specs.declared.arena.Entry.{Entry}
 use Rattle.tla_expand.specs.declared.arena.What.{What}
-use Rattle.tla_expand.specs.declared.arena.What.TheVariants.{Bound, Variable, Value, Argument, Definition, Unknown}
-use Rattle.tla_expand.specs.Expand.{Scope, standard, with_name, unknown, bound_name, variable, value_name, parameter, operator, expand}
-use Rattle.tla_parse.specs.View.{view}
+use Rattle.tla_expand.specs.declared.arena.What.TheVariants.{Bound, Variable, Value, Argument, Definition, Function, Module, Unknown}
+use Rattle.tla_expand.specs.Meanings.{Scope, standard, with_name, unknown, bound_name, variable, value_name, parameter, operator, builtin_meaning}
+use Rattle.tla_expand.specs.declared.nodes.Gather.TheVariants as gathers
+use Rattle.tla_expand.specs.Bound.{gathered}
+use Rattle.tla_expand.specs.Expand.{expand, binds_of}
+use Rattle.tla_parse.specs.Tree.{binders}
+use Rattle.tla_parse.specs.View.{view, group_view}
 use Rattle.tla_expand.specs.Scopes.{meaning_of, at_of, entry_scope, grow, scope_at, IsBelow, LinkedFrom, AreLinked, Extends}
 
 pub agree : (at at2 : ℕ → Scope) (n : ℕ) (w : What) (rest : ℕ) (x : Name) → ((r : ℕ) → r ≤ n → at r ≡ at2 r) → IsBelow n w rest
-    → with_name x (meaning_of at w rest) (at rest) ≡ with_name x (meaning_of at2 w rest) (at2 rest)
+    → with_name x (meaning_of at w) (at rest) ≡ with_name x (meaning_of at2 w) (at2 rest)
 agree at at2 n (Bound i) rest x h b = ap (λ (σ : Scope). with_name x (bound_name i) σ) (h rest b)
 agree at at2 n (Variable i) rest x h b = ap (λ (σ : Scope). with_name x (variable i) σ) (h rest b)
 agree at at2 n (Value v) rest x h b = ap (λ (σ : Scope). with_name x (value_name v.now) σ) (h rest b)
+agree at at2 n (Function p bs body home) rest x h b =
+    ap (λ (σ : Scope). with_name x (parameter (gathered gathers.Function p (binds_of (binders (map group_view bs.now)) σ) (expand (view body.now)) σ)) (at rest)) (h home b.0)
+    ∙ ap (λ (σ : Scope). with_name x (parameter (gathered gathers.Function p (binds_of (binders (map group_view bs.now)) (at2 home)) (expand (view body.now)) (at2 home))) σ) (h rest b.1)
 agree at at2 n Unknown rest x h b = ap (λ (σ : Scope). with_name x unknown σ) (h rest b)
 agree at at2 n (Argument t s) rest x h b =
     ap (λ (σ : Scope). with_name x (parameter (expand (view t.now) σ)) (at rest)) (h s b.0)
     ∙ ap (λ (σ : Scope). with_name x (parameter (expand (view t.now) (at2 s))) σ) (h rest b.1)
-agree at at2 n (Definition xs body) rest x h b = ap (λ (σ : Scope). with_name x (operator xs.now (expand (view body.now)) σ) σ) (h rest b)
+agree at at2 n (Definition xs body home) rest x h b =
+    ap (λ (σ : Scope). with_name x (operator xs.now (expand (view body.now)) σ) (at rest)) (h home b.0)
+    ∙ ap (λ (σ : Scope). with_name x (operator xs.now (expand (view body.now)) (at2 home)) σ) (h rest b.1)
+agree at at2 n (Module m) rest x h b = ap (λ (σ : Scope). with_name x (builtin_meaning m) σ) (h rest b)
 
 pub grow_at : (es : List Entry) (σs : List Scope) (i : ℕ) → i < length σs → at_of (grow σs es) i ≡ at_of σs i
 grow_at [] σs i h = refl
@@ -84,7 +94,7 @@ linked_get (f ∷ es) n zero e l b g = let p : n + 0 ≡ n = omega arith in rw (
 linked_get (f ∷ es) n (suc k) e l b g = let p : n + suc k ≡ n + 1 + k = omega arith in rw p (linked_get es (n + 1) k e l.1 (omega arith) g)
 
 pub find_hit : (es : List Entry) (at k : ℕ) (name : Name) (e : Entry) → AreLinked es → at ≡ k + 1 → k < length es → e ≡ get_or es k e → bytes_eq e.name.now name ≡ true
-    → scope_at es at name ≡ meaning_of (scope_at es) e.what e.rest
+    → scope_at es at name ≡ meaning_of (scope_at es) e.what
 find_hit es at k name e l p b g q = rw p (ap (λ (σ : Scope). σ name) (scope_entry es k e l b g) ∙ rw q refl)
 
 pub find_miss : (es : List Entry) (at k : ℕ) (name : Name) (e : Entry) → AreLinked es → at ≡ k + 1 → k < length es → e ≡ get_or es k e → bytes_eq e.name.now name ≡ false
@@ -99,17 +109,32 @@ pub below_rest : (n : ℕ) (w : What) (rest : ℕ) → IsBelow n w rest → rest
 below_rest n (Bound i) rest b = b
 below_rest n (Variable i) rest b = b
 below_rest n (Value v) rest b = b
+below_rest n (Function p bs body home) rest b = b.1
 below_rest n Unknown rest b = b
 below_rest n (Argument t s) rest b = b.1
-below_rest n (Definition xs body) rest b = b
+below_rest n (Definition xs body home) rest b = b.1
+below_rest n (Module m) rest b = b
+
+-- before another scope
+pub below_other : (n : ℕ) (w : What) (rest other : ℕ) → other ≤ n → IsBelow n w rest → IsBelow n w other
+below_other n (Bound i) rest other h b = h
+below_other n (Variable i) rest other h b = h
+below_other n (Value v) rest other h b = h
+below_other n Unknown rest other h b = h
+below_other n (Argument t s) rest other h b = (b.0, h)
+below_other n (Definition xs body home) rest other h b = (b.0, h)
+below_other n (Function p bs body home) rest other h b = (b.0, h)
+below_other n (Module m) rest other h b = h
 
 pub below_more : (n m : ℕ) (w : What) (rest : ℕ) → n ≤ m → IsBelow n w rest → IsBelow m w rest
 below_more n m (Bound i) rest h b = omega arith
 below_more n m (Variable i) rest h b = omega arith
 below_more n m (Value v) rest h b = omega arith
+below_more n m (Function p bs body home) rest h b = (omega (arith, b.0), omega (arith, b.1))
 below_more n m Unknown rest h b = omega arith
 below_more n m (Argument t s) rest h b = (omega (arith, b.0), omega (arith, b.1))
-below_more n m (Definition xs body) rest h b = omega arith
+below_more n m (Definition xs body home) rest h b = (omega (arith, b.0), omega (arith, b.1))
+below_more n m (Module k) rest h b = omega arith
 
 pub below_at : (es : List Entry) (k : ℕ) (e : Entry) → AreLinked es → k < length es → e ≡ get_or es k e → IsBelow k e.what e.rest
 below_at es k e l b g = let p : 0 + k ≡ k = omega arith in rw p at (linked_get es 0 k e l.linked b g)

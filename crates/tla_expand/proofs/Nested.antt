@@ -1,5 +1,5 @@
 -- Nodes for names, one in another: what they give, from what the first set and the rest give.
-use Rattle.std.proofs.Common.{◌≡◌, ◌≤◌, ℕ, ◌+◌, List, [], ◌∷◌, refl, ap, sym, ◌∙◌, arith, Option, Some, None}
+use Rattle.std.proofs.Common.{◌≡◌, ℕ, ◌+◌, List, ◌∷◌, sym, Option, Some}
 use Rattle.tla_eval.specs.declared.fault.Place.{Place}
 use Rattle.tla_eval.specs.Expr.{Expr}
 use Rattle.tla_model.specs.Size.{nodes, depth}
@@ -8,11 +8,12 @@ use Rattle.tla_expand.specs.declared.primes.Primes.{Primes}
 use Rattle.tla_expand.specs.declared.nodes.Binding.{Binding}
 use Rattle.tla_expand.specs.Maybe.{◌>>=◌}
 use Rattle.tla_expand.specs.Nodes.{binding}
-use Rattle.tla_expand.specs.Expand.{Scope, Argument, Bind, with_name, bound_name, nested, last_or}
-use Rattle.tla_expand.specs.Gives.{shown, both, sum_of, larger_of, FailsBy, Fails}
-use Rattle.tla_expand.proofs.Sizes.{first_fails, second_fails, node_fails, node_gives}
+use Rattle.tla_expand.specs.Meanings.{Scope, Argument, with_name, bound_name}
+use Rattle.tla_expand.specs.Bound.{Bind, nested, last_or}
+use Rattle.tla_expand.specs.Gives.{both, sum_of, larger_of, FailsBy, Fails}
+use Rattle.tla_expand.specs.Primes.{with_primes}
+use Rattle.tla_expand.proofs.Sizes.{Given, first_fails, second_fails, two_give, node_fails, node_gives}
 use Rattle.tla_expand.proofs.Made.{binding_larger, binding_shown}
-use Rattle.tla_expand.proofs.Arms.{Given}
 
 abbrev Pair : Type 0
 Pair = Expr × Expr
@@ -23,22 +24,22 @@ module _ (f : Binding) (p : Place) (bs : List Bind) (b : Bind) (rest : List Bind
   abbrev pub inner : Option Expr
   inner = last_or rest body (nested f p rest body) τ (d + 1)
 
-  whole : shown k (nested f p bs body σ d) ≡ (both (shown k (b.1 d)) (shown k inner) >>= λ (xy : Pair). Some (binding f p xy.0 xy.1))
+  whole : with_primes k (nested f p bs body σ d) ≡ (both (with_primes k (b.1 d)) (with_primes k inner) >>= λ (xy : Pair). Some (binding f p xy.0 xy.1))
   whole = rw (is, sym named) (binding_shown f k p (b.1 d) inner)
 
-  fails : (s : Failure) (room left : ℕ) → FailsBy (sum_of nodes nodes) (larger_of depth depth) room left s (both (shown k (b.1 d)) (shown k inner)) → Fails (room + 1) (left + 1) s (shown k (nested f p bs body σ d))
+  fails : (s : Failure) (room left : ℕ) → FailsBy (sum_of nodes nodes) (larger_of depth depth) room left s (both (with_primes k (b.1 d)) (with_primes k inner)) → Fails (room + 1) (left + 1) s (with_primes k (nested f p bs body σ d))
   fails s room left h =
-      rw whole (node_fails (sum_of nodes nodes) (larger_of depth depth) (λ (xy : Pair). binding f p xy.0 xy.1) s (both (shown k (b.1 d)) (shown k inner)) room left (binding_larger f p) h)
+      rw whole (node_fails (sum_of nodes nodes) (larger_of depth depth) (λ (xy : Pair). binding f p xy.0 xy.1) s (both (with_primes k (b.1 d)) (with_primes k inner)) room left (binding_larger f p) h)
 
-  pub set_fails : (s : Failure) (room left : ℕ) → Fails room left s (shown k (b.1 d)) → Fails (room + 1) (left + 1) s (shown k (nested f p bs body σ d))
-  set_fails s room left h = fails s room left (first_fails nodes depth nodes depth s (shown k (b.1 d)) (shown k inner) room left h)
+  pub set_fails : (s : Failure) (room left : ℕ) → Fails room left s (with_primes k (b.1 d)) → Fails (room + 1) (left + 1) s (with_primes k (nested f p bs body σ d))
+  set_fails s room left h = fails s room left (first_fails nodes depth nodes depth s (with_primes k (b.1 d)) (with_primes k inner) room left h)
 
-  pub inner_fails : (s : Failure) (room left less : ℕ) (x : Expr) → shown k (b.1 d) ≡ Some x → less + nodes x ≡ left → Fails room less s (shown k inner)
-      → Fails (room + 1) (left + 1) s (shown k (nested f p bs body σ d))
-  inner_fails s room left less x g n h = fails s room left (second_fails nodes depth nodes depth s (shown k (b.1 d)) (shown k inner) x room left less g n h)
+  pub inner_fails : (s : Failure) (room left less : ℕ) (x : Expr) → with_primes k (b.1 d) ≡ Some x → less + nodes x ≡ left → Fails room less s (with_primes k inner)
+      → Fails (room + 1) (left + 1) s (with_primes k (nested f p bs body σ d))
+  inner_fails s room left less x g n h = fails s room left (second_fails nodes depth nodes depth s (with_primes k (b.1 d)) (with_primes k inner) x room left less g n h)
 
-  pub nested_gives : (room left less last : ℕ) (x y c : Expr) → Given (shown k (b.1 d)) x less left room → Given (shown k inner) y last less room → c ≡ binding f p x y
-      → Given (shown k (nested f p bs body σ d)) c last (left + 1) (room + 1)
+  pub nested_gives : (room left less last : ℕ) (x y c : Expr) → Given (with_primes k (b.1 d)) x less left room → Given (with_primes k inner) y last less room → c ≡ binding f p x y
+      → Given (with_primes k (nested f p bs body σ d)) c last (left + 1) (room + 1)
   nested_gives room left less last x y c g h e =
-      rw whole (node_gives (sum_of nodes nodes) (larger_of depth depth) (λ (xy : Pair). binding f p xy.0 xy.1) (both (shown k (b.1 d)) (shown k inner)) (x, y) c room left last (binding_larger f p)
-      (rw (g.0, h.0) refl) (omega (arith, g.1, h.1)) (omega (arith, g.2, h.2)) e)
+      rw whole (node_gives (sum_of nodes nodes) (larger_of depth depth) (λ (xy : Pair). binding f p xy.0 xy.1) (both (with_primes k (b.1 d)) (with_primes k inner)) (x, y) c room left last (binding_larger f p)
+      (two_give nodes depth nodes depth (with_primes k (b.1 d)) (with_primes k inner) x y room left less last g h) e)

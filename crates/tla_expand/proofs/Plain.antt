@@ -1,18 +1,22 @@
 -- A form that is no tuple expands to none.
-use Rattle.std.proofs.Common.{◌≡◌, ◌≤◌, ◌∙◌, ℕ, ◌+◌, Bool, true, false, List, [], ◌∷◌, ◌++◌, length, take, map, refl, ap, sym, Bor, Option, Some, None}
+use Rattle.std.proofs.Common.{◌≡◌, ℕ, ◌+◌, Bool, true, false, List, [], ◌∷◌, length, map, refl, sym, Bor, Option, Some, None}
 use Rattle.std.specs.Prelude.{nat_le, if◌then◌else◌}
 use Rattle.tla_eval.specs.declared.fault.Place.{Place}
-use Rattle.tla_eval.specs.Expr.{Expr, Exprs, constant, bound, now, next, equal, tuple, no_exprs, more_exprs}
-use Rattle.tla_model.specs.Size.{nodes, depth, nodes_each, depth_each}
+use Rattle.tla_eval.specs.Expr.{Expr, Exprs, Fields, constant, equal, tuple, cases, product, except, no_exprs, more_exprs, no_arms, other}
+use Rattle.tla_model.specs.Size.{nodes, depth}
 use Rattle.tla_value.specs.Tree as value
 use Rattle.tla_parse.specs.declared.tree.Expr as syntax
 use Rattle.tla_parse.specs.declared.tree.Constant.{Constant}
 use Rattle.tla_parse.specs.declared.tree.Constant.TheVariants.{True, False, Boolean, String}
+use Rattle.tla_parse.specs.Tree as t
 use Rattle.tla_parse.specs.Tree.{trees, binders}
-use Rattle.tla_parse.specs.View.{view, group_view}
+use Rattle.tla_parse.specs.View.{view, group_view, choice_view, field_view, update_view}
 use Rattle.tla_expand.specs.declared.failure.Failure.{Failure}
 use Rattle.tla_expand.specs.declared.primes.Primes.{Primes}
-use Rattle.tla_expand.specs.declared.primes.Primes.TheVariants.{Not, Once, Twice}
+use Rattle.tla_expand.specs.declared.primes.Primes.TheVariants.{Never, Once, Twice}
+use Rattle.tla_expand.specs.declared.nodes.Headed.TheVariants as headed
+use Rattle.tla_expand.specs.declared.nodes.Binders.TheVariants as under
+use Rattle.tla_parse.specs.declared.tree.Step.TheVariants as steps
 use Rattle.tla_expand.specs.declared.nodes.Form.{Form}
 use Rattle.tla_expand.specs.declared.nodes.Form.TheVariants as form
 use Rattle.tla_expand.specs.declared.nodes.Leaf.{Leaf}
@@ -27,19 +31,26 @@ use Rattle.tla_expand.specs.declared.nodes.Many.{Many}
 use Rattle.tla_expand.specs.declared.nodes.Many.TheVariants as manies
 use Rattle.tla_expand.specs.declared.nodes.Binding.{Binding}
 use Rattle.tla_expand.specs.declared.nodes.Binding.TheVariants as bindings
-use Rattle.tla_expand.specs.Maybe.{◌>>=◌}
-use Rattle.tla_expand.specs.Primes.{primes, primed_now, primes_each, settled_primes, one_more}
-use Rattle.tla_expand.specs.Nodes.{leaf, constant_of, one, two, three, many, binding, kept}
-use Rattle.tla_expand.specs.Unchanged.{unchanged, unchanged_each}
-use Rattle.tla_expand.specs.Expand.{Scope, Argument, Bind, with_name, bound_name, expand, expand_each, nested, last_or, binds_of}
+use Rattle.tla_expand.specs.declared.nodes.Gather.{Gather}
+use Rattle.tla_expand.specs.declared.nodes.Gather.TheVariants as gathers
+use Rattle.tla_expand.specs.declared.nodes.Fielded.{Fielded}
+use Rattle.tla_expand.specs.declared.nodes.Fielded.TheVariants as fieldeds
+use Rattle.tla_expand.specs.Maybe.{◌>>=◌, each_of}
+use Rattle.tla_expand.specs.Primes.{primes, primed_now, settled_primes, one_more}
+use Rattle.tla_expand.specs.Lists.{exprs, arms_with, fields_of, updates_of}
+use Rattle.tla_expand.specs.Nodes.{leaf, constant_of, one, two, three, many, binding, gather, fielded, kept}
+use Rattle.tla_expand.specs.Unchanged.{unchanged, unchanged_each, changed}
+use Rattle.tla_expand.specs.Meanings.{Scope, Argument, with_name, bound_name}
+use Rattle.tla_expand.specs.Bound.{Bind, nested, last_or, with_names}
+use Rattle.tla_expand.specs.Expand.{expand, expand_each, expand_key, expand_arms, expand_fields, expand_updates, binds_of}
 use Rattle.tla_expand.specs.Forms.{form_in, tuple_of, tuple_parts}
-use Rattle.tla_expand.specs.Gives.{is_tuple, Plain, shown, both, each_of, shown_part, kept_part, sum_of, larger_of, FailsBy, Fails}
-use Rattle.tla_expand.proofs.Keeps.{inv}
+use Rattle.tla_expand.specs.Gives.{is_tuple, Plain, both, total, highest, part_in, key_in, arm_in, field_in, update_in, kept_part, sum_of, larger_of, Makes, FailsBy, Fails}
+use Rattle.tla_expand.specs.Primes.{with_primes}
 use Rattle.tla_expand.proofs.Kept.{some_plain, unchanged_plain, kept_settled, kept_equal}
-use Rattle.tla_expand.proofs.Made.{leaf_shown, one_shown, two_shown, three_shown, many_shown, binding_shown, kept_larger, two_larger, Triple}
-use Rattle.tla_expand.proofs.Lists.{shown_each, kept_tuple}
-use Rattle.tla_expand.proofs.Sizes.{node_fails, node_gives}
-use Rattle.tla_expand.proofs.Arms.{Given}
+use Rattle.tla_expand.proofs.Made.{leaf_shown, one_shown, two_shown, three_shown, many_shown, cases_shown, gather_shown, fielded_shown, product_shown, except_shown, binding_shown, kept_larger, two_larger, Triple}
+use Rattle.tla_expand.proofs.Lists.{each_in, arms_in, arms_or_in, kept_tuple}
+use Rattle.tla_expand.proofs.NamedParts.{fields_in, updates_in}
+use Rattle.tla_expand.proofs.Sizes.{Given, node_fails, node_gives}
 
 made_plain : {A : Type 0} (o : Option A) (f : A → Expr) → ((x : A) → is_tuple (f x) ≡ false) → Plain (o >>= λ x. Some (f x))
 made_plain None f h = λ e q. cc
@@ -64,12 +75,14 @@ leaf_plain (leaves.Value v) p = λ e q. some_plain _ e refl q
 leaf_plain (leaves.Kinds t) p = λ e q. some_plain _ e refl q
 
 now_plain : (k : Primes) (p : Place) (i : ℕ) → Plain (primed_now k p i)
-now_plain Not p i = λ e q. some_plain _ e refl q
+now_plain Never p i = λ e q. some_plain _ e refl q
 now_plain Once p i = λ e q. some_plain _ e refl q
 now_plain Twice p i = λ e q. cc
 
 one_plain : (f : One) (p : Place) (x : Expr) → is_tuple (one f p x) ≡ false
 one_plain (ones.Unary u) p x = refl
+one_plain ones.Power p x = refl
+one_plain ones.Sequences p x = refl
 one_plain (ones.Field w) p x = refl
 
 two_plain : (f : Two) (p : Place) (x y : Expr) → is_tuple (two f p x y) ≡ false
@@ -86,6 +99,7 @@ two_plain twos.Cup p x y = refl
 two_plain twos.Cap p x y = refl
 two_plain twos.Minus p x y = refl
 two_plain twos.Assert p x y = refl
+two_plain twos.Functions p x y = refl
 
 three_plain : (f : Three) (p : Place) (x y z : Expr) → is_tuple (three f p x y z) ≡ false
 three_plain threes.If p x y z = refl
@@ -96,11 +110,21 @@ many_plain manies.Set p ts xs h = refl
 many_plain manies.Tuple p ts xs h = cc
 many_plain manies.And p ts xs h = refl
 many_plain manies.Or p ts xs h = refl
+many_plain manies.Product p ts xs h = refl
 
 binding_plain : (f : Binding) (p : Place) (x y : Expr) → is_tuple (binding f p x y) ≡ false
 binding_plain bindings.ForAll p x y = refl
 binding_plain bindings.ForSome p x y = refl
 binding_plain bindings.Choose p x y = refl
+binding_plain bindings.Filter p x y = refl
+
+gather_plain : (f : Gather) (p : Place) (xs : Exprs) (y : Expr) → is_tuple (gather f p xs y) ≡ false
+gather_plain gathers.Image p xs y = refl
+gather_plain gathers.Function p xs y = refl
+
+fielded_plain : (f : Fielded) (p : Place) (fs : Fields) → is_tuple (fielded f p fs) ≡ false
+fielded_plain fieldeds.Record p fs = refl
+fielded_plain fieldeds.Records p fs = refl
 
 kept_plain : (p : Place) (xs : Exprs) → is_tuple (kept p xs) ≡ false
 kept_plain p no_exprs = refl
@@ -118,31 +142,59 @@ after_plain : (p : Place) (o : Option Expr) → Plain (o >>= unchanged p)
 after_plain p None = λ e q. cc
 after_plain p (Some x) = unchanged_none p x (is_tuple x) refl
 
-nested_plain : (f : Binding) (k : Primes) (p : Place) (bs : List Bind) (body : Scope → Argument) (σ : Scope) (d : ℕ) → Plain (shown k (nested f p bs body σ d))
+nested_plain : (f : Binding) (k : Primes) (p : Place) (bs : List Bind) (body : Scope → Argument) (σ : Scope) (d : ℕ) → Plain (with_primes k (nested f p bs body σ d))
 nested_plain f k p [] body σ d = λ e q. cc
 nested_plain f k p (b ∷ bs) body σ d =
     rw (binding_shown f k p (b.1 d) (last_or bs body (nested f p bs body) (with_name b.0 (bound_name d) σ) (d + 1)))
-    (made_plain (both (shown k (b.1 d)) (shown k (last_or bs body (nested f p bs body) (with_name b.0 (bound_name d) σ) (d + 1)))) (λ (xy : Expr × Expr). binding f p xy.0 xy.1) (λ xy. binding_plain f p xy.0 xy.1))
+    (made_plain (both (with_primes k (b.1 d)) (with_primes k (last_or bs body (nested f p bs body) (with_name b.0 (bound_name d) σ) (d + 1)))) (λ (xy : Expr × Expr). binding f p xy.0 xy.1) (λ xy. binding_plain f p xy.0 xy.1))
 
-form_plain : (fm : Form) (σ : Scope) (d : ℕ) (k : Primes) → tuple_parts fm ≡ None → Plain (shown k (form_in fm σ d))
+form_plain : (fm : Form) (σ : Scope) (d : ℕ) (k : Primes) → tuple_parts fm ≡ None → Plain (with_primes k (form_in fm σ d))
 form_plain (form.Leaf p l) σ d k h = rw (leaf_shown k l p) (leaf_plain l p)
 form_plain (form.Variable p i) σ d k h = now_plain k p i
-form_plain (form.One p f t) σ d k h = rw (one_shown f k p (expand (view t.now) σ d)) (made_plain (shown k (expand (view t.now) σ d)) (λ x. one f p x) (one_plain f p))
+form_plain (form.One p f t) σ d k h = rw (one_shown f k p (expand (view t.now) σ d)) (made_plain (with_primes k (expand (view t.now) σ d)) (λ x. one f p x) (one_plain f p))
 form_plain (form.Two p f a b) σ d k h =
     rw (two_shown f k p (expand (view a.now) σ d) (expand (view b.now) σ d))
-    (made_plain (both (shown k (expand (view a.now) σ d)) (shown k (expand (view b.now) σ d))) (λ (xy : Expr × Expr). two f p xy.0 xy.1) (λ xy. two_plain f p xy.0 xy.1))
+    (made_plain (both (with_primes k (expand (view a.now) σ d)) (with_primes k (expand (view b.now) σ d))) (λ (xy : Expr × Expr). two f p xy.0 xy.1) (λ xy. two_plain f p xy.0 xy.1))
 form_plain (form.Three p f a b c) σ d k h =
     rw (three_shown f k p (expand (view a.now) σ d) (expand (view b.now) σ d) (expand (view c.now) σ d))
-    (made_plain (both (both (shown k (expand (view a.now) σ d)) (shown k (expand (view b.now) σ d))) (shown k (expand (view c.now) σ d))) (λ (t : Triple). three f p t.0.0 t.0.1 t.1) (λ t. three_plain f p t.0.0 t.0.1 t.1))
+    (made_plain (both (both (with_primes k (expand (view a.now) σ d)) (with_primes k (expand (view b.now) σ d))) (with_primes k (expand (view c.now) σ d))) (λ (t : Triple). three f p t.0.0 t.0.1 t.1) (λ t. three_plain f p t.0.0 t.0.1 t.1))
 form_plain (form.Many p f ts) σ d k h =
-    rw (many_shown f k p (expand_each (trees (map view ts.now)) σ d)) (made_plain (expand_each (trees (map view ts.now)) σ d >>= primes_each k) (λ xs. many f p xs) (λ xs. many_plain f p ts xs h))
-form_plain (form.Unchanged p t) σ d k h = rw (kept_settled k p (expand (view t.now) σ d)) (after_plain p (shown (settled_primes k) (expand (view t.now) σ d)))
-form_plain (form.Binders p f bs t) σ d k h = nested_plain f k p (binds_of (binders (map group_view bs.now)) σ) (expand (view t.now)) σ d
+    rw (many_shown f k p (expand_each (trees (map view ts.now)) σ d) (each_of (part_in k σ d) ts.now) (each_in k ts.now σ d)) (made_plain (each_of (part_in k σ d) ts.now) (λ xs. many f p (exprs xs)) (λ xs. many_plain f p ts (exprs xs) h))
+form_plain (form.Headed p headed.Index f ts) σ d k h =
+    rw (two_shown twos.Apply k p (expand (view f.now) σ d) (expand_key (trees (map view ts.now)) σ d))
+    (made_plain (both (part_in k σ d f.now) (key_in k σ d ts.now)) (λ (xy : Expr × Expr). two twos.Apply p xy.0 xy.1) (λ xy. refl))
+form_plain (form.Cases p as' None) σ d k h =
+    rw (cases_shown k p (λ xs. arms_with xs no_arms) (expand_arms (t.arms (map choice_view as'.now)) (Some no_arms) σ d) (each_of (arm_in k σ d) as'.now) (arms_in k as'.now σ d))
+    (made_plain (each_of (arm_in k σ d) as'.now) (λ xs. cases p (arms_with xs no_arms)) (λ xs. refl))
+form_plain (form.Cases p as' (Some z)) σ d k h =
+    rw (cases_shown k p (λ xs. arms_with xs.0 (other xs.1)) (expand_arms (t.arms (map choice_view as'.now)) (expand (view z.now) σ d >>= λ x. Some (other x)) σ d) (both (each_of (arm_in k σ d) as'.now) (part_in k σ d z.now)) (arms_or_in k as'.now (view z.now) σ d))
+    (made_plain (both (each_of (arm_in k σ d) as'.now) (part_in k σ d z.now)) (λ xs. cases p (arms_with xs.0 (other xs.1))) (λ xs. refl))
+form_plain (form.Binders p (under.Gathered f) bs t) σ d k h =
+    let b = binds_of (binders (map group_view bs.now)) σ in
+    rw (gather_shown f k p (each_of (λ (n : Bind). n.1 d) b) (expand (view t.now) (with_names b d σ) (d + length b)) (each_of (λ (n : Bind). n.1 d) b >>= each_of (primes k)) refl)
+    (made_plain (both (each_of (λ (n : Bind). n.1 d) b >>= each_of (primes k)) (with_primes k (expand (view t.now) (with_names b d σ) (d + length b)))) (λ (xy : List Expr × Expr). gather f p (exprs xy.0) xy.1) (λ xy. gather_plain f p (exprs xy.0) xy.1))
+form_plain (form.Fields p f fs) σ d k h =
+    rw (fielded_shown f k p (expand_fields (t.fields (map field_view fs.now)) σ d) (each_of (field_in k σ d) fs.now) (fields_in k fs.now σ d))
+    (made_plain (each_of (field_in k σ d) fs.now) (λ xs. fielded f p (fields_of xs)) (λ xs. fielded_plain f p (fields_of xs)))
+form_plain (form.Headed p headed.Product z zs) σ d k h =
+    rw (product_shown k p (expand (view z.now) σ d) (expand_each (trees (map view zs.now)) σ d) (each_of (part_in k σ d) zs.now) (each_in k zs.now σ d))
+    (made_plain (both (part_in k σ d z.now) (each_of (part_in k σ d) zs.now)) (λ (xs : Expr × List Expr). product p (exprs (xs.0 ∷ xs.1))) (λ xs. refl))
+form_plain (form.Except p z us) σ d k h =
+    rw (except_shown k p (expand (view z.now) σ d) (expand_updates (t.updates (map update_view us.now)) σ d) (each_of (update_in k σ d) us.now) (updates_in k us.now σ d))
+    (made_plain (both (part_in k σ d z.now) (each_of (update_in k σ d) us.now)) (λ (xs : Expr × List (List Expr × Expr)). except p xs.0 (updates_of xs.1)) (λ xs. refl))
+form_plain (form.Action p steps.Box z q v) σ d k h =
+    rw (two_shown twos.Or k p (expand (view z.now) σ d) (expand (view v.now) σ d >>= unchanged q))
+    (made_plain (both (part_in k σ d z.now) (with_primes k (expand (view v.now) σ d >>= unchanged q))) (λ (xy : Expr × Expr). two twos.Or p xy.0 xy.1) (λ xy. refl))
+form_plain (form.Action p steps.Angle z q v) σ d k h =
+    rw (two_shown twos.And k p (expand (view z.now) σ d) (expand (view v.now) σ d >>= changed q))
+    (made_plain (both (part_in k σ d z.now) (with_primes k (expand (view v.now) σ d >>= changed q))) (λ (xy : Expr × Expr). two twos.And p xy.0 xy.1) (λ xy. refl))
+form_plain (form.Unchanged p t) σ d k h = rw (kept_settled k p (expand (view t.now) σ d)) (after_plain p (with_primes (settled_primes k) (expand (view t.now) σ d)))
+form_plain (form.Binders p (under.Nested f) bs t) σ d k h = nested_plain f k p (binds_of (binders (map group_view bs.now)) σ) (expand (view t.now)) σ d
 form_plain (form.Binds p f w s t) σ d k h =
     rw (binding_shown f k p (expand (view s.now) σ d) (expand (view t.now) (with_name w.now.word (bound_name d) σ) (d + 1)))
-    (made_plain (both (shown k (expand (view s.now) σ d)) (shown k (expand (view t.now) (with_name w.now.word (bound_name d) σ) (d + 1)))) (λ (xy : Expr × Expr). binding f p xy.0 xy.1) (λ xy. binding_plain f p xy.0 xy.1))
+    (made_plain (both (with_primes k (expand (view s.now) σ d)) (with_primes k (expand (view t.now) (with_name w.now.word (bound_name d) σ) (d + 1)))) (λ (xy : Expr × Expr). binding f p xy.0 xy.1) (λ xy. binding_plain f p xy.0 xy.1))
 
-pub plain_head : (o : Option Expr) (fm : Form) (σ : Scope) (d : ℕ) (k : Primes) → o ≡ shown k (form_in fm σ d) → tuple_parts fm ≡ None → Plain o
+pub plain_head : (o : Option Expr) (fm : Form) (σ : Scope) (d : ℕ) (k : Primes) → o ≡ with_primes k (form_in fm σ d) → tuple_parts fm ≡ None → Plain o
 plain_head o fm σ d k h t = rw h (form_plain fm σ d k t)
 
 -- a tuple
@@ -151,42 +203,48 @@ of_tuple manies.Tuple ts us h = (refl, (let w : ts ≡ us = cc in w))
 of_tuple manies.Set ts us h = cc
 of_tuple manies.And ts us h = cc
 of_tuple manies.Or ts us h = cc
+of_tuple manies.Product ts us h = cc
 
-many_kept : (o : Option Expr) (q : Place) (f : Many) (ts us : Bor (List syntax.Expr)) (σ : Scope) (d : ℕ) (k : Primes) (p : Place) → o ≡ shown k (form_in (form.Many q f ts) σ d) → tuple_of f ts ≡ Some us
-    → (o >>= unchanged p) ≡ (each_of (kept_part k p σ d) us.now >>= λ xs. Some (kept p xs))
+many_kept : (o : Option Expr) (q : Place) (f : Many) (ts us : Bor (List syntax.Expr)) (σ : Scope) (d : ℕ) (k : Primes) (p : Place) → o ≡ with_primes k (form_in (form.Many q f ts) σ d) → tuple_of f ts ≡ Some us
+    → (o >>= unchanged p) ≡ (each_of (kept_part k p σ d) us.now >>= λ xs. Some (kept p (exprs xs)))
 many_kept o q f ts us σ d k p h t =
     let g = of_tuple f ts us t in
-    rw (h, g.0, g.1, many_shown manies.Tuple k q (expand_each (trees (map view us.now)) σ d), shown_each k us.now σ d) (kept_tuple k p q us.now σ d)
+    rw (h, g.0, g.1, many_shown manies.Tuple k q (expand_each (trees (map view us.now)) σ d) (each_of (part_in k σ d) us.now) (each_in k us.now σ d)) (kept_tuple k p q us.now σ d)
 
-tuple_kept : (o : Option Expr) (fm : Form) (us : Bor (List syntax.Expr)) (σ : Scope) (d : ℕ) (k : Primes) (p : Place) → o ≡ shown k (form_in fm σ d) → tuple_parts fm ≡ Some us
-    → (o >>= unchanged p) ≡ (each_of (kept_part k p σ d) us.now >>= λ xs. Some (kept p xs))
+pub tuple_kept : (o : Option Expr) (fm : Form) (us : Bor (List syntax.Expr)) (σ : Scope) (d : ℕ) (k : Primes) (p : Place) → o ≡ with_primes k (form_in fm σ d) → tuple_parts fm ≡ Some us
+    → (o >>= unchanged p) ≡ (each_of (kept_part k p σ d) us.now >>= λ xs. Some (kept p (exprs xs)))
 tuple_kept o (form.Many q f ts) us σ d k p h t = many_kept o q f ts us σ d k p h t
 tuple_kept o (form.Leaf q l) us σ d k p h t = cc
 tuple_kept o (form.Variable q i) us σ d k p h t = cc
 tuple_kept o (form.One q f a) us σ d k p h t = cc
 tuple_kept o (form.Two q f a b) us σ d k p h t = cc
 tuple_kept o (form.Three q f a b c) us σ d k p h t = cc
+tuple_kept o (form.Headed q f a b) us σ d k p h t = cc
+tuple_kept o (form.Cases q a b) us σ d k p h t = cc
+tuple_kept o (form.Fields q f fs) us σ d k p h t = cc
+tuple_kept o (form.Except q a b) us σ d k p h t = cc
+tuple_kept o (form.Action q f a b c) us σ d k p h t = cc
 tuple_kept o (form.Unchanged q a) us σ d k p h t = cc
 tuple_kept o (form.Binders q f bs a) us σ d k p h t = cc
 tuple_kept o (form.Binds q f w a b) us σ d k p h t = cc
 
-pub tuple_fails : (o : Option Expr) (fm : Form) (us : Bor (List syntax.Expr)) (σ : Scope) (d : ℕ) (k : Primes) (p : Place) (s : Failure) (room left : ℕ) → o ≡ shown k (form_in fm σ d) → tuple_parts fm ≡ Some us
-    → FailsBy nodes_each depth_each room left s (each_of (kept_part k p σ d) us.now) → Fails (room + 1) (left + 1) s (o >>= unchanged p)
+pub tuple_fails : (o : Option Expr) (fm : Form) (us : Bor (List syntax.Expr)) (σ : Scope) (d : ℕ) (k : Primes) (p : Place) (s : Failure) (room left : ℕ) → o ≡ with_primes k (form_in fm σ d) → tuple_parts fm ≡ Some us
+    → FailsBy (total nodes) (highest depth) room left s (each_of (kept_part k p σ d) us.now) → Fails (room + 1) (left + 1) s (o >>= unchanged p)
 tuple_fails o fm us σ d k p s room left h t g =
-    rw (tuple_kept o fm us σ d k p h t) (node_fails nodes_each depth_each (λ xs. kept p xs) s (each_of (kept_part k p σ d) us.now) room left (kept_larger p) g)
+    rw (tuple_kept o fm us σ d k p h t) (node_fails (total nodes) (highest depth) (λ xs. kept p (exprs xs)) s (each_of (kept_part k p σ d) us.now) room left (kept_larger p) g)
 
-pub tuple_gives : (o : Option Expr) (fm : Form) (us : Bor (List syntax.Expr)) (σ : Scope) (d : ℕ) (k : Primes) (p : Place) (xs : Exprs) (c : Expr) (rest room left : ℕ) → o ≡ shown k (form_in fm σ d) → tuple_parts fm ≡ Some us
-    → each_of (kept_part k p σ d) us.now ≡ Some xs → rest + nodes_each xs ≡ left → depth_each xs ≤ room → c ≡ kept p xs → Given (o >>= unchanged p) c rest (left + 1) (room + 1)
-tuple_gives o fm us σ d k p xs c rest room left h t g n l e =
-    rw (tuple_kept o fm us σ d k p h t) (node_gives nodes_each depth_each (λ ys. kept p ys) (each_of (kept_part k p σ d) us.now) xs c room left rest (kept_larger p) g n l e)
+pub tuple_gives : (o : Option Expr) (fm : Form) (us : Bor (List syntax.Expr)) (σ : Scope) (d : ℕ) (k : Primes) (p : Place) (xs : List Expr) (c : Expr) (rest room left : ℕ) → o ≡ with_primes k (form_in fm σ d) → tuple_parts fm ≡ Some us
+    → Makes (total nodes) (highest depth) room left rest xs (each_of (kept_part k p σ d) us.now) → c ≡ kept p (exprs xs) → Given (o >>= unchanged p) c rest (left + 1) (room + 1)
+tuple_gives o fm us σ d k p xs c rest room left h t g e =
+    rw (tuple_kept o fm us σ d k p h t) (node_gives (total nodes) (highest depth) (λ ys. kept p (exprs ys)) (each_of (kept_part k p σ d) us.now) xs c room left rest (kept_larger p) g e)
 
 -- an equation
-pub equal_fails : (o : Option Expr) (k m : Primes) (p : Place) (s : Failure) (room left : ℕ) → Plain (shown k o) → m ≡ one_more k
-    → FailsBy (sum_of nodes nodes) (larger_of depth depth) room left s (both (shown m o) (shown k o)) → Fails (room + 1) (left + 1) s (shown k o >>= unchanged p)
+pub equal_fails : (o : Option Expr) (k m : Primes) (p : Place) (s : Failure) (room left : ℕ) → Plain (with_primes k o) → m ≡ one_more k
+    → FailsBy (sum_of nodes nodes) (larger_of depth depth) room left s (both (with_primes m o) (with_primes k o)) → Fails (room + 1) (left + 1) s (with_primes k o >>= unchanged p)
 equal_fails o k m p s room left h e g =
-    rw (kept_equal k o p h, sym e) (node_fails (sum_of nodes nodes) (larger_of depth depth) (λ (xy : Expr × Expr). equal p xy.0 xy.1) s (both (shown m o) (shown k o)) room left (two_larger twos.Equal p) g)
+    rw (kept_equal k o p h, sym e) (node_fails (sum_of nodes nodes) (larger_of depth depth) (λ (xy : Expr × Expr). equal p xy.0 xy.1) s (both (with_primes m o) (with_primes k o)) room left (two_larger twos.Equal p) g)
 
-pub equal_gives : (o : Option Expr) (k m : Primes) (p : Place) (x y c : Expr) (rest room left : ℕ) → Plain (shown k o) → m ≡ one_more k
-    → both (shown m o) (shown k o) ≡ Some (x, y) → rest + sum_of nodes nodes (x, y) ≡ left → larger_of depth depth (x, y) ≤ room → c ≡ equal p x y → Given (shown k o >>= unchanged p) c rest (left + 1) (room + 1)
-equal_gives o k m p x y c rest room left h e g n l q =
-    rw (kept_equal k o p h, sym e) (node_gives (sum_of nodes nodes) (larger_of depth depth) (λ (xy : Expr × Expr). equal p xy.0 xy.1) (both (shown m o) (shown k o)) (x, y) c room left rest (two_larger twos.Equal p) g n l q)
+pub equal_gives : (o : Option Expr) (k m : Primes) (p : Place) (x : Expr × Expr) (z : Expr) (rest room left : ℕ) → Plain (with_primes k o) → m ≡ one_more k
+    → Makes (sum_of nodes nodes) (larger_of depth depth) room left rest x (both (with_primes m o) (with_primes k o)) → z ≡ equal p x.0 x.1 → Given (with_primes k o >>= unchanged p) z rest (left + 1) (room + 1)
+equal_gives o k m p x z rest room left h e g q =
+    rw (kept_equal k o p h, sym e) (node_gives (sum_of nodes nodes) (larger_of depth depth) (λ (xy : Expr × Expr). equal p xy.0 xy.1) (both (with_primes m o) (with_primes k o)) x z room left rest (two_larger twos.Equal p) g q)

@@ -3,11 +3,11 @@ use Rattle.std.proofs.Common.{◌≡◌, ℕ, refl, ◌∙◌, Option, Some, Non
 use Rattle.tla_eval.specs.declared.fault.Place.{Place}
 use Rattle.tla_eval.specs.Expr.{Expr, Exprs, Fields, Arms, Updates, constant, bound, now, next, unary, binary, equal, sub_seq, enumerated, tuple, record_of, conjunction, disjunction, implies, conditional, cases, assert, for_all, for_some, choose, image, function, except, member, not_member, subset, kind_set, booleans, sequences, power, functions, records, product, cup, cap, minus, filtered, no_exprs, more_exprs, no_fields, more_fields, no_arms, other, more_arms, no_updates, more_updates}
 use Rattle.tla_expand.specs.declared.primes.Primes.{Primes}
-use Rattle.tla_expand.specs.declared.primes.Primes.TheVariants.{Not, Once, Twice}
+use Rattle.tla_expand.specs.declared.primes.Primes.TheVariants.{Never, Once, Twice}
 use Rattle.tla_expand.specs.Maybe.{◌>>=◌}
 use Rattle.tla_expand.specs.Primes.{primes, primes_each, primes_fields, primes_arms, primes_updates, one_more, primed_now, primed_next}
 
-abbrev fails : {C : Type 0} → Option C
+abbrev pub fails : {C : Type 0} → Option C
 fails = None
 
 pub one : {A C : Type 0} (f : A → C) (ga : A → Option A) (gc : C → Option C) → ((x : A) → gc (f x) ≡ (ga x >>= λ x2. Some (f x2)))
@@ -15,7 +15,7 @@ pub one : {A C : Type 0} (f : A → C) (ga : A → Option A) (gc : C → Option 
 one f ga gc h None = refl
 one f ga gc h (Some x) = h x
 
-two_of : {A C : Type 0} (a : Option A) → fails {C = C} ≡ (a >>= λ (x : A). fails {C = C})
+pub two_of : {A C : Type 0} (a : Option A) → fails {C = C} ≡ (a >>= λ (x : A). fails {C = C})
 two_of None = refl
 two_of (Some x) = refl
 
@@ -40,12 +40,12 @@ three {C = C} f ga gb ge gc h (Some x) (Some y) None = three_of {C = C} (ga x) (
 three f ga gb ge gc h (Some x) (Some y) (Some z) = h x y z
 
 once_now : (k : Primes) (p : Place) (i : ℕ) → (primed_now Once p i >>= primes k) ≡ primed_now (one_more k) p i
-once_now Not p i = refl
+once_now Never p i = refl
 once_now Once p i = refl
 once_now Twice p i = refl
 
 once_next : (k : Primes) (p : Place) (i : ℕ) → (primed_next Once p i >>= primes k) ≡ primed_next (one_more k) p i
-once_next Not p i = refl
+once_next Never p i = refl
 once_next Once p i = refl
 once_next Twice p i = refl
 
@@ -109,7 +109,7 @@ mutual
 
 -- no prime changes nothing
 mutual
-  pub unprimed : (e : Expr) → primes Not e ≡ Some e
+  pub unprimed : (e : Expr) → primes Never e ≡ Some e
   unprimed (constant p v) = refl
   unprimed (bound p i) = refl
   unprimed (now p i) = refl
@@ -148,19 +148,19 @@ mutual
   unprimed (minus p a b) = rw (unprimed a, unprimed b) refl
   unprimed (filtered p a b) = rw (unprimed a, unprimed b) refl
 
-  pub unprimed_each : (es : Exprs) → primes_each Not es ≡ Some es
+  pub unprimed_each : (es : Exprs) → primes_each Never es ≡ Some es
   unprimed_each no_exprs = refl
   unprimed_each (more_exprs e es) = rw (unprimed e, unprimed_each es) refl
 
-  pub unprimed_fields : (fs : Fields) → primes_fields Not fs ≡ Some fs
+  pub unprimed_fields : (fs : Fields) → primes_fields Never fs ≡ Some fs
   unprimed_fields no_fields = refl
   unprimed_fields (more_fields n e fs) = rw (unprimed e, unprimed_fields fs) refl
 
-  pub unprimed_arms : (arms : Arms) → primes_arms Not arms ≡ Some arms
+  pub unprimed_arms : (arms : Arms) → primes_arms Never arms ≡ Some arms
   unprimed_arms no_arms = refl
   unprimed_arms (other e) = rw (unprimed e) refl
   unprimed_arms (more_arms a b arms) = rw (unprimed a, unprimed b, unprimed_arms arms) refl
 
-  pub unprimed_updates : (us : Updates) → primes_updates Not us ≡ Some us
+  pub unprimed_updates : (us : Updates) → primes_updates Never us ≡ Some us
   unprimed_updates no_updates = refl
   unprimed_updates (more_updates path e us) = rw (unprimed_each path, unprimed e, unprimed_updates us) refl

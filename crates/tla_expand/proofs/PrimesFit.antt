@@ -1,11 +1,11 @@
 -- An expression with primes names what the expression names.
-use Rattle.std.proofs.Common.{◌≡◌, ℕ, ◌+◌, ◌&&◌, Bool, true, false, refl, ap, sym, ◌∙◌, Option, Some, None}
+use Rattle.std.proofs.Common.{◌≡◌, ℕ, ◌+◌, Bool, true, refl, sym, Option, Some, None}
 use Rattle.std.specs.Prelude.{nat_lt}
 use Rattle.tla_eval.specs.declared.fault.Place.{Place}
 use Rattle.tla_eval.specs.Expr.{Expr, Exprs, Fields, Arms, Updates, constant, bound, now, next, unary, binary, equal, sub_seq, enumerated, tuple, record_of, conjunction, disjunction, implies, conditional, cases, assert, for_all, for_some, choose, image, function, except, member, not_member, subset, kind_set, booleans, sequences, power, functions, records, product, cup, cap, minus, filtered, no_exprs, more_exprs, no_fields, more_fields, no_arms, other, more_arms, no_updates, more_updates}
 use Rattle.tla_eval.specs.Fits.{fits, fits_all, fits_fields, fits_arms, fits_updates, count}
 use Rattle.tla_expand.specs.declared.primes.Primes.{Primes}
-use Rattle.tla_expand.specs.declared.primes.Primes.TheVariants.{Not, Once, Twice}
+use Rattle.tla_expand.specs.declared.primes.Primes.TheVariants.{Never, Once, Twice}
 use Rattle.tla_expand.specs.Fits.{Stays}
 use Rattle.tla_expand.specs.Maybe.{◌>>=◌}
 use Rattle.tla_expand.specs.Primes.{primes, primes_each, primes_fields, primes_arms, primes_updates, primed_now, primed_next}
@@ -16,12 +16,12 @@ inv None k y h = cc
 inv (Some x) k y h = (x, refl, h)
 
 now_fits : (k : Primes) (v n : ℕ) (s : Bool) → Stays k v n s → (p : Place) (i b : ℕ) (e : Expr) → primed_now k p i ≡ Some e → fits e b n s ≡ nat_lt i v
-now_fits Not v n s h p i b e q = let same : now p i ≡ e = cc in rw (sym same, h.0, h.1) refl
+now_fits Never v n s h p i b e q = let same : now p i ≡ e = cc in rw (sym same, h.0, h.1) refl
 now_fits Once v n s h p i b e q = let same : next p i ≡ e = cc in rw (sym same, h) refl
 now_fits Twice v n s h p i b e q = cc
 
 next_fits : (k : Primes) (v n : ℕ) (s : Bool) → Stays k v n s → (p : Place) (i b : ℕ) (e : Expr) → primed_next k p i ≡ Some e → fits e b n s ≡ nat_lt i v
-next_fits Not v n s h p i b e q = let same : next p i ≡ e = cc in rw (sym same, h.0) refl
+next_fits Never v n s h p i b e q = let same : next p i ≡ e = cc in rw (sym same, h.0) refl
 next_fits Once v n s h p i b e q = cc
 next_fits Twice v n s h p i b e q = cc
 

@@ -1,5 +1,5 @@
 -- Worked rows, by computation: what stands in the place of parameters, under primes and UNCHANGED.
-use Rattle.std.proofs.Common.{◌≡◌, ℕ, List, [], ◌∷◌, refl, Option, Some, None}
+use Rattle.std.proofs.Common.{◌≡◌, ℕ, [], ◌∷◌, refl, Option, Some, None}
 use Rattle.std.specs.Prelude.{pos, codes, true}
 use Rattle.tla_lex.specs.declared.token.Place as text
 use Rattle.tla_value.specs.Tree.{truth, int}
@@ -13,7 +13,8 @@ use Rattle.tla_parse.specs.declared.tree.Quantifier.TheVariants as quantifier
 use Rattle.tla_parse.specs.Tree.{Tree, Trees, none, more, unbound, undefined, defined, DefinesOperator, Name, Number, Call, Prime, Listing, Unary, Binary, Quantified, Let}
 use Rattle.tla_parse.specs.Tree as t
 use Rattle.tla_expand.specs.Places as names
-use Rattle.tla_expand.specs.Expand.{Scope, standard, with_name, variable, expand}
+use Rattle.tla_expand.specs.Meanings.{standard, with_name, variable}
+use Rattle.tla_expand.specs.Expand.{expand}
 
 abbrev at : text.Place
 at = record { line = 1; column = 1 }

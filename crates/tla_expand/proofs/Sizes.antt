@@ -1,13 +1,11 @@
 -- Nodes, depth, and what a failure of a part says of the whole.
-use Rattle.std.proofs.Common.{◌≡◌, ◌≤◌, ◌<◌, ℕ, ◌+◌, ◌-◌, max, refl, ap, sym, ◌∙◌, arith, Option, Some, None}
+use Rattle.std.proofs.Common.{◌≡◌, ◌≤◌, ◌<◌, ℕ, ◌+◌, ◌-◌, refl, ap, arith, Option, Some, None}
 use Rattle.tla_eval.specs.Expr.{Expr, constant, bound, now, next, unary, binary, equal, sub_seq, enumerated, tuple, record_of, conjunction, disjunction, implies, conditional, cases, assert, for_all, for_some, choose, image, function, except, member, not_member, subset, kind_set, booleans, sequences, power, functions, records, product, cup, cap, minus, filtered}
 use Rattle.tla_expand.specs.declared.failure.Failure.{Failure}
 use Rattle.tla_expand.specs.declared.failure.Failure.TheVariants.{NoExpansion, TooLarge, Memory}
 use Rattle.tla_expand.specs.Maybe.{◌>>=◌}
 use Rattle.tla_model.specs.Size.{nodes, depth}
-use Rattle.tla_expand.specs.declared.primes.Primes.{Primes}
-use Rattle.tla_expand.specs.Primes.{primes}
-use Rattle.tla_expand.specs.Gives.{shown, FailsBy, Fails, both, sum_of, larger_of}
+use Rattle.tla_expand.specs.Gives.{FailsBy, Fails, Makes, both, sum_of, larger_of}
 
 pub some_node : (e : Expr) → 0 < nodes e
 some_node (constant p a) = omega arith
@@ -93,6 +91,10 @@ no_room o room left z e h n d = omega (arith, some_depth e)
 pub none_left : (o : Option Expr) (room left : ℕ) → left ≡ 0 → (e : Expr) → o ≡ Some e → nodes e ≤ left → depth e ≤ room → ⊥
 none_left o room left z e h n d = omega (arith, some_node e)
 
+-- an expression that was made of what is left
+abbrev pub Given : Option Expr → Expr → ℕ → ℕ → ℕ → Type 0
+Given o c rest left room = Makes nodes depth room left rest c o
+
 -- the first of two fails, or the second, where the first is there
 pub first_fails : {A B : Type 0} (sa da : A → ℕ) (sb db : B → ℕ) (s : Failure) (a : Option A) (b : Option B) (room left : ℕ)
     → FailsBy sa da room left s a → FailsBy (sum_of sa sb) (larger_of da db) room left s (both a b)
@@ -108,6 +110,10 @@ second_fails sa da sb db (NoExpansion p) a b x room left less q n h = rw (q, h) 
 second_fails sa da sb db TooLarge a None x room left less q n h = rw q (λ y r m d. cc)
 second_fails sa da sb db TooLarge a (Some v) x room left less q n h = rw q (λ y r m d. let w : (x, v) ≡ y = cc in let w0 = ap (λ z. sum_of sa sb z) w in let w1 = ap (λ z. larger_of da db z) w in h v refl (omega arith) (omega arith))
 second_fails sa da sb db Memory a b x room left less q n h = tt
+
+pub two_give : {A B : Type 0} (sa da : A → ℕ) (sb db : B → ℕ) (a : Option A) (b : Option B) (x : A) (y : B) (room left less rest : ℕ)
+    → Makes sa da room left less x a → Makes sb db room less rest y b → Makes (sum_of sa sb) (larger_of da db) room left rest (x, y) (both a b)
+two_give sa da sb db a b x y room left less rest g h = (rw (g.0, h.0) refl, omega (arith, g.1, h.1), omega (arith, g.2, h.2))
 
 -- a node of parts: one node more, one more on each path
 pub record IsLarger {A : Type 0} (size deep : A → ℕ) (f : A → Expr) : Type 0 where
@@ -128,14 +134,17 @@ node_fails size deep f TooLarge (Some u) room left i h = λ x q n d.
 node_fails size deep f Memory o room left i h = tt
 
 pub node_gives : {A : Type 0} (size deep : A → ℕ) (f : A → Expr) (o : Option A) (x : A) (c : Expr) (room left rest : ℕ) → IsLarger size deep f
-    → o ≡ Some x → rest + size x ≡ left → deep x ≤ room → c ≡ f x
-    → ((o >>= λ y. Some (f y)) ≡ Some c) × (rest + nodes c ≡ left + 1) × (depth c ≤ room + 1)
-node_gives size deep f o x c room left rest i p n d e =
+    → Makes size deep room left rest x o → c ≡ f x → Given (o >>= λ y. Some (f y)) c rest (left + 1) (room + 1)
+node_gives size deep f o x c room left rest i (p, n, d) e =
     let n1 = i.nodes_more x in
     let d1 = i.depth_more x in
     let n2 = ap nodes e in
     let d2 = ap depth e in
     (rw (p, e) refl, omega arith, omega arith)
+
+-- limits that are not passed
+pub limits_are : (room left : ℕ) → (room ≡ 0 → ⊥) → (left ≡ 0 → ⊥) → (room - 1 + 1 ≡ room) × (left - 1 + 1 ≡ left)
+limits_are room left a b = (omega (arith, a), omega (arith, b))
 
 -- a failure within less is one within the whole
 pub same_limits : (s : Failure) (o : Option Expr) (room left : ℕ) → (room ≡ 0 → ⊥) → (left ≡ 0 → ⊥) → Fails (room - 1 + 1) (left - 1 + 1) s o → Fails room left s o

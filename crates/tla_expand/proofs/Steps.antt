@@ -1,8 +1,6 @@
 -- Expansion, form by form.
-use Rattle.std.proofs.Common.{◌≡◌, ◌<◌, ℕ, suc, ◌+◌, List, [], ◌∷◌, map, length, get_or, drop, refl, ap, sym, ◌∙◌, arith, add-one, drop-cons, Option, Some, None}
+use Rattle.std.proofs.Common.{◌≡◌, ◌<◌, ℕ, suc, ◌+◌, List, [], ◌∷◌, map, length, get_or, drop, refl, ap, sym, ◌∙◌, add-one, drop-cons, Option, Some, None}
 use Rattle.tla_lex.specs.declared.token.Place as text
-use Rattle.tla_eval.specs.declared.fault.Place.{Place}
-use Rattle.tla_eval.specs.Expr as e
 use Rattle.tla_parse.specs.declared.tree.Expr as syntax
 use Rattle.tla_parse.specs.declared.tree.Definition as defining
 use Rattle.tla_parse.specs.declared.tree.Bullet.{Bullet}
@@ -15,32 +13,32 @@ use Rattle.tla_parse.specs.View.{view, definition_view}
 use Rattle.tla_expand.specs.declared.primes.Primes.{Primes}
 use Rattle.tla_expand.specs.declared.failure.Failure.{Failure}
 use Rattle.tla_expand.specs.declared.failure.Failure.TheVariants.{NoExpansion, TooLarge, Memory}
-use Rattle.tla_eval.specs.Expr.{Expr, Exprs, binary, no_exprs, more_exprs}
+use Rattle.tla_eval.specs.Expr.{Expr}
 use Rattle.tla_expand.specs.Places.{place_of}
 use Rattle.tla_expand.specs.Nodes.{many}
-use Rattle.tla_expand.specs.Forms.{of_brackets, of_bullet, GivesForm, GivesIndex}
-use Rattle.tla_expand.specs.declared.nodes.Shape.{Shape}
-use Rattle.tla_expand.specs.declared.nodes.Shape.TheVariants as shape
+use Rattle.tla_expand.specs.Forms.{of_brackets, of_bullet}
 use Rattle.tla_parse.specs.declared.word.Written.{Written}
 use Rattle.tla_expand.specs.Maybe.{◌>>=◌}
 use Rattle.tla_expand.specs.Primes.{primes, one_more}
 use Rattle.tla_expand.specs.declared.primes.Primes.TheVariants.{Once}
-use Rattle.tla_expand.specs.Expand.{Scope, Argument, expand, expand_each, arguments, indexed, definition_in, definitions_in}
+use Rattle.tla_expand.specs.Meanings.{Scope, Argument}
+use Rattle.tla_expand.specs.Expand.{expand, expand_each, arguments, definition_in, definitions_in}
 use Rattle.tla_expand.specs.Scopes.{arguments_in}
-use Rattle.tla_expand.specs.Gives.{shown, Explains}
+use Rattle.tla_expand.specs.Gives.{Explains}
+use Rattle.tla_expand.specs.Primes.{with_primes}
 use Rattle.tla_expand.proofs.Primed.{once}
 
 pub arguments_row : (es : List syntax.Expr) (σ : Scope) → arguments (trees (map view es)) σ ≡ arguments_in es σ
 arguments_row [] σ = refl
 arguments_row (e ∷ es) σ = ap (λ (x : List Argument). expand (view e) σ ∷ x) (arguments_row es σ)
 
-pub shown_once : (k : Primes) (o : Option Expr) → shown k (o >>= primes Once) ≡ shown (one_more k) o
+pub shown_once : (k : Primes) (o : Option Expr) → with_primes k (o >>= primes Once) ≡ with_primes (one_more k) o
 shown_once k None = refl
 shown_once k (Some e) = once k e
 
 -- a failure that explains one expression explains an equal one, with primes too
-pub explains_by : (e : Failure) (k : Primes) (f g : Argument) → ((d : ℕ) → g d ≡ shown k (f d)) → Explains e f → Explains e g
-explains_by (NoExpansion p) k f g h x = λ d. h d ∙ ap (λ (o : Option Expr). shown k o) (x d)
+pub explains_by : (e : Failure) (k : Primes) (f g : Argument) → ((d : ℕ) → g d ≡ with_primes k (f d)) → Explains e f → Explains e g
+explains_by (NoExpansion p) k f g h x = λ d. h d ∙ ap (λ (o : Option Expr). with_primes k o) (x d)
 explains_by TooLarge k f g h x = absurd x
 explains_by Memory k f g h x = tt
 
@@ -52,40 +50,12 @@ pub expand_junction : (p : text.Place) (b : Bullet) (es : Trees) (σ : Scope) (d
 expand_junction p bullet.And es σ d = refl
 expand_junction p bullet.Or es σ d = refl
 
-index_two : (p : Place) (x : Expr) (a b : Option Expr) (cs : Option Exprs) → ((a >>= λ y. (b >>= λ z. cs >>= λ zs. Some (more_exprs z zs)) >>= λ ys. Some (more_exprs y ys)) >>= λ ys. indexed p x ys) ≡ None
-index_two p x None b cs = refl
-index_two p x (Some y) None cs = refl
-index_two p x (Some y) (Some z) None = refl
-index_two p x (Some y) (Some z) (Some zs) = refl
-
-pub index_none : (p : Place) (f : Option Expr) (es : List syntax.Expr) (σ : Scope) (d : ℕ) → (length es ≡ 1 → ⊥) → (f >>= λ x. expand_each (trees (map view es)) σ d >>= λ ys. indexed p x ys) ≡ None
-index_none p None es σ d h = refl
-index_none p (Some x) [] σ d h = refl
-index_none p (Some x) (a ∷ []) σ d h = absurd (h refl)
-index_none p (Some x) (a ∷ b ∷ es) σ d h = index_two p x (expand (view a) σ d) (expand (view b) σ d) (expand_each (trees (map view es)) σ d)
-
-index_by : (p : Place) (x : Expr) (a : Option Expr) → ((a >>= λ y. Some (more_exprs y no_exprs)) >>= λ ys. indexed p x ys) ≡ (a >>= λ y. Some (binary p e.Apply x y))
-index_by p x None = refl
-index_by p x (Some y) = refl
-
-pub index_one : (p : Place) (f : Option Expr) (es : List syntax.Expr) (a : syntax.Expr) (σ : Scope) (d : ℕ) → length es ≡ 1 → a ≡ get_or es 0 a
-    → (f >>= λ x. expand_each (trees (map view es)) σ d >>= λ ys. indexed p x ys) ≡ (f >>= λ x. expand (view a) σ d >>= λ y. Some (binary p e.Apply x y))
-index_one p None es a σ d h g = refl
-index_one p (Some x) [] a σ d h g = absurd (omega arith)
-index_one p (Some x) (b ∷ []) a σ d h g = rw g (index_by p x (expand (view b) σ d))
-index_one p (Some x) (b ∷ c ∷ es) a σ d h g = absurd (omega arith)
-
 pub define_more : (old new : Scope) (ds : List defining.Definition) (i : ℕ) (def : defining.Definition) → i < length ds → def ≡ get_or ds i def → new ≡ definition_in (definition_view def) old
     → definitions_in (t.definitions (map definition_view (drop i ds))) old ≡ definitions_in (t.definitions (map definition_view (drop (i + 1) ds))) new
 define_more old new ds i def h g e =
     let p : drop i ds ≡ def ∷ drop (suc i) ds = drop-cons ds i def h ∙ ap (λ (y : defining.Definition). y ∷ drop (suc i) ds) (sym g) in
     let q : i + 1 ≡ suc i = add-one i in
     rw (p, q, e) refl
-
-pub index_shape : (sh : Shape) (tree f : t.Tree) (p : text.Place) (es : List syntax.Expr) → tree ≡ t.Index p f (trees (map view es)) → GivesIndex sh (place_of p) f es → GivesForm sh tree
-index_shape (shape.Form fm) tree f p es h g = λ σ d. rw h (g σ d)
-index_shape (shape.Nothing q) tree f p es h g = λ σ d. rw h (g σ d)
-index_shape shape.Goes tree f p es h g = tt
 
 pub expand_call : (w : Written) (es : List syntax.Expr) (σ : Scope) → expand (t.Call w (trees (map view es))) σ ≡ (λ (d : ℕ). σ w.word (place_of w.place) (arguments_in es σ) d)
 expand_call w es σ = ap (λ (args : List Argument). (λ (d : ℕ). σ w.word (place_of w.place) args d)) (arguments_row es σ)

@@ -1,5 +1,5 @@
 -- UNCHANGED names what its expression names.
-use Rattle.std.proofs.Common.{◌≡◌, ℕ, ◌+◌, ◌&&◌, Bool, true, false, refl, ap, sym, ◌∙◌, Option, Some, None}
+use Rattle.std.proofs.Common.{◌≡◌, ℕ, ◌&&◌, Bool, true, false, refl, sym, Some}
 use Rattle.tla_eval.specs.declared.fault.Place.{Place}
 use Rattle.tla_eval.specs.Expr.{Expr, Exprs, constant, bound, now, next, unary, binary, equal, sub_seq, enumerated, tuple, record_of, conjunction, disjunction, implies, conditional, cases, assert, for_all, for_some, choose, image, function, except, member, not_member, subset, kind_set, booleans, sequences, power, functions, records, product, cup, cap, minus, filtered, no_exprs, more_exprs}
 use Rattle.tla_eval.specs.Fits.{fits, fits_all}

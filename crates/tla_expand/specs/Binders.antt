@@ -2,8 +2,9 @@
 use Rattle.std.specs.Prelude.{List, map}
 use Rattle.tla_parse.specs.View.{view}
 use Rattle.tla_expand.specs.declared.binders.Bind.{Bind}
-use Rattle.tla_expand.specs.Expand as x
-use Rattle.tla_expand.specs.Expand.{Scope, expand}
+use Rattle.tla_expand.specs.Bound as x
+use Rattle.tla_expand.specs.Meanings.{Scope}
+use Rattle.tla_expand.specs.Expand.{expand}
 
 abbrev pub binds_in : List Bind → Scope → List x.Bind
 binds_in bs σ = map (λ (b : Bind). (b.name.now.word, expand (view b.set.now) σ)) bs

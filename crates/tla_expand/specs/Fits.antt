@@ -1,12 +1,12 @@
 -- What expansions name exists: under so many bound names, over so many variables.
-use Rattle.std.specs.Prelude.{◌≡◌, ◌≤◌, ℕ, Bool, true, List, [], ◌∷◌, Option, Some}
+use Rattle.std.specs.Prelude.{◌≡◌, ◌≤◌, ℕ, Bool, true, List, [], ◌∷◌, Some}
 use Rattle.tla_eval.specs.declared.fault.Place.{Place}
 use Rattle.tla_eval.specs.Expr.{Expr}
 use Rattle.tla_eval.specs.Fits.{fits}
 use Rattle.tla_expand.specs.declared.primes.Primes.{Primes}
-use Rattle.tla_expand.specs.declared.primes.Primes.TheVariants.{Not, Once, Twice}
+use Rattle.tla_expand.specs.declared.primes.Primes.TheVariants.{Never, Once, Twice}
 use Rattle.tla_expand.specs.Places as names
-use Rattle.tla_expand.specs.Expand.{Argument, Meaning, Scope}
+use Rattle.tla_expand.specs.Meanings.{Argument, Meaning, Scope}
 
 -- under so many bound names, or more
 abbrev pub FitsArgument : ℕ → ℕ → Argument → Type 0
@@ -25,6 +25,6 @@ FitsScope v b σ = (x : names.Name) → FitsMeaning v b (σ x)
 
 -- Of how many variables there are, and whether present values may stand: without a prime as before, under one no present value is left, under two no variable.
 abbrev pub Stays : Primes → ℕ → ℕ → Bool → Type 0
-Stays Not v n s = (n ≡ v) × (s ≡ true)
+Stays Never v n s = (n ≡ v) × (s ≡ true)
 Stays Once v n s = n ≡ v
 Stays Twice v n s = Unit {0}

@@ -4,7 +4,8 @@ use Rattle.tla_eval.specs.Expr.{Expr}
 use Rattle.tla_eval.specs.Fits.{fits}
 use Rattle.tla_parse.specs.Tree.{Tree}
 use Rattle.tla_expand.specs.declared.primes.Primes.{Primes}
-use Rattle.tla_expand.specs.Expand.{Scope, expand}
+use Rattle.tla_expand.specs.Meanings.{Scope}
+use Rattle.tla_expand.specs.Expand.{expand}
 use Rattle.tla_expand.specs.Fits.{FitsScope, Stays}
 use Rattle.tla_expand.specs.Primes.{primes}
 

@@ -6,9 +6,12 @@ pub mod Primes
 pub mod Unchanged
 pub mod Operators
 pub mod Library
+pub mod Meanings
+pub mod Bound
 pub mod Expand
 pub mod Forms
 pub mod Scopes
+pub mod Parameters
 pub mod Binders
 pub mod Linked
 pub mod Names

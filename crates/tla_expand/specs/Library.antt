@@ -1,5 +1,5 @@
 -- The operators of the modules that are used by their names (book, chapter 18).
-use Rattle.std.specs.Prelude.{ℕ, List, Option, Some, None, codes, if◌then◌else◌}
+use Rattle.std.specs.Prelude.{Option, Some, None, codes, if◌then◌else◌}
 use Rattle.std.specs.Str.{bytes_eq}
 use Rattle.tla_eval.specs.declared.expression.Unary.TheVariants as u
 use Rattle.tla_eval.specs.declared.expression.Binary.TheVariants as b
@@ -14,6 +14,7 @@ abbrev pub library : Name → Option Builtin
 library x =
     if bytes_eq x (codes "Nat") then Some (builtin.Kinds k.Naturals)
     else if bytes_eq x (codes "Int") then Some (builtin.Kinds k.Integers)
+    else if bytes_eq x (codes "Seq") then Some builtin.Sequences
     else if bytes_eq x (codes "Len") then Some (builtin.One u.Len)
     else if bytes_eq x (codes "Head") then Some (builtin.One u.Head)
     else if bytes_eq x (codes "Tail") then Some (builtin.One u.Tail)

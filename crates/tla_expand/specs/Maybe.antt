@@ -1,5 +1,5 @@
 -- What may not be there.
-use Rattle.std.specs.Prelude.{Option, Some, None}
+use Rattle.std.specs.Prelude.{List, [], ◌∷◌, Option, Some, None}
 
 infixl 20 ◌>>=◌
 -- goes on with what is there
@@ -11,3 +11,8 @@ None >>= k = None
 abbrev pub or_else : {A : Type 0} → Option A → Option A → Option A
 or_else (Some x) o = Some x
 or_else None o = o
+
+-- all of them, where each is there
+abbrev pub each_of : {A B : Type 0} → (A → Option B) → List A → Option (List B)
+each_of f [] = Some []
+each_of f (t ∷ ts) = f t >>= λ x. each_of f ts >>= λ xs. Some (x ∷ xs)

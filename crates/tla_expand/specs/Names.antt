@@ -1,8 +1,10 @@
--- The scope that the names known so far make.
-use Rattle.std.specs.Prelude.{length}
+-- The scope that the names known so far make, and the one that was made before it.
 use Rattle.tla_expand.specs.declared.scopes.Scopes.{Scopes}
-use Rattle.tla_expand.specs.Expand.{Scope}
+use Rattle.tla_expand.specs.Meanings.{Scope}
 use Rattle.tla_expand.specs.Scopes.{scope_at}
 
 abbrev pub scope_of : Scopes → Scope
-scope_of s = scope_at s.entries.items (length s.entries.items)
+scope_of s = scope_at s.entries.items s.current
+
+abbrev pub outer_of : Scopes → Scope
+outer_of s = scope_at s.entries.items s.outer

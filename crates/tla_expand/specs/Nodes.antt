@@ -6,7 +6,7 @@ use Rattle.tla_value.specs.declared.value.Value.{Value}
 use Rattle.tla_eval.specs.declared.fault.Place.{Place}
 use Rattle.tla_eval.specs.ExprOf.{unary_of, binary_of, kind_of}
 use Rattle.tla_eval.specs.Expr as e
-use Rattle.tla_eval.specs.Expr.{Expr, Exprs, Strings, constant, bound, booleans, kind_set, unary, binary, equal, sub_seq, enumerated, tuple, conjunction, disjunction, implies, conditional, assert, for_all, for_some, choose, member, not_member, subset, cup, cap, minus, no_exprs, more_exprs}
+use Rattle.tla_eval.specs.Expr.{Expr, Exprs, Strings, constant, bound, booleans, kind_set, power, sequences, unary, binary, equal, sub_seq, enumerated, tuple, conjunction, disjunction, implies, conditional, assert, for_all, for_some, choose, member, not_member, subset, cup, cap, minus, filtered, functions, product, image, function, record_of, records, Fields, no_exprs, more_exprs}
 use Rattle.tla_parse.specs.declared.tree.Constant.{Constant}
 use Rattle.tla_parse.specs.declared.tree.Constant.TheVariants.{True, False, Boolean, String}
 use Rattle.tla_expand.specs.declared.nodes.Leaf.{Leaf}
@@ -21,6 +21,10 @@ use Rattle.tla_expand.specs.declared.nodes.Many.{Many}
 use Rattle.tla_expand.specs.declared.nodes.Many.TheVariants as many_
 use Rattle.tla_expand.specs.declared.nodes.Binding.{Binding}
 use Rattle.tla_expand.specs.declared.nodes.Binding.TheVariants as binds_
+use Rattle.tla_expand.specs.declared.nodes.Gather.{Gather}
+use Rattle.tla_expand.specs.declared.nodes.Gather.TheVariants as gather_
+use Rattle.tla_expand.specs.declared.nodes.Fielded.{Fielded}
+use Rattle.tla_expand.specs.declared.nodes.Fielded.TheVariants as fielded_
 
 -- what a word stands for
 abbrev pub constant_of : Place → Constant → Expr
@@ -49,6 +53,8 @@ leaf (leaf_.Kinds k) p = Some (kind_set p (kind_of k))
 
 abbrev pub one : One → Place → Expr → Expr
 one (one_.Unary u) p x = unary p (unary_of u) x
+one one_.Power p x = power p x
+one one_.Sequences p x = sequences p x
 one (one_.Field w) p x = unary p (e.Field w.now) x
 
 abbrev pub two : Two → Place → Expr → Expr → Expr
@@ -65,6 +71,7 @@ two two_.Cup p x y = cup p x y
 two two_.Cap p x y = cap p x y
 two two_.Minus p x y = minus p x y
 two two_.Assert p x y = assert p x y
+two two_.Functions p x y = functions p x y
 
 abbrev pub three : Three → Place → Expr → Expr → Expr → Expr
 three three_.If p x y z = conditional p x y z
@@ -75,12 +82,24 @@ many many_.Set p xs = enumerated p xs
 many many_.Tuple p xs = tuple p xs
 many many_.And p xs = conjunction p xs
 many many_.Or p xs = disjunction p xs
+many many_.Product p xs = product p xs
 
 -- of a set, and of a body that has one bound name more
 abbrev pub binding : Binding → Place → Expr → Expr → Expr
 binding binds_.ForAll p s x = for_all p s x
 binding binds_.ForSome p s x = for_some p s x
 binding binds_.Choose p s x = choose p s x
+binding binds_.Filter p s x = filtered p s x
+
+-- of sets, and of a body that has one bound name more for each
+abbrev pub gather : Gather → Place → Exprs → Expr → Expr
+gather gather_.Image p ss x = image p ss x
+gather gather_.Function p ss x = function p ss x
+
+-- of fields
+abbrev pub fielded : Fielded → Place → Fields → Expr
+fielded fielded_.Record p fs = record_of p fs
+fielded fielded_.Records p fs = records p fs
 
 -- a list that is true where its parts are, TRUE where it has none
 abbrev pub kept : Place → Exprs → Expr

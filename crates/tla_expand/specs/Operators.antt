@@ -1,21 +1,23 @@
--- The operators that have an expansion (book, chapter 15). None for those of time, and for those that have none yet.
+-- The operators that have an expansion (book, chapter 15). None for those of time, and for UNCHANGED and \X, which are forms of their own.
 use Rattle.std.specs.Prelude.{Option, Some, None}
-use Rattle.tla_eval.specs.Expr.{Unary}
-use Rattle.tla_eval.specs.Expr as e
+use Rattle.tla_eval.specs.declared.expression.Unary.TheVariants as u
 use Rattle.tla_eval.specs.declared.expression.Binary.TheVariants as b
 use Rattle.tla_parse.specs.declared.tree.Infix.{Infix}
 use Rattle.tla_parse.specs.declared.tree.Infix.TheVariants as i
 use Rattle.tla_parse.specs.declared.tree.Prefix.{Prefix}
 use Rattle.tla_parse.specs.declared.tree.Prefix.TheVariants as p
+use Rattle.tla_expand.specs.declared.nodes.One.{One}
+use Rattle.tla_expand.specs.declared.nodes.One.TheVariants as one
 use Rattle.tla_expand.specs.declared.nodes.Two.{Two}
 use Rattle.tla_expand.specs.declared.nodes.Two.TheVariants as two
 
-abbrev pub unary_for : Prefix → Option Unary
-unary_for p.Not = Some e.Not
-unary_for p.Negate = Some e.Negate
-unary_for p.Union = Some e.Union
-unary_for p.Domain = Some e.Domain
-unary_for _ = None
+abbrev pub prefix_for : Prefix → Option One
+prefix_for p.Not = Some (one.Unary u.Not)
+prefix_for p.Negate = Some (one.Unary u.Negate)
+prefix_for p.Subset = Some one.Power
+prefix_for p.Union = Some (one.Unary u.Union)
+prefix_for p.Domain = Some (one.Unary u.Domain)
+prefix_for _ = None
 
 abbrev pub infix_for : Infix → Option Two
 infix_for i.And = Some two.And
@@ -44,5 +46,5 @@ infix_for i.Range = Some (two.Binary b.Range)
 infix_for i.Pair = Some (two.Binary b.Single)
 infix_for i.Override = Some (two.Binary b.Override)
 infix_for i.Concatenation = Some (two.Binary b.Concat)
-infix_for i.LeadsTo = None
 infix_for i.Product = None
+infix_for i.LeadsTo = None

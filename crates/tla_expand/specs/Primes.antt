@@ -1,30 +1,40 @@
 -- Primes on expressions (book, chapter 16): a prime turns each variable now into the variable next.
-use Rattle.std.specs.Prelude.{ℕ, Option, Some, None, IsSome}
+use Rattle.std.specs.Prelude.{ℕ, Bool, true, false, Option, Some, None}
 use Rattle.tla_eval.specs.declared.fault.Place.{Place}
 use Rattle.tla_eval.specs.Expr.{Expr, Exprs, Fields, Arms, Updates, constant, bound, now, next, unary, binary, equal, sub_seq, enumerated, tuple, record_of, conjunction, disjunction, implies, conditional, cases, assert, for_all, for_some, choose, image, function, except, member, not_member, subset, kind_set, booleans, sequences, power, functions, records, product, cup, cap, minus, filtered, no_exprs, more_exprs, no_fields, more_fields, no_arms, other, more_arms, no_updates, more_updates}
 use Rattle.tla_expand.specs.declared.primes.Primes.{Primes}
-use Rattle.tla_expand.specs.declared.primes.Primes.TheVariants.{Not, Once, Twice}
+use Rattle.tla_expand.specs.declared.primes.Primes.TheVariants.{Never, Once, Twice}
 use Rattle.tla_expand.specs.Maybe.{◌>>=◌}
 
 abbrev pub one_more : Primes → Primes
-one_more Not = Once
+one_more Never = Once
 one_more Once = Twice
 one_more Twice = Twice
 
+-- fewer primes than others
+abbrev pub are_fewer : Primes → Primes → Bool
+are_fewer Never Never = false
+are_fewer Never Once = true
+are_fewer Never Twice = true
+are_fewer Once Never = false
+are_fewer Once Once = false
+are_fewer Once Twice = true
+are_fewer Twice k = false
+
 -- how UNCHANGED e is read with so many primes: with one already e has no variable, or there is none
 abbrev pub settled_primes : Primes → Primes
-settled_primes Not = Not
+settled_primes Never = Never
 settled_primes Once = Twice
 settled_primes Twice = Twice
 
 -- a variable now, and one next, with so many primes
 abbrev pub primed_now : Primes → Place → ℕ → Option Expr
-primed_now Not p i = Some (now p i)
+primed_now Never p i = Some (now p i)
 primed_now Once p i = Some (next p i)
 primed_now Twice p i = None
 
 abbrev pub primed_next : Primes → Place → ℕ → Option Expr
-primed_next Not p i = Some (next p i)
+primed_next Never p i = Some (next p i)
 primed_next Once p i = None
 primed_next Twice p i = None
 
@@ -86,6 +96,6 @@ abbrev mutual
   primes_updates k no_updates = Some no_updates
   primes_updates k (more_updates path e us) = primes_each k path >>= λ x. primes k e >>= λ y. primes_updates k us >>= λ xs. Some (more_updates x y xs)
 
--- a state function (book, chapter 17): no variable next is in it, so that a prime may stand on it
-abbrev pub IsStateLevel : Expr → Type 0
-IsStateLevel e = IsSome (primes Once e)
+-- an expansion with so many primes
+abbrev pub with_primes : Primes → Option Expr → Option Expr
+with_primes k o = o >>= primes k

@@ -1,7 +1,7 @@
 -- UNCHANGED e is e' = e, and where e is a tuple the conjunction of UNCHANGED of each part, TRUE where it has none (book, chapter 16).
-use Rattle.std.specs.Prelude.{Option, Some, None}
+use Rattle.std.specs.Prelude.{Option, Some}
 use Rattle.tla_eval.specs.declared.fault.Place.{Place}
-use Rattle.tla_eval.specs.Expr.{Expr, Exprs, constant, tuple, equal, no_exprs, more_exprs}
+use Rattle.tla_eval.specs.Expr.{Expr, Exprs, Unequal, tuple, equal, binary, no_exprs, more_exprs}
 use Rattle.tla_expand.specs.declared.primes.Primes.TheVariants.{Once}
 use Rattle.tla_expand.specs.Maybe.{◌>>=◌}
 use Rattle.tla_expand.specs.Nodes.{kept}
@@ -15,3 +15,7 @@ abbrev mutual
   pub unchanged_each : Place → Exprs → Option Exprs
   unchanged_each p no_exprs = Some no_exprs
   unchanged_each p (more_exprs e es) = unchanged p e >>= λ x. unchanged_each p es >>= λ xs. Some (more_exprs x xs)
+
+-- e' # e
+abbrev pub changed : Place → Expr → Option Expr
+changed p e = primes Once e >>= λ x. Some (binary p Unequal x e)

@@ -1,11 +1,13 @@
 //! Scopes in memory.
 
 ghost use Rattle.std.specs.Prelude.{◌≡◌, ◌≤◌, length, IfSome, IfNone, IfOk, OnOk, IfErr, Some, ◌++◌, ◌∷◌, []};
-ghost use Rattle.tla_expand.specs.Expand.{standard, with_parameters};
+ghost use Rattle.tla_expand.specs.Meanings.{standard, with_parameters};
 ghost use Rattle.tla_expand.specs.Scopes.{AreLinked, IsBelow, Extends, scope_at, entry_scope, meaning_of, arguments_in};
 
 use crate::failure::Failure;
-use tla_parse::{Expr, Written};
+use crate::nodes::Builtin;
+use tla_eval::Place;
+use tla_parse::{Binder, Expr, Written};
 use tla_value::Value;
 
 /// What a name means.
@@ -16,9 +18,13 @@ pub(crate) enum What<'a> {
     Value(&'a Value),
     /// An argument, in the scope of the use.
     Argument(&'a Expr, usize),
-    /// The parameters and the body of a definition.
-    Definition(&'a [Written], &'a Expr),
-    /// A definition without expansion.
+    /// The parameters and the body of a definition, in the scope where it stands.
+    Definition(&'a [Written], &'a Expr, usize),
+    /// The place, the binder list and the body of a function that is defined by its name, in the scope where it stands.
+    Function(Place, &'a [Binder], &'a Expr, usize),
+    /// An operator of a module under another name.
+    Module(Builtin),
+    /// Another name of what means nothing.
     Unknown,
 }
 
@@ -34,7 +40,7 @@ pub(crate) struct Entry<'a> {
 pub(crate) fn find<'a>(entries: &[Entry<'a>], scope: usize, name: &[u8]) -> Option<Entry<'a>>
     requires linked { AreLinked entries.now }
     requires within { scope ≤ length entries.now }
-    ensures found { IfSome result (λ e. scope_at entries.now scope name.now ≡ meaning_of (scope_at entries.now) e.what e.rest) }
+    ensures found { IfSome result (λ e. scope_at entries.now scope name.now ≡ meaning_of (scope_at entries.now) e.what) }
     ensures below { IfSome result (λ e. IsBelow (length entries.now) e.what e.rest) }
     ensures none { IfNone result (scope_at entries.now scope name.now ≡ standard name.now) }
 {

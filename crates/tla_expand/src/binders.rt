@@ -3,7 +3,9 @@
 ghost use Rattle.std.specs.Prelude.{◌≡◌, ◌++◌, ◌∷◌, [], map, IfOk, OnOk, IfErr};
 ghost use Rattle.tla_parse.specs.View.{view, group_view};
 ghost use Rattle.tla_parse.specs.Tree.{binders};
-ghost use Rattle.tla_expand.specs.Expand.{Scope, binds_of, bind_each, expand};
+ghost use Rattle.tla_expand.specs.Meanings.{Scope};
+ghost use Rattle.tla_expand.specs.Bound.{bind_each};
+ghost use Rattle.tla_expand.specs.Expand.{binds_of, expand};
 ghost use Rattle.tla_expand.specs.Binders.{binds_in};
 
 use crate::failure::Failure;

@@ -1,15 +1,15 @@
 //! The nodes of an expression, made of their parts.
 
-ghost use Rattle.std.specs.Prelude.{◌≡◌, IfOk, IfErr, map};
-ghost use Rattle.tla_eval.specs.ExprOf.{expr_of};
+ghost use Rattle.std.specs.Prelude.{◌≡◌, ◌∷◌, IfOk, IfErr, map};
+ghost use Rattle.tla_eval.specs.ExprOf.{expr_of, exprs_of_arm};
 ghost use Rattle.tla_eval.specs.Expr as expr;
-ghost use Rattle.tla_expand.specs.Lists.{exprs};
+ghost use Rattle.tla_expand.specs.Lists.{exprs, arms_with, fields_of, updates_of, named_part, changed_part};
 ghost use Rattle.tla_expand.specs.Places as places;
 ghost use Rattle.tla_expand.specs.Nodes as nodes;
 ghost use Rattle.tla_expand.specs.Gives.{MakesLeaf};
 
 use crate::failure::Failure;
-use crate::nodes::{Binding, Leaf, Many, One, Three, Two};
+use crate::nodes::{Binding, Fielded, Gather, Leaf, Many, One, Three, Two};
 use std::alloc::Global;
 use tla_eval::{Core, Kind, Place};
 use tla_parse::{Constant, Word};
@@ -36,7 +36,7 @@ pub(crate) fn boxed(alloc: Global, core: Core) -> Result<Box<Core>, Failure>
 }
 
 /// The text of a name or a string. Its bytes are UTF-8, so that the only error is want of memory.
-fn text_of(alloc: Global, word: &Word) -> Result<Text, Failure>
+pub(crate) fn text_of(alloc: Global, word: &Word) -> Result<Text, Failure>
     ensures ok { IfOk result (λ t. t ≡ word.now) }
     ensures err { IfErr result (λ e. e ≡ Failure.Memory) }
 {
@@ -100,6 +100,8 @@ pub(crate) fn one_core(
     let part = boxed(alloc, part)?;
     match node {
         One::Unary(operator) => Ok(Core::Unary(place, operator, part)),
+        One::Power => Ok(Core::Power(place, part)),
+        One::Sequences => Ok(Core::Sequences(place, part)),
         One::Field(word) => Ok(Core::Field(place, text_of(alloc, word)?, part)),
     }
 }
@@ -153,6 +155,7 @@ fn two_boxed(place: Place, node: Two, first: Box<Core>, second: Box<Core>) -> Re
         Two::Cap => Ok(Core::Cap(place, first, second)),
         Two::Minus => Ok(Core::Minus(place, first, second)),
         Two::Assert => Ok(Core::Assert(place, first, second)),
+        Two::Functions => Ok(Core::Functions(place, first, second)),
         Two::And | Two::Or => Err(Failure::Memory),
     }
 }
@@ -202,6 +205,12 @@ pub(crate) fn tuple(place: Place, parts: Vec<Core>) -> Core
     Core::Tuple(place, parts)
 }
 
+fn product(place: Place, parts: Vec<Core>) -> Core
+    ensures { expr_of result ≡ expr.product place (exprs (map expr_of parts.items)) }
+{
+    Core::Product(place, parts)
+}
+
 /// A node of a list of parts.
 pub(crate) fn many_core(place: Place, node: Many, parts: Vec<Core>) -> Core
     ensures { expr_of result ≡ nodes.many node place (exprs (map expr_of parts.items)) }
@@ -211,6 +220,7 @@ pub(crate) fn many_core(place: Place, node: Many, parts: Vec<Core>) -> Core
         Many::Tuple => tuple(place, parts),
         Many::And => conjunction(place, parts),
         Many::Or => disjunction(place, parts),
+        Many::Product => product(place, parts),
     }
 }
 
@@ -241,5 +251,117 @@ pub(crate) fn binding_core(
         Binding::ForAll => Ok(Core::ForAll(place, set, body)),
         Binding::ForSome => Ok(Core::ForSome(place, set, body)),
         Binding::Choose => Ok(Core::Choose(place, set, body)),
+        Binding::Filter => Ok(Core::Filter(place, set, body)),
     }
+}
+
+/// A product of a first operand and others. The only error is want of memory.
+pub(crate) fn product_core(place: Place, first: Core, others: Vec<Core>) -> Result<Core, Failure>
+    ensures ok { IfOk result (λ c. expr_of c ≡ expr.product place (exprs (expr_of first ∷ map expr_of others.items))) }
+    ensures err { IfErr result (λ e. e ≡ Failure.Memory) }
+{
+    let mut parts = others;
+    match parts.insert(0, first) {
+        Ok(()) => Ok(product(place, parts)),
+        Err(_) => Err(Failure::Memory),
+    }
+}
+
+/// CASE.
+pub(crate) fn cases_core(place: Place, arms: Vec<(Core, Core)>) -> Core
+    ensures { expr_of result ≡ expr.cases place (arms_with (map exprs_of_arm arms.items) expr.no_arms) }
+{
+    Core::Cases(place, arms, None)
+}
+
+/// CASE with OTHER. The only error is want of memory.
+pub(crate) fn cases_or_core(
+    alloc: Global,
+    place: Place,
+    arms: Vec<(Core, Core)>,
+    last: Core,
+) -> Result<Core, Failure>
+    ensures ok { IfOk result (λ c. expr_of c ≡ expr.cases place (arms_with (map exprs_of_arm arms.items) (expr.other (expr_of last)))) }
+    ensures err { IfErr result (λ e. e ≡ Failure.Memory) }
+{
+    let last = boxed(alloc, last)?;
+    Ok(cases_or(place, arms, last))
+}
+
+fn cases_or(place: Place, arms: Vec<(Core, Core)>, last: Box<Core>) -> Core
+    ensures { expr_of result ≡ expr.cases place (arms_with (map exprs_of_arm arms.items) (expr.other (expr_of last.value))) }
+{
+    Core::Cases(place, arms, Some(last))
+}
+
+/// A node of sets and a body. The only error is want of memory.
+pub(crate) fn gather_core(
+    alloc: Global,
+    place: Place,
+    node: Gather,
+    sets: Vec<Core>,
+    body: Core,
+) -> Result<Core, Failure>
+    ensures ok { IfOk result (λ c. expr_of c ≡ nodes.gather node place (exprs (map expr_of sets.items)) (expr_of body)) }
+    ensures err { IfErr result (λ e. e ≡ Failure.Memory) }
+{
+    let body = boxed(alloc, body)?;
+    match node {
+        Gather::Image => Ok(image(place, sets, body)),
+        Gather::Function => Ok(function(place, sets, body)),
+    }
+}
+
+fn image(place: Place, sets: Vec<Core>, body: Box<Core>) -> Core
+    ensures { expr_of result ≡ expr.image place (exprs (map expr_of sets.items)) (expr_of body.value) }
+{
+    Core::Image(place, sets, body)
+}
+
+fn function(place: Place, sets: Vec<Core>, body: Box<Core>) -> Core
+    ensures { expr_of result ≡ expr.function place (exprs (map expr_of sets.items)) (expr_of body.value) }
+{
+    Core::Function(place, sets, body)
+}
+
+/// A node of fields.
+pub(crate) fn fielded_core(place: Place, node: Fielded, fields: Vec<(Text, Core)>) -> Core
+    ensures { expr_of result ≡ nodes.fielded node place (fields_of (map named_part fields.items)) }
+{
+    match node {
+        Fielded::Record => record(place, fields),
+        Fielded::Records => records(place, fields),
+    }
+}
+
+fn record(place: Place, fields: Vec<(Text, Core)>) -> Core
+    ensures { expr_of result ≡ expr.record_of place (fields_of (map named_part fields.items)) }
+{
+    Core::Record(place, fields)
+}
+
+fn records(place: Place, fields: Vec<(Text, Core)>) -> Core
+    ensures { expr_of result ≡ expr.records place (fields_of (map named_part fields.items)) }
+{
+    Core::Records(place, fields)
+}
+
+/// EXCEPT. The only error is want of memory.
+pub(crate) fn except_core(
+    alloc: Global,
+    place: Place,
+    function: Core,
+    updates: Vec<(Vec<Core>, Core)>,
+) -> Result<Core, Failure>
+    ensures ok { IfOk result (λ c. expr_of c ≡ expr.except place (expr_of function) (updates_of (map changed_part updates.items))) }
+    ensures err { IfErr result (λ e. e ≡ Failure.Memory) }
+{
+    let function = boxed(alloc, function)?;
+    Ok(except(place, function, updates))
+}
+
+fn except(place: Place, function: Box<Core>, updates: Vec<(Vec<Core>, Core)>) -> Core
+    ensures { expr_of result ≡ expr.except place (expr_of function.value) (updates_of (map changed_part updates.items)) }
+{
+    Core::Except(place, function, updates)
 }

@@ -1,32 +1,62 @@
 //! The expansion of an expression, within limits of its size.
 
-ghost use Rattle.std.specs.Prelude.{◌≡◌, ◌≢◌, ◌≤◌, ◌<◌, ◌+◌, ◌++◌, ◌∷◌, [], length, ℕ, Some, None, map, IfOk, IfErr, OnOk};
+ghost use Rattle.std.specs.Prelude.{◌≡◌, ◌≢◌, ◌≤◌, ◌<◌, ◌+◌, ◌∷◌, [], length, ℕ, Some, None, map, IfOk, IfErr, OnOk};
+ghost use Rattle.tla_eval.specs.declared.fault.Place.{Place};
 ghost use Rattle.tla_eval.specs.Expr as expr;
 ghost use Rattle.tla_eval.specs.ExprOf.{expr_of};
 ghost use Rattle.tla_parse.specs.View.{view};
-ghost use Rattle.tla_expand.specs.Primes.{primed_now, settled_primes};
+ghost use Rattle.tla_expand.specs.Maybe.{each_of};
+ghost use Rattle.tla_expand.specs.Lists.{exprs, arms_with, fields_of};
+ghost use Rattle.tla_expand.specs.Primes.{primed_now, with_primes};
 ghost use Rattle.tla_expand.specs.Nodes as nodes;
 ghost use Rattle.tla_expand.specs.Expand as expansion;
-ghost use Rattle.tla_expand.specs.Expand.{last_or};
 ghost use Rattle.tla_expand.specs.Scopes.{AreLinked, scope_at};
-ghost use Rattle.tla_expand.specs.Binders.{binds_in};
-ghost use Rattle.tla_expand.specs.Forms.{tuple_parts};
+ghost use Rattle.tla_expand.specs.Forms.{form_in};
 ghost use Rattle.tla_model.specs.Size.{IsWithinLimits};
-ghost use Rattle.tla_expand.specs.Gives.{shown, shown_part, kept_part, each_of, both, head_gives, Gives, GivesTwo, GivesMany};
+ghost use Rattle.tla_expand.specs.Gives.{part_in, key_in, arm_in, field_in, both, made, Gives, GivesTwo};
 
-use crate::arena::{Entry, What, enter};
-use crate::binders::{Bind, bind_list};
+mod binding;
+mod kept;
+mod levels;
+mod lists;
+mod updates;
+
+use crate::arena::Entry;
 use crate::builders::{
-    binding_core, kept_core, leaf_core, many_core, one_core, three_core, two_core,
+    cases_core, cases_or_core, fielded_core, leaf_core, many_core, one_core, product_core,
+    three_core, two_core,
 };
-use crate::expanded::{Expanded, Many as Parts, Two as Pair};
+use crate::expanded::{Expanded, Two as Pair};
 use crate::failure::Failure;
-use crate::heads::{Head, find_head};
-use crate::nodes::{Binding, Form, Leaf, Many, One, Three, Two};
-use crate::primes::{Primes, one_more};
+use crate::heads::find_head;
+use crate::nodes::{Binders, Fielded, Form, Headed, Leaf, Many, One, Three, Two};
+use crate::primes::Primes;
+use binding::{bound_one, bound_several, gather_node};
+use kept::{angle_node, square_node};
+use levels::{node_behind, unchanged_node};
+pub(crate) use lists::push;
+use lists::{arms_of, each, key, named_parts};
 use std::alloc::Global;
 use tla_eval::{Core, Place};
-use tla_parse::Expr;
+use tla_parse::{Arm, Expr, Field, Step};
+use updates::except_node;
+
+/// Where an expression stands, and how large its expansion may be.
+#[derive(Clone, Copy)]
+pub(crate) struct Setting {
+    /// The scope of its names.
+    pub(crate) scope: usize,
+    /// The primes on it.
+    pub(crate) primes: Primes,
+    /// How many names are bound round it.
+    pub(crate) bound: usize,
+    /// How many nodes there may be on a path.
+    pub(crate) room: usize,
+    /// How many nodes there may be.
+    pub(crate) left: usize,
+    /// The primes on the whole, where a refusal has to name the first expression of too high a level.
+    pub(crate) sought: Option<Primes>,
+}
 
 /// A node without parts.
 fn leaf_of<'a>(
@@ -36,7 +66,7 @@ fn leaf_of<'a>(
     primes: Primes,
     left: usize,
 ) -> Result<Expanded, Failure>
-    ensures { (room : ℕ) → Gives (room + 1) (left + 1) result (shown primes (nodes.leaf node.entry place)) }
+    ensures { (room : ℕ) → Gives (room + 1) (left + 1) result (with_primes primes (nodes.leaf node.entry place)) }
 {
     let core = leaf_core(alloc, place, node)?;
     Ok(Expanded { core, left })
@@ -47,7 +77,7 @@ fn variable_of(place: Place, index: usize, primes: Primes, left: usize) -> Resul
     ensures { (room : ℕ) → Gives (room + 1) (left + 1) result (primed_now primes place index) }
 {
     match primes {
-        Primes::Not => Ok(Expanded {
+        Primes::Never => Ok(Expanded {
             core: Core::Now(place, index),
             left,
         }),
@@ -59,465 +89,339 @@ fn variable_of(place: Place, index: usize, primes: Primes, left: usize) -> Resul
     }
 }
 
-/// The expansion of an expression in a scope, under so many primes and bound names,
-/// with at most `left` nodes and at most `room` of them on a path.
+/// The expansion of an expression.
 #[cycle(expand)]
 #[tactic(auto, using(crate::proofs::Sizes::no_room, crate::proofs::Sizes::none_left))]
 pub(crate) fn expand<'a>(
     alloc: Global,
     entries: &mut Vec<Entry<'a>>,
     tree: &'a Expr,
-    scope: usize,
-    primes: Primes,
-    bound: usize,
-    room: usize,
-    left: usize,
+    at: Setting,
 ) -> Result<Expanded, Failure>
     requires linked { AreLinked entries.old.items }
-    requires scope { scope ≤ length entries.old.items }
-    requires small { bound + room ≤ 1000 }
+    requires scope { at.scope ≤ length entries.old.items }
+    requires small { at.bound + at.left ≤ 1000000 }
     ensures kept { OnOk result (entries.new.items ≡ entries.old.items) }
-    ensures same { Gives room left result (shown primes (expansion.expand (view tree.now) (scope_at entries.old.items scope) bound)) }
+    ensures same { Gives at.room at.left result (part_in at.primes (scope_at entries.old.items at.scope) at.bound tree.now) }
 {
-    if room == 0 {
+    if at.room == 0 {
         return Err(Failure::TooLarge);
     }
-    if left == 0 {
+    if at.left == 0 {
         return Err(Failure::TooLarge);
     }
     let mark = entries.len();
-    let found = find_head(entries, tree, scope, primes)?;
-    let made = node_of(alloc, entries, found, bound, room - 1, left - 1)?;
+    let found = find_head(entries, tree, at.scope, at.primes)?;
+    let inside = Setting {
+        scope: found.scope,
+        primes: found.primes,
+        bound: at.bound,
+        room: at.room - 1,
+        left: at.left - 1,
+        sought: at.sought,
+    };
+    let made = node_behind(alloc, entries, found, at.primes, inside)?;
     entries.truncate(mark);
     Ok(made)
 }
 
-/// The node of a form.
+/// The node of a form. It is above the limits that are set for its parts.
 #[cycle(expand)]
 pub(crate) fn node_of<'a>(
     alloc: Global,
     entries: &mut Vec<Entry<'a>>,
-    found: Head<'a>,
-    bound: usize,
-    room: usize,
-    left: usize,
+    form: Form<'a>,
+    at: Setting,
 ) -> Result<Expanded, Failure>
     requires linked { AreLinked entries.old.items }
-    requires scope { found.scope ≤ length entries.old.items }
-    requires small { bound + room < 1000 }
+    requires scope { at.scope ≤ length entries.old.items }
+    requires small { at.bound + at.left < 1000000 }
     ensures kept { OnOk result (entries.new.items ≡ entries.old.items) }
-    ensures same { Gives (room + 1) (left + 1) result (head_gives entries.old.items found.entry bound) }
+    ensures same { Gives (at.room + 1) (at.left + 1) result (with_primes at.primes (form_in form.entry (scope_at entries.old.items at.scope) at.bound)) }
 {
-    let scope = found.scope;
-    let primes = found.primes;
-    match found.form {
-        Form::Leaf(place, node) => leaf_of(alloc, place, node, primes, left),
-        Form::Variable(place, index) => variable_of(place, index, primes, left),
-        Form::One(place, node, part) => {
-            let part = expand(alloc, entries, part, scope, primes, bound, room, left)?;
-            let core = one_core(alloc, place, node, part.core)?;
-            Ok(Expanded {
-                core,
-                left: part.left,
-            })
+    match form {
+        Form::Leaf(place, node) => leaf_of(alloc, place, node, at.primes, at.left),
+        Form::Variable(place, index) => variable_of(place, index, at.primes, at.left),
+        Form::One(place, node, part) => one_node(alloc, entries, place, node, part, at),
+        Form::Two(place, node, a, b) => two_node(alloc, entries, place, node, a, b, at),
+        Form::Three(place, node, a, b, c) => three_node(alloc, entries, place, node, a, b, c, at),
+        Form::Many(place, node, items) => many_node(alloc, entries, place, node, items, at),
+        Form::Headed(place, node, first, others) => match node {
+            Headed::Index => index_node(alloc, entries, place, first, others, at),
+            Headed::Product => product_node(alloc, entries, place, first, others, at),
+        },
+        Form::Cases(place, arms, last) => match last {
+            None => cases_node(alloc, entries, place, arms, at),
+            Some(last) => cases_or_node(alloc, entries, place, arms, last, at),
+        },
+        Form::Fields(place, node, fields) => fields_node(alloc, entries, place, node, fields, at),
+        Form::Except(place, function, updates) => {
+            except_node(alloc, entries, place, function, updates, at)
         }
-        Form::Two(place, node, first, second) => {
-            let two = two_parts(
-                alloc, entries, first, second, scope, primes, primes, bound, room, left,
-            )?;
-            let core = two_core(alloc, place, node, two.first, two.second)?;
-            Ok(Expanded {
-                core,
-                left: two.left,
-            })
+        Form::Action(place, step, action, place_v, v) => match step {
+            Step::Box => square_node(alloc, entries, place, action, place_v, v, at),
+            Step::Angle => angle_node(alloc, entries, place, action, place_v, v, at),
+        },
+        Form::Unchanged(place, operand) => unchanged_node(alloc, entries, place, operand, at),
+        Form::Binders(place, Binders::Nested(node), groups, body) => {
+            bound_several(alloc, entries, place, node, groups, body, at)
         }
-        Form::Three(place, node, first, second, third) => {
-            let two = two_parts(
-                alloc, entries, first, second, scope, primes, primes, bound, room, left,
-            )?;
-            let third = expand(alloc, entries, third, scope, primes, bound, room, two.left)?;
-            let core = three_core(alloc, place, node, two.first, two.second, third.core)?;
-            Ok(Expanded {
-                core,
-                left: third.left,
-            })
-        }
-        Form::Many(place, node, items) => {
-            let many = each(alloc, entries, items, scope, primes, bound, room, left)?;
-            Ok(Expanded {
-                core: many_core(place, node, many.parts),
-                left: many.left,
-            })
-        }
-        Form::Unchanged(place, operand) => {
-            let primes = settled(primes);
-            kept(
-                alloc, entries, place, operand, scope, primes, bound, room, left,
-            )
-        }
-        Form::Binders(place, node, groups, body) => {
-            let binds = bind_list(alloc, groups)?;
-            let [first, rest @ ..] = binds.as_slice() else {
-                return Err(Failure::NoExpansion(place));
-            };
-            nested(
-                alloc, entries, place, node, *first, rest, scope, scope, body, primes, bound, room,
-                left,
-            )
+        Form::Binders(place, Binders::Gathered(node), groups, body) => {
+            gather_node(alloc, entries, place, node, groups, body, at)
         }
         Form::Binds(place, node, name, set, body) => {
-            let first = Bind { name, set };
-            nested(
-                alloc,
-                entries,
-                place,
-                node,
-                first,
-                &[],
-                scope,
-                scope,
-                body,
-                primes,
-                bound,
-                room,
-                left,
-            )
+            bound_one(alloc, entries, place, node, name, set, body, at)
         }
     }
 }
 
-/// How UNCHANGED is read under so many primes.
-fn settled(primes: Primes) -> Primes
-    ensures { result ≡ settled_primes primes }
+/// A node of one part.
+#[cycle(expand)]
+fn one_node<'a>(
+    alloc: Global,
+    entries: &mut Vec<Entry<'a>>,
+    place: Place,
+    node: One<'a>,
+    part: &'a Expr,
+    at: Setting,
+) -> Result<Expanded, Failure>
+    requires linked { AreLinked entries.old.items }
+    requires scope { at.scope ≤ length entries.old.items }
+    requires small { at.bound + at.left ≤ 1000000 }
+    ensures kept { OnOk result (entries.new.items ≡ entries.old.items) }
+    ensures same { Gives (at.room + 1) (at.left + 1) result (made (λ x. nodes.one node.entry place x) (part_in at.primes (scope_at entries.old.items at.scope) at.bound part.now)) }
 {
-    match primes {
-        Primes::Not => Primes::Not,
-        Primes::Once | Primes::Twice => Primes::Twice,
-    }
+    let part = expand(alloc, entries, part, at)?;
+    let core = one_core(alloc, place, node, part.core)?;
+    Ok(Expanded {
+        core,
+        left: part.left,
+    })
 }
 
-/// Two expressions of one scope, each under so many primes.
+/// A node of two parts.
+#[cycle(expand)]
+fn two_node<'a>(
+    alloc: Global,
+    entries: &mut Vec<Entry<'a>>,
+    place: Place,
+    node: Two,
+    first: &'a Expr,
+    second: &'a Expr,
+    at: Setting,
+) -> Result<Expanded, Failure>
+    requires linked { AreLinked entries.old.items }
+    requires scope { at.scope ≤ length entries.old.items }
+    requires small { at.bound + at.left ≤ 1000000 }
+    ensures kept { OnOk result (entries.new.items ≡ entries.old.items) }
+    ensures same { Gives (at.room + 1) (at.left + 1) result (made (λ xy. nodes.two node place xy.0 xy.1) (both (part_in at.primes (scope_at entries.old.items at.scope) at.bound first.now) (part_in at.primes (scope_at entries.old.items at.scope) at.bound second.now))) }
+{
+    let two = two_parts(alloc, entries, first, second, at.primes, at)?;
+    let core = two_core(alloc, place, node, two.first, two.second)?;
+    Ok(Expanded {
+        core,
+        left: two.left,
+    })
+}
+
+/// A node of three parts.
+#[cycle(expand)]
+fn three_node<'a>(
+    alloc: Global,
+    entries: &mut Vec<Entry<'a>>,
+    place: Place,
+    node: Three,
+    first: &'a Expr,
+    second: &'a Expr,
+    third: &'a Expr,
+    at: Setting,
+) -> Result<Expanded, Failure>
+    requires linked { AreLinked entries.old.items }
+    requires scope { at.scope ≤ length entries.old.items }
+    requires small { at.bound + at.left ≤ 1000000 }
+    ensures kept { OnOk result (entries.new.items ≡ entries.old.items) }
+    ensures same { Gives (at.room + 1) (at.left + 1) result (made (λ t. nodes.three node place t.0.0 t.0.1 t.1) (both (both (part_in at.primes (scope_at entries.old.items at.scope) at.bound first.now) (part_in at.primes (scope_at entries.old.items at.scope) at.bound second.now)) (part_in at.primes (scope_at entries.old.items at.scope) at.bound third.now))) }
+{
+    let two = two_parts(alloc, entries, first, second, at.primes, at)?;
+    let left = two.left;
+    let third = expand(alloc, entries, third, Setting { left, ..at })?;
+    let core = three_core(alloc, place, node, two.first, two.second, third.core)?;
+    Ok(Expanded {
+        core,
+        left: third.left,
+    })
+}
+
+/// A node of a list of parts.
+#[cycle(expand)]
+fn many_node<'a>(
+    alloc: Global,
+    entries: &mut Vec<Entry<'a>>,
+    place: Place,
+    node: Many,
+    items: &'a [Expr],
+    at: Setting,
+) -> Result<Expanded, Failure>
+    requires linked { AreLinked entries.old.items }
+    requires scope { at.scope ≤ length entries.old.items }
+    requires small { at.bound + at.left ≤ 1000000 }
+    ensures kept { OnOk result (entries.new.items ≡ entries.old.items) }
+    ensures same { Gives (at.room + 1) (at.left + 1) result (made (λ xs. nodes.many node place (exprs xs)) (each_of (part_in at.primes (scope_at entries.old.items at.scope) at.bound) items.now)) }
+{
+    let many = each(alloc, entries, items, at)?;
+    Ok(Expanded {
+        core: many_core(place, node, many.parts),
+        left: many.left,
+    })
+}
+
+/// The application of a function.
+#[cycle(expand)]
+fn index_node<'a>(
+    alloc: Global,
+    entries: &mut Vec<Entry<'a>>,
+    place: Place,
+    function: &'a Expr,
+    items: &'a [Expr],
+    at: Setting,
+) -> Result<Expanded, Failure>
+    requires linked { AreLinked entries.old.items }
+    requires scope { at.scope ≤ length entries.old.items }
+    requires small { at.bound + at.left ≤ 1000000 }
+    ensures kept { OnOk result (entries.new.items ≡ entries.old.items) }
+    ensures same { Gives (at.room + 1) (at.left + 1) result (made (λ xy. nodes.two Two.Apply place xy.0 xy.1) (both (part_in at.primes (scope_at entries.old.items at.scope) at.bound function.now) (key_in at.primes (scope_at entries.old.items at.scope) at.bound items.now))) }
+{
+    let function = expand(alloc, entries, function, at)?;
+    let left = function.left;
+    let key = key(alloc, entries, place, items, Setting { left, ..at })?;
+    let core = two_core(alloc, place, Two::Apply, function.core, key.core)?;
+    Ok(Expanded {
+        core,
+        left: key.left,
+    })
+}
+
+/// CASE without OTHER.
+#[cycle(expand)]
+fn cases_node<'a>(
+    alloc: Global,
+    entries: &mut Vec<Entry<'a>>,
+    place: Place,
+    arms: &'a [Arm],
+    at: Setting,
+) -> Result<Expanded, Failure>
+    requires linked { AreLinked entries.old.items }
+    requires scope { at.scope ≤ length entries.old.items }
+    requires small { at.bound + at.left ≤ 1000000 }
+    ensures kept { OnOk result (entries.new.items ≡ entries.old.items) }
+    ensures same { Gives (at.room + 1) (at.left + 1) result (made (λ xs. expr.cases place (arms_with xs expr.no_arms)) (each_of (arm_in at.primes (scope_at entries.old.items at.scope) at.bound) arms.now)) }
+{
+    let made = arms_of(alloc, entries, arms, at)?;
+    Ok(Expanded {
+        core: cases_core(place, made.arms),
+        left: made.left,
+    })
+}
+
+/// CASE with OTHER.
+#[cycle(expand)]
+fn cases_or_node<'a>(
+    alloc: Global,
+    entries: &mut Vec<Entry<'a>>,
+    place: Place,
+    arms: &'a [Arm],
+    last: &'a Expr,
+    at: Setting,
+) -> Result<Expanded, Failure>
+    requires linked { AreLinked entries.old.items }
+    requires scope { at.scope ≤ length entries.old.items }
+    requires small { at.bound + at.left ≤ 1000000 }
+    ensures kept { OnOk result (entries.new.items ≡ entries.old.items) }
+    ensures same { Gives (at.room + 1) (at.left + 1) result (made (λ xs. expr.cases place (arms_with xs.0 (expr.other xs.1))) (both (each_of (arm_in at.primes (scope_at entries.old.items at.scope) at.bound) arms.now) (part_in at.primes (scope_at entries.old.items at.scope) at.bound last.now))) }
+{
+    let made = arms_of(alloc, entries, arms, at)?;
+    let left = made.left;
+    let last = expand(alloc, entries, last, Setting { left, ..at })?;
+    let core = cases_or_core(alloc, place, made.arms, last.core)?;
+    Ok(Expanded {
+        core,
+        left: last.left,
+    })
+}
+
+/// A product. Its operands stand in one list.
+#[cycle(expand)]
+fn product_node<'a>(
+    alloc: Global,
+    entries: &mut Vec<Entry<'a>>,
+    place: Place,
+    first: &'a Expr,
+    others: &'a [Expr],
+    at: Setting,
+) -> Result<Expanded, Failure>
+    requires linked { AreLinked entries.old.items }
+    requires scope { at.scope ≤ length entries.old.items }
+    requires small { at.bound + at.left ≤ 1000000 }
+    ensures kept { OnOk result (entries.new.items ≡ entries.old.items) }
+    ensures same { Gives (at.room + 1) (at.left + 1) result (made (λ xs. expr.product place (exprs (xs.0 ∷ xs.1))) (both (part_in at.primes (scope_at entries.old.items at.scope) at.bound first.now) (each_of (part_in at.primes (scope_at entries.old.items at.scope) at.bound) others.now))) }
+{
+    let first = expand(alloc, entries, first, at)?;
+    let left = first.left;
+    let others = each(alloc, entries, others, Setting { left, ..at })?;
+    let core = product_core(place, first.core, others.parts)?;
+    Ok(Expanded {
+        core,
+        left: others.left,
+    })
+}
+
+/// A record, or a set of records.
+#[cycle(expand)]
+fn fields_node<'a>(
+    alloc: Global,
+    entries: &mut Vec<Entry<'a>>,
+    place: Place,
+    node: Fielded,
+    fields: &'a [Field],
+    at: Setting,
+) -> Result<Expanded, Failure>
+    requires linked { AreLinked entries.old.items }
+    requires scope { at.scope ≤ length entries.old.items }
+    requires small { at.bound + at.left ≤ 1000000 }
+    ensures kept { OnOk result (entries.new.items ≡ entries.old.items) }
+    ensures same { Gives (at.room + 1) (at.left + 1) result (made (λ xs. nodes.fielded node place (fields_of xs)) (each_of (field_in at.primes (scope_at entries.old.items at.scope) at.bound) fields.now)) }
+{
+    let made = named_parts(alloc, entries, fields, at)?;
+    Ok(Expanded {
+        core: fielded_core(place, node, made.fields),
+        left: made.left,
+    })
+}
+
+/// Two expressions of one scope, the first of them under so many primes.
 #[cycle(expand)]
 fn two_parts<'a>(
     alloc: Global,
     entries: &mut Vec<Entry<'a>>,
     first: &'a Expr,
     second: &'a Expr,
-    scope: usize,
-    first_primes: Primes,
-    second_primes: Primes,
-    bound: usize,
-    room: usize,
-    left: usize,
+    primes: Primes,
+    at: Setting,
 ) -> Result<Pair, Failure>
     requires linked { AreLinked entries.old.items }
-    requires scope { scope ≤ length entries.old.items }
-    requires small { bound + room ≤ 1000 }
+    requires scope { at.scope ≤ length entries.old.items }
+    requires small { at.bound + at.left ≤ 1000000 }
     ensures kept { OnOk result (entries.new.items ≡ entries.old.items) }
-    ensures same { GivesTwo room left result (both (shown first_primes (expansion.expand (view first.now) (scope_at entries.old.items scope) bound)) (shown second_primes (expansion.expand (view second.now) (scope_at entries.old.items scope) bound))) }
+    ensures same { GivesTwo at.room at.left result (both (part_in primes (scope_at entries.old.items at.scope) at.bound first.now) (part_in at.primes (scope_at entries.old.items at.scope) at.bound second.now)) }
 {
-    let first = expand(
-        alloc,
-        entries,
-        first,
-        scope,
-        first_primes,
-        bound,
-        room,
-        left,
-    )?;
-    let second = expand(
-        alloc,
-        entries,
-        second,
-        scope,
-        second_primes,
-        bound,
-        room,
-        first.left,
-    )?;
+    let first = expand(alloc, entries, first, Setting { primes, ..at })?;
+    let left = first.left;
+    let second = expand(alloc, entries, second, Setting { left, ..at })?;
     Ok(Pair {
         first: first.core,
         second: second.core,
         left: second.left,
     })
-}
-
-fn push(parts: &mut Vec<Core>, core: Core) -> Result<(), Failure>
-    ensures ok { OnOk result (parts.new.items ≡ parts.old.items ++ core ∷ []) }
-    ensures err { IfErr result (λ e. e ≡ Failure.Memory) }
-{
-    match parts.push(core) {
-        Ok(()) => Ok(()),
-        Err(_) => Err(Failure::Memory),
-    }
-}
-
-/// Expressions of one scope.
-#[cycle(expand)]
-fn each<'a>(
-    alloc: Global,
-    entries: &mut Vec<Entry<'a>>,
-    trees: &'a [Expr],
-    scope: usize,
-    primes: Primes,
-    bound: usize,
-    room: usize,
-    left: usize,
-) -> Result<Parts, Failure>
-    requires linked { AreLinked entries.old.items }
-    requires scope { scope ≤ length entries.old.items }
-    requires small { bound + room ≤ 1000 }
-    ensures kept { OnOk result (entries.new.items ≡ entries.old.items) }
-    ensures same { GivesMany room left result (each_of (shown_part primes (scope_at entries.old.items scope) bound) trees.now) }
-{
-    let mut parts = Vec::new(alloc);
-    let mut rest = left;
-    for i in 0..trees.len() {
-        let part = expand(alloc, entries, &trees[i], scope, primes, bound, room, rest)?;
-        rest = part.left;
-        push(&mut parts, part.core)?;
-    }
-    Ok(Parts { parts, left: rest })
-}
-
-/// UNCHANGED of an expression under so many primes.
-#[cycle(expand)]
-fn kept<'a>(
-    alloc: Global,
-    entries: &mut Vec<Entry<'a>>,
-    place: Place,
-    tree: &'a Expr,
-    scope: usize,
-    primes: Primes,
-    bound: usize,
-    room: usize,
-    left: usize,
-) -> Result<Expanded, Failure>
-    requires linked { AreLinked entries.old.items }
-    requires scope { scope ≤ length entries.old.items }
-    requires small { bound + room < 1000 }
-    ensures kept { OnOk result (entries.new.items ≡ entries.old.items) }
-    ensures same { Gives (room + 1) (left + 1) result (kept_part primes place (scope_at entries.old.items scope) bound tree.now) }
-{
-    let mark = entries.len();
-    let found = find_head(entries, tree, scope, primes)?;
-    match tuple_items(found.form) {
-        Some(items) => {
-            let many = kept_each(
-                alloc,
-                entries,
-                place,
-                items,
-                found.scope,
-                found.primes,
-                bound,
-                room,
-                left,
-            )?;
-            entries.truncate(mark);
-            Ok(Expanded {
-                core: kept_core(place, many.parts),
-                left: many.left,
-            })
-        }
-        None => {
-            entries.truncate(mark);
-            let more = one_more(primes);
-            let two = two_parts(
-                alloc, entries, tree, tree, scope, more, primes, bound, room, left,
-            )?;
-            let core = two_core(alloc, place, Two::Equal, two.first, two.second)?;
-            Ok(Expanded {
-                core,
-                left: two.left,
-            })
-        }
-    }
-}
-
-/// The parts of a tuple.
-fn tuple_items<'a>(form: Form<'a>) -> Option<&'a [Expr]>
-    ensures { result ≡ tuple_parts form.entry }
-{
-    match form {
-        Form::Many(_, Many::Tuple, items) => Some(items),
-        _ => None,
-    }
-}
-
-/// UNCHANGED of expressions of one scope.
-#[cycle(expand)]
-fn kept_each<'a>(
-    alloc: Global,
-    entries: &mut Vec<Entry<'a>>,
-    place: Place,
-    trees: &'a [Expr],
-    scope: usize,
-    primes: Primes,
-    bound: usize,
-    room: usize,
-    left: usize,
-) -> Result<Parts, Failure>
-    requires linked { AreLinked entries.old.items }
-    requires scope { scope ≤ length entries.old.items }
-    requires small { bound + room ≤ 1000 }
-    ensures kept { OnOk result (entries.new.items ≡ entries.old.items) }
-    ensures same { GivesMany room left result (each_of (kept_part primes place (scope_at entries.old.items scope) bound) trees.now) }
-{
-    let mut parts = Vec::new(alloc);
-    let mut rest = left;
-    for i in 0..trees.len() {
-        let part = kept_one(
-            alloc, entries, place, &trees[i], scope, primes, bound, room, rest,
-        )?;
-        rest = part.left;
-        push(&mut parts, part.core)?;
-    }
-    Ok(Parts { parts, left: rest })
-}
-
-/// UNCHANGED of an expression, with at most `left` nodes and at most `room` of them on a path.
-#[cycle(expand)]
-#[tactic(auto, using(crate::proofs::Sizes::no_room, crate::proofs::Sizes::none_left))]
-fn kept_one<'a>(
-    alloc: Global,
-    entries: &mut Vec<Entry<'a>>,
-    place: Place,
-    tree: &'a Expr,
-    scope: usize,
-    primes: Primes,
-    bound: usize,
-    room: usize,
-    left: usize,
-) -> Result<Expanded, Failure>
-    requires linked { AreLinked entries.old.items }
-    requires scope { scope ≤ length entries.old.items }
-    requires small { bound + room ≤ 1000 }
-    ensures kept { OnOk result (entries.new.items ≡ entries.old.items) }
-    ensures same { Gives room left result (kept_part primes place (scope_at entries.old.items scope) bound tree.now) }
-{
-    if room == 0 {
-        return Err(Failure::TooLarge);
-    }
-    if left == 0 {
-        return Err(Failure::TooLarge);
-    }
-    kept(
-        alloc,
-        entries,
-        place,
-        tree,
-        scope,
-        primes,
-        bound,
-        room - 1,
-        left - 1,
-    )
-}
-
-/// One node for each name, one in another. The sets are in the scope `home`.
-#[cycle(expand)]
-fn nested<'a>(
-    alloc: Global,
-    entries: &mut Vec<Entry<'a>>,
-    place: Place,
-    node: Binding,
-    first: Bind<'a>,
-    rest: &[Bind<'a>],
-    home: usize,
-    scope: usize,
-    body: &'a Expr,
-    primes: Primes,
-    bound: usize,
-    room: usize,
-    left: usize,
-) -> Result<Expanded, Failure>
-    requires linked { AreLinked entries.old.items }
-    requires home { home ≤ length entries.old.items }
-    requires scope { scope ≤ length entries.old.items }
-    requires small { bound + room < 1000 }
-    ensures kept { OnOk result (entries.new.items ≡ entries.old.items) }
-    ensures same { Gives (room + 1) (left + 1) result (shown primes (expansion.nested node place (binds_in (first.entry ∷ rest.now) (scope_at entries.old.items home)) (expansion.expand (view body.now)) (scope_at entries.old.items scope) bound)) }
-{
-    let set = expand(alloc, entries, first.set, home, primes, bound, room, left)?;
-    let mark = entries.len();
-    let entry = Entry {
-        name: first.name.word.as_bytes(),
-        what: What::Bound(bound),
-        rest: scope,
-    };
-    let inside = enter(entries, entry)?;
-    let inner = within(
-        alloc,
-        entries,
-        place,
-        node,
-        rest,
-        home,
-        inside,
-        body,
-        primes,
-        bound + 1,
-        room,
-        set.left,
-    )?;
-    entries.truncate(mark);
-    let core = binding_core(alloc, place, node, set.core, inner.core)?;
-    Ok(Expanded {
-        core,
-        left: inner.left,
-    })
-}
-
-/// The nodes of the names that are left, or the body.
-#[cycle(expand)]
-#[tactic(auto, using(crate::proofs::Sizes::no_room, crate::proofs::Sizes::none_left))]
-fn within<'a>(
-    alloc: Global,
-    entries: &mut Vec<Entry<'a>>,
-    place: Place,
-    node: Binding,
-    binds: &[Bind<'a>],
-    home: usize,
-    scope: usize,
-    body: &'a Expr,
-    primes: Primes,
-    bound: usize,
-    room: usize,
-    left: usize,
-) -> Result<Expanded, Failure>
-    requires linked { AreLinked entries.old.items }
-    requires home { home ≤ length entries.old.items }
-    requires scope { scope ≤ length entries.old.items }
-    requires small { bound + room ≤ 1000 }
-    ensures kept { OnOk result (entries.new.items ≡ entries.old.items) }
-    ensures same { Gives room left result (shown primes (last_or (binds_in binds.now (scope_at entries.old.items home)) (expansion.expand (view body.now)) (expansion.nested node place (binds_in binds.now (scope_at entries.old.items home)) (expansion.expand (view body.now))) (scope_at entries.old.items scope) bound)) }
-{
-    let [first, rest @ ..] = binds else {
-        return expand(alloc, entries, body, scope, primes, bound, room, left);
-    };
-    if room == 0 {
-        return Err(Failure::TooLarge);
-    }
-    if left == 0 {
-        return Err(Failure::TooLarge);
-    }
-    nested(
-        alloc,
-        entries,
-        place,
-        node,
-        *first,
-        rest,
-        home,
-        scope,
-        body,
-        primes,
-        bound,
-        room - 1,
-        left - 1,
-    )
 }
 
 /// The expansion of an expression in a scope, with at most 200,000 nodes, of which at most 300 on a path.
@@ -527,13 +431,23 @@ pub(crate) fn expansion<'a>(
     tree: &'a Expr,
     scope: usize,
     primes: Primes,
+    sought: Option<Primes>,
 ) -> Result<Core, Failure>
     requires linked { AreLinked entries.old.items }
     requires scope { scope ≤ length entries.old.items }
-    ensures found { IfOk result (λ c. shown primes (expansion.expand (view tree.now) (scope_at entries.old.items scope) 0) ≡ Some (expr_of c)) }
+    ensures found { IfOk result (λ c. with_primes primes (expansion.expand (view tree.now) (scope_at entries.old.items scope) 0) ≡ Some (expr_of c)) }
     ensures limits { IfOk result (λ c. IsWithinLimits (expr_of c)) }
-    ensures none { IfErr result (λ f. f ≢ Failure.Memory → (e : expr.Expr) → shown primes (expansion.expand (view tree.now) (scope_at entries.old.items scope) 0) ≡ Some e → IsWithinLimits e → ⊥) }
+    ensures gone { IfErr result (λ f. (p : Place) → f ≡ Failure.NoExpansion p → with_primes primes (expansion.expand (view tree.now) (scope_at entries.old.items scope) 0) ≡ None) }
+    ensures none { IfErr result (λ f. f ≢ Failure.Memory → (e : expr.Expr) → with_primes primes (expansion.expand (view tree.now) (scope_at entries.old.items scope) 0) ≡ Some e → IsWithinLimits e → ⊥) }
 {
-    let made = expand(alloc, entries, tree, scope, primes, 0, 300, 200_000)?;
+    let at = Setting {
+        scope,
+        primes,
+        bound: 0,
+        room: 300,
+        left: 200_000,
+        sought,
+    };
+    let made = expand(alloc, entries, tree, at)?;
     Ok(made.core)
 }

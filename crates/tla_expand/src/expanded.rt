@@ -1,6 +1,7 @@
 //! Expressions that were expanded, and how many nodes there may still be.
 
 use tla_eval::Core;
+use tla_value::Text;
 
 #[derive(Drop)]
 pub(crate) struct Expanded {
@@ -12,6 +13,34 @@ pub(crate) struct Expanded {
 pub(crate) struct Two {
     pub(crate) first: Core,
     pub(crate) second: Core,
+    pub(crate) left: usize,
+}
+
+/// The arms of CASE.
+#[derive(Drop)]
+pub(crate) struct Arms {
+    pub(crate) arms: Vec<(Core, Core)>,
+    pub(crate) left: usize,
+}
+
+/// The fields of a record.
+#[derive(Drop)]
+pub(crate) struct Fields {
+    pub(crate) fields: Vec<(Text, Core)>,
+    pub(crate) left: usize,
+}
+
+/// An update of EXCEPT.
+#[derive(Drop)]
+pub(crate) struct Change {
+    pub(crate) path: Vec<Core>,
+    pub(crate) value: Core,
+    pub(crate) left: usize,
+}
+
+#[derive(Drop)]
+pub(crate) struct Changes {
+    pub(crate) updates: Vec<(Vec<Core>, Core)>,
     pub(crate) left: usize,
 }
 

@@ -2,14 +2,17 @@
 
 ghost use Rattle.std.specs.Prelude.{◌≡◌, IfSome, IfNone, ℕ, None};
 ghost use Rattle.tla_parse.specs.View.{view};
-ghost use Rattle.tla_expand.specs.Expand.{Scope, builtin_meaning, of_quantifier};
-ghost use Rattle.tla_expand.specs.Forms.{GivesForm, GivesPrefix, GivesIndex, form_in};
+ghost use Rattle.tla_expand.specs.Meanings.{Scope, builtin_meaning};
+ghost use Rattle.tla_expand.specs.Expand.{of_quantifier};
+ghost use Rattle.tla_expand.specs.Forms.{GivesForm, GivesPrefix, form_in};
 ghost use Rattle.tla_expand.specs.Forms as spec;
 ghost use Rattle.tla_expand.specs.Scopes.{arguments_in};
 
 use crate::builders::place_of;
-use crate::nodes::{Binding, Builtin, Form, Leaf, Many, One, Shape, Three, Two};
-use crate::operators::{infix_for, unary_for};
+use crate::nodes::{
+    Binders, Binding, Builtin, Fielded, Form, Gather, Headed, Leaf, Many, One, Shape, Three, Two,
+};
+use crate::operators::{infix_for, prefix_for};
 use tla_eval::Place;
 use tla_parse::{Brackets, Bullet, Expr, Prefix, Quantifier};
 
@@ -48,7 +51,6 @@ fn plain_form<'a>(tree: &'a Expr) -> Shape<'a>
         Expr::Number(at, number) => Shape::Form(Form::Leaf(place_of(*at), Leaf::Number(*number))),
         Expr::Text(at, word) => Shape::Form(Form::Leaf(place_of(*at), Leaf::Text(word))),
         Expr::Constant(at, word) => Shape::Form(Form::Leaf(place_of(*at), Leaf::Word(*word))),
-        Expr::At(at) => Shape::Nothing(place_of(*at)),
         Expr::Listing(at, brackets, items) => {
             let node = of_brackets(*brackets);
             Shape::Form(Form::Many(place_of(*at), node, items.as_slice()))
@@ -78,20 +80,10 @@ fn prefix_form<'a>(at: Place, operator: Prefix, operand: &'a Expr) -> Shape<'a>
     if let Prefix::Unchanged = operator {
         return Shape::Form(Form::Unchanged(at, operand));
     }
-    match unary_for(operator) {
-        Some(node) => Shape::Form(Form::One(at, One::Unary(node), operand)),
+    match prefix_for(operator) {
+        Some(node) => Shape::Form(Form::One(at, node, operand)),
         None => Shape::Nothing(at),
     }
-}
-
-/// The application of a function.
-fn index_form<'a>(at: Place, function: &'a Expr, arguments: &'a [Expr]) -> Shape<'a>
-    ensures { GivesIndex result at (view function.now) arguments.now }
-{
-    if arguments.len() != 1 {
-        return Shape::Nothing(at);
-    }
-    Shape::Form(Form::Two(at, Two::Apply, function, &arguments[0]))
 }
 
 /// The form of an expression that binds names, has arguments or a prefix operator.
@@ -101,26 +93,60 @@ fn other_form<'a>(tree: &'a Expr) -> Shape<'a>
     match tree {
         Expr::Unary(at, operator, operand) => prefix_form(place_of(*at), *operator, operand),
         Expr::Index(at, function, arguments) => {
-            index_form(place_of(*at), function, arguments.as_slice())
+            let arguments = arguments.as_slice();
+            Shape::Form(Form::Headed(place_of(*at), Headed::Index, function, arguments))
         }
         Expr::Quantified(at, quantifier, groups, body) => {
-            let node = of_quantifier(*quantifier);
+            let node = Binders::Nested(of_quantifier(*quantifier));
             Shape::Form(Form::Binders(place_of(*at), node, groups.as_slice(), body))
         }
         Expr::Choose(at, name, set, body) => {
             Shape::Form(Form::Binds(place_of(*at), Binding::Choose, name, set, body))
         }
-        Expr::Case(at, _, _)
-        | Expr::Filter(at, _, _, _)
-        | Expr::Image(at, _, _)
-        | Expr::Function(at, _, _)
-        | Expr::FunctionSet(at, _, _)
-        | Expr::Record(at, _)
-        | Expr::RecordSet(at, _)
-        | Expr::Except(at, _, _)
-        | Expr::Action(at, _, _, _)
-        | Expr::Fair(at, _, _, _)
-        | Expr::Product(at, _, _) => Shape::Nothing(place_of(*at)),
+        Expr::Filter(at, name, set, body) => {
+            Shape::Form(Form::Binds(place_of(*at), Binding::Filter, name, set, body))
+        }
+        Expr::Image(at, body, groups) => {
+            let node = Binders::Gathered(Gather::Image);
+            Shape::Form(Form::Binders(place_of(*at), node, groups.as_slice(), body))
+        }
+        Expr::Function(at, groups, body) => {
+            let node = Binders::Gathered(Gather::Function);
+            Shape::Form(Form::Binders(place_of(*at), node, groups.as_slice(), body))
+        }
+        Expr::Case(at, arms, other) => match other {
+            None => Shape::Form(Form::Cases(place_of(*at), arms.as_slice(), None)),
+            Some(last) => Shape::Form(Form::Cases(place_of(*at), arms.as_slice(), Some(last))),
+        },
+        _ => Shape::Goes,
+    }
+}
+
+/// The form of a set of functions, a record, a set of records, a product, an EXCEPT, or an action with a subscript.
+fn made_form<'a>(tree: &'a Expr) -> Shape<'a>
+    ensures { GivesForm result (view tree.now) }
+{
+    match tree {
+        Expr::FunctionSet(at, domain, range) => {
+            Shape::Form(Form::Two(place_of(*at), Two::Functions, domain, range))
+        }
+        Expr::Record(at, fields) => {
+            Shape::Form(Form::Fields(place_of(*at), Fielded::Record, fields.as_slice()))
+        }
+        Expr::RecordSet(at, fields) => {
+            Shape::Form(Form::Fields(place_of(*at), Fielded::Records, fields.as_slice()))
+        }
+        Expr::Product(at, first, others) => {
+            Shape::Form(Form::Headed(place_of(*at), Headed::Product, first, others.as_slice()))
+        }
+        Expr::Except(at, function, updates) => {
+            Shape::Form(Form::Except(place_of(*at), function, updates.as_slice()))
+        }
+        Expr::Action(at, step, action, v) => {
+            let place_v = place_of(v.place());
+            Shape::Form(Form::Action(place_of(*at), *step, action, place_v, v))
+        }
+        Expr::Fair(at, _, _, _) => Shape::Nothing(place_of(*at)),
         _ => Shape::Goes,
     }
 }
@@ -130,7 +156,10 @@ pub(crate) fn form_of<'a>(tree: &'a Expr) -> Shape<'a>
     ensures { GivesForm result (view tree.now) }
 {
     match plain_form(tree) {
-        Shape::Goes => other_form(tree),
+        Shape::Goes => match other_form(tree) {
+            Shape::Goes => made_form(tree),
+            found => found,
+        },
         found => found,
     }
 }
@@ -147,6 +176,10 @@ pub(crate) fn builtin_form<'a>(
     match builtin {
         Builtin::Kinds(kind) => match arguments {
             [] => Some(Form::Leaf(place, Leaf::Kinds(kind))),
+            _ => None,
+        },
+        Builtin::Sequences => match arguments {
+            [first] => Some(Form::One(place, One::Sequences, first)),
             _ => None,
         },
         Builtin::One(operator) => match arguments {

@@ -4,26 +4,31 @@ ghost use Rattle.std.specs.Prelude.{◌≡◌, ◌≤◌, length, ℕ, List, map
 ghost use Rattle.tla_parse.specs.View.{view, definition_view};
 ghost use Rattle.tla_parse.specs.Tree.{definitions as definitions_of};
 ghost use Rattle.tla_expand.specs.declared.arena.Entry as arena_entry;
-ghost use Rattle.tla_expand.specs.Expand.{Scope, standard, expand, definitions_in, definition_in};
+ghost use Rattle.tla_expand.specs.Meanings.{Scope, standard, builtin_meaning};
+ghost use Rattle.tla_expand.specs.Expand.{expand, definitions_in, definition_in};
 ghost use Rattle.tla_expand.specs.Scopes.{AreLinked, IsBelow, Extends, scope_at, entry_scope, arguments_in};
-ghost use Rattle.tla_expand.specs.Gives.{shown, step_gives, head_gives, IsWithin, Explains};
+ghost use Rattle.tla_expand.specs.Gives.{step_gives, head_gives, IsWithin, Explains};
+ghost use Rattle.tla_expand.specs.Primes.{with_primes};
 
 use crate::arena::{Entry, What, bind, enter, find};
 use crate::builders::place_of;
 use crate::failure::Failure;
 use crate::forms::{builtin_form, form_of};
-use crate::nodes::{Form, Leaf, Shape};
+use crate::nodes::{Binders, Builtin, Form, Gather, Leaf, Shape};
 use crate::operators::builtin_for;
 use crate::primes::{Primes, one_more};
+use crate::shortened::shortened;
 use tla_eval::Place;
 use tla_parse::{Definition, Expr};
 
-/// A form, with the scope of its parts and so many primes on it.
+/// A form, with the scope of its parts and so many primes on it; and where the last of them stands that was met on the
+/// way to it.
 #[derive(Clone, Copy)]
 pub(crate) struct Head<'a> {
     pub(crate) form: Form<'a>,
     pub(crate) scope: usize,
     pub(crate) primes: Primes,
+    pub(crate) primed: Option<Place>,
 }
 
 /// An expression in a scope, with primes on it; or its form.
@@ -42,17 +47,33 @@ fn use_of_module<'a>(
     primes: Primes,
 ) -> Result<Head<'a>, Failure>
     ensures scope { IfOk result (λ h. h.scope ≡ scope) }
-    ensures same { IfOk result (λ h. (es : List arena_entry.Entry) (d : ℕ) → shown primes (standard name.now place (arguments_in arguments.now (scope_at es scope)) d) ≡ head_gives es h d) }
+    ensures same { IfOk result (λ h. (es : List arena_entry.Entry) (d : ℕ) → with_primes primes (standard name.now place (arguments_in arguments.now (scope_at es scope)) d) ≡ head_gives es h d) }
     ensures err { IfErr result (λ e. (σ : Scope) → Explains e (λ d. standard name.now place (arguments_in arguments.now σ) d)) }
 {
     let Some(builtin) = builtin_for(name) else {
         return Err(Failure::NoExpansion(place));
     };
+    use_of_builtin(place, builtin, arguments, scope, primes)
+}
+
+/// The use of an operator of a module.
+fn use_of_builtin<'a>(
+    place: Place,
+    builtin: Builtin,
+    arguments: &'a [Expr],
+    scope: usize,
+    primes: Primes,
+) -> Result<Head<'a>, Failure>
+    ensures scope { IfOk result (λ h. h.scope ≡ scope) }
+    ensures same { IfOk result (λ h. (es : List arena_entry.Entry) (d : ℕ) → with_primes primes (builtin_meaning builtin place (arguments_in arguments.now (scope_at es scope)) d) ≡ head_gives es h d) }
+    ensures err { IfErr result (λ e. (σ : Scope) → Explains e (λ d. builtin_meaning builtin place (arguments_in arguments.now σ) d)) }
+{
     match builtin_form(place, builtin, arguments) {
         Some(form) => Ok(Head {
             form,
             scope,
             primes,
+            primed: None,
         }),
         None => Err(Failure::NoExpansion(place)),
     }
@@ -72,34 +93,49 @@ pub(crate) fn use_of<'a>(
     ensures linked { OnOk result (AreLinked entries.new.items) }
     ensures extends { OnOk result (Extends entries.new.items entries.old.items) }
     ensures within { IfOk result (λ s. IsWithin entries.new.items s) }
-    ensures same { IfOk result (λ s. (d : ℕ) → shown primes (scope_at entries.old.items scope name.now place (arguments_in arguments.now (scope_at entries.old.items scope)) d) ≡ step_gives entries.new.items s d) }
+    ensures same { IfOk result (λ s. (d : ℕ) → with_primes primes (scope_at entries.old.items scope name.now place (arguments_in arguments.now (scope_at entries.old.items scope)) d) ≡ step_gives entries.new.items s d) }
     ensures err { IfErr result (λ e. Explains e (λ d. scope_at entries.old.items scope name.now place (arguments_in arguments.now (scope_at entries.old.items scope)) d)) }
 {
     let Some(entry) = find(entries.as_slice(), scope, name) else {
         let head = use_of_module(place, name, arguments, scope, primes)?;
         return Ok(Step::Ends(head));
     };
-    if let What::Definition(parameters, body) = entry.what {
+    if let What::Definition(parameters, body, home) = entry.what {
         if parameters.len() != arguments.len() {
             return Err(Failure::NoExpansion(place));
         }
-        let inner = bind(entries, parameters, entry.rest, arguments, scope)?;
+        let inner = bind(entries, parameters, home, arguments, scope)?;
         return Ok(Step::Goes(body, inner, primes));
+    }
+    if let What::Module(builtin) = entry.what {
+        let head = use_of_builtin(place, builtin, arguments, scope, primes)?;
+        return Ok(Step::Ends(head));
     }
     if arguments.len() > 0 {
         return Err(Failure::NoExpansion(place));
     }
     let form = match entry.what {
         What::Argument(tree, from) => return Ok(Step::Goes(tree, from, primes)),
+        What::Function(at, groups, body, home) => {
+            return Ok(Step::Ends(Head {
+                form: Form::Binders(at, Binders::Gathered(Gather::Function), groups, body),
+                scope: home,
+                primes,
+                primed: None,
+            }));
+        }
         What::Bound(index) => Form::Leaf(place, Leaf::Bound(index)),
         What::Variable(index) => Form::Variable(place, index),
         What::Value(value) => Form::Leaf(place, Leaf::Value(value)),
-        What::Definition(_, _) | What::Unknown => return Err(Failure::NoExpansion(place)),
+        What::Definition(_, _, _) | What::Module(_) | What::Unknown => return Err(
+            Failure::NoExpansion(place),
+        ),
     };
     Ok(Step::Ends(Head {
         form,
         scope,
         primes,
+        primed: None,
     }))
 }
 
@@ -119,27 +155,37 @@ fn define<'a>(
 {
     let mut at = scope;
     for i in 0..definitions.len() {
-        let entry = entry_of(&definitions[i], at);
+        let entry = entry_of(entries.as_slice(), &definitions[i], at);
         at = enter(entries, entry)?;
     }
     Ok(at)
 }
 
 /// The entry of a definition behind a scope.
-pub(crate) fn entry_of<'a>(definition: &'a Definition, scope: usize) -> Entry<'a>
+pub(crate) fn entry_of<'a>(
+    entries: &[Entry<'a>],
+    definition: &'a Definition,
+    scope: usize,
+) -> Entry<'a>
+    requires linked { AreLinked entries.now }
+    requires within { scope ≤ length entries.now }
     ensures rest { result.rest ≡ scope }
     ensures below { IsBelow scope result.what result.rest }
-    ensures scope { (at : ℕ → Scope) → entry_scope at result ≡ definition_in (definition_view definition.now) (at scope) }
+    ensures scope { entry_scope (scope_at entries.now) result ≡ definition_in (definition_view definition.now) (scope_at entries.now scope) }
 {
     match definition {
-        Definition::Operator(name, parameters, body) => Entry {
+        Definition::Operator(name, parameters, body) => {
+            let parameters = parameters.as_slice();
+            let body = shortened(entries, scope, parameters, body);
+            Entry {
+                name: name.word.as_bytes(),
+                what: What::Definition(parameters, body, scope),
+                rest: scope,
+            }
+        }
+        Definition::Function(name, groups, body) => Entry {
             name: name.word.as_bytes(),
-            what: What::Definition(parameters.as_slice(), body),
-            rest: scope,
-        },
-        Definition::Function(name, _, _) => Entry {
-            name: name.word.as_bytes(),
-            what: What::Unknown,
+            what: What::Function(place_of(name.place), groups.as_slice(), body, scope),
             rest: scope,
         },
     }
@@ -157,7 +203,7 @@ fn go<'a>(
     ensures linked { OnOk result (AreLinked entries.new.items) }
     ensures extends { OnOk result (Extends entries.new.items entries.old.items) }
     ensures within { IfOk result (λ s. IsWithin entries.new.items s) }
-    ensures same { IfOk result (λ s. (d : ℕ) → shown primes (expand (view tree.now) (scope_at entries.old.items scope) d) ≡ step_gives entries.new.items s d) }
+    ensures same { IfOk result (λ s. (d : ℕ) → with_primes primes (expand (view tree.now) (scope_at entries.old.items scope) d) ≡ step_gives entries.new.items s d) }
     ensures err { IfErr result (λ e. Explains e (λ d. expand (view tree.now) (scope_at entries.old.items scope) d)) }
 {
     match tree {
@@ -170,6 +216,7 @@ fn go<'a>(
             let arguments = arguments.as_slice();
             use_of(entries, at, name.word.as_bytes(), arguments, scope, primes)
         }
+        Expr::At(at) => use_of(entries, place_of(*at), b"@".as_slice(), &[], scope, primes),
         Expr::Paren(_, inner) => Ok(Step::Goes(inner, scope, primes)),
         Expr::Prime(_, inner) => Ok(Step::Goes(inner, scope, one_more(primes))),
         Expr::Let(_, definitions, inner) => {
@@ -192,7 +239,7 @@ fn next_step<'a>(
     ensures linked { OnOk result (AreLinked entries.new.items) }
     ensures extends { OnOk result (Extends entries.new.items entries.old.items) }
     ensures within { IfOk result (λ s. IsWithin entries.new.items s) }
-    ensures same { IfOk result (λ s. (d : ℕ) → shown primes (expand (view tree.now) (scope_at entries.old.items scope) d) ≡ step_gives entries.new.items s d) }
+    ensures same { IfOk result (λ s. (d : ℕ) → with_primes primes (expand (view tree.now) (scope_at entries.old.items scope) d) ≡ step_gives entries.new.items s d) }
     ensures err { IfErr result (λ e. Explains e (λ d. expand (view tree.now) (scope_at entries.old.items scope) d)) }
 {
     match form_of(tree) {
@@ -202,7 +249,16 @@ fn next_step<'a>(
             form,
             scope,
             primes,
+            primed: None,
         })),
+    }
+}
+
+/// Where the last prime stands, with that of an expression.
+fn last_prime(tree: &Expr, before: Option<Place>) -> Option<Place> {
+    match tree {
+        Expr::Prime(at, _) => Some(place_of(*at)),
+        _ => before,
     }
 }
 
@@ -218,16 +274,18 @@ pub(crate) fn find_head<'a>(
     ensures linked { OnOk result (AreLinked entries.new.items) }
     ensures extends { OnOk result (Extends entries.new.items entries.old.items) }
     ensures within { IfOk result (λ h. h.scope ≤ length entries.new.items) }
-    ensures same { IfOk result (λ h. (d : ℕ) → shown primes (expand (view start.now) (scope_at entries.old.items scope) d) ≡ head_gives entries.new.items h d) }
-    ensures err { IfErr result (λ e. Explains e (λ d. shown primes (expand (view start.now) (scope_at entries.old.items scope) d))) }
+    ensures same { IfOk result (λ h. (d : ℕ) → with_primes primes (expand (view start.now) (scope_at entries.old.items scope) d) ≡ head_gives entries.new.items h d) }
+    ensures err { IfErr result (λ e. Explains e (λ d. with_primes primes (expand (view start.now) (scope_at entries.old.items scope) d))) }
 {
     let mut tree = start;
     let mut at = scope;
     let mut with = primes;
+    let mut primed = None;
     for _turn in 0..u64::MAX {
         match next_step(entries, tree, at, with)? {
-            Step::Ends(head) => return Ok(head),
+            Step::Ends(head) => return Ok(Head { primed, ..head }),
             Step::Goes(next, inner, more) => {
+                primed = last_prime(tree, primed);
                 tree = next;
                 at = inner;
                 with = more;

@@ -7,6 +7,7 @@
 mod arena;
 mod binders;
 mod builders;
+mod conjunction;
 mod expand;
 mod expanded;
 mod failure;
@@ -18,6 +19,7 @@ mod nodes;
 mod operators;
 mod primes;
 mod scopes;
+mod shortened;
 
 pub use failure::Failure;
 pub use primes::Primes;

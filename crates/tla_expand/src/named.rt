@@ -6,12 +6,12 @@ ghost use Rattle.tla_eval.specs.ExprOf.{expr_of};
 ghost use Rattle.tla_model.specs.Size.{IsWithinLimits};
 ghost use Rattle.tla_parse.specs.Tree.{Name};
 ghost use Rattle.tla_expand.specs.Expand as expansion;
-ghost use Rattle.tla_expand.specs.Gives.{shown};
+ghost use Rattle.tla_expand.specs.Primes.{with_primes};
 ghost use Rattle.tla_expand.specs.Scopes.{AreLinked, scope_at};
 
 use crate::arena::Entry;
 use crate::builders::place_of;
-use crate::expand::{expand, node_of};
+use crate::expand::{Setting, expand, node_of};
 use crate::failure::Failure;
 use crate::heads::{Step, use_of};
 use crate::primes::Primes;
@@ -27,22 +27,39 @@ pub(crate) fn named_expansion<'a>(
     name: &Written,
     scope: usize,
     primes: Primes,
+    sought: Option<Primes>,
 ) -> Result<Core, Failure>
     requires linked { AreLinked entries.old.items }
     requires scope { scope ≤ length entries.old.items }
-    ensures found { IfOk result (λ c. shown primes (expansion.expand (Name name.now) (scope_at entries.old.items scope) 0) ≡ Some (expr_of c)) }
+    ensures found { IfOk result (λ c. with_primes primes (expansion.expand (Name name.now) (scope_at entries.old.items scope) 0) ≡ Some (expr_of c)) }
     ensures limits { IfOk result (λ c. IsWithinLimits (expr_of c)) }
-    ensures none { IfErr result (λ f. f ≢ Failure.Memory → (e : expr.Expr) → shown primes (expansion.expand (Name name.now) (scope_at entries.old.items scope) 0) ≡ Some e → IsWithinLimits e → ⊥) }
+    ensures none { IfErr result (λ f. f ≢ Failure.Memory → (e : expr.Expr) → with_primes primes (expansion.expand (Name name.now) (scope_at entries.old.items scope) 0) ≡ Some e → IsWithinLimits e → ⊥) }
 {
     let at = place_of(name.place);
     let word = name.word.as_bytes();
     match use_of(entries, at, word, &[], scope, primes)? {
-        Step::Goes(tree, inner, more) => {
-            let made = expand(alloc, entries, tree, inner, more, 0, 300, 200_000)?;
+        Step::Goes(tree, scope, primes) => {
+            let inside = Setting {
+                scope,
+                primes,
+                bound: 0,
+                room: 300,
+                left: 200_000,
+                sought,
+            };
+            let made = expand(alloc, entries, tree, inside)?;
             Ok(made.core)
         }
         Step::Ends(head) => {
-            let made = node_of(alloc, entries, head, 0, 299, 199_999)?;
+            let inside = Setting {
+                scope: head.scope,
+                primes: head.primes,
+                bound: 0,
+                room: 299,
+                left: 199_999,
+                sought,
+            };
+            let made = node_of(alloc, entries, head.form, inside)?;
             Ok(made.core)
         }
     }

@@ -1,7 +1,7 @@
 //! The nodes that forms make of their parts, and forms with their parts.
 
 use tla_eval::{Binary, Kind, Place, Unary};
-use tla_parse::{Binder, Constant, Expr, Word, Written};
+use tla_parse::{Arm, Binder, Constant, Expr, Field, Step, Update, Word, Written};
 use tla_value::Value;
 
 /// A node without parts.
@@ -20,6 +20,10 @@ pub(crate) enum Leaf<'a> {
 #[derive(Clone, Copy)]
 pub(crate) enum One<'a> {
     Unary(Unary),
+    /// `SUBSET S`
+    Power,
+    /// `Seq(S)`
+    Sequences,
     /// `r.a`
     Field(&'a Word),
 }
@@ -41,6 +45,8 @@ pub(crate) enum Two {
     Cap,
     Minus,
     Assert,
+    /// `[S -> T]`
+    Functions,
 }
 
 /// A node of three parts.
@@ -57,6 +63,8 @@ pub(crate) enum Many {
     Tuple,
     And,
     Or,
+    /// `a \X b`
+    Product,
 }
 
 /// A node of a set and of a body that has one bound name more.
@@ -65,12 +73,51 @@ pub(crate) enum Binding {
     ForAll,
     ForSome,
     Choose,
+    /// `{x \in S : p}`
+    Filter,
+}
+
+/// A node of sets, and of a body that has one bound name more for each.
+#[derive(Clone, Copy)]
+pub(crate) enum Gather {
+    /// `{e : x \in S}`
+    Image,
+    /// `[x \in S |-> e]`
+    Function,
+}
+
+/// What is made of the names of a binder list, their sets and a body.
+#[derive(Clone, Copy)]
+pub(crate) enum Binders {
+    /// One node for each name, one in another.
+    Nested(Binding),
+    /// One node for all.
+    Gathered(Gather),
+}
+
+/// A node of a first part and others.
+#[derive(Clone, Copy)]
+pub(crate) enum Headed {
+    /// `f[e, ..]`
+    Index,
+    /// `a \X b \X ..`
+    Product,
+}
+
+/// A node of fields with their names.
+#[derive(Clone, Copy)]
+pub(crate) enum Fielded {
+    /// `[a |-> e]`
+    Record,
+    /// `[a : S]`
+    Records,
 }
 
 /// An operator of a module that is used by its name.
 #[derive(Clone, Copy)]
 pub(crate) enum Builtin {
     Kinds(Kind),
+    Sequences,
     One(Unary),
     Two(Two),
     Three(Three),
@@ -86,10 +133,41 @@ pub(crate) enum Form<'a> {
     Two(Place, Two, &'a Expr, &'a Expr),
     Three(Place, Three, &'a Expr, &'a Expr, &'a Expr),
     Many(Place, Many, &'a [Expr]),
+    /// A first part, and others.
+    Headed(Place, Headed, &'a Expr, &'a [Expr]),
+    /// CASE, with the value of OTHER.
+    Cases(Place, &'a [Arm], Option<&'a Expr>),
     Unchanged(Place, &'a Expr),
-    Binders(Place, Binding, &'a [Binder], &'a Expr),
+    Binders(Place, Binders, &'a [Binder], &'a Expr),
+    Fields(Place, Fielded, &'a [Field]),
+    /// EXCEPT
+    Except(Place, &'a Expr, &'a [Update]),
+    /// `[A]_v` or `<<A>>_v`, with the place of v.
+    Action(Place, Step, &'a Expr, Place, &'a Expr),
     /// A set, and a body under one name.
     Binds(Place, Binding, &'a Written, &'a Expr, &'a Expr),
+}
+
+impl<'a> Form<'a> {
+    /// Where it stands.
+    pub(crate) fn place(&self) -> Place {
+        match self {
+            Form::Leaf(place, _)
+            | Form::Variable(place, _)
+            | Form::One(place, _, _)
+            | Form::Two(place, _, _, _)
+            | Form::Three(place, _, _, _, _)
+            | Form::Many(place, _, _)
+            | Form::Headed(place, _, _, _)
+            | Form::Cases(place, _, _)
+            | Form::Unchanged(place, _)
+            | Form::Binders(place, _, _, _)
+            | Form::Fields(place, _, _)
+            | Form::Except(place, _, _)
+            | Form::Action(place, _, _, _, _)
+            | Form::Binds(place, _, _, _, _) => *place,
+        }
+    }
 }
 
 /// What an expression is: a form with its parts, one that has no expansion, or one that stands for another expression.

@@ -1,24 +1,24 @@
 //! The operators that have an expansion.
 
-ghost use Rattle.std.specs.Prelude.{◌≡◌, option_map};
-ghost use Rattle.tla_eval.specs.ExprOf.{unary_of};
+ghost use Rattle.std.specs.Prelude.{◌≡◌};
 ghost use Rattle.tla_expand.specs.Operators as operators;
 ghost use Rattle.tla_expand.specs.Library.{library};
 
-use crate::nodes::{Builtin, Three, Two};
+use crate::nodes::{Builtin, One, Three, Two};
 use tla_eval::{Binary, Kind, Unary};
 use tla_parse::{Infix, Prefix};
 
-/// The operator on one value that a prefix operator stands for.
-pub(crate) fn unary_for(operator: Prefix) -> Option<Unary>
-    ensures { option_map unary_of result ≡ operators.unary_for operator }
+/// The node of one part that a prefix operator stands for.
+pub(crate) fn prefix_for<'a>(operator: Prefix) -> Option<One<'a>>
+    ensures { result ≡ operators.prefix_for operator }
 {
     match operator {
-        Prefix::Not => Some(Unary::Not),
-        Prefix::Negate => Some(Unary::Negate),
-        Prefix::Union => Some(Unary::Union),
-        Prefix::Domain => Some(Unary::Domain),
-        _ => None,
+        Prefix::Not => Some(One::Unary(Unary::Not)),
+        Prefix::Negate => Some(One::Unary(Unary::Negate)),
+        Prefix::Subset => Some(One::Power),
+        Prefix::Union => Some(One::Unary(Unary::Union)),
+        Prefix::Domain => Some(One::Unary(Unary::Domain)),
+        Prefix::Always | Prefix::Eventually | Prefix::Unchanged => None,
     }
 }
 
@@ -53,7 +53,8 @@ pub(crate) fn infix_for(operator: Infix) -> Option<Two>
         Infix::Pair => Some(Two::Binary(Binary::Single)),
         Infix::Override => Some(Two::Binary(Binary::Override)),
         Infix::Concatenation => Some(Two::Binary(Binary::Concat)),
-        Infix::LeadsTo | Infix::Product => None,
+        Infix::Product => None,
+        Infix::LeadsTo => None,
     }
 }
 
@@ -65,6 +66,8 @@ pub(crate) fn builtin_for(name: &[u8]) -> Option<Builtin>
         Some(Builtin::Kinds(Kind::Naturals))
     } else if name == b"Int".as_slice() {
         Some(Builtin::Kinds(Kind::Integers))
+    } else if name == b"Seq".as_slice() {
+        Some(Builtin::Sequences)
     } else if name == b"Len".as_slice() {
         Some(Builtin::One(Unary::Len))
     } else if name == b"Head".as_slice() {

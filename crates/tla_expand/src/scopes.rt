@@ -1,65 +1,105 @@
 //! The names of a module, with what they mean.
 
-ghost use Rattle.std.specs.Prelude.{◌≡◌, ◌≢◌, [], length, IfOk, IfErr, Some};
+ghost use Rattle.std.specs.Prelude.{◌≡◌, ◌≢◌, ◌≤◌, [], length, map, IfOk, IfErr, Some, None};
+ghost use Rattle.std.specs.Borrow.{Bor};
+ghost use Rattle.tla_eval.specs.declared.fault.Place.{Place};
 ghost use Rattle.tla_eval.specs.Expr as expr;
 ghost use Rattle.tla_eval.specs.ExprOf.{expr_of};
 ghost use Rattle.tla_model.specs.Size.{IsWithinLimits};
-ghost use Rattle.tla_parse.specs.Tree.{Name};
+ghost use Rattle.tla_parse.specs.Tree.{Name, Junction, trees as trees_of};
+ghost use Rattle.tla_parse.specs.declared.tree.Bullet.TheVariants as bullet;
+ghost use Rattle.tla_parse.specs.declared.tree.Expr as syntax;
 ghost use Rattle.tla_parse.specs.View.{view, definition_view};
-ghost use Rattle.tla_expand.specs.Expand.{standard, with_name, variable, value_name, operator, definition_in, expand};
+ghost use Rattle.tla_expand.specs.Meanings.{standard, with_name, variable, value_name, operator};
+ghost use Rattle.tla_expand.specs.Expand.{definition_in, expand};
 ghost use Rattle.tla_expand.specs.Scopes.{AreLinked, IsBelow, entry_scope, scope_at};
 ghost use Rattle.tla_expand.specs.Linked.{AreLinked-prop};
-ghost use Rattle.tla_expand.specs.Gives.{shown};
+ghost use Rattle.tla_expand.specs.Primes.{with_primes};
 
-use crate::arena::{Entry, What, enter};
+use crate::arena::{Entry, What, enter, find};
+use crate::conjunction::conjunction;
 use crate::expand::expansion;
 use crate::failure::Failure;
 use crate::heads::entry_of;
 use crate::named::named_expansion;
+use crate::operators::builtin_for;
 use crate::primes::Primes;
 use std::alloc::Global;
-use tla_eval::Core;
+use tla_eval::{Core, Place};
 use tla_parse::{Definition, Expr, Word, Written};
 use tla_value::Value;
 
+/// Where there is no expansion: the place that was sought, or where that ended otherwise, the one that was met first.
+fn refused_at(sought: Result<Core, Failure>, first: Place) -> Place {
+    match sought {
+        Err(Failure::NoExpansion(place)) => place,
+        _ => first,
+    }
+}
+
 /// The names that are known so far, each with its meaning. Those of the modules' own operators, as `Len`, always are.
+/// Round them stands the scope that was made before, if any.
 #[derive(Drop)]
 pub struct Scopes<'a> {
     entries: Vec<Entry<'a>>,
+    current: usize,
+    outer: usize,
     ghost linked: { AreLinked entries.items } by { AreLinked-prop entries.items },
+    ghost current_within: { current ≤ length entries.items },
+    ghost outer_within: { outer ≤ length entries.items },
 }
 
 impl<'a> Scopes<'a> {
-    ghost use Rattle.tla_expand.specs.Names.{scope_of};
+    ghost use Rattle.tla_expand.specs.Names.{scope_of, outer_of};
 
-    /// The scope round a module.
+    /// The scope round a module, and no names before it.
     pub fn new(alloc: Global) -> Scopes<'a>
-        ensures { scope_of result ≡ standard }
+        ensures current { scope_of result ≡ standard }
+        ensures outer { outer_of result ≡ standard }
     {
         Scopes {
             entries: Vec::new(alloc),
+            current: 0,
+            outer: 0,
         }
     }
 
-    /// One entry more. The only error is want of memory.
+    /// The scope round a module once more; what was known so far is before it.
+    pub fn anew(self) -> Scopes<'a>
+        ensures current { scope_of result ≡ standard }
+        ensures outer { outer_of result ≡ scope_of self.entry }
+    {
+        Scopes {
+            entries: self.entries,
+            current: 0,
+            outer: self.current,
+        }
+    }
+
+    /// With an entry more. The only error is want of memory.
     fn with_entry(self, entry: Entry<'a>) -> Result<Scopes<'a>, Failure>
         requires { IsBelow (length self.entries.items) entry.what entry.rest }
         ensures ok { IfOk result (λ s. scope_of s ≡ entry_scope (scope_at self.entry.entries.items) entry.entry) }
+        ensures outer { IfOk result (λ s. outer_of s ≡ outer_of self.entry) }
         ensures err { IfErr result (λ e. e ≡ Failure.Memory) }
     {
+        let outer = self.outer;
         let mut entries = self.entries;
-        match enter(&mut entries, entry) {
-            Ok(_) => Ok(Scopes { entries }),
-            Err(e) => Err(e),
-        }
+        let current = enter(&mut entries, entry)?;
+        Ok(Scopes {
+            entries,
+            current,
+            outer,
+        })
     }
 
     /// With a variable and its number. The only error is want of memory.
     pub fn with_variable(self, name: &'a Word, number: usize) -> Result<Scopes<'a>, Failure>
         ensures ok { IfOk result (λ s. scope_of s ≡ with_name name.now (variable number) (scope_of self.entry)) }
+        ensures outer { IfOk result (λ s. outer_of s ≡ outer_of self.entry) }
         ensures err { IfErr result (λ e. e ≡ Failure.Memory) }
     {
-        let rest = self.entries.len();
+        let rest = self.current;
         self.with_entry(Entry {
             name: name.as_bytes(),
             what: What::Variable(number),
@@ -70,9 +110,10 @@ impl<'a> Scopes<'a> {
     /// With a constant and its value. The only error is want of memory.
     pub fn with_value(self, name: &'a Word, value: &'a Value) -> Result<Scopes<'a>, Failure>
         ensures ok { IfOk result (λ s. scope_of s ≡ with_name name.now (value_name value.now) (scope_of self.entry)) }
+        ensures outer { IfOk result (λ s. outer_of s ≡ outer_of self.entry) }
         ensures err { IfErr result (λ e. e ≡ Failure.Memory) }
     {
-        let rest = self.entries.len();
+        let rest = self.current;
         self.with_entry(Entry {
             name: name.as_bytes(),
             what: What::Value(value),
@@ -80,15 +121,37 @@ impl<'a> Scopes<'a> {
         })
     }
 
+    /// With a name that means what another one meant before. The only error is want of memory.
+    pub fn with_replacement(self, name: &'a Word, operator: &Word) -> Result<Scopes<'a>, Failure>
+        ensures ok { IfOk result (λ s. scope_of s ≡ with_name name.now (outer_of self.entry operator.now) (scope_of self.entry)) }
+        ensures outer { IfOk result (λ s. outer_of s ≡ outer_of self.entry) }
+        ensures err { IfErr result (λ e. e ≡ Failure.Memory) }
+    {
+        let what = match find(self.entries.as_slice(), self.outer, operator.as_bytes()) {
+            Some(entry) => entry.what,
+            None => match builtin_for(operator.as_bytes()) {
+                Some(builtin) => What::Module(builtin),
+                None => What::Unknown,
+            },
+        };
+        let rest = self.current;
+        self.with_entry(Entry {
+            name: name.as_bytes(),
+            what,
+            rest,
+        })
+    }
+
     /// With a definition without parameters. The only error is want of memory.
     pub fn with_operator(self, name: &'a Word, body: &'a Expr) -> Result<Scopes<'a>, Failure>
         ensures ok { IfOk result (λ s. scope_of s ≡ with_name name.now (operator [] (expand (view body.now)) (scope_of self.entry)) (scope_of self.entry)) }
+        ensures outer { IfOk result (λ s. outer_of s ≡ outer_of self.entry) }
         ensures err { IfErr result (λ e. e ≡ Failure.Memory) }
     {
-        let rest = self.entries.len();
+        let rest = self.current;
         self.with_entry(Entry {
             name: name.as_bytes(),
-            what: What::Definition(&[], body),
+            what: What::Definition(&[], body, rest),
             rest,
         })
     }
@@ -96,23 +159,69 @@ impl<'a> Scopes<'a> {
     /// With a definition. The only error is want of memory.
     pub fn with_definition(self, definition: &'a Definition) -> Result<Scopes<'a>, Failure>
         ensures ok { IfOk result (λ s. scope_of s ≡ definition_in (definition_view definition.now) (scope_of self.entry)) }
+        ensures outer { IfOk result (λ s. outer_of s ≡ outer_of self.entry) }
         ensures err { IfErr result (λ e. e ≡ Failure.Memory) }
     {
-        let rest = self.entries.len();
-        self.with_entry(entry_of(definition, rest))
+        let rest = self.current;
+        let entry = entry_of(self.entries.as_slice(), definition, rest);
+        self.with_entry(entry)
+    }
+
+    /// The expansion of an expression. A refusal names the first expression of too high a level, where that is sought.
+    fn find_expansion(
+        &self,
+        alloc: Global,
+        tree: &'a Expr,
+        primes: Primes,
+        sought: Option<Primes>,
+    ) -> Result<Core, Failure>
+        ensures found { IfOk result (λ c. with_primes primes (expand (view tree.now) (scope_of self.now) 0) ≡ Some (expr_of c)) }
+        ensures limits { IfOk result (λ c. IsWithinLimits (expr_of c)) }
+        ensures gone { IfErr result (λ f. (p : Place) → f ≡ Failure.NoExpansion p → with_primes primes (expand (view tree.now) (scope_of self.now) 0) ≡ None) }
+        ensures none { IfErr result (λ f. f ≢ Failure.Memory → (e : expr.Expr) → with_primes primes (expand (view tree.now) (scope_of self.now) 0) ≡ Some e → IsWithinLimits e → ⊥) }
+    {
+        match Vec::from_slice(alloc, self.entries.as_slice()) {
+            Ok(mut entries) => {
+                let scope = self.current;
+                expansion(alloc, &mut entries, tree, scope, primes, sought)
+            }
+            Err(_) => Err(Failure::Memory),
+        }
     }
 
     /// The expansion of an expression under these names, with at most 200,000 nodes, of which at most 300 on a path.
     /// `Primes::Once` takes each variable as the variable next.
     pub fn expansion(&self, alloc: Global, tree: &'a Expr, primes: Primes) -> Result<Core, Failure>
-        ensures found { IfOk result (λ c. shown primes (expand (view tree.now) (scope_of self.now) 0) ≡ Some (expr_of c)) }
+        ensures found { IfOk result (λ c. with_primes primes (expand (view tree.now) (scope_of self.now) 0) ≡ Some (expr_of c)) }
         ensures limits { IfOk result (λ c. IsWithinLimits (expr_of c)) }
-        ensures none { IfErr result (λ f. f ≢ Failure.Memory → (e : expr.Expr) → shown primes (expand (view tree.now) (scope_of self.now) 0) ≡ Some e → IsWithinLimits e → ⊥) }
+        ensures gone { IfErr result (λ f. (p : Place) → f ≡ Failure.NoExpansion p → with_primes primes (expand (view tree.now) (scope_of self.now) 0) ≡ None) }
+        ensures none { IfErr result (λ f. f ≢ Failure.Memory → (e : expr.Expr) → with_primes primes (expand (view tree.now) (scope_of self.now) 0) ≡ Some e → IsWithinLimits e → ⊥) }
+    {
+        match self.find_expansion(alloc, tree, primes, None) {
+            Err(Failure::NoExpansion(first)) => {
+                let again = self.find_expansion(alloc, tree, primes, Some(primes));
+                Err(Failure::NoExpansion(refused_at(again, first)))
+            }
+            made => made,
+        }
+    }
+
+    /// The expansion of a name. A refusal names the first expression of too high a level, where that is sought.
+    fn find_meaning(
+        &self,
+        alloc: Global,
+        name: &Written,
+        primes: Primes,
+        sought: Option<Primes>,
+    ) -> Result<Core, Failure>
+        ensures found { IfOk result (λ c. with_primes primes (expand (Name name.now) (scope_of self.now) 0) ≡ Some (expr_of c)) }
+        ensures limits { IfOk result (λ c. IsWithinLimits (expr_of c)) }
+        ensures none { IfErr result (λ f. f ≢ Failure.Memory → (e : expr.Expr) → with_primes primes (expand (Name name.now) (scope_of self.now) 0) ≡ Some e → IsWithinLimits e → ⊥) }
     {
         match Vec::from_slice(alloc, self.entries.as_slice()) {
             Ok(mut entries) => {
-                let scope = entries.len();
-                expansion(alloc, &mut entries, tree, scope, primes)
+                let scope = self.current;
+                named_expansion(alloc, &mut entries, name, scope, primes, sought)
             }
             Err(_) => Err(Failure::Memory),
         }
@@ -121,16 +230,60 @@ impl<'a> Scopes<'a> {
     /// The expansion of a name without arguments, with at most 200,000 nodes, of which at most 300 on a path.
     /// `Primes::Once` takes each variable as the variable next.
     pub fn meaning(&self, alloc: Global, name: &Written, primes: Primes) -> Result<Core, Failure>
-        ensures found { IfOk result (λ c. shown primes (expand (Name name.now) (scope_of self.now) 0) ≡ Some (expr_of c)) }
+        ensures found { IfOk result (λ c. with_primes primes (expand (Name name.now) (scope_of self.now) 0) ≡ Some (expr_of c)) }
         ensures limits { IfOk result (λ c. IsWithinLimits (expr_of c)) }
-        ensures none { IfErr result (λ f. f ≢ Failure.Memory → (e : expr.Expr) → shown primes (expand (Name name.now) (scope_of self.now) 0) ≡ Some e → IsWithinLimits e → ⊥) }
+        ensures none { IfErr result (λ f. f ≢ Failure.Memory → (e : expr.Expr) → with_primes primes (expand (Name name.now) (scope_of self.now) 0) ≡ Some e → IsWithinLimits e → ⊥) }
+    {
+        match self.find_meaning(alloc, name, primes, None) {
+            Err(Failure::NoExpansion(first)) => {
+                let again = self.find_meaning(alloc, name, primes, Some(primes));
+                Err(Failure::NoExpansion(refused_at(again, first)))
+            }
+            made => made,
+        }
+    }
+
+    /// The expansion of a conjunction. A refusal names the first expression of too high a level, where that is sought.
+    fn find_conjunction(
+        &self,
+        alloc: Global,
+        place: tla_lex::Place,
+        trees: &[&'a Expr],
+        primes: Primes,
+        sought: Option<Primes>,
+    ) -> Result<Core, Failure>
+        ensures found { IfOk result (λ c. with_primes primes (expand (Junction place bullet.And (trees_of (map (λ (t : Bor syntax.Expr). view t.now) trees.now))) (scope_of self.now) 0) ≡ Some (expr_of c)) }
+        ensures limits { IfOk result (λ c. IsWithinLimits (expr_of c)) }
+        ensures none { IfErr result (λ f. f ≢ Failure.Memory → (e : expr.Expr) → with_primes primes (expand (Junction place bullet.And (trees_of (map (λ (t : Bor syntax.Expr). view t.now) trees.now))) (scope_of self.now) 0) ≡ Some e → IsWithinLimits e → ⊥) }
     {
         match Vec::from_slice(alloc, self.entries.as_slice()) {
             Ok(mut entries) => {
-                let scope = entries.len();
-                named_expansion(alloc, &mut entries, name, scope, primes)
+                let scope = self.current;
+                conjunction(alloc, &mut entries, place, trees, scope, primes, sought)
             }
             Err(_) => Err(Failure::Memory),
+        }
+    }
+
+    /// The expansion of the conjunction of these expressions, at a place, with at most 200,000 nodes, of which at most
+    /// 300 on a path. `Primes::Once` takes each variable as the variable next.
+    pub fn conjunction(
+        &self,
+        alloc: Global,
+        place: tla_lex::Place,
+        trees: &[&'a Expr],
+        primes: Primes,
+    ) -> Result<Core, Failure>
+        ensures found { IfOk result (λ c. with_primes primes (expand (Junction place bullet.And (trees_of (map (λ (t : Bor syntax.Expr). view t.now) trees.now))) (scope_of self.now) 0) ≡ Some (expr_of c)) }
+        ensures limits { IfOk result (λ c. IsWithinLimits (expr_of c)) }
+        ensures none { IfErr result (λ f. f ≢ Failure.Memory → (e : expr.Expr) → with_primes primes (expand (Junction place bullet.And (trees_of (map (λ (t : Bor syntax.Expr). view t.now) trees.now))) (scope_of self.now) 0) ≡ Some e → IsWithinLimits e → ⊥) }
+    {
+        match self.find_conjunction(alloc, place, trees, primes, None) {
+            Err(Failure::NoExpansion(first)) => {
+                let again = self.find_conjunction(alloc, place, trees, primes, Some(primes));
+                Err(Failure::NoExpansion(refused_at(again, first)))
+            }
+            made => made,
         }
     }
 }

@@ -2,6 +2,7 @@
 use Rattle.std.specs.Prelude.{◌≡◌, ◌≤◌, ℕ, max, map, List, Result, Ok, Err}
 use Rattle.tla_lex.specs.declared.token.Token.{Token}
 use Rattle.tla_parse.specs.declared.parts.Parsed.{Parsed}
+use Rattle.tla_parse.specs.declared.parts.ParsedChild.{ParsedChild}
 use Rattle.tla_parse.specs.declared.parts.ParsedItems.{ParsedItems}
 use Rattle.tla_parse.specs.declared.parts.ParsedBinder.{ParsedBinder}
 use Rattle.tla_parse.specs.declared.parts.ParsedBinders.{ParsedBinders}
@@ -43,6 +44,11 @@ Fails text ts refusal.NoMemory read = Unit {0}
 abbrev pub Gives : List ℕ → List Token → ℕ → Result Parsed Refusal → Outcome Tree → Type 0
 Gives text ts most (Ok x) read = (read ≡ Ok (view x.tree, x.end)) × (x.depth ≡ depth (view x.tree)) × (x.depth ≤ most)
 Gives text ts most (Err e) read = Fails text ts e read
+
+-- the same, of a tree in a box
+abbrev pub GivesChild : List ℕ → List Token → ℕ → Result ParsedChild Refusal → Outcome Tree → Type 0
+GivesChild text ts most (Ok x) read = (read ≡ Ok (view x.tree.value, x.end)) × (x.depth ≡ depth (view x.tree.value)) × (x.depth ≤ most)
+GivesChild text ts most (Err e) read = Fails text ts e read
 
 abbrev pub GivesItems : List ℕ → List Token → ℕ → Result ParsedItems Refusal → Outcome (List Tree) → Type 0
 GivesItems text ts most (Ok x) read = (read ≡ Ok (map view x.items.items, x.end)) × (x.depth ≡ depths (trees (map view x.items.items))) × (x.depth ≤ most)

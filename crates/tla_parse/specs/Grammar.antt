@@ -10,7 +10,6 @@ use Rattle.tla_parse.specs.declared.tree.Infix.TheVariants as i
 use Rattle.tla_parse.specs.Operators.{high, prefix_high, is_product, infix_of, prefix_of, bullet_of, quantifier_of, constant_of}
 use Rattle.tla_parse.specs.Edges.{edge_allows, top_above, is_closed, place}
 use Rattle.tla_parse.specs.Kinds.{kind_at, opening, closing, binds, step_opening, step_closing, fairness_word}
-use Rattle.tla_parse.specs.Ahead.{filters, maps}
 use Rattle.tla_parse.specs.declared.tree.Brackets.TheVariants as b
 use Rattle.tla_parse.specs.Tokens.{Has, Is, Writes, Names, seen, word_of, is_bullet_at, may_follow}
 use Rattle.tla_parse.specs.Tree.{Filter, Image, Function, FunctionSet, Record, RecordSet, Except, Action, Fair, Product, Fields, Key, Keys, Updates, no_fields, field, AtIndex, AtField, no_keys, key, no_updates, update, Tree, Trees, Binders, Arms, Other, Definition, Definitions, none, more, unbound, bound, no_arms, arm, no_other, other, DefinesOperator, DefinesFunction, undefined, defined, Case, Let, Name, Number, Text, Word, At, Paren, Listing, Call, Prime, Index, Field, Unary, Binary, Quantified, Choose, If, Junction}

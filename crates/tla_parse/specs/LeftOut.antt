@@ -22,7 +22,6 @@ is_left_out k.TemporalExists = true
 is_left_out k.Composition = true
 is_left_out k.MinusMinus = true
 is_left_out k.Guarantees = true
-is_left_out k.Product = true
 is_left_out _ = false
 
 abbrev pub is_quantifier : Kind → Bool

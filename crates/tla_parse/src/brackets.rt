@@ -12,7 +12,8 @@ ghost use Rattle.tla_parse.specs.Nests.{Nests};
 
 use crate::ahead::{Opened, binds, filters, opened_by};
 use crate::grammar::Grammar;
-use crate::parts::{Parsed, ParsedItems, boxed, image_of, listing_of, mapping_of, push};
+use crate::list::push;
+use crate::parts::{Parsed, ParsedItems, child_of, image_of, listing_of, mapping_of};
 use crate::refusal::Refusal;
 use crate::scope::Scope;
 use crate::tokens::{Between, following, is_kind, name_at, refused, refused_form, seen, written};
@@ -109,17 +110,16 @@ impl<F: Fn(Global, &[u8], &[Token], usize, Scope, u8, usize) -> Result<Parsed, R
         requires small { self.now.depth < 900 }
         ensures { Gives text.now tokens.now (self.now.depth + 1) result (reading.action text.now tokens.now (expr text.now tokens.now self.now.depth) (self.now.depth + 1) scope at step (view first.tree) first.end) }
     {
-        let subscript = self.subscript(text, tokens, scope, first.end + 1)?;
-        let depth = first.depth.max(subscript.depth) + 1;
+        let action = child_of(self.alloc, first)?;
+        let subscript = self.subscript(text, tokens, scope, action.end + 1)?;
+        let subscript = child_of(self.alloc, subscript)?;
+        let depth = action.depth.max(subscript.depth) + 1;
         if depth > self.depth + 1 {
             return Err(Refusal::Nesting(start));
         }
-        let end = subscript.end;
-        let action = boxed(self.alloc, first.tree)?;
-        let subscript = boxed(self.alloc, subscript.tree)?;
         Ok(Parsed {
-            tree: Expr::Action(at, step, action, subscript),
-            end,
+            tree: Expr::Action(at, step, action.tree, subscript.tree),
+            end: subscript.end,
             depth,
         })
     }
@@ -141,10 +141,11 @@ impl<F: Fn(Global, &[u8], &[Token], usize, Scope, u8, usize) -> Result<Parsed, R
         ensures { Gives text.now tokens.now (self.now.depth + 1) result (reading.fair text.now tokens.now (expr text.now tokens.now self.now.depth) (self.now.depth + 1) scope at fairness from) }
     {
         let subscript = self.subscript(text, tokens, scope, from + 1)?;
+        let subscript = child_of(self.alloc, subscript)?;
         if !is_kind(Kind::LeftParen, seen(tokens, scope.column, subscript.end)) {
             return Err(refused(tokens, scope.column, subscript.end));
         }
-        let action = self.inner(text, tokens, scope, 0, subscript.end + 1)?;
+        let action = self.child(text, tokens, scope, 0, subscript.end + 1)?;
         if !is_kind(Kind::RightParen, seen(tokens, scope.column, action.end)) {
             return Err(refused(tokens, scope.column, action.end));
         }
@@ -152,12 +153,9 @@ impl<F: Fn(Global, &[u8], &[Token], usize, Scope, u8, usize) -> Result<Parsed, R
         if depth > self.depth + 1 {
             return Err(Refusal::Nesting(from));
         }
-        let end = action.end + 1;
-        let subscript = boxed(self.alloc, subscript.tree)?;
-        let action = boxed(self.alloc, action.tree)?;
         Ok(Parsed {
-            tree: Expr::Fair(at, fairness, subscript, action),
-            end,
+            tree: Expr::Fair(at, fairness, subscript.tree, action.tree),
+            end: action.end + 1,
             depth,
         })
     }
@@ -181,22 +179,18 @@ impl<F: Fn(Global, &[u8], &[Token], usize, Scope, u8, usize) -> Result<Parsed, R
             return Err(refused(tokens, scope.column, from + 1));
         };
         let name = written(self.alloc, text, name)?;
-        let set = self.inner(text, tokens, scope, 0, from + 3)?;
+        let set = self.child(text, tokens, scope, 0, from + 3)?;
         if !is_kind(Kind::Colon, seen(tokens, scope.column, set.end)) {
             return Err(refused(tokens, scope.column, set.end));
         }
-        let test = self.inner(text, tokens, scope, 0, set.end + 1)?;
+        let test = self.child(text, tokens, scope, 0, set.end + 1)?;
         if !is_kind(Kind::RightBrace, seen(tokens, scope.column, test.end)) {
             return Err(refused(tokens, scope.column, test.end));
         }
-        let end = test.end + 1;
-        let depth = set.depth.max(test.depth) + 1;
-        let set = boxed(self.alloc, set.tree)?;
-        let test = boxed(self.alloc, test.tree)?;
         Ok(Parsed {
-            tree: Expr::Filter(at, name, set, test),
-            end,
-            depth,
+            tree: Expr::Filter(at, name, set.tree, test.tree),
+            end: test.end + 1,
+            depth: set.depth.max(test.depth) + 1,
         })
     }
 
@@ -218,17 +212,15 @@ impl<F: Fn(Global, &[u8], &[Token], usize, Scope, u8, usize) -> Result<Parsed, R
         requires small { self.now.depth < 900 }
         ensures { Gives text.now tokens.now (self.now.depth + 1) result (reading.image text.now tokens.now (expr text.now tokens.now self.now.depth) scope at (view first.tree) first.end) }
     {
-        let found = self.groups(text, tokens, scope, start, first.end + 1)?;
+        let element = child_of(self.alloc, first)?;
+        let found = self.groups(text, tokens, scope, start, element.end + 1)?;
         if !is_kind(Kind::RightBrace, seen(tokens, scope.column, found.end)) {
             return Err(refused(tokens, scope.column, found.end));
         }
-        let end = found.end + 1;
-        let depth = first.depth.max(found.depth) + 1;
-        let element = boxed(self.alloc, first.tree)?;
         Ok(Parsed {
-            tree: image_of(at, element, found.binders),
-            end,
-            depth,
+            tree: image_of(at, element.tree, found.binders),
+            end: found.end + 1,
+            depth: element.depth.max(found.depth) + 1,
         })
     }
 
@@ -353,17 +345,14 @@ impl<F: Fn(Global, &[u8], &[Token], usize, Scope, u8, usize) -> Result<Parsed, R
         if !is_kind(Kind::MapsTo, seen(tokens, scope.column, found.end)) {
             return Err(refused(tokens, scope.column, found.end));
         }
-        let body = self.inner(text, tokens, scope, 0, found.end + 1)?;
+        let body = self.child(text, tokens, scope, 0, found.end + 1)?;
         if !is_kind(Kind::RightBracket, seen(tokens, scope.column, body.end)) {
             return Err(refused(tokens, scope.column, body.end));
         }
-        let end = body.end + 1;
-        let depth = found.depth.max(body.depth) + 1;
-        let body = boxed(self.alloc, body.tree)?;
         Ok(Parsed {
-            tree: mapping_of(at, found.binders, body),
-            end,
-            depth,
+            tree: mapping_of(at, found.binders, body.tree),
+            end: body.end + 1,
+            depth: found.depth.max(body.depth) + 1,
         })
     }
 
@@ -384,18 +373,15 @@ impl<F: Fn(Global, &[u8], &[Token], usize, Scope, u8, usize) -> Result<Parsed, R
         requires small { self.now.depth < 900 }
         ensures { Gives text.now tokens.now (self.now.depth + 1) result (reading.function_set text.now tokens.now (expr text.now tokens.now self.now.depth) scope at (view first.tree) first.end) }
     {
-        let range = self.inner(text, tokens, scope, 0, first.end + 1)?;
+        let domain = child_of(self.alloc, first)?;
+        let range = self.child(text, tokens, scope, 0, domain.end + 1)?;
         if !is_kind(Kind::RightBracket, seen(tokens, scope.column, range.end)) {
             return Err(refused(tokens, scope.column, range.end));
         }
-        let end = range.end + 1;
-        let depth = first.depth.max(range.depth) + 1;
-        let domain = boxed(self.alloc, first.tree)?;
-        let range = boxed(self.alloc, range.tree)?;
         Ok(Parsed {
-            tree: Expr::FunctionSet(at, domain, range),
-            end,
-            depth,
+            tree: Expr::FunctionSet(at, domain.tree, range.tree),
+            end: range.end + 1,
+            depth: domain.depth.max(range.depth) + 1,
         })
     }
 

@@ -6,10 +6,11 @@ ghost use Rattle.tla_parse.specs.Gives.{Gives, GivesArm, GivesArms, GivesDefinit
 ghost use Rattle.tla_parse.specs.Nests.{Nests};
 
 use crate::grammar::Grammar;
+use crate::list::push;
 use crate::names::names;
 use crate::parts::{
-    Parsed, ParsedArm, ParsedArms, ParsedDefinition, ParsedDefinitions, boxed, case_of,
-    case_with_other, function_of, let_of, push_arm, push_definition, quantified_of,
+    Parsed, ParsedArm, ParsedArms, ParsedDefinition, ParsedDefinitions, arm_of, case_of,
+    case_with_other, function_of, let_of, quantified_of,
 };
 use crate::refusal::Refusal;
 use crate::scope::Scope;
@@ -17,7 +18,7 @@ use crate::tokens::{
     Between, following, is_kind, name_at, refused, refused_choice, refused_name, refused_parameter,
     seen, written,
 };
-use crate::tree::{Arm, Definition, Expr, Quantifier};
+use crate::tree::{Definition, Expr, Quantifier};
 use std::alloc::Global;
 use tla_lex::{Kind, Place, Token};
 
@@ -44,14 +45,11 @@ impl<F: Fn(Global, &[u8], &[Token], usize, Scope, u8, usize) -> Result<Parsed, R
         if !is_kind(Kind::Colon, seen(tokens, scope.column, found.end)) {
             return Err(refused(tokens, scope.column, found.end));
         }
-        let body = self.inner(text, tokens, scope, 0, found.end + 1)?;
-        let end = body.end;
-        let depth = found.depth.max(body.depth) + 1;
-        let body = boxed(self.alloc, body.tree)?;
+        let body = self.child(text, tokens, scope, 0, found.end + 1)?;
         Ok(Parsed {
-            tree: quantified_of(at, quantifier, found.binders, body),
-            end,
-            depth,
+            tree: quantified_of(at, quantifier, found.binders, body.tree),
+            end: body.end,
+            depth: found.depth.max(body.depth) + 1,
         })
     }
 
@@ -77,19 +75,15 @@ impl<F: Fn(Global, &[u8], &[Token], usize, Scope, u8, usize) -> Result<Parsed, R
         if !is_kind(Kind::Member, seen(tokens, scope.column, from + 2)) {
             return Err(refused_choice(tokens, scope.column, from));
         }
-        let set = self.inner(text, tokens, scope, 0, from + 3)?;
+        let set = self.child(text, tokens, scope, 0, from + 3)?;
         if !is_kind(Kind::Colon, seen(tokens, scope.column, set.end)) {
             return Err(refused(tokens, scope.column, set.end));
         }
-        let body = self.inner(text, tokens, scope, 0, set.end + 1)?;
-        let end = body.end;
-        let depth = set.depth.max(body.depth) + 1;
-        let set = boxed(self.alloc, set.tree)?;
-        let body = boxed(self.alloc, body.tree)?;
+        let body = self.child(text, tokens, scope, 0, set.end + 1)?;
         Ok(Parsed {
-            tree: Expr::Choose(at, name, set, body),
-            end,
-            depth,
+            tree: Expr::Choose(at, name, set.tree, body.tree),
+            end: body.end,
+            depth: set.depth.max(body.depth) + 1,
         })
     }
 
@@ -108,24 +102,19 @@ impl<F: Fn(Global, &[u8], &[Token], usize, Scope, u8, usize) -> Result<Parsed, R
         requires small { self.now.depth < 900 }
         ensures { Gives text.now tokens.now (self.now.depth + 1) result (reading.choice text.now tokens.now (reading.expr text.now tokens.now self.now.depth) scope at from) }
     {
-        let condition = self.inner(text, tokens, scope, 0, from + 1)?;
+        let condition = self.child(text, tokens, scope, 0, from + 1)?;
         if !is_kind(Kind::Then, seen(tokens, scope.column, condition.end)) {
             return Err(refused(tokens, scope.column, condition.end));
         }
-        let first = self.inner(text, tokens, scope, 0, condition.end + 1)?;
+        let first = self.child(text, tokens, scope, 0, condition.end + 1)?;
         if !is_kind(Kind::Else, seen(tokens, scope.column, first.end)) {
             return Err(refused(tokens, scope.column, first.end));
         }
-        let second = self.inner(text, tokens, scope, 0, first.end + 1)?;
-        let end = second.end;
-        let depth = condition.depth.max(first.depth.max(second.depth)) + 1;
-        let condition = boxed(self.alloc, condition.tree)?;
-        let first = boxed(self.alloc, first.tree)?;
-        let second = boxed(self.alloc, second.tree)?;
+        let second = self.child(text, tokens, scope, 0, first.end + 1)?;
         Ok(Parsed {
-            tree: Expr::If(at, condition, first, second),
-            end,
-            depth,
+            tree: Expr::If(at, condition.tree, first.tree, second.tree),
+            end: second.end,
+            depth: condition.depth.max(first.depth.max(second.depth)) + 1,
         })
     }
 
@@ -146,14 +135,7 @@ impl<F: Fn(Global, &[u8], &[Token], usize, Scope, u8, usize) -> Result<Parsed, R
             return Err(refused(tokens, scope.column, guard.end));
         }
         let value = self.inner(text, tokens, scope, 0, guard.end + 1)?;
-        Ok(ParsedArm {
-            arm: Arm {
-                guard: guard.tree,
-                value: value.tree,
-            },
-            end: value.end,
-            depth: guard.depth.max(value.depth),
-        })
+        Ok(arm_of(guard, value))
     }
 
     /// The arms of CASE, but for OTHER.
@@ -175,7 +157,7 @@ impl<F: Fn(Global, &[u8], &[Token], usize, Scope, u8, usize) -> Result<Parsed, R
             let found = self.arm_at(text, tokens, scope, at)?;
             let end = found.end;
             depth = depth.max(found.depth);
-            push_arm(&mut arms, found.arm)?;
+            push(&mut arms, found.arm)?;
             let Some(next) = following(tokens, scope.column, Between::Arm, end) else {
                 return Ok(ParsedArms { arms, end, depth });
             };
@@ -215,14 +197,11 @@ impl<F: Fn(Global, &[u8], &[Token], usize, Scope, u8, usize) -> Result<Parsed, R
         if !is_kind(Kind::Arrow, seen(tokens, scope.column, end + 2)) {
             return Err(refused(tokens, scope.column, end + 2));
         }
-        let value = self.inner(text, tokens, scope, 0, end + 3)?;
-        let depth = found.depth.max(value.depth) + 1;
-        let end = value.end;
-        let value = boxed(self.alloc, value.tree)?;
+        let value = self.child(text, tokens, scope, 0, end + 3)?;
         Ok(Parsed {
-            tree: case_with_other(at, found.arms, value),
-            end,
-            depth,
+            tree: case_with_other(at, found.arms, value.tree),
+            end: value.end,
+            depth: found.depth.max(value.depth) + 1,
         })
     }
 
@@ -249,8 +228,8 @@ impl<F: Fn(Global, &[u8], &[Token], usize, Scope, u8, usize) -> Result<Parsed, R
         if !is_kind(Kind::Define, seen(tokens, scope.column, end + 1)) {
             return Err(refused(tokens, scope.column, end + 1));
         }
-        let body = self.inner(text, tokens, scope, 0, end + 2)?;
         let name = written(self.alloc, text, t)?;
+        let body = self.inner(text, tokens, scope, 0, end + 2)?;
         Ok(ParsedDefinition {
             definition: Definition::Operator(name, found.names, body.tree),
             end: body.end,
@@ -281,8 +260,8 @@ impl<F: Fn(Global, &[u8], &[Token], usize, Scope, u8, usize) -> Result<Parsed, R
         if !is_kind(Kind::Define, seen(tokens, scope.column, end + 1)) {
             return Err(refused(tokens, scope.column, end + 1));
         }
-        let body = self.inner(text, tokens, scope, 0, end + 2)?;
         let name = written(self.alloc, text, t)?;
+        let body = self.inner(text, tokens, scope, 0, end + 2)?;
         Ok(ParsedDefinition {
             definition: function_of(name, found.binders, body.tree),
             end: body.end,
@@ -305,8 +284,8 @@ impl<F: Fn(Global, &[u8], &[Token], usize, Scope, u8, usize) -> Result<Parsed, R
         ensures { GivesDefinition text.now tokens.now self.now.depth result (reading.defined text.now tokens.now (reading.expr text.now tokens.now self.now.depth) scope t from) }
     {
         if is_kind(Kind::Define, seen(tokens, scope.column, from + 1)) {
-            let body = self.inner(text, tokens, scope, 0, from + 2)?;
             let name = written(self.alloc, text, t)?;
+            let body = self.inner(text, tokens, scope, 0, from + 2)?;
             return Ok(ParsedDefinition {
                 definition: Definition::Operator(name, Vec::new(self.alloc), body.tree),
                 end: body.end,
@@ -359,7 +338,7 @@ impl<F: Fn(Global, &[u8], &[Token], usize, Scope, u8, usize) -> Result<Parsed, R
             let found = self.definition(text, tokens, scope, at)?;
             let end = found.end;
             depth = depth.max(found.depth);
-            push_definition(&mut definitions, found.definition)?;
+            push(&mut definitions, found.definition)?;
             let Some(next) = following(tokens, scope.column, Between::Nothing, end) else {
                 return Ok(ParsedDefinitions {
                     definitions,
@@ -391,14 +370,11 @@ impl<F: Fn(Global, &[u8], &[Token], usize, Scope, u8, usize) -> Result<Parsed, R
         if !is_kind(Kind::In, seen(tokens, scope.column, found.end)) {
             return Err(refused(tokens, scope.column, found.end));
         }
-        let body = self.inner(text, tokens, scope, 0, found.end + 1)?;
-        let end = body.end;
-        let depth = found.depth.max(body.depth) + 1;
-        let body = boxed(self.alloc, body.tree)?;
+        let body = self.child(text, tokens, scope, 0, found.end + 1)?;
         Ok(Parsed {
-            tree: let_of(at, found.definitions, body),
-            end,
-            depth,
+            tree: let_of(at, found.definitions, body.tree),
+            end: body.end,
+            depth: found.depth.max(body.depth) + 1,
         })
     }
 }

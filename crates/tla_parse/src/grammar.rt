@@ -4,13 +4,13 @@ ghost use Rattle.std.specs.Prelude.{◌≡◌, ◌+◌, ◌-◌, ◌≤◌, ◌<
 ghost use Rattle.tla_parse.specs.View.{view};
 ghost use Rattle.tla_parse.specs.Edges as edges;
 ghost use Rattle.tla_parse.specs.Reading as reading;
-ghost use Rattle.tla_parse.specs.Gives.{Gives, GivesDefinition};
+ghost use Rattle.tla_parse.specs.Gives.{Gives, GivesChild, GivesDefinition};
 ghost use Rattle.tla_parse.specs.Nests.{Nests};
 
 use crate::operators::{
     bullet_of, constant_of, edge_allows, high, is_product, prefix_high, prefix_of, quantifier_of,
 };
-use crate::parts::{Parsed, ParsedDefinition, boxed, index_of};
+use crate::parts::{Parsed, ParsedChild, ParsedDefinition, child_of, index_of};
 use crate::refusal::Refusal;
 use crate::scope::Scope;
 use crate::tokens::{Postfix, name_at, operator_at, postfix_at, refused, seen, text_of, written};
@@ -45,6 +45,22 @@ impl<F: Fn(Global, &[u8], &[Token], usize, Scope, u8, usize) -> Result<Parsed, R
         (self.expr)(self.alloc, text, tokens, self.depth, scope, floor, at)
     }
 
+    /// The same, for a place in another tree.
+    pub fn child(
+        &self,
+        text: &[u8],
+        tokens: &[Token],
+        scope: Scope,
+        floor: u8,
+        at: usize,
+    ) -> Result<ParsedChild, Refusal>
+        requires { Nests self.now.depth (F.pre self.now.expr) (F.post self.now.expr) }
+        ensures { GivesChild text.now tokens.now self.now.depth result (reading.expr text.now tokens.now self.now.depth scope floor at) }
+    {
+        let found = self.inner(text, tokens, scope, floor, at)?;
+        child_of(self.alloc, found)
+    }
+
     /// `f[e, ..]`, behind the tree, which begins at a token of this number.
     #[tactic(auto, unfolding(crate::specs::Reading::indexed))]
     fn indexed(
@@ -62,17 +78,16 @@ impl<F: Fn(Global, &[u8], &[Token], usize, Scope, u8, usize) -> Result<Parsed, R
         requires small { self.now.depth < 900 }
         ensures { Gives text.now tokens.now (self.now.depth + 1) result (reading.indexed text.now tokens.now (reading.expr text.now tokens.now self.now.depth) (self.now.depth + 1) scope (view first.tree) first.end) }
     {
-        let found = self.some(text, tokens, scope, Kind::RightBracket, first.end + 1)?;
-        let depth = first.depth.max(found.depth) + 1;
+        let operand = child_of(self.alloc, first)?;
+        let found = self.some(text, tokens, scope, Kind::RightBracket, operand.end + 1)?;
+        let depth = operand.depth.max(found.depth) + 1;
         if depth > self.depth + 1 {
             return Err(Refusal::Nesting(start));
         }
-        let end = found.end;
-        let at = first.tree.place();
-        let operand = boxed(self.alloc, first.tree)?;
+        let at = operand.tree.place();
         Ok(Parsed {
-            tree: index_of(at, operand, found.items),
-            end,
+            tree: index_of(at, operand.tree, found.items),
+            end: found.end,
             depth,
         })
     }
@@ -97,34 +112,32 @@ impl<F: Fn(Global, &[u8], &[Token], usize, Scope, u8, usize) -> Result<Parsed, R
         match form {
             Postfix::Index => self.indexed(text, tokens, scope, start, first),
             Postfix::Prime => {
-                let depth = first.depth + 1;
+                let operand = child_of(self.alloc, first)?;
+                let depth = operand.depth + 1;
                 if depth > self.depth + 1 {
                     return Err(Refusal::Nesting(start));
                 }
-                let end = first.end + 1;
-                let at = first.tree.place();
-                let operand = boxed(self.alloc, first.tree)?;
+                let at = operand.tree.place();
                 Ok(Parsed {
-                    tree: Expr::Prime(at, operand),
-                    end,
+                    tree: Expr::Prime(at, operand.tree),
+                    end: operand.end + 1,
                     depth,
                 })
             }
             Postfix::Field => {
-                let Some(name) = name_at(seen(tokens, scope.column, first.end + 1)) else {
-                    return Err(refused(tokens, scope.column, first.end + 1));
+                let operand = child_of(self.alloc, first)?;
+                let Some(name) = name_at(seen(tokens, scope.column, operand.end + 1)) else {
+                    return Err(refused(tokens, scope.column, operand.end + 1));
                 };
-                let depth = first.depth + 1;
+                let depth = operand.depth + 1;
                 if depth > self.depth + 1 {
                     return Err(Refusal::Nesting(start));
                 }
                 let name = written(self.alloc, text, name)?;
-                let end = first.end + 2;
-                let at = first.tree.place();
-                let operand = boxed(self.alloc, first.tree)?;
+                let at = operand.tree.place();
                 Ok(Parsed {
-                    tree: Expr::Field(at, operand, name),
-                    end,
+                    tree: Expr::Field(at, operand.tree, name),
+                    end: operand.end + 2,
                     depth,
                 })
             }
@@ -176,13 +189,11 @@ impl<F: Fn(Global, &[u8], &[Token], usize, Scope, u8, usize) -> Result<Parsed, R
         requires small { self.now.depth < 900 }
         ensures { Gives text.now tokens.now (self.now.depth + 1) result (reading.prefix text.now tokens.now (reading.expr text.now tokens.now self.now.depth) scope op at from) }
     {
-        let e = self.inner(text, tokens, scope, prefix_high(op), from + 1)?;
-        let end = e.end;
-        let depth = e.depth + 1;
+        let e = self.child(text, tokens, scope, prefix_high(op), from + 1)?;
         Ok(Parsed {
-            tree: Expr::Unary(at, op, boxed(self.alloc, e.tree)?),
-            end,
-            depth,
+            tree: Expr::Unary(at, op, e.tree),
+            end: e.end,
+            depth: e.depth + 1,
         })
     }
 
@@ -207,25 +218,24 @@ impl<F: Fn(Global, &[u8], &[Token], usize, Scope, u8, usize) -> Result<Parsed, R
         if is_product(op) {
             return self.product(text, tokens, scope, start, left);
         }
-        if !edge_allows(&left.tree, op) {
+        let is_allowed = edge_allows(&left.tree, op);
+        let left = child_of(self.alloc, left)?;
+        if !is_allowed {
             return Err(Refusal::Precedence(left.end));
         }
         let Some(sign) = seen(tokens, scope.column, left.end) else {
             return Err(refused(tokens, scope.column, left.end));
         };
         let sign = written(self.alloc, text, sign)?;
-        let right = self.inner(text, tokens, scope, high(op), left.end + 1)?;
-        let end = right.end;
+        let right = self.child(text, tokens, scope, high(op), left.end + 1)?;
         let depth = left.depth.max(right.depth) + 1;
         if depth > self.depth + 1 {
             return Err(Refusal::Nesting(start));
         }
         let at = left.tree.place();
-        let left = boxed(self.alloc, left.tree)?;
-        let right = boxed(self.alloc, right.tree)?;
         Ok(Parsed {
-            tree: Expr::Binary(at, op, sign, left, right),
-            end,
+            tree: Expr::Binary(at, op, sign, left.tree, right.tree),
+            end: right.end,
             depth,
         })
     }

@@ -10,10 +10,10 @@ ghost use Rattle.tla_parse.specs.Gives.{Gives, GivesItems, GivesTrees, GivesGrou
 ghost use Rattle.tla_parse.specs.Nests.{Nests};
 
 use crate::grammar::Grammar;
+use crate::list::push;
 use crate::names::{ParsedNames, names};
 use crate::parts::{
-    Parsed, ParsedBinder, ParsedBinders, ParsedItems, boxed, call_of, junction_of, listing_of,
-    push, push_binder,
+    Parsed, ParsedBinder, ParsedBinders, ParsedItems, call_of, junction_of, listing_of,
 };
 use crate::refusal::Refusal;
 use crate::scope::Scope;
@@ -185,16 +185,14 @@ impl<F: Fn(Global, &[u8], &[Token], usize, Scope, u8, usize) -> Result<Parsed, R
         requires small { self.now.depth < 900 }
         ensures { Gives text.now tokens.now (self.now.depth + 1) result (lists.paren text.now tokens.now (reading.expr text.now tokens.now self.now.depth) scope at from) }
     {
-        let e = self.inner(text, tokens, scope, 0, from + 1)?;
+        let e = self.child(text, tokens, scope, 0, from + 1)?;
         if !is_kind(Kind::RightParen, seen(tokens, scope.column, e.end)) {
             return Err(refused(tokens, scope.column, e.end));
         }
-        let end = e.end + 1;
-        let depth = e.depth + 1;
         Ok(Parsed {
-            tree: Expr::Paren(at, boxed(self.alloc, e.tree)?),
-            end,
-            depth,
+            tree: Expr::Paren(at, e.tree),
+            end: e.end + 1,
+            depth: e.depth + 1,
         })
     }
 
@@ -251,7 +249,7 @@ impl<F: Fn(Global, &[u8], &[Token], usize, Scope, u8, usize) -> Result<Parsed, R
             let group = self.group(text, tokens, scope, form, at)?;
             let end = group.end;
             depth = depth.max(group.depth);
-            push_binder(&mut binders, group.binder)?;
+            push(&mut binders, group.binder)?;
             let Some(next) = following(tokens, scope.column, Between::Comma, end) else {
                 return Ok(ParsedBinders {
                     binders,

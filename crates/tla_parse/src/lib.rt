@@ -8,6 +8,7 @@ mod forms;
 mod grammar;
 mod items;
 pub mod laws;
+mod list;
 mod modules;
 mod names;
 mod operators;

@@ -4,6 +4,7 @@ ghost use Rattle.std.specs.Prelude.{◌≡◌, ◌+◌, ◌≤◌, ◌++◌, ◌
 ghost use Rattle.tla_parse.specs.ReadingLists as lists;
 ghost use Rattle.tla_parse.specs.Gives.{GivesNames};
 
+use crate::list::push;
 use crate::refusal::Refusal;
 use crate::tokens::{is_kind, name_at, refused, seen, written};
 use crate::word::Written;
@@ -15,16 +16,6 @@ use tla_lex::{Kind, Token};
 pub struct ParsedNames {
     pub names: Vec<Written>,
     pub end: usize,
-}
-
-pub fn push_name(names: &mut Vec<Written>, name: Written) -> Result<(), Refusal>
-    ensures ok { OnOk result (names.new.items ≡ names.old.items ++ name ∷ []) }
-    ensures err { IfErr result (λ e. e ≡ Refusal.NoMemory) }
-{
-    match names.push(name) {
-        Ok(()) => Ok(()),
-        Err(_) => Err(Refusal::NoMemory),
-    }
 }
 
 /// Names with commas between them.
@@ -46,7 +37,7 @@ pub fn names(
             return Err(refused(tokens, column, at));
         };
         let name = written(alloc, text, name)?;
-        push_name(&mut names, name)?;
+        push(&mut names, name)?;
         if !is_kind(Kind::Comma, seen(tokens, column, at + 1)) {
             return Ok(ParsedNames { names, end: at + 1 });
         }

@@ -1,6 +1,6 @@
 //! What the rules of expressions hand on, and nodes made of lists.
 
-ghost use Rattle.std.specs.Prelude.{◌≡◌, IfOk, IfErr, OnOk, map, [], ◌∷◌, ◌++◌};
+ghost use Rattle.std.specs.Prelude.{◌≡◌, max, IfOk, IfErr, OnOk, map, [], ◌∷◌, ◌++◌};
 ghost use Rattle.tla_parse.specs.View.{view, group_view, choice_view, definition_view};
 ghost use Rattle.tla_parse.specs.Tree as tree;
 ghost use Rattle.tla_parse.specs.Tree.{trees, binders};
@@ -53,12 +53,58 @@ pub fn boxed(alloc: Global, tree: Expr) -> Result<Box<Expr>, Refusal>
     }
 }
 
+/// A tree that stands in another one, the number of the token after it, and its depth.
+#[derive(Drop)]
+pub struct ParsedChild {
+    pub tree: Box<Expr>,
+    pub end: usize,
+    pub depth: usize,
+}
+
+pub fn child_of(alloc: Global, found: Parsed) -> Result<ParsedChild, Refusal>
+    ensures tree { IfOk result (λ c. c.tree.value ≡ found.tree) }
+    ensures end { IfOk result (λ c. c.end ≡ found.end) }
+    ensures depth { IfOk result (λ c. c.depth ≡ found.depth) }
+    ensures err { IfErr result (λ e. e ≡ Refusal.NoMemory) }
+{
+    let Parsed { tree, end, depth } = found;
+    let tree = boxed(alloc, tree)?;
+    Ok(ParsedChild { tree, end, depth })
+}
+
 /// An arm of CASE, the number of the token after it, and the greatest depth in it.
 #[derive(Drop)]
 pub struct ParsedArm {
     pub arm: Arm,
     pub end: usize,
     pub depth: usize,
+}
+
+/// An arm of CASE, from its guard and its value.
+pub fn arm_of(guard: Parsed, value: Parsed) -> ParsedArm
+    ensures guard { result.arm.guard ≡ guard.tree }
+    ensures value { result.arm.value ≡ value.tree }
+    ensures end { result.end ≡ value.end }
+    ensures depth { result.depth ≡ max guard.depth value.depth }
+{
+    let Parsed {
+        tree: first,
+        end: _,
+        depth,
+    } = guard;
+    let Parsed {
+        tree,
+        end,
+        depth: other,
+    } = value;
+    ParsedArm {
+        arm: Arm {
+            guard: first,
+            value: tree,
+        },
+        end,
+        depth: depth.max(other),
+    }
 }
 
 /// Arms of CASE, the number of the token after the last, and the greatest depth in them.
@@ -83,26 +129,6 @@ pub struct ParsedDefinitions {
     pub definitions: Vec<Definition>,
     pub end: usize,
     pub depth: usize,
-}
-
-pub fn push(items: &mut Vec<Expr>, tree: Expr) -> Result<(), Refusal>
-    ensures ok { OnOk result (items.new.items ≡ items.old.items ++ tree ∷ []) }
-    ensures err { IfErr result (λ e. e ≡ Refusal.NoMemory) }
-{
-    match items.push(tree) {
-        Ok(()) => Ok(()),
-        Err(_) => Err(Refusal::NoMemory),
-    }
-}
-
-pub fn push_binder(binders: &mut Vec<Binder>, binder: Binder) -> Result<(), Refusal>
-    ensures ok { OnOk result (binders.new.items ≡ binders.old.items ++ binder ∷ []) }
-    ensures err { IfErr result (λ e. e ≡ Refusal.NoMemory) }
-{
-    match binders.push(binder) {
-        Ok(()) => Ok(()),
-        Err(_) => Err(Refusal::NoMemory),
-    }
 }
 
 pub fn junction_of(at: Place, bullet: Bullet, items: Vec<Expr>) -> Expr
@@ -144,29 +170,6 @@ pub fn quantified_of(
     ensures { view result ≡ tree.Quantified at quantifier (binders (map group_view groups.items)) (view body.value) }
 {
     Expr::Quantified(at, quantifier, groups, body)
-}
-
-pub fn push_arm(arms: &mut Vec<Arm>, arm: Arm) -> Result<(), Refusal>
-    ensures ok { OnOk result (arms.new.items ≡ arms.old.items ++ arm ∷ []) }
-    ensures err { IfErr result (λ e. e ≡ Refusal.NoMemory) }
-{
-    match arms.push(arm) {
-        Ok(()) => Ok(()),
-        Err(_) => Err(Refusal::NoMemory),
-    }
-}
-
-pub fn push_definition(
-    definitions: &mut Vec<Definition>,
-    definition: Definition,
-) -> Result<(), Refusal>
-    ensures ok { OnOk result (definitions.new.items ≡ definitions.old.items ++ definition ∷ []) }
-    ensures err { IfErr result (λ e. e ≡ Refusal.NoMemory) }
-{
-    match definitions.push(definition) {
-        Ok(()) => Ok(()),
-        Err(_) => Err(Refusal::NoMemory),
-    }
 }
 
 pub fn case_of(at: Place, arms: Vec<Arm>) -> Expr

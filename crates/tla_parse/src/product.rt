@@ -8,8 +8,9 @@ ghost use Rattle.tla_parse.specs.Gives.{Gives, GivesItems};
 ghost use Rattle.tla_parse.specs.Nests.{Nests};
 
 use crate::grammar::Grammar;
+use crate::list::push;
 use crate::operators::{edge_allows, high};
-use crate::parts::{Parsed, ParsedItems, boxed, product_of, push};
+use crate::parts::{Parsed, ParsedItems, child_of, product_of};
 use crate::refusal::Refusal;
 use crate::scope::Scope;
 use crate::tokens::{Between, following, is_kind, refused, seen};
@@ -86,20 +87,20 @@ impl<F: Fn(Global, &[u8], &[Token], usize, Scope, u8, usize) -> Result<Parsed, R
         requires small { self.now.depth < 900 }
         ensures { Gives text.now tokens.now (self.now.depth + 1) result (reading.product text.now tokens.now (reading.expr text.now tokens.now self.now.depth) (self.now.depth + 1) scope (view first.tree) first.end) }
     {
-        if !edge_allows(&first.tree, Infix::Product) {
-            return Err(Refusal::Precedence(first.end));
+        let is_allowed = edge_allows(&first.tree, Infix::Product);
+        let operand = child_of(self.alloc, first)?;
+        if !is_allowed {
+            return Err(Refusal::Precedence(operand.end));
         }
-        let found = self.factors(text, tokens, scope, first.end + 1)?;
-        let depth = first.depth.max(found.depth) + 1;
+        let found = self.factors(text, tokens, scope, operand.end + 1)?;
+        let depth = operand.depth.max(found.depth) + 1;
         if depth > self.depth + 1 {
             return Err(Refusal::Nesting(start));
         }
-        let end = found.end;
-        let at = first.tree.place();
-        let operand = boxed(self.alloc, first.tree)?;
+        let at = operand.tree.place();
         Ok(Parsed {
-            tree: product_of(at, operand, found.items),
-            end,
+            tree: product_of(at, operand.tree, found.items),
+            end: found.end,
             depth,
         })
     }

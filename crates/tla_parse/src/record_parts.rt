@@ -25,16 +25,6 @@ pub struct ParsedFields {
     pub depth: usize,
 }
 
-pub fn push_field(fields: &mut Vec<Field>, field: Field) -> Result<(), Refusal>
-    ensures ok { OnOk result (fields.new.items ≡ fields.old.items ++ field ∷ []) }
-    ensures err { IfErr result (λ e. e ≡ Refusal.NoMemory) }
-{
-    match fields.push(field) {
-        Ok(()) => Ok(()),
-        Err(_) => Err(Refusal::NoMemory),
-    }
-}
-
 /// A step of a path, the number of the token after it, and the greatest depth in it.
 #[derive(Drop)]
 pub struct ParsedKey {
@@ -51,16 +41,6 @@ pub struct ParsedKeys {
     pub depth: usize,
 }
 
-pub fn push_key(keys: &mut Vec<Key>, key: Key) -> Result<(), Refusal>
-    ensures ok { OnOk result (keys.new.items ≡ keys.old.items ++ key ∷ []) }
-    ensures err { IfErr result (λ e. e ≡ Refusal.NoMemory) }
-{
-    match keys.push(key) {
-        Ok(()) => Ok(()),
-        Err(_) => Err(Refusal::NoMemory),
-    }
-}
-
 /// An update, the number of the token after it, and the greatest depth in it.
 #[derive(Drop)]
 pub struct ParsedUpdate {
@@ -75,16 +55,6 @@ pub struct ParsedUpdates {
     pub updates: Vec<Update>,
     pub end: usize,
     pub depth: usize,
-}
-
-pub fn push_update(updates: &mut Vec<Update>, update: Update) -> Result<(), Refusal>
-    ensures ok { OnOk result (updates.new.items ≡ updates.old.items ++ update ∷ []) }
-    ensures err { IfErr result (λ e. e ≡ Refusal.NoMemory) }
-{
-    match updates.push(update) {
-        Ok(()) => Ok(()),
-        Err(_) => Err(Refusal::NoMemory),
-    }
 }
 
 pub fn record_of(at: Place, fields: Vec<Field>) -> Expr

@@ -12,10 +12,11 @@ ghost use Rattle.tla_parse.specs.Nests.{Nests};
 ghost use Rattle.tla_parse.specs.GivesRecords.{GivesField, GivesFields, GivesKey, GivesKeys, GivesUpdate, GivesUpdates};
 
 use crate::grammar::Grammar;
-use crate::parts::{Parsed, boxed};
+use crate::list::push;
+use crate::parts::{Parsed, child_of};
 use crate::record_parts::{
     ParsedField, ParsedFields, ParsedKey, ParsedKeys, ParsedUpdate, ParsedUpdates, except_of,
-    key_of, push_field, push_key, push_update, record_of, record_set_of,
+    key_of, record_of, record_set_of,
 };
 use crate::refusal::Refusal;
 use crate::scope::Scope;
@@ -78,7 +79,7 @@ impl<F: Fn(Global, &[u8], &[Token], usize, Scope, u8, usize) -> Result<Parsed, R
             let found = self.entry(text, tokens, scope, mark, at)?;
             let end = found.end;
             depth = depth.max(found.depth);
-            push_field(&mut fields, found.field)?;
+            push(&mut fields, found.field)?;
             let Some(next) = following(tokens, scope.column, Between::Comma, end) else {
                 return Ok(ParsedFields { fields, end, depth });
             };
@@ -197,7 +198,7 @@ impl<F: Fn(Global, &[u8], &[Token], usize, Scope, u8, usize) -> Result<Parsed, R
             let found = self.key(text, tokens, scope, at)?;
             let end = found.end;
             depth = depth.max(found.depth);
-            push_key(&mut keys, found.key)?;
+            push(&mut keys, found.key)?;
             let Some(next) = following(tokens, scope.column, Between::Key, end) else {
                 return Ok(ParsedKeys { keys, end, depth });
             };
@@ -259,7 +260,7 @@ impl<F: Fn(Global, &[u8], &[Token], usize, Scope, u8, usize) -> Result<Parsed, R
             let found = self.change(text, tokens, scope, at)?;
             let end = found.end;
             depth = depth.max(found.depth);
-            push_update(&mut updates, found.update)?;
+            push(&mut updates, found.update)?;
             let Some(next) = following(tokens, scope.column, Between::Comma, end) else {
                 return Ok(ParsedUpdates {
                     updates,
@@ -289,17 +290,15 @@ impl<F: Fn(Global, &[u8], &[Token], usize, Scope, u8, usize) -> Result<Parsed, R
         requires small { self.now.depth < 900 }
         ensures { Gives text.now tokens.now (self.now.depth + 1) result (reading.except text.now tokens.now (expr text.now tokens.now self.now.depth) scope at (view first.tree) first.end) }
     {
-        let found = self.changes(text, tokens, scope, first.end + 1)?;
+        let function = child_of(self.alloc, first)?;
+        let found = self.changes(text, tokens, scope, function.end + 1)?;
         if !is_kind(Kind::RightBracket, seen(tokens, scope.column, found.end)) {
             return Err(refused(tokens, scope.column, found.end));
         }
-        let end = found.end + 1;
-        let depth = first.depth.max(found.depth) + 1;
-        let function = boxed(self.alloc, first.tree)?;
         Ok(Parsed {
-            tree: except_of(at, function, found.updates),
-            end,
-            depth,
+            tree: except_of(at, function.tree, found.updates),
+            end: found.end + 1,
+            depth: function.depth.max(found.depth) + 1,
         })
     }
 }

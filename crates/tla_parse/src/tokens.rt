@@ -307,8 +307,7 @@ fn is_left_out(kind: Kind) -> bool
         | Kind::TemporalExists
         | Kind::Composition
         | Kind::MinusMinus
-        | Kind::Guarantees
-        | Kind::Product => true,
+        | Kind::Guarantees => true,
         _ => false,
     }
 }

@@ -13,8 +13,9 @@ ghost use Rattle.tla_parse.specs.View.{definition_view};
 ghost use Rattle.tla_parse.specs.UnitsGive.{GivesDeclared, GivesConstants, GivesClaim, GivesUnit, GivesUnits};
 
 use crate::grammar::{definition, expr};
+use crate::list::push;
 use crate::modules::is_module;
-use crate::names::{ParsedNames, names, push_name};
+use crate::names::{ParsedNames, names};
 use crate::parts::ParsedDefinition;
 use crate::refusal::Refusal;
 use crate::scope::Scope;
@@ -112,16 +113,6 @@ pub struct ParsedUnits {
     pub end: usize,
 }
 
-fn push_unit(units: &mut Vec<Unit>, unit: Unit) -> Result<(), Refusal>
-    ensures ok { OnOk result (units.new.items ≡ units.old.items ++ unit ∷ []) }
-    ensures err { IfErr result (λ e. e ≡ Refusal.NoMemory) }
-{
-    match units.push(unit) {
-        Ok(()) => Ok(()),
-        Err(_) => Err(Refusal::NoMemory),
-    }
-}
-
 /// The names of known modules with commas between them, behind EXTENDS.
 #[tactic(auto, using(crate::proofs::UnitsSteps::modules_more, crate::proofs::UnitsSteps::modules_last, crate::proofs::UnitsSteps::modules_full))]
 fn extended(
@@ -144,26 +135,13 @@ fn extended(
         if !is_module(name.word.as_bytes()) {
             return Err(Refusal::UnknownModule(at));
         }
-        push_name(&mut names, name)?;
+        push(&mut names, name)?;
         if !is_kind(Kind::Comma, seen(tokens, 0, at + 1)) {
             return Ok(ParsedNames { names, end: at + 1 });
         }
         at += 2;
     }
     Err(refused(tokens, 0, at))
-}
-
-fn push_declaration(
-    declarations: &mut Vec<Declaration>,
-    declaration: Declaration,
-) -> Result<(), Refusal>
-    ensures ok { OnOk result (declarations.new.items ≡ declarations.old.items ++ declaration ∷ []) }
-    ensures err { IfErr result (λ e. e ≡ Refusal.NoMemory) }
-{
-    match declarations.push(declaration) {
-        Ok(()) => Ok(()),
-        Err(_) => Err(Refusal::NoMemory),
-    }
 }
 
 /// How many underscores there are with the first, where each of the others has a comma before it, and the number of the token after them.
@@ -237,7 +215,7 @@ fn constants(
     for _turn in 0..tokens.len() {
         let found = constant(alloc, text, tokens, at)?;
         let end = found.end;
-        push_declaration(&mut declarations, found.declaration)?;
+        push(&mut declarations, found.declaration)?;
         let Some(next) = following(tokens, 0, Between::Comma, end) else {
             return Ok(ParsedDeclarations { declarations, end });
         };
@@ -411,7 +389,7 @@ fn units_from(
         let found = unit_at(alloc, text, tokens, at)?;
         at = found.end;
         first = found.unit.stays_first(first);
-        push_unit(&mut units, found.unit)?;
+        push(&mut units, found.unit)?;
     }
     Err(refused(tokens, 0, at))
 }

@@ -1,4 +1,4 @@
-use Rattle.std.proofs.Common.{◌≡◌, ◌++◌, List, length, map}
+use Rattle.std.proofs.Common.{◌++◌, List, length, map}
 use Rattle.tla_eval.specs.Expr.{Expr}
 use Rattle.tla_eval.specs.ExprOf.{expr_of}
 use Rattle.tla_expand.specs.Names.{scope_of}

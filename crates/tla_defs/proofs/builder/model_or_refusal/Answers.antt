@@ -1,18 +1,14 @@
-use Rattle.std.proofs.Common.{None, map}
+use Rattle.std.proofs.Common.{map}
 use Rattle.std.proofs.lemmas.Result.{err_from_is_err_and}
 use Rattle.tla_parse.specs.UnitsView.{unit_view}
 use Rattle.tla_defs.specs.Mentions.{behaviour_of}
-use Rattle.tla_defs.proofs.Behaviours.{behaviour_named}
-use Rattle.tla_defs.proofs.Nones.{no_behaviour, no_items, no_names}
+use Rattle.tla_defs.proofs.Behaviours.{behaviour_only}
+use Rattle.tla_defs.proofs.Nones.{no_behaviour, no_items, no_names, no_circle}
 use Rattle.tla_defs.proofs.builder.model_or_refusal.Goals as goal
 
-pub model-requires-clause-initial : goal.model-requires-clause-initial
-model-requires-clause-initial c =
-    rw c.statements-statements.ensures (behaviour_named None None c.args.config.now.statements c.args.config.now.end (behaviour_of c.in-Ok.found) c.in-Ok.ensures).initial
-
-pub model-requires-clause-next : goal.model-requires-clause-next
-model-requires-clause-next c =
-    rw c.statements-statements.ensures (behaviour_named None None c.args.config.now.statements c.args.config.now.end (behaviour_of c.in-Ok.found) c.in-Ok.ensures).next
+pub model-requires-clause-only : goal.model-requires-clause-only
+model-requires-clause-only c =
+    rw c.statements-statements.ensures (behaviour_only c.args.config.now.statements c.args.config.now.end (behaviour_of c.in-Ok.found) c.in-Ok.ensures)
 
 pub returns-in-Err-clause-none : goal.returns-in-Err-clause-none
 returns-in-Err-clause-none c = λ h. no_behaviour (map unit_view c.args.units.now) c.args.config.now c.in-Err.place c.in-Err.ensures
@@ -26,6 +22,11 @@ pub returns-in_err-statements_named-clause-none : goal.returns-in_err-statements
 returns-in_err-statements_named-clause-none c =
     let e = err_from_is_err_and c.from_residual-in_err-statements_named.result c.from_residual-in_err-statements_named.ensures.1 in
     rw (e.1, e.2) (λ h. no_names (map unit_view c.args.units.now) c.args.config.now.statements _ (rw (c.in_ok-definitions.ensures.ok, c.statements-statements.ensures) at (c.in_err-statements_named.ensures h)))
+
+pub returns-in_err-straight-clause-none : goal.returns-in_err-straight-clause-none
+returns-in_err-straight-clause-none c =
+    let e = err_from_is_err_and c.from_residual-in_err-straight.result c.from_residual-in_err-straight.ensures.1 in
+    rw (e.1, e.2) (λ h. no_circle (map unit_view c.args.units.now) c.args.config.now.statements _ (rw (c.in_ok-items.ensures.ok, c.statements-statements.ensures) at (c.in_err-straight.ensures.err h)))
 
 pub returns-clause-none : goal.returns-clause-none
 returns-clause-none c = rw c.statements-statements.ensures at c.model.ensures.none

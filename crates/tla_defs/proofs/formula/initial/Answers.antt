@@ -1,11 +1,12 @@
 use Rattle.tla_eval.specs.ExprOf.{expr_of}
 use Rattle.tla_expand.specs.Names.{scope_of}
+use Rattle.tla_parse.specs.Tree.{Name}
 use Rattle.tla_defs.proofs.Found.{found_initial, no_initial}
 use Rattle.tla_defs.proofs.formula.initial.Goals as goal
 
 pub returns-in-Ok-clause-found : goal.returns-in-Ok-clause-found
 returns-in-Ok-clause-found c =
-    found_initial (scope_of c.args.scopes.now) c.args.name.now (expr_of c.in-Ok.core) c.in-Ok.ensures.found c.in-Ok.ensures.limits
+    found_initial (scope_of c.args.scopes.now) (Name c.args.name.now) (expr_of c.in-Ok.core) c.in-Ok.ensures.found c.in-Ok.ensures.limits
 
 pub returns-in-Err-clause-none : goal.returns-in-Err-clause-none
-returns-in-Err-clause-none c = λ h. no_initial (scope_of c.args.scopes.now) c.args.name.now (c.in-Err.ensures.none (λ m. h (c.refusal.ensures.memory m)))
+returns-in-Err-clause-none c = λ h. no_initial (scope_of c.args.scopes.now) (Name c.args.name.now) (c.in-Err.ensures.none (λ m. h (c.refusal.ensures.memory m)))

@@ -16,3 +16,8 @@ returns-then-is_primed-clause-none c = λ h.
 
 pub returns-in-Err-clause-none : goal.returns-in-Err-clause-none
 returns-in-Err-clause-none c = λ h. no_invariant (scope_of c.args.scopes.now) c.args.name.now (c.in-Err.ensures.none (λ m. h (c.refusal.ensures.memory m)))
+
+pub returns-in-Err-NoExpansion-clause-none : goal.returns-in-Err-NoExpansion-clause-none
+returns-in-Err-NoExpansion-clause-none c = λ h.
+    let m = c.in-Err-NoExpansion in
+    no_invariant (scope_of c.args.scopes.now) c.args.name.now (m.ensures.none (λ p. let is = m.field-0-is in let z : ⊥ = cc in z))

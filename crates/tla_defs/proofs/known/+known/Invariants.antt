@@ -1,4 +1,4 @@
-use Rattle.std.proofs.Common.{◌≡◌, ◌≤◌, ◌+◌, ◌*◌, max, ◌++◌, ◌∷◌, [], length, map}
+use Rattle.std.proofs.Common.{◌≡◌, ◌≤◌, ◌+◌, ◌*◌, max, ◌++◌, [], length, map}
 use Rattle.tla_parse.specs.Tree.{trees, binders, arms, definitions, fields, keys, updates}
 use Rattle.tla_parse.specs.View.{view, group_view, choice_view, definition_view, field_view, key_view, update_view}
 use Rattle.tla_defs.specs.Scope.{bound_names, signatures}

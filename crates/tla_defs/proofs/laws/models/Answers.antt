@@ -1,6 +1,7 @@
 use Rattle.tla_defs.proofs.Worked as worked
 use Rattle.tla_defs.proofs.NamedWorked as named
 use Rattle.tla_defs.proofs.GivenWorked as given
+use Rattle.tla_defs.proofs.SpecificationWorked as specification
 use Rattle.tla_defs.proofs.laws.models.Goals as goal
 
 pub returns-clause-counter_of_three : goal.returns-clause-counter_of_three
@@ -32,3 +33,12 @@ returns-clause-with_value c = given.with_value
 
 pub returns-clause-two_variables : goal.returns-clause-two_variables
 returns-clause-two_variables c = given.two_variables
+
+pub returns-clause-with_replacement : goal.returns-clause-with_replacement
+returns-clause-with_replacement c = given.with_replacement
+
+pub returns-clause-specified : goal.returns-clause-specified
+returns-clause-specified c = specification.specified
+
+pub returns-clause-specified_in_parts : goal.returns-clause-specified_in_parts
+returns-clause-specified_in_parts c = specification.specified_in_parts

@@ -1,7 +1,5 @@
-use Rattle.std.proofs.Common.{rules, ◌≡◌, ◌≤◌, ◌<◌, ◌+◌, ℕ, length, Some, None, drop, ◌++◌, ◌∷◌, [], arith, Bor, ◌∙◌, ap, sym}
+use Rattle.std.proofs.Common.{arith, ◌∙◌, ap, sym}
 use Rattle.tla_parse.specs.declared.word.Written.{Written}
-use Rattle.tla_expand.specs.Expand.{standard, with_parameters}
-use Rattle.tla_expand.specs.Scopes.{AreLinked, IsBelow, Extends, scope_at, entry_scope, meaning_of}
 use Rattle.tla_expand.proofs.Binds.{bind_more, extends_more}
 use Rattle.tla_expand.proofs.arena.bind.Goals as goal
 

@@ -1,6 +1,4 @@
-use Rattle.std.proofs.Common.{rules, ◌≡◌, ◌∙◌, ap, arith, length-append, length, ◌+◌, ◌++◌, ◌∷◌, []}
-use Rattle.tla_expand.specs.Expand.{Scope}
-use Rattle.tla_expand.specs.Scopes.{scope_at, entry_scope, AreLinked}
+use Rattle.std.proofs.Common.{rules, ◌≡◌, ◌∙◌, ap, length-append, length, ◌+◌, ◌++◌, ◌∷◌, []}
 use Rattle.tla_expand.proofs.Links.{are_linked_append, scope_new}
 use Rattle.tla_expand.proofs.arena.enter.Goals as goal
 

@@ -1,7 +1,6 @@
-use Rattle.std.proofs.Common.{rules, ◌≡◌, ◌≤◌, ◌<◌, length, ◌+◌, ◌-◌, true, false, arith, sym, ◌∙◌, ap}
+use Rattle.std.proofs.Common.{rules, ◌≡◌, length, ◌+◌, ◌-◌, true, false, arith, sym, ◌∙◌, ap}
 use Rattle.std.specs.Str.{bytes_eq}
-use Rattle.tla_expand.specs.Expand.{standard, Scope}
-use Rattle.tla_expand.specs.Scopes.{scope_at, meaning_of, IsBelow}
+use Rattle.tla_expand.specs.Meanings.{Scope}
 use Rattle.tla_expand.proofs.Links.{find_hit, find_miss, scope_zero, below_rest, below_more, below_at}
 use Rattle.tla_expand.proofs.arena.find.Goals as goal
 

@@ -1,8 +1,6 @@
-use Rattle.std.proofs.Common.{rules, ◌≡◌, ◌++◌, ◌∷◌, [], refl, sym, arith, drop, ap, ◌∙◌, append-nil}
-use Rattle.std.proofs.lemmas.List.{drop_all}
+use Rattle.std.proofs.Common.{refl, arith}
 use Rattle.tla_parse.specs.View.{view}
-use Rattle.tla_expand.specs.Expand.{expand, bind_each}
-use Rattle.tla_expand.specs.Binders.{binds_in}
+use Rattle.tla_expand.specs.Expand.{expand}
 use Rattle.tla_expand.proofs.Groups.{one_name}
 use Rattle.tla_expand.proofs.binders.push_group.Goals as goal
 

@@ -1,6 +1,8 @@
 use Rattle.std.proofs.Common.{◌≡◌, ◌++◌, [], drop}
 use Rattle.tla_parse.specs.View.{view}
-use Rattle.tla_expand.specs.Expand.{Scope, bind_each, expand}
+use Rattle.tla_expand.specs.Meanings.{Scope}
+use Rattle.tla_expand.specs.Bound.{bind_each}
+use Rattle.tla_expand.specs.Expand.{expand}
 use Rattle.tla_expand.specs.Binders.{binds_in}
 use Rattle.tla_expand.proofs.binders.push_group.Given as goal
 

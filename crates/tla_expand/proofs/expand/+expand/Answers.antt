@@ -1,208 +1,684 @@
-use Rattle.std.proofs.Common.{rules, ◌≡◌, ◌≤◌, ◌<◌, ◌+◌, ℕ, length, Some, None, sym, ◌∙◌, ap, map, drop, [], ◌∷◌, ◌++◌, arith, refl}
+use Rattle.std.proofs.Common.{rules, ◌≡◌, ◌-◌, ◌+◌, ℕ, length, List, Some, sym, ◌∙◌, ap, subst, map, drop, [], ◌∷◌, ◌++◌, arith, refl}
 use Rattle.std.proofs.lemmas.Result.{err_from_is_err_and}
 use Rattle.std.proofs.lemmas.List.{map-append, drop_all}
-use Rattle.tla_model.specs.Size.{nodes, depth, nodes_each, depth_each}
-use Rattle.tla_eval.specs.ExprOf.{expr_of}
-use Rattle.tla_parse.specs.View.{view}
-use Rattle.tla_expand.specs.Lists.{exprs}
-use Rattle.tla_expand.specs.Maybe.{◌>>=◌}
-use Rattle.tla_expand.specs.Unchanged.{unchanged}
-use Rattle.tla_expand.specs.Expand.{expand}
+use Rattle.tla_model.specs.Size.{nodes, depth}
+use Rattle.tla_eval.specs.declared.expression.Binary.TheVariants.{Unequal}
+use Rattle.tla_eval.specs.Expr as e
+use Rattle.tla_eval.specs.Expr.{Expr, tuple, cases, product, except}
+use Rattle.tla_eval.specs.ExprOf.{expr_of, exprs_of_arm}
+use Rattle.tla_parse.specs.View.{view, group_view, key_view, views_items}
+use Rattle.tla_parse.specs.Tree as tree
+use Rattle.tla_parse.specs.Tree.{binders}
+use Rattle.tla_expand.specs.declared.nodes.Two.TheVariants as twos
+use Rattle.tla_expand.specs.declared.nodes.Many.TheVariants as manies
+use Rattle.tla_expand.specs.Lists.{exprs, arms_with, fields_of, updates_of, named_part, changed_part}
+use Rattle.tla_expand.specs.Maybe.{◌>>=◌, each_of}
+use Rattle.tla_expand.specs.Nodes.{two, three, many, fielded}
+use Rattle.tla_expand.specs.Primes.{one_more, settled_primes, with_primes}
+use Rattle.tla_expand.specs.Expand.{expand, expand_step, binds_of}
 use Rattle.tla_expand.specs.Scopes.{scope_at}
-use Rattle.tla_expand.specs.Gives.{shown, shown_part, kept_part, head_gives, both, sum_of, larger_of, list_of, parts_of}
-use Rattle.tla_expand.proofs.Sizes.{no_room, none_left, first_fails, second_fails}
-use Rattle.tla_expand.proofs.Lists.{so_far, part_done, part_fails, all_done, nodes_more, depth_more}
 use Rattle.tla_expand.specs.Binders.{binds_in}
+use Rattle.tla_expand.specs.Bound.{with_names}
+use Rattle.tla_expand.specs.Places.{place_of}
+use Rattle.tla_expand.specs.Gives.{Gives, part_in, arm_in, field_in, set_in, step_in, value_in, update_in, kept_part, changed_in, both, total, highest, sum_of, larger_of, field_nodes, field_depth, update_nodes, update_depth, parts_of}
+use Rattle.tla_expand.specs.Forms.{form_in}
+use Rattle.tla_expand.proofs.Levels.{look_fails, unchanged_fails}
+use Rattle.tla_expand.proofs.Sizes.{no_room, none_left, first_fails, second_fails, two_give, node_fails, node_gives, same_limits, limits_are}
+use Rattle.tla_expand.proofs.Lists.{part_done, part_fails, all_done, total_more, highest_more}
+use Rattle.tla_expand.proofs.Made.{two_larger, three_larger, many_larger, cases_larger, cases_or_larger, fielded_larger, product_larger, except_larger, Triple}
 use Rattle.tla_expand.proofs.Links.{cut_back, home_keep, bind_scope}
 use Rattle.tla_expand.proofs.Plain.{plain_head, tuple_fails, tuple_gives, equal_fails, equal_gives}
 use Rattle.tla_expand.proofs.Nested.{inner_fails, nested_gives}
-use Rattle.tla_expand.proofs.Arms.{two_arm_fails, two_arm_gives, three_pair_fails, three_last_fails, many_arm_fails, many_arm_gives, unchanged_arm}
+use Rattle.tla_expand.proofs.NamedParts.{field_some, field_fails}
+use Rattle.tla_expand.proofs.Gathered.{names_small, sets_fail, body_fails, gather_gives}
+use Rattle.tla_expand.proofs.Keys.{one_key, several_keys}
+use Rattle.tla_expand.proofs.Arms.{two_form, many_form, index_form, cases_form, cases_or_form, unchanged_form, fields_form, product_form, except_form, square_form, angle_form}
 use Rattle.tla_expand.proofs.expand.+expand.Goals as goal
 
-pub expand-returns-then-room-eq0-clause-same : goal.expand-returns-then-room-eq0-clause-same
-expand-returns-then-room-eq0-clause-same t c = no_room (shown c.args.primes (expand (view c.args.tree.now) (scope_at c.args.entries.now.items c.args.scope) c.args.bound)) c.args.room c.args.left c.if-room-eq0.true
+pub expand-returns-then-at-eq0-clause-same : goal.expand-returns-then-at-eq0-clause-same
+expand-returns-then-at-eq0-clause-same t c =
+    no_room (part_in c.args.at.primes (scope_at c.args.entries.now.items c.args.at.scope) c.args.at.bound c.args.tree.now) c.args.at.room c.args.at.left c.if-at-eq0.true
 
-pub expand-returns-then-left-eq0-clause-same : goal.expand-returns-then-left-eq0-clause-same
-expand-returns-then-left-eq0-clause-same t c = none_left (shown c.args.primes (expand (view c.args.tree.now) (scope_at c.args.entries.now.items c.args.scope) c.args.bound)) c.args.room c.args.left c.if-left-eq0.true
+pub expand-returns-then-at-eq0-2-clause-same : goal.expand-returns-then-at-eq0-2-clause-same
+expand-returns-then-at-eq0-2-clause-same t c =
+    none_left (part_in c.args.at.primes (scope_at c.args.entries.now.items c.args.at.scope) c.args.at.bound c.args.tree.now) c.args.at.room c.args.at.left c.if-at-eq0-2.true
 
-pub kept_one-returns-then-room-eq0-clause-same : goal.kept_one-returns-then-room-eq0-clause-same
-kept_one-returns-then-room-eq0-clause-same t c = no_room (shown c.args.primes (expand (view c.args.tree.now) (scope_at c.args.entries.now.items c.args.scope) c.args.bound) >>= unchanged c.args.place) c.args.room c.args.left c.if-room-eq0.true
-
-pub kept_one-returns-then-left-eq0-clause-same : goal.kept_one-returns-then-left-eq0-clause-same
-kept_one-returns-then-left-eq0-clause-same t c = none_left (shown c.args.primes (expand (view c.args.tree.now) (scope_at c.args.entries.now.items c.args.scope) c.args.bound) >>= unchanged c.args.place) c.args.room c.args.left c.if-left-eq0.true
-
-pub each-returns-in_err-part-clause-same : goal.each-returns-in_err-part-clause-same
-each-returns-in_err-part-clause-same t c =
-    let e = err_from_is_err_and c.from_residual.result c.from_residual.ensures.1 in
-    let f = rw c.loop-i.invariant.kept at c.in_err-part.ensures.same in
-    rw (e.1, e.2) (part_fails (shown_part c.args.primes (scope_at c.args.entries.now.items c.args.scope) c.args.bound) c.args.trees.now c.in_err-part.field-0.0
-    (map expr_of c.loop-i.parts.items) c.loop-i.i c.index-trees-i.result c.args.room c.args.left c.loop-i.rest
-    c.loop-i.invariant.so_far (omega arith) c.index-trees-i.is c.loop-i.invariant.left f)
-
-pub each-loop-i-preserved : goal.each-loop-i-preserved
-each-loop-i-preserved t c =
-    let f = rw c.loop-i.invariant.kept at c.in_ok-part.ensures.same in
-    let p : map expr_of c.push.new.parts.items ≡ map expr_of c.loop-i.parts.items ++ expr_of c.in_ok-part.part.core ∷ [] =
-    ap (λ x. map expr_of x) c.in_ok-push.ensures.ok ∙ map-append expr_of c.loop-i.parts.items (c.in_ok-part.part.core ∷ []) in
-    let n = nodes_more (map expr_of c.loop-i.parts.items) (expr_of c.in_ok-part.part.core) in
-    let n2 = ap (λ x. nodes_each (exprs x)) p in
-    record {
-      kept = c.in_ok-part.ensures.kept ∙ c.loop-i.invariant.kept;
-      so_far = part_done (shown_part c.args.primes (scope_at c.args.entries.now.items c.args.scope) c.args.bound) c.args.trees.now
-          (map expr_of c.loop-i.parts.items) (map expr_of c.push.new.parts.items) c.loop-i.i c.index-trees-i.result (expr_of c.in_ok-part.part.core)
-          c.loop-i.invariant.so_far (omega arith) c.index-trees-i.is f.0 p;
-      left = omega (arith, f.1, c.loop-i.invariant.left, n, n2);
-      depth = rw p (depth_more (map expr_of c.loop-i.parts.items) (expr_of c.in_ok-part.part.core) c.args.room c.loop-i.invariant.depth f.2);
-    }
-
-pub each-returns-clause-same : goal.each-returns-clause-same
-each-returns-clause-same t c =
-    let z : drop c.loop-i.i c.args.trees.now ≡ [] = drop_all c.loop-i.i c.args.trees.now (omega arith) in (
-      all_done (shown_part c.args.primes (scope_at c.args.entries.now.items c.args.scope) c.args.bound) c.args.trees.now (map expr_of c.loop-i.parts.items) c.loop-i.i z c.loop-i.invariant.so_far,
-      c.loop-i.invariant.left,
-      c.loop-i.invariant.depth,
-    )
-
-pub kept_each-returns-in_err-part-clause-same : goal.kept_each-returns-in_err-part-clause-same
-kept_each-returns-in_err-part-clause-same t c =
-    let e = err_from_is_err_and c.from_residual.result c.from_residual.ensures.1 in
-    let f = rw c.loop-i.invariant.kept at c.in_err-part.ensures.same in
-    rw (e.1, e.2) (part_fails (kept_part c.args.primes c.args.place (scope_at c.args.entries.now.items c.args.scope) c.args.bound) c.args.trees.now c.in_err-part.field-0.0
-    (map expr_of c.loop-i.parts.items) c.loop-i.i c.index-trees-i.result c.args.room c.args.left c.loop-i.rest
-    c.loop-i.invariant.so_far (omega arith) c.index-trees-i.is c.loop-i.invariant.left f)
-
-pub kept_each-loop-i-preserved : goal.kept_each-loop-i-preserved
-kept_each-loop-i-preserved t c =
-    let f = rw c.loop-i.invariant.kept at c.in_ok-part.ensures.same in
-    let p : map expr_of c.push.new.parts.items ≡ map expr_of c.loop-i.parts.items ++ expr_of c.in_ok-part.part.core ∷ [] =
-    ap (λ x. map expr_of x) c.in_ok-push.ensures.ok ∙ map-append expr_of c.loop-i.parts.items (c.in_ok-part.part.core ∷ []) in
-    let n = nodes_more (map expr_of c.loop-i.parts.items) (expr_of c.in_ok-part.part.core) in
-    let n2 = ap (λ x. nodes_each (exprs x)) p in
-    record {
-      kept = c.in_ok-part.ensures.kept ∙ c.loop-i.invariant.kept;
-      so_far = part_done (kept_part c.args.primes c.args.place (scope_at c.args.entries.now.items c.args.scope) c.args.bound) c.args.trees.now
-          (map expr_of c.loop-i.parts.items) (map expr_of c.push.new.parts.items) c.loop-i.i c.index-trees-i.result (expr_of c.in_ok-part.part.core)
-          c.loop-i.invariant.so_far (omega arith) c.index-trees-i.is f.0 p;
-      left = omega (arith, f.1, c.loop-i.invariant.left, n, n2);
-      depth = rw p (depth_more (map expr_of c.loop-i.parts.items) (expr_of c.in_ok-part.part.core) c.args.room c.loop-i.invariant.depth f.2);
-    }
-
-pub kept_each-returns-clause-same : goal.kept_each-returns-clause-same
-kept_each-returns-clause-same t c =
-    let z : drop c.loop-i.i c.args.trees.now ≡ [] = drop_all c.loop-i.i c.args.trees.now (omega arith) in (
-      all_done (kept_part c.args.primes c.args.place (scope_at c.args.entries.now.items c.args.scope) c.args.bound) c.args.trees.now (map expr_of c.loop-i.parts.items) c.loop-i.i z c.loop-i.invariant.so_far,
-      c.loop-i.invariant.left,
-      c.loop-i.invariant.depth,
-    )
-
-pub kept-returns-in_err-two-in-None-clause-same : goal.kept-returns-in_err-two-in-None-clause-same
-kept-returns-in_err-two-in-None-clause-same t c =
-    let m : c.len-mark.result ≡ length c.args.entries.now.items = search rules in
-    let p : c.truncate-in-None.new.self.items ≡ c.args.entries.now.items =
-    cut_back c.args.entries.now.items c.find_head.new.entries.items c.truncate-in-None.new.self.items c.len-mark.result c.in_ok-found.ensures.extends m c.truncate-in-None.ensures.items in
-    let o = expand (view c.args.tree.now) (scope_at c.args.entries.now.items c.args.scope) c.args.bound in
-    let h = plain_head (shown c.args.primes o) c.in_ok-found.found.form (scope_at c.find_head.new.entries.items c.in_ok-found.found.scope) c.args.bound c.in_ok-found.found.primes (c.in_ok-found.ensures.same c.args.bound) (sym c.tuple_items.ensures ∙ c.in-None.is) in
-    let e = err_from_is_err_and c.from_residual-in_err-two-in-None.result c.from_residual-in_err-two-in-None.ensures.1 in
-    let f = rw p at c.in_err-two-in-None.ensures.same in
-    rw (e.1, e.2) (equal_fails o c.args.primes c.one_more-more.result c.args.place c.in_err-two-in-None.field-0.0 c.args.room c.args.left h c.one_more-more.ensures f)
-
-pub kept-returns-in_ok-core-in-None-clause-same : goal.kept-returns-in_ok-core-in-None-clause-same
-kept-returns-in_ok-core-in-None-clause-same t c =
-    let m : c.len-mark.result ≡ length c.args.entries.now.items = search rules in
-    let p : c.truncate-in-None.new.self.items ≡ c.args.entries.now.items =
-    cut_back c.args.entries.now.items c.find_head.new.entries.items c.truncate-in-None.new.self.items c.len-mark.result c.in_ok-found.ensures.extends m c.truncate-in-None.ensures.items in
-    let o = expand (view c.args.tree.now) (scope_at c.args.entries.now.items c.args.scope) c.args.bound in
-    let h = plain_head (shown c.args.primes o) c.in_ok-found.found.form (scope_at c.find_head.new.entries.items c.in_ok-found.found.scope) c.args.bound c.in_ok-found.found.primes (c.in_ok-found.ensures.same c.args.bound) (sym c.tuple_items.ensures ∙ c.in-None.is) in
-    let g = rw p at c.in_ok-two-in-None.ensures.same in
-    equal_gives o c.args.primes c.one_more-more.result c.args.place (expr_of c.in_ok-two-in-None.two.first) (expr_of c.in_ok-two-in-None.two.second) (expr_of c.in_ok-core-in-None.core)
-    c.in_ok-two-in-None.two.left c.args.room c.args.left h c.one_more-more.ensures g.0 g.1 g.2 c.in_ok-core-in-None.ensures.ok
-
-pub kept-returns-in_err-many-in-Some-clause-same : goal.kept-returns-in_err-many-in-Some-clause-same
-kept-returns-in_err-many-in-Some-clause-same t c =
-    let e = err_from_is_err_and c.from_residual-in_err-many-in-Some.result c.from_residual-in_err-many-in-Some.ensures.1 in
-    rw (e.1, e.2) (tuple_fails (shown c.args.primes (expand (view c.args.tree.now) (scope_at c.args.entries.now.items c.args.scope) c.args.bound)) c.in_ok-found.found.form c.in-Some.items
-    (scope_at c.find_head.new.entries.items c.in_ok-found.found.scope) c.args.bound c.in_ok-found.found.primes c.args.place c.in_err-many-in-Some.field-0.0 c.args.room c.args.left
-    (c.in_ok-found.ensures.same c.args.bound) (sym c.tuple_items.ensures ∙ c.in-Some.is) c.in_err-many-in-Some.ensures.same)
-
-pub kept-returns-in_ok-many-in-Some-clause-same : goal.kept-returns-in_ok-many-in-Some-clause-same
-kept-returns-in_ok-many-in-Some-clause-same t c =
-    let g = c.in_ok-many-in-Some.ensures.same in
-    tuple_gives (shown c.args.primes (expand (view c.args.tree.now) (scope_at c.args.entries.now.items c.args.scope) c.args.bound)) c.in_ok-found.found.form c.in-Some.items
-    (scope_at c.find_head.new.entries.items c.in_ok-found.found.scope) c.args.bound c.in_ok-found.found.primes c.args.place (list_of c.in_ok-many-in-Some.many) (expr_of c.kept_core.result) c.in_ok-many-in-Some.many.left c.args.room c.args.left
-    (c.in_ok-found.ensures.same c.args.bound) (sym c.tuple_items.ensures ∙ c.in-Some.is) g.0 g.1 g.2 c.kept_core.ensures
-
-pub nested-returns-in_err-inner-clause-same : goal.nested-returns-in_err-inner-clause-same
-nested-returns-in_err-inner-clause-same t c =
-    let old = c.args.entries.now.items in
-    let new = c.enter.new.entries.items in
-    let σ = scope_at old c.args.home in
-    let e = err_from_is_err_and c.from_residual-in_err-inner.result c.from_residual-in_err-inner.ensures.1 in
-    let k = c.in_ok-set.ensures.kept in
-    let h : scope_at new c.args.home ≡ σ = home_keep old c.expand.new.entries.items new _ c.args.home c.in_ok-inside.ensures.added k c.requires.home in
-    let s = bind_scope old c.expand.new.entries.items (scope_at new c.in_ok-inside.inside) c.args.scope c.as_bytes.result.now c.args.first.name.now.word c.args.bound c.in_ok-inside.ensures.scope k c.as_bytes.ensures in
-    let f = rw h at c.in_err-inner.ensures.same in
-    rw (e.1, e.2) (inner_fails c.args.node c.args.place (binds_in (c.args.first ∷ c.args.rest.now) σ) (c.args.first.name.now.word, expand (view c.args.first.set.now) σ) (binds_in c.args.rest.now σ) (expand (view c.args.body.now))
-    (scope_at old c.args.scope) (scope_at new c.in_ok-inside.inside) c.args.bound c.args.primes refl s
-    c.in_err-inner.field-0.0 c.args.room c.args.left c.in_ok-set.set.left (expr_of c.in_ok-set.set.core) c.in_ok-set.ensures.same.0 c.in_ok-set.ensures.same.1 f)
-
-pub nested-returns-clause-same : goal.nested-returns-clause-same
-nested-returns-clause-same t c =
-    let old = c.args.entries.now.items in
-    let new = c.enter.new.entries.items in
-    let σ = scope_at old c.args.home in
-    let k = c.in_ok-set.ensures.kept in
-    let h : scope_at new c.args.home ≡ σ = home_keep old c.expand.new.entries.items new _ c.args.home c.in_ok-inside.ensures.added k c.requires.home in
-    let s = bind_scope old c.expand.new.entries.items (scope_at new c.in_ok-inside.inside) c.args.scope c.as_bytes.result.now c.args.first.name.now.word c.args.bound c.in_ok-inside.ensures.scope k c.as_bytes.ensures in
-    let g = rw h at c.in_ok-inner.ensures.same in
-    nested_gives c.args.node c.args.place (binds_in (c.args.first ∷ c.args.rest.now) σ) (c.args.first.name.now.word, expand (view c.args.first.set.now) σ) (binds_in c.args.rest.now σ) (expand (view c.args.body.now))
-    (scope_at old c.args.scope) (scope_at new c.in_ok-inside.inside) c.args.bound c.args.primes refl s
-    c.args.room c.args.left c.in_ok-set.set.left c.in_ok-inner.inner.left (expr_of c.in_ok-set.set.core) (expr_of c.in_ok-inner.inner.core) (expr_of c.in_ok-core.core) c.in_ok-set.ensures.same g c.in_ok-core.ensures.ok
-
-pub node_of-returns-in_err-two-in-Two-clause-same : goal.node_of-returns-in_err-two-in-Two-clause-same
-node_of-returns-in_err-two-in-Two-clause-same t c =
-    let e = err_from_is_err_and c.from_residual-in_err-two-in-Two.result c.from_residual-in_err-two-in-Two.ensures.1 in
+pub node_of-returns-in-Two-clause-same : goal.node_of-returns-in-Two-clause-same
+node_of-returns-in-Two-clause-same t c =
     let m = c.in-Two in
-    rw (e.1, e.2) (two_arm_fails c.args.found.form (scope_at c.args.entries.now.items c.args.found.scope) c.args.bound c.args.found.primes c.in_err-two-in-Two.field-0.0 c.args.room c.args.left
-    m.place m.node m.first m.second m.is c.in_err-two-in-Two.ensures.same)
+    rw (two_form c.args.form (scope_at c.args.entries.now.items c.args.at.scope) c.args.at.bound c.args.at.primes m.place m.node m.a m.b m.is) c.two_node.ensures.same
 
-pub node_of-returns-in_ok-core-in-Two-clause-same : goal.node_of-returns-in_ok-core-in-Two-clause-same
-node_of-returns-in_ok-core-in-Two-clause-same t c =
-    let m = c.in-Two in
-    let g = c.in_ok-two-in-Two.ensures.same in
-    two_arm_gives c.args.found.form (scope_at c.args.entries.now.items c.args.found.scope) c.args.bound c.args.found.primes (expr_of c.in_ok-core-in-Two.core) c.in_ok-two-in-Two.two.left c.args.room c.args.left
-    m.place m.node m.first m.second (expr_of c.in_ok-two-in-Two.two.first) (expr_of c.in_ok-two-in-Two.two.second) m.is g.0 g.1 g.2 c.in_ok-core-in-Two.ensures.ok
-
-pub node_of-returns-in_err-two-in-Three-clause-same : goal.node_of-returns-in_err-two-in-Three-clause-same
-node_of-returns-in_err-two-in-Three-clause-same t c =
-    let e = err_from_is_err_and c.from_residual-in_err-two-in-Three.result c.from_residual-in_err-two-in-Three.ensures.1 in
-    let m = c.in-Three in
-    rw (e.1, e.2) (three_pair_fails c.args.found.form (scope_at c.args.entries.now.items c.args.found.scope) c.args.bound c.args.found.primes c.in_err-two-in-Three.field-0.0 c.args.room c.args.left
-    m.place m.node m.first m.second m.third m.is c.in_err-two-in-Three.ensures.same)
-
-pub node_of-returns-in_err-third-in-Three-clause-same : goal.node_of-returns-in_err-third-in-Three-clause-same
-node_of-returns-in_err-third-in-Three-clause-same t c =
-    let e = err_from_is_err_and c.from_residual-in_err-third-in-Three.result c.from_residual-in_err-third-in-Three.ensures.1 in
-    let m = c.in-Three in
-    let g = c.in_ok-two-in-Three.ensures.same in
-    let f = rw c.in_ok-two-in-Three.ensures.kept at c.in_err-third-in-Three.ensures.same in
-    rw (e.1, e.2) (three_last_fails c.args.found.form (scope_at c.args.entries.now.items c.args.found.scope) c.args.bound c.args.found.primes c.in_err-third-in-Three.field-0.0 c.args.room c.args.left
-    m.place m.node m.first m.second m.third (parts_of c.in_ok-two-in-Three.two) c.in_ok-two-in-Three.two.left m.is g.0 g.1 f)
-
-pub node_of-returns-in_err-many-in-Many-clause-same : goal.node_of-returns-in_err-many-in-Many-clause-same
-node_of-returns-in_err-many-in-Many-clause-same t c =
-    let e = err_from_is_err_and c.from_residual-in_err-many-in-Many.result c.from_residual-in_err-many-in-Many.ensures.1 in
+pub node_of-returns-in-Many-clause-same : goal.node_of-returns-in-Many-clause-same
+node_of-returns-in-Many-clause-same t c =
     let m = c.in-Many in
-    rw (e.1, e.2) (many_arm_fails c.args.found.form (scope_at c.args.entries.now.items c.args.found.scope) c.args.bound c.args.found.primes c.in_err-many-in-Many.field-0.0 c.args.room c.args.left
-    m.place m.node m.items m.is c.in_err-many-in-Many.ensures.same)
-
-pub node_of-returns-in_ok-many-in-Many-clause-same : goal.node_of-returns-in_ok-many-in-Many-clause-same
-node_of-returns-in_ok-many-in-Many-clause-same t c =
-    let m = c.in-Many in
-    let g = c.in_ok-many-in-Many.ensures.same in
-    many_arm_gives c.args.found.form (scope_at c.args.entries.now.items c.args.found.scope) c.args.bound c.args.found.primes (expr_of c.many_core.result) c.in_ok-many-in-Many.many.left c.args.room c.args.left
-    m.place m.node m.items (list_of c.in_ok-many-in-Many.many) m.is g.0 g.1 g.2 c.many_core.ensures
+    rw (many_form c.args.form (scope_at c.args.entries.now.items c.args.at.scope) c.args.at.bound c.args.at.primes m.place m.node m.items m.is) c.many_node.ensures.same
 
 pub node_of-returns-in-Unchanged-clause-same : goal.node_of-returns-in-Unchanged-clause-same
 node_of-returns-in-Unchanged-clause-same t c =
     let m = c.in-Unchanged in
-    rw (unchanged_arm c.args.found.form (scope_at c.args.entries.now.items c.args.found.scope) c.args.bound c.args.found.primes m.place m.operand m.is, sym c.settled-primes.ensures) c.kept.ensures.same
+    rw (unchanged_form c.args.form (scope_at c.args.entries.now.items c.args.at.scope) c.args.at.bound c.args.at.primes m.place m.operand m.is) c.unchanged_node.ensures.same
+
+pub two_node-returns-in_err-two-clause-same : goal.two_node-returns-in_err-two-clause-same
+two_node-returns-in_err-two-clause-same t c =
+    let r = err_from_is_err_and c.from_residual.result c.from_residual.ensures.1 in
+    let σ = scope_at c.args.entries.now.items c.args.at.scope in
+    rw (r.1, r.2) (node_fails (sum_of nodes nodes) (larger_of depth depth) (λ (xy : Expr × Expr). two c.args.node c.args.place xy.0 xy.1) c.in_err-two.field-0.0
+    (both (part_in c.args.at.primes σ c.args.at.bound c.args.first.now) (part_in c.args.at.primes σ c.args.at.bound c.args.second.now)) c.args.at.room c.args.at.left (two_larger c.args.node c.args.place) c.in_err-two.ensures.same)
+
+pub three_node-returns-in_err-two-clause-same : goal.three_node-returns-in_err-two-clause-same
+three_node-returns-in_err-two-clause-same t c =
+    let r = err_from_is_err_and c.from_residual.result c.from_residual.ensures.1 in
+    let σ = scope_at c.args.entries.now.items c.args.at.scope in
+    let ab = both (part_in c.args.at.primes σ c.args.at.bound c.args.first.now) (part_in c.args.at.primes σ c.args.at.bound c.args.second.now) in
+    let last = part_in c.args.at.primes σ c.args.at.bound c.args.third.now in
+    rw (r.1, r.2) (node_fails (sum_of (sum_of nodes nodes) nodes) (larger_of (larger_of depth depth) depth) (λ (x : Triple). three c.args.node c.args.place x.0.0 x.0.1 x.1) c.in_err-two.field-0.0
+    (both ab last) c.args.at.room c.args.at.left (three_larger c.args.node c.args.place)
+    (first_fails (sum_of nodes nodes) (larger_of depth depth) nodes depth c.in_err-two.field-0.0 ab last c.args.at.room c.args.at.left c.in_err-two.ensures.same))
+
+pub three_node-returns-in_err-third-clause-same : goal.three_node-returns-in_err-third-clause-same
+three_node-returns-in_err-third-clause-same t c =
+    let r = err_from_is_err_and c.from_residual-in_err-third.result c.from_residual-in_err-third.ensures.1 in
+    let σ = scope_at c.args.entries.now.items c.args.at.scope in
+    let ab = both (part_in c.args.at.primes σ c.args.at.bound c.args.first.now) (part_in c.args.at.primes σ c.args.at.bound c.args.second.now) in
+    let last = part_in c.args.at.primes σ c.args.at.bound c.args.third.now in
+    let g = c.in_ok-two.ensures.same in
+    let f = rw c.in_ok-two.ensures.kept at c.in_err-third.ensures.same in
+    rw (r.1, r.2) (node_fails (sum_of (sum_of nodes nodes) nodes) (larger_of (larger_of depth depth) depth) (λ (x : Triple). three c.args.node c.args.place x.0.0 x.0.1 x.1) c.in_err-third.field-0.0
+    (both ab last) c.args.at.room c.args.at.left (three_larger c.args.node c.args.place)
+    (second_fails (sum_of nodes nodes) (larger_of depth depth) nodes depth c.in_err-third.field-0.0 ab last (parts_of c.in_ok-two.two) c.args.at.room c.args.at.left c.in_ok-two.two.left g.0 g.1 f))
+
+pub many_node-returns-in_err-many-clause-same : goal.many_node-returns-in_err-many-clause-same
+many_node-returns-in_err-many-clause-same t c =
+    let r = err_from_is_err_and c.from_residual.result c.from_residual.ensures.1 in
+    let σ = scope_at c.args.entries.now.items c.args.at.scope in
+    rw (r.1, r.2) (node_fails (total nodes) (highest depth) (λ xs. many c.args.node c.args.place (exprs xs)) c.in_err-many.field-0.0
+    (each_of (part_in c.args.at.primes σ c.args.at.bound) c.args.items.now) c.args.at.room c.args.at.left (many_larger c.args.node c.args.place) c.in_err-many.ensures.same)
+
+pub many_node-returns-clause-same : goal.many_node-returns-clause-same
+many_node-returns-clause-same t c =
+    let σ = scope_at c.args.entries.now.items c.args.at.scope in
+    node_gives (total nodes) (highest depth) (λ xs. many c.args.node c.args.place (exprs xs)) (each_of (part_in c.args.at.primes σ c.args.at.bound) c.args.items.now)
+    (map expr_of c.in_ok-many.many.parts.items) (expr_of c.many_core.result) c.args.at.room c.args.at.left c.in_ok-many.many.left (many_larger c.args.node c.args.place) c.in_ok-many.ensures.same c.many_core.ensures
+
+pub cases_node-returns-in_err-made-clause-same : goal.cases_node-returns-in_err-made-clause-same
+cases_node-returns-in_err-made-clause-same t c =
+    let r = err_from_is_err_and c.from_residual.result c.from_residual.ensures.1 in
+    let σ = scope_at c.args.entries.now.items c.args.at.scope in
+    rw (r.1, r.2) (node_fails (total (sum_of nodes nodes)) (highest (larger_of depth depth)) (λ xs. cases c.args.place (arms_with xs e.no_arms)) c.in_err-made.field-0.0
+    (each_of (arm_in c.args.at.primes σ c.args.at.bound) c.args.arms.now) c.args.at.room c.args.at.left (cases_larger c.args.place) c.in_err-made.ensures.same)
+
+pub cases_node-returns-clause-same : goal.cases_node-returns-clause-same
+cases_node-returns-clause-same t c =
+    let σ = scope_at c.args.entries.now.items c.args.at.scope in
+    node_gives (total (sum_of nodes nodes)) (highest (larger_of depth depth)) (λ xs. cases c.args.place (arms_with xs e.no_arms)) (each_of (arm_in c.args.at.primes σ c.args.at.bound) c.args.arms.now)
+    (map exprs_of_arm c.in_ok-made.made.arms.items) (expr_of c.cases_core.result) c.args.at.room c.args.at.left c.in_ok-made.made.left (cases_larger c.args.place) c.in_ok-made.ensures.same c.cases_core.ensures
+
+pub cases_or_node-returns-in_err-made-clause-same : goal.cases_or_node-returns-in_err-made-clause-same
+cases_or_node-returns-in_err-made-clause-same t c =
+    let r = err_from_is_err_and c.from_residual.result c.from_residual.ensures.1 in
+    let σ = scope_at c.args.entries.now.items c.args.at.scope in
+    let arms = each_of (arm_in c.args.at.primes σ c.args.at.bound) c.args.arms.now in
+    let last = part_in c.args.at.primes σ c.args.at.bound c.args.last.now in
+    rw (r.1, r.2) (node_fails (sum_of (total (sum_of nodes nodes)) nodes) (larger_of (highest (larger_of depth depth)) depth) (λ (xs : List (Expr × Expr) × Expr). cases c.args.place (arms_with xs.0 (e.other xs.1))) c.in_err-made.field-0.0
+    (both arms last) c.args.at.room c.args.at.left (cases_or_larger c.args.place)
+    (first_fails (total (sum_of nodes nodes)) (highest (larger_of depth depth)) nodes depth c.in_err-made.field-0.0 arms last c.args.at.room c.args.at.left c.in_err-made.ensures.same))
+
+pub cases_or_node-returns-in_err-last-clause-same : goal.cases_or_node-returns-in_err-last-clause-same
+cases_or_node-returns-in_err-last-clause-same t c =
+    let r = err_from_is_err_and c.from_residual-in_err-last.result c.from_residual-in_err-last.ensures.1 in
+    let σ = scope_at c.args.entries.now.items c.args.at.scope in
+    let arms = each_of (arm_in c.args.at.primes σ c.args.at.bound) c.args.arms.now in
+    let last = part_in c.args.at.primes σ c.args.at.bound c.args.last.now in
+    let g = c.in_ok-made.ensures.same in
+    let f = rw c.in_ok-made.ensures.kept at c.in_err-last.ensures.same in
+    rw (r.1, r.2) (node_fails (sum_of (total (sum_of nodes nodes)) nodes) (larger_of (highest (larger_of depth depth)) depth) (λ (xs : List (Expr × Expr) × Expr). cases c.args.place (arms_with xs.0 (e.other xs.1))) c.in_err-last.field-0.0
+    (both arms last) c.args.at.room c.args.at.left (cases_or_larger c.args.place)
+    (second_fails (total (sum_of nodes nodes)) (highest (larger_of depth depth)) nodes depth c.in_err-last.field-0.0 arms last (map exprs_of_arm c.in_ok-made.made.arms.items) c.args.at.room c.args.at.left c.in_ok-made.made.left g.0 g.1 f))
+
+pub cases_or_node-returns-clause-same : goal.cases_or_node-returns-clause-same
+cases_or_node-returns-clause-same t c =
+    let σ = scope_at c.args.entries.now.items c.args.at.scope in
+    let arms = each_of (arm_in c.args.at.primes σ c.args.at.bound) c.args.arms.now in
+    let last = part_in c.args.at.primes σ c.args.at.bound c.args.last.now in
+    let h = rw c.in_ok-made.ensures.kept at c.in_ok-last.ensures.same in
+    node_gives (sum_of (total (sum_of nodes nodes)) nodes) (larger_of (highest (larger_of depth depth)) depth) (λ (xs : List (Expr × Expr) × Expr). cases c.args.place (arms_with xs.0 (e.other xs.1))) (both arms last)
+    (map exprs_of_arm c.in_ok-made.made.arms.items, expr_of c.in_ok-last.last.core) (expr_of c.in_ok-core.core) c.args.at.room c.args.at.left c.in_ok-last.last.left (cases_or_larger c.args.place)
+    (two_give (total (sum_of nodes nodes)) (highest (larger_of depth depth)) nodes depth arms last (map exprs_of_arm c.in_ok-made.made.arms.items) (expr_of c.in_ok-last.last.core) c.args.at.room c.args.at.left c.in_ok-made.made.left c.in_ok-last.last.left c.in_ok-made.ensures.same h)
+    c.in_ok-core.ensures.ok
+
+pub lists::each-returns-in_err-part-clause-same : goal.lists::each-returns-in_err-part-clause-same
+lists::each-returns-in_err-part-clause-same t c =
+    let r = err_from_is_err_and c.from_residual.result c.from_residual.ensures.1 in
+    let f = rw c.loop-i.invariant.kept at c.in_err-part.ensures.same in
+    rw (r.1, r.2) (part_fails (part_in c.args.at.primes (scope_at c.args.entries.now.items c.args.at.scope) c.args.at.bound) c.args.trees.now nodes depth c.in_err-part.field-0.0
+    (map expr_of c.loop-i.parts.items) c.loop-i.i c.index-trees-i.result c.args.at.room c.args.at.left c.loop-i.left
+    c.loop-i.invariant.so_far (omega arith) c.index-trees-i.is c.loop-i.invariant.left f)
+
+pub lists::each-loop-i-preserved : goal.lists::each-loop-i-preserved
+lists::each-loop-i-preserved t c =
+    let f = rw c.loop-i.invariant.kept at c.in_ok-part.ensures.same in
+    let old = map expr_of c.loop-i.parts.items in
+    let x = expr_of c.in_ok-part.part.core in
+    let p : map expr_of c.push.new.parts.items ≡ old ++ x ∷ [] = ap (λ ps. map expr_of ps) c.in_ok-push.ensures.ok ∙ map-append expr_of c.loop-i.parts.items (c.in_ok-part.part.core ∷ []) in
+    let n = total_more nodes old (map expr_of c.push.new.parts.items) x p in
+    record {
+      kept = c.in_ok-part.ensures.kept ∙ c.loop-i.invariant.kept;
+      so_far = part_done (part_in c.args.at.primes (scope_at c.args.entries.now.items c.args.at.scope) c.args.at.bound) c.args.trees.now
+          old (map expr_of c.push.new.parts.items) c.loop-i.i c.index-trees-i.result x c.loop-i.invariant.so_far (omega arith) c.index-trees-i.is f.0 p;
+      left = omega (arith, f.1, c.loop-i.invariant.left, n);
+      depth = highest_more depth old (map expr_of c.push.new.parts.items) x c.args.at.room p c.loop-i.invariant.depth f.2;
+    }
+
+pub lists::each-returns-clause-same : goal.lists::each-returns-clause-same
+lists::each-returns-clause-same t c =
+    let z : drop c.loop-i.i c.args.trees.now ≡ [] = drop_all c.loop-i.i c.args.trees.now (omega arith) in (
+      all_done (part_in c.args.at.primes (scope_at c.args.entries.now.items c.args.at.scope) c.args.at.bound) c.args.trees.now (map expr_of c.loop-i.parts.items) c.loop-i.i z c.loop-i.invariant.so_far,
+      c.loop-i.invariant.left,
+      c.loop-i.invariant.depth,
+    )
+
+pub lists::arms_of-returns-in_err-two-clause-same : goal.lists::arms_of-returns-in_err-two-clause-same
+lists::arms_of-returns-in_err-two-clause-same t c =
+    let r = err_from_is_err_and c.from_residual.result c.from_residual.ensures.1 in
+    let f = rw c.loop-i.invariant.kept at c.in_err-two.ensures.same in
+    rw (r.1, r.2) (part_fails (arm_in c.args.at.primes (scope_at c.args.entries.now.items c.args.at.scope) c.args.at.bound) c.args.arms.now (sum_of nodes nodes) (larger_of depth depth) c.in_err-two.field-0.0
+    (map exprs_of_arm c.loop-i.made.items) c.loop-i.i c.index-arms-i.result c.args.at.room c.args.at.left c.loop-i.left
+    c.loop-i.invariant.so_far (omega arith) c.index-arms-i.is c.loop-i.invariant.left f)
+
+pub lists::arms_of-loop-i-preserved : goal.lists::arms_of-loop-i-preserved
+lists::arms_of-loop-i-preserved t c =
+    let f = rw c.loop-i.invariant.kept at c.in_ok-two.ensures.same in
+    let old = map exprs_of_arm c.loop-i.made.items in
+    let x = parts_of c.in_ok-two.two in
+    let new = map exprs_of_arm c.push_arm.new.arms.items in
+    let p : new ≡ old ++ x ∷ [] = ap (λ ps. map exprs_of_arm ps) c.in_ok-push_arm.ensures.ok ∙ map-append exprs_of_arm c.loop-i.made.items ((c.in_ok-two.two.first, c.in_ok-two.two.second) ∷ []) in
+    let n = total_more (sum_of nodes nodes) old new x p in
+    record {
+      kept = c.in_ok-two.ensures.kept ∙ c.loop-i.invariant.kept;
+      so_far = part_done (arm_in c.args.at.primes (scope_at c.args.entries.now.items c.args.at.scope) c.args.at.bound) c.args.arms.now
+          old new c.loop-i.i c.index-arms-i.result x c.loop-i.invariant.so_far (omega arith) c.index-arms-i.is f.0 p;
+      left = omega (arith, f.1, c.loop-i.invariant.left, n);
+      depth = highest_more (larger_of depth depth) old new x c.args.at.room p c.loop-i.invariant.depth f.2;
+    }
+
+pub lists::arms_of-returns-clause-same : goal.lists::arms_of-returns-clause-same
+lists::arms_of-returns-clause-same t c =
+    let z : drop c.loop-i.i c.args.arms.now ≡ [] = drop_all c.loop-i.i c.args.arms.now (omega arith) in (
+      all_done (arm_in c.args.at.primes (scope_at c.args.entries.now.items c.args.at.scope) c.args.at.bound) c.args.arms.now (map exprs_of_arm c.loop-i.made.items) c.loop-i.i z c.loop-i.invariant.so_far,
+      c.loop-i.invariant.left,
+      c.loop-i.invariant.depth,
+    )
+
+pub lists::tuple_of-returns-in_err-many-clause-same : goal.lists::tuple_of-returns-in_err-many-clause-same
+lists::tuple_of-returns-in_err-many-clause-same t c =
+    let r = err_from_is_err_and c.from_residual.result c.from_residual.ensures.1 in
+    let o = each_of (part_in c.args.at.primes (scope_at c.args.entries.now.items c.args.at.scope) c.args.at.bound) c.args.items.now in
+    rw (r.1, r.2) (same_limits c.in_err-many.field-0.0 (o >>= λ xs. Some (tuple c.args.place (exprs xs))) c.args.at.room c.args.at.left c.if-at-eq0.false c.if-at-eq0-2.false
+    (node_fails (total nodes) (highest depth) (λ xs. tuple c.args.place (exprs xs)) c.in_err-many.field-0.0 o (c.args.at.room - 1) (c.args.at.left - 1) (many_larger manies.Tuple c.args.place) c.in_err-many.ensures.same))
+
+pub lists::tuple_of-returns-clause-same : goal.lists::tuple_of-returns-clause-same
+lists::tuple_of-returns-clause-same t c =
+    let o = each_of (part_in c.args.at.primes (scope_at c.args.entries.now.items c.args.at.scope) c.args.at.bound) c.args.items.now in
+    let l = limits_are c.args.at.room c.args.at.left c.if-at-eq0.false c.if-at-eq0-2.false in
+    let g = node_gives (total nodes) (highest depth) (λ xs. tuple c.args.place (exprs xs)) o (map expr_of c.in_ok-many.many.parts.items) (expr_of c.tuple.result) (c.args.at.room - 1) (c.args.at.left - 1) c.in_ok-many.many.left
+    (many_larger manies.Tuple c.args.place) c.in_ok-many.ensures.same c.tuple.ensures in
+    rw (l.0, l.1) at g
+
+pub kept::kept_one-returns-then-at-eq0-clause-same : goal.kept::kept_one-returns-then-at-eq0-clause-same
+kept::kept_one-returns-then-at-eq0-clause-same t c =
+    no_room (kept_part c.args.at.primes c.args.place (scope_at c.args.entries.now.items c.args.at.scope) c.args.at.bound c.args.tree.now) c.args.at.room c.args.at.left c.if-at-eq0.true
+
+pub levels::node_behind-returns-in_err-look_at_form-clause-same : goal.levels::node_behind-returns-in_err-look_at_form-clause-same
+levels::node_behind-returns-in_err-look_at_form-clause-same t c =
+    let r = err_from_is_err_and c.from_residual.result c.from_residual.ensures.1 in
+    let o = form_in c.args.head.form (scope_at c.args.entries.now.items c.args.at.scope) c.args.at.bound in
+    rw (r.1, r.2) (look_fails c.args.outer c.args.at.primes c.in_err-look_at_form.field-0.0 o (c.args.at.room + 1) (c.args.at.left + 1) (sym c.are_fewer.ensures ∙ c.if-not-are_fewer.false) c.in_err-look_at_form.ensures.none)
+
+pub levels::unchanged_node-returns-in_err-look_at-clause-same : goal.levels::unchanged_node-returns-in_err-look_at-clause-same
+levels::unchanged_node-returns-in_err-look_at-clause-same t c =
+    let r = err_from_is_err_and c.from_residual.result c.from_residual.ensures.1 in
+    let o = expand (view c.args.tree.now) (scope_at c.args.entries.now.items c.args.at.scope) c.args.at.bound in
+    rw (r.1, r.2) (unchanged_fails c.args.at.primes c.in_err-look_at.field-0.0 c.args.place o (c.args.at.room + 1) (c.args.at.left + 1) c.in_err-look_at.ensures.none)
+
+pub levels::kept_subscript-returns-then-at-eq0-clause-same : goal.levels::kept_subscript-returns-then-at-eq0-clause-same
+levels::kept_subscript-returns-then-at-eq0-clause-same t c =
+    no_room (kept_part (settled_primes c.args.at.primes) c.args.place (scope_at c.args.entries.now.items c.args.at.scope) c.args.at.bound c.args.tree.now) c.args.at.room c.args.at.left c.if-at-eq0.true
+
+pub kept::kept_each-returns-in_err-part-clause-same : goal.kept::kept_each-returns-in_err-part-clause-same
+kept::kept_each-returns-in_err-part-clause-same t c =
+    let r = err_from_is_err_and c.from_residual.result c.from_residual.ensures.1 in
+    let f = rw c.loop-i.invariant.kept at c.in_err-part.ensures.same in
+    rw (r.1, r.2) (part_fails (kept_part c.args.at.primes c.args.place (scope_at c.args.entries.now.items c.args.at.scope) c.args.at.bound) c.args.trees.now nodes depth c.in_err-part.field-0.0
+    (map expr_of c.loop-i.parts.items) c.loop-i.i c.index-trees-i.result c.args.at.room c.args.at.left c.loop-i.left
+    c.loop-i.invariant.so_far (omega arith) c.index-trees-i.is c.loop-i.invariant.left f)
+
+pub kept::kept_each-loop-i-preserved : goal.kept::kept_each-loop-i-preserved
+kept::kept_each-loop-i-preserved t c =
+    let f = rw c.loop-i.invariant.kept at c.in_ok-part.ensures.same in
+    let old = map expr_of c.loop-i.parts.items in
+    let x = expr_of c.in_ok-part.part.core in
+    let p : map expr_of c.push.new.parts.items ≡ old ++ x ∷ [] = ap (λ ps. map expr_of ps) c.in_ok-push.ensures.ok ∙ map-append expr_of c.loop-i.parts.items (c.in_ok-part.part.core ∷ []) in
+    let n = total_more nodes old (map expr_of c.push.new.parts.items) x p in
+    record {
+      kept = c.in_ok-part.ensures.kept ∙ c.loop-i.invariant.kept;
+      so_far = part_done (kept_part c.args.at.primes c.args.place (scope_at c.args.entries.now.items c.args.at.scope) c.args.at.bound) c.args.trees.now
+          old (map expr_of c.push.new.parts.items) c.loop-i.i c.index-trees-i.result x c.loop-i.invariant.so_far (omega arith) c.index-trees-i.is f.0 p;
+      left = omega (arith, f.1, c.loop-i.invariant.left, n);
+      depth = highest_more depth old (map expr_of c.push.new.parts.items) x c.args.at.room p c.loop-i.invariant.depth f.2;
+    }
+
+pub kept::kept_each-returns-clause-same : goal.kept::kept_each-returns-clause-same
+kept::kept_each-returns-clause-same t c =
+    let z : drop c.loop-i.i c.args.trees.now ≡ [] = drop_all c.loop-i.i c.args.trees.now (omega arith) in (
+      all_done (kept_part c.args.at.primes c.args.place (scope_at c.args.entries.now.items c.args.at.scope) c.args.at.bound) c.args.trees.now (map expr_of c.loop-i.parts.items) c.loop-i.i z c.loop-i.invariant.so_far,
+      c.loop-i.invariant.left,
+      c.loop-i.invariant.depth,
+    )
+
+pub kept::kept-returns-in_err-two-in-None-clause-same : goal.kept::kept-returns-in_err-two-in-None-clause-same
+kept::kept-returns-in_err-two-in-None-clause-same t c =
+    let old = c.args.entries.now.items in
+    let m : c.len-mark.result ≡ length old = search rules in
+    let p : c.truncate-in-None.new.self.items ≡ old = cut_back old c.find_head.new.entries.items c.truncate-in-None.new.self.items c.len-mark.result c.in_ok-found.ensures.extends m c.truncate-in-None.ensures.items in
+    let o = expand (view c.args.tree.now) (scope_at old c.args.at.scope) c.args.at.bound in
+    let h = plain_head (with_primes c.args.at.primes o) c.in_ok-found.found.form (scope_at c.find_head.new.entries.items c.in_ok-found.found.scope) c.args.at.bound c.in_ok-found.found.primes (c.in_ok-found.ensures.same c.args.at.bound) (sym c.tuple_items.ensures ∙ c.in-None.is) in
+    let r = err_from_is_err_and c.from_residual-in_err-two-in-None.result c.from_residual-in_err-two-in-None.ensures.1 in
+    let f = rw p at c.in_err-two-in-None.ensures.same in
+    rw (r.1, r.2) (equal_fails o c.args.at.primes c.one_more-more.result c.args.place c.in_err-two-in-None.field-0.0 c.args.at.room c.args.at.left h c.one_more-more.ensures f)
+
+pub kept::kept-returns-in_ok-core-in-None-clause-same : goal.kept::kept-returns-in_ok-core-in-None-clause-same
+kept::kept-returns-in_ok-core-in-None-clause-same t c =
+    let old = c.args.entries.now.items in
+    let m : c.len-mark.result ≡ length old = search rules in
+    let p : c.truncate-in-None.new.self.items ≡ old = cut_back old c.find_head.new.entries.items c.truncate-in-None.new.self.items c.len-mark.result c.in_ok-found.ensures.extends m c.truncate-in-None.ensures.items in
+    let o = expand (view c.args.tree.now) (scope_at old c.args.at.scope) c.args.at.bound in
+    let h = plain_head (with_primes c.args.at.primes o) c.in_ok-found.found.form (scope_at c.find_head.new.entries.items c.in_ok-found.found.scope) c.args.at.bound c.in_ok-found.found.primes (c.in_ok-found.ensures.same c.args.at.bound) (sym c.tuple_items.ensures ∙ c.in-None.is) in
+    let g = rw p at c.in_ok-two-in-None.ensures.same in
+    equal_gives o c.args.at.primes c.one_more-more.result c.args.place (parts_of c.in_ok-two-in-None.two) (expr_of c.in_ok-core-in-None.core)
+    c.in_ok-two-in-None.two.left c.args.at.room c.args.at.left h c.one_more-more.ensures g c.in_ok-core-in-None.ensures.ok
+
+pub kept::kept-returns-in_err-many-in-Some-clause-same : goal.kept::kept-returns-in_err-many-in-Some-clause-same
+kept::kept-returns-in_err-many-in-Some-clause-same t c =
+    let r = err_from_is_err_and c.from_residual-in_err-many-in-Some.result c.from_residual-in_err-many-in-Some.ensures.1 in
+    rw (r.1, r.2) (tuple_fails (part_in c.args.at.primes (scope_at c.args.entries.now.items c.args.at.scope) c.args.at.bound c.args.tree.now) c.in_ok-found.found.form c.in-Some.items
+    (scope_at c.find_head.new.entries.items c.in_ok-found.found.scope) c.args.at.bound c.in_ok-found.found.primes c.args.place c.in_err-many-in-Some.field-0.0 c.args.at.room c.args.at.left
+    (c.in_ok-found.ensures.same c.args.at.bound) (sym c.tuple_items.ensures ∙ c.in-Some.is) c.in_err-many-in-Some.ensures.same)
+
+pub kept::kept-returns-in_ok-many-in-Some-clause-same : goal.kept::kept-returns-in_ok-many-in-Some-clause-same
+kept::kept-returns-in_ok-many-in-Some-clause-same t c =
+    tuple_gives (part_in c.args.at.primes (scope_at c.args.entries.now.items c.args.at.scope) c.args.at.bound c.args.tree.now) c.in_ok-found.found.form c.in-Some.items
+    (scope_at c.find_head.new.entries.items c.in_ok-found.found.scope) c.args.at.bound c.in_ok-found.found.primes c.args.place (map expr_of c.in_ok-many-in-Some.many.parts.items) (expr_of c.kept_core.result) c.in_ok-many-in-Some.many.left c.args.at.room c.args.at.left
+    (c.in_ok-found.ensures.same c.args.at.bound) (sym c.tuple_items.ensures ∙ c.in-Some.is) c.in_ok-many-in-Some.ensures.same c.kept_core.ensures
+
+pub binding::nested-returns-in_err-inner-clause-same : goal.binding::nested-returns-in_err-inner-clause-same
+binding::nested-returns-in_err-inner-clause-same t c =
+    let old = c.args.entries.now.items in
+    let new = c.enter.new.entries.items in
+    let u = c.args.under in
+    let σ = scope_at old u.home in
+    let r = err_from_is_err_and c.from_residual-in_err-inner.result c.from_residual-in_err-inner.ensures.1 in
+    let k = c.in_ok-set.ensures.kept in
+    let h : scope_at new u.home ≡ σ = home_keep old c.expand.new.entries.items new _ u.home c.in_ok-scope.ensures.added k c.requires.home in
+    let s = bind_scope old c.expand.new.entries.items (scope_at new c.in_ok-scope.scope) c.args.at.scope c.as_bytes.result.now c.args.first.name.now.word c.args.at.bound c.in_ok-scope.ensures.scope k c.as_bytes.ensures in
+    let f = rw h at c.in_err-inner.ensures.same in
+    rw (r.1, r.2) (inner_fails u.node u.place (binds_in (c.args.first ∷ c.args.rest.now) σ) (c.args.first.name.now.word, expand (view c.args.first.set.now) σ) (binds_in c.args.rest.now σ) (expand (view u.body.now))
+    (scope_at old c.args.at.scope) (scope_at new c.in_ok-scope.scope) c.args.at.bound c.args.at.primes refl s
+    c.in_err-inner.field-0.0 c.args.at.room c.args.at.left c.in_ok-set.set.left (expr_of c.in_ok-set.set.core) c.in_ok-set.ensures.same.0 c.in_ok-set.ensures.same.1 f)
+
+pub binding::nested-returns-clause-same : goal.binding::nested-returns-clause-same
+binding::nested-returns-clause-same t c =
+    let old = c.args.entries.now.items in
+    let new = c.enter.new.entries.items in
+    let u = c.args.under in
+    let σ = scope_at old u.home in
+    let k = c.in_ok-set.ensures.kept in
+    let h : scope_at new u.home ≡ σ = home_keep old c.expand.new.entries.items new _ u.home c.in_ok-scope.ensures.added k c.requires.home in
+    let s = bind_scope old c.expand.new.entries.items (scope_at new c.in_ok-scope.scope) c.args.at.scope c.as_bytes.result.now c.args.first.name.now.word c.args.at.bound c.in_ok-scope.ensures.scope k c.as_bytes.ensures in
+    let g = rw h at c.in_ok-inner.ensures.same in
+    nested_gives u.node u.place (binds_in (c.args.first ∷ c.args.rest.now) σ) (c.args.first.name.now.word, expand (view c.args.first.set.now) σ) (binds_in c.args.rest.now σ) (expand (view u.body.now))
+    (scope_at old c.args.at.scope) (scope_at new c.in_ok-scope.scope) c.args.at.bound c.args.at.primes refl s
+    c.args.at.room c.args.at.left c.in_ok-set.set.left c.in_ok-inner.inner.left (expr_of c.in_ok-set.set.core) (expr_of c.in_ok-inner.inner.core) (expr_of c.in_ok-core.core) c.in_ok-set.ensures.same g c.in_ok-core.ensures.ok
+
+pub fields_node-returns-in_err-made-clause-same : goal.fields_node-returns-in_err-made-clause-same
+fields_node-returns-in_err-made-clause-same t c =
+    let r = err_from_is_err_and c.from_residual.result c.from_residual.ensures.1 in
+    rw (r.1, r.2) (node_fails (total field_nodes) (highest field_depth) (λ xs. fielded c.args.node c.args.place (fields_of xs)) c.in_err-made.field-0.0 (each_of (field_in c.args.at.primes (scope_at c.args.entries.now.items c.args.at.scope) c.args.at.bound) c.args.fields.now) c.args.at.room c.args.at.left (fielded_larger c.args.node c.args.place) c.in_err-made.ensures.same)
+
+pub fields_node-returns-clause-same : goal.fields_node-returns-clause-same
+fields_node-returns-clause-same t c =
+    node_gives (total field_nodes) (highest field_depth) (λ xs. fielded c.args.node c.args.place (fields_of xs)) (each_of (field_in c.args.at.primes (scope_at c.args.entries.now.items c.args.at.scope) c.args.at.bound) c.args.fields.now) (map named_part c.in_ok-made.made.fields.items) (expr_of c.fielded_core.result) c.args.at.room c.args.at.left c.in_ok-made.made.left (fielded_larger c.args.node c.args.place) c.in_ok-made.ensures.same c.fielded_core.ensures
+
+pub product_node-returns-in_err-first-clause-same : goal.product_node-returns-in_err-first-clause-same
+product_node-returns-in_err-first-clause-same t c =
+    let r = err_from_is_err_and c.from_residual.result c.from_residual.ensures.1 in
+    let a = (part_in c.args.at.primes (scope_at c.args.entries.now.items c.args.at.scope) c.args.at.bound c.args.first.now) in
+    let b = each_of (part_in c.args.at.primes (scope_at c.args.entries.now.items c.args.at.scope) c.args.at.bound) c.args.others.now in
+    rw (r.1, r.2) (node_fails (sum_of nodes (total nodes)) (larger_of depth (highest depth)) (λ (xs : Expr × List Expr). product c.args.place (exprs (xs.0 ∷ xs.1))) c.in_err-first.field-0.0 (both a b) c.args.at.room c.args.at.left (product_larger c.args.place)
+    (first_fails nodes depth (total nodes) (highest depth) c.in_err-first.field-0.0 a b c.args.at.room c.args.at.left c.in_err-first.ensures.same))
+
+pub product_node-returns-in_err-others-clause-same : goal.product_node-returns-in_err-others-clause-same
+product_node-returns-in_err-others-clause-same t c =
+    let r = err_from_is_err_and c.from_residual-in_err-others.result c.from_residual-in_err-others.ensures.1 in
+    let a = (part_in c.args.at.primes (scope_at c.args.entries.now.items c.args.at.scope) c.args.at.bound c.args.first.now) in
+    let b = each_of (part_in c.args.at.primes (scope_at c.args.entries.now.items c.args.at.scope) c.args.at.bound) c.args.others.now in
+    let g = c.in_ok-first.ensures.same in
+    let f = rw c.in_ok-first.ensures.kept at c.in_err-others.ensures.same in
+    rw (r.1, r.2) (node_fails (sum_of nodes (total nodes)) (larger_of depth (highest depth)) (λ (xs : Expr × List Expr). product c.args.place (exprs (xs.0 ∷ xs.1))) c.in_err-others.field-0.0 (both a b) c.args.at.room c.args.at.left (product_larger c.args.place)
+    (second_fails nodes depth (total nodes) (highest depth) c.in_err-others.field-0.0 a b (expr_of c.in_ok-first.first.core) c.args.at.room c.args.at.left c.in_ok-first.first.left g.0 g.1 f))
+
+pub product_node-returns-clause-same : goal.product_node-returns-clause-same
+product_node-returns-clause-same t c =
+    let a = (part_in c.args.at.primes (scope_at c.args.entries.now.items c.args.at.scope) c.args.at.bound c.args.first.now) in
+    let b = each_of (part_in c.args.at.primes (scope_at c.args.entries.now.items c.args.at.scope) c.args.at.bound) c.args.others.now in
+    let h = rw c.in_ok-first.ensures.kept at c.in_ok-others.ensures.same in
+    node_gives (sum_of nodes (total nodes)) (larger_of depth (highest depth)) (λ (xs : Expr × List Expr). product c.args.place (exprs (xs.0 ∷ xs.1))) (both a b) ((expr_of c.in_ok-first.first.core), (map expr_of c.in_ok-others.others.parts.items)) (expr_of c.in_ok-core.core) c.args.at.room c.args.at.left c.in_ok-others.others.left (product_larger c.args.place)
+    (two_give nodes depth (total nodes) (highest depth) a b (expr_of c.in_ok-first.first.core) (map expr_of c.in_ok-others.others.parts.items) c.args.at.room c.args.at.left c.in_ok-first.first.left c.in_ok-others.others.left c.in_ok-first.ensures.same h) c.in_ok-core.ensures.ok
+
+pub updates::except_node-returns-in_err-function-clause-same : goal.updates::except_node-returns-in_err-function-clause-same
+updates::except_node-returns-in_err-function-clause-same t c =
+    let r = err_from_is_err_and c.from_residual.result c.from_residual.ensures.1 in
+    let a = (part_in c.args.at.primes (scope_at c.args.entries.now.items c.args.at.scope) c.args.at.bound c.args.function.now) in
+    let b = each_of (update_in c.args.at.primes (scope_at c.args.entries.now.items c.args.at.scope) c.args.at.bound) c.args.updates.now in
+    rw (r.1, r.2) (node_fails (sum_of nodes (total update_nodes)) (larger_of depth (highest update_depth)) (λ (xs : Expr × List (List Expr × Expr)). except c.args.place xs.0 (updates_of xs.1)) c.in_err-function.field-0.0 (both a b) c.args.at.room c.args.at.left (except_larger c.args.place)
+    (first_fails nodes depth (total update_nodes) (highest update_depth) c.in_err-function.field-0.0 a b c.args.at.room c.args.at.left c.in_err-function.ensures.same))
+
+pub updates::except_node-returns-in_err-made-clause-same : goal.updates::except_node-returns-in_err-made-clause-same
+updates::except_node-returns-in_err-made-clause-same t c =
+    let r = err_from_is_err_and c.from_residual-in_err-made.result c.from_residual-in_err-made.ensures.1 in
+    let a = (part_in c.args.at.primes (scope_at c.args.entries.now.items c.args.at.scope) c.args.at.bound c.args.function.now) in
+    let b = each_of (update_in c.args.at.primes (scope_at c.args.entries.now.items c.args.at.scope) c.args.at.bound) c.args.updates.now in
+    let g = c.in_ok-function.ensures.same in
+    let f = rw c.in_ok-function.ensures.kept at c.in_err-made.ensures.same in
+    rw (r.1, r.2) (node_fails (sum_of nodes (total update_nodes)) (larger_of depth (highest update_depth)) (λ (xs : Expr × List (List Expr × Expr)). except c.args.place xs.0 (updates_of xs.1)) c.in_err-made.field-0.0 (both a b) c.args.at.room c.args.at.left (except_larger c.args.place)
+    (second_fails nodes depth (total update_nodes) (highest update_depth) c.in_err-made.field-0.0 a b (expr_of c.in_ok-function.function.core) c.args.at.room c.args.at.left c.in_ok-function.function.left g.0 g.1 f))
+
+pub updates::except_node-returns-clause-same : goal.updates::except_node-returns-clause-same
+updates::except_node-returns-clause-same t c =
+    let a = (part_in c.args.at.primes (scope_at c.args.entries.now.items c.args.at.scope) c.args.at.bound c.args.function.now) in
+    let b = each_of (update_in c.args.at.primes (scope_at c.args.entries.now.items c.args.at.scope) c.args.at.bound) c.args.updates.now in
+    let h = rw c.in_ok-function.ensures.kept at c.in_ok-made.ensures.same in
+    node_gives (sum_of nodes (total update_nodes)) (larger_of depth (highest update_depth)) (λ (xs : Expr × List (List Expr × Expr)). except c.args.place xs.0 (updates_of xs.1)) (both a b) ((expr_of c.in_ok-function.function.core), (map changed_part c.in_ok-made.made.updates.items)) (expr_of c.in_ok-core.core) c.args.at.room c.args.at.left c.in_ok-made.made.left (except_larger c.args.place)
+    (two_give nodes depth (total update_nodes) (highest update_depth) a b (expr_of c.in_ok-function.function.core) (map changed_part c.in_ok-made.made.updates.items) c.args.at.room c.args.at.left c.in_ok-function.function.left c.in_ok-made.made.left c.in_ok-function.ensures.same h) c.in_ok-core.ensures.ok
+
+pub binding::sets_of-returns-in_err-part-clause-same : goal.binding::sets_of-returns-in_err-part-clause-same
+binding::sets_of-returns-in_err-part-clause-same t c =
+    let r = err_from_is_err_and c.from_residual.result c.from_residual.ensures.1 in
+    let f = rw c.loop-i.invariant.kept at c.in_err-part.ensures.same in
+    rw (r.1, r.2) (part_fails (set_in c.args.at.primes (scope_at c.args.entries.now.items c.args.at.scope) c.args.at.bound) c.args.binds.now nodes depth c.in_err-part.field-0.0
+    (map expr_of c.loop-i.parts.items) c.loop-i.i c.index-binds-i.result c.args.at.room c.args.at.left c.loop-i.left
+    c.loop-i.invariant.so_far (omega arith) c.index-binds-i.is c.loop-i.invariant.left f)
+
+pub binding::sets_of-loop-i-preserved : goal.binding::sets_of-loop-i-preserved
+binding::sets_of-loop-i-preserved t c =
+    let f = rw c.loop-i.invariant.kept at c.in_ok-part.ensures.same in
+    let old = map expr_of c.loop-i.parts.items in
+    let x = expr_of c.in_ok-part.part.core in
+    let new = map expr_of c.push.new.parts.items in
+    let p : new ≡ old ++ x ∷ [] = ap (λ ps. map expr_of ps) c.in_ok-push.ensures.ok ∙ map-append expr_of c.loop-i.parts.items (c.in_ok-part.part.core ∷ []) in
+    let n = total_more nodes old new x p in
+    record {
+      kept = c.in_ok-part.ensures.kept ∙ c.loop-i.invariant.kept;
+      so_far = part_done (set_in c.args.at.primes (scope_at c.args.entries.now.items c.args.at.scope) c.args.at.bound) c.args.binds.now old new c.loop-i.i c.index-binds-i.result x c.loop-i.invariant.so_far (omega arith) c.index-binds-i.is f.0 p;
+      left = omega (arith, f.1, c.loop-i.invariant.left, n);
+      depth = highest_more depth old new x c.args.at.room p c.loop-i.invariant.depth f.2;
+    }
+
+pub binding::sets_of-returns-clause-same : goal.binding::sets_of-returns-clause-same
+binding::sets_of-returns-clause-same t c =
+    let z : drop c.loop-i.i c.args.binds.now ≡ [] = drop_all c.loop-i.i c.args.binds.now (omega arith) in (
+      all_done (set_in c.args.at.primes (scope_at c.args.entries.now.items c.args.at.scope) c.args.at.bound) c.args.binds.now (map expr_of c.loop-i.parts.items) c.loop-i.i z c.loop-i.invariant.so_far,
+      c.loop-i.invariant.left,
+      c.loop-i.invariant.depth,
+    )
+
+pub updates::path_of-returns-in_err-part-clause-same : goal.updates::path_of-returns-in_err-part-clause-same
+updates::path_of-returns-in_err-part-clause-same t c =
+    let r = err_from_is_err_and c.from_residual.result c.from_residual.ensures.1 in
+    let f = rw c.loop-i.invariant.kept at c.in_err-part.ensures.same in
+    rw (r.1, r.2) (part_fails (step_in c.args.at.primes (scope_at c.args.entries.now.items c.args.at.scope) c.args.at.bound) c.args.keys.now nodes depth c.in_err-part.field-0.0
+    (map expr_of c.loop-i.parts.items) c.loop-i.i c.index-keys-i.result c.args.at.room c.args.at.left c.loop-i.left
+    c.loop-i.invariant.so_far (omega arith) c.index-keys-i.is c.loop-i.invariant.left f)
+
+pub updates::path_of-loop-i-preserved : goal.updates::path_of-loop-i-preserved
+updates::path_of-loop-i-preserved t c =
+    let f = rw c.loop-i.invariant.kept at c.in_ok-part.ensures.same in
+    let old = map expr_of c.loop-i.parts.items in
+    let x = expr_of c.in_ok-part.part.core in
+    let new = map expr_of c.push.new.parts.items in
+    let p : new ≡ old ++ x ∷ [] = ap (λ ps. map expr_of ps) c.in_ok-push.ensures.ok ∙ map-append expr_of c.loop-i.parts.items (c.in_ok-part.part.core ∷ []) in
+    let n = total_more nodes old new x p in
+    record {
+      kept = c.in_ok-part.ensures.kept ∙ c.loop-i.invariant.kept;
+      so_far = part_done (step_in c.args.at.primes (scope_at c.args.entries.now.items c.args.at.scope) c.args.at.bound) c.args.keys.now old new c.loop-i.i c.index-keys-i.result x c.loop-i.invariant.so_far (omega arith) c.index-keys-i.is f.0 p;
+      left = omega (arith, f.1, c.loop-i.invariant.left, n);
+      depth = highest_more depth old new x c.args.at.room p c.loop-i.invariant.depth f.2;
+    }
+
+pub updates::path_of-returns-clause-same : goal.updates::path_of-returns-clause-same
+updates::path_of-returns-clause-same t c =
+    let z : drop c.loop-i.i c.args.keys.now ≡ [] = drop_all c.loop-i.i c.args.keys.now (omega arith) in (
+      all_done (step_in c.args.at.primes (scope_at c.args.entries.now.items c.args.at.scope) c.args.at.bound) c.args.keys.now (map expr_of c.loop-i.parts.items) c.loop-i.i z c.loop-i.invariant.so_far,
+      c.loop-i.invariant.left,
+      c.loop-i.invariant.depth,
+    )
+
+pub updates::changes-returns-in_err-change-clause-same : goal.updates::changes-returns-in_err-change-clause-same
+updates::changes-returns-in_err-change-clause-same t c =
+    let r = err_from_is_err_and c.from_residual.result c.from_residual.ensures.1 in
+    let f = rw c.loop-i.invariant.kept at c.in_err-change.ensures.same in
+    rw (r.1, r.2) (part_fails (update_in c.args.at.primes (scope_at c.args.entries.now.items c.args.at.scope) c.args.at.bound) c.args.updates.now update_nodes update_depth c.in_err-change.field-0.0
+    (map changed_part c.loop-i.made.items) c.loop-i.i c.index-updates-i.result c.args.at.room c.args.at.left c.loop-i.left
+    c.loop-i.invariant.so_far (omega arith) c.index-updates-i.is c.loop-i.invariant.left f)
+
+pub updates::changes-loop-i-preserved : goal.updates::changes-loop-i-preserved
+updates::changes-loop-i-preserved t c =
+    let f = rw c.loop-i.invariant.kept at c.in_ok-change.ensures.same in
+    let old = map changed_part c.loop-i.made.items in
+    let x : List Expr × Expr = (map expr_of c.in_ok-change.change.path.items, expr_of c.in_ok-change.change.value) in
+    let new = map changed_part c.push_update.new.updates.items in
+    let p : new ≡ old ++ x ∷ [] = ap (λ ps. map changed_part ps) c.in_ok-push_update.ensures.ok ∙ map-append changed_part c.loop-i.made.items ((c.in_ok-change.change.path, c.in_ok-change.change.value) ∷ []) in
+    let n = total_more update_nodes old new x p in
+    record {
+      kept = c.in_ok-change.ensures.kept ∙ c.loop-i.invariant.kept;
+      so_far = part_done (update_in c.args.at.primes (scope_at c.args.entries.now.items c.args.at.scope) c.args.at.bound) c.args.updates.now old new c.loop-i.i c.index-updates-i.result x c.loop-i.invariant.so_far (omega arith) c.index-updates-i.is f.0 p;
+      left = omega (arith, f.1, c.loop-i.invariant.left, n);
+      depth = highest_more update_depth old new x c.args.at.room p c.loop-i.invariant.depth f.2;
+    }
+
+pub updates::changes-returns-clause-same : goal.updates::changes-returns-clause-same
+updates::changes-returns-clause-same t c =
+    let z : drop c.loop-i.i c.args.updates.now ≡ [] = drop_all c.loop-i.i c.args.updates.now (omega arith) in (
+      all_done (update_in c.args.at.primes (scope_at c.args.entries.now.items c.args.at.scope) c.args.at.bound) c.args.updates.now (map changed_part c.loop-i.made.items) c.loop-i.i z c.loop-i.invariant.so_far,
+      c.loop-i.invariant.left,
+      c.loop-i.invariant.depth,
+    )
+
+pub lists::named_parts-returns-in_err-part-clause-same : goal.lists::named_parts-returns-in_err-part-clause-same
+lists::named_parts-returns-in_err-part-clause-same t c =
+    let r = err_from_is_err_and c.from_residual.result c.from_residual.ensures.1 in
+    let f = rw c.loop-i.invariant.kept at c.in_err-part.ensures.same in
+    rw (r.1, r.2) (part_fails (field_in c.args.at.primes (scope_at c.args.entries.now.items c.args.at.scope) c.args.at.bound) c.args.fields.now field_nodes field_depth c.in_err-part.field-0.0
+    (map named_part c.loop-i.made.items) c.loop-i.i c.index-fields-i.result c.args.at.room c.args.at.left c.loop-i.left
+    c.loop-i.invariant.so_far (omega arith) c.index-fields-i.is c.loop-i.invariant.left (field_fails c.in_err-part.field-0.0 (part_in c.args.at.primes (scope_at c.args.entries.now.items c.args.at.scope) c.args.at.bound c.index-fields-i.result.value) c.index-fields-i.result.name.word c.args.at.room c.loop-i.left f))
+
+pub lists::named_parts-loop-i-preserved : goal.lists::named_parts-loop-i-preserved
+lists::named_parts-loop-i-preserved t c =
+    let f = rw c.loop-i.invariant.kept at c.in_ok-part.ensures.same in
+    let old = map named_part c.loop-i.made.items in
+    let x : List ℕ × Expr = (c.in_ok-name.name, expr_of c.in_ok-part.part.core) in
+    let new = map named_part c.push_field.new.fields.items in
+    let p : new ≡ old ++ x ∷ [] = ap (λ ps. map named_part ps) c.in_ok-push_field.ensures.ok ∙ map-append named_part c.loop-i.made.items ((c.in_ok-name.name, c.in_ok-part.part.core) ∷ []) in
+    let n = total_more field_nodes old new x p in
+    record {
+      kept = c.in_ok-part.ensures.kept ∙ c.loop-i.invariant.kept;
+      so_far = part_done (field_in c.args.at.primes (scope_at c.args.entries.now.items c.args.at.scope) c.args.at.bound) c.args.fields.now old new c.loop-i.i c.index-fields-i.result x c.loop-i.invariant.so_far (omega arith) c.index-fields-i.is (field_some c.args.at.primes (scope_at c.args.entries.now.items c.args.at.scope) c.args.at.bound c.index-fields-i.result (expr_of c.in_ok-part.part.core) c.in_ok-name.name f.0 c.in_ok-name.ensures.ok) p;
+      left = omega (arith, f.1, c.loop-i.invariant.left, n);
+      depth = highest_more field_depth old new x c.args.at.room p c.loop-i.invariant.depth f.2;
+    }
+
+pub lists::named_parts-returns-clause-same : goal.lists::named_parts-returns-clause-same
+lists::named_parts-returns-clause-same t c =
+    let z : drop c.loop-i.i c.args.fields.now ≡ [] = drop_all c.loop-i.i c.args.fields.now (omega arith) in (
+      all_done (field_in c.args.at.primes (scope_at c.args.entries.now.items c.args.at.scope) c.args.at.bound) c.args.fields.now (map named_part c.loop-i.made.items) c.loop-i.i z c.loop-i.invariant.so_far,
+      c.loop-i.invariant.left,
+      c.loop-i.invariant.depth,
+    )
+
+pub updates::change-returns-in_err-path-clause-same : goal.updates::change-returns-in_err-path-clause-same
+updates::change-returns-in_err-path-clause-same t c =
+    let r = err_from_is_err_and c.from_residual.result c.from_residual.ensures.1 in
+    let a = each_of (step_in c.args.at.primes (scope_at c.args.entries.now.items c.args.at.scope) c.args.at.bound) c.args.update.now.path.items in
+    let b = value_in c.args.at.primes (scope_at c.args.entries.now.items c.args.at.scope) c.args.at.bound c.args.update.now.value in
+    let f = rw c.as_slice.ensures.value at c.in_err-path.ensures.same in
+    rw (r.1, r.2) (first_fails (total nodes) (highest depth) nodes depth c.in_err-path.field-0.0 a b c.args.at.room c.args.at.left f)
+
+pub updates::change-returns-in_err-value-clause-same : goal.updates::change-returns-in_err-value-clause-same
+updates::change-returns-in_err-value-clause-same t c =
+    let r = err_from_is_err_and c.from_residual-in_err-value.result c.from_residual-in_err-value.ensures.1 in
+    let a = each_of (step_in c.args.at.primes (scope_at c.args.entries.now.items c.args.at.scope) c.args.at.bound) c.args.update.now.path.items in
+    let b = value_in c.args.at.primes (scope_at c.args.entries.now.items c.args.at.scope) c.args.at.bound c.args.update.now.value in
+    let g = rw c.as_slice.ensures.value at c.in_ok-path.ensures.same in
+    let f = rw c.in_ok-path.ensures.kept at c.in_err-value.ensures.same in
+    rw (r.1, r.2) (second_fails (total nodes) (highest depth) nodes depth c.in_err-value.field-0.0 a b (map expr_of c.in_ok-path.path.parts.items) c.args.at.room c.args.at.left c.in_ok-path.path.left g.0 g.1 f)
+
+pub updates::change-returns-clause-same : goal.updates::change-returns-clause-same
+updates::change-returns-clause-same t c =
+    let a = each_of (step_in c.args.at.primes (scope_at c.args.entries.now.items c.args.at.scope) c.args.at.bound) c.args.update.now.path.items in
+    let b = value_in c.args.at.primes (scope_at c.args.entries.now.items c.args.at.scope) c.args.at.bound c.args.update.now.value in
+    let g = rw c.as_slice.ensures.value at c.in_ok-path.ensures.same in
+    let h = rw c.in_ok-path.ensures.kept at c.in_ok-value.ensures.same in
+    two_give (total nodes) (highest depth) nodes depth a b (map expr_of c.in_ok-path.path.parts.items) (expr_of c.in_ok-value.value.core) c.args.at.room c.args.at.left c.in_ok-path.path.left c.in_ok-value.value.left g h
+
+pub kept::changed-returns-in_err-two-clause-same : goal.kept::changed-returns-in_err-two-clause-same
+kept::changed-returns-in_err-two-clause-same t c =
+    let r = err_from_is_err_and c.from_residual.result c.from_residual.ensures.1 in
+    let o = both (part_in (one_more c.args.at.primes) (scope_at c.args.entries.now.items c.args.at.scope) c.args.at.bound c.args.tree.now) (part_in c.args.at.primes (scope_at c.args.entries.now.items c.args.at.scope) c.args.at.bound c.args.tree.now) in
+    let f = rw c.one_more-more.ensures at c.in_err-two.ensures.same in
+    rw (r.1, r.2) (same_limits c.in_err-two.field-0.0 (o >>= λ xy. Some (two (twos.Binary Unequal) c.args.place xy.0 xy.1)) c.args.at.room c.args.at.left c.if-at-eq0.false c.if-at-eq0-2.false
+    (node_fails (sum_of nodes nodes) (larger_of depth depth) (λ (xy : Expr × Expr). two (twos.Binary Unequal) c.args.place xy.0 xy.1) c.in_err-two.field-0.0 o (c.args.at.room - 1) (c.args.at.left - 1) (two_larger (twos.Binary Unequal) c.args.place) f))
+
+pub kept::changed-returns-clause-same : goal.kept::changed-returns-clause-same
+kept::changed-returns-clause-same t c =
+    let o = both (part_in (one_more c.args.at.primes) (scope_at c.args.entries.now.items c.args.at.scope) c.args.at.bound c.args.tree.now) (part_in c.args.at.primes (scope_at c.args.entries.now.items c.args.at.scope) c.args.at.bound c.args.tree.now) in
+    let l = limits_are c.args.at.room c.args.at.left c.if-at-eq0.false c.if-at-eq0-2.false in
+    let f = rw c.one_more-more.ensures at c.in_ok-two.ensures.same in
+    let g = node_gives (sum_of nodes nodes) (larger_of depth depth) (λ (xy : Expr × Expr). two (twos.Binary Unequal) c.args.place xy.0 xy.1) o (parts_of c.in_ok-two.two) (expr_of c.in_ok-core.core) (c.args.at.room - 1) (c.args.at.left - 1) c.in_ok-two.two.left
+    (two_larger (twos.Binary Unequal) c.args.place) f c.in_ok-core.ensures.ok in
+    rw (l.0, l.1) at g
+
+pub node_of-returns-in-Fields-clause-same : goal.node_of-returns-in-Fields-clause-same
+node_of-returns-in-Fields-clause-same t c =
+    let m = c.in-Fields in
+    rw (fields_form c.args.form (scope_at c.args.entries.now.items c.args.at.scope) c.args.at.bound c.args.at.primes m.place m.node m.fields m.is) c.fields_node.ensures.same
+
+pub node_of-returns-in-Except-clause-same : goal.node_of-returns-in-Except-clause-same
+node_of-returns-in-Except-clause-same t c =
+    let m = c.in-Except in
+    rw (except_form c.args.form (scope_at c.args.entries.now.items c.args.at.scope) c.args.at.bound c.args.at.primes m.place m.function m.updates m.is) c.except_node.ensures.same
+
+pub updates::step_of-returns-in-Index-clause-same : goal.updates::step_of-returns-in-Index-clause-same
+updates::step_of-returns-in-Index-clause-same t c =
+    let m = c.in-Index in
+    let same : key_view c.args.step.now ≡ tree.AtIndex (tree.trees (map view c.as_slice.result.now)) = rw (m.is, c.as_slice.ensures.value) (ap (λ x. tree.AtIndex x) (views_items m.items)) in
+    subst (λ x. Gives c.args.at.room c.args.at.left c.key.result (with_primes c.args.at.primes (expand_step x (scope_at c.args.entries.now.items c.args.at.scope) c.args.at.bound))) (sym same) c.key.ensures.same
+
+pub binding::gather_node-returns-in_err-sets-clause-same : goal.binding::gather_node-returns-in_err-sets-clause-same
+binding::gather_node-returns-in_err-sets-clause-same t c =
+    let r = err_from_is_err_and c.from_residual-in_err-sets.result c.from_residual-in_err-sets.ensures.1 in
+    let σ = scope_at c.args.entries.now.items c.args.at.scope in
+    let names = c.as_slice-names.result.now in
+    let is : binds_in names σ ≡ binds_of (binders (map group_view c.args.groups.now)) σ = rw c.as_slice-names.ensures.value (c.in_ok-binds.ensures.ok σ) in
+    rw (r.1, r.2) (sets_fail c.args.node c.args.place (binds_of (binders (map group_view c.args.groups.now)) σ) names (expand (view c.args.body.now)) σ (with_names (binds_in names σ) c.args.at.bound σ) c.args.at.bound c.args.at.primes is refl
+    c.in_err-sets.field-0.0 c.args.at.room c.args.at.left c.in_err-sets.ensures.same)
+
+pub binding::gather_node-returns-in_err-body-clause-same : goal.binding::gather_node-returns-in_err-body-clause-same
+binding::gather_node-returns-in_err-body-clause-same t c =
+    let r = err_from_is_err_and c.from_residual-in_err-body.result c.from_residual-in_err-body.ensures.1 in
+    let σ = scope_at c.args.entries.now.items c.args.at.scope in
+    let names = c.as_slice-names.result.now in
+    let is : binds_in names σ ≡ binds_of (binders (map group_view c.args.groups.now)) σ = rw c.as_slice-names.ensures.value (c.in_ok-binds.ensures.ok σ) in
+    let τ = scope_at c.name_all.new.entries.items c.in_ok-scope.scope in
+    let named : with_names (binds_in names σ) c.args.at.bound σ ≡ τ = rw c.in_ok-sets.ensures.kept at (c.in_ok-scope.ensures.same σ) in
+    rw (r.1, r.2) (body_fails c.args.node c.args.place (binds_of (binders (map group_view c.args.groups.now)) σ) names (expand (view c.args.body.now)) σ τ c.args.at.bound c.args.at.primes is named
+    c.in_err-body.field-0.0 c.args.at.room c.args.at.left c.in_ok-sets.sets.left (map expr_of c.in_ok-sets.sets.parts.items) c.in_ok-sets.ensures.same c.in_err-body.ensures.same)
+
+pub binding::gather_node-returns-clause-same : goal.binding::gather_node-returns-clause-same
+binding::gather_node-returns-clause-same t c =
+    let σ = scope_at c.args.entries.now.items c.args.at.scope in
+    let names = c.as_slice-names.result.now in
+    let is : binds_in names σ ≡ binds_of (binders (map group_view c.args.groups.now)) σ = rw c.as_slice-names.ensures.value (c.in_ok-binds.ensures.ok σ) in
+    let τ = scope_at c.name_all.new.entries.items c.in_ok-scope.scope in
+    let named : with_names (binds_in names σ) c.args.at.bound σ ≡ τ = rw c.in_ok-sets.ensures.kept at (c.in_ok-scope.ensures.same σ) in
+    gather_gives c.args.node c.args.place (binds_of (binders (map group_view c.args.groups.now)) σ) names (expand (view c.args.body.now)) σ τ c.args.at.bound c.args.at.primes is named
+    c.args.at.room c.args.at.left c.in_ok-sets.sets.left c.in_ok-body.body.left (map expr_of c.in_ok-sets.sets.parts.items) (expr_of c.in_ok-body.body.core) (expr_of c.in_ok-core.core)
+    c.in_ok-sets.ensures.same c.in_ok-body.ensures.same c.in_ok-core.ensures.ok
+
+pub kept::angle_node-returns-in_err-changed-clause-same : goal.kept::angle_node-returns-in_err-changed-clause-same
+kept::angle_node-returns-in_err-changed-clause-same t c =
+    let r = err_from_is_err_and c.from_residual-in_err-changed.result c.from_residual-in_err-changed.ensures.1 in
+    let a = part_in c.args.at.primes (scope_at c.args.entries.now.items c.args.at.scope) c.args.at.bound c.args.action.now in
+    let b = changed_in c.args.at.primes c.args.place_v (scope_at c.args.entries.now.items c.args.at.scope) c.args.at.bound c.args.v.now in
+    let g = c.in_ok-action.ensures.same in
+    let f = rw (c.in_ok-action.ensures.kept) at c.in_err-changed.ensures.same in
+    rw (r.1, r.2) (node_fails (sum_of nodes nodes) (larger_of depth depth) (λ (xy : Expr × Expr). two twos.And c.args.place xy.0 xy.1) c.in_err-changed.field-0.0 (both a b) c.args.at.room c.args.at.left (two_larger twos.And c.args.place)
+    (second_fails nodes depth nodes depth c.in_err-changed.field-0.0 a b (expr_of c.in_ok-action.action.core) c.args.at.room c.args.at.left c.in_ok-action.action.left g.0 g.1 f))
+
+pub kept::square_node-returns-in_err-kept-clause-same : goal.kept::square_node-returns-in_err-kept-clause-same
+kept::square_node-returns-in_err-kept-clause-same t c =
+    let r = err_from_is_err_and c.from_residual-in_err-kept.result c.from_residual-in_err-kept.ensures.1 in
+    let a = part_in c.args.at.primes (scope_at c.args.entries.now.items c.args.at.scope) c.args.at.bound c.args.action.now in
+    let b = kept_part (settled_primes c.args.at.primes) c.args.place_v (scope_at c.args.entries.now.items c.args.at.scope) c.args.at.bound c.args.v.now in
+    let g = c.in_ok-action.ensures.same in
+    let f = rw c.in_ok-action.ensures.kept at c.in_err-kept.ensures.same in
+    rw (r.1, r.2) (node_fails (sum_of nodes nodes) (larger_of depth depth) (λ (xy : Expr × Expr). two twos.Or c.args.place xy.0 xy.1) c.in_err-kept.field-0.0 (both a b) c.args.at.room c.args.at.left (two_larger twos.Or c.args.place)
+    (second_fails nodes depth nodes depth c.in_err-kept.field-0.0 a b (expr_of c.in_ok-action.action.core) c.args.at.room c.args.at.left c.in_ok-action.action.left g.0 g.1 f))
+
+pub lists::key-returns-in-len1-clause-same : goal.lists::key-returns-in-len1-clause-same
+lists::key-returns-in-len1-clause-same t c =
+    rw (one_key c.args.at.primes (scope_at c.args.entries.now.items c.args.at.scope) c.args.at.bound c.args.items.now c.item-item.result (omega arith) c.item-item.is) c.expand.ensures.same
+
+pub lists::key-returns-in-len1-up-clause-same : goal.lists::key-returns-in-len1-up-clause-same
+lists::key-returns-in-len1-up-clause-same t c =
+    rw (several_keys c.args.at.primes (scope_at c.args.entries.now.items c.args.at.scope) c.args.at.bound c.args.items.now c.first-item.result c.place_of-place.result (omega arith) c.first-item.is (c.place_of-place.ensures ∙ ap place_of c.place.ensures)) c.tuple_of.ensures.same
+
+pub node_of-returns-in-Index-clause-same : goal.node_of-returns-in-Index-clause-same
+node_of-returns-in-Index-clause-same t c =
+    let m = c.in-Headed in
+    rw (index_form c.args.form (scope_at c.args.entries.now.items c.args.at.scope) c.args.at.bound c.args.at.primes m.place m.first m.others (rw c.in-Index.is at m.is)) c.index_node.ensures.same
+
+pub node_of-returns-in-Product-clause-same : goal.node_of-returns-in-Product-clause-same
+node_of-returns-in-Product-clause-same t c =
+    let m = c.in-Headed in
+    rw (product_form c.args.form (scope_at c.args.entries.now.items c.args.at.scope) c.args.at.bound c.args.at.primes m.place m.first m.others (rw c.in-Product.is at m.is)) c.product_node.ensures.same
+
+pub node_of-returns-in-None-clause-same : goal.node_of-returns-in-None-clause-same
+node_of-returns-in-None-clause-same t c =
+    let m = c.in-Cases in
+    rw (cases_form c.args.form (scope_at c.args.entries.now.items c.args.at.scope) c.args.at.bound c.args.at.primes m.place m.arms (rw c.in-None.is at m.is)) c.cases_node.ensures.same
+
+pub node_of-returns-in-Some-clause-same : goal.node_of-returns-in-Some-clause-same
+node_of-returns-in-Some-clause-same t c =
+    let m = c.in-Cases in
+    rw (cases_or_form c.args.form (scope_at c.args.entries.now.items c.args.at.scope) c.args.at.bound c.args.at.primes m.place m.arms c.in-Some.last (rw c.in-Some.is at m.is)) c.cases_or_node.ensures.same
+
+pub node_of-returns-in-Box-clause-same : goal.node_of-returns-in-Box-clause-same
+node_of-returns-in-Box-clause-same t c =
+    let m = c.in-Action in
+    rw (square_form c.args.form (scope_at c.args.entries.now.items c.args.at.scope) c.args.at.bound c.args.at.primes m.place m.place_v m.action m.v (rw c.in-Box.is at m.is)) c.square_node.ensures.same
+
+pub node_of-returns-in-Angle-clause-same : goal.node_of-returns-in-Angle-clause-same
+node_of-returns-in-Angle-clause-same t c =
+    let m = c.in-Action in
+    rw (angle_form c.args.form (scope_at c.args.entries.now.items c.args.at.scope) c.args.at.bound c.args.at.primes m.place m.place_v m.action m.v (rw c.in-Angle.is at m.is)) c.angle_node.ensures.same
+
+pub binding::gather_node-name_all-requires-clause-small : goal.binding::gather_node-name_all-requires-clause-small
+binding::gather_node-name_all-requires-clause-small t c =
+    let s = c.in_ok-sets.ensures.same in
+    let n = names_small (set_in c.args.at.primes (scope_at c.args.entries.now.items c.args.at.scope) c.args.at.bound) c.as_slice-names.result.now (map expr_of c.in_ok-sets.sets.parts.items) c.in_ok-sets.sets.left c.args.at.left s.0 s.1 in
+    omega (arith, n)
+
+pub binding::gather_node-expand-requires : goal.binding::gather_node-expand-requires
+binding::gather_node-expand-requires t c =
+    let s = c.in_ok-sets.ensures.same in
+    let n = names_small (set_in c.args.at.primes (scope_at c.args.entries.now.items c.args.at.scope) c.args.at.bound) c.as_slice-names.result.now (map expr_of c.in_ok-sets.sets.parts.items) c.in_ok-sets.sets.left c.args.at.left s.0 s.1 in
+    (omega arith, (c.in_ok-scope.ensures.linked, (c.in_ok-scope.ensures.within, omega (arith, n))))

@@ -1,51 +1,190 @@
-use Rattle.std.proofs.Common.{◌≡◌, ◌≤◌, ℕ, ◌+◌, ◌*◌, map}
-use Rattle.tla_model.specs.Size.{nodes_each, depth_each}
-use Rattle.tla_eval.specs.ExprOf.{expr_of}
-use Rattle.tla_expand.specs.Lists.{exprs}
+use Rattle.std.proofs.Common.{◌≡◌, ◌≤◌, ◌+◌, ◌*◌, map}
+use Rattle.tla_model.specs.Size.{nodes, depth}
+use Rattle.tla_eval.specs.ExprOf.{expr_of, exprs_of_arm}
 use Rattle.tla_expand.specs.Scopes.{scope_at}
-use Rattle.tla_expand.specs.Gives.{shown_part, kept_part}
+use Rattle.tla_expand.specs.Gives.{part_in, arm_in, field_in, set_in, step_in, update_in, kept_part, total, highest, sum_of, larger_of, field_nodes, field_depth, update_nodes, update_depth}
+use Rattle.tla_expand.specs.Lists.{named_part, changed_part}
 use Rattle.tla_expand.proofs.Lists.{so_far}
 use Rattle.tla_expand.proofs.expand.+expand.Given as goal
 
 abbrev pub decreases-expand : goal.decreases-expand
-decreases-expand l = 6 * l.room
+decreases-expand l = 12 * l.at.room
 
 abbrev pub decreases-node_of : goal.decreases-node_of
-decreases-node_of l = 6 * l.room + 4
+decreases-node_of l = 12 * l.at.room + 9
+
+abbrev pub decreases-levels::look_at_form : goal.decreases-levels::look_at_form
+decreases-levels::look_at_form l = 12 * l.at.room + 10
+
+abbrev pub decreases-levels::node_behind : goal.decreases-levels::node_behind
+decreases-levels::node_behind l = 12 * l.at.room + 11
+
+abbrev pub decreases-levels::look_at : goal.decreases-levels::look_at
+decreases-levels::look_at l = 12 * l.at.room + 1
+
+abbrev pub decreases-levels::unchanged_node : goal.decreases-levels::unchanged_node
+decreases-levels::unchanged_node l = 12 * l.at.room + 4
+
+abbrev pub decreases-levels::kept_parts : goal.decreases-levels::kept_parts
+decreases-levels::kept_parts l = 12 * l.at.room + 2
+
+abbrev pub decreases-levels::kept_subscript : goal.decreases-levels::kept_subscript
+decreases-levels::kept_subscript l = 12 * l.at.room
+
+abbrev pub decreases-levels::changed_subscript : goal.decreases-levels::changed_subscript
+decreases-levels::changed_subscript l = 12 * l.at.room + 2
+
+abbrev pub decreases-one_node : goal.decreases-one_node
+decreases-one_node l = 12 * l.at.room + 4
+
+abbrev pub decreases-two_node : goal.decreases-two_node
+decreases-two_node l = 12 * l.at.room + 4
+
+abbrev pub decreases-three_node : goal.decreases-three_node
+decreases-three_node l = 12 * l.at.room + 4
+
+abbrev pub decreases-many_node : goal.decreases-many_node
+decreases-many_node l = 12 * l.at.room + 4
+
+abbrev pub decreases-index_node : goal.decreases-index_node
+decreases-index_node l = 12 * l.at.room + 4
+
+abbrev pub decreases-cases_node : goal.decreases-cases_node
+decreases-cases_node l = 12 * l.at.room + 4
+
+abbrev pub decreases-cases_or_node : goal.decreases-cases_or_node
+decreases-cases_or_node l = 12 * l.at.room + 4
 
 abbrev pub decreases-two_parts : goal.decreases-two_parts
-decreases-two_parts l = 6 * l.room + 1
+decreases-two_parts l = 12 * l.at.room + 1
 
-abbrev pub decreases-each : goal.decreases-each
-decreases-each l = 6 * l.room + 1
+abbrev pub decreases-lists::each : goal.decreases-lists::each
+decreases-lists::each l = 12 * l.at.room + 1
 
-abbrev pub decreases-kept : goal.decreases-kept
-decreases-kept l = 6 * l.room + 3
+abbrev pub decreases-lists::key : goal.decreases-lists::key
+decreases-lists::key l = 12 * l.at.room + 2
 
-abbrev pub decreases-kept_each : goal.decreases-kept_each
-decreases-kept_each l = 6 * l.room + 1
+abbrev pub decreases-lists::tuple_of : goal.decreases-lists::tuple_of
+decreases-lists::tuple_of l = 12 * l.at.room + 1
 
-abbrev pub decreases-kept_one : goal.decreases-kept_one
-decreases-kept_one l = 6 * l.room
+abbrev pub decreases-lists::arms_of : goal.decreases-lists::arms_of
+decreases-lists::arms_of l = 12 * l.at.room + 2
 
-abbrev pub decreases-nested : goal.decreases-nested
-decreases-nested l = 6 * l.room + 2
+abbrev pub decreases-kept::kept : goal.decreases-kept::kept
+decreases-kept::kept l = 12 * l.at.room + 3
 
-abbrev pub decreases-within : goal.decreases-within
-decreases-within l = 6 * l.room + 1
+abbrev pub decreases-kept::kept_each : goal.decreases-kept::kept_each
+decreases-kept::kept_each l = 12 * l.at.room + 1
 
-abbrev pub invariant-each-loop-i : goal.invariant-each-loop-i
-invariant-each-loop-i l = record {
+abbrev pub decreases-kept::kept_one : goal.decreases-kept::kept_one
+decreases-kept::kept_one l = 12 * l.at.room
+
+abbrev pub decreases-binding::bound_several : goal.decreases-binding::bound_several
+decreases-binding::bound_several l = 12 * l.at.room + 3
+
+abbrev pub decreases-binding::bound_one : goal.decreases-binding::bound_one
+decreases-binding::bound_one l = 12 * l.at.room + 3
+
+abbrev pub decreases-binding::nested : goal.decreases-binding::nested
+decreases-binding::nested l = 12 * l.at.room + 2
+
+abbrev pub decreases-binding::within : goal.decreases-binding::within
+decreases-binding::within l = 12 * l.at.room + 1
+
+abbrev pub decreases-fields_node : goal.decreases-fields_node
+decreases-fields_node l = 12 * l.at.room + 4
+
+abbrev pub decreases-product_node : goal.decreases-product_node
+decreases-product_node l = 12 * l.at.room + 4
+
+abbrev pub decreases-lists::named_parts : goal.decreases-lists::named_parts
+decreases-lists::named_parts l = 12 * l.at.room + 1
+
+abbrev pub decreases-binding::gather_node : goal.decreases-binding::gather_node
+decreases-binding::gather_node l = 12 * l.at.room + 4
+
+abbrev pub decreases-binding::sets_of : goal.decreases-binding::sets_of
+decreases-binding::sets_of l = 12 * l.at.room + 1
+
+abbrev pub decreases-kept::changed : goal.decreases-kept::changed
+decreases-kept::changed l = 12 * l.at.room
+
+abbrev pub decreases-kept::square_node : goal.decreases-kept::square_node
+decreases-kept::square_node l = 12 * l.at.room + 4
+
+abbrev pub decreases-kept::angle_node : goal.decreases-kept::angle_node
+decreases-kept::angle_node l = 12 * l.at.room + 4
+
+abbrev pub decreases-updates::except_node : goal.decreases-updates::except_node
+decreases-updates::except_node l = 12 * l.at.room + 7
+
+abbrev pub decreases-updates::changes : goal.decreases-updates::changes
+decreases-updates::changes l = 12 * l.at.room + 6
+
+abbrev pub decreases-updates::change : goal.decreases-updates::change
+decreases-updates::change l = 12 * l.at.room + 5
+
+abbrev pub decreases-updates::new_value : goal.decreases-updates::new_value
+decreases-updates::new_value l = 12 * l.at.room + 1
+
+abbrev pub decreases-updates::path_of : goal.decreases-updates::path_of
+decreases-updates::path_of l = 12 * l.at.room + 4
+
+abbrev pub decreases-updates::step_of : goal.decreases-updates::step_of
+decreases-updates::step_of l = 12 * l.at.room + 3
+
+abbrev pub invariant-lists::each-loop-i : goal.invariant-lists::each-loop-i
+invariant-lists::each-loop-i l = record {
   kept : l.entries.items ≡ l.fn.entries.items;
-  so_far : so_far (shown_part l.primes (scope_at l.fn.entries.items l.scope) l.bound) l.trees (map expr_of l.parts.items) l.i;
-  left : l.rest + nodes_each (exprs (map expr_of l.parts.items)) ≡ l.fn.left;
-  depth : depth_each (exprs (map expr_of l.parts.items)) ≤ l.room;
+  so_far : so_far (part_in l.at.primes (scope_at l.fn.entries.items l.at.scope) l.at.bound) l.trees (map expr_of l.parts.items) l.i;
+  left : l.left + total nodes (map expr_of l.parts.items) ≡ l.at.left;
+  depth : highest depth (map expr_of l.parts.items) ≤ l.at.room;
 }
 
-abbrev pub invariant-kept_each-loop-i : goal.invariant-kept_each-loop-i
-invariant-kept_each-loop-i l = record {
+abbrev pub invariant-lists::arms_of-loop-i : goal.invariant-lists::arms_of-loop-i
+invariant-lists::arms_of-loop-i l = record {
   kept : l.entries.items ≡ l.fn.entries.items;
-  so_far : so_far (kept_part l.primes l.place (scope_at l.fn.entries.items l.scope) l.bound) l.trees (map expr_of l.parts.items) l.i;
-  left : l.rest + nodes_each (exprs (map expr_of l.parts.items)) ≡ l.fn.left;
-  depth : depth_each (exprs (map expr_of l.parts.items)) ≤ l.room;
+  so_far : so_far (arm_in l.at.primes (scope_at l.fn.entries.items l.at.scope) l.at.bound) l.arms (map exprs_of_arm l.made.items) l.i;
+  left : l.left + total (sum_of nodes nodes) (map exprs_of_arm l.made.items) ≡ l.at.left;
+  depth : highest (larger_of depth depth) (map exprs_of_arm l.made.items) ≤ l.at.room;
+}
+
+abbrev pub invariant-kept::kept_each-loop-i : goal.invariant-kept::kept_each-loop-i
+invariant-kept::kept_each-loop-i l = record {
+  kept : l.entries.items ≡ l.fn.entries.items;
+  so_far : so_far (kept_part l.at.primes l.place (scope_at l.fn.entries.items l.at.scope) l.at.bound) l.trees (map expr_of l.parts.items) l.i;
+  left : l.left + total nodes (map expr_of l.parts.items) ≡ l.at.left;
+  depth : highest depth (map expr_of l.parts.items) ≤ l.at.room;
+}
+
+abbrev pub invariant-lists::named_parts-loop-i : goal.invariant-lists::named_parts-loop-i
+invariant-lists::named_parts-loop-i l = record {
+  kept : l.entries.items ≡ l.fn.entries.items;
+  so_far : so_far (field_in l.at.primes (scope_at l.fn.entries.items l.at.scope) l.at.bound) l.fields (map named_part l.made.items) l.i;
+  left : l.left + total field_nodes (map named_part l.made.items) ≡ l.at.left;
+  depth : highest field_depth (map named_part l.made.items) ≤ l.at.room;
+}
+
+abbrev pub invariant-binding::sets_of-loop-i : goal.invariant-binding::sets_of-loop-i
+invariant-binding::sets_of-loop-i l = record {
+  kept : l.entries.items ≡ l.fn.entries.items;
+  so_far : so_far (set_in l.at.primes (scope_at l.fn.entries.items l.at.scope) l.at.bound) l.binds (map expr_of l.parts.items) l.i;
+  left : l.left + total nodes (map expr_of l.parts.items) ≡ l.at.left;
+  depth : highest depth (map expr_of l.parts.items) ≤ l.at.room;
+}
+
+abbrev pub invariant-updates::path_of-loop-i : goal.invariant-updates::path_of-loop-i
+invariant-updates::path_of-loop-i l = record {
+  kept : l.entries.items ≡ l.fn.entries.items;
+  so_far : so_far (step_in l.at.primes (scope_at l.fn.entries.items l.at.scope) l.at.bound) l.keys (map expr_of l.parts.items) l.i;
+  left : l.left + total nodes (map expr_of l.parts.items) ≡ l.at.left;
+  depth : highest depth (map expr_of l.parts.items) ≤ l.at.room;
+}
+
+abbrev pub invariant-updates::changes-loop-i : goal.invariant-updates::changes-loop-i
+invariant-updates::changes-loop-i l = record {
+  kept : l.entries.items ≡ l.fn.entries.items;
+  so_far : so_far (update_in l.at.primes (scope_at l.fn.entries.items l.at.scope) l.at.bound) l.updates (map changed_part l.made.items) l.i;
+  left : l.left + total update_nodes (map changed_part l.made.items) ≡ l.at.left;
+  depth : highest update_depth (map changed_part l.made.items) ≤ l.at.room;
 }

@@ -1,4 +1,4 @@
-use Rattle.std.proofs.Common.{◌≡◌, map, ap, refl}
+use Rattle.std.proofs.Common.{◌≡◌, map, ap}
 use Rattle.tla_parse.specs.Tree as t
 use Rattle.tla_parse.specs.View.{view, views_items}
 use Rattle.tla_expand.proofs.Steps.{expand_listing, expand_junction}

@@ -1,5 +1,9 @@
-use Rattle.std.proofs.Common.{◌≡◌, ◌∙◌, length, arith}
-use Rattle.tla_expand.specs.Scopes.{scope_at}
+use Rattle.std.proofs.Common.{◌≡◌, ◌∙◌, ap, map, length, arith}
+use Rattle.std.proofs.lemmas.List.{drop_all}
+use Rattle.tla_parse.specs.Tree.{definitions}
+use Rattle.tla_parse.specs.View.{definition_view}
+use Rattle.tla_expand.specs.Expand.{definitions_in, definition_in}
+use Rattle.tla_expand.specs.Scopes.{entry_scope, scope_at}
 use Rattle.tla_expand.proofs.Links.{below_more}
 use Rattle.tla_expand.proofs.Binds.{extends_more}
 use Rattle.tla_expand.proofs.Steps.{define_more}
@@ -12,9 +16,15 @@ enter-requires-clause-below c =
 pub loop-i-preserved : goal.loop-i-preserved
 loop-i-preserved c =
     let e = c.in_ok-at.ensures in
+    let defined : entry_scope (scope_at c.loop-i.entries.items) c.entry_of-entry.result ≡ definition_in (definition_view c.index-definitions-i.result) (scope_at c.loop-i.entries.items c.loop-i.at) = rw c.as_slice.ensures.value at c.entry_of-entry.ensures.scope in
     record {
       linked = e.linked;
       extends = extends_more c.args.entries.now.items c.loop-i.entries.items c.enter.new.entries.items _ c.loop-i.invariant.extends e.added;
       within = omega arith;
-      same = c.loop-i.invariant.same ∙ define_more (scope_at c.loop-i.entries.items c.loop-i.at) (scope_at c.enter.new.entries.items c.in_ok-at.at) c.args.definitions.now c.loop-i.i c.index-definitions-i.result (omega arith) c.index-definitions-i.is (e.scope ∙ c.entry_of-entry.ensures.scope (scope_at c.loop-i.entries.items));
+      same = c.loop-i.invariant.same ∙ define_more (scope_at c.loop-i.entries.items c.loop-i.at) (scope_at c.enter.new.entries.items c.in_ok-at.at) c.args.definitions.now c.loop-i.i c.index-definitions-i.result (omega arith) c.index-definitions-i.is (e.scope ∙ defined);
     }
+
+pub returns-clause-same : goal.returns-clause-same
+returns-clause-same c =
+    c.loop-i.invariant.same
+    ∙ ap (λ ds. definitions_in (definitions (map definition_view ds)) (scope_at c.loop-i.entries.items c.loop-i.at)) (drop_all c.loop-i.i c.args.definitions.now (omega arith))

@@ -1,9 +1,10 @@
-use Rattle.std.proofs.Common.{◌≡◌, ℕ, sym, subst}
+use Rattle.std.proofs.Common.{◌∙◌}
 use Rattle.std.proofs.lemmas.Result.{err_from_is_err_and}
-use Rattle.tla_expand.specs.Expand.{Argument, expand}
+use Rattle.tla_expand.specs.Expand.{expand}
 use Rattle.tla_expand.specs.Scopes.{scope_at}
-use Rattle.tla_expand.specs.Gives.{shown, Explains}
+use Rattle.tla_expand.specs.Primes.{with_primes}
 use Rattle.tla_parse.specs.View.{view}
+use Rattle.tla_expand.proofs.Binds.{extends_trans}
 use Rattle.tla_expand.proofs.Steps.{explains_by}
 use Rattle.tla_expand.proofs.heads.find_head.Goals as goal
 
@@ -12,5 +13,16 @@ returns-in_err-head-clause-err c =
     let e = err_from_is_err_and c.from_residual.result c.from_residual.ensures.1 in
     rw (e.1, e.2) (explains_by c.in_err-head.field-0.0 c.loop-turn.with
     (λ d. expand (view c.loop-turn.tree.now) (scope_at c.loop-turn.entries.items c.loop-turn.at) d)
-    (λ d. shown c.args.primes (expand (view c.args.start.now) (scope_at c.args.entries.now.items c.args.scope) d))
+    (λ d. with_primes c.args.primes (expand (view c.args.start.now) (scope_at c.args.entries.now.items c.args.scope) d))
     c.loop-turn.invariant.same c.in_err-head.ensures.err)
+
+pub loop-turn-preserved : goal.loop-turn-preserved
+loop-turn-preserved c =
+    let e = c.in_ok-head.ensures in
+    let same = e.same in
+    record {
+      linked = e.linked;
+      extends = extends_trans c.args.entries.now.items c.loop-turn.entries.items c.next_step.new.entries.items c.loop-turn.invariant.extends e.extends;
+      within = rw c.in-Goes.is at e.within;
+      same = λ d. c.loop-turn.invariant.same d ∙ (rw c.in-Goes.is at (same d));
+    }

@@ -1,9 +1,11 @@
 use Rattle.std.proofs.Common.{◌≡◌, ℕ, map, ap, sym, subst, IfOk, IfErr, refl}
 use Rattle.tla_parse.specs.Tree as t
 use Rattle.tla_parse.specs.View.{view, views_items, definition_view, definition_views_items}
-use Rattle.tla_expand.specs.Expand.{Argument, expand}
+use Rattle.tla_expand.specs.Meanings.{Argument}
+use Rattle.tla_expand.specs.Expand.{expand}
 use Rattle.tla_expand.specs.Scopes.{scope_at, arguments_in}
-use Rattle.tla_expand.specs.Gives.{shown, step_gives, Explains}
+use Rattle.tla_expand.specs.Gives.{step_gives, Explains}
+use Rattle.tla_expand.specs.Primes.{with_primes}
 use Rattle.tla_expand.proofs.Steps.{expand_call, shown_once}
 use Rattle.tla_expand.proofs.heads.go.Goals as goal
 
@@ -14,7 +16,7 @@ returns-in-Call-clause-same c =
     let same : view c.args.tree.now ≡ t.Call m.name (t.trees (map view c.as_slice-arguments.result.now)) = rw (m.is, c.as_slice-arguments.ensures.value) (ap (λ x. t.Call m.name x) (views_items m.arguments)) in
     let e : expand (view c.args.tree.now) σ ≡ (λ (d : ℕ). σ c.as_bytes-in-Call.result.now c.place_of-at-in-Call.result (arguments_in c.as_slice-arguments.result.now σ) d) =
     rw (same, c.as_bytes-in-Call.ensures, c.place_of-at-in-Call.ensures) (expand_call m.name c.as_slice-arguments.result.now σ) in
-    subst (λ (f : Argument). IfOk c.use_of-in-Call.result (λ s. (d : ℕ) → shown c.args.primes (f d) ≡ step_gives c.use_of-in-Call.new.entries.items s d)) (sym e) c.use_of-in-Call.ensures.same
+    subst (λ (f : Argument). IfOk c.use_of-in-Call.result (λ s. (d : ℕ) → with_primes c.args.primes (f d) ≡ step_gives c.use_of-in-Call.new.entries.items s d)) (sym e) c.use_of-in-Call.ensures.same
 
 pub returns-in-Call-clause-err : goal.returns-in-Call-clause-err
 returns-in-Call-clause-err c =
@@ -32,6 +34,6 @@ returns-in-Prime-clause-same c =
 pub returns-in_ok-inside-in-Let-clause-same : goal.returns-in_ok-inside-in-Let-clause-same
 returns-in_ok-inside-in-Let-clause-same c =
     let m = c.in-Let in
-    let same : view c.args.tree.now ≡ t.Let m.field-0 (t.definitions (map definition_view c.as_slice.result.now)) (view c.deref-in-Let.result.now) =
-    rw (m.is, c.as_slice.ensures.value, c.deref-in-Let.ensures) (ap (λ x. t.Let m.field-0 x (view m.inner.value)) (definition_views_items m.definitions)) in
+    let same : view c.args.tree.now ≡ t.Let m.field-0 (t.definitions (map definition_view c.as_slice-in-Let.result.now)) (view c.deref-in-Let.result.now) =
+    rw (m.is, c.as_slice-in-Let.ensures.value, c.deref-in-Let.ensures) (ap (λ x. t.Let m.field-0 x (view m.inner.value)) (definition_views_items m.definitions)) in
     λ d. rw (same, ← c.in_ok-inside-in-Let.ensures.same) refl

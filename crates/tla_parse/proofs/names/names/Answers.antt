@@ -20,5 +20,5 @@ returns-then-not-is_kind c =
     let p : name_at (seen c.args.tokens.now c.args.column c.loop-turn.at) ≡ Some c.in-Some.name = cc in
     let q : kind_at k.Comma (seen c.args.tokens.now c.args.column (c.loop-turn.at + 1)) ≡ false = cc in
     let n = names_last c.args.text.now c.args.tokens.now (length c.args.tokens.now - c.loop-turn._turn) (length c.args.tokens.now - (c.loop-turn._turn + 1)) c.loop-turn.names.items c.args.column c.loop-turn.at c.in-Some.name h p q in
-    let e : c.push_name.new.names.items ≡ c.loop-turn.names.items ++ written c.args.text.now c.in-Some.name ∷ [] = c.in_ok-push_name.ensures.ok ∙ ap (λ x. c.loop-turn.names.items ++ x ∷ []) c.in_ok-name.ensures.ok in
+    let e : c.push.new.items.items ≡ c.loop-turn.names.items ++ written c.args.text.now c.in-Some.name ∷ [] = c.in_ok-push.ensures.ok ∙ ap (λ x. c.loop-turn.names.items ++ x ∷ []) c.in_ok-name.ensures.ok in
     rw e (sym c.loop-turn.invariant.same ∙ n)

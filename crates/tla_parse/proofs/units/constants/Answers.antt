@@ -21,7 +21,7 @@ returns-in_default c =
     let h : length c.args.tokens.now - c.loop-turn._turn ≡ (length c.args.tokens.now - (c.loop-turn._turn + 1)) + 1 = omega arith in
     let q : following c.args.tokens.now 0 between.Comma c.in_ok-found.found.end ≡ None = cc in
     let s = sequence_last (declared c.args.text.now c.args.tokens.now) (following c.args.tokens.now 0 between.Comma) (length c.args.tokens.now - c.loop-turn._turn) (length c.args.tokens.now - (c.loop-turn._turn + 1)) (map shown c.loop-turn.declarations.items) c.loop-turn.at (shown c.in_ok-found.found.declaration) c.in_ok-found.found.end h c.in_ok-found.ensures q in
-    let w : map shown c.push_declaration.new.declarations.items ≡ map shown c.loop-turn.declarations.items ++ shown c.in_ok-found.found.declaration ∷ [] = ap (λ x. map shown x) c.in_ok-push_declaration.ensures.ok ∙ map_append shown c.loop-turn.declarations.items c.in_ok-found.found.declaration in
+    let w : map shown c.push.new.items.items ≡ map shown c.loop-turn.declarations.items ++ shown c.in_ok-found.found.declaration ∷ [] = ap (λ x. map shown x) c.in_ok-push.ensures.ok ∙ map_append shown c.loop-turn.declarations.items c.in_ok-found.found.declaration in
     rw w (sym c.loop-turn.invariant ∙ s)
 
 pub loop-turn-preserved : goal.loop-turn-preserved
@@ -29,7 +29,7 @@ loop-turn-preserved c =
     let h : length c.args.tokens.now - c.loop-turn._turn ≡ (length c.args.tokens.now - (c.loop-turn._turn + 1)) + 1 = omega arith in
     let q : following c.args.tokens.now 0 between.Comma c.in_ok-found.found.end ≡ Some c.in-Some.next = cc in
     let s = sequence_more (declared c.args.text.now c.args.tokens.now) (following c.args.tokens.now 0 between.Comma) (length c.args.tokens.now - c.loop-turn._turn) (length c.args.tokens.now - (c.loop-turn._turn + 1)) (map shown c.loop-turn.declarations.items) c.loop-turn.at (shown c.in_ok-found.found.declaration) c.in_ok-found.found.end c.in-Some.next h c.in_ok-found.ensures q in
-    let w : map shown c.push_declaration.new.declarations.items ≡ map shown c.loop-turn.declarations.items ++ shown c.in_ok-found.found.declaration ∷ [] = ap (λ x. map shown x) c.in_ok-push_declaration.ensures.ok ∙ map_append shown c.loop-turn.declarations.items c.in_ok-found.found.declaration in
+    let w : map shown c.push.new.items.items ≡ map shown c.loop-turn.declarations.items ++ shown c.in_ok-found.found.declaration ∷ [] = ap (λ x. map shown x) c.in_ok-push.ensures.ok ∙ map_append shown c.loop-turn.declarations.items c.in_ok-found.found.declaration in
     rw w (sym s ∙ c.loop-turn.invariant)
 
 pub returns : goal.returns

@@ -36,7 +36,7 @@ returns-then-not-is_kind c =
     let w = ap (λ y. y.word) c.in_ok-name.ensures.ok in
     let i : is_module (word_of c.args.text.now c.in-Some.name) ≡ true = rw (sym w) (cc) in
     let n = modules_last c.args.text.now c.args.tokens.now (length c.args.tokens.now - c.loop-turn._turn) (length c.args.tokens.now - (c.loop-turn._turn + 1)) c.loop-turn.names.items c.loop-turn.at c.in-Some.name h p i q in
-    let e : c.push_name.new.names.items ≡ c.loop-turn.names.items ++ written c.args.text.now c.in-Some.name ∷ [] = c.in_ok-push_name.ensures.ok ∙ ap (λ x. c.loop-turn.names.items ++ x ∷ []) c.in_ok-name.ensures.ok in
+    let e : c.push.new.items.items ≡ c.loop-turn.names.items ++ written c.args.text.now c.in-Some.name ∷ [] = c.in_ok-push.ensures.ok ∙ ap (λ x. c.loop-turn.names.items ++ x ∷ []) c.in_ok-name.ensures.ok in
     rw e (sym c.loop-turn.invariant.same ∙ n)
 
 pub loop-turn-preserved : goal.loop-turn-preserved
@@ -47,7 +47,7 @@ loop-turn-preserved c =
     let w = ap (λ y. y.word) c.in_ok-name.ensures.ok in
     let i : is_module (word_of c.args.text.now c.in-Some.name) ≡ true = rw (sym w) (cc) in
     let n = modules_more c.args.text.now c.args.tokens.now (length c.args.tokens.now - c.loop-turn._turn) (length c.args.tokens.now - (c.loop-turn._turn + 1)) c.loop-turn.names.items c.loop-turn.at c.in-Some.name h p i q in
-    let e : c.push_name.new.names.items ≡ c.loop-turn.names.items ++ written c.args.text.now c.in-Some.name ∷ [] = c.in_ok-push_name.ensures.ok ∙ ap (λ x. c.loop-turn.names.items ++ x ∷ []) c.in_ok-name.ensures.ok in
+    let e : c.push.new.items.items ≡ c.loop-turn.names.items ++ written c.args.text.now c.in-Some.name ∷ [] = c.in_ok-push.ensures.ok ∙ ap (λ x. c.loop-turn.names.items ++ x ∷ []) c.in_ok-name.ensures.ok in
     let x = name_is c.args.tokens.now (seen c.args.tokens.now 0 c.loop-turn.at) c.in-Some.name p in
     let y = has_kind c.args.tokens.now 0 (c.loop-turn.at + 1) k.Comma q in
     let name : KindAt c.args.tokens.now c.loop-turn.at k.Name = (c.in-Some.name, seen_is c.args.tokens.now 0 c.loop-turn.at c.in-Some.name x.0, x.1) in

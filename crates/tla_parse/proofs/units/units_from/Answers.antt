@@ -42,7 +42,7 @@ loop-turn-preserved c =
     let q : kind_at k.Closing (seen c.args.tokens.now 0 c.loop-turn.at) ≡ false = cc in
     let f : (c.loop-turn.first || not (kind_at k.Extends (seen c.args.tokens.now 0 c.loop-turn.at))) ≡ true = cc in
     let n = units_more c.args.text.now c.args.tokens.now 200 (length c.args.tokens.now - c.loop-turn._turn) (length c.args.tokens.now - (c.loop-turn._turn + 1)) (map unit_view c.loop-turn.units.items) c.loop-turn.first c.loop-turn.at (unit_view c.in_ok-found.found.unit) c.in_ok-found.found.end h q c.in_ok-found.ensures.0 f in
-    let w : map unit_view c.push_unit.new.units.items ≡ map unit_view c.loop-turn.units.items ++ unit_view c.in_ok-found.found.unit ∷ [] = ap (λ x. map unit_view x) c.in_ok-push_unit.ensures.ok ∙ map_snoc c.loop-turn.units.items c.in_ok-found.found.unit in
+    let w : map unit_view c.push.new.items.items ≡ map unit_view c.loop-turn.units.items ++ unit_view c.in_ok-found.found.unit ∷ [] = ap (λ x. map unit_view x) c.in_ok-push.ensures.ok ∙ map_snoc c.loop-turn.units.items c.in_ok-found.found.unit in
     let d = units_depth_snoc (map unit_view c.loop-turn.units.items) (unit_view c.in_ok-found.found.unit) in
     rw (w, c.stays_first-first.ensures) (record { same = sym n ∙ c.loop-turn.invariant.same; separated = separators_more c.args.text.now c.args.tokens.now 200 c.loop-turn.at (unit_view c.in_ok-found.found.unit) c.in_ok-found.found.end c.loop-turn.first c.in_ok-found.ensures.0 c.loop-turn.invariant.separated; shallow = grind (arith, common_steps, d) })
 

@@ -24,7 +24,7 @@ returns-in_default g c =
     let h : length c.args.tokens.now - c.loop-turn._turn ≡ (length c.args.tokens.now - (c.loop-turn._turn + 1)) + 1 = omega arith in
     let q : following c.args.tokens.now c.args.scope.column between.Comma c.in_ok-found.found.end ≡ None = cc in
     let s = sequence_last (entry c.args.text.now c.args.tokens.now (expr c.args.text.now c.args.tokens.now c.args.self.now.depth) c.args.scope c.args.mark) (following c.args.tokens.now c.args.scope.column between.Comma) (length c.args.tokens.now - c.loop-turn._turn) (length c.args.tokens.now - (c.loop-turn._turn + 1)) (map field_view c.loop-turn.fields.items) c.loop-turn.at (field_view c.in_ok-found.found.field) c.in_ok-found.found.end h c.in_ok-found.ensures.0 q in
-    let w : map field_view c.push_field.new.fields.items ≡ map field_view c.loop-turn.fields.items ++ field_view c.in_ok-found.found.field ∷ [] = ap (λ x. map field_view x) c.in_ok-push_field.ensures.ok ∙ map_append field_view c.loop-turn.fields.items c.in_ok-found.found.field in
+    let w : map field_view c.push.new.items.items ≡ map field_view c.loop-turn.fields.items ++ field_view c.in_ok-found.found.field ∷ [] = ap (λ x. map field_view x) c.in_ok-push.ensures.ok ∙ map_append field_view c.loop-turn.fields.items c.in_ok-found.found.field in
     let d = fields_depth_snoc (map field_view c.loop-turn.fields.items) (field_view c.in_ok-found.found.field) in
     rw w (sym c.loop-turn.invariant.same ∙ s, grind (arith, common_steps, d), grind (arith, common_steps))
 
@@ -33,7 +33,7 @@ loop-turn-preserved g c =
     let h : length c.args.tokens.now - c.loop-turn._turn ≡ (length c.args.tokens.now - (c.loop-turn._turn + 1)) + 1 = omega arith in
     let q : following c.args.tokens.now c.args.scope.column between.Comma c.in_ok-found.found.end ≡ Some c.in-Some.next = cc in
     let s = sequence_more (entry c.args.text.now c.args.tokens.now (expr c.args.text.now c.args.tokens.now c.args.self.now.depth) c.args.scope c.args.mark) (following c.args.tokens.now c.args.scope.column between.Comma) (length c.args.tokens.now - c.loop-turn._turn) (length c.args.tokens.now - (c.loop-turn._turn + 1)) (map field_view c.loop-turn.fields.items) c.loop-turn.at (field_view c.in_ok-found.found.field) c.in_ok-found.found.end c.in-Some.next h c.in_ok-found.ensures.0 q in
-    let w : map field_view c.push_field.new.fields.items ≡ map field_view c.loop-turn.fields.items ++ field_view c.in_ok-found.found.field ∷ [] = ap (λ x. map field_view x) c.in_ok-push_field.ensures.ok ∙ map_append field_view c.loop-turn.fields.items c.in_ok-found.found.field in
+    let w : map field_view c.push.new.items.items ≡ map field_view c.loop-turn.fields.items ++ field_view c.in_ok-found.found.field ∷ [] = ap (λ x. map field_view x) c.in_ok-push.ensures.ok ∙ map_append field_view c.loop-turn.fields.items c.in_ok-found.found.field in
     let d = fields_depth_snoc (map field_view c.loop-turn.fields.items) (field_view c.in_ok-found.found.field) in
     rw w (record { same = sym s ∙ c.loop-turn.invariant.same; depth = grind (arith, common_steps, d); shallow = grind (arith, common_steps) })
 

@@ -24,7 +24,7 @@ returns-in_default g c =
     let h : length c.args.tokens.now - c.loop-turn._turn ≡ (length c.args.tokens.now - (c.loop-turn._turn + 1)) + 1 = omega arith in
     let q : following c.args.tokens.now c.args.scope.column between.Key c.in_ok-found.found.end ≡ None = cc in
     let s = sequence_last (key_at c.args.text.now c.args.tokens.now (expr c.args.text.now c.args.tokens.now c.args.self.now.depth) c.args.scope) (following c.args.tokens.now c.args.scope.column between.Key) (length c.args.tokens.now - c.loop-turn._turn) (length c.args.tokens.now - (c.loop-turn._turn + 1)) (map key_view c.loop-turn.keys.items) c.loop-turn.at (key_view c.in_ok-found.found.key) c.in_ok-found.found.end h c.in_ok-found.ensures.0 q in
-    let w : map key_view c.push_key.new.keys.items ≡ map key_view c.loop-turn.keys.items ++ key_view c.in_ok-found.found.key ∷ [] = ap (λ x. map key_view x) c.in_ok-push_key.ensures.ok ∙ map_append key_view c.loop-turn.keys.items c.in_ok-found.found.key in
+    let w : map key_view c.push.new.items.items ≡ map key_view c.loop-turn.keys.items ++ key_view c.in_ok-found.found.key ∷ [] = ap (λ x. map key_view x) c.in_ok-push.ensures.ok ∙ map_append key_view c.loop-turn.keys.items c.in_ok-found.found.key in
     let d = keys_depth_snoc (map key_view c.loop-turn.keys.items) (key_view c.in_ok-found.found.key) in
     rw w (sym c.loop-turn.invariant.same ∙ s, grind (arith, common_steps, d), grind (arith, common_steps))
 
@@ -33,7 +33,7 @@ loop-turn-preserved g c =
     let h : length c.args.tokens.now - c.loop-turn._turn ≡ (length c.args.tokens.now - (c.loop-turn._turn + 1)) + 1 = omega arith in
     let q : following c.args.tokens.now c.args.scope.column between.Key c.in_ok-found.found.end ≡ Some c.in-Some.next = cc in
     let s = sequence_more (key_at c.args.text.now c.args.tokens.now (expr c.args.text.now c.args.tokens.now c.args.self.now.depth) c.args.scope) (following c.args.tokens.now c.args.scope.column between.Key) (length c.args.tokens.now - c.loop-turn._turn) (length c.args.tokens.now - (c.loop-turn._turn + 1)) (map key_view c.loop-turn.keys.items) c.loop-turn.at (key_view c.in_ok-found.found.key) c.in_ok-found.found.end c.in-Some.next h c.in_ok-found.ensures.0 q in
-    let w : map key_view c.push_key.new.keys.items ≡ map key_view c.loop-turn.keys.items ++ key_view c.in_ok-found.found.key ∷ [] = ap (λ x. map key_view x) c.in_ok-push_key.ensures.ok ∙ map_append key_view c.loop-turn.keys.items c.in_ok-found.found.key in
+    let w : map key_view c.push.new.items.items ≡ map key_view c.loop-turn.keys.items ++ key_view c.in_ok-found.found.key ∷ [] = ap (λ x. map key_view x) c.in_ok-push.ensures.ok ∙ map_append key_view c.loop-turn.keys.items c.in_ok-found.found.key in
     let d = keys_depth_snoc (map key_view c.loop-turn.keys.items) (key_view c.in_ok-found.found.key) in
     rw w (record { same = sym s ∙ c.loop-turn.invariant.same; depth = grind (arith, common_steps, d); shallow = grind (arith, common_steps) })
 

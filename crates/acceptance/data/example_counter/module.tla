@@ -1,0 +1,7 @@
+---- MODULE Counter ----
+EXTENDS Integers
+VARIABLE x
+Init == x = 0
+Next == x' = (x + 1) % 3
+Inv == x < 3
+====

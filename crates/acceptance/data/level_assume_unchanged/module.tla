@@ -1,0 +1,8 @@
+---- MODULE M ----
+EXTENDS Integers
+VARIABLES x, y
+ASSUME UNCHANGED <<1, x>>
+Init == x = 0 /\ y = 0
+Next == x' = x /\ y' = y
+Inv == TRUE
+====

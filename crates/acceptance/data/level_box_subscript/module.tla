@@ -1,0 +1,7 @@
+---- MODULE M ----
+EXTENDS Integers
+VARIABLES x, y
+Init == x = 0 /\ y = 0
+Next == [x' = 0]_(1 + y')
+Inv == TRUE
+====

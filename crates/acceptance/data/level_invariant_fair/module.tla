@@ -1,0 +1,7 @@
+---- MODULE M ----
+EXTENDS Integers
+VARIABLES x, y
+Init == x = 0 /\ y = 0
+Next == x' = x /\ y' = y
+Inv == x = 0 => WF_x(x' = 0)
+====

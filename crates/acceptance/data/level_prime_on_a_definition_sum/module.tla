@@ -1,0 +1,8 @@
+---- MODULE M ----
+EXTENDS Integers
+VARIABLES x, y
+Foo == 1 + x'
+Init == x = 0 /\ y = 0
+Next == Foo' = 0
+Inv == TRUE
+====

@@ -1,0 +1,10 @@
+---- MODULE M ----
+EXTENDS Integers, Sequences, FiniteSets
+CONSTANT A
+VARIABLE x
+B == x
+ASSUME A = 1
+Init == x = 0
+Next == x' = (x + 1) % 3
+Inv == x < 3
+====

@@ -1,0 +1,10 @@
+---- MODULE M ----
+EXTENDS Integers
+VARIABLE x
+Init == x = 0
+Next == x' = (x + 1) % 3
+Inv == x < 3
+Safe == Init /\ [][Next]_x
+Whole == Safe
+Spec == Whole
+====

@@ -1,0 +1,9 @@
+---- MODULE M ----
+EXTENDS Integers
+VARIABLE x
+Init == x = 0
+Next == x' = (x + 1) % 3
+Inv == x < 3
+Box == [][Next]_x
+Spec == Init /\ Box
+====

@@ -1,0 +1,12 @@
+---- MODULE M ----
+EXTENDS Integers
+VARIABLE x
+Init == x = 0
+Next == x' = (x + 1) % 3
+Inv == x < 3
+Spec == /\ /\ Init
+           /\ x < 1
+        /\ /\ [][Next]_x
+           /\ /\ WF_x(Next)
+              /\ SF_x(Next)
+====

@@ -1,0 +1,3 @@
+---- MODULE M ----
+Spec == TRUE /\ [][TRUE]_<<>>
+====

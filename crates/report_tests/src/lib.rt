@@ -1,0 +1,13 @@
+//! Tests of the command line, the input files and the report, by example.
+//!
+//! They stand in a crate of their own, since a crate with tests is proved a second time.
+#![tactic(auto)]
+
+#[cfg(test)]
+mod check;
+#[cfg(test)]
+mod input;
+#[cfg(test)]
+mod line;
+#[cfg(test)]
+mod report;

@@ -1,0 +1,96 @@
+-- The formula that SPECIFICATION names, as the code finds it.
+use Rattle.std.proofs.Common.{◌≡◌, ℕ, refl, ap, sym, ◌∙◌, subst, length, map, get_or, arith, List, [], ◌∷◌, Option, Some, None}
+use Rattle.std.specs.Borrow.{Bor}
+use Rattle.tla_eval.specs.Expr.{Expr}
+use Rattle.tla_parse.specs.declared.tree.Expr as s
+use Rattle.tla_parse.specs.declared.word.Written.{Written}
+use Rattle.tla_parse.specs.declared.tree.Bullet.TheVariants as bullet
+use Rattle.tla_parse.specs.Edges.{place}
+use Rattle.tla_parse.specs.Tree.{Tree, Junction, trees}
+use Rattle.tla_parse.specs.Units.{UnitTree}
+use Rattle.tla_config.specs.Statements.{Item}
+use Rattle.tla_expand.specs.Meanings.{Scope}
+use Rattle.tla_defs.specs.Conjuncts.{tree_at, seen}
+use Rattle.tla_defs.specs.Model.{IsInitial}
+use Rattle.tla_defs.specs.Bodies.{Bodies, body_of}
+use Rattle.tla_defs.specs.Subscripts.{IsCover}
+use Rattle.tla_defs.specs.Specification.{Step, IsSpecification, conjuncts, conjunction_of, initials_of, steps_of}
+use Rattle.tla_defs.specs.Specified.{LacksState, NoForm}
+use Rattle.tla_defs.proofs.States.{lacks_state}
+use Rattle.tla_defs.proofs.Unique.{same_some}
+
+pub one_item : {A : Type 0} (xs : List A) (x : A) → length xs ≡ 1 → x ≡ get_or xs 0 x → xs ≡ x ∷ []
+one_item [] x n e = absurd (omega (arith, n))
+one_item (y ∷ []) x n e = ap (λ z. z ∷ []) (sym e)
+one_item (y ∷ z ∷ xs) x n e = absurd (omega (arith, n))
+
+pub none_seen : (ts : List (Bor s.Expr)) → length ts ≡ 0 → seen ts ≡ []
+none_seen [] n = refl
+none_seen (t ∷ ts) n = absurd (omega (arith, n))
+
+pub some_seen : (ts : List (Bor s.Expr)) → (length ts ≡ 0 → ⊥) → (i : Tree) × (conjunction_of (seen ts) ≡ Some i)
+some_seen [] n = absurd (n refl)
+some_seen (t ∷ []) n = (tree_at t, refl)
+some_seen (t ∷ u ∷ ts) n = (_, refl)
+
+-- the conjunction of the one conjunct, and of several
+pub of_one_item : (ts : List (Bor s.Expr)) (t : Bor s.Expr) (i : Tree) → length ts ≡ 1 → t ≡ get_or ts 0 t → conjunction_of (seen ts) ≡ Some i → tree_at t ≡ i
+of_one_item ts t i n e p = same_some (conjunction_of (seen ts)) (tree_at t) i (ap (λ us. conjunction_of (seen us)) (one_item ts t n e)) p
+
+pub of_items : (ts : List (Bor s.Expr)) (t : Bor s.Expr) (i : Tree) → (length ts ≡ 0 → ⊥) → (length ts ≡ 1 → ⊥) → t ≡ get_or ts 0 t → conjunction_of (seen ts) ≡ Some i → Junction (place (tree_at t)) bullet.And (trees (seen ts)) ≡ i
+of_items [] t i n m e p = absurd (n refl)
+of_items (u ∷ []) t i n m e p = absurd (m refl)
+of_items (u ∷ v ∷ ts) t i n m e p = same_some (conjunction_of (seen (u ∷ v ∷ ts))) _ i (ap (λ (x : Bor s.Expr). Some (Junction (place (tree_at x)) bullet.And (trees (seen (u ∷ v ∷ ts))))) (sym e)) p
+
+module _ (us : List UnitTree) (is : List Item) (σ : Scope) (n : ℕ) (w : Written) where
+  pub no_body : body_of us is w.word ≡ None → NoForm us is σ n w
+  no_body p i a h x init = let q = h.is_body in let z : ⊥ = cc in z
+
+  module _ (t : Tree) (b : Bodies) (k : ℕ) (known : b ≡ body_of us is) (counted : k ≡ length us) (is_body : b w.word ≡ Some t) (steps : List Step) (initial : List Tree)
+      (steps_are : steps ≡ steps_of (conjuncts k b t)) (initial_are : initial ≡ initials_of k b (conjuncts k b t)) where
+    body : body_of us is w.word ≡ Some t
+    body = ap (λ (c : Bodies). c w.word) (sym known) ∙ is_body
+
+    are_steps : steps ≡ steps_of (conjuncts (length us) (body_of us is) t)
+    are_steps = steps_are ∙ ap (λ (c : Bodies). steps_of (conjuncts k c t)) known ∙ ap (λ m. steps_of (conjuncts m (body_of us is) t)) counted
+
+    are_initial : initial ≡ initials_of (length us) (body_of us is) (conjuncts (length us) (body_of us is) t)
+    are_initial = initial_are ∙ ap (λ (c : Bodies). initials_of k c (conjuncts k c t)) known ∙ ap (λ m. initials_of m (body_of us is) (conjuncts m (body_of us is) t)) counted
+
+    same_body : (i a : Tree) (h : IsSpecification us is σ n w i a) → h.body ≡ t
+    same_body i a h = same_some (body_of us is w.word) h.body t h.is_body body
+
+    its_steps : (i a : Tree) (h : IsSpecification us is σ n w i a) → steps ≡ (a, h.subscript) ∷ []
+    its_steps i a h = are_steps ∙ ap (λ e. steps_of (conjuncts (length us) (body_of us is) e)) (sym (same_body i a h)) ∙ h.one_step
+
+    its_initial : (i a : Tree) (h : IsSpecification us is σ n w i a) → conjunction_of initial ≡ Some i
+    its_initial i a h = ap (λ es. conjunction_of es) (are_initial ∙ ap (λ e. initials_of (length us) (body_of us is) (conjuncts (length us) (body_of us is) e)) (sym (same_body i a h))) ∙ h.is_initial
+
+    pub not_one : (length steps ≡ 1 → ⊥) → NoForm us is σ n w
+    not_one p i a h x init = p (ap (λ es. length es) (its_steps i a h))
+
+    pub no_conjunct : initial ≡ [] → NoForm us is σ n w
+    no_conjunct p i a h x init =
+        let q = its_initial i a h in
+        let r = ap (λ es. conjunction_of es) p in
+        let z : ⊥ = cc in
+        z
+
+    pub not_covered : (s : Step) → steps ≡ s ∷ [] → (IsCover σ n s.1 → ⊥) → NoForm us is σ n w
+    not_covered s p none i a h x init =
+        let q = its_steps i a h in
+        let same : s ≡ (a, h.subscript) = cc in
+        none (subst (λ (v : Tree). IsCover σ n v) (sym (ap (λ (u : Step). u.1) same)) h.covered)
+
+    pub lacking : LacksState σ initial → NoForm us is σ n w
+    lacking l i a h x init = lacks_state σ initial i (its_initial i a h) l x init
+
+    pub found : (s : Step) (i : Tree) → steps ≡ s ∷ [] → IsCover σ n s.1 → conjunction_of initial ≡ Some i → IsSpecification us is σ n w i s.0
+    found s i p cover q = record {
+      body = t;
+      is_body = body;
+      subscript = s.1;
+      one_step = sym are_steps ∙ p;
+      covered = cover;
+      is_initial = ap (λ es. conjunction_of es) (sym are_initial) ∙ q;
+    }

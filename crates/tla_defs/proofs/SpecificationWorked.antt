@@ -1,0 +1,73 @@
+-- The models of modules with a specification, by computation.
+use Rattle.std.proofs.Common.{◌≡◌, refl, arith, inr}
+use Rattle.std.specs.Prelude.{codes}
+use Rattle.tla_parse.specs.declared.tree.Bullet.TheVariants as bullet
+use Rattle.tla_parse.specs.Tree.{Name, Junction, more, none}
+use Rattle.tla_defs.specs.NamedRows.{name_at}
+use Rattle.tla_defs.specs.Rows.{place, word, x_at, now_at, init_tree, init_before}
+use Rattle.tla_defs.specs.SpecificationRows.{Specified, SpecifiedInParts, safe_tree, whole_tree, below_tree}
+use Rattle.tla_defs.proofs.Worked.{within}
+
+pub specified : Specified
+specified =
+    record {
+      known = refl;
+      given = refl;
+      valued = refl;
+      named = refl;
+      straight = tt;
+      initial = init_tree 0;
+      action = name_at 6 20 (codes "Next");
+      behaviour = inr (record {
+        name = word 1 15 (codes "Spec");
+        one_specification = refl;
+        no_init = refl;
+        no_next = refl;
+        form = record {
+          body = safe_tree;
+          is_body = refl;
+          subscript = x_at 6 26;
+          one_step = refl;
+          covered = record { names = now_at 6 26; expanded = refl; limits = within _ 1 1 refl refl (omega arith) (omega arith); all = refl };
+          is_initial = refl;
+        };
+      });
+      variables = refl;
+      assumptions = tt;
+      init = record { before = init_before 0; meaning = refl; primed = refl; limits = within _ 3 2 refl refl (omega arith) (omega arith) };
+      next = record { meaning = refl; limits = within _ 7 4 refl refl (omega arith) (omega arith) };
+      invariants = tt;
+      check_deadlock = refl;
+    }
+
+pub specified_in_parts : SpecifiedInParts
+specified_in_parts =
+    record {
+      known = refl;
+      given = refl;
+      valued = refl;
+      named = refl;
+      straight = tt;
+      initial = Junction (place 4 9) bullet.And (more (init_tree 0) (more below_tree none));
+      action = name_at 6 20 (codes "Next");
+      behaviour = inr (record {
+        name = word 1 15 (codes "Spec");
+        one_specification = refl;
+        no_init = refl;
+        no_next = refl;
+        form = record {
+          body = whole_tree;
+          is_body = refl;
+          subscript = x_at 6 26;
+          one_step = refl;
+          covered = record { names = now_at 6 26; expanded = refl; limits = within _ 1 1 refl refl (omega arith) (omega arith); all = refl };
+          is_initial = refl;
+        };
+      });
+      variables = refl;
+      assumptions = tt;
+      init = record { before = _; meaning = refl; primed = refl; limits = within _ 7 3 refl refl (omega arith) (omega arith) };
+      next = record { meaning = refl; limits = within _ 7 4 refl refl (omega arith) (omega arith) };
+      invariants = tt;
+      check_deadlock = refl;
+    }

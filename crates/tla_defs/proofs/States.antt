@@ -1,0 +1,105 @@
+-- The conjuncts of an initial predicate: where one has none of its own within the limits, the whole has none.
+use Rattle.std.proofs.Common.{◌≡◌, ◌≤◌, ℕ, ◌+◌, max, refl, ap, sym, ◌∙◌, subst, inl, inr, arith, length, map, get_or, List, [], ◌∷◌, ◌++◌, Option, Some, None}
+use Rattle.std.specs.Borrow.{Bor}
+use Rattle.tla_eval.specs.Expr.{Expr, Exprs, conjunction, no_exprs, more_exprs}
+use Rattle.tla_model.specs.Size.{IsWithinLimits, nodes, depth, nodes_each, depth_each}
+use Rattle.tla_parse.specs.declared.tree.Bullet.TheVariants as bullet
+use Rattle.tla_parse.specs.declared.tree.Expr as s
+use Rattle.tla_parse.specs.Edges.{place}
+use Rattle.tla_parse.specs.Tree.{Tree, trees, Junction}
+use Rattle.tla_expand.specs.declared.primes.Primes.TheVariants.{Once}
+use Rattle.tla_expand.specs.Meanings.{Scope}
+use Rattle.tla_expand.specs.Expand.{expand, expand_each}
+use Rattle.tla_expand.specs.Maybe.{◌>>=◌}
+use Rattle.tla_expand.specs.Places.{place_of}
+use Rattle.tla_expand.specs.Primes.{primes, primes_each}
+use Rattle.tla_expand.proofs.PrimesFit.{inv}
+use Rattle.tla_defs.specs.Conjuncts.{tree_at, seen}
+use Rattle.tla_defs.specs.Model.{IsInitial}
+use Rattle.tla_defs.specs.Specification.{conjunction_of}
+use Rattle.tla_defs.specs.Specified.{LacksState}
+
+-- the first of several, and the others
+record IsSplit (σ : Scope) (t : Tree) (ts : List Tree) (ys : Exprs) : Type 0 where
+  before : Expr
+  others_before : Exprs
+  first : Expr
+  others : Exprs
+  meaning : expand t σ 0 ≡ Some before
+  others_meaning : expand_each (trees ts) σ 0 ≡ Some others_before
+  primed : primes Once before ≡ Some first
+  others_primed : primes_each Once others_before ≡ Some others
+  same : more_exprs first others ≡ ys
+
+same_expr : (x y : Expr) → Some x ≡ Some y → x ≡ y
+same_expr x y p = cc
+
+same_exprs : (x y : Exprs) → Some x ≡ Some y → x ≡ y
+same_exprs x y p = cc
+
+split : (σ : Scope) (t : Tree) (ts : List Tree) (xs ys : Exprs) → expand_each (trees (t ∷ ts)) σ 0 ≡ Some xs → primes_each Once xs ≡ Some ys → IsSplit σ t ts ys
+split σ t ts xs ys p q =
+    let a = inv (expand t σ 0) (λ x. expand_each (trees ts) σ 0 >>= λ us. Some (more_exprs x us)) xs p in
+    let b = inv (expand_each (trees ts) σ 0) (λ us. Some (more_exprs a.0 us)) xs a.2 in
+    let r = subst (λ us. primes_each Once us ≡ Some ys) (sym (same_exprs (more_exprs a.0 b.0) xs b.2)) q in
+    let c = inv (primes Once a.0) (λ x. primes_each Once b.0 >>= λ us. Some (more_exprs x us)) ys r in
+    let e = inv (primes_each Once b.0) (λ us. Some (more_exprs c.0 us)) ys c.2 in
+    record {
+      before = a.0;
+      others_before = b.0;
+      first = c.0;
+      others = e.0;
+      meaning = a.1;
+      others_meaning = b.1;
+      primed = c.1;
+      others_primed = e.1;
+      same = same_exprs (more_exprs c.0 e.0) ys e.2;
+    }
+
+each_lacks : (σ : Scope) (ts : List Tree) (xs ys : Exprs) → expand_each (trees ts) σ 0 ≡ Some xs → primes_each Once xs ≡ Some ys → nodes_each ys ≤ 200000 → depth_each ys ≤ 300 → LacksState σ ts → ⊥
+each_lacks σ [] xs ys p q n d l = l
+each_lacks σ (t ∷ ts) xs ys p q n d (inl l) =
+    let h = split σ t ts xs ys p q in
+    let small = ap nodes_each h.same in
+    let shallow = ap depth_each h.same in
+    l h.first (record { before = h.before; meaning = h.meaning; primed = h.primed; limits = record { small = omega (arith, small, n); shallow = omega (arith, shallow, d) } })
+each_lacks σ (t ∷ ts) xs ys p q n d (inr l) =
+    let h = split σ t ts xs ys p q in
+    let small = ap nodes_each h.same in
+    let shallow = ap depth_each h.same in
+    each_lacks σ ts h.others_before h.others h.others_meaning h.others_primed (omega (arith, small, n)) (omega (arith, shallow, d)) l
+
+list_lacks : (σ : Scope) (p : _) (ts : List Tree) → LacksState σ ts → (e : Expr) → IsInitial σ (Junction p bullet.And (trees ts)) e → ⊥
+list_lacks σ p ts l e h =
+    let a = inv (expand_each (trees ts) σ 0) (λ us. Some (conjunction (place_of p) us)) h.before h.meaning in
+    let is_before : Some (conjunction (place_of p) a.0) ≡ Some h.before = a.2 in
+    let r = subst (λ x. primes Once x ≡ Some e) (sym (same_expr (conjunction (place_of p) a.0) h.before is_before)) h.primed in
+    let b = inv (primes_each Once a.0) (λ us. Some (conjunction (place_of p) us)) e r in
+    let same = same_expr (conjunction (place_of p) b.0) e b.2 in
+    let small = ap nodes same in
+    let shallow = ap depth same in
+    let n = h.limits.small in
+    let d = h.limits.shallow in
+    each_lacks σ ts a.0 b.0 a.1 b.1 (omega (arith, small, n)) (omega (arith, shallow, d)) l
+
+same_tree : (t u : Tree) → Some t ≡ Some u → t ≡ u
+same_tree t u p = cc
+
+pub lacks_state : (σ : Scope) (ts : List Tree) (i : Tree) → conjunction_of ts ≡ Some i → LacksState σ ts → (e : Expr) → IsInitial σ i e → ⊥
+lacks_state σ [] i p l e h = l
+lacks_state σ (t ∷ []) i p (inl l) e h = l e (subst (λ u. IsInitial σ u e) (sym (same_tree t i p)) h)
+lacks_state σ (t ∷ []) i p (inr l) e h = l
+lacks_state σ (t ∷ u ∷ ts) i p l e h = list_lacks σ (place t) (t ∷ u ∷ ts) l e (subst (λ v. IsInitial σ v e) (sym (same_tree _ i p)) h)
+
+-- what the first conjunct and the others are, together
+pub of_one : (t : Bor s.Expr) (others : List (Bor s.Expr)) → length others ≡ 0 → conjunction_of (seen (t ∷ others)) ≡ Some (tree_at t)
+of_one t [] h = refl
+of_one t (u ∷ others) h = absurd (omega arith)
+
+pub of_more : (t : Bor s.Expr) (others : List (Bor s.Expr)) → (length others ≡ 0 → ⊥) → conjunction_of (seen (t ∷ others)) ≡ Some (Junction (place (tree_at t)) bullet.And (trees (seen (t ∷ others))))
+of_more t [] h = absurd (h refl)
+of_more t (u ∷ others) h = refl
+
+pub lacks_first : (σ : Scope) (ts : List (Bor s.Expr)) (t : Bor s.Expr) → 1 ≤ length ts → t ≡ get_or ts 0 t → ((x : Expr) → IsInitial σ (tree_at t) x → ⊥) → LacksState σ (seen ts)
+lacks_first σ [] t n e l = absurd (omega (arith, n))
+lacks_first σ (u ∷ ts) t n e l = inl (λ x h. l x (subst (λ (v : Bor s.Expr). IsInitial σ (tree_at v) x) (sym e) h))

@@ -1,0 +1,28 @@
+use Rattle.std.proofs.Common.{◌≡◌, ◌≤◌, ◌&&◌, ◌+◌, ◌*◌, length, map}
+use Rattle.tla_parse.specs.Tree.{trees}
+use Rattle.tla_parse.specs.View.{view}
+use denote.Param.Weighed.{most}
+use Rattle.tla_parse.specs.declared.tree.Expr.{size-Expr}
+use Rattle.tla_defs.specs.Conjuncts.{bodies_of, all_fair}
+use Rattle.tla_defs.specs.Fairness.{fair_of, fair_each}
+use Rattle.tla_defs.proofs.fairness.+fair.Given as goal
+
+abbrev pub invariant-each_fair-loop-others : goal.invariant-each_fair-loop-others
+invariant-each_fair-loop-others l = record {
+  shallow : most size-Expr l.others ≤ most size-Expr l.trees;
+  kept : l.bound ≡ l.fn.bound;
+  same : (all_fair (bodies_of l.bodies) l.fn.left.items && fair_each (fair_of l.names (bodies_of l.bodies)) l.fn.bound (trees (map view l.trees)))
+      ≡ (all_fair (bodies_of l.bodies) l.left.items && fair_each (fair_of l.names (bodies_of l.bodies)) l.fn.bound (trees (map view l.others)));
+}
+
+abbrev pub decreases-each_fair-loop-others : goal.decreases-each_fair-loop-others
+decreases-each_fair-loop-others l = length l.others
+
+abbrev pub decreases-fair_tree : goal.decreases-fair_tree
+decreases-fair_tree l = 4 * size-Expr l.tree.now
+
+abbrev pub decreases-fair_under : goal.decreases-fair_under
+decreases-fair_under l = 4 * size-Expr l.body.now + 1
+
+abbrev pub decreases-each_fair : goal.decreases-each_fair
+decreases-each_fair l = 4 * most size-Expr l.trees.now + 1

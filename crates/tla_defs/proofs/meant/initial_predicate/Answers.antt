@@ -1,0 +1,13 @@
+use Rattle.std.proofs.Common.{◌≢◌, refl, subst, Some, IfErr}
+use Rattle.tla_config.specs.declared.error.DefsCode.TheVariants.{Memory}
+use Rattle.tla_eval.specs.Expr as expr
+use Rattle.tla_expand.specs.Names.{scope_of}
+use Rattle.tla_parse.specs.Tree.{Tree}
+use Rattle.tla_defs.specs.Model.{IsInitial}
+use Rattle.tla_defs.proofs.Unique.{same_some}
+use Rattle.tla_defs.proofs.meant.initial_predicate.Goals as goal
+
+pub returns-in-Named-clause-none : goal.returns-in-Named-clause-none
+returns-in-Named-clause-none c = λ i p.
+    let same = same_some _ _ i refl (rw c.in-Named.is at p) in
+    subst (λ (t : Tree). IfErr c.initial.result (λ e. e.code ≢ Memory → (x : expr.Expr) → IsInitial (scope_of c.args.scopes.now) t x → ⊥)) same c.initial.ensures.none

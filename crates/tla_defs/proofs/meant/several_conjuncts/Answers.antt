@@ -1,0 +1,14 @@
+use Rattle.tla_eval.specs.ExprOf.{expr_of}
+use Rattle.tla_expand.specs.Names.{scope_of}
+use Rattle.tla_parse.specs.declared.tree.Bullet.TheVariants as bullet
+use Rattle.tla_parse.specs.Tree.{Junction, trees}
+use Rattle.tla_defs.specs.Conjuncts.{seen}
+use Rattle.tla_defs.proofs.Found.{found_initial, no_initial}
+use Rattle.tla_defs.proofs.meant.several_conjuncts.Goals as goal
+
+pub returns-in-Ok-clause-found : goal.returns-in-Ok-clause-found
+returns-in-Ok-clause-found c =
+    found_initial (scope_of c.args.scopes.now) (Junction c.args.place bullet.And (trees (seen c.args.trees.now))) (expr_of c.in-Ok.core) c.in-Ok.ensures.found c.in-Ok.ensures.limits
+
+pub returns-in-Err-clause-none : goal.returns-in-Err-clause-none
+returns-in-Err-clause-none c = λ h. no_initial (scope_of c.args.scopes.now) (Junction c.args.place bullet.And (trees (seen c.args.trees.now))) (c.in-Err.ensures.none (λ m. h (c.refusal.ensures.memory m)))

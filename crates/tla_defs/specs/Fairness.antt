@@ -1,0 +1,55 @@
+-- Fairness in the formula that SPECIFICATION names (book, chapter 8): it says nothing of steps.
+use Rattle.std.specs.Prelude.{ℕ, zero, suc, Bool, true, false, not, ◌&&◌, [], ◌++◌, Option, Some, None, is_some}
+use Rattle.tla_parse.specs.declared.tree.Bullet.{Bullet}
+use Rattle.tla_parse.specs.declared.tree.Bullet.TheVariants as bullet
+use Rattle.tla_parse.specs.declared.tree.Infix.{Infix}
+use Rattle.tla_parse.specs.declared.tree.Infix.TheVariants as op
+use Rattle.tla_parse.specs.declared.tree.Quantifier.{Quantifier}
+use Rattle.tla_parse.specs.declared.tree.Quantifier.TheVariants as quantifier
+use Rattle.tla_parse.specs.Tree.{Tree, Trees, none, more}
+use Rattle.tla_parse.specs.Tree as t
+use Rattle.tla_config.specs.Names.{Name}
+use Rattle.tla_defs.specs.Scope.{Scope, arity, plain, bound_names}
+use Rattle.tla_defs.specs.Bodies.{Bodies}
+
+abbrev pub is_and : Infix → Bool
+is_and op.And = true
+is_and _ = false
+
+abbrev pub is_and_list : Bullet → Bool
+is_and_list bullet.And = true
+is_and_list bullet.Or = false
+
+abbrev pub is_for_all : Quantifier → Bool
+is_for_all quantifier.ForAll = true
+is_for_all quantifier.Exists = false
+
+-- a name that a \A round it binds stands for no definition
+abbrev pub fair_name : (Name → Bool) → Scope → Name → Bool
+fair_name φ σ x = not (is_some (arity σ x)) && φ x
+
+-- fairness: WF_v(A) and SF_v(A), under /\ and \A
+abbrev mutual
+  pub fair_in : (Name → Bool) → Scope → Tree → Bool
+  fair_in φ σ (t.Fair p f v a) = true
+  fair_in φ σ (t.Name w) = fair_name φ σ w.word
+  fair_in φ σ (t.Paren p e) = fair_in φ σ e
+  fair_in φ σ (t.Binary p o w a c) = is_and o && (fair_in φ σ a && fair_in φ σ c)
+  fair_in φ σ (t.Junction p b es) = is_and_list b && fair_each φ σ es
+  fair_in φ σ (t.Quantified p q bs e) = is_for_all q && fair_in φ (σ ++ plain (bound_names bs)) e
+  fair_in φ σ e = false
+
+  pub fair_each : (Name → Bool) → Scope → Trees → Bool
+  fair_each φ σ none = true
+  fair_each φ σ (more e es) = fair_in φ σ e && fair_each φ σ es
+
+abbrev pub fair_body : (Name → Bool) → Option Tree → Bool
+fair_body φ None = false
+fair_body φ (Some e) = fair_in φ [] e
+
+abbrev pub fair_of : ℕ → Bodies → Name → Bool
+fair_of zero b x = false
+fair_of (suc n) b x = fair_body (fair_of n b) (b x)
+
+abbrev pub fair : ℕ → Bodies → Tree → Bool
+fair n b e = fair_in (fair_of n b) [] e

@@ -1,0 +1,79 @@
+-- One node for names, their sets and a body: what it gives, from what the sets and the body give.
+use Rattle.std.proofs.Common.{◌≡◌, ◌≤◌, ℕ, suc, ◌+◌, List, [], ◌∷◌, length, refl, ap, ◌∙◌, arith, Option, Some}
+use Rattle.tla_eval.specs.declared.fault.Place.{Place}
+use Rattle.tla_eval.specs.Expr.{Expr}
+use Rattle.tla_model.specs.Size.{nodes, depth}
+use Rattle.tla_expand.specs.declared.failure.Failure.{Failure}
+use Rattle.tla_expand.specs.declared.primes.Primes.{Primes}
+use Rattle.tla_expand.specs.declared.binders.Bind.{Bind}
+use Rattle.tla_expand.specs.declared.nodes.Gather.{Gather}
+use Rattle.tla_expand.specs.Maybe.{◌>>=◌, each_of}
+use Rattle.tla_expand.specs.Lists.{exprs}
+use Rattle.tla_expand.specs.Primes.{primes, with_primes}
+use Rattle.tla_expand.specs.Nodes.{gather}
+use Rattle.tla_expand.specs.Meanings.{Scope, Argument}
+use Rattle.tla_expand.specs.Bound as x
+use Rattle.tla_expand.specs.Bound.{with_names, gathered}
+use Rattle.tla_expand.specs.Binders.{binds_in}
+use Rattle.tla_expand.specs.Gives.{both, total, highest, sum_of, larger_of, set_in, Makes, FailsBy, Fails}
+use Rattle.tla_expand.proofs.Keeps.{inv}
+use Rattle.tla_expand.proofs.Groups.{binds_length}
+use Rattle.tla_expand.proofs.Lists.{each_then}
+use Rattle.tla_expand.proofs.Made.{gather_larger, gather_shown}
+use Rattle.tla_expand.proofs.Sizes.{Given, some_node, first_fails, second_fails, two_give, node_fails, node_gives}
+
+sets_in : (k : Primes) (σ : Scope) (d : ℕ) (binds : List Bind) → each_of (λ (b : x.Bind). b.1 d >>= primes k) (binds_in binds σ) ≡ each_of (set_in k σ d) binds
+sets_in k σ d [] = refl
+sets_in k σ d (b ∷ binds) = ap (λ (o : Option (List Expr)). set_in k σ d b >>= λ y. o >>= λ ys. Some (y ∷ ys)) (sets_in k σ d binds)
+
+-- there are as many sets as names, and each has a node
+each_length : {A B : Type 0} (f : A → Option B) (ts : List A) (xs : List B) → each_of f ts ≡ Some xs → length xs ≡ length ts
+each_length f [] xs h = let w : [] ≡ xs = cc in rw (← w) refl
+each_length f (t ∷ ts) xs h =
+    let i = inv (f t) (λ y. each_of f ts >>= λ ys. Some (y ∷ ys)) xs h in
+    let j = inv (each_of f ts) (λ ys. Some (i.0 ∷ ys)) xs i.2 in
+    let w : i.0 ∷ j.0 ≡ xs = cc in
+    rw (← w) (ap suc (each_length f ts j.0 j.1))
+
+some_nodes : (xs : List Expr) → length xs ≤ total nodes xs
+some_nodes [] = omega arith
+some_nodes (x ∷ xs) = omega (arith, some_node x, some_nodes xs)
+
+pub names_small : {A : Type 0} (f : A → Option Expr) (ts : List A) (xs : List Expr) (rest left : ℕ) → each_of f ts ≡ Some xs → rest + total nodes xs ≡ left → rest + length ts ≤ left
+names_small f ts xs rest left h n = omega (arith, each_length f ts xs h, some_nodes xs, n)
+
+abbrev Pair : Type 0
+Pair = List Expr × Expr
+
+module _ (f : Gather) (p : Place) (bs : List x.Bind) (binds : List Bind) (body : Scope → Argument) (σ τ : Scope) (d : ℕ) (k : Primes)
+    (is : binds_in binds σ ≡ bs) (named : with_names (binds_in binds σ) d σ ≡ τ) where
+  -- the sets, and the body under the names
+  abbrev sets : Option (List Expr)
+  sets = each_of (set_in k σ d) binds
+
+  abbrev inner : Option Expr
+  inner = with_primes k (body τ (d + length binds))
+
+  whole : with_primes k (gathered f p bs body σ d) ≡ (both sets inner >>= λ (xy : Pair). Some (gather f p (exprs xy.0) xy.1))
+  whole =
+      rw (← is)
+      (gather_shown f k p (each_of (λ (b : x.Bind). b.1 d) (binds_in binds σ)) (body (with_names (binds_in binds σ) d σ) (d + length (binds_in binds σ))) sets
+      (each_then (λ (b : x.Bind). b.1 d) (primes k) (binds_in binds σ) ∙ sets_in k σ d binds)
+      ∙ rw (named, binds_length binds σ) refl)
+
+  pub sets_fail : (s : Failure) (room left : ℕ) → FailsBy (total nodes) (highest depth) room left s sets → Fails (room + 1) (left + 1) s (with_primes k (gathered f p bs body σ d))
+  sets_fail s room left h =
+      rw whole (node_fails (sum_of (total nodes) nodes) (larger_of (highest depth) depth) (λ (xy : Pair). gather f p (exprs xy.0) xy.1) s (both sets inner) room left (gather_larger f p)
+      (first_fails (total nodes) (highest depth) nodes depth s sets inner room left h))
+
+  pub body_fails : (s : Failure) (room left less : ℕ) (xs : List Expr) → Makes (total nodes) (highest depth) room left less xs sets → Fails room less s inner
+      → Fails (room + 1) (left + 1) s (with_primes k (gathered f p bs body σ d))
+  body_fails s room left less xs g h =
+      rw whole (node_fails (sum_of (total nodes) nodes) (larger_of (highest depth) depth) (λ (xy : Pair). gather f p (exprs xy.0) xy.1) s (both sets inner) room left (gather_larger f p)
+      (second_fails (total nodes) (highest depth) nodes depth s sets inner xs room left less g.0 g.1 h))
+
+  pub gather_gives : (room left less last : ℕ) (xs : List Expr) (y c : Expr) → Makes (total nodes) (highest depth) room left less xs sets → Makes nodes depth room less last y inner → c ≡ gather f p (exprs xs) y
+      → Given (with_primes k (gathered f p bs body σ d)) c last (left + 1) (room + 1)
+  gather_gives room left less last xs y c g h e =
+      rw whole (node_gives (sum_of (total nodes) nodes) (larger_of (highest depth) depth) (λ (xy : Pair). gather f p (exprs xy.0) xy.1) (both sets inner) (xs, y) c room left last (gather_larger f p)
+      (two_give (total nodes) (highest depth) nodes depth sets inner xs y room left less last g h) e)

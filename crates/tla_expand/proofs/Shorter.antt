@@ -1,0 +1,80 @@
+-- A body that comes to a part of it.
+use Rattle.std.proofs.Common.{◌≡◌, ℕ, zero, suc, ◌+◌, ◌<◌, true, false, List, [], ◌∷◌, length, get_or, drop, map, refl, ap, sym, ◌∙◌, arith, add-one, drop-cons, Option, Some, None, IfSome, Bor}
+use Rattle.std.specs.Str.{bytes_eq}
+use Rattle.std.proofs.lemmas.List.{length-map}
+use Rattle.tla_eval.specs.declared.fault.Place.{Place}
+use Rattle.tla_parse.specs.declared.tree.Expr as syntax
+use Rattle.tla_parse.specs.declared.word.Written.{Written}
+use Rattle.tla_parse.specs.Tree as t
+use Rattle.tla_parse.specs.View.{view}
+use Rattle.tla_expand.specs.declared.arena.Entry.{Entry}
+use Rattle.tla_expand.specs.declared.arena.What.TheVariants.{Definition}
+use Rattle.tla_expand.specs.Maybe.{◌>>=◌}
+use Rattle.tla_expand.specs.Places.{Name, place_of}
+use Rattle.tla_expand.specs.Meanings.{Scope, Argument, Meaning, with_name, parameter, with_parameters, operator}
+use Rattle.tla_expand.specs.Expand.{expand}
+use Rattle.tla_expand.specs.Parameters.{IsAbsent, IsLast}
+use Rattle.tla_expand.specs.Scopes.{meaning_of, arguments_in}
+use Rattle.tla_expand.proofs.Steps.{expand_call}
+
+pub last_at : (ws : List Written) (i : ℕ) (w : Written) (x : Name) → i < length ws → w ≡ get_or ws i w → bytes_eq w.word x ≡ true → IsAbsent x (drop (i + 1) ws) → IsLast x ws i
+last_at [] i w x h g e a = absurd (omega arith)
+last_at (v ∷ ws) zero w x h g e a = ((rw g at e), a)
+last_at (v ∷ ws) (suc i) w x h g e a =
+    let p : suc i + 1 ≡ suc (i + 1) = omega arith in
+    last_at ws i w x (omega arith) g e (rw p at a)
+
+pub absent_more : (ws : List Written) (i : ℕ) (w : Written) (x : Name) → i < length ws → w ≡ get_or ws i w → bytes_eq w.word x ≡ false → IsAbsent x (drop (i + 1) ws) → IsAbsent x (drop i ws)
+absent_more ws i w x h g e a =
+    let p : drop i ws ≡ w ∷ drop (suc i) ws = drop-cons ws i w h ∙ ap (λ (y : Written). y ∷ drop (suc i) ws) (sym g) in
+    let q : i + 1 ≡ suc i = add-one i in
+    rw p (e, rw q at a)
+
+-- with as many arguments as parameters there is a scope
+pub parameters_some : (ws : List Written) (args : List Argument) (σ : Scope) → length ws ≡ length args → (τ : Scope) × (with_parameters ws args σ ≡ Some τ)
+parameters_some [] [] σ h = (σ, refl)
+parameters_some [] (a ∷ args) σ h = absurd (omega arith)
+parameters_some (w ∷ ws) [] σ h = absurd (omega arith)
+parameters_some (w ∷ ws) (a ∷ args) σ h = parameters_some ws args (with_name w.word (parameter a) σ) (omega arith)
+
+-- a name that is no parameter means what it did
+pub absent_same : (ws : List Written) (args : List Argument) (σ τ : Scope) (x : Name) → IsAbsent x ws → with_parameters ws args σ ≡ Some τ → τ x ≡ σ x
+absent_same [] [] σ τ x a h = let e : σ ≡ τ = cc in ap (λ (ρ : Scope). ρ x) (sym e)
+absent_same [] (b ∷ args) σ τ x a h = cc
+absent_same (w ∷ ws) [] σ τ x a h = cc
+absent_same (w ∷ ws) (b ∷ args) σ τ x a h = absent_same ws args (with_name w.word (parameter b) σ) τ x a.1 h ∙ rw a.0 refl
+
+-- the last parameter of a name means its argument
+pub last_means : (ws : List Written) (es : List syntax.Expr) (σ τ ρ : Scope) (x : Name) (i : ℕ) (e : syntax.Expr) → IsLast x ws i → e ≡ get_or es i e → with_parameters ws (arguments_in es ρ) σ ≡ Some τ
+    → τ x ≡ parameter (expand (view e) ρ)
+last_means [] es σ τ ρ x i e l g h = absurd l
+last_means (w ∷ ws) [] σ τ ρ x i e l g h = cc
+last_means (w ∷ ws) (f ∷ es) σ τ ρ x zero e l g h = absent_same ws (arguments_in es ρ) (with_name w.word (parameter (expand (view f) ρ)) σ) τ x l.1 h ∙ rw (l.0, g) refl
+last_means (w ∷ ws) (f ∷ es) σ τ ρ x (suc i) e l g h = last_means ws es (with_name w.word (parameter (expand (view f) ρ)) σ) τ ρ x i e l g h
+
+-- the use of a definition that is one of its parameters
+pub chosen_same : (at : ℕ → Scope) (m : Meaning) (e : Entry) (ws : Bor (List Written)) (body : Bor syntax.Expr) (home : ℕ) (w : Written) (es : List syntax.Expr) (i : ℕ) (g : syntax.Expr) (σ : Scope) (p : Place) (d : ℕ)
+    → m ≡ meaning_of at e.what → e.what ≡ Definition ws body home → body.now ≡ syntax.Name w → length ws.now ≡ length es → IsLast w.word ws.now i → g ≡ get_or es i g → m p (arguments_in es σ) d ≡ expand (view g) σ d
+chosen_same at m e ws body home w es i g σ p d h k b n l q =
+    let same : length ws.now ≡ length (arguments_in es σ) = n ∙ sym (length-map es (λ (y : syntax.Expr). expand (view y) σ)) in
+    let s = parameters_some ws.now (arguments_in es σ) (at home) same in
+    rw (h, k, b, s.1) (ap (λ (f : Meaning). f (place_of w.place) [] d) (last_means ws.now es (at home) s.0 σ w.word i g l q s.1))
+
+pub call_same : (ws : List Written) (args : List Argument) (σ τ : Scope) (w : Written) (es : List syntax.Expr) (b g : syntax.Expr) (d : ℕ) → view b ≡ t.Call w (t.trees (map view es)) → IsAbsent w.word ws
+    → with_parameters ws args σ ≡ Some τ → ((ρ : Scope) (p : Place) (k : ℕ) → σ w.word p (arguments_in es ρ) k ≡ expand (view g) ρ k) → expand (view g) τ d ≡ expand (view b) τ d
+call_same ws args σ τ w es b g d v a h c =
+    let called = ap (λ (f : Argument). f d) (expand_call w es τ) in
+    let known = ap (λ (m : Meaning). m (place_of w.place) (arguments_in es τ) d) (absent_same ws args σ τ w.word a h) in
+    sym (rw v (called ∙ known ∙ c τ (place_of w.place) d))
+
+pub some_map : {A : Type 0} (o : Option A) (P Q : A → Type 0) → ((x : A) → P x → Q x) → IfSome o P → IfSome o Q
+some_map None P Q f h = tt
+some_map (Some x) P Q f h = f x h
+
+then_same : {A B : Type 0} (o : Option A) (f g : A → Option B) → ((x : A) → o ≡ Some x → f x ≡ g x) → (o >>= f) ≡ (o >>= g)
+then_same None f g h = refl
+then_same (Some x) f g h = h x refl
+
+-- bodies that are the same whatever the parameters stand for
+pub operator_same : (ws : List Written) (σ : Scope) (f g : Scope → Argument) → ((args : List Argument) (τ : Scope) (d : ℕ) → with_parameters ws args σ ≡ Some τ → f τ d ≡ g τ d) → operator ws f σ ≡ operator ws g σ
+operator_same ws σ f g h = (λ i p args d. then_same (with_parameters ws args σ) (λ τ. f τ d) (λ τ. g τ d) (λ τ. h args τ d) i)

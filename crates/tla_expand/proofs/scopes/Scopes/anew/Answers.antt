@@ -1,0 +1,5 @@
+use Rattle.tla_expand.proofs.Links.{scope_zero}
+use Rattle.tla_expand.proofs.scopes.Scopes.anew.Goals as goal
+
+pub returns-clause-current : goal.returns-clause-current
+returns-clause-current c = scope_zero c.args.self.entries.items

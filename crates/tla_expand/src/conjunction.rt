@@ -1,0 +1,80 @@
+//! The expansion of a conjunction whose parts stand apart.
+
+ghost use Rattle.std.specs.Prelude.{◌≡◌, ◌≢◌, ◌≤◌, length, map, Some, IfOk, IfErr};
+ghost use Rattle.std.specs.Borrow.{Bor};
+ghost use Rattle.tla_eval.specs.Expr as expr;
+ghost use Rattle.tla_eval.specs.ExprOf.{expr_of};
+ghost use Rattle.tla_model.specs.Size.{IsWithinLimits};
+ghost use Rattle.tla_parse.specs.declared.tree.Bullet.TheVariants as bullet;
+ghost use Rattle.tla_parse.specs.declared.tree.Expr as syntax;
+ghost use Rattle.tla_parse.specs.Tree.{Junction, trees as trees_of};
+ghost use Rattle.tla_parse.specs.View.{view};
+ghost use Rattle.tla_expand.specs.Expand as expansion;
+ghost use Rattle.tla_expand.specs.Gives.{part_in, pointed, GivesMany};
+ghost use Rattle.tla_expand.specs.Maybe.{each_of};
+ghost use Rattle.tla_expand.specs.Primes.{with_primes};
+ghost use Rattle.tla_expand.specs.Scopes.{AreLinked, scope_at};
+
+use crate::arena::Entry;
+use crate::builders::{many_core, place_of};
+use crate::expand::{Setting, expand, push};
+use crate::expanded::Many as Parts;
+use crate::failure::Failure;
+use crate::nodes::Many;
+use crate::primes::Primes;
+use std::alloc::Global;
+use tla_eval::Core;
+use tla_lex::Place;
+use tla_parse::Expr;
+
+/// Expressions of one scope that stand apart, with at most 199,999 nodes, of which at most 299 on a path.
+fn each_apart<'a>(
+    alloc: Global,
+    entries: &mut Vec<Entry<'a>>,
+    trees: &[&'a Expr],
+    scope: usize,
+    primes: Primes,
+    sought: Option<Primes>,
+) -> Result<Parts, Failure>
+    requires linked { AreLinked entries.old.items }
+    requires scope { scope ≤ length entries.old.items }
+    ensures same { GivesMany 299 199999 result (each_of (part_in primes (scope_at entries.old.items scope) 0) (pointed trees.now)) }
+{
+    let mut parts = Vec::new(alloc);
+    let mut left = 199_999;
+    for i in 0..trees.len() {
+        let at = Setting {
+            scope,
+            primes,
+            bound: 0,
+            room: 299,
+            left,
+            sought,
+        };
+        let part = expand(alloc, entries, trees[i], at)?;
+        left = part.left;
+        push(&mut parts, part.core)?;
+    }
+    Ok(Parts { parts, left })
+}
+
+/// The expansion of a conjunction in a scope, under so many primes, with at most 200,000 nodes, of which at most 300 on
+/// a path.
+pub(crate) fn conjunction<'a>(
+    alloc: Global,
+    entries: &mut Vec<Entry<'a>>,
+    place: Place,
+    trees: &[&'a Expr],
+    scope: usize,
+    primes: Primes,
+    sought: Option<Primes>,
+) -> Result<Core, Failure>
+    requires linked { AreLinked entries.old.items }
+    requires scope { scope ≤ length entries.old.items }
+    ensures found { IfOk result (λ c. with_primes primes (expansion.expand (Junction place bullet.And (trees_of (map (λ (t : Bor syntax.Expr). view t.now) trees.now))) (scope_at entries.old.items scope) 0) ≡ Some (expr_of c)) }
+    ensures limits { IfOk result (λ c. IsWithinLimits (expr_of c)) }
+    ensures none { IfErr result (λ f. f ≢ Failure.Memory → (e : expr.Expr) → with_primes primes (expansion.expand (Junction place bullet.And (trees_of (map (λ (t : Bor syntax.Expr). view t.now) trees.now))) (scope_at entries.old.items scope) 0) ≡ Some e → IsWithinLimits e → ⊥) }
+{
+    let many = each_apart(alloc, entries, trees, scope, primes, sought)?;
+    Ok(many_core(place_of(place), Many::And, many.parts))
+}

@@ -1,0 +1,238 @@
+//! UNCHANGED.
+
+ghost use Rattle.std.specs.Prelude.{◌≡◌, ◌≤◌, ◌<◌, ◌+◌, length, OnOk};
+ghost use Rattle.tla_expand.specs.Nodes as nodes;
+ghost use Rattle.tla_expand.specs.Maybe.{each_of};
+ghost use Rattle.tla_expand.specs.Primes.{settled_primes};
+ghost use Rattle.tla_expand.specs.Scopes.{AreLinked, scope_at};
+ghost use Rattle.tla_expand.specs.Forms.{tuple_parts};
+ghost use Rattle.tla_expand.specs.Gives.{kept_part, changed_in, part_in, both, made, Gives, GivesMany};
+
+use crate::arena::Entry;
+use crate::builders::{kept_core, two_core};
+use crate::expand::levels::{changed_subscript, kept_parts, kept_subscript, told_at};
+use crate::expand::lists::push;
+use crate::expand::{Setting, expand, two_parts};
+use crate::expanded::{Expanded, Many as Parts};
+use crate::failure::Failure;
+use crate::heads::find_head;
+use crate::nodes::{Form, Many, Two};
+use crate::primes::{Primes, one_more};
+use std::alloc::Global;
+use tla_eval::{Binary, Place};
+use tla_parse::Expr;
+
+/// How UNCHANGED is read under so many primes.
+pub(super) fn settled(primes: Primes) -> Primes
+    ensures { result ≡ settled_primes primes }
+{
+    match primes {
+        Primes::Never => Primes::Never,
+        Primes::Once | Primes::Twice => Primes::Twice,
+    }
+}
+
+/// The parts of a tuple.
+fn tuple_items<'a>(form: Form<'a>) -> Option<&'a [Expr]>
+    ensures { result ≡ tuple_parts form.entry }
+{
+    match form {
+        Form::Many(_, Many::Tuple, items) => Some(items),
+        _ => None,
+    }
+}
+
+/// UNCHANGED of an expression under so many primes. Its node is above the limits that are set for its parts.
+#[cycle(expand)]
+pub(super) fn kept<'a>(
+    alloc: Global,
+    entries: &mut Vec<Entry<'a>>,
+    place: Place,
+    tree: &'a Expr,
+    at: Setting,
+) -> Result<Expanded, Failure>
+    requires linked { AreLinked entries.old.items }
+    requires scope { at.scope ≤ length entries.old.items }
+    requires small { at.bound + at.left < 1000000 }
+    ensures kept { OnOk result (entries.new.items ≡ entries.old.items) }
+    ensures same { Gives (at.room + 1) (at.left + 1) result (kept_part at.primes place (scope_at entries.old.items at.scope) at.bound tree.now) }
+{
+    let mark = entries.len();
+    let found = find_head(entries, tree, at.scope, at.primes)?;
+    match tuple_items(found.form) {
+        Some(items) => {
+            let inside = Setting {
+                scope: found.scope,
+                primes: found.primes,
+                ..at
+            };
+            let many = kept_each(alloc, entries, place, items, inside)?;
+            entries.truncate(mark);
+            Ok(Expanded {
+                core: kept_core(place, many.parts),
+                left: many.left,
+            })
+        }
+        None => {
+            entries.truncate(mark);
+            let more = one_more(at.primes);
+            let told = told_at(at.sought, found.form, place);
+            let two = kept_parts(alloc, entries, tree, more, told, at)?;
+            let core = two_core(alloc, place, Two::Equal, two.first, two.second)?;
+            Ok(Expanded {
+                core,
+                left: two.left,
+            })
+        }
+    }
+}
+
+/// UNCHANGED of expressions of one scope.
+#[cycle(expand)]
+fn kept_each<'a>(
+    alloc: Global,
+    entries: &mut Vec<Entry<'a>>,
+    place: Place,
+    trees: &'a [Expr],
+    at: Setting,
+) -> Result<Parts, Failure>
+    requires linked { AreLinked entries.old.items }
+    requires scope { at.scope ≤ length entries.old.items }
+    requires small { at.bound + at.left ≤ 1000000 }
+    ensures kept { OnOk result (entries.new.items ≡ entries.old.items) }
+    ensures same { GivesMany at.room at.left result (each_of (kept_part at.primes place (scope_at entries.old.items at.scope) at.bound) trees.now) }
+{
+    let mut parts = Vec::new(alloc);
+    let mut left = at.left;
+    for i in 0..trees.len() {
+        let part = kept_one(alloc, entries, place, &trees[i], Setting { left, ..at })?;
+        left = part.left;
+        push(&mut parts, part.core)?;
+    }
+    Ok(Parts { parts, left })
+}
+
+/// UNCHANGED of an expression.
+#[cycle(expand)]
+#[tactic(auto, using(crate::proofs::Sizes::no_room, crate::proofs::Sizes::none_left))]
+pub(super) fn kept_one<'a>(
+    alloc: Global,
+    entries: &mut Vec<Entry<'a>>,
+    place: Place,
+    tree: &'a Expr,
+    at: Setting,
+) -> Result<Expanded, Failure>
+    requires linked { AreLinked entries.old.items }
+    requires scope { at.scope ≤ length entries.old.items }
+    requires small { at.bound + at.left ≤ 1000000 }
+    ensures kept { OnOk result (entries.new.items ≡ entries.old.items) }
+    ensures same { Gives at.room at.left result (kept_part at.primes place (scope_at entries.old.items at.scope) at.bound tree.now) }
+{
+    if at.room == 0 {
+        return Err(Failure::TooLarge);
+    }
+    if at.left == 0 {
+        return Err(Failure::TooLarge);
+    }
+    let inside = Setting {
+        room: at.room - 1,
+        left: at.left - 1,
+        ..at
+    };
+    kept(alloc, entries, place, tree, inside)
+}
+
+/// `v' # v`.
+#[cycle(expand)]
+pub(super) fn changed<'a>(
+    alloc: Global,
+    entries: &mut Vec<Entry<'a>>,
+    place: Place,
+    tree: &'a Expr,
+    at: Setting,
+) -> Result<Expanded, Failure>
+    requires linked { AreLinked entries.old.items }
+    requires scope { at.scope ≤ length entries.old.items }
+    requires small { at.bound + at.left ≤ 1000000 }
+    ensures kept { OnOk result (entries.new.items ≡ entries.old.items) }
+    ensures same { Gives at.room at.left result (changed_in at.primes place (scope_at entries.old.items at.scope) at.bound tree.now) }
+{
+    if at.room == 0 {
+        return Err(Failure::TooLarge);
+    }
+    if at.left == 0 {
+        return Err(Failure::TooLarge);
+    }
+    let inside = Setting {
+        room: at.room - 1,
+        left: at.left - 1,
+        ..at
+    };
+    let more = one_more(at.primes);
+    let two = two_parts(alloc, entries, tree, tree, more, inside)?;
+    let core = two_core(
+        alloc,
+        place,
+        Two::Binary(Binary::Unequal),
+        two.first,
+        two.second,
+    )?;
+    Ok(Expanded {
+        core,
+        left: two.left,
+    })
+}
+
+/// `[A]_v`, where v stands at this place.
+#[cycle(expand)]
+pub(super) fn square_node<'a>(
+    alloc: Global,
+    entries: &mut Vec<Entry<'a>>,
+    place: Place,
+    action: &'a Expr,
+    place_v: Place,
+    v: &'a Expr,
+    at: Setting,
+) -> Result<Expanded, Failure>
+    requires linked { AreLinked entries.old.items }
+    requires scope { at.scope ≤ length entries.old.items }
+    requires small { at.bound + at.left ≤ 1000000 }
+    ensures kept { OnOk result (entries.new.items ≡ entries.old.items) }
+    ensures same { Gives (at.room + 1) (at.left + 1) result (made (λ xy. nodes.two Two.Or place xy.0 xy.1) (both (part_in at.primes (scope_at entries.old.items at.scope) at.bound action.now) (kept_part (settled_primes at.primes) place_v (scope_at entries.old.items at.scope) at.bound v.now))) }
+{
+    let action = expand(alloc, entries, action, at)?;
+    let left = action.left;
+    let kept = kept_subscript(alloc, entries, place_v, v, Setting { left, ..at })?;
+    let core = two_core(alloc, place, Two::Or, action.core, kept.core)?;
+    Ok(Expanded {
+        core,
+        left: kept.left,
+    })
+}
+
+/// `<<A>>_v`, where v stands at this place.
+#[cycle(expand)]
+pub(super) fn angle_node<'a>(
+    alloc: Global,
+    entries: &mut Vec<Entry<'a>>,
+    place: Place,
+    action: &'a Expr,
+    place_v: Place,
+    v: &'a Expr,
+    at: Setting,
+) -> Result<Expanded, Failure>
+    requires linked { AreLinked entries.old.items }
+    requires scope { at.scope ≤ length entries.old.items }
+    requires small { at.bound + at.left ≤ 1000000 }
+    ensures kept { OnOk result (entries.new.items ≡ entries.old.items) }
+    ensures same { Gives (at.room + 1) (at.left + 1) result (made (λ xy. nodes.two Two.And place xy.0 xy.1) (both (part_in at.primes (scope_at entries.old.items at.scope) at.bound action.now) (changed_in at.primes place_v (scope_at entries.old.items at.scope) at.bound v.now))) }
+{
+    let action = expand(alloc, entries, action, at)?;
+    let left = action.left;
+    let changed = changed_subscript(alloc, entries, place_v, v, Setting { left, ..at })?;
+    let core = two_core(alloc, place, Two::And, action.core, changed.core)?;
+    Ok(Expanded {
+        core,
+        left: changed.left,
+    })
+}

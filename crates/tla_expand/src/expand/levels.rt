@@ -1,0 +1,237 @@
+//! Which expression a refusal names whose level is too high. It is told of the whole only after its parts: first what is
+//! refused in an operand, then a prime on it, UNCHANGED of it, or it as a subscript.
+
+ghost use Rattle.std.specs.Prelude.{◌≡◌, ◌≤◌, ◌<◌, ◌+◌, length, OnOk, IfErr};
+ghost use Rattle.tla_expand.specs.Primes.{settled_primes, with_primes};
+ghost use Rattle.tla_expand.specs.Scopes.{AreLinked, scope_at};
+ghost use Rattle.tla_expand.specs.Forms.{form_in};
+ghost use Rattle.tla_expand.specs.Gives.{kept_part, changed_in, part_in, both, Gives, GivesTwo, SaysNone};
+
+use crate::arena::Entry;
+use crate::expand::kept::{changed, kept, settled};
+use crate::expand::{Setting, expand, node_of, two_parts};
+use crate::expanded::{Expanded, Two as Pair};
+use crate::failure::Failure;
+use crate::heads::{Head, find_head};
+use crate::nodes::Form;
+use crate::primes::{Primes, are_fewer};
+use std::alloc::Global;
+use tla_eval::Place;
+use tla_parse::Expr;
+
+/// Whether a refusal under these primes has to name the first expression of too high a level.
+fn is_sought(sought: Option<Primes>, primes: Primes) -> bool {
+    match sought {
+        Some(level) => level == primes,
+        None => false,
+    }
+}
+
+/// Where UNCHANGED of a form is told: in an action at the form, in a state at the place of its own.
+pub(super) fn told_at(sought: Option<Primes>, form: Form<'_>, place: Place) -> Place {
+    match sought {
+        Some(Primes::Never) => form.place(),
+        _ => place,
+    }
+}
+
+/// Where primes on a form are told: in an action at the form, in a state at the last of them.
+fn primed_at(head: Head<'_>, outer: Primes) -> Place {
+    match outer {
+        Primes::Never => head.form.place(),
+        Primes::Once | Primes::Twice => match head.primed {
+            Some(place) => place,
+            None => head.form.place(),
+        },
+    }
+}
+
+/// Looks for what has no expansion in a form. No other failure says anything.
+#[cycle(expand)]
+fn look_at_form<'a>(
+    alloc: Global,
+    entries: &mut Vec<Entry<'a>>,
+    form: Form<'a>,
+    at: Setting,
+) -> Result<(), Failure>
+    requires linked { AreLinked entries.old.items }
+    requires scope { at.scope ≤ length entries.old.items }
+    requires small { at.bound + at.left < 1000000 }
+    ensures kept { OnOk result (entries.new.items ≡ entries.old.items) }
+    ensures none { IfErr result (λ f. SaysNone f (with_primes at.primes (form_in form.entry (scope_at entries.old.items at.scope) at.bound))) }
+{
+    match node_of(alloc, entries, form, at) {
+        Ok(_) => Ok(()),
+        Err(Failure::NoExpansion(place)) => Err(Failure::NoExpansion(place)),
+        Err(_) => Err(Failure::Memory),
+    }
+}
+
+/// Looks for what has no expansion in an expression, where that is sought. No other failure says anything.
+#[cycle(expand)]
+fn look_at<'a>(
+    alloc: Global,
+    entries: &mut Vec<Entry<'a>>,
+    tree: &'a Expr,
+    at: Setting,
+) -> Result<(), Failure>
+    requires linked { AreLinked entries.old.items }
+    requires scope { at.scope ≤ length entries.old.items }
+    requires small { at.bound + at.left ≤ 1000000 }
+    ensures kept { OnOk result (entries.new.items ≡ entries.old.items) }
+    ensures none { IfErr result (λ f. SaysNone f (part_in at.primes (scope_at entries.old.items at.scope) at.bound tree.now)) }
+{
+    if !is_sought(at.sought, at.primes) {
+        return Ok(());
+    }
+    match expand(alloc, entries, tree, at) {
+        Ok(_) => Ok(()),
+        Err(Failure::NoExpansion(place)) => Err(Failure::NoExpansion(place)),
+        Err(_) => Err(Failure::Memory),
+    }
+}
+
+/// The node of a form behind primes that were met on the way to it, and under outer ones.
+#[cycle(expand)]
+pub(super) fn node_behind<'a>(
+    alloc: Global,
+    entries: &mut Vec<Entry<'a>>,
+    head: Head<'a>,
+    outer: Primes,
+    at: Setting,
+) -> Result<Expanded, Failure>
+    requires linked { AreLinked entries.old.items }
+    requires scope { at.scope ≤ length entries.old.items }
+    requires small { at.bound + at.left < 1000000 }
+    ensures kept { OnOk result (entries.new.items ≡ entries.old.items) }
+    ensures same { Gives (at.room + 1) (at.left + 1) result (with_primes at.primes (form_in head.entry.form (scope_at entries.old.items at.scope) at.bound)) }
+{
+    if !is_sought(at.sought, outer) {
+        return node_of(alloc, entries, head.form, at);
+    }
+    if !are_fewer(outer, at.primes) {
+        return node_of(alloc, entries, head.form, at);
+    }
+    let before = Setting {
+        primes: outer,
+        ..at
+    };
+    look_at_form(alloc, entries, head.form, before)?;
+    match node_of(alloc, entries, head.form, at) {
+        Err(Failure::NoExpansion(_)) => Err(Failure::NoExpansion(primed_at(head, outer))),
+        made => made,
+    }
+}
+
+/// UNCHANGED of an expression. Its node is above the limits that are set for its parts.
+#[cycle(expand)]
+pub(super) fn unchanged_node<'a>(
+    alloc: Global,
+    entries: &mut Vec<Entry<'a>>,
+    place: Place,
+    tree: &'a Expr,
+    at: Setting,
+) -> Result<Expanded, Failure>
+    requires linked { AreLinked entries.old.items }
+    requires scope { at.scope ≤ length entries.old.items }
+    requires small { at.bound + at.left < 1000000 }
+    ensures kept { OnOk result (entries.new.items ≡ entries.old.items) }
+    ensures same { Gives (at.room + 1) (at.left + 1) result (kept_part (settled_primes at.primes) place (scope_at entries.old.items at.scope) at.bound tree.now) }
+{
+    look_at(alloc, entries, tree, at)?;
+    let primes = settled(at.primes);
+    kept(alloc, entries, place, tree, Setting { primes, ..at })
+}
+
+/// An expression with so many primes, and it with those of the setting. A refusal is told at this place.
+#[cycle(expand)]
+pub(super) fn kept_parts<'a>(
+    alloc: Global,
+    entries: &mut Vec<Entry<'a>>,
+    tree: &'a Expr,
+    primes: Primes,
+    told: Place,
+    at: Setting,
+) -> Result<Pair, Failure>
+    requires linked { AreLinked entries.old.items }
+    requires scope { at.scope ≤ length entries.old.items }
+    requires small { at.bound + at.left ≤ 1000000 }
+    ensures kept { OnOk result (entries.new.items ≡ entries.old.items) }
+    ensures same { GivesTwo at.room at.left result (both (part_in primes (scope_at entries.old.items at.scope) at.bound tree.now) (part_in at.primes (scope_at entries.old.items at.scope) at.bound tree.now)) }
+{
+    match two_parts(alloc, entries, tree, tree, primes, at) {
+        Err(Failure::NoExpansion(_)) => Err(Failure::NoExpansion(told)),
+        made => made,
+    }
+}
+
+/// UNCHANGED of the subscript of an action that stutters.
+#[cycle(expand)]
+#[tactic(auto, using(crate::proofs::Sizes::no_room, crate::proofs::Sizes::none_left))]
+pub(super) fn kept_subscript<'a>(
+    alloc: Global,
+    entries: &mut Vec<Entry<'a>>,
+    place: Place,
+    tree: &'a Expr,
+    at: Setting,
+) -> Result<Expanded, Failure>
+    requires linked { AreLinked entries.old.items }
+    requires scope { at.scope ≤ length entries.old.items }
+    requires small { at.bound + at.left ≤ 1000000 }
+    ensures kept { OnOk result (entries.new.items ≡ entries.old.items) }
+    ensures same { Gives at.room at.left result (kept_part (settled_primes at.primes) place (scope_at entries.old.items at.scope) at.bound tree.now) }
+{
+    if at.room == 0 {
+        return Err(Failure::TooLarge);
+    }
+    if at.left == 0 {
+        return Err(Failure::TooLarge);
+    }
+    let inside = Setting {
+        room: at.room - 1,
+        left: at.left - 1,
+        ..at
+    };
+    unchanged_node(alloc, entries, place, tree, inside)
+}
+
+/// Where a subscript that changes is told: in an action at its form, in a state at this place.
+fn changed_at<'a>(
+    entries: &mut Vec<Entry<'a>>,
+    tree: &'a Expr,
+    place: Place,
+    at: Setting,
+) -> Result<Place, Failure>
+    requires linked { AreLinked entries.old.items }
+    requires scope { at.scope ≤ length entries.old.items }
+    ensures kept { OnOk result (entries.new.items ≡ entries.old.items) }
+    ensures none { IfErr result (λ f. SaysNone f (part_in at.primes (scope_at entries.old.items at.scope) at.bound tree.now)) }
+{
+    let mark = entries.len();
+    let found = find_head(entries, tree, at.scope, at.primes)?;
+    entries.truncate(mark);
+    Ok(told_at(at.sought, found.form, place))
+}
+
+/// `v' # v` for the subscript of an action.
+#[cycle(expand)]
+pub(super) fn changed_subscript<'a>(
+    alloc: Global,
+    entries: &mut Vec<Entry<'a>>,
+    place: Place,
+    tree: &'a Expr,
+    at: Setting,
+) -> Result<Expanded, Failure>
+    requires linked { AreLinked entries.old.items }
+    requires scope { at.scope ≤ length entries.old.items }
+    requires small { at.bound + at.left ≤ 1000000 }
+    ensures kept { OnOk result (entries.new.items ≡ entries.old.items) }
+    ensures same { Gives at.room at.left result (changed_in at.primes place (scope_at entries.old.items at.scope) at.bound tree.now) }
+{
+    look_at(alloc, entries, tree, at)?;
+    let told = changed_at(entries, tree, place, at)?;
+    match changed(alloc, entries, place, tree, at) {
+        Err(Failure::NoExpansion(_)) => Err(Failure::NoExpansion(told)),
+        made => made,
+    }
+}

@@ -1,0 +1,182 @@
+//! Lists of expressions of one scope.
+
+ghost use Rattle.std.specs.Prelude.{◌≡◌, ◌≤◌, ◌+◌, ◌++◌, ◌∷◌, [], length, Some, IfErr, OnOk};
+ghost use Rattle.tla_eval.specs.Expr as expr;
+ghost use Rattle.tla_expand.specs.Maybe.{each_of};
+ghost use Rattle.tla_expand.specs.Lists.{exprs};
+ghost use Rattle.tla_expand.specs.Scopes.{AreLinked, scope_at};
+ghost use Rattle.tla_expand.specs.Gives.{part_in, key_in, arm_in, field_in, made, Gives, GivesMany, GivesArms, GivesFields};
+
+use crate::arena::Entry;
+use crate::builders::{place_of, text_of, tuple};
+use crate::expand::{Setting, expand, two_parts};
+use crate::expanded::{Arms, Expanded, Fields, Many};
+use crate::failure::Failure;
+use std::alloc::Global;
+use tla_eval::{Core, Place};
+use tla_parse::{Arm, Expr, Field};
+use tla_value::Text;
+
+pub(crate) fn push(parts: &mut Vec<Core>, core: Core) -> Result<(), Failure>
+    ensures ok { OnOk result (parts.new.items ≡ parts.old.items ++ core ∷ []) }
+    ensures err { IfErr result (λ e. e ≡ Failure.Memory) }
+{
+    match parts.push(core) {
+        Ok(()) => Ok(()),
+        Err(_) => Err(Failure::Memory),
+    }
+}
+
+fn push_arm(arms: &mut Vec<(Core, Core)>, arm: (Core, Core)) -> Result<(), Failure>
+    ensures ok { OnOk result (arms.new.items ≡ arms.old.items ++ arm ∷ []) }
+    ensures err { IfErr result (λ e. e ≡ Failure.Memory) }
+{
+    match arms.push(arm) {
+        Ok(()) => Ok(()),
+        Err(_) => Err(Failure::Memory),
+    }
+}
+
+/// Expressions of one scope.
+#[cycle(expand)]
+pub(super) fn each<'a>(
+    alloc: Global,
+    entries: &mut Vec<Entry<'a>>,
+    trees: &'a [Expr],
+    at: Setting,
+) -> Result<Many, Failure>
+    requires linked { AreLinked entries.old.items }
+    requires scope { at.scope ≤ length entries.old.items }
+    requires small { at.bound + at.left ≤ 1000000 }
+    ensures kept { OnOk result (entries.new.items ≡ entries.old.items) }
+    ensures same { GivesMany at.room at.left result (each_of (part_in at.primes (scope_at entries.old.items at.scope) at.bound) trees.now) }
+{
+    let mut parts = Vec::new(alloc);
+    let mut left = at.left;
+    for i in 0..trees.len() {
+        let part = expand(alloc, entries, &trees[i], Setting { left, ..at })?;
+        left = part.left;
+        push(&mut parts, part.core)?;
+    }
+    Ok(Many { parts, left })
+}
+
+/// The argument of a function: one expression, or the tuple of several.
+#[cycle(expand)]
+pub(super) fn key<'a>(
+    alloc: Global,
+    entries: &mut Vec<Entry<'a>>,
+    place: Place,
+    items: &'a [Expr],
+    at: Setting,
+) -> Result<Expanded, Failure>
+    requires linked { AreLinked entries.old.items }
+    requires scope { at.scope ≤ length entries.old.items }
+    requires small { at.bound + at.left ≤ 1000000 }
+    ensures kept { OnOk result (entries.new.items ≡ entries.old.items) }
+    ensures same { Gives at.room at.left result (key_in at.primes (scope_at entries.old.items at.scope) at.bound items.now) }
+{
+    match items {
+        [] => Err(Failure::NoExpansion(place)),
+        [item] => expand(alloc, entries, item, at),
+        [first, ..] => {
+            let place = place_of(first.place());
+            tuple_of(alloc, entries, place, items, at)
+        }
+    }
+}
+
+/// A tuple of expressions.
+#[cycle(expand)]
+fn tuple_of<'a>(
+    alloc: Global,
+    entries: &mut Vec<Entry<'a>>,
+    place: Place,
+    items: &'a [Expr],
+    at: Setting,
+) -> Result<Expanded, Failure>
+    requires linked { AreLinked entries.old.items }
+    requires scope { at.scope ≤ length entries.old.items }
+    requires small { at.bound + at.left ≤ 1000000 }
+    ensures kept { OnOk result (entries.new.items ≡ entries.old.items) }
+    ensures same { Gives at.room at.left result (made (λ xs. expr.tuple place (exprs xs)) (each_of (part_in at.primes (scope_at entries.old.items at.scope) at.bound) items.now)) }
+{
+    if at.room == 0 {
+        return Err(Failure::TooLarge);
+    }
+    if at.left == 0 {
+        return Err(Failure::TooLarge);
+    }
+    let inside = Setting {
+        room: at.room - 1,
+        left: at.left - 1,
+        ..at
+    };
+    let many = each(alloc, entries, items, inside)?;
+    Ok(Expanded {
+        core: tuple(place, many.parts),
+        left: many.left,
+    })
+}
+
+/// The arms of CASE.
+#[cycle(expand)]
+pub(super) fn arms_of<'a>(
+    alloc: Global,
+    entries: &mut Vec<Entry<'a>>,
+    arms: &'a [Arm],
+    at: Setting,
+) -> Result<Arms, Failure>
+    requires linked { AreLinked entries.old.items }
+    requires scope { at.scope ≤ length entries.old.items }
+    requires small { at.bound + at.left ≤ 1000000 }
+    ensures kept { OnOk result (entries.new.items ≡ entries.old.items) }
+    ensures same { GivesArms at.room at.left result (each_of (arm_in at.primes (scope_at entries.old.items at.scope) at.bound) arms.now) }
+{
+    let mut made = Vec::new(alloc);
+    let mut left = at.left;
+    for i in 0..arms.len() {
+        let arm = &arms[i];
+        let inside = Setting { left, ..at };
+        let two = two_parts(alloc, entries, &arm.guard, &arm.value, at.primes, inside)?;
+        left = two.left;
+        push_arm(&mut made, (two.first, two.second))?;
+    }
+    Ok(Arms { arms: made, left })
+}
+
+fn push_field(fields: &mut Vec<(Text, Core)>, field: (Text, Core)) -> Result<(), Failure>
+    ensures ok { OnOk result (fields.new.items ≡ fields.old.items ++ field ∷ []) }
+    ensures err { IfErr result (λ e. e ≡ Failure.Memory) }
+{
+    match fields.push(field) {
+        Ok(()) => Ok(()),
+        Err(_) => Err(Failure::Memory),
+    }
+}
+
+/// The parts of fields, with the fields' names.
+#[cycle(expand)]
+pub(super) fn named_parts<'a>(
+    alloc: Global,
+    entries: &mut Vec<Entry<'a>>,
+    fields: &'a [Field],
+    at: Setting,
+) -> Result<Fields, Failure>
+    requires linked { AreLinked entries.old.items }
+    requires scope { at.scope ≤ length entries.old.items }
+    requires small { at.bound + at.left ≤ 1000000 }
+    ensures kept { OnOk result (entries.new.items ≡ entries.old.items) }
+    ensures same { GivesFields at.room at.left result (each_of (field_in at.primes (scope_at entries.old.items at.scope) at.bound) fields.now) }
+{
+    let mut made = Vec::new(alloc);
+    let mut left = at.left;
+    for i in 0..fields.len() {
+        let field = &fields[i];
+        let part = expand(alloc, entries, &field.value, Setting { left, ..at })?;
+        left = part.left;
+        let name = text_of(alloc, &field.name.word)?;
+        push_field(&mut made, (name, part.core))?;
+    }
+    Ok(Fields { fields: made, left })
+}

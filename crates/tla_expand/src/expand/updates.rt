@@ -1,0 +1,205 @@
+//! EXCEPT.
+
+ghost use Rattle.std.specs.Prelude.{◌≡◌, ◌≤◌, ◌<◌, ◌+◌, ◌++◌, ◌∷◌, [], length, Some, IfErr, OnOk};
+ghost use Rattle.tla_value.specs.Tree as value;
+ghost use Rattle.tla_eval.specs.Expr as expr;
+ghost use Rattle.tla_expand.specs.Places as places;
+ghost use Rattle.tla_expand.specs.Maybe.{each_of};
+ghost use Rattle.tla_expand.specs.Lists.{updates_of};
+ghost use Rattle.tla_expand.specs.Scopes.{AreLinked, scope_at};
+ghost use Rattle.tla_expand.specs.Gives.{both, made, part_in, step_in, update_in, value_in, Gives, GivesMany, GivesChange, GivesChanges};
+
+use crate::arena::{Entry, What, enter};
+use crate::builders::{except_core, place_of};
+use crate::expand::lists::{key, push};
+use crate::expand::{Setting, expand, leaf_of};
+use crate::expanded::{Change, Changes, Expanded, Many};
+use crate::failure::Failure;
+use crate::nodes::Leaf;
+use std::alloc::Global;
+use tla_eval::{Core, Place};
+use tla_parse::{Expr, Key, Update, Written};
+
+/// EXCEPT.
+#[cycle(expand)]
+pub(super) fn except_node<'a>(
+    alloc: Global,
+    entries: &mut Vec<Entry<'a>>,
+    place: Place,
+    function: &'a Expr,
+    updates: &'a [Update],
+    at: Setting,
+) -> Result<Expanded, Failure>
+    requires linked { AreLinked entries.old.items }
+    requires scope { at.scope ≤ length entries.old.items }
+    requires small { at.bound + at.left < 1000000 }
+    ensures kept { OnOk result (entries.new.items ≡ entries.old.items) }
+    ensures same { Gives (at.room + 1) (at.left + 1) result (made (λ xs. expr.except place xs.0 (updates_of xs.1)) (both (part_in at.primes (scope_at entries.old.items at.scope) at.bound function.now) (each_of (update_in at.primes (scope_at entries.old.items at.scope) at.bound) updates.now))) }
+{
+    let function = expand(alloc, entries, function, at)?;
+    let left = function.left;
+    let made = changes(alloc, entries, place, updates, Setting { left, ..at })?;
+    let core = except_core(alloc, place, function.core, made.updates)?;
+    Ok(Expanded {
+        core,
+        left: made.left,
+    })
+}
+
+fn push_update(
+    updates: &mut Vec<(Vec<Core>, Core)>,
+    update: (Vec<Core>, Core),
+) -> Result<(), Failure>
+    ensures ok { OnOk result (updates.new.items ≡ updates.old.items ++ update ∷ []) }
+    ensures err { IfErr result (λ e. e ≡ Failure.Memory) }
+{
+    match updates.push(update) {
+        Ok(()) => Ok(()),
+        Err(_) => Err(Failure::Memory),
+    }
+}
+
+/// The updates of an EXCEPT that stands at this place.
+#[cycle(expand)]
+fn changes<'a>(
+    alloc: Global,
+    entries: &mut Vec<Entry<'a>>,
+    place: Place,
+    updates: &'a [Update],
+    at: Setting,
+) -> Result<Changes, Failure>
+    requires linked { AreLinked entries.old.items }
+    requires scope { at.scope ≤ length entries.old.items }
+    requires small { at.bound + at.left < 1000000 }
+    ensures kept { OnOk result (entries.new.items ≡ entries.old.items) }
+    ensures same { GivesChanges at.room at.left result (each_of (update_in at.primes (scope_at entries.old.items at.scope) at.bound) updates.now) }
+{
+    let mut made = Vec::new(alloc);
+    let mut left = at.left;
+    for i in 0..updates.len() {
+        let change = change(alloc, entries, place, &updates[i], Setting { left, ..at })?;
+        left = change.left;
+        push_update(&mut made, (change.path, change.value))?;
+    }
+    Ok(Changes {
+        updates: made,
+        left,
+    })
+}
+
+/// One update.
+#[cycle(expand)]
+fn change<'a>(
+    alloc: Global,
+    entries: &mut Vec<Entry<'a>>,
+    place: Place,
+    update: &'a Update,
+    at: Setting,
+) -> Result<Change, Failure>
+    requires linked { AreLinked entries.old.items }
+    requires scope { at.scope ≤ length entries.old.items }
+    requires small { at.bound + at.left < 1000000 }
+    ensures kept { OnOk result (entries.new.items ≡ entries.old.items) }
+    ensures same { GivesChange at.room at.left result (update_in at.primes (scope_at entries.old.items at.scope) at.bound update.now) }
+{
+    let path = path_of(alloc, entries, place, update.path.as_slice(), at)?;
+    let left = path.left;
+    let value = new_value(alloc, entries, &update.value, Setting { left, ..at })?;
+    Ok(Change {
+        path: path.parts,
+        value: value.core,
+        left: value.left,
+    })
+}
+
+/// A new value, in which `@` is the name of the old one.
+#[cycle(expand)]
+fn new_value<'a>(
+    alloc: Global,
+    entries: &mut Vec<Entry<'a>>,
+    value: &'a Expr,
+    at: Setting,
+) -> Result<Expanded, Failure>
+    requires linked { AreLinked entries.old.items }
+    requires scope { at.scope ≤ length entries.old.items }
+    requires small { at.bound + at.left < 1000000 }
+    ensures kept { OnOk result (entries.new.items ≡ entries.old.items) }
+    ensures same { Gives at.room at.left result (value_in at.primes (scope_at entries.old.items at.scope) at.bound value.now) }
+{
+    let mark = entries.len();
+    let entry = Entry {
+        name: b"@".as_slice(),
+        what: What::Bound(at.bound),
+        rest: at.scope,
+    };
+    let scope = enter(entries, entry)?;
+    let inside = Setting {
+        scope,
+        bound: at.bound + 1,
+        ..at
+    };
+    let value = expand(alloc, entries, value, inside)?;
+    entries.truncate(mark);
+    Ok(value)
+}
+
+/// The keys of a path.
+#[cycle(expand)]
+fn path_of<'a>(
+    alloc: Global,
+    entries: &mut Vec<Entry<'a>>,
+    place: Place,
+    keys: &'a [Key],
+    at: Setting,
+) -> Result<Many, Failure>
+    requires linked { AreLinked entries.old.items }
+    requires scope { at.scope ≤ length entries.old.items }
+    requires small { at.bound + at.left ≤ 1000000 }
+    ensures kept { OnOk result (entries.new.items ≡ entries.old.items) }
+    ensures same { GivesMany at.room at.left result (each_of (step_in at.primes (scope_at entries.old.items at.scope) at.bound) keys.now) }
+{
+    let mut parts = Vec::new(alloc);
+    let mut left = at.left;
+    for i in 0..keys.len() {
+        let part = step_of(alloc, entries, place, &keys[i], Setting { left, ..at })?;
+        left = part.left;
+        push(&mut parts, part.core)?;
+    }
+    Ok(Many { parts, left })
+}
+
+/// A key: an argument, or the name of a field as a text.
+#[cycle(expand)]
+fn step_of<'a>(
+    alloc: Global,
+    entries: &mut Vec<Entry<'a>>,
+    place: Place,
+    step: &'a Key,
+    at: Setting,
+) -> Result<Expanded, Failure>
+    requires linked { AreLinked entries.old.items }
+    requires scope { at.scope ≤ length entries.old.items }
+    requires small { at.bound + at.left ≤ 1000000 }
+    ensures kept { OnOk result (entries.new.items ≡ entries.old.items) }
+    ensures same { Gives at.room at.left result (step_in at.primes (scope_at entries.old.items at.scope) at.bound step.now) }
+{
+    match step {
+        Key::Index(items) => key(alloc, entries, place, items.as_slice(), at),
+        Key::Field(name) => field_key(alloc, name, at),
+    }
+}
+
+/// The name of a field, as a text.
+#[tactic(auto, using(crate::proofs::Sizes::no_room, crate::proofs::Sizes::none_left))]
+fn field_key(alloc: Global, name: &Written, at: Setting) -> Result<Expanded, Failure>
+    ensures { Gives at.room at.left result (Some (expr.constant (places.place_of name.now.place) (value.text name.now.word))) }
+{
+    if at.room == 0 {
+        return Err(Failure::TooLarge);
+    }
+    if at.left == 0 {
+        return Err(Failure::TooLarge);
+    }
+    let place = place_of(name.place);
+    leaf_of(alloc, place, Leaf::Text(&name.word), at.primes, at.left - 1)
+}

@@ -1,0 +1,99 @@
+//! Bodies of definitions, each brought to the part of it that it comes to. Thus a definition that gives back its
+//! argument costs its uses nothing, however often others that do so stand in its body.
+
+ghost use Rattle.std.specs.Prelude.{◌≡◌, ◌≤◌, ◌<◌, length, ℕ, List, Some, IfSome, IfNone};
+ghost use Rattle.tla_eval.specs.declared.fault.Place.{Place};
+ghost use Rattle.tla_parse.specs.View.{view};
+ghost use Rattle.tla_expand.specs.Meanings.{Scope, Argument, with_parameters, operator};
+ghost use Rattle.tla_expand.specs.Expand.{expand};
+ghost use Rattle.tla_expand.specs.Parameters.{IsAbsent, IsLast};
+ghost use Rattle.tla_expand.specs.Scopes.{AreLinked, scope_at, arguments_in};
+
+use crate::arena::{Entry, What, find};
+use tla_parse::{Expr, Written};
+
+/// The last parameter of a name.
+fn last_of(parameters: &[Written], name: &[u8]) -> Option<usize>
+    ensures within { IfSome result (λ i. i < length parameters.now) }
+    ensures some { IfSome result (λ i. IsLast name.now parameters.now i) }
+    ensures none { IfNone result (IsAbsent name.now parameters.now) }
+{
+    let mut at = parameters.len();
+    while at > 0 {
+        at -= 1;
+        if parameters[at].word.as_bytes() == name {
+            return Some(at);
+        }
+    }
+    None
+}
+
+/// The argument that a use of a name comes to, where its definition is one of its parameters.
+fn chosen<'a>(
+    entries: &[Entry<'a>],
+    scope: usize,
+    name: &[u8],
+    arguments: &'a [Expr],
+) -> Option<&'a Expr>
+    requires linked { AreLinked entries.now }
+    requires within { scope ≤ length entries.now }
+    ensures { IfSome result (λ e. (σ : Scope) (p : Place) (d : ℕ) → scope_at entries.now scope name.now p (arguments_in arguments.now σ) d ≡ expand (view e.now) σ d) }
+{
+    let entry = find(entries, scope, name)?;
+    let What::Definition(parameters, body, _) = entry.what else {
+        return None;
+    };
+    let Expr::Name(parameter) = body else {
+        return None;
+    };
+    if parameters.len() != arguments.len() {
+        return None;
+    }
+    let index = last_of(parameters, parameter.word.as_bytes())?;
+    Some(&arguments[index])
+}
+
+/// The part that a body comes to by one step, whatever its parameters stand for.
+fn part_of<'a>(
+    entries: &[Entry<'a>],
+    scope: usize,
+    parameters: &[Written],
+    body: &'a Expr,
+) -> Option<&'a Expr>
+    requires linked { AreLinked entries.now }
+    requires within { scope ≤ length entries.now }
+    ensures { IfSome result (λ e. (args : List Argument) (σ : Scope) (d : ℕ) → with_parameters parameters.now args (scope_at entries.now scope) ≡ Some σ → expand (view e.now) σ d ≡ expand (view body.now) σ d) }
+{
+    match body {
+        Expr::Paren(_, inner) => Some(inner),
+        Expr::Call(name, arguments) => {
+            let word = name.word.as_bytes();
+            if last_of(parameters, word).is_some() {
+                return None;
+            }
+            chosen(entries, scope, word, arguments.as_slice())
+        }
+        _ => None,
+    }
+}
+
+/// A part of a body that means the same for all arguments. It is sought for so many steps, more than a body is deep.
+pub(crate) fn shortened<'a>(
+    entries: &[Entry<'a>],
+    scope: usize,
+    parameters: &[Written],
+    body: &'a Expr,
+) -> &'a Expr
+    requires linked { AreLinked entries.now }
+    requires within { scope ≤ length entries.now }
+    ensures { operator parameters.now (expand (view result.now)) (scope_at entries.now scope) ≡ operator parameters.now (expand (view body.now)) (scope_at entries.now scope) }
+{
+    let mut part = body;
+    for _turn in 0..1000 {
+        match part_of(entries, scope, parameters, part) {
+            Some(next) => part = next,
+            None => return part,
+        }
+    }
+    part
+}
