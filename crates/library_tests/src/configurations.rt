@@ -4,7 +4,7 @@ use std::alloc::{AllocError, Global};
 use std::process::Abort;
 use std::test::Fail;
 use tla_config::*;
-use tla_parse::Written;
+use tla_tree::Written;
 use tla_value::Value;
 
 /// The code, with its line, its column and its name.

@@ -4,6 +4,7 @@
 use std::alloc::Global;
 use std::test::Fail;
 use std::thread;
+use tla_core::*;
 use tla_eval::*;
 use tla_value::{SetValue, Text, Value};
 

@@ -6,19 +6,11 @@
 #[cfg(test)]
 mod configurations;
 #[cfg(test)]
-mod expansion_texts;
-#[cfg(test)]
-mod expansions;
-#[cfg(test)]
 mod expression_depths;
 #[cfg(test)]
 mod expressions;
 #[cfg(test)]
-mod models;
-#[cfg(test)]
 mod search_options;
-#[cfg(test)]
-mod steps;
 #[cfg(test)]
 mod tokens;
 #[cfg(test)]

@@ -3,9 +3,10 @@
 use std::alloc::{AllocError, Global};
 use std::test::Fail;
 use tla_lex::{Kind, Place, Token};
-use tla_parse::{
+use tla_parse::{ParseError, parse_module};
+use tla_tree::{
     Binder, Brackets, Bullet, Constant, Definition, Expr, Fairness, Field, Infix, Key, Module,
-    ParseError, Prefix, Quantifier, Step, Unit, Update, Word, Written, parse_module,
+    Prefix, Quantifier, Step, Unit, Update, Word, Written,
 };
 
 fn kind_of(word: &str) -> Kind {

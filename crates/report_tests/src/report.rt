@@ -8,7 +8,7 @@ use std::io::{ErrorKind, Write};
 use std::process::Abort;
 use std::test::*;
 use tla_check::*;
-use tla_eval::{Fault, FaultCode, Place};
+use tla_core::{Fault, FaultCode, Place};
 use tla_search::{Answer, Counts, Part, Trace};
 use tla_value::{State, Text, Value};
 

@@ -3,7 +3,7 @@ use Rattle.std.specs.Prelude.{◌≡◌, ℕ, [], ◌∷◌, pos, codes, Some, N
 use Rattle.std.specs.Fmt.{digits}
 use Rattle.std.proofs.Common.{lit<}
 use Rattle.tla_value.specs.Tree.{int}
-use Rattle.tla_eval.specs.declared.fault.FaultCode.TheVariants.{Overflow, Lacking, TooMany}
+use Rattle.tla_core.specs.declared.fault.FaultCode.TheVariants.{Overflow, Lacking, TooMany}
 use Rattle.tla_search.specs.declared.answer.Answer.{Answer}
 use Rattle.tla_search.specs.declared.answer.Answer.TheVariants.{NoError, InvariantFalse, Deadlock, Faulted, AssumptionFalse, Limit}
 use Rattle.tla_search.specs.declared.finding.Part.TheVariants.{Assumption, NextAction}

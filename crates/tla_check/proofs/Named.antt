@@ -4,7 +4,8 @@ use Rattle.tla_lex.specs.Tokens.{AreTokens}
 use Rattle.tla_lex.specs.declared.token.Place.{Place}
 use Rattle.tla_lex.specs.declared.token.Token.{Token}
 use Rattle.tla_parse.specs.Parsing.{Justified, NoneSpellsWithin}
-use Rattle.tla_parse.specs.Units.{UnitTree, SpellsModule}
+use Rattle.tla_tree.specs.Units.{UnitTree}
+use Rattle.tla_parse.specs.Units.{SpellsModule}
 use Rattle.tla_parse.specs.declared.error.ParseCode.{ParseCode}
 use Rattle.tla_parse.specs.declared.error.ParseCode.TheVariants as parse
 use Rattle.tla_config.specs.Configuration.{IsConfiguration}

@@ -7,7 +7,7 @@ use Rattle.tla_lex.specs.declared.error.LexCode.{LexCode}
 use Rattle.tla_lex.specs.declared.error.LexCode.TheVariants as lex
 use Rattle.tla_lex.specs.declared.error.LexError.{LexError}
 use Rattle.tla_parse.specs.Parsing.{Justified}
-use Rattle.tla_parse.specs.Units.{UnitTree}
+use Rattle.tla_tree.specs.Units.{UnitTree}
 use Rattle.tla_parse.specs.declared.error.ParseError.{ParseError}
 use Rattle.tla_config.specs.Configuration.{IsConfiguration}
 use Rattle.tla_config.specs.Statements.{Statement}

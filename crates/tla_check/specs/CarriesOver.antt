@@ -8,7 +8,7 @@ use Rattle.tla_parse.specs.declared.error.ParseCode.TheVariants as parse
 use Rattle.tla_config.specs.declared.error.DefsCode.{DefsCode}
 use Rattle.tla_config.specs.declared.error.DefsCode.TheVariants as defs
 use Rattle.tla_config.specs.declared.error.Source.{Source}
-use Rattle.tla_eval.specs.declared.fault.Place.{Place}
+use Rattle.tla_core.specs.declared.fault.Place.{Place}
 use Rattle.tla_check.specs.declared.checked.RefusalCode.{RefusalCode}
 use Rattle.tla_check.specs.declared.checked.RefusalCode.TheVariants as refusal
 use Rattle.tla_check.specs.declared.checked.Refusal.{Refusal}

@@ -5,7 +5,8 @@ use Rattle.tla_lex.specs.Tokens.{AreTokens, IsFirstFault}
 use Rattle.tla_lex.specs.declared.token.Token.{Token}
 use Rattle.tla_lex.specs.declared.error.LexError.{LexError}
 use Rattle.tla_parse.specs.Parsing.{Justified}
-use Rattle.tla_parse.specs.Units.{UnitTree, units_depth, SpellsModule}
+use Rattle.tla_tree.specs.Units.{UnitTree}
+use Rattle.tla_parse.specs.Units.{units_depth, SpellsModule}
 use Rattle.tla_parse.specs.declared.error.ParseError.{ParseError}
 use Rattle.tla_config.specs.Configuration.{IsConfiguration}
 use Rattle.tla_config.specs.Statements.{Statement}
@@ -17,7 +18,7 @@ use Rattle.tla_defs.specs.Model.{IsModel}
 use Rattle.tla_defs.specs.Refused as defs
 use Rattle.tla_levels.specs.Meaning.{IsWithinLimit, SaysExactly}
 use Rattle.tla_model.specs.ModelTree.{ModelTree}
-use Rattle.tla_eval.specs.Expr.{Expr}
+use Rattle.tla_core.specs.Expr.{Expr}
 use Rattle.tla_search.specs.Answers.{HasNoReadingFault, IsAnswerOf, outcome_of}
 use Rattle.tla_search.specs.Systems.{read_system, true_system}
 use Rattle.tla_check.specs.declared.checked.Answered.{Answered as AnsweredCheck}

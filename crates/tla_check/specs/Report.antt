@@ -4,9 +4,9 @@ use Rattle.std.specs.List.{concat}
 use Rattle.std.specs.Fmt.{decimal}
 use Rattle.tla_value.specs.Tree.{Tree}
 use Rattle.tla_value.specs.Text.{text_of}
-use Rattle.tla_eval.specs.declared.fault.Place.{Place}
-use Rattle.tla_eval.specs.declared.fault.Fault.{Fault}
-use Rattle.tla_eval.specs.Fault.{code_text}
+use Rattle.tla_core.specs.declared.fault.Place.{Place}
+use Rattle.tla_core.specs.declared.fault.Fault.{Fault}
+use Rattle.tla_core.specs.Fault.{code_text}
 use Rattle.tla_search.specs.Answers.{trace_of, counts_of}
 use Rattle.tla_search.specs.declared.finding.Part.{Part}
 use Rattle.tla_search.specs.declared.finding.Part.TheVariants.{Assumption, Initial, NextAction, Invariant}

@@ -18,12 +18,13 @@ use crate::report::{WriteFault, write_report};
 use std::alloc::Global;
 use std::io::Write;
 use tla_config::{DefsError, Source, parse_config};
+use tla_core::Place;
 use tla_defs::build;
-use tla_eval::Place;
 use tla_lex::{LexError, tokens};
 use tla_model::{Invariant, Model};
-use tla_parse::{ParseError, Word, parse_module};
+use tla_parse::{ParseError, parse_module};
 use tla_search::{Gate, Options, SearchError, search};
+use tla_tree::Word;
 use tla_value::{Text, ValueError};
 
 /// What a module and a configuration come to: the answer to the search of the model that they name, or the first refusal

@@ -3,7 +3,7 @@ ghost use Rattle.std.specs.Prelude.{◌≡◌, ◌++◌, ◌<◌, length, map, c
 ghost use Rattle.std.specs.Io.KnownBytes.{Appends};
 ghost use Rattle.counted_writer.specs.Puts.{Puts, AddsFirst};
 ghost use Rattle.tla_value.specs.TreeOf.{tree_of};
-ghost use Rattle.tla_eval.specs.Fault.{code_text};
+ghost use Rattle.tla_core.specs.Fault.{code_text};
 ghost use Rattle.tla_search.specs.Answers.{trace_of};
 ghost use Rattle.tla_search.specs.IsNamed.{AreWhole, IsAboutOne, IsBelow, invariant_of};
 ghost use Rattle.tla_check.specs.Codes.{refusal_code};
@@ -14,7 +14,7 @@ use crate::checked::{Answered, Checked, Names, Refusal, RefusalCode};
 use counted_writer::{ShortWrite, put, put_number};
 use std::io::Write;
 use tla_config::Source;
-use tla_eval::{Fault, FaultCode, Place};
+use tla_core::{Fault, FaultCode, Place};
 use tla_search::{Answer, Counts, Part};
 use tla_value::{State, Text, Value};
 

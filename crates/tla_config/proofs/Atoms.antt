@@ -7,7 +7,7 @@ use Rattle.tla_lex.specs.Strings.{unescaped, string_text}
 use Rattle.tla_lex.specs.declared.token.Kind.{Kind}
 use Rattle.tla_lex.specs.declared.token.Kind.TheVariants as k
 use Rattle.tla_lex.specs.declared.token.Token.{Token}
-use Rattle.tla_parse.specs.Tokens.{word_of}
+use Rattle.tla_tree.specs.Words.{word_of}
 use Rattle.tla_value.specs.IsValue.{IsValue}
 use Rattle.tla_value.specs.Tree.{Tree, int, text, model}
 use Rattle.tla_config.specs.declared.keyword.Keyword.{Keyword}

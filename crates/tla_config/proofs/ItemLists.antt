@@ -2,8 +2,8 @@
 use Rattle.std.proofs.Common.{◌≡◌, ◌≤◌, ℕ, ◌+◌, true, false, List, [], ◌∷◌, ◌++◌, Some, inl, inr, slice_get, refl, sym, ap, subst, ◌∙◌, append_assoc, arith}
 use Rattle.tla_lex.specs.declared.token.Kind.TheVariants as k
 use Rattle.tla_lex.specs.declared.token.Token.{Token}
-use Rattle.tla_parse.specs.Tokens.{word_of}
-use Rattle.tla_parse.specs.declared.word.Written.{Written}
+use Rattle.tla_tree.specs.Words.{word_of}
+use Rattle.tla_tree.specs.declared.word.Written.{Written}
 use Rattle.tla_value.specs.IsValue.{IsValue}
 use Rattle.tla_value.specs.Tree.{Tree, Trees, Pairs, truth, int, text, model, set, fun, no_trees, more_trees, no_pairs, more_pairs, trees, pairs, members, entries, depth, deepest, deepest_pair}
 use Rattle.tla_config.specs.declared.refusal.Refusal.TheVariants as refusal

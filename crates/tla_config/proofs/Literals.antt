@@ -3,7 +3,7 @@ use Rattle.std.proofs.Common.{◌≡◌, ℕ, ◌+◌, true, List, Some, None, i
 use Rattle.tla_lex.specs.declared.token.Kind.{Kind}
 use Rattle.tla_lex.specs.declared.token.Kind.TheVariants as k
 use Rattle.tla_lex.specs.declared.token.Token.{Token}
-use Rattle.tla_parse.specs.Tokens.{word_of}
+use Rattle.tla_tree.specs.Words.{word_of}
 use Rattle.tla_value.specs.Tree.{Tree, int}
 use Rattle.tla_config.specs.Configuration.{Has, IsAtom, SpellsLiteral, SpellsMembers}
 use Rattle.tla_config.specs.Literals.{Literal, Literals, atom, braces, no_literals, more_literals, number, atom_by, atom_of}

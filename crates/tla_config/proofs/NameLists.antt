@@ -2,7 +2,7 @@
 use Rattle.std.proofs.Common.{◌≡◌, ℕ, ◌+◌, List, [], ◌∷◌, ◌++◌, Some, ◌⊎◌, inl, inr, refl, sym, ap, subst, ◌∙◌, append_assoc, arith}
 use Rattle.tla_lex.specs.declared.token.Kind.TheVariants as k
 use Rattle.tla_lex.specs.declared.token.Token.{Token}
-use Rattle.tla_parse.specs.declared.word.Written.{Written}
+use Rattle.tla_tree.specs.declared.word.Written.{Written}
 use Rattle.tla_config.specs.Configuration.{Has, IsName, Names}
 use Rattle.tla_config.specs.Gives.{Ends, GoesOn, AreNames, NoNames}
 use Rattle.tla_config.proofs.Fronts.{one_name, comma_no_name}

@@ -9,8 +9,8 @@ use Rattle.tla_lex.specs.declared.token.Kind.{Kind}
 use Rattle.tla_lex.specs.declared.token.Kind.TheVariants as k
 use Rattle.tla_lex.specs.declared.token.Place.{Place}
 use Rattle.tla_lex.specs.declared.token.Token.{Token}
-use Rattle.tla_parse.specs.Tokens.{word_of, written}
-use Rattle.tla_parse.specs.declared.word.Written.{Written}
+use Rattle.tla_tree.specs.Words.{word_of, written}
+use Rattle.tla_tree.specs.declared.word.Written.{Written}
 use Rattle.tla_value.specs.IsValue.{IsValue}
 use Rattle.tla_value.specs.Tree.{Tree, int}
 use Rattle.tla_config.specs.Literals.{Literal, Literals, atom, braces, no_literals, more_literals, value_of, number, atom_of}

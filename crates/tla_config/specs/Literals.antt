@@ -6,7 +6,7 @@ use Rattle.tla_lex.specs.Words as digits
 use Rattle.tla_lex.specs.declared.token.Kind.{Kind}
 use Rattle.tla_lex.specs.declared.token.Kind.TheVariants as k
 use Rattle.tla_lex.specs.declared.token.Token.{Token}
-use Rattle.tla_parse.specs.Tokens.{word_of}
+use Rattle.tla_tree.specs.Words.{word_of}
 use Rattle.tla_value.specs.Sets.{set_of}
 use Rattle.tla_value.specs.Tree.{Tree, truth, int, text, model, set, trees}
 use Rattle.tla_config.specs.Names.{Name, is_among, statement_words}

@@ -2,7 +2,7 @@
 use Rattle.std.specs.Prelude.{Bool, false, not, List, [], ◌∷◌}
 use Rattle.std.specs.List.{list_any, flat_map}
 use Rattle.tla_lex.specs.declared.token.Place.{Place}
-use Rattle.tla_parse.specs.declared.word.Written.{Written}
+use Rattle.tla_tree.specs.declared.word.Written.{Written}
 use Rattle.tla_value.specs.Tree.{Tree}
 use Rattle.tla_config.specs.Names.{Name, words}
 

@@ -7,7 +7,7 @@ use crate::refusal::Refusal;
 use crate::tokens::{is_kind, name_at, written};
 use std::alloc::Global;
 use tla_lex::{Kind, Token};
-use tla_parse::Written;
+use tla_tree::Written;
 
 /// Names, and the number of the token behind the last.
 #[derive(Drop)]

@@ -1,7 +1,7 @@
 //! Statements.
 
 use tla_lex::Place;
-use tla_parse::Written;
+use tla_tree::Written;
 use tla_value::Value;
 
 /// An item of CONSTANT.

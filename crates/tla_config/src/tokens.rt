@@ -1,14 +1,14 @@
 //! Tokens as the reader asks for them, by their number in the list.
 
 ghost use Rattle.std.specs.Prelude.{◌≡◌, ◌<◌, length, slice_get, IfOk, IfErr, OnSome, IsTrue};
-ghost use Rattle.tla_parse.specs.Tokens as words;
+ghost use Rattle.tla_tree.specs.Words as words;
 ghost use Rattle.tla_config.specs.Fronts as spec;
 
 use crate::keyword::{Keyword, keyword_of};
 use crate::refusal::Refusal;
 use std::alloc::Global;
 use tla_lex::{Kind, Place, Token};
-use tla_parse::{Word, Written};
+use tla_tree::{Word, Written};
 
 /// The token's slice of the text.
 #[tactic(auto, using(crate::proofs::Slices::drop_min, crate::proofs::Slices::take_min))]

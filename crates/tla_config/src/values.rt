@@ -9,7 +9,7 @@ ghost use Rattle.tla_lex.specs.declared.token.Token as lexed;
 ghost use Rattle.tla_value.specs.IsValue.{IsValue};
 ghost use Rattle.tla_value.specs.Tree as tree;
 ghost use Rattle.tla_value.specs.TreeOf.{tree_of};
-ghost use Rattle.tla_parse.specs.Tokens.{word_of};
+ghost use Rattle.tla_tree.specs.Words.{word_of};
 ghost use Rattle.tla_config.specs.Fronts.{kind_at};
 ghost use Rattle.tla_config.specs.GivesValues as spec;
 ghost use Rattle.tla_config.specs.Literals.{number};

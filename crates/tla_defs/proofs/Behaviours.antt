@@ -1,9 +1,9 @@
 -- The behaviour of a configuration, and the names of its INIT, NEXT and SPECIFICATION.
 use Rattle.std.proofs.Common.{◌≡◌, refl, ap, sym, inl, inr, List, [], ◌∷◌, ◌++◌, Option, Some, None, Result, Ok, Err}
 use Rattle.tla_lex.specs.declared.token.Place.{Place}
-use Rattle.tla_parse.specs.declared.word.Written.{Written}
-use Rattle.tla_parse.specs.Tree.{Tree}
-use Rattle.tla_parse.specs.Units.{UnitTree}
+use Rattle.tla_tree.specs.declared.word.Written.{Written}
+use Rattle.tla_tree.specs.Tree.{Tree}
+use Rattle.tla_tree.specs.Units.{UnitTree}
 use Rattle.tla_config.specs.Statements.{Statement, Specification, Init, Next, Invariants, Constants, CheckDeadlock}
 use Rattle.tla_defs.specs.Model.{IsBehaviour, initials_named, nexts_named, specifications_named}
 use Rattle.tla_defs.specs.Refused.{Behaviour, Named, Specified, alone, behaviour}

@@ -1,8 +1,8 @@
 -- Subscripts that cover the variables, as the code finds them.
 use Rattle.std.proofs.Common.{◌≡◌, ℕ, ap, sym, ◌∙◌, true, false, Some}
-use Rattle.tla_eval.specs.Expr.{Expr}
+use Rattle.tla_core.specs.Expr.{Expr}
 use Rattle.tla_model.specs.Size.{IsWithinLimits}
-use Rattle.tla_parse.specs.Tree.{Tree}
+use Rattle.tla_tree.specs.Tree.{Tree}
 use Rattle.tla_expand.specs.declared.primes.Primes.TheVariants.{Never}
 use Rattle.tla_expand.specs.Meanings.{Scope}
 use Rattle.tla_expand.specs.Expand.{expand}

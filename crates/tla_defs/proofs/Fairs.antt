@@ -1,7 +1,7 @@
 -- Formulas that are left, all of which have to be fairness.
 use Rattle.std.proofs.Common.{◌≡◌, ℕ, suc, ◌-◌, arith, Some, refl, ap, sym, ◌∙◌, Bool, true, false, ◌&&◌, List, [], ◌∷◌, ◌++◌}
 use Rattle.tla_defs.specs.declared.bodies.Formula.{Formula}
-use Rattle.tla_parse.specs.Tree.{Tree}
+use Rattle.tla_tree.specs.Tree.{Tree}
 use Rattle.tla_config.specs.Names.{Name}
 use Rattle.tla_defs.specs.Bodies.{Bodies}
 use Rattle.tla_defs.specs.Fairness.{fair, fair_of}

@@ -1,13 +1,13 @@
 -- The formula that SPECIFICATION names, as the code finds it.
 use Rattle.std.proofs.Common.{◌≡◌, ℕ, refl, ap, sym, ◌∙◌, subst, length, map, get_or, arith, List, [], ◌∷◌, Option, Some, None}
 use Rattle.std.specs.Borrow.{Bor}
-use Rattle.tla_eval.specs.Expr.{Expr}
-use Rattle.tla_parse.specs.declared.tree.Expr as s
-use Rattle.tla_parse.specs.declared.word.Written.{Written}
-use Rattle.tla_parse.specs.declared.tree.Bullet.TheVariants as bullet
-use Rattle.tla_parse.specs.Edges.{place}
-use Rattle.tla_parse.specs.Tree.{Tree, Junction, trees}
-use Rattle.tla_parse.specs.Units.{UnitTree}
+use Rattle.tla_core.specs.Expr.{Expr}
+use Rattle.tla_tree.specs.declared.tree.Expr as s
+use Rattle.tla_tree.specs.declared.word.Written.{Written}
+use Rattle.tla_tree.specs.declared.tree.Bullet.TheVariants as bullet
+use Rattle.tla_tree.specs.Places.{place}
+use Rattle.tla_tree.specs.Tree.{Tree, Junction, trees}
+use Rattle.tla_tree.specs.Units.{UnitTree}
 use Rattle.tla_config.specs.Statements.{Item}
 use Rattle.tla_expand.specs.Meanings.{Scope}
 use Rattle.tla_defs.specs.Conjuncts.{tree_at, seen}

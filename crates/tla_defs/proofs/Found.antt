@@ -1,15 +1,15 @@
 -- The formulas of a model as the code finds them, or why there are none; and the model of its parts.
 use Rattle.std.proofs.Common.{◌≡◌, refl, ap, sym, ◌∙◌, Bool, true, false, List, [], ◌∷◌, ◌++◌, Option, Some, None, ◌<◌, length, arith, subst, append-nil, map}
-use Rattle.tla_eval.specs.Expr.{Expr}
-use Rattle.tla_eval.specs.ExprOf.{expr_of}
-use Rattle.tla_eval.specs.declared.expression.Core.{Core}
+use Rattle.tla_core.specs.Expr.{Expr}
+use Rattle.tla_core.specs.ExprOf.{expr_of}
+use Rattle.tla_core.specs.declared.expression.Core.{Core}
 use Rattle.std.specs.Borrow.{Bor}
-use Rattle.tla_parse.specs.declared.word.Written.{Written}
-use Rattle.tla_parse.specs.Tree.{Tree}
-use Rattle.tla_parse.specs.Tree as t
-use Rattle.tla_parse.specs.declared.units.Unit.{Unit}
-use Rattle.tla_parse.specs.Units.{UnitTree}
-use Rattle.tla_parse.specs.UnitsView.{unit_view}
+use Rattle.tla_tree.specs.declared.word.Written.{Written}
+use Rattle.tla_tree.specs.Tree.{Tree}
+use Rattle.tla_tree.specs.Tree as t
+use Rattle.tla_tree.specs.declared.unit.Unit.{Unit}
+use Rattle.tla_tree.specs.Units.{UnitTree}
+use Rattle.tla_tree.specs.UnitsView.{unit_view}
 use Rattle.tla_config.specs.Names.{Name}
 use Rattle.tla_config.specs.Statements.{Statement, items_of, checks_deadlock}
 use Rattle.tla_expand.specs.declared.primes.Primes.{Primes}

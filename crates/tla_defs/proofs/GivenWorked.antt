@@ -1,7 +1,7 @@
 -- The models of modules with a constant, with variables in two places, and with UNCHANGED, by computation.
 use Rattle.std.proofs.Common.{refl, arith, [], ◌∷◌}
 use Rattle.std.specs.Prelude.{codes}
-use Rattle.tla_parse.specs.Tree.{Name}
+use Rattle.tla_tree.specs.Tree.{Name}
 use Rattle.tla_defs.specs.GivenRows.{constant_unit, given_tree, given_item, replaced_units, replacement, WithValue, WithReplacement, Circle, TwoVariables}
 use Rattle.tla_defs.specs.Leads.{leads}
 use Rattle.tla_defs.specs.NamedRows.{behind}

@@ -3,9 +3,9 @@ use Rattle.std.proofs.Common.{◌≡◌, refl, ap, sym, ◌∙◌, ℕ, List, []
 use Rattle.std.specs.Prelude.{OnOk}
 use Rattle.std.proofs.lemmas.List.{append_assoc, reverse-append, map-append}
 use Rattle.std.specs.Borrow.{Bor}
-use Rattle.tla_parse.specs.declared.tree.Expr.{Expr}
-use Rattle.tla_parse.specs.Tree.{Tree}
-use Rattle.tla_parse.specs.View.{view}
+use Rattle.tla_tree.specs.declared.tree.Expr.{Expr}
+use Rattle.tla_tree.specs.Tree.{Tree}
+use Rattle.tla_tree.specs.View.{view}
 use Rattle.tla_defs.specs.declared.bodies.Formula.{Formula}
 use Rattle.tla_defs.specs.Bodies.{Bodies}
 use Rattle.tla_defs.specs.Conjuncts.{tree_at, seen, conjuncts_from, all_conjuncts, gathered}

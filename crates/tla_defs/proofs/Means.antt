@@ -1,10 +1,10 @@
 -- What a behaviour means: its initial predicate and its action.
 use Rattle.std.proofs.Common.{◌≡◌, refl, ap, sym, ◌∙◌, subst, inl, inr, ℕ, length, List, [], ◌∷◌, Option, Some, None}
-use Rattle.tla_eval.specs.Expr.{Expr}
-use Rattle.tla_parse.specs.declared.word.Written.{Written}
-use Rattle.tla_parse.specs.Tree.{Tree}
-use Rattle.tla_parse.specs.Tree as t
-use Rattle.tla_parse.specs.Units.{UnitTree}
+use Rattle.tla_core.specs.Expr.{Expr}
+use Rattle.tla_tree.specs.declared.word.Written.{Written}
+use Rattle.tla_tree.specs.Tree.{Tree}
+use Rattle.tla_tree.specs.Tree as t
+use Rattle.tla_tree.specs.Units.{UnitTree}
 use Rattle.tla_config.specs.Statements.{Statement, Item, items_of}
 use Rattle.tla_expand.specs.Meanings.{Scope}
 use Rattle.tla_model.specs.ModelTree.{ModelTree}

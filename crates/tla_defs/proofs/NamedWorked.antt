@@ -1,7 +1,7 @@
 -- The models of modules with names in their expressions, by computation.
 use Rattle.std.proofs.Common.{refl, arith}
 use Rattle.std.specs.Prelude.{codes}
-use Rattle.tla_parse.specs.Tree.{Name}
+use Rattle.tla_tree.specs.Tree.{Name}
 use Rattle.tla_defs.specs.NamedRows.{WithParameter, WithLet, WithoutCapture}
 use Rattle.tla_defs.specs.Rows.{word, init_before}
 use Rattle.tla_defs.proofs.Worked.{within, by_names}

@@ -3,12 +3,12 @@ use Rattle.std.proofs.Common.{◌≡◌, ◌≤◌, ℕ, ◌+◌, true, false, B
 use Rattle.std.proofs.lemmas.List.{length-map}
 use Rattle.std.proofs.lemmas.Bool.{lt-ltb}
 use Rattle.tla_value.specs.Tree as value
-use Rattle.tla_eval.specs.Expr.{Expr, constant}
-use Rattle.tla_eval.specs.Fits.{fits}
-use Rattle.tla_parse.specs.declared.word.Written.{Written}
-use Rattle.tla_parse.specs.Tree.{Tree, DefinesOperator}
-use Rattle.tla_parse.specs.Tree as t
-use Rattle.tla_parse.specs.Units.{UnitTree, Separator, Extends, Variables, Operator, Defines, Local, Constants, Assume, Theorem}
+use Rattle.tla_core.specs.Expr.{Expr, constant}
+use Rattle.tla_core.specs.Fits.{fits}
+use Rattle.tla_tree.specs.declared.word.Written.{Written}
+use Rattle.tla_tree.specs.Tree.{Tree, DefinesOperator}
+use Rattle.tla_tree.specs.Tree as t
+use Rattle.tla_tree.specs.Units.{UnitTree, Separator, Extends, Variables, Operator, Defines, Local, Constants, Assume, Theorem}
 use Rattle.tla_config.specs.Names.{Name, words, is_among}
 use Rattle.tla_config.specs.Statements.{Statement, Item, Value, Replaces, items_of}
 use Rattle.tla_expand.specs.declared.primes.Primes.TheVariants.{Once}

@@ -3,9 +3,9 @@ use Rattle.std.proofs.Common.{◌≡◌, ◌++◌, ℕ, List, [], ◌∷◌, Opt
 use Rattle.std.proofs.lemmas.List.{take-map}
 use Rattle.std.proofs.Math.Seq.{take-append_seam}
 use Rattle.tla_defs.specs.declared.scope.Signature.{Signature}
-use Rattle.tla_parse.specs.declared.tree.Expr.{Expr}
-use Rattle.tla_parse.specs.Tree.{trees}
-use Rattle.tla_parse.specs.View.{view}
+use Rattle.tla_tree.specs.declared.tree.Expr.{Expr}
+use Rattle.tla_tree.specs.Tree.{trees}
+use Rattle.tla_tree.specs.View.{view}
 use Rattle.tla_expand.specs.Maybe.{or_else}
 use Rattle.tla_defs.specs.Known.{Misuse, count}
 use Rattle.tla_defs.specs.Scope.{Scope}

@@ -1,12 +1,12 @@
 -- The conjuncts of an initial predicate: where one has none of its own within the limits, the whole has none.
 use Rattle.std.proofs.Common.{◌≡◌, ◌≤◌, ℕ, ◌+◌, max, refl, ap, sym, ◌∙◌, subst, inl, inr, arith, length, map, get_or, List, [], ◌∷◌, ◌++◌, Option, Some, None}
 use Rattle.std.specs.Borrow.{Bor}
-use Rattle.tla_eval.specs.Expr.{Expr, Exprs, conjunction, no_exprs, more_exprs}
+use Rattle.tla_core.specs.Expr.{Expr, Exprs, conjunction, no_exprs, more_exprs}
 use Rattle.tla_model.specs.Size.{IsWithinLimits, nodes, depth, nodes_each, depth_each}
-use Rattle.tla_parse.specs.declared.tree.Bullet.TheVariants as bullet
-use Rattle.tla_parse.specs.declared.tree.Expr as s
-use Rattle.tla_parse.specs.Edges.{place}
-use Rattle.tla_parse.specs.Tree.{Tree, trees, Junction}
+use Rattle.tla_tree.specs.declared.tree.Bullet.TheVariants as bullet
+use Rattle.tla_tree.specs.declared.tree.Expr as s
+use Rattle.tla_tree.specs.Places.{place}
+use Rattle.tla_tree.specs.Tree.{Tree, trees, Junction}
 use Rattle.tla_expand.specs.declared.primes.Primes.TheVariants.{Once}
 use Rattle.tla_expand.specs.Meanings.{Scope}
 use Rattle.tla_expand.specs.Expand.{expand, expand_each}

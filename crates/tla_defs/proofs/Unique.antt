@@ -1,10 +1,10 @@
 -- A module and a configuration name at most one model.
 use Rattle.std.proofs.Common.{◌≡◌, ℕ, List, [], ◌∷◌, Option, Some, refl, ap, sym, ◌∙◌, inl, inr, length}
-use Rattle.tla_eval.specs.Expr.{Expr}
-use Rattle.tla_parse.specs.declared.word.Written.{Written}
-use Rattle.tla_parse.specs.Tree.{Tree}
-use Rattle.tla_parse.specs.Tree as t
-use Rattle.tla_parse.specs.Units.{UnitTree}
+use Rattle.tla_core.specs.Expr.{Expr}
+use Rattle.tla_tree.specs.declared.word.Written.{Written}
+use Rattle.tla_tree.specs.Tree.{Tree}
+use Rattle.tla_tree.specs.Tree as t
+use Rattle.tla_tree.specs.Units.{UnitTree}
 use Rattle.tla_config.specs.Names.{Name}
 use Rattle.tla_config.specs.Statements.{Statement, Item, items_of}
 use Rattle.tla_expand.specs.declared.primes.Primes.TheVariants.{Once}

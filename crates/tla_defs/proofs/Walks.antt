@@ -8,7 +8,7 @@ use Rattle.std.proofs.lemmas.Slice.Eq.{bytes_eq-Decides}
 use Rattle.tla_config.specs.Names.{Name, is_among}
 use Rattle.tla_config.specs.Statements.{Item}
 use Rattle.tla_config.specs.declared.statement.Item as c
-use Rattle.tla_parse.specs.declared.word.Written.{Written}
+use Rattle.tla_tree.specs.declared.word.Written.{Written}
 use Rattle.tla_defs.specs.Circles.{AreStraight, IsFirstCircle}
 use Rattle.tla_defs.specs.Items.{replaced_name}
 use Rattle.tla_defs.specs.Mentions.{item_of}

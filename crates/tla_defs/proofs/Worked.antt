@@ -1,10 +1,10 @@
 -- The models of some modules and configurations, by computation.
 use Rattle.std.proofs.Common.{◌≡◌, ◌≤◌, ℕ, List, [], ◌∷◌, refl, arith, inl}
 use Rattle.std.specs.Prelude.{codes}
-use Rattle.tla_eval.specs.Expr.{Expr}
-use Rattle.tla_parse.specs.declared.word.Written.{Written}
-use Rattle.tla_parse.specs.Tree.{Name}
-use Rattle.tla_parse.specs.Units.{UnitTree}
+use Rattle.tla_core.specs.Expr.{Expr}
+use Rattle.tla_tree.specs.declared.word.Written.{Written}
+use Rattle.tla_tree.specs.Tree.{Name}
+use Rattle.tla_tree.specs.Units.{UnitTree}
 use Rattle.tla_config.specs.Statements.{Statement}
 use Rattle.tla_model.specs.Size.{nodes, depth, IsWithinLimits}
 use Rattle.tla_defs.specs.Model.{IsBehaviour, initials_named, nexts_named, specifications_named}

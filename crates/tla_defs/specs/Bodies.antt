@@ -1,8 +1,8 @@
 -- What the names of definitions without parameters stand for (book, chapters 14 and 17).
 use Rattle.std.specs.Prelude.{Bool, true, false, ◌&&◌, List, [], ◌∷◌, Option, Some, None, nat_eq, length}
 use Rattle.std.specs.Str.{bytes_eq}
-use Rattle.tla_parse.specs.Tree.{Tree, DefinesOperator}
-use Rattle.tla_parse.specs.Units.{UnitTree, Operator, Defines, Local, Assume}
+use Rattle.tla_tree.specs.Tree.{Tree, DefinesOperator}
+use Rattle.tla_tree.specs.Units.{UnitTree, Operator, Defines, Local, Assume}
 use Rattle.tla_config.specs.Names.{Name}
 use Rattle.tla_config.specs.Statements.{Item}
 use Rattle.tla_expand.specs.Maybe.{◌>>=◌}

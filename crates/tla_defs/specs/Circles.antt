@@ -1,6 +1,6 @@
 -- Items `c <- Op` that lead back to their name (book, chapter 14).
 use Rattle.std.specs.Prelude.{◌≡◌, ◌⊎◌, List, [], ◌∷◌}
-use Rattle.tla_parse.specs.declared.word.Written.{Written}
+use Rattle.tla_tree.specs.declared.word.Written.{Written}
 use Rattle.tla_config.specs.Statements.{Item}
 use Rattle.tla_defs.specs.Items.{replaced_name}
 use Rattle.tla_defs.specs.Leads.{Lead, IsCircular}

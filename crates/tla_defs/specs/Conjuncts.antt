@@ -2,11 +2,11 @@
 use Rattle.std.specs.Prelude.{◌≡◌, ℕ, Bool, true, false, ◌&&◌, List, [], ◌∷◌, ◌++◌, Option, Some, None, map, reverse}
 use Rattle.std.specs.List.{flat_map, list_all}
 use Rattle.std.specs.Borrow.{Bor}
-use Rattle.tla_eval.specs.Expr as e
-use Rattle.tla_parse.specs.declared.tree.Expr.{Expr}
-use Rattle.tla_parse.specs.Tree.{Tree}
-use Rattle.tla_parse.specs.UnitsView.{unit_view}
-use Rattle.tla_parse.specs.View.{view}
+use Rattle.tla_core.specs.Expr as e
+use Rattle.tla_tree.specs.declared.tree.Expr.{Expr}
+use Rattle.tla_tree.specs.Tree.{Tree}
+use Rattle.tla_tree.specs.UnitsView.{unit_view}
+use Rattle.tla_tree.specs.View.{view}
 use Rattle.tla_defs.specs.declared.bodies.Bodies as declared
 use Rattle.tla_defs.specs.declared.bodies.Formula.{Formula}
 use Rattle.tla_defs.specs.Bodies.{Bodies, body_of}

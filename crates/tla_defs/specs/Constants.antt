@@ -1,7 +1,7 @@
 -- Constants of a module, and those that have no value (book, chapter 14).
 use Rattle.std.specs.Prelude.{List, [], ◌∷◌, ◌++◌, Option, Some, None, map, if◌then◌else◌}
-use Rattle.tla_parse.specs.declared.word.Written.{Written}
-use Rattle.tla_parse.specs.Units.{UnitTree, Declared, Constants}
+use Rattle.tla_tree.specs.declared.word.Written.{Written}
+use Rattle.tla_tree.specs.Units.{UnitTree, Declared, Constants}
 use Rattle.tla_config.specs.Names.{Name, is_among}
 use Rattle.tla_expand.specs.Maybe.{or_else}
 use Rattle.tla_defs.specs.Scope.{Scope}

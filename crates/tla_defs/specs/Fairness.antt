@@ -1,13 +1,13 @@
 -- Fairness in the formula that SPECIFICATION names (book, chapter 8): it says nothing of steps.
 use Rattle.std.specs.Prelude.{ℕ, zero, suc, Bool, true, false, not, ◌&&◌, [], ◌++◌, Option, Some, None, is_some}
-use Rattle.tla_parse.specs.declared.tree.Bullet.{Bullet}
-use Rattle.tla_parse.specs.declared.tree.Bullet.TheVariants as bullet
-use Rattle.tla_parse.specs.declared.tree.Infix.{Infix}
-use Rattle.tla_parse.specs.declared.tree.Infix.TheVariants as op
-use Rattle.tla_parse.specs.declared.tree.Quantifier.{Quantifier}
-use Rattle.tla_parse.specs.declared.tree.Quantifier.TheVariants as quantifier
-use Rattle.tla_parse.specs.Tree.{Tree, Trees, none, more}
-use Rattle.tla_parse.specs.Tree as t
+use Rattle.tla_tree.specs.declared.tree.Bullet.{Bullet}
+use Rattle.tla_tree.specs.declared.tree.Bullet.TheVariants as bullet
+use Rattle.tla_tree.specs.declared.tree.Infix.{Infix}
+use Rattle.tla_tree.specs.declared.tree.Infix.TheVariants as op
+use Rattle.tla_tree.specs.declared.tree.Quantifier.{Quantifier}
+use Rattle.tla_tree.specs.declared.tree.Quantifier.TheVariants as quantifier
+use Rattle.tla_tree.specs.Tree.{Tree, Trees, none, more}
+use Rattle.tla_tree.specs.Tree as t
 use Rattle.tla_config.specs.Names.{Name}
 use Rattle.tla_defs.specs.Scope.{Scope, arity, plain, bound_names}
 use Rattle.tla_defs.specs.Bodies.{Bodies}

@@ -1,9 +1,9 @@
 -- The formulas of a model, as the code finds them.
 use Rattle.std.specs.Prelude.{◌⊎◌, List, [], ◌∷◌, ◌++◌, map}
 use Rattle.std.specs.Borrow.{Bor}
-use Rattle.tla_eval.specs.Expr.{Expr}
-use Rattle.tla_parse.specs.declared.word.Written.{Written}
-use Rattle.tla_parse.specs.Tree.{Tree}
+use Rattle.tla_core.specs.Expr.{Expr}
+use Rattle.tla_tree.specs.declared.word.Written.{Written}
+use Rattle.tla_tree.specs.Tree.{Tree}
 use Rattle.tla_config.specs.Names.{Name}
 use Rattle.tla_expand.specs.Meanings.{Scope}
 use Rattle.tla_defs.specs.Model.{IsInvariant, IsAssumption, AreInvariants}

@@ -1,12 +1,12 @@
 -- Modules with a constant that the configuration gives a value, with variables in two places, and with UNCHANGED, and the models that they name.
 use Rattle.std.specs.Prelude.{pos, true, List, [], ◌∷◌, ◌++◌, codes}
 use Rattle.tla_value.specs.Tree as value
-use Rattle.tla_eval.specs.Expr.{Expr, next, now, equal, conjunction, no_exprs, more_exprs}
-use Rattle.tla_parse.specs.declared.tree.Brackets.TheVariants as brackets
-use Rattle.tla_parse.specs.declared.tree.Infix.TheVariants as op
-use Rattle.tla_parse.specs.declared.tree.Prefix.TheVariants as prefix
-use Rattle.tla_parse.specs.Tree.{Tree, Prime, Binary, Unary, Listing, more, none}
-use Rattle.tla_parse.specs.Units.{UnitTree, Variables, Constants, Operator}
+use Rattle.tla_core.specs.Expr.{Expr, next, now, equal, conjunction, no_exprs, more_exprs}
+use Rattle.tla_tree.specs.declared.tree.Brackets.TheVariants as brackets
+use Rattle.tla_tree.specs.declared.tree.Infix.TheVariants as op
+use Rattle.tla_tree.specs.declared.tree.Prefix.TheVariants as prefix
+use Rattle.tla_tree.specs.Tree.{Tree, Prime, Binary, Unary, Listing, more, none}
+use Rattle.tla_tree.specs.Units.{UnitTree, Variables, Constants, Operator}
 use Rattle.tla_expand.specs.Places.{place_of}
 use Rattle.tla_config.specs.Statements.{Item}
 use Rattle.tla_config.specs.Statements as s

@@ -1,8 +1,8 @@
 -- What the names of a module mean (book, chapters 14 and 17): those with an item by it, its variables by their numbers, and its definitions, each known to the units after it.
 use Rattle.std.specs.Prelude.{ℕ, ◌+◌, Bool, true, false, List, [], ◌∷◌, Some, length}
-use Rattle.tla_parse.specs.declared.word.Written.{Written}
-use Rattle.tla_parse.specs.Tree.{Tree}
-use Rattle.tla_parse.specs.Units.{UnitTree, Variables, Operator, Defines, Local, Assume}
+use Rattle.tla_tree.specs.declared.word.Written.{Written}
+use Rattle.tla_tree.specs.Tree.{Tree}
+use Rattle.tla_tree.specs.Units.{UnitTree, Variables, Operator, Defines, Local, Assume}
 use Rattle.tla_config.specs.Names.{Name, is_among}
 use Rattle.tla_config.specs.Statements.{Item, Value, Replaces}
 use Rattle.tla_expand.specs.Meanings.{Scope, standard, with_name, variable, operator}

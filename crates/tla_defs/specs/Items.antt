@@ -3,9 +3,9 @@ use Rattle.std.specs.Prelude.{ℕ, zero, suc, nat_eq, length, List, [], ◌∷�
 use Rattle.std.specs.List.{flat_map}
 use Rattle.std.specs.Str.{bytes_eq}
 use Rattle.tla_value.specs.Tree as value
-use Rattle.tla_eval.specs.Expr.{constant}
-use Rattle.tla_parse.specs.declared.word.Written.{Written}
-use Rattle.tla_parse.specs.Units.{UnitTree, Extends, Operator, Defines, Local, Assume, Constants}
+use Rattle.tla_core.specs.Expr.{constant}
+use Rattle.tla_tree.specs.declared.word.Written.{Written}
+use Rattle.tla_tree.specs.Units.{UnitTree, Extends, Operator, Defines, Local, Assume, Constants}
 use Rattle.tla_config.specs.Names.{Name, words}
 use Rattle.tla_config.specs.Statements.{Item, Value, Replaces}
 use Rattle.tla_expand.specs.Maybe.{or_else}

@@ -1,6 +1,6 @@
 -- The laws of models.
 use Rattle.std.specs.Prelude.{◌≡◌, List, None}
-use Rattle.tla_parse.specs.Units.{UnitTree}
+use Rattle.tla_tree.specs.Units.{UnitTree}
 use Rattle.tla_config.specs.Statements.{Statement}
 use Rattle.tla_config.specs.View.{ConfigTree}
 use Rattle.tla_model.specs.IsSound.{IsSound}

@@ -1,9 +1,9 @@
 -- Which name leads to which: a definition to the names in it that are known before it, and a name with an item `c <- Op` to Op (book, chapters 14 and 17).
 use Rattle.std.specs.Prelude.{◌≡◌, true, List, [], ◌∷◌, ◌++◌, Some, is_some, if◌then◌else◌, map}
 use Rattle.std.specs.Str.{bytes_eq}
-use Rattle.tla_parse.specs.Tree.{Tree, Trees, none, more, Binders, unbound, bound, Arms, no_arms, arm, Other, no_other, other, Definition, DefinesOperator, DefinesFunction, Definitions, undefined, defined, Fields, no_fields, field, Key, AtIndex, AtField, Keys, no_keys, key, Updates, no_updates, update}
-use Rattle.tla_parse.specs.Tree as t
-use Rattle.tla_parse.specs.Units.{UnitTree, Extends, Variables, Operator, Defines, Local, Constants, Assume}
+use Rattle.tla_tree.specs.Tree.{Tree, Trees, none, more, Binders, unbound, bound, Arms, no_arms, arm, Other, no_other, other, Definition, DefinesOperator, DefinesFunction, Definitions, undefined, defined, Fields, no_fields, field, Key, AtIndex, AtField, Keys, no_keys, key, Updates, no_updates, update}
+use Rattle.tla_tree.specs.Tree as t
+use Rattle.tla_tree.specs.Units.{UnitTree, Extends, Variables, Operator, Defines, Local, Constants, Assume}
 use Rattle.tla_config.specs.Names.{Name, words, is_among}
 use Rattle.tla_config.specs.Statements.{Item, Value, Replaces}
 use Rattle.tla_defs.specs.Scope.{Scope, arity, plain, extended, signature}

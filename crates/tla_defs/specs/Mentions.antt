@@ -1,7 +1,7 @@
 -- What the code answers of names.
 use Rattle.std.specs.Prelude.{◌≡◌, Option, Result, Ok, Err, option_map}
 use Rattle.std.specs.Borrow.{Bor}
-use Rattle.tla_parse.specs.declared.word.Written.{Written}
+use Rattle.tla_tree.specs.declared.word.Written.{Written}
 use Rattle.tla_lex.specs.declared.token.Place.{Place}
 use Rattle.tla_config.specs.declared.statement.Item as c
 use Rattle.tla_config.specs.Statements as s

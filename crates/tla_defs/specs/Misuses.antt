@@ -1,7 +1,7 @@
 -- The first misuse of a name in the units of a module (book, chapter 17).
 use Rattle.std.specs.Prelude.{List, [], ◌∷◌, ◌++◌, Option, Some, None}
 use Rattle.std.specs.List.{flat_map}
-use Rattle.tla_parse.specs.Units.{UnitTree, Separator, Extends, Variables, Operator, Defines, Local, Constants, Assume, Theorem}
+use Rattle.tla_tree.specs.Units.{UnitTree, Separator, Extends, Variables, Operator, Defines, Local, Constants, Assume, Theorem}
 use Rattle.tla_config.specs.Names.{Name, words}
 use Rattle.tla_expand.specs.Maybe.{or_else}
 use Rattle.tla_defs.specs.Scope.{Scope, plain, extended, signature}

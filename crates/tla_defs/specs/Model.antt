@@ -1,13 +1,13 @@
 -- The model that the units of a module and the statements of a configuration name (book, chapter 14).
 use Rattle.std.specs.Prelude.{◌≡◌, ◌⊎◌, false, true, List, [], ◌∷◌, Option, Some, None, length}
 use Rattle.std.specs.List.{flat_map}
-use Rattle.tla_eval.specs.Expr.{Expr}
-use Rattle.tla_eval.specs.Fits.{fits}
-use Rattle.tla_eval.specs.Value.{means}
-use Rattle.tla_parse.specs.declared.word.Written.{Written}
-use Rattle.tla_parse.specs.Tree.{Tree}
-use Rattle.tla_parse.specs.Tree as t
-use Rattle.tla_parse.specs.Units.{UnitTree, Assume}
+use Rattle.tla_core.specs.Expr.{Expr}
+use Rattle.tla_core.specs.Fits.{fits}
+use Rattle.tla_core.specs.Value.{means}
+use Rattle.tla_tree.specs.declared.word.Written.{Written}
+use Rattle.tla_tree.specs.Tree.{Tree}
+use Rattle.tla_tree.specs.Tree as t
+use Rattle.tla_tree.specs.Units.{UnitTree, Assume}
 use Rattle.tla_config.specs.Names.{Name}
 use Rattle.tla_config.specs.Statements.{Statement, Specification, Init, Next, Invariants, items_of, checks_deadlock}
 use Rattle.tla_expand.specs.Primes.{primes}

@@ -1,6 +1,6 @@
 -- The names that a configuration looks up: each is that of a definition without parameters (this project's own choice).
 use Rattle.std.specs.Prelude.{List, [], ◌∷◌, Option, None}
-use Rattle.tla_parse.specs.declared.word.Written.{Written}
+use Rattle.tla_tree.specs.declared.word.Written.{Written}
 use Rattle.tla_config.specs.Statements.{Statement, Specification, Init, Next, Invariants, Constants, CheckDeadlock}
 use Rattle.tla_expand.specs.Maybe.{or_else}
 use Rattle.tla_defs.specs.Scope.{Scope}

@@ -1,13 +1,13 @@
 -- Modules with names in their expressions, with the models that they name: a definition with a parameter, LET, and a bound name that meets one of a definition.
 use Rattle.std.specs.Prelude.{ℕ, true, List, [], ◌∷◌, codes}
-use Rattle.tla_eval.specs.Expr.{Expr, next, bound, binary, equal, enumerated, conjunction, for_some, no_exprs, more_exprs}
-use Rattle.tla_eval.specs.Expr as e
-use Rattle.tla_parse.specs.declared.tree.Brackets.TheVariants as brackets
-use Rattle.tla_parse.specs.declared.tree.Infix.TheVariants as op
-use Rattle.tla_parse.specs.declared.tree.Quantifier.TheVariants as q
-use Rattle.tla_parse.specs.Tree.{Tree, Name, Prime, Binary, Call, Let, Listing, Quantified, DefinesOperator, defined, undefined, more, none, unbound}
-use Rattle.tla_parse.specs.Tree as t
-use Rattle.tla_parse.specs.Units.{UnitTree, Extends, Variables, Operator, Defines}
+use Rattle.tla_core.specs.Expr.{Expr, next, bound, binary, equal, enumerated, conjunction, for_some, no_exprs, more_exprs}
+use Rattle.tla_core.specs.Expr as e
+use Rattle.tla_tree.specs.declared.tree.Brackets.TheVariants as brackets
+use Rattle.tla_tree.specs.declared.tree.Infix.TheVariants as op
+use Rattle.tla_tree.specs.declared.tree.Quantifier.TheVariants as q
+use Rattle.tla_tree.specs.Tree.{Tree, Name, Prime, Binary, Call, Let, Listing, Quantified, DefinesOperator, defined, undefined, more, none, unbound}
+use Rattle.tla_tree.specs.Tree as t
+use Rattle.tla_tree.specs.Units.{UnitTree, Extends, Variables, Operator, Defines}
 use Rattle.tla_expand.specs.Places.{place_of}
 use Rattle.tla_defs.specs.Model.{IsModel}
 use Rattle.tla_defs.specs.Rows.{place, word, x_at, number_at, constant_at, now_at, init_tree, statements, model}

@@ -1,9 +1,9 @@
 -- The modules that operators come from (book, chapter 18), and how prefix operators are written.
 use Rattle.std.specs.Prelude.{Bool, true, false, ◌||◌, List, if◌then◌else◌, codes}
-use Rattle.tla_parse.specs.declared.tree.Infix.{Infix}
-use Rattle.tla_parse.specs.declared.tree.Infix.TheVariants as i
-use Rattle.tla_parse.specs.declared.tree.Prefix.{Prefix}
-use Rattle.tla_parse.specs.declared.tree.Prefix.TheVariants as p
+use Rattle.tla_tree.specs.declared.tree.Infix.{Infix}
+use Rattle.tla_tree.specs.declared.tree.Infix.TheVariants as i
+use Rattle.tla_tree.specs.declared.tree.Prefix.{Prefix}
+use Rattle.tla_tree.specs.declared.tree.Prefix.TheVariants as p
 use Rattle.tla_config.specs.Names.{Name, is_among}
 
 -- the operators that the modules Naturals and Integers bring in (book, chapter 18)

@@ -1,8 +1,8 @@
 -- Why a module and a configuration name no model: the first step that refuses them, and where (this project's own choice).
 use Rattle.std.specs.Prelude.{◌≡◌, ◌≢◌, ◌⊎◌, Bool, true, false, is_some, List, [], ◌∷◌, Option, Some, None, Result, Ok, Err}
 use Rattle.tla_lex.specs.declared.token.Place.{Place}
-use Rattle.tla_parse.specs.declared.word.Written.{Written}
-use Rattle.tla_parse.specs.Units.{UnitTree}
+use Rattle.tla_tree.specs.declared.word.Written.{Written}
+use Rattle.tla_tree.specs.Units.{UnitTree}
 use Rattle.tla_config.specs.declared.error.DefsCode.{DefsCode}
 use Rattle.tla_config.specs.declared.error.DefsCode.TheVariants as c
 use Rattle.tla_config.specs.declared.error.DefsError.{DefsError}

@@ -2,12 +2,12 @@
 use Rattle.std.specs.Prelude.{ℕ, pos, true, false, Bool, List, [], ◌∷◌, codes}
 use Rattle.tla_lex.specs.declared.token.Place.{Place}
 use Rattle.tla_value.specs.Tree as value
-use Rattle.tla_eval.specs.Expr.{Expr, constant, now, next, binary, equal, conjunction, no_exprs, more_exprs}
-use Rattle.tla_eval.specs.Expr as e
-use Rattle.tla_parse.specs.declared.word.Written.{Written}
-use Rattle.tla_parse.specs.declared.tree.Infix.TheVariants as op
-use Rattle.tla_parse.specs.Tree.{Tree, Name, Number, Paren, Prime, Binary}
-use Rattle.tla_parse.specs.Units.{UnitTree, Extends, Variables, Operator}
+use Rattle.tla_core.specs.Expr.{Expr, constant, now, next, binary, equal, conjunction, no_exprs, more_exprs}
+use Rattle.tla_core.specs.Expr as e
+use Rattle.tla_tree.specs.declared.word.Written.{Written}
+use Rattle.tla_tree.specs.declared.tree.Infix.TheVariants as op
+use Rattle.tla_tree.specs.Tree.{Tree, Name, Number, Paren, Prime, Binary}
+use Rattle.tla_tree.specs.Units.{UnitTree, Extends, Variables, Operator}
 use Rattle.tla_expand.specs.Places.{place_of}
 use Rattle.tla_config.specs.Statements.{Statement, CheckDeadlock}
 use Rattle.tla_config.specs.Statements as s

@@ -2,7 +2,7 @@
 use Rattle.std.specs.Prelude.{ℕ, List, [], ◌∷◌, ◌++◌, Option, Some, None, if◌then◌else◌, map, length, codes}
 use Rattle.std.specs.List.{flat_map}
 use Rattle.std.specs.Str.{bytes_eq}
-use Rattle.tla_parse.specs.Tree.{Definition, Definitions, DefinesOperator, DefinesFunction, undefined, defined, Binders, unbound, bound}
+use Rattle.tla_tree.specs.Tree.{Definition, Definitions, DefinesOperator, DefinesFunction, undefined, defined, Binders, unbound, bound}
 use Rattle.tla_config.specs.Names.{Name, words}
 use Rattle.tla_expand.specs.Maybe.{or_else}
 

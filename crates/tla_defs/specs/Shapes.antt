@@ -1,7 +1,7 @@
 -- The conjuncts of a formula by its shape. Private contracts alone cite this.
 use Rattle.std.specs.Prelude.{Option, List, [], ◌∷◌, ◌++◌, map, unwrap_or}
-use Rattle.tla_parse.specs.Tree.{Tree, trees}
-use Rattle.tla_parse.specs.View.{view}
+use Rattle.tla_tree.specs.Tree.{Tree, trees}
+use Rattle.tla_tree.specs.View.{view}
 use Rattle.tla_config.specs.Names.{Name}
 use Rattle.tla_defs.specs.declared.conjuncts.Shape.{Shape}
 use Rattle.tla_defs.specs.declared.conjuncts.Shape.TheVariants as shape

@@ -1,15 +1,15 @@
 -- The formula that SPECIFICATION names: Init /\ [][Next]_v, and fairness (book, chapters 8 and 14).
 use Rattle.std.specs.Prelude.{◌≡◌, ℕ, zero, suc, Bool, not, ◌&&◌, List, [], ◌∷◌, ◌++◌, Option, Some, None, is_some, unwrap_or, filter, length}
 use Rattle.std.specs.List.{filter_map}
-use Rattle.tla_parse.specs.declared.word.Written.{Written}
-use Rattle.tla_parse.specs.declared.tree.Bullet.TheVariants as bullet
-use Rattle.tla_parse.specs.declared.tree.Infix.TheVariants as op
-use Rattle.tla_parse.specs.declared.tree.Prefix.TheVariants as prefix
-use Rattle.tla_parse.specs.declared.tree.Step.TheVariants as step
-use Rattle.tla_parse.specs.Edges.{place}
-use Rattle.tla_parse.specs.Tree.{Tree, Trees, none, more, trees}
-use Rattle.tla_parse.specs.Tree as t
-use Rattle.tla_parse.specs.Units.{UnitTree}
+use Rattle.tla_tree.specs.declared.word.Written.{Written}
+use Rattle.tla_tree.specs.declared.tree.Bullet.TheVariants as bullet
+use Rattle.tla_tree.specs.declared.tree.Infix.TheVariants as op
+use Rattle.tla_tree.specs.declared.tree.Prefix.TheVariants as prefix
+use Rattle.tla_tree.specs.declared.tree.Step.TheVariants as step
+use Rattle.tla_tree.specs.Places.{place}
+use Rattle.tla_tree.specs.Tree.{Tree, Trees, none, more, trees}
+use Rattle.tla_tree.specs.Tree as t
+use Rattle.tla_tree.specs.Units.{UnitTree}
 use Rattle.tla_config.specs.Names.{Name}
 use Rattle.tla_config.specs.Statements.{Item}
 use Rattle.tla_expand.specs.Meanings.{Scope}

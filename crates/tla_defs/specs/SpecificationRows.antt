@@ -1,16 +1,16 @@
 -- Modules with a specification, and the models that they name.
 use Rattle.std.specs.Prelude.{true, List, [], ◌∷◌, codes}
-use Rattle.tla_eval.specs.Expr.{Expr, next, binary, equal, conjunction, no_exprs, more_exprs}
-use Rattle.tla_eval.specs.Expr as e
-use Rattle.tla_parse.specs.declared.tree.Brackets.TheVariants as brackets
-use Rattle.tla_parse.specs.declared.tree.Bullet.TheVariants as bullet
-use Rattle.tla_parse.specs.declared.tree.Fairness.TheVariants as fairness
-use Rattle.tla_parse.specs.declared.tree.Infix.TheVariants as op
-use Rattle.tla_parse.specs.declared.tree.Prefix.TheVariants as prefix
-use Rattle.tla_parse.specs.declared.tree.Quantifier.TheVariants as quantifier
-use Rattle.tla_parse.specs.declared.tree.Step.TheVariants as step
-use Rattle.tla_parse.specs.Tree.{Tree, Action, Binary, Fair, Junction, Listing, Quantified, Unary, more, none, bound, unbound}
-use Rattle.tla_parse.specs.Units.{UnitTree, Operator}
+use Rattle.tla_core.specs.Expr.{Expr, next, binary, equal, conjunction, no_exprs, more_exprs}
+use Rattle.tla_core.specs.Expr as e
+use Rattle.tla_tree.specs.declared.tree.Brackets.TheVariants as brackets
+use Rattle.tla_tree.specs.declared.tree.Bullet.TheVariants as bullet
+use Rattle.tla_tree.specs.declared.tree.Fairness.TheVariants as fairness
+use Rattle.tla_tree.specs.declared.tree.Infix.TheVariants as op
+use Rattle.tla_tree.specs.declared.tree.Prefix.TheVariants as prefix
+use Rattle.tla_tree.specs.declared.tree.Quantifier.TheVariants as quantifier
+use Rattle.tla_tree.specs.declared.tree.Step.TheVariants as step
+use Rattle.tla_tree.specs.Tree.{Tree, Action, Binary, Fair, Junction, Listing, Quantified, Unary, more, none, bound, unbound}
+use Rattle.tla_tree.specs.Units.{UnitTree, Operator}
 use Rattle.tla_expand.specs.Places.{place_of}
 use Rattle.tla_config.specs.Statements.{Statement}
 use Rattle.tla_config.specs.Statements as s

@@ -1,7 +1,7 @@
 -- Subscripts that cover the variables: v of [][A]_v (book, chapter 8).
 use Rattle.std.specs.Prelude.{◌≡◌, ℕ, zero, suc, Bool, true, false, ◌&&◌, Some, if◌then◌else◌, nat_eq}
-use Rattle.tla_eval.specs.Expr.{Expr, Exprs, now, tuple, no_exprs, more_exprs}
-use Rattle.tla_parse.specs.Tree.{Tree}
+use Rattle.tla_core.specs.Expr.{Expr, Exprs, now, tuple, no_exprs, more_exprs}
+use Rattle.tla_tree.specs.Tree.{Tree}
 use Rattle.tla_expand.specs.Meanings.{Scope}
 use Rattle.tla_expand.specs.Expand.{expand}
 use Rattle.tla_model.specs.Size.{IsWithinLimits}

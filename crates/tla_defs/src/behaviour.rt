@@ -7,7 +7,7 @@ ghost use Rattle.tla_defs.specs.Refused as refused;
 
 use tla_config::{Config, Statement};
 use tla_lex::Place;
-use tla_parse::Written;
+use tla_tree::Written;
 
 /// What names the behaviour.
 #[derive(Clone, Copy)]

@@ -1,8 +1,8 @@
 //! The definitions that names stand for.
 
 ghost use Rattle.std.specs.Prelude.{◌≡◌, ◌∷◌, List, map, option_map};
-ghost use Rattle.tla_parse.specs.Units.{UnitTree};
-ghost use Rattle.tla_parse.specs.UnitsView.{unit_view};
+ghost use Rattle.tla_tree.specs.Units.{UnitTree};
+ghost use Rattle.tla_tree.specs.UnitsView.{unit_view};
 ghost use Rattle.tla_expand.specs.Maybe.{or_else};
 ghost use Rattle.tla_defs.specs.Bodies as bodies;
 ghost use Rattle.tla_defs.specs.Fairness as fairness;
@@ -11,7 +11,7 @@ ghost use Rattle.tla_defs.specs.Conjuncts.{tree_at, bodies_of, conjuncts_from, i
 
 use crate::items::Items;
 use tla_lex::Place;
-use tla_parse::{Definition, Expr, Unit, Written};
+use tla_tree::{Definition, Expr, Unit, Written};
 
 /// A formula, in which names stand for their definitions so many definitions deep.
 #[derive(Clone, Copy)]

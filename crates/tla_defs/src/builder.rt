@@ -5,14 +5,14 @@ ghost use Rattle.tla_config.specs.declared.error.DefsCode.TheVariants.{Memory};
 ghost use Rattle.tla_config.specs.Refusals.{IsLocated};
 ghost use Rattle.tla_config.specs.Statements.{items_of, checks_deadlock};
 ghost use Rattle.tla_config.specs.View.{statement_view};
-ghost use Rattle.tla_eval.specs.Expr as expr;
-ghost use Rattle.tla_eval.specs.ExprOf.{expr_of};
+ghost use Rattle.tla_core.specs.Expr as expr;
+ghost use Rattle.tla_core.specs.ExprOf.{expr_of};
 ghost use Rattle.tla_expand.specs.Names.{scope_of};
 ghost use Rattle.tla_model.specs.ModelTree.{ModelTree};
 ghost use Rattle.tla_model.specs.ModelOf.{invariant_of};
 ghost use Rattle.tla_model.specs.Models.{model_of};
-ghost use Rattle.tla_parse.specs.declared.word.Written as written;
-ghost use Rattle.tla_parse.specs.UnitsView.{unit_view};
+ghost use Rattle.tla_tree.specs.declared.word.Written as written;
+ghost use Rattle.tla_tree.specs.UnitsView.{unit_view};
 ghost use Rattle.tla_defs.specs.Circles.{AreStraight};
 ghost use Rattle.tla_defs.specs.Constants.{unvalued};
 ghost use Rattle.tla_defs.specs.Formulas.{LacksInvariant, LacksAssumption, Follow, mentions};
@@ -38,10 +38,10 @@ use crate::refusal::{no_memory, refusal_at, refusal_of, text_of};
 use crate::units::variables;
 use std::alloc::Global;
 use tla_config::{Config, DefsCode, DefsError, Source, Statement};
-use tla_eval::Core;
+use tla_core::Core;
 use tla_expand::Scopes;
 use tla_model::{Invariant, Model};
-use tla_parse::{Module, Unit, Written};
+use tla_tree::{Module, Unit, Written};
 
 /// Whether deadlock is looked for.
 fn looks_for_deadlock(statements: &[Statement]) -> bool

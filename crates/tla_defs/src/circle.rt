@@ -2,7 +2,7 @@
 
 ghost use Rattle.std.specs.Prelude.{◌≡◌, ◌≢◌, ◌++◌, true, false, OnOk, IfOk, IfErr, map};
 ghost use Rattle.tla_config.specs.declared.error.DefsCode.TheVariants.{Memory};
-ghost use Rattle.tla_parse.specs.UnitsView.{unit_view};
+ghost use Rattle.tla_tree.specs.UnitsView.{unit_view};
 ghost use Rattle.tla_defs.specs.Circles.{AreStraight};
 ghost use Rattle.tla_defs.specs.Leads as spec;
 ghost use Rattle.tla_defs.specs.Reached.{AreAmong, AreLed, Covers, GoesOn};
@@ -16,7 +16,7 @@ use crate::names::Names;
 use crate::refusal::{no_memory, refusal_of};
 use std::alloc::Global;
 use tla_config::{DefsCode, DefsError, Source};
-use tla_parse::{Unit, Word};
+use tla_tree::{Unit, Word};
 
 /// The names that a name leads to at once, more. The only error is want of memory.
 fn push_next<'a>(leads: &Leads<'a>, names: &mut Names<'a>, name: &'a Word) -> Result<(), DefsError>

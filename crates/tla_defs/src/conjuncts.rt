@@ -2,8 +2,8 @@
 
 ghost use Rattle.std.specs.Prelude.{◌≡◌, ◌++◌, ◌∷◌, [], List, map, OnOk, IfOk, IfErr};
 ghost use Rattle.tla_config.specs.declared.error.DefsCode.TheVariants.{Memory};
-ghost use Rattle.tla_parse.specs.Tree.{trees as trees_of};
-ghost use Rattle.tla_parse.specs.View.{view};
+ghost use Rattle.tla_tree.specs.Tree.{trees as trees_of};
+ghost use Rattle.tla_tree.specs.View.{view};
 ghost use Rattle.tla_defs.specs.Bodies as bodies;
 ghost use Rattle.tla_defs.specs.Specification as spec;
 ghost use Rattle.tla_defs.specs.Conjuncts.{bodies_of, conjuncts_from, all_conjuncts, gathered, seen};
@@ -13,7 +13,7 @@ use crate::bodies::{Bodies, Formula};
 use crate::refusal::no_memory;
 use std::alloc::Global;
 use tla_config::DefsError;
-use tla_parse::{Bullet, Expr, Infix, Word};
+use tla_tree::{Bullet, Expr, Infix, Word};
 
 /// One formula more. The only error is want of memory.
 pub(crate) fn push<'a>(

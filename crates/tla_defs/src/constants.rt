@@ -1,7 +1,7 @@
 //! Constants, and those that have no value.
 
 ghost use Rattle.std.specs.Prelude.{◌≡◌, ◌++◌, OnOk, map, option_map};
-ghost use Rattle.tla_parse.specs.UnitsView.{unit_view, declared};
+ghost use Rattle.tla_tree.specs.UnitsView.{unit_view, declared};
 ghost use Rattle.tla_defs.specs.Constants as spec;
 ghost use Rattle.tla_defs.specs.Mentions.{written_of};
 ghost use Rattle.tla_defs.specs.Refused.{Says};
@@ -12,7 +12,7 @@ use crate::names::Names;
 use crate::scope::Scope;
 use std::alloc::Global;
 use tla_config::{DefsError, Source};
-use tla_parse::{Declaration, Unit};
+use tla_tree::{Declaration, Unit};
 
 /// Constants more, none of which is in scope.
 pub(crate) fn declare<'a>(

@@ -1,11 +1,11 @@
 //! Tuples of variables.
 
 ghost use Rattle.std.specs.Prelude.{◌≡◌, map};
-ghost use Rattle.tla_eval.specs.ExprOf.{expr_of};
+ghost use Rattle.tla_core.specs.ExprOf.{expr_of};
 ghost use Rattle.tla_expand.specs.Lists.{exprs};
 ghost use Rattle.tla_defs.specs.Subscripts as spec;
 
-use tla_eval::Core;
+use tla_core::Core;
 
 /// Whether this is a variable or a nested tuple of variables.
 #[cycle(names)]

@@ -2,8 +2,8 @@
 
 ghost use Rattle.std.specs.Prelude.{◌≡◌, ◌&&◌, ◌++◌, ◌∷◌, map, OnOk, IfOk, IfErr};
 ghost use Rattle.tla_config.specs.declared.error.DefsCode.TheVariants.{Memory};
-ghost use Rattle.tla_parse.specs.Tree.{trees as trees_of, binders};
-ghost use Rattle.tla_parse.specs.View.{view, group_view};
+ghost use Rattle.tla_tree.specs.Tree.{trees as trees_of, binders};
+ghost use Rattle.tla_tree.specs.View.{view, group_view};
 ghost use Rattle.tla_defs.specs.Scope.{plain, bound_names};
 ghost use Rattle.tla_defs.specs.Fairness as spec;
 ghost use Rattle.tla_defs.specs.Conjuncts.{bodies_of, fair_from, all_fair};
@@ -14,7 +14,7 @@ use crate::refusal::no_memory;
 use crate::scope::Scope;
 use std::alloc::Global;
 use tla_config::DefsError;
-use tla_parse::{Binder, Bullet, Expr, Infix, Quantifier, Word};
+use tla_tree::{Binder, Bullet, Expr, Infix, Quantifier, Word};
 
 fn is_and(operator: Infix) -> bool
     ensures { result ≡ spec.is_and operator }

@@ -3,11 +3,11 @@
 ghost use Rattle.std.specs.Prelude.{◌≡◌, ◌≢◌, IfOk, IfErr, map};
 ghost use Rattle.tla_config.specs.declared.error.DefsCode.TheVariants.{Memory};
 ghost use Rattle.tla_config.specs.View.{statement_view};
-ghost use Rattle.tla_eval.specs.Expr as expr;
-ghost use Rattle.tla_eval.specs.ExprOf.{expr_of};
+ghost use Rattle.tla_core.specs.Expr as expr;
+ghost use Rattle.tla_core.specs.ExprOf.{expr_of};
 ghost use Rattle.tla_expand.specs.Names.{scope_of};
-ghost use Rattle.tla_parse.specs.Tree.{Name};
-ghost use Rattle.tla_parse.specs.View.{view};
+ghost use Rattle.tla_tree.specs.Tree.{Name};
+ghost use Rattle.tla_tree.specs.View.{view};
 ghost use Rattle.tla_defs.specs.Model as model;
 ghost use Rattle.tla_defs.specs.Named as naming;
 ghost use Rattle.tla_defs.specs.Refused as refused;
@@ -18,10 +18,10 @@ use crate::refusal::{no_memory, refusal_at, refusal_of};
 use crate::scope::Scope;
 use std::alloc::Global;
 use tla_config::{DefsCode, DefsError, Source, Statement};
-use tla_eval::Core;
+use tla_core::Core;
 use tla_expand::{Failure, Primes, Scopes};
 use tla_lex::Place;
-use tla_parse::{Expr, Written};
+use tla_tree::{Expr, Written};
 
 /// The name of a definition without parameters.
 fn named(alloc: Global, definitions: &Scope<'_>, name: &Written) -> Result<(), DefsError>
@@ -95,7 +95,7 @@ pub(crate) fn statements_named(
 }
 
 /// A place of an expression, as a refusal tells it.
-fn place_of(place: tla_eval::Place) -> Place {
+fn place_of(place: tla_core::Place) -> Place {
     Place {
         line: place.line,
         column: place.column,

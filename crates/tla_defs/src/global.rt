@@ -6,9 +6,9 @@ ghost use Rattle.tla_config.specs.Names.{is_among};
 ghost use Rattle.tla_config.specs.View.{item_view};
 ghost use Rattle.tla_expand.specs.Expand.{definition_in};
 ghost use Rattle.tla_expand.specs.Names.{scope_of, outer_of};
-ghost use Rattle.tla_parse.specs.Units.{UnitTree};
-ghost use Rattle.tla_parse.specs.UnitsView.{unit_view};
-ghost use Rattle.tla_parse.specs.View.{view, definition_view};
+ghost use Rattle.tla_tree.specs.Units.{UnitTree};
+ghost use Rattle.tla_tree.specs.UnitsView.{unit_view};
+ghost use Rattle.tla_tree.specs.View.{view, definition_view};
 ghost use Rattle.tla_defs.specs.Global as global;
 ghost use Rattle.tla_defs.specs.Items as items;
 ghost use Rattle.tla_defs.specs.Scope.{signature};
@@ -19,7 +19,7 @@ use crate::refusal::no_memory;
 use std::alloc::Global;
 use tla_config::{DefsError, Item};
 use tla_expand::Scopes;
-use tla_parse::{Definition, Expr, Unit, Word, Written};
+use tla_tree::{Definition, Expr, Unit, Word, Written};
 
 /// A scope, and how many variables are in it.
 #[derive(Drop)]

@@ -5,7 +5,7 @@ ghost use Rattle.std.specs.Borrow.{Bor};
 ghost use Rattle.tla_config.specs.declared.error.DefsCode.TheVariants.{Memory};
 ghost use Rattle.tla_config.specs.Statements as config;
 ghost use Rattle.tla_config.specs.View.{item_view, statement_view};
-ghost use Rattle.tla_parse.specs.UnitsView.{unit_view};
+ghost use Rattle.tla_tree.specs.UnitsView.{unit_view};
 ghost use Rattle.tla_value.specs.Tree as value;
 ghost use Rattle.tla_defs.specs.Items as spec;
 ghost use Rattle.tla_defs.specs.Leads as leads;
@@ -13,7 +13,7 @@ ghost use Rattle.tla_defs.specs.Scope as scopes;
 ghost use Rattle.tla_defs.specs.Mentions.{item_of};
 ghost use Rattle.tla_defs.specs.Refused.{Says, refusal_of};
 ghost use Rattle.tla_defs.specs.Scope.{signature};
-ghost use Rattle.tla_parse.specs.View.{definition_view};
+ghost use Rattle.tla_tree.specs.View.{definition_view};
 
 use crate::mention::Mention;
 use crate::names::Names;
@@ -22,7 +22,7 @@ use crate::scope::Scope;
 use std::alloc::Global;
 use std::marker::Model;
 use tla_config::{DefsCode, DefsError, Item, Source, Statement};
-use tla_parse::{Definition, Unit, Written};
+use tla_tree::{Definition, Unit, Written};
 
 /// Items in the order of the configuration. Contracts see the list of what they say.
 #[derive(Drop)]

@@ -3,8 +3,8 @@
 ghost use Rattle.std.specs.Prelude.{◌≡◌, ◌≢◌, ◌++◌, ◌∷◌, [], List, None, Some, true, false, IfOk, IfErr, OnOk, map, option_map, is_some, length, take};
 ghost use Rattle.tla_config.specs.declared.error.DefsCode.TheVariants.{Memory};
 ghost use Rattle.tla_config.specs.Names.{Name, words};
-ghost use Rattle.tla_parse.specs.Tree.{trees, binders, arms, definitions, fields, keys, updates};
-ghost use Rattle.tla_parse.specs.View.{view, group_view, choice_view, definition_view, field_view, key_view, update_view};
+ghost use Rattle.tla_tree.specs.Tree.{trees, binders, arms, definitions, fields, keys, updates};
+ghost use Rattle.tla_tree.specs.View.{view, group_view, choice_view, definition_view, field_view, key_view, update_view};
 ghost use Rattle.tla_defs.specs.Scope as scope_of;
 ghost use Rattle.tla_defs.specs.Operators as operators;
 ghost use Rattle.tla_defs.specs.Known as known;
@@ -19,7 +19,7 @@ use crate::scope::Scope;
 use std::alloc::Global;
 use tla_config::{DefsCode, DefsError, Source};
 use tla_lex::Place;
-use tla_parse::{Arm, Binder, Definition, Expr, Field, Infix, Key, Prefix, Update, Written};
+use tla_tree::{Arm, Binder, Definition, Expr, Field, Infix, Key, Prefix, Update, Written};
 
 /// Whether an infix operator may be used where these modules are extended.
 fn infix_known(modules: &Names<'_>, operator: Infix) -> bool

@@ -3,8 +3,8 @@
 ghost use Rattle.std.specs.Prelude.{◌≡◌, ◌++◌, ◌∷◌, [], List, ℕ, OnOk, IfOk, IfErr, IfSome, IfNone, map};
 ghost use Rattle.tla_config.specs.View.{item_view};
 ghost use Rattle.tla_config.specs.declared.error.DefsCode.TheVariants.{Memory};
-ghost use Rattle.tla_parse.specs.UnitsView.{unit_view};
-ghost use Rattle.tla_parse.specs.View.{view, definition_view};
+ghost use Rattle.tla_tree.specs.UnitsView.{unit_view};
+ghost use Rattle.tla_tree.specs.View.{view, definition_view};
 ghost use Rattle.tla_defs.specs.Leads as spec;
 
 use crate::global::name_of;
@@ -17,7 +17,7 @@ use indexmap::IndexMap;
 use std::alloc::Global;
 use std::marker::Model;
 use tla_config::{DefsError, Item};
-use tla_parse::{Definition, Expr, Unit, Word};
+use tla_tree::{Definition, Expr, Unit, Word};
 
 /// To which names each name leads at once.
 #[derive(Drop)]

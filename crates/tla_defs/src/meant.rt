@@ -2,14 +2,14 @@
 
 ghost use Rattle.std.specs.Prelude.{◌≡◌, ◌≢◌, Some, Ok, map, IfOk, IfErr};
 ghost use Rattle.tla_config.specs.declared.error.DefsCode.TheVariants.{Memory};
-ghost use Rattle.tla_eval.specs.Expr as expr;
-ghost use Rattle.tla_eval.specs.ExprOf.{expr_of};
+ghost use Rattle.tla_core.specs.Expr as expr;
+ghost use Rattle.tla_core.specs.ExprOf.{expr_of};
 ghost use Rattle.tla_expand.specs.Names.{scope_of};
-ghost use Rattle.tla_parse.specs.declared.tree.Bullet.TheVariants as bullet;
-ghost use Rattle.tla_parse.specs.Tree.{Tree, Junction, trees as trees_of};
+ghost use Rattle.tla_tree.specs.declared.tree.Bullet.TheVariants as bullet;
+ghost use Rattle.tla_tree.specs.Tree.{Tree, Junction, trees as trees_of};
 ghost use Rattle.tla_defs.specs.Conjuncts.{seen};
-ghost use Rattle.tla_parse.specs.UnitsView.{unit_view};
-ghost use Rattle.tla_parse.specs.View.{view};
+ghost use Rattle.tla_tree.specs.UnitsView.{unit_view};
+ghost use Rattle.tla_tree.specs.View.{view};
 ghost use Rattle.tla_defs.specs.Mentions.{behaviour_of};
 ghost use Rattle.tla_defs.specs.Model as model;
 ghost use Rattle.tla_defs.specs.Refused as refused;
@@ -23,10 +23,10 @@ use crate::refusal::no_memory;
 use crate::specification::{Specified, specification};
 use std::alloc::Global;
 use tla_config::DefsError;
-use tla_eval::Core;
+use tla_core::Core;
 use tla_expand::{Primes, Scopes};
 use tla_lex::Place;
-use tla_parse::{Expr, Unit, Written};
+use tla_tree::{Expr, Unit, Written};
 
 /// The names of the initial predicate and the action, or what a specification says of them.
 #[derive(Drop)]

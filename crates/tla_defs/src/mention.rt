@@ -1,7 +1,7 @@
 //! Names, operators and first words of forms, where they stand.
 
 use tla_lex::Place;
-use tla_parse::Written;
+use tla_tree::Written;
 
 /// A name, an operator or the first word of a form, as it is written.
 #[derive(Clone, Copy)]

@@ -9,7 +9,7 @@ use crate::refusal::{no_memory, text_of};
 use std::alloc::Global;
 use std::marker::Model;
 use tla_config::DefsError;
-use tla_parse::Word;
+use tla_tree::Word;
 use tla_value::Text;
 
 /// Names in the order in which they were brought in.

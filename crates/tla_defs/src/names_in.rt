@@ -2,13 +2,13 @@
 
 ghost use Rattle.std.specs.Prelude.{◌≡◌, ◌++◌, OnOk, IfErr, map};
 ghost use Rattle.tla_config.specs.declared.error.DefsCode.TheVariants.{Memory};
-ghost use Rattle.tla_parse.specs.Tree.{trees, binders, arms, definitions, fields, keys, updates};
-ghost use Rattle.tla_parse.specs.View.{view, group_view, choice_view, definition_view, field_view, key_view, update_view};
+ghost use Rattle.tla_tree.specs.Tree.{trees, binders, arms, definitions, fields, keys, updates};
+ghost use Rattle.tla_tree.specs.View.{view, group_view, choice_view, definition_view, field_view, key_view, update_view};
 ghost use Rattle.tla_defs.specs.Leads as leads;
 
 use crate::names::Names;
 use tla_config::DefsError;
-use tla_parse::{Arm, Binder, Definition, Expr, Field, Key, Update};
+use tla_tree::{Arm, Binder, Definition, Expr, Field, Key, Update};
 
 /// The names of an expression more. The only error is want of memory.
 #[cycle(names_in)]

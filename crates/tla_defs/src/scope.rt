@@ -3,9 +3,9 @@
 ghost use Rattle.std.specs.Prelude.{◌≡◌, ◌++◌, ◌∷◌, [], OnOk, IfErr, take, length, is_some, map};
 ghost use Rattle.tla_config.specs.declared.error.DefsCode.TheVariants.{Memory};
 ghost use Rattle.tla_config.specs.Names.{words};
-ghost use Rattle.tla_parse.specs.Tree.{binders};
-ghost use Rattle.tla_parse.specs.View.{group_view};
-ghost use Rattle.tla_parse.specs.UnitsView.{declared};
+ghost use Rattle.tla_tree.specs.Tree.{binders};
+ghost use Rattle.tla_tree.specs.View.{group_view};
+ghost use Rattle.tla_tree.specs.UnitsView.{declared};
 ghost use Rattle.tla_defs.specs.Constants.{constants};
 ghost use Rattle.tla_defs.specs.Scope.{arity, plain, bound_names, module_names, extended};
 
@@ -14,7 +14,7 @@ use crate::refusal::no_memory;
 use std::alloc::Global;
 use std::marker::Model;
 use tla_config::DefsError;
-use tla_parse::{Binder, Declaration, Written};
+use tla_tree::{Binder, Declaration, Written};
 
 /// A name, and how many arguments it takes.
 #[derive(Clone, Copy)]

@@ -2,11 +2,11 @@
 
 ghost use Rattle.std.specs.Prelude.{◌≡◌, ◌≢◌, ◌++◌, ◌∷◌, [], List, Some, Ok, map, option_map, OnOk, IfOk, IfErr};
 ghost use Rattle.tla_config.specs.declared.error.DefsCode.TheVariants.{Memory};
-ghost use Rattle.tla_eval.specs.Expr as expr;
+ghost use Rattle.tla_core.specs.Expr as expr;
 ghost use Rattle.tla_expand.specs.Names.{scope_of};
-ghost use Rattle.tla_parse.specs.Tree.{Tree};
-ghost use Rattle.tla_parse.specs.UnitsView.{unit_view};
-ghost use Rattle.tla_parse.specs.View.{view};
+ghost use Rattle.tla_tree.specs.Tree.{Tree};
+ghost use Rattle.tla_tree.specs.UnitsView.{unit_view};
+ghost use Rattle.tla_tree.specs.View.{view};
 ghost use Rattle.tla_defs.specs.Conjuncts.{bodies_of, seen, tree_at};
 ghost use Rattle.tla_defs.specs.Model as model;
 ghost use Rattle.tla_defs.specs.Refused as refused;
@@ -24,7 +24,7 @@ use std::alloc::Global;
 use tla_config::{DefsCode, DefsError, Source};
 use tla_expand::{Failure, Primes, Scopes};
 use tla_lex::Place;
-use tla_parse::{Expr, Prefix, Step, Unit, Written};
+use tla_tree::{Expr, Prefix, Step, Unit, Written};
 
 /// An action and its subscript.
 #[derive(Clone, Copy)]

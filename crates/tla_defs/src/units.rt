@@ -2,8 +2,8 @@
 
 ghost use Rattle.std.specs.Prelude.{◌≡◌, ◌≢◌, ◌++◌, ◌∷◌, [], List, None, Some, IfOk, IfErr, OnOk, map};
 ghost use Rattle.tla_config.specs.Names.{words};
-ghost use Rattle.tla_parse.specs.Units.{UnitTree};
-ghost use Rattle.tla_parse.specs.UnitsView.{unit_view};
+ghost use Rattle.tla_tree.specs.Units.{UnitTree};
+ghost use Rattle.tla_tree.specs.UnitsView.{unit_view};
 ghost use Rattle.tla_config.specs.declared.error.DefsCode.TheVariants.{Memory};
 ghost use Rattle.tla_defs.specs.Misuses as misuses;
 ghost use Rattle.tla_defs.specs.Refused.{refusal_for};
@@ -14,7 +14,7 @@ use crate::names::Names;
 use crate::scope::Scope;
 use std::alloc::Global;
 use tla_config::{DefsError, Source};
-use tla_parse::{Unit, Written};
+use tla_tree::{Unit, Written};
 
 /// What the units so far bring in.
 #[derive(Drop)]

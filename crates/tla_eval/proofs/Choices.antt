@@ -5,11 +5,11 @@ use Rattle.tla_value.specs.Tree.{Tree}
 use Rattle.tla_value.specs.TreeOf.{tree_of}
 use Rattle.tla_value.specs.declared.value.Value.{Value}
 use Rattle.tla_value.specs.Choices.{choices}
-use Rattle.tla_eval.specs.Fault.{Place, Outcome, ◌>>=◌}
-use Rattle.tla_eval.specs.Kinds.{as_set, make_set}
-use Rattle.tla_eval.specs.Lists.{each, passing}
-use Rattle.tla_eval.specs.Meaning.{Meaning, Bound, Present, Next}
-use Rattle.tla_eval.specs.Functions.{function_on, means-image, means-function}
+use Rattle.tla_core.specs.Fault.{Place, Outcome, ◌>>=◌}
+use Rattle.tla_core.specs.Kinds.{as_set, make_set}
+use Rattle.tla_core.specs.Lists.{each, passing}
+use Rattle.tla_core.specs.Meaning.{Meaning, Bound, Present, Next}
+use Rattle.tla_core.specs.Functions.{function_on, means-image, means-function}
 use Rattle.tla_eval.specs.Gives.{values_for, then_more, chosen_rule, image_rule, chosen_function_rule}
 use Rattle.tla_eval.proofs.Members.{bind-ok}
 use Rattle.tla_eval.proofs.Collected.{passing_more}

@@ -7,12 +7,12 @@ use Rattle.std.specs.declared.cmp.Ordering.TheVariants.{Less, Equal, Greater}
 use Rattle.tla_value.specs.Order.{tree_cmp}
 use Rattle.tla_value.specs.Funs.{fun_of}
 use Rattle.tla_value.specs.Choices.{keys_of, parts_of, choices}
-use Rattle.tla_eval.specs.Kinds.{within, make_fun}
-use Rattle.tla_eval.specs.Functions.{argument_of, function_on}
-use Rattle.tla_eval.specs.Meaning.{Meaning, Bound, Present, Next, means-record_of}
+use Rattle.tla_core.specs.Kinds.{within, make_fun}
+use Rattle.tla_core.specs.Functions.{argument_of, function_on}
+use Rattle.tla_core.specs.Meaning.{Meaning, Bound, Present, Next, means-record_of}
 use Rattle.tla_eval.specs.Gives.{named_value, record_rule}
-use Rattle.tla_eval.specs.Fault.{Place, Fault, Outcome, ◌>>=◌}
-use Rattle.tla_eval.specs.Lists.{each, passing}
+use Rattle.tla_core.specs.Fault.{Place, Fault, Outcome, ◌>>=◌}
+use Rattle.tla_core.specs.Lists.{each, passing}
 
 module _ {A B : Type 0} (f : A → Outcome B) (kept : List B) (x : A) (xs : List A) where
   pub each_more : (y : B) → f x ≡ Ok y → (each f (x ∷ xs) >>= λ ys. Ok (kept ++ ys)) ≡ (each f xs >>= λ ys. Ok ((kept ++ y ∷ []) ++ ys))

@@ -8,11 +8,11 @@ use Rattle.tla_value.specs.Tree.{Tree, members-trees, entries-pairs}
 use Rattle.tla_value.specs.TreeOf.{tree_of}
 use Rattle.tla_value.specs.declared.value.Value.{Value}
 use Rattle.tla_value.specs.declared.value.Value.TheVariants.{Set, Fun}
-use Rattle.tla_eval.specs.Fault.{Place, Outcome, ◌>>=◌}
-use Rattle.tla_eval.specs.Expr.{Override}
-use Rattle.tla_eval.specs.Kinds.{as_set, as_fun, members_of, pairs_of, make_set, make_fun, rising_set}
-use Rattle.tla_eval.specs.Operators.{binary_rule}
-use Rattle.tla_eval.specs.SetForms.{on_sets}
+use Rattle.tla_core.specs.Fault.{Place, Outcome, ◌>>=◌}
+use Rattle.tla_core.specs.Expr.{Override}
+use Rattle.tla_core.specs.Kinds.{as_set, as_fun, members_of, pairs_of, make_set, make_fun, rising_set}
+use Rattle.tla_core.specs.Operators.{binary_rule}
+use Rattle.tla_core.specs.SetForms.{on_sets}
 use Rattle.tla_eval.specs.Gives.{subsets_rule}
 use Rattle.tla_value.specs.Choices.{subsets_of}
 

@@ -8,10 +8,8 @@ pub mod SetLaw
 pub mod Numbers
 pub mod Known
 pub mod Made
-pub mod Loops
 pub mod Numbered
 pub mod Collected
-pub mod Parts
 pub mod RecordSets
 pub mod Arguments
 pub mod Choices

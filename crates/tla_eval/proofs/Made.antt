@@ -7,8 +7,8 @@ use Rattle.tla_value.specs.Sets.{RefusesSet, RefusesSetOfSize, most_pairs}
 use Rattle.tla_value.specs.Funs.{RefusesFun}
 use Rattle.tla_value.specs.declared.error.ValueError.{ValueError}
 use Rattle.tla_value.specs.declared.error.ValueError.TheVariants.{TooMany, TooDeep, Memory}
-use Rattle.tla_eval.specs.Fault.{Place, Fault, FaultCode, fault, out_of_memory}
-use Rattle.tla_eval.specs.Kinds.{within, rising_set, rising_fun, sized_set, size_of_functions}
+use Rattle.tla_core.specs.Fault.{Place, Fault, FaultCode, fault, out_of_memory}
+use Rattle.tla_core.specs.Kinds.{within, rising_set, rising_fun, sized_set, size_of_functions}
 use Rattle.tla_eval.specs.Gives.{IsRefusal}
 
 pub within_many : (p : Place) (n d : ℕ) (t : Tree) → 1000000 < n → within p n d t ≡ fault FaultCode.TooMany p

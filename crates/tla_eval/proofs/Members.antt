@@ -10,11 +10,11 @@ use Rattle.tla_value.specs.OrderLaws.{tree_cmp-total, exact-tree}
 use Rattle.tla_value.specs.Sets.{is_member, set_of}
 use Rattle.tla_value.specs.SetLaws.{is_member-set_of}
 use Rattle.tla_value.specs.Order.{tree_eq}
-use Rattle.tla_eval.specs.Kinds.{as_set, within, sized_set, make_set}
+use Rattle.tla_core.specs.Kinds.{as_set, within, sized_set, make_set}
 use Rattle.tla_value.specs.Funs.{arguments}
 use Rattle.tla_value.specs.Choices.{choices, sublists, functions_of}
 use Rattle.std.specs.List.{flat_map}
-use Rattle.tla_eval.specs.Fault.{Place, Fault, Outcome, ◌>>=◌, TooMany, TooDeep}
+use Rattle.tla_core.specs.Fault.{Place, Fault, Outcome, ◌>>=◌, TooMany, TooDeep}
 
 -- ---- Bool
 pub bool-iff : (a b : Bool) → (a ≡ true → b ≡ true) → (b ≡ true → a ≡ true) → a ≡ b

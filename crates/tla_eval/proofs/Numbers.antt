@@ -5,8 +5,8 @@ use Rattle.std.proofs.lemmas.Int.{ints}
 use Rattle.std.specs.Int.{w64, int_pow}
 use Rattle.std.proofs.Math.Nat.{pow-le-pow_left, pow-le-pow_right, pow-suc}
 use Rattle.tla_value.specs.Tree.{int}
-use Rattle.tla_eval.specs.Fault.{Place, fault, Overflow}
-use Rattle.tla_eval.specs.Kinds.{number, is_in_range}
+use Rattle.tla_core.specs.Fault.{Place, fault, Overflow}
+use Rattle.tla_core.specs.Kinds.{number, is_in_range}
 
 -- ---- 64 bits
 up_in : (n : ℕ) → n ≤ 9223372036854775807 → is_in_range (pos n) ≡ true

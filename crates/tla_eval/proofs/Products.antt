@@ -5,16 +5,16 @@ use Rattle.tla_value.specs.Tree.{Tree, truth, int, text, model, set, fun, pairs,
 use Rattle.tla_value.specs.Sets.{is_member, set_of}
 use Rattle.tla_value.specs.IsValue.{IsValue, ArePairs}
 use Rattle.tla_value.specs.Order.{tree_eq}
-use Rattle.tla_eval.specs.Kinds.{size_of_functions, as_set, make_function_set, items}
+use Rattle.tla_core.specs.Kinds.{size_of_functions, as_set, make_function_set, items}
 use Rattle.tla_value.specs.Funs.{items_from, with_item}
 use Rattle.tla_value.specs.Choices.{tuples_of, numbered, sequence, choices}
-use Rattle.tla_eval.specs.Meaning.{Meaning, Bound, Present, Next, elements}
-use Rattle.tla_eval.specs.Lists.{each}
-use Rattle.tla_eval.specs.Functions.{sets_of}
-use Rattle.tla_eval.specs.Membership.{if_some}
-use Rattle.tla_eval.specs.SetForms.{parts_have, means-product}
-use Rattle.tla_eval.specs.Laws.{KnowsItsMembers}
-use Rattle.tla_eval.specs.Fault.{Place, Outcome, ◌>>=◌}
+use Rattle.tla_core.specs.Meaning.{Meaning, Bound, Present, Next, elements}
+use Rattle.tla_core.specs.Lists.{each}
+use Rattle.tla_core.specs.Functions.{sets_of}
+use Rattle.tla_core.specs.Membership.{if_some}
+use Rattle.tla_core.specs.SetForms.{parts_have, means-product}
+use Rattle.tla_core.specs.Laws.{KnowsItsMembers}
+use Rattle.tla_core.specs.Fault.{Place, Outcome, ◌>>=◌}
 use Rattle.tla_eval.proofs.Members.{bool-iff, and-both, eq-true, eq-refl, eq-same, any-map, pairs-entries, bind-ok, made-sized, stand_in, choices-any, choices-found}
 use Rattle.tla_eval.proofs.TwoSets.{then-ok, not-there, cond-and, has-elements}
 

@@ -12,17 +12,17 @@ use Rattle.tla_value.specs.Funs.{arguments, value_at}
 use Rattle.tla_value.specs.Sets.{is_member, set_of}
 use Rattle.tla_value.specs.SetLaws.{is-set_of, is_member-set_of}
 use Rattle.tla_value.specs.Choices.{keys_of, parts_of, is_each_once, records_of, tuples_of}
-use Rattle.tla_eval.specs.Fault.{Place, NoField, Outcome, ◌>>=◌, fault}
-use Rattle.tla_eval.specs.Kinds.{as_set, make_function_set}
-use Rattle.tla_eval.specs.Lists.{each}
-use Rattle.tla_eval.specs.Meaning.{Meaning, Bound, Present, Next}
-use Rattle.tla_eval.specs.SetForms.{means-records, means-product, names_of, parts_have}
-use Rattle.tla_eval.specs.Membership.{if_some}
+use Rattle.tla_core.specs.Fault.{Place, NoField, Outcome, ◌>>=◌, fault}
+use Rattle.tla_core.specs.Kinds.{as_set, make_function_set}
+use Rattle.tla_core.specs.Lists.{each}
+use Rattle.tla_core.specs.Meaning.{Meaning, Bound, Present, Next}
+use Rattle.tla_core.specs.SetForms.{means-records, means-product, names_of, parts_have}
+use Rattle.tla_core.specs.Membership.{if_some}
 use Rattle.tla_eval.specs.Gives.{product_rule, record_set_rule, records_rule, named_sets, values_of}
 use Rattle.tla_eval.specs.Environment.{tree_of_evaluated}
-use Rattle.tla_eval.specs.ExprOf.{expr_of, fields_of_cores, parts_of_cores}
-use Rattle.tla_eval.specs.Value.{means}
-use Rattle.tla_eval.specs.declared.expression.Core.{Core}
+use Rattle.tla_core.specs.ExprOf.{expr_of, fields_of_cores, parts_of_cores}
+use Rattle.tla_core.specs.Value.{means}
+use Rattle.tla_core.specs.declared.expression.Core.{Core}
 use Rattle.tla_eval.specs.declared.environment.Evaluated.{Evaluated}
 use Rattle.tla_eval.proofs.Choices.{bind_assoc, each_long, same_list}
 use Rattle.tla_eval.proofs.Members.{bind-ok, bool-iff, and-both, both-and, eq-true, eq-same, set-same}

@@ -12,17 +12,17 @@ use Rattle.tla_value.specs.Sets.{is_member, set_of}
 use Rattle.tla_value.specs.SetLaws.{rising-set_of, is_member-set_of}
 use Rattle.tla_value.specs.IsValue.{IsValue, ArePairs}
 use Rattle.tla_value.specs.Order.{tree_eq}
-use Rattle.tla_eval.specs.Kinds.{size_of_functions, make_function_set, pairs_of}
+use Rattle.tla_core.specs.Kinds.{size_of_functions, make_function_set, pairs_of}
 use Rattle.tla_value.specs.Funs.{arguments, value_at}
 use Rattle.tla_value.specs.Choices.{is_each_once, fields_fit, if_there, records_of, keys_of, parts_of, choices, functions_of}
-use Rattle.tla_eval.specs.Meaning.{Meaning, Bound, Present, Next, elements}
-use Rattle.tla_eval.specs.Lists.{all_hold}
-use Rattle.tla_eval.specs.Functions.{sets_of}
-use Rattle.tla_eval.specs.Membership.{if_some}
-use Rattle.tla_eval.specs.SetForms.{field_has, names_of, means-records}
+use Rattle.tla_core.specs.Meaning.{Meaning, Bound, Present, Next, elements}
+use Rattle.tla_core.specs.Lists.{all_hold}
+use Rattle.tla_core.specs.Functions.{sets_of}
+use Rattle.tla_core.specs.Membership.{if_some}
+use Rattle.tla_core.specs.SetForms.{field_has, names_of, means-records}
 use Rattle.std.specs.List.{flat_map}
-use Rattle.tla_eval.specs.Laws.{KnowsItsMembers}
-use Rattle.tla_eval.specs.Fault.{Place, NoField, fault}
+use Rattle.tla_core.specs.Laws.{KnowsItsMembers}
+use Rattle.tla_core.specs.Fault.{Place, NoField, fault}
 use Rattle.tla_eval.proofs.Members.{and-both, both-and, or-cases, or-first, or-second, eq-true, eq-refl, member-append, member-filter, pairs-entries, bind-ok, set-same, made-sized, cond-first, into, member-functions}
 use Rattle.tla_eval.proofs.TwoSets.{then-ok, not-there, cond-and, all-by, has-elements}
 use Rattle.tla_eval.proofs.Products.{Gives, gives-sets, AllKnow}

@@ -3,20 +3,20 @@ use Rattle.std.proofs.Common.{◌≡◌, ℕ, Bool, true, false, ◌==◌, List,
 use Rattle.std.specs.List.{AllByRecursion}
 use Rattle.tla_value.specs.Tree.{Tree, text, set, trees}
 use Rattle.tla_value.specs.Order.{tree_eq}
-use Rattle.tla_eval.specs.Kinds.{items, members_of, pairs_of}
+use Rattle.tla_core.specs.Kinds.{items, members_of, pairs_of}
 use Rattle.tla_value.specs.Funs.{value_at, arguments}
-use Rattle.tla_eval.specs.Meaning.{Meaning, Bound, Present, Next, asks, elements, as_tree, by_value, of_two, of_each, if_set, means-constant, means-bound, means-now, means-next, means-unary, means-binary, means-equal, means-sub_seq, means-enumerated, means-tuple, means-record_of}
-use Rattle.tla_eval.specs.Lists.{each, taken}
-use Rattle.tla_eval.specs.Functions.{sets_of, update, update_all, replaced, means-image, means-function, means-except}
-use Rattle.tla_eval.specs.Membership.{if_some, means-member, means-not_member, means-subset, means-kind_set, means-booleans, means-sequences}
-use Rattle.tla_eval.specs.SetForms.{parts_have, of_two_sets, means-power, means-functions, means-records, means-product, means-cup, means-cap, means-minus, means-filtered}
+use Rattle.tla_core.specs.Meaning.{Meaning, Bound, Present, Next, asks, elements, as_tree, by_value, of_two, of_each, if_set, means-constant, means-bound, means-now, means-next, means-unary, means-binary, means-equal, means-sub_seq, means-enumerated, means-tuple, means-record_of}
+use Rattle.tla_core.specs.Lists.{each, taken}
+use Rattle.tla_core.specs.Functions.{sets_of, update, update_all, replaced, means-image, means-function, means-except}
+use Rattle.tla_core.specs.Membership.{if_some, means-member, means-not_member, means-subset, means-kind_set, means-booleans, means-sequences}
+use Rattle.tla_core.specs.SetForms.{parts_have, of_two_sets, means-power, means-functions, means-records, means-product, means-cup, means-cap, means-minus, means-filtered}
 use Rattle.tla_value.specs.Choices.{choices, keys_of, parts_of, functions_of}
-use Rattle.tla_eval.specs.Logic.{means-conjunction, means-disjunction, means-implies, means-cases, means-assert, means-for_all, means-for_some, means-choose}
-use Rattle.tla_eval.specs.Value.{means, mean_all, mean_fields, mean_arms, means_other, mean_updates}
-use Rattle.tla_eval.specs.Laws.{Extends, Stays, IsStable}
-use Rattle.tla_eval.specs.Fault.{Place, Outcome}
+use Rattle.tla_core.specs.Logic.{means-conjunction, means-disjunction, means-implies, means-cases, means-assert, means-for_all, means-for_some, means-choose}
+use Rattle.tla_core.specs.Value.{means, mean_all, mean_fields, mean_arms, means_other, mean_updates}
+use Rattle.tla_core.specs.Laws.{Extends, Stays, IsStable}
+use Rattle.tla_core.specs.Fault.{Place, Outcome}
 use Rattle.tla_value.specs.Sets.{is_member, set_of}
-use Rattle.tla_eval.specs.Expr.{Unary, Binary, Kind, Expr, Exprs, Fields, Arms, Updates, constant, bound, now, next, unary, binary, equal, sub_seq, enumerated, tuple, record_of, conjunction, disjunction, implies, conditional, cases, assert, for_all, for_some, choose, image, function, except, member, not_member, subset, kind_set, booleans, sequences, power, functions, records, product, cup, cap, minus, filtered, no_exprs, more_exprs, no_fields, more_fields, no_arms, other, more_arms, no_updates, more_updates}
+use Rattle.tla_core.specs.Expr.{Unary, Binary, Kind, Expr, Exprs, Fields, Arms, Updates, constant, bound, now, next, unary, binary, equal, sub_seq, enumerated, tuple, record_of, conjunction, disjunction, implies, conditional, cases, assert, for_all, for_some, choose, image, function, except, member, not_member, subset, kind_set, booleans, sequences, power, functions, records, product, cup, cap, minus, filtered, no_exprs, more_exprs, no_fields, more_fields, no_arms, other, more_arms, no_updates, more_updates}
 use Rattle.tla_eval.proofs.Stays.{same, stays-bind, stays-cond, stays-each, stays-all_hold, stays-some_hold, stays-passing, stays-first_passing}
 
 abbrev AllStable : List Meaning → Type 0

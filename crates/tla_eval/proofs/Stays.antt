@@ -2,9 +2,9 @@
 use Rattle.std.proofs.Common.{Bool, true, false, cond, List, [], ◌∷◌, refl, ap, ◌∙◌, Ok, Err}
 use Rattle.std.specs.List.{AllByRecursion}
 use Rattle.tla_value.specs.Tree.{Tree}
-use Rattle.tla_eval.specs.Lists.{each, all_hold, some_hold, passing, first_passing}
-use Rattle.tla_eval.specs.Laws.{Stays}
-use Rattle.tla_eval.specs.Fault.{Place, Outcome, ◌>>=◌}
+use Rattle.tla_core.specs.Lists.{each, all_hold, some_hold, passing, first_passing}
+use Rattle.tla_core.specs.Laws.{Stays}
+use Rattle.tla_core.specs.Fault.{Place, Outcome, ◌>>=◌}
 
 pub same : {A : Type 0} {r : Outcome A} → Stays r r
 same = record { by = λ h. refl }

@@ -8,15 +8,15 @@ use Rattle.tla_value.specs.Sets.{is_member, set_of}
 use Rattle.tla_value.specs.SetLaws.{is_member-set_of, is-set_of}
 use Rattle.tla_value.specs.IsValue.{IsValue, AreValues, ArePairs}
 use Rattle.tla_value.specs.Order.{tree_eq}
-use Rattle.tla_eval.specs.Kinds.{as_set, make_set, members_of, pairs_of}
+use Rattle.tla_core.specs.Kinds.{as_set, make_set, members_of, pairs_of}
 use Rattle.tla_value.specs.Funs.{arguments}
 use Rattle.tla_value.specs.Choices.{choices, sublists, set_tree, functions_of}
-use Rattle.tla_eval.specs.Meaning.{Meaning, Bound, Present, Next, asks, elements, by_value}
-use Rattle.tla_eval.specs.Lists.{all_hold, passing}
-use Rattle.tla_eval.specs.Membership.{if_some}
-use Rattle.tla_eval.specs.SetForms.{of_two_sets, means-power, means-functions, means-cup, means-cap, means-minus, means-filtered}
-use Rattle.tla_eval.specs.Laws.{KnowsItsMembers}
-use Rattle.tla_eval.specs.Fault.{Place, Outcome, ◌>>=◌}
+use Rattle.tla_core.specs.Meaning.{Meaning, Bound, Present, Next, asks, elements, by_value}
+use Rattle.tla_core.specs.Lists.{all_hold, passing}
+use Rattle.tla_core.specs.Membership.{if_some}
+use Rattle.tla_core.specs.SetForms.{of_two_sets, means-power, means-functions, means-cup, means-cap, means-minus, means-filtered}
+use Rattle.tla_core.specs.Laws.{KnowsItsMembers}
+use Rattle.tla_core.specs.Fault.{Place, Outcome, ◌>>=◌}
 use Rattle.tla_eval.proofs.Members.{bool-iff, and-both, both-and, or-cases, or-first, or-second, eq-true, eq-refl, eq-same, any-map, member-append, member-filter, trees-members, pairs-entries, bind-ok, set-same, made, as_set-ok, any-sublists, sublists-found, into, member-functions}
 
 -- ---- outcomes that are known

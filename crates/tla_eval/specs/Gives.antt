@@ -8,12 +8,12 @@ use Rattle.tla_value.specs.Sets.{is_member}
 use Rattle.tla_value.specs.Choices.{choices, subsets_of, tuples_of, records_of, keys_of, parts_of, is_each_once}
 use Rattle.tla_value.specs.declared.error.ValueError.{ValueError}
 use Rattle.tla_value.specs.declared.error.ValueError.TheVariants.{TooMany, TooDeep, Memory}
-use Rattle.tla_eval.specs.Fault.{Place, Fault, FaultCode, NoField, Outcome, ◌>>=◌, fault, out_of_memory}
-use Rattle.tla_eval.specs.Kinds.{as_int, as_set, make_set, make_fun, make_function_set}
-use Rattle.tla_eval.specs.Lists.{each}
-use Rattle.tla_eval.specs.Meaning.{Meaning, Bound, Present, Next}
-use Rattle.tla_eval.specs.Functions.{function_on}
-use Rattle.tla_eval.specs.SetForms.{names_of}
+use Rattle.tla_core.specs.Fault.{Place, Fault, FaultCode, NoField, Outcome, ◌>>=◌, fault, out_of_memory}
+use Rattle.tla_core.specs.Kinds.{as_int, as_set, make_set, make_fun, make_function_set}
+use Rattle.tla_core.specs.Lists.{each}
+use Rattle.tla_core.specs.Meaning.{Meaning, Bound, Present, Next}
+use Rattle.tla_core.specs.Functions.{function_on}
+use Rattle.tla_core.specs.SetForms.{names_of}
 
 abbrev pub GivesBy : {X A : Type 0} → (X → A) → Result X Fault → Outcome A → Type 0
 GivesBy view (Ok x) o = o ≡ Ok (view x)

@@ -1,16 +1,2 @@
-pub mod Fault
-pub mod Expr
-pub mod Kinds
-pub mod Operators
-pub mod Lists
-pub mod Meaning
-pub mod Logic
-pub mod Functions
-pub mod Membership
-pub mod SetForms
-pub mod Value
-pub mod Laws
 pub mod Gives
-pub mod ExprOf
 pub mod Environment
-pub mod Fits

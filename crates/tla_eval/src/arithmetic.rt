@@ -3,12 +3,12 @@ ghost use Rattle.std.specs.Prelude.{◌≡◌, ℤ, ◌+ℤ◌, ◌-ℤ◌, ◌*
 ghost use Rattle.std.specs.Int.{w64, int_pow};
 ghost use Rattle.std.specs.Option.{SomeIff};
 ghost use Rattle.tla_value.specs.TreeOf.{tree_of};
-ghost use Rattle.tla_eval.specs.Kinds.{number};
-ghost use Rattle.tla_eval.specs.Operators.{quotient, remainder, power_of};
+ghost use Rattle.tla_core.specs.Kinds.{number};
+ghost use Rattle.tla_core.specs.Operators.{quotient, remainder, power_of};
 ghost use Rattle.tla_eval.specs.Gives.{Gives};
 
-use crate::fault::{Fault, FaultCode, Place};
 use crate::rules::fault_at;
+use tla_core::{Fault, FaultCode, Place};
 use tla_value::Value;
 
 /// The number that an operation gave, where it lies within 64 bits.

@@ -6,18 +6,18 @@ ghost use Rattle.tla_value.specs.Order.{tree_cmp};
 ghost use Rattle.tla_value.specs.Tree.{Tree};
 ghost use Rattle.tla_value.specs.TreeOf.{tree_of, pair_of};
 ghost use Rattle.tla_value.specs.Choices.{choices};
-ghost use Rattle.tla_eval.specs.Fault.{out_of_memory};
-ghost use Rattle.tla_eval.specs.Kinds.{as_set};
-ghost use Rattle.tla_eval.specs.Lists.{each};
+ghost use Rattle.tla_core.specs.Fault.{out_of_memory};
+ghost use Rattle.tla_core.specs.Kinds.{as_set};
+ghost use Rattle.tla_core.specs.Lists.{each};
 ghost use Rattle.tla_eval.specs.Environment.{tree_of_evaluated};
 ghost use Rattle.tla_eval.specs.Gives.{Gives, GivesBy, function_rule};
 
 use crate::environment::Evaluated;
-use crate::fault::{Fault, Place};
 use crate::functions::made_fun;
 use crate::rules::copied;
 use crate::sets::{as_sets, members, refused};
 use std::alloc::Global;
+use tla_core::{Fault, Place};
 use tla_value::{FunValue, SetValue, Value};
 
 /// The members of some values that are sets.

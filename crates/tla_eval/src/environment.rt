@@ -2,13 +2,13 @@
 ghost use Rattle.std.specs.Prelude.{◌≡◌, ◌≤◌, length, IfOk, IfErr, Ok, Some, false, get_or, option_map, slice_get};
 ghost use Rattle.tla_value.specs.Tree.{truth};
 ghost use Rattle.tla_value.specs.TreeOf.{tree_of};
-ghost use Rattle.tla_eval.specs.Meaning.{if_set, variable_of};
+ghost use Rattle.tla_core.specs.Meaning.{if_set, variable_of};
 ghost use Rattle.tla_eval.specs.Environment.{bound_of, tree_of_evaluated, Evaluates};
 
-use crate::fault::{Fault, FaultCode, Place};
 use crate::partial::Partial;
 use crate::rules::{copied, fault_at};
 use std::alloc::Global;
+use tla_core::{Fault, FaultCode, Place};
 use tla_value::{State, Value};
 
 /// The values of the bound names: those of the caller, and then one for each form that binds.

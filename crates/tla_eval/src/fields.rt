@@ -7,16 +7,15 @@ ghost use Rattle.tla_value.specs.Order.{tree_eq};
 ghost use Rattle.tla_value.specs.Funs.{arguments, value_at};
 ghost use Rattle.tla_value.specs.Sets.{is_member, set_of};
 ghost use Rattle.tla_value.specs.Choices.{keys_of, is_each_once};
-ghost use Rattle.tla_eval.specs.ExprOf.{fields_of_cores};
+ghost use Rattle.tla_core.specs.ExprOf.{fields_of_cores};
 ghost use Rattle.tla_eval.specs.Environment.{tree_of_evaluated};
 ghost use Rattle.tla_eval.specs.Gives.{Gives, GivesBy, named_sets, records_rule};
 
 use crate::environment::Evaluated;
-use crate::expression::Core;
-use crate::fault::{Fault, FaultCode, Place};
 use crate::rules::{copied_text, fault_at};
 use crate::sets::{copied_set, made_functions};
 use std::alloc::Global;
+use tla_core::{Core, Fault, FaultCode, Place};
 use tla_value::{FunValue, SetValue, Text, Value};
 
 /// The records with each field in the value beside it.

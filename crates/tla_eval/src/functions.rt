@@ -3,17 +3,17 @@ ghost use Rattle.std.specs.Prelude.{◌≡◌, ℕ, List, option_map};
 ghost use Rattle.tla_value.specs.Tree.{Tree, text};
 ghost use Rattle.tla_value.specs.TreeOf.{tree_of};
 ghost use Rattle.tla_value.specs.Funs.{MakesFun};
-ghost use Rattle.tla_eval.specs.Expr.{Apply, Domain, Field, Single, Override};
-ghost use Rattle.tla_eval.specs.Kinds.{as_fun, pairs_of, rising_fun};
-ghost use Rattle.tla_eval.specs.Operators.{unary_rule, binary_rule};
+ghost use Rattle.tla_core.specs.Expr.{Apply, Domain, Field, Single, Override};
+ghost use Rattle.tla_core.specs.Kinds.{as_fun, pairs_of, rising_fun};
+ghost use Rattle.tla_core.specs.Operators.{unary_rule, binary_rule};
 ghost use Rattle.tla_eval.specs.Environment.{Evaluates, tree_of_evaluated};
 ghost use Rattle.tla_eval.specs.Gives.{Gives, GivesBy, GivesBorrowed};
 
 use crate::environment::Evaluated;
-use crate::fault::{Fault, FaultCode, Place};
-use crate::rules::{copied, copied_text, fault_at, memory};
+use crate::rules::{copied, copied_text, fault_at};
 use crate::sets::refused;
 use std::alloc::Global;
+use tla_core::{Fault, FaultCode, Place, memory};
 use tla_value::{FunValue, Text, Value, ValueError};
 
 /// The function that a call made, or the fault for the limit that it would pass.

@@ -1,6 +1,6 @@
 //! Laws of evaluation and membership, over their definitions alone.
 
-ghost use Rattle.tla_eval.specs.Laws.{ValueIsStable, MembershipIsStable, MembershipIsOfTheSet};
+ghost use Rattle.tla_core.specs.Laws.{ValueIsStable, MembershipIsStable, MembershipIsOfTheSet};
 
 /// What an evaluation gives while some next values are not set, it gives when they are.
 pub fn stability()

@@ -1,23 +1,22 @@
 //! What an operator gives of the values of its operands.
 ghost use Rattle.std.specs.Prelude.{◌≡◌, ℤ, pos, length};
 ghost use Rattle.tla_value.specs.TreeOf.{tree_of};
-ghost use Rattle.tla_eval.specs.Expr.{IsFinite, Cardinality, Iff};
-ghost use Rattle.tla_eval.specs.Kinds.{as_int};
-ghost use Rattle.tla_eval.specs.Operators.{unary_rule, binary_rule};
-ghost use Rattle.tla_eval.specs.ExprOf.{unary_of, binary_of, kind_of};
+ghost use Rattle.tla_core.specs.Expr.{IsFinite, Cardinality, Iff};
+ghost use Rattle.tla_core.specs.Kinds.{as_int};
+ghost use Rattle.tla_core.specs.Operators.{unary_rule, binary_rule};
+ghost use Rattle.tla_core.specs.ExprOf.{unary_of, binary_of, kind_of};
 ghost use Rattle.tla_eval.specs.Environment.{Evaluates, tree_of_evaluated};
-ghost use Rattle.tla_eval.specs.Membership.{is_of_kind, is_truth};
+ghost use Rattle.tla_core.specs.Membership.{is_of_kind, is_truth};
 ghost use Rattle.tla_eval.specs.Gives.{Gives, GivesBy, two_ints};
 
 use crate::arithmetic::{add, divide, modulo, multiply, negate, power, subtract};
 use crate::environment::Evaluated;
-use crate::expression::{Binary, Kind, Unary};
-use crate::fault::{Fault, FaultCode, Place};
 use crate::functions::{domain, override_with, single};
 use crate::rules::{as_truth, copied, fault_at};
 use crate::sequences::{append, concat, first_item, head, length, tail};
 use crate::sets::{range, union_all};
 use std::alloc::Global;
+use tla_core::{Binary, Fault, FaultCode, Kind, Place, Unary};
 use tla_value::{SetValue, Value};
 
 /// An operator on one value.

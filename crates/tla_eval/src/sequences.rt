@@ -3,19 +3,19 @@ ghost use Rattle.std.specs.Prelude.{◌≡◌, ◌<◌, ◌≤◌, ◌-◌, ◌+
 ghost use Rattle.tla_value.specs.Tree.{deepest_pair, pairs};
 ghost use Rattle.tla_value.specs.TreeOf.{tree_of, pair_of};
 ghost use Rattle.tla_value.specs.Choices.{numbered, sequence};
-ghost use Rattle.tla_eval.specs.Fault.{out_of_memory};
-ghost use Rattle.tla_eval.specs.Expr.{Len, Head, Tail, Concat, Append};
-ghost use Rattle.tla_eval.specs.Kinds.{as_sequence, items, make_sequence};
-ghost use Rattle.tla_eval.specs.Operators.{unary_rule, binary_rule, sub_seq_rule, part_of};
+ghost use Rattle.tla_core.specs.Fault.{out_of_memory};
+ghost use Rattle.tla_core.specs.Expr.{Len, Head, Tail, Concat, Append};
+ghost use Rattle.tla_core.specs.Kinds.{as_sequence, items, make_sequence};
+ghost use Rattle.tla_core.specs.Operators.{unary_rule, binary_rule, sub_seq_rule, part_of};
 ghost use Rattle.tla_eval.specs.Environment.{Evaluates, tree_of_evaluated};
 ghost use Rattle.tla_eval.specs.Gives.{Gives, GivesBy, GivesBorrowed, values_of};
 
 use crate::environment::Evaluated;
-use crate::fault::{Fault, FaultCode, Place};
 use crate::functions::made_fun;
 use crate::operators::two_ints;
 use crate::rules::{copied, fault_at};
 use std::alloc::Global;
+use tla_core::{Fault, FaultCode, Place};
 use tla_value::{FunValue, Value};
 
 /// The greatest number of items.

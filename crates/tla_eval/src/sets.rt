@@ -5,20 +5,20 @@ ghost use Rattle.tla_value.specs.TreeOf.{tree_of, pair_of};
 ghost use Rattle.tla_value.specs.Order.{tree_eq};
 ghost use Rattle.tla_value.specs.Funs.{arguments};
 ghost use Rattle.tla_value.specs.Sets.{is_member, MakesSet, MakesSetOfFunctions};
-ghost use Rattle.tla_eval.specs.Kinds.{as_set, members_of, rising_set, sized_set, size_of_functions};
+ghost use Rattle.tla_core.specs.Kinds.{as_set, members_of, rising_set, sized_set, size_of_functions};
 ghost use Rattle.tla_value.specs.Choices.{range_of, functions_of};
-ghost use Rattle.tla_eval.specs.Fault.{out_of_memory};
-ghost use Rattle.tla_eval.specs.Expr.{Union};
-ghost use Rattle.tla_eval.specs.Operators.{joined_sets, unary_rule};
-ghost use Rattle.tla_eval.specs.Lists.{each};
-ghost use Rattle.tla_eval.specs.SetForms.{on_sets};
+ghost use Rattle.tla_core.specs.Fault.{out_of_memory};
+ghost use Rattle.tla_core.specs.Expr.{Union};
+ghost use Rattle.tla_core.specs.Operators.{joined_sets, unary_rule};
+ghost use Rattle.tla_core.specs.Lists.{each};
+ghost use Rattle.tla_core.specs.SetForms.{on_sets};
 ghost use Rattle.tla_eval.specs.Gives.{Gives, GivesBy, GivesTruth, IsRefusal, contains_rule, subsets_rule, tuples_rule};
 ghost use Rattle.tla_eval.specs.Environment.{Evaluates, tree_of_evaluated};
 
 use crate::environment::Evaluated;
-use crate::fault::{Fault, FaultCode, Place};
-use crate::rules::{copied, fault_at, memory};
+use crate::rules::{copied, fault_at};
 use std::alloc::Global;
+use tla_core::{Fault, FaultCode, Place, memory};
 use tla_value::{FunValue, SetValue, Value, ValueError};
 
 /// The members of a value that is a set.

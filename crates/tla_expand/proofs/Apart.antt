@@ -2,12 +2,12 @@
 use Rattle.std.proofs.Common.{◌≡◌, ◌≢◌, ◌≤◌, ◌<◌, ◌+◌, ℕ, List, [], ◌∷◌, Option, Some, None, length, map, get_or, arith, refl, ap, sym, ◌∙◌}
 use Rattle.std.proofs.lemmas.List.{get_or-map}
 use Rattle.std.specs.Borrow.{Bor}
-use Rattle.tla_eval.specs.declared.fault.Place.{Place}
-use Rattle.tla_eval.specs.Expr.{Expr, Exprs, conjunction}
+use Rattle.tla_core.specs.declared.fault.Place.{Place}
+use Rattle.tla_core.specs.Expr.{Expr, Exprs, conjunction}
 use Rattle.tla_model.specs.Size.{IsWithinLimits, nodes, depth}
-use Rattle.tla_parse.specs.declared.tree.Expr as syntax
-use Rattle.tla_parse.specs.Tree.{Tree, Trees, trees}
-use Rattle.tla_parse.specs.View.{view}
+use Rattle.tla_tree.specs.declared.tree.Expr as syntax
+use Rattle.tla_tree.specs.Tree.{Tree, Trees, trees}
+use Rattle.tla_tree.specs.View.{view}
 use Rattle.tla_expand.specs.declared.failure.Failure.{Failure}
 use Rattle.tla_expand.specs.declared.failure.Failure.TheVariants.{NoExpansion, TooLarge, Memory}
 use Rattle.tla_expand.specs.declared.nodes.Many.TheVariants as manies

@@ -1,20 +1,20 @@
 -- What a form means under primes, from what its parts mean.
 use Rattle.std.proofs.Common.{◌≡◌, ℕ, List, [], ◌∷◌, map, ap, refl, ◌∙◌, Bor, Some, None}
-use Rattle.tla_eval.specs.declared.fault.Place.{Place}
-use Rattle.tla_eval.specs.Expr as e
-use Rattle.tla_eval.specs.Expr.{cases, product, except}
-use Rattle.tla_parse.specs.declared.tree.Expr as syntax
-use Rattle.tla_parse.specs.declared.tree.Arm.{Arm}
-use Rattle.tla_parse.specs.declared.tree.Field.{Field}
-use Rattle.tla_parse.specs.declared.tree.Update.{Update}
-use Rattle.tla_parse.specs.declared.tree.Binder as bound_names
-use Rattle.tla_parse.specs.declared.word.Written.{Written}
-use Rattle.tla_parse.specs.Tree.{trees, binders, arms, fields, updates}
-use Rattle.tla_parse.specs.View.{view, group_view, choice_view, field_view, update_view}
+use Rattle.tla_core.specs.declared.fault.Place.{Place}
+use Rattle.tla_core.specs.Expr as e
+use Rattle.tla_core.specs.Expr.{cases, product, except}
+use Rattle.tla_tree.specs.declared.tree.Expr as syntax
+use Rattle.tla_tree.specs.declared.tree.Arm.{Arm}
+use Rattle.tla_tree.specs.declared.tree.Field.{Field}
+use Rattle.tla_tree.specs.declared.tree.Update.{Update}
+use Rattle.tla_tree.specs.declared.tree.Binder as bound_names
+use Rattle.tla_tree.specs.declared.word.Written.{Written}
+use Rattle.tla_tree.specs.Tree.{trees, binders, arms, fields, updates}
+use Rattle.tla_tree.specs.View.{view, group_view, choice_view, field_view, update_view}
 use Rattle.tla_expand.specs.declared.primes.Primes.{Primes}
 use Rattle.tla_expand.specs.declared.nodes.Headed.TheVariants as headed
 use Rattle.tla_expand.specs.declared.nodes.Binders.TheVariants as under
-use Rattle.tla_parse.specs.declared.tree.Step.TheVariants as steps
+use Rattle.tla_tree.specs.declared.tree.Step.TheVariants as steps
 use Rattle.tla_expand.specs.declared.nodes.Form.{Form}
 use Rattle.tla_expand.specs.declared.nodes.Form.TheVariants as form
 use Rattle.tla_expand.specs.declared.nodes.One.{One}

@@ -1,13 +1,13 @@
 -- Arguments put in for parameters.
 use Rattle.std.proofs.Common.{◌≡◌, ℕ, suc, ◌+◌, ◌≤◌, ◌<◌, List, [], ◌∷◌, ◌++◌, length, get_or, drop, append-nil, refl, ap, sym, ◌∙◌, arith, None, Bor, append_assoc, add-one, drop-cons, length-append}
 use Rattle.std.proofs.lemmas.List.{length-map}
-use Rattle.tla_parse.specs.declared.tree.Expr as syntax
-use Rattle.tla_parse.specs.declared.word.Written.{Written}
+use Rattle.tla_tree.specs.declared.tree.Expr as syntax
+use Rattle.tla_tree.specs.declared.word.Written.{Written}
 use Rattle.tla_expand.specs.Places.{Name}
 use Rattle.tla_expand.specs.declared.arena.Entry.{Entry}
 use Rattle.tla_expand.specs.declared.arena.What.TheVariants.{Definition}
-use Rattle.tla_eval.specs.declared.fault.Place.{Place}
-use Rattle.tla_parse.specs.View.{view}
+use Rattle.tla_core.specs.declared.fault.Place.{Place}
+use Rattle.tla_tree.specs.View.{view}
 use Rattle.tla_expand.specs.Meanings.{Scope, Argument, Meaning, with_parameters, with_name, parameter}
 use Rattle.tla_expand.specs.Expand.{expand}
 use Rattle.tla_expand.specs.Scopes.{scope_at, meaning_of, Extends, arguments_in}

@@ -6,22 +6,22 @@ use Rattle.std.specs.Str.{bytes_eq}
 use Rattle.tla_value.specs.Tree as value
 use Rattle.tla_value.specs.declared.value.Value.{Value}
 use Rattle.tla_value.specs.TreeOf.{tree_of}
-use Rattle.tla_eval.specs.declared.fault.Place.{Place}
-use Rattle.tla_eval.specs.ExprOf.{unary_of, kind_of}
-use Rattle.tla_eval.specs.Expr as x
-use Rattle.tla_eval.specs.Expr.{Expr, Exprs, constant, bound, now, unary, binary, enumerated, tuple, conjunction, disjunction, conditional, cases, choose, filtered, functions, record_of, records, product, except, kind_set, sequences, no_exprs, more_exprs}
-use Rattle.tla_eval.specs.Fits.{fits, fits_all, fits_fields, fits_arms, fits_updates, count}
-use Rattle.tla_parse.specs.declared.word.Written.{Written}
-use Rattle.tla_parse.specs.declared.tree.Constant.{Constant}
-use Rattle.tla_parse.specs.declared.tree.Constant.TheVariants.{True, False, Boolean, String}
-use Rattle.tla_parse.specs.declared.tree.Prefix.{Prefix}
-use Rattle.tla_parse.specs.declared.tree.Prefix.TheVariants as prefix
-use Rattle.tla_parse.specs.declared.tree.Bullet.TheVariants as bullet
-use Rattle.tla_parse.specs.declared.tree.Brackets.TheVariants as brackets
-use Rattle.tla_parse.specs.declared.tree.Step.TheVariants as steps
-use Rattle.tla_parse.specs.Tree.{Tree, Trees, Binders, Definition, Definitions, none, more, unbound, undefined, defined, DefinesOperator, DefinesFunction, Name, Number, Text, Word, At, Paren, Listing, Call, Prime, Index, Field, Unary, Binary, Quantified, Choose, If, Case, Let, Junction, Filter, Image, Function, FunctionSet, Record, RecordSet, Except, Action, Fair, Product}
-use Rattle.tla_parse.specs.Edges.{place}
-use Rattle.tla_parse.specs.Tree as t
+use Rattle.tla_core.specs.declared.fault.Place.{Place}
+use Rattle.tla_core.specs.ExprOf.{unary_of, kind_of}
+use Rattle.tla_core.specs.Expr as x
+use Rattle.tla_core.specs.Expr.{Expr, Exprs, constant, bound, now, unary, binary, enumerated, tuple, conjunction, disjunction, conditional, cases, choose, filtered, functions, record_of, records, product, except, kind_set, sequences, no_exprs, more_exprs}
+use Rattle.tla_core.specs.Fits.{fits, fits_all, fits_fields, fits_arms, fits_updates, count}
+use Rattle.tla_tree.specs.declared.word.Written.{Written}
+use Rattle.tla_tree.specs.declared.tree.Constant.{Constant}
+use Rattle.tla_tree.specs.declared.tree.Constant.TheVariants.{True, False, Boolean, String}
+use Rattle.tla_tree.specs.declared.tree.Prefix.{Prefix}
+use Rattle.tla_tree.specs.declared.tree.Prefix.TheVariants as prefix
+use Rattle.tla_tree.specs.declared.tree.Bullet.TheVariants as bullet
+use Rattle.tla_tree.specs.declared.tree.Brackets.TheVariants as brackets
+use Rattle.tla_tree.specs.declared.tree.Step.TheVariants as steps
+use Rattle.tla_tree.specs.Tree.{Tree, Trees, Binders, Definition, Definitions, none, more, unbound, undefined, defined, DefinesOperator, DefinesFunction, Name, Number, Text, Word, At, Paren, Listing, Call, Prime, Index, Field, Unary, Binary, Quantified, Choose, If, Case, Let, Junction, Filter, Image, Function, FunctionSet, Record, RecordSet, Except, Action, Fair, Product}
+use Rattle.tla_tree.specs.Places.{place}
+use Rattle.tla_tree.specs.Tree as t
 use Rattle.tla_expand.specs.declared.nodes.Builtin.{Builtin}
 use Rattle.tla_expand.specs.declared.nodes.Builtin.TheVariants as builtin
 use Rattle.tla_expand.specs.declared.nodes.Binding.{Binding}

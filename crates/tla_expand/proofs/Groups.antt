@@ -1,10 +1,10 @@
 -- The names of binder lists, one after the other.
 use Rattle.std.proofs.Common.{◌≡◌, ◌<◌, ℕ, suc, ◌+◌, List, [], ◌∷◌, ◌++◌, map, length, get_or, drop, refl, ap, sym, ◌∙◌, arith, add-one, drop-cons, append_assoc}
 use Rattle.std.proofs.lemmas.List.{map-append, length-map}
-use Rattle.tla_parse.specs.declared.word.Written.{Written}
-use Rattle.tla_parse.specs.declared.tree.Binder.{Binder}
-use Rattle.tla_parse.specs.Tree.{binders}
-use Rattle.tla_parse.specs.View.{view, group_view}
+use Rattle.tla_tree.specs.declared.word.Written.{Written}
+use Rattle.tla_tree.specs.declared.tree.Binder.{Binder}
+use Rattle.tla_tree.specs.Tree.{binders}
+use Rattle.tla_tree.specs.View.{view, group_view}
 use Rattle.tla_expand.specs.declared.binders.Bind.{Bind}
 use Rattle.tla_expand.specs.Bound as x
 use Rattle.tla_expand.specs.Meanings.{Scope, Argument}

@@ -1,7 +1,7 @@
 -- UNCHANGED of what is no tuple, and UNCHANGED under primes.
 use Rattle.std.proofs.Common.{◌≡◌, false, refl, ap, sym, ◌∙◌, Option, Some, None}
-use Rattle.tla_eval.specs.declared.fault.Place.{Place}
-use Rattle.tla_eval.specs.Expr.{Unequal, Expr, Exprs, constant, bound, now, next, unary, binary, equal, sub_seq, enumerated, tuple, record_of, conjunction, disjunction, implies, conditional, cases, assert, for_all, for_some, choose, image, function, except, member, not_member, subset, kind_set, booleans, sequences, power, functions, records, product, cup, cap, minus, filtered, no_exprs, more_exprs}
+use Rattle.tla_core.specs.declared.fault.Place.{Place}
+use Rattle.tla_core.specs.Expr.{Unequal, Expr, Exprs, constant, bound, now, next, unary, binary, equal, sub_seq, enumerated, tuple, record_of, conjunction, disjunction, implies, conditional, cases, assert, for_all, for_some, choose, image, function, except, member, not_member, subset, kind_set, booleans, sequences, power, functions, records, product, cup, cap, minus, filtered, no_exprs, more_exprs}
 use Rattle.tla_expand.specs.declared.primes.Primes.{Primes}
 use Rattle.tla_expand.specs.declared.primes.Primes.TheVariants.{Never, Once, Twice}
 use Rattle.tla_expand.specs.Maybe.{◌>>=◌}

@@ -1,10 +1,10 @@
 -- The argument of a function, by how many expressions it is written with.
 use Rattle.std.proofs.Common.{◌≡◌, ◌<◌, ℕ, List, [], ◌∷◌, length, get_or, refl, arith, Some}
-use Rattle.tla_eval.specs.declared.fault.Place.{Place}
-use Rattle.tla_eval.specs.Expr.{tuple}
-use Rattle.tla_parse.specs.declared.tree.Expr as syntax
-use Rattle.tla_parse.specs.Edges.{place}
-use Rattle.tla_parse.specs.View.{view}
+use Rattle.tla_core.specs.declared.fault.Place.{Place}
+use Rattle.tla_core.specs.Expr.{tuple}
+use Rattle.tla_tree.specs.declared.tree.Expr as syntax
+use Rattle.tla_tree.specs.Places.{place}
+use Rattle.tla_tree.specs.View.{view}
 use Rattle.tla_expand.specs.declared.primes.Primes.{Primes}
 use Rattle.tla_expand.specs.Maybe.{◌>>=◌, each_of}
 use Rattle.tla_expand.specs.Lists.{exprs}

@@ -11,8 +11,8 @@ use Rattle.tla_expand.specs.Meanings.{Scope, standard, with_name, unknown, bound
 use Rattle.tla_expand.specs.declared.nodes.Gather.TheVariants as gathers
 use Rattle.tla_expand.specs.Bound.{gathered}
 use Rattle.tla_expand.specs.Expand.{expand, binds_of}
-use Rattle.tla_parse.specs.Tree.{binders}
-use Rattle.tla_parse.specs.View.{view, group_view}
+use Rattle.tla_tree.specs.Tree.{binders}
+use Rattle.tla_tree.specs.View.{view, group_view}
 use Rattle.tla_expand.specs.Scopes.{meaning_of, at_of, entry_scope, grow, scope_at, IsBelow, LinkedFrom, AreLinked, Extends}
 
 pub agree : (at at2 : ℕ → Scope) (n : ℕ) (w : What) (rest : ℕ) (x : Name) → ((r : ℕ) → r ≤ n → at r ≡ at2 r) → IsBelow n w rest

@@ -1,14 +1,14 @@
 -- Lists of parts, one after the other.
 use Rattle.std.proofs.Common.{◌≡◌, ℕ, suc, ◌+◌, ◌≤◌, ◌<◌, max, List, [], ◌∷◌, ◌++◌, length, map, get_or, drop, refl, ap, sym, ◌∙◌, arith, add-one, drop-cons, append_assoc, append-nil, Option, Some, None}
-use Rattle.tla_parse.specs.declared.tree.Expr as syntax
-use Rattle.tla_parse.specs.declared.tree.Arm.{Arm}
-use Rattle.tla_parse.specs.Edges.{place}
-use Rattle.tla_parse.specs.Tree as t
-use Rattle.tla_parse.specs.Tree.{Tree, trees}
-use Rattle.tla_parse.specs.View.{view, choice_view}
-use Rattle.tla_eval.specs.declared.fault.Place.{Place}
-use Rattle.tla_eval.specs.Expr as e
-use Rattle.tla_eval.specs.Expr.{Expr, Exprs, Arms, no_exprs, more_exprs, more_arms, tuple}
+use Rattle.tla_tree.specs.declared.tree.Expr as syntax
+use Rattle.tla_tree.specs.declared.tree.Arm.{Arm}
+use Rattle.tla_tree.specs.Places.{place}
+use Rattle.tla_tree.specs.Tree as t
+use Rattle.tla_tree.specs.Tree.{Tree, trees}
+use Rattle.tla_tree.specs.View.{view, choice_view}
+use Rattle.tla_core.specs.declared.fault.Place.{Place}
+use Rattle.tla_core.specs.Expr as e
+use Rattle.tla_core.specs.Expr.{Expr, Exprs, Arms, no_exprs, more_exprs, more_arms, tuple}
 use Rattle.tla_model.specs.Size.{nodes, depth, nodes_each, depth_each, nodes_arms, depth_arms}
 use Rattle.tla_expand.specs.declared.primes.Primes.{Primes}
 use Rattle.tla_expand.specs.declared.failure.Failure.{Failure}

@@ -1,12 +1,12 @@
 -- The nodes of forms: their primes, and what they add in nodes and depth.
 use Rattle.std.proofs.Common.{◌≡◌, ℕ, ◌+◌, true, false, max, List, ◌∷◌, refl, ap, ◌∙◌, arith, Option, Some, None}
 use Rattle.std.specs.Prelude.{nat_le, if◌then◌else◌}
-use Rattle.tla_eval.specs.declared.fault.Place.{Place}
-use Rattle.tla_eval.specs.Expr.{Expr, Exprs, Fields, Arms, Updates, conjunction, disjunction, cases, image, function, product, except, constant, no_exprs, more_exprs, no_arms, other}
+use Rattle.tla_core.specs.declared.fault.Place.{Place}
+use Rattle.tla_core.specs.Expr.{Expr, Exprs, Fields, Arms, Updates, conjunction, disjunction, cases, image, function, product, except, constant, no_exprs, more_exprs, no_arms, other}
 use Rattle.tla_model.specs.Size.{nodes, depth, nodes_each, depth_each, nodes_fields, depth_fields}
 use Rattle.tla_value.specs.Tree as value
-use Rattle.tla_parse.specs.declared.tree.Constant.{Constant}
-use Rattle.tla_parse.specs.declared.tree.Constant.TheVariants.{True, False, Boolean, String}
+use Rattle.tla_tree.specs.declared.tree.Constant.{Constant}
+use Rattle.tla_tree.specs.declared.tree.Constant.TheVariants.{True, False, Boolean, String}
 use Rattle.tla_expand.specs.declared.primes.Primes.{Primes}
 use Rattle.tla_expand.specs.declared.nodes.Leaf.{Leaf}
 use Rattle.tla_expand.specs.declared.nodes.Leaf.TheVariants as leaves

@@ -1,11 +1,11 @@
 -- Fields with their names, and the updates of EXCEPT.
 use Rattle.std.proofs.Common.{◌≡◌, ℕ, ◌+◌, List, [], ◌∷◌, map, refl, ap, ◌∙◌, arith, Option, Some, None}
-use Rattle.tla_parse.specs.declared.tree.Field.{Field}
-use Rattle.tla_parse.specs.declared.tree.Key.{Key}
-use Rattle.tla_parse.specs.declared.tree.Update.{Update}
-use Rattle.tla_parse.specs.Tree as t
-use Rattle.tla_parse.specs.View.{view, field_view, key_view, update_view}
-use Rattle.tla_eval.specs.Expr.{Expr, more_exprs, more_fields, more_updates}
+use Rattle.tla_tree.specs.declared.tree.Field.{Field}
+use Rattle.tla_tree.specs.declared.tree.Key.{Key}
+use Rattle.tla_tree.specs.declared.tree.Update.{Update}
+use Rattle.tla_tree.specs.Tree as t
+use Rattle.tla_tree.specs.View.{view, field_view, key_view, update_view}
+use Rattle.tla_core.specs.Expr.{Expr, more_exprs, more_fields, more_updates}
 use Rattle.tla_model.specs.Size.{nodes_fields, depth_fields, nodes_updates, depth_updates}
 use Rattle.tla_expand.specs.declared.primes.Primes.{Primes}
 use Rattle.tla_expand.specs.declared.failure.Failure.{Failure}

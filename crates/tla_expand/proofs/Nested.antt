@@ -1,7 +1,7 @@
 -- Nodes for names, one in another: what they give, from what the first set and the rest give.
 use Rattle.std.proofs.Common.{◌≡◌, ℕ, ◌+◌, List, ◌∷◌, sym, Option, Some}
-use Rattle.tla_eval.specs.declared.fault.Place.{Place}
-use Rattle.tla_eval.specs.Expr.{Expr}
+use Rattle.tla_core.specs.declared.fault.Place.{Place}
+use Rattle.tla_core.specs.Expr.{Expr}
 use Rattle.tla_model.specs.Size.{nodes, depth}
 use Rattle.tla_expand.specs.declared.failure.Failure.{Failure}
 use Rattle.tla_expand.specs.declared.primes.Primes.{Primes}

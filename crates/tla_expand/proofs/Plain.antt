@@ -1,22 +1,22 @@
 -- A form that is no tuple expands to none.
 use Rattle.std.proofs.Common.{◌≡◌, ℕ, ◌+◌, Bool, true, false, List, [], ◌∷◌, length, map, refl, sym, Bor, Option, Some, None}
 use Rattle.std.specs.Prelude.{nat_le, if◌then◌else◌}
-use Rattle.tla_eval.specs.declared.fault.Place.{Place}
-use Rattle.tla_eval.specs.Expr.{Expr, Exprs, Fields, constant, equal, tuple, cases, product, except, no_exprs, more_exprs, no_arms, other}
+use Rattle.tla_core.specs.declared.fault.Place.{Place}
+use Rattle.tla_core.specs.Expr.{Expr, Exprs, Fields, constant, equal, tuple, cases, product, except, no_exprs, more_exprs, no_arms, other}
 use Rattle.tla_model.specs.Size.{nodes, depth}
 use Rattle.tla_value.specs.Tree as value
-use Rattle.tla_parse.specs.declared.tree.Expr as syntax
-use Rattle.tla_parse.specs.declared.tree.Constant.{Constant}
-use Rattle.tla_parse.specs.declared.tree.Constant.TheVariants.{True, False, Boolean, String}
-use Rattle.tla_parse.specs.Tree as t
-use Rattle.tla_parse.specs.Tree.{trees, binders}
-use Rattle.tla_parse.specs.View.{view, group_view, choice_view, field_view, update_view}
+use Rattle.tla_tree.specs.declared.tree.Expr as syntax
+use Rattle.tla_tree.specs.declared.tree.Constant.{Constant}
+use Rattle.tla_tree.specs.declared.tree.Constant.TheVariants.{True, False, Boolean, String}
+use Rattle.tla_tree.specs.Tree as t
+use Rattle.tla_tree.specs.Tree.{trees, binders}
+use Rattle.tla_tree.specs.View.{view, group_view, choice_view, field_view, update_view}
 use Rattle.tla_expand.specs.declared.failure.Failure.{Failure}
 use Rattle.tla_expand.specs.declared.primes.Primes.{Primes}
 use Rattle.tla_expand.specs.declared.primes.Primes.TheVariants.{Never, Once, Twice}
 use Rattle.tla_expand.specs.declared.nodes.Headed.TheVariants as headed
 use Rattle.tla_expand.specs.declared.nodes.Binders.TheVariants as under
-use Rattle.tla_parse.specs.declared.tree.Step.TheVariants as steps
+use Rattle.tla_tree.specs.declared.tree.Step.TheVariants as steps
 use Rattle.tla_expand.specs.declared.nodes.Form.{Form}
 use Rattle.tla_expand.specs.declared.nodes.Form.TheVariants as form
 use Rattle.tla_expand.specs.declared.nodes.Leaf.{Leaf}

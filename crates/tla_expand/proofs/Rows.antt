@@ -3,15 +3,15 @@ use Rattle.std.proofs.Common.{◌≡◌, ℕ, [], ◌∷◌, refl, Option, Some,
 use Rattle.std.specs.Prelude.{pos, codes, true}
 use Rattle.tla_lex.specs.declared.token.Place as text
 use Rattle.tla_value.specs.Tree.{truth, int}
-use Rattle.tla_eval.specs.declared.fault.Place.{Place}
-use Rattle.tla_eval.specs.Expr.{Expr, constant, bound, now, next, equal, for_all, conjunction, no_exprs, more_exprs}
-use Rattle.tla_parse.specs.declared.word.Written.{Written}
-use Rattle.tla_parse.specs.declared.tree.Infix.TheVariants as infixes
-use Rattle.tla_parse.specs.declared.tree.Prefix.TheVariants as prefixes
-use Rattle.tla_parse.specs.declared.tree.Brackets.TheVariants as brackets
-use Rattle.tla_parse.specs.declared.tree.Quantifier.TheVariants as quantifier
-use Rattle.tla_parse.specs.Tree.{Tree, Trees, none, more, unbound, undefined, defined, DefinesOperator, Name, Number, Call, Prime, Listing, Unary, Binary, Quantified, Let}
-use Rattle.tla_parse.specs.Tree as t
+use Rattle.tla_core.specs.declared.fault.Place.{Place}
+use Rattle.tla_core.specs.Expr.{Expr, constant, bound, now, next, equal, for_all, conjunction, no_exprs, more_exprs}
+use Rattle.tla_tree.specs.declared.word.Written.{Written}
+use Rattle.tla_tree.specs.declared.tree.Infix.TheVariants as infixes
+use Rattle.tla_tree.specs.declared.tree.Prefix.TheVariants as prefixes
+use Rattle.tla_tree.specs.declared.tree.Brackets.TheVariants as brackets
+use Rattle.tla_tree.specs.declared.tree.Quantifier.TheVariants as quantifier
+use Rattle.tla_tree.specs.Tree.{Tree, Trees, none, more, unbound, undefined, defined, DefinesOperator, Name, Number, Call, Prime, Listing, Unary, Binary, Quantified, Let}
+use Rattle.tla_tree.specs.Tree as t
 use Rattle.tla_expand.specs.Places as names
 use Rattle.tla_expand.specs.Meanings.{standard, with_name, variable}
 use Rattle.tla_expand.specs.Expand.{expand}

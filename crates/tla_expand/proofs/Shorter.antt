@@ -2,11 +2,11 @@
 use Rattle.std.proofs.Common.{◌≡◌, ℕ, zero, suc, ◌+◌, ◌<◌, true, false, List, [], ◌∷◌, length, get_or, drop, map, refl, ap, sym, ◌∙◌, arith, add-one, drop-cons, Option, Some, None, IfSome, Bor}
 use Rattle.std.specs.Str.{bytes_eq}
 use Rattle.std.proofs.lemmas.List.{length-map}
-use Rattle.tla_eval.specs.declared.fault.Place.{Place}
-use Rattle.tla_parse.specs.declared.tree.Expr as syntax
-use Rattle.tla_parse.specs.declared.word.Written.{Written}
-use Rattle.tla_parse.specs.Tree as t
-use Rattle.tla_parse.specs.View.{view}
+use Rattle.tla_core.specs.declared.fault.Place.{Place}
+use Rattle.tla_tree.specs.declared.tree.Expr as syntax
+use Rattle.tla_tree.specs.declared.word.Written.{Written}
+use Rattle.tla_tree.specs.Tree as t
+use Rattle.tla_tree.specs.View.{view}
 use Rattle.tla_expand.specs.declared.arena.Entry.{Entry}
 use Rattle.tla_expand.specs.declared.arena.What.TheVariants.{Definition}
 use Rattle.tla_expand.specs.Maybe.{◌>>=◌}

@@ -1,23 +1,23 @@
 -- Expansion, form by form.
 use Rattle.std.proofs.Common.{◌≡◌, ◌<◌, ℕ, suc, ◌+◌, List, [], ◌∷◌, map, length, get_or, drop, refl, ap, sym, ◌∙◌, add-one, drop-cons, Option, Some, None}
 use Rattle.tla_lex.specs.declared.token.Place as text
-use Rattle.tla_parse.specs.declared.tree.Expr as syntax
-use Rattle.tla_parse.specs.declared.tree.Definition as defining
-use Rattle.tla_parse.specs.declared.tree.Bullet.{Bullet}
-use Rattle.tla_parse.specs.declared.tree.Bullet.TheVariants as bullet
-use Rattle.tla_parse.specs.declared.tree.Brackets.{Brackets}
-use Rattle.tla_parse.specs.declared.tree.Brackets.TheVariants as brackets
-use Rattle.tla_parse.specs.Tree as t
-use Rattle.tla_parse.specs.Tree.{Trees, trees}
-use Rattle.tla_parse.specs.View.{view, definition_view}
+use Rattle.tla_tree.specs.declared.tree.Expr as syntax
+use Rattle.tla_tree.specs.declared.tree.Definition as defining
+use Rattle.tla_tree.specs.declared.tree.Bullet.{Bullet}
+use Rattle.tla_tree.specs.declared.tree.Bullet.TheVariants as bullet
+use Rattle.tla_tree.specs.declared.tree.Brackets.{Brackets}
+use Rattle.tla_tree.specs.declared.tree.Brackets.TheVariants as brackets
+use Rattle.tla_tree.specs.Tree as t
+use Rattle.tla_tree.specs.Tree.{Trees, trees}
+use Rattle.tla_tree.specs.View.{view, definition_view}
 use Rattle.tla_expand.specs.declared.primes.Primes.{Primes}
 use Rattle.tla_expand.specs.declared.failure.Failure.{Failure}
 use Rattle.tla_expand.specs.declared.failure.Failure.TheVariants.{NoExpansion, TooLarge, Memory}
-use Rattle.tla_eval.specs.Expr.{Expr}
+use Rattle.tla_core.specs.Expr.{Expr}
 use Rattle.tla_expand.specs.Places.{place_of}
 use Rattle.tla_expand.specs.Nodes.{many}
 use Rattle.tla_expand.specs.Forms.{of_brackets, of_bullet}
-use Rattle.tla_parse.specs.declared.word.Written.{Written}
+use Rattle.tla_tree.specs.declared.word.Written.{Written}
 use Rattle.tla_expand.specs.Maybe.{◌>>=◌}
 use Rattle.tla_expand.specs.Primes.{primes, one_more}
 use Rattle.tla_expand.specs.declared.primes.Primes.TheVariants.{Once}

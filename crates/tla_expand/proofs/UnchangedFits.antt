@@ -1,8 +1,8 @@
 -- UNCHANGED names what its expression names.
 use Rattle.std.proofs.Common.{◌≡◌, ℕ, ◌&&◌, Bool, true, false, refl, sym, Some}
-use Rattle.tla_eval.specs.declared.fault.Place.{Place}
-use Rattle.tla_eval.specs.Expr.{Expr, Exprs, constant, bound, now, next, unary, binary, equal, sub_seq, enumerated, tuple, record_of, conjunction, disjunction, implies, conditional, cases, assert, for_all, for_some, choose, image, function, except, member, not_member, subset, kind_set, booleans, sequences, power, functions, records, product, cup, cap, minus, filtered, no_exprs, more_exprs}
-use Rattle.tla_eval.specs.Fits.{fits, fits_all}
+use Rattle.tla_core.specs.declared.fault.Place.{Place}
+use Rattle.tla_core.specs.Expr.{Expr, Exprs, constant, bound, now, next, unary, binary, equal, sub_seq, enumerated, tuple, record_of, conjunction, disjunction, implies, conditional, cases, assert, for_all, for_some, choose, image, function, except, member, not_member, subset, kind_set, booleans, sequences, power, functions, records, product, cup, cap, minus, filtered, no_exprs, more_exprs}
+use Rattle.tla_core.specs.Fits.{fits, fits_all}
 use Rattle.tla_expand.specs.declared.primes.Primes.TheVariants.{Once}
 use Rattle.tla_expand.specs.Maybe.{◌>>=◌}
 use Rattle.tla_expand.specs.Nodes.{kept}

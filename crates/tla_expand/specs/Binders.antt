@@ -1,6 +1,6 @@
 -- The names of binder lists in memory. Private contracts alone cite this.
 use Rattle.std.specs.Prelude.{List, map}
-use Rattle.tla_parse.specs.View.{view}
+use Rattle.tla_tree.specs.View.{view}
 use Rattle.tla_expand.specs.declared.binders.Bind.{Bind}
 use Rattle.tla_expand.specs.Bound as x
 use Rattle.tla_expand.specs.Meanings.{Scope}

@@ -1,7 +1,7 @@
 -- Forms that bind names (book, chapter 16). The names are numbered from the outermost.
 use Rattle.std.specs.Prelude.{ℕ, ◌+◌, List, [], ◌∷◌, length, Some, None}
-use Rattle.tla_eval.specs.declared.fault.Place.{Place}
-use Rattle.tla_parse.specs.declared.word.Written.{Written}
+use Rattle.tla_core.specs.declared.fault.Place.{Place}
+use Rattle.tla_tree.specs.declared.word.Written.{Written}
 use Rattle.tla_expand.specs.declared.nodes.Binding.{Binding}
 use Rattle.tla_expand.specs.declared.nodes.Gather.{Gather}
 use Rattle.tla_expand.specs.Maybe.{◌>>=◌, each_of}

@@ -1,19 +1,19 @@
 -- Expansion (book, chapters 15 to 17): what an expression says of the variables, now and next, where each name stands for what it means.
 use Rattle.std.specs.Prelude.{ℕ, ◌+◌, List, [], ◌∷◌, Option, Some, None}
 use Rattle.tla_value.specs.Tree as value
-use Rattle.tla_eval.specs.declared.fault.Place.{Place}
-use Rattle.tla_eval.specs.Expr as e
-use Rattle.tla_eval.specs.Expr.{Expr, Exprs, constant, unary, binary, enumerated, tuple, conjunction, disjunction, conditional, cases, choose, filtered, functions, record_of, records, product, except, no_exprs, more_exprs}
-use Rattle.tla_parse.specs.declared.tree.Prefix.{Prefix}
-use Rattle.tla_parse.specs.declared.tree.Prefix.TheVariants as prefix
-use Rattle.tla_parse.specs.declared.tree.Bullet.TheVariants as bullet
-use Rattle.tla_parse.specs.declared.tree.Brackets.TheVariants as brackets
-use Rattle.tla_parse.specs.declared.tree.Step.TheVariants as steps
-use Rattle.tla_parse.specs.declared.tree.Quantifier.{Quantifier}
-use Rattle.tla_parse.specs.declared.tree.Quantifier.TheVariants as quantifier
-use Rattle.tla_parse.specs.Edges.{place}
-use Rattle.tla_parse.specs.Tree.{Tree, Trees, Binders, Arms, Other, Fields, Key, Keys, Updates, Definition, Definitions, none, more, unbound, no_arms, arm, no_other, other, undefined, defined, DefinesOperator, DefinesFunction, Name, Number, Text, Word, At, Paren, Listing, Call, Prime, Index, Field, Unary, Binary, Quantified, Choose, If, Case, Let, Junction, Filter, Image, Function, FunctionSet, Record, RecordSet, Product, Except, Action, Fair, no_fields, field, AtIndex, AtField, no_keys, key, no_updates, update}
-use Rattle.tla_parse.specs.Tree as t
+use Rattle.tla_core.specs.declared.fault.Place.{Place}
+use Rattle.tla_core.specs.Expr as e
+use Rattle.tla_core.specs.Expr.{Expr, Exprs, constant, unary, binary, enumerated, tuple, conjunction, disjunction, conditional, cases, choose, filtered, functions, record_of, records, product, except, no_exprs, more_exprs}
+use Rattle.tla_tree.specs.declared.tree.Prefix.{Prefix}
+use Rattle.tla_tree.specs.declared.tree.Prefix.TheVariants as prefix
+use Rattle.tla_tree.specs.declared.tree.Bullet.TheVariants as bullet
+use Rattle.tla_tree.specs.declared.tree.Brackets.TheVariants as brackets
+use Rattle.tla_tree.specs.declared.tree.Step.TheVariants as steps
+use Rattle.tla_tree.specs.declared.tree.Quantifier.{Quantifier}
+use Rattle.tla_tree.specs.declared.tree.Quantifier.TheVariants as quantifier
+use Rattle.tla_tree.specs.Places.{place}
+use Rattle.tla_tree.specs.Tree.{Tree, Trees, Binders, Arms, Other, Fields, Key, Keys, Updates, Definition, Definitions, none, more, unbound, no_arms, arm, no_other, other, undefined, defined, DefinesOperator, DefinesFunction, Name, Number, Text, Word, At, Paren, Listing, Call, Prime, Index, Field, Unary, Binary, Quantified, Choose, If, Case, Let, Junction, Filter, Image, Function, FunctionSet, Record, RecordSet, Product, Except, Action, Fair, no_fields, field, AtIndex, AtField, no_keys, key, no_updates, update}
+use Rattle.tla_tree.specs.Tree as t
 use Rattle.tla_expand.specs.declared.nodes.One.{One}
 use Rattle.tla_expand.specs.declared.nodes.Two.TheVariants as twos
 use Rattle.tla_expand.specs.declared.nodes.Gather.TheVariants as gathers

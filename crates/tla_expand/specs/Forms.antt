@@ -1,22 +1,22 @@
 -- What a form with its parts means, under a scope. Private contracts alone cite this.
 use Rattle.std.specs.Prelude.{◌≡◌, ℕ, ◌+◌, List, map, Option, Some, None}
 use Rattle.std.specs.Borrow.{Bor}
-use Rattle.tla_eval.specs.Expr.{Arms, now, cases, product, except, more_exprs, no_arms, other}
-use Rattle.tla_eval.specs.declared.fault.Place.{Place}
-use Rattle.tla_parse.specs.declared.tree.Prefix.{Prefix}
-use Rattle.tla_parse.specs.declared.tree.Expr as s
-use Rattle.tla_parse.specs.declared.tree.Bullet.{Bullet}
-use Rattle.tla_parse.specs.declared.tree.Bullet.TheVariants as bullet
-use Rattle.tla_parse.specs.declared.tree.Brackets.{Brackets}
-use Rattle.tla_parse.specs.declared.tree.Brackets.TheVariants as brackets
+use Rattle.tla_core.specs.Expr.{Arms, now, cases, product, except, more_exprs, no_arms, other}
+use Rattle.tla_core.specs.declared.fault.Place.{Place}
+use Rattle.tla_tree.specs.declared.tree.Prefix.{Prefix}
+use Rattle.tla_tree.specs.declared.tree.Expr as s
+use Rattle.tla_tree.specs.declared.tree.Bullet.{Bullet}
+use Rattle.tla_tree.specs.declared.tree.Bullet.TheVariants as bullet
+use Rattle.tla_tree.specs.declared.tree.Brackets.{Brackets}
+use Rattle.tla_tree.specs.declared.tree.Brackets.TheVariants as brackets
 use Rattle.tla_expand.specs.declared.nodes.Many.{Many}
 use Rattle.tla_expand.specs.declared.nodes.Many.TheVariants as manies
-use Rattle.tla_parse.specs.Tree.{Tree, trees, binders, arms, fields, updates}
-use Rattle.tla_parse.specs.View.{view, group_view, choice_view, field_view, update_view}
+use Rattle.tla_tree.specs.Tree.{Tree, trees, binders, arms, fields, updates}
+use Rattle.tla_tree.specs.View.{view, group_view, choice_view, field_view, update_view}
 use Rattle.tla_expand.specs.declared.nodes.Two.TheVariants as twos
 use Rattle.tla_expand.specs.declared.nodes.Headed.TheVariants as headed
 use Rattle.tla_expand.specs.declared.nodes.Binders.TheVariants as under
-use Rattle.tla_parse.specs.declared.tree.Step.TheVariants as steps
+use Rattle.tla_tree.specs.declared.tree.Step.TheVariants as steps
 use Rattle.tla_expand.specs.declared.nodes.Form.{Form}
 use Rattle.tla_expand.specs.declared.nodes.Form.TheVariants as form
 use Rattle.tla_expand.specs.declared.nodes.Shape.{Shape}

@@ -1,19 +1,19 @@
 -- What the parts of the code answer. Private contracts alone cite this.
 use Rattle.std.specs.Prelude.{◌≡◌, ◌≤◌, ℕ, ◌+◌, Bool, true, false, max, List, [], ◌∷◌, map, length, Option, Some, None, Result, Ok, Err}
 use Rattle.std.specs.Borrow.{Bor}
-use Rattle.tla_eval.specs.declared.fault.Place.{Place}
-use Rattle.tla_eval.specs.declared.expression.Core.{Core}
-use Rattle.tla_eval.specs.declared.expression.Binary.TheVariants.{Unequal}
-use Rattle.tla_eval.specs.Expr.{Expr, tuple}
-use Rattle.tla_eval.specs.ExprOf.{expr_of, exprs_of_arm}
+use Rattle.tla_core.specs.declared.fault.Place.{Place}
+use Rattle.tla_core.specs.declared.expression.Core.{Core}
+use Rattle.tla_core.specs.declared.expression.Binary.TheVariants.{Unequal}
+use Rattle.tla_core.specs.Expr.{Expr, tuple}
+use Rattle.tla_core.specs.ExprOf.{expr_of, exprs_of_arm}
 use Rattle.tla_model.specs.Size.{nodes, depth}
-use Rattle.tla_parse.specs.declared.tree.Expr as s
-use Rattle.tla_parse.specs.declared.tree.Arm.{Arm}
-use Rattle.tla_parse.specs.declared.tree.Field.{Field}
-use Rattle.tla_parse.specs.declared.tree.Key.{Key}
-use Rattle.tla_parse.specs.declared.tree.Update.{Update}
-use Rattle.tla_parse.specs.Tree.{trees}
-use Rattle.tla_parse.specs.View.{view, key_view}
+use Rattle.tla_tree.specs.declared.tree.Expr as s
+use Rattle.tla_tree.specs.declared.tree.Arm.{Arm}
+use Rattle.tla_tree.specs.declared.tree.Field.{Field}
+use Rattle.tla_tree.specs.declared.tree.Key.{Key}
+use Rattle.tla_tree.specs.declared.tree.Update.{Update}
+use Rattle.tla_tree.specs.Tree.{trees}
+use Rattle.tla_tree.specs.View.{view, key_view}
 use Rattle.tla_expand.specs.declared.arena.Entry.{Entry}
 use Rattle.tla_expand.specs.declared.failure.Failure.{Failure}
 use Rattle.tla_expand.specs.declared.failure.Failure.TheVariants.{NoExpansion, TooLarge, Memory}

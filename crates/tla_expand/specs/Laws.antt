@@ -1,8 +1,8 @@
 -- What is so of every expansion.
 use Rattle.std.specs.Prelude.{◌≡◌, ℕ, Bool, true, Some}
-use Rattle.tla_eval.specs.Expr.{Expr}
-use Rattle.tla_eval.specs.Fits.{fits}
-use Rattle.tla_parse.specs.Tree.{Tree}
+use Rattle.tla_core.specs.Expr.{Expr}
+use Rattle.tla_core.specs.Fits.{fits}
+use Rattle.tla_tree.specs.Tree.{Tree}
 use Rattle.tla_expand.specs.declared.primes.Primes.{Primes}
 use Rattle.tla_expand.specs.Meanings.{Scope}
 use Rattle.tla_expand.specs.Expand.{expand}

@@ -1,9 +1,9 @@
 -- The operators of the modules that are used by their names (book, chapter 18).
 use Rattle.std.specs.Prelude.{Option, Some, None, codes, if◌then◌else◌}
 use Rattle.std.specs.Str.{bytes_eq}
-use Rattle.tla_eval.specs.declared.expression.Unary.TheVariants as u
-use Rattle.tla_eval.specs.declared.expression.Binary.TheVariants as b
-use Rattle.tla_eval.specs.declared.expression.Kind.TheVariants as k
+use Rattle.tla_core.specs.declared.expression.Unary.TheVariants as u
+use Rattle.tla_core.specs.declared.expression.Binary.TheVariants as b
+use Rattle.tla_core.specs.declared.expression.Kind.TheVariants as k
 use Rattle.tla_expand.specs.declared.nodes.Two.TheVariants as two
 use Rattle.tla_expand.specs.declared.nodes.Three.TheVariants as three
 use Rattle.tla_expand.specs.declared.nodes.Builtin.{Builtin}

@@ -1,9 +1,9 @@
 -- Lists of expressions, as an expression keeps them.
 use Rattle.std.specs.Prelude.{ℕ, List, [], ◌∷◌, map}
 use Rattle.std.proofs.Common.{Vec, Global}
-use Rattle.tla_eval.specs.Expr.{Expr, Exprs, Fields, Arms, Updates, no_exprs, more_exprs, more_arms, no_fields, more_fields, no_updates, more_updates}
-use Rattle.tla_eval.specs.ExprOf.{expr_of}
-use Rattle.tla_eval.specs.declared.expression.Core.{Core}
+use Rattle.tla_core.specs.Expr.{Expr, Exprs, Fields, Arms, Updates, no_exprs, more_exprs, more_arms, no_fields, more_fields, no_updates, more_updates}
+use Rattle.tla_core.specs.ExprOf.{expr_of}
+use Rattle.tla_core.specs.declared.expression.Core.{Core}
 
 abbrev pub exprs : List Expr → Exprs
 exprs [] = no_exprs

@@ -3,10 +3,10 @@ use Rattle.std.specs.Prelude.{ℕ, List, [], ◌∷◌, Option, Some, None, if�
 use Rattle.std.specs.Str.{bytes_eq}
 use Rattle.tla_value.specs.TreeOf.{tree_of}
 use Rattle.tla_value.specs.declared.value.Value.{Value}
-use Rattle.tla_eval.specs.declared.fault.Place.{Place}
-use Rattle.tla_eval.specs.Expr.{Expr, constant, bound, now, unary, sequences, kind_set}
-use Rattle.tla_eval.specs.ExprOf.{unary_of, kind_of}
-use Rattle.tla_parse.specs.declared.word.Written.{Written}
+use Rattle.tla_core.specs.declared.fault.Place.{Place}
+use Rattle.tla_core.specs.Expr.{Expr, constant, bound, now, unary, sequences, kind_set}
+use Rattle.tla_core.specs.ExprOf.{unary_of, kind_of}
+use Rattle.tla_tree.specs.declared.word.Written.{Written}
 use Rattle.tla_expand.specs.declared.nodes.Builtin.{Builtin}
 use Rattle.tla_expand.specs.declared.nodes.Builtin.TheVariants as builtin
 use Rattle.tla_expand.specs.Maybe.{◌>>=◌}

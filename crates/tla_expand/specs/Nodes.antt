@@ -3,12 +3,12 @@ use Rattle.std.specs.Prelude.{ℕ, pos, true, false, Option, Some, None, nat_le,
 use Rattle.tla_value.specs.Tree as value
 use Rattle.tla_value.specs.TreeOf.{tree_of}
 use Rattle.tla_value.specs.declared.value.Value.{Value}
-use Rattle.tla_eval.specs.declared.fault.Place.{Place}
-use Rattle.tla_eval.specs.ExprOf.{unary_of, binary_of, kind_of}
-use Rattle.tla_eval.specs.Expr as e
-use Rattle.tla_eval.specs.Expr.{Expr, Exprs, Strings, constant, bound, booleans, kind_set, power, sequences, unary, binary, equal, sub_seq, enumerated, tuple, conjunction, disjunction, implies, conditional, assert, for_all, for_some, choose, member, not_member, subset, cup, cap, minus, filtered, functions, product, image, function, record_of, records, Fields, no_exprs, more_exprs}
-use Rattle.tla_parse.specs.declared.tree.Constant.{Constant}
-use Rattle.tla_parse.specs.declared.tree.Constant.TheVariants.{True, False, Boolean, String}
+use Rattle.tla_core.specs.declared.fault.Place.{Place}
+use Rattle.tla_core.specs.ExprOf.{unary_of, binary_of, kind_of}
+use Rattle.tla_core.specs.Expr as e
+use Rattle.tla_core.specs.Expr.{Expr, Exprs, Strings, constant, bound, booleans, kind_set, power, sequences, unary, binary, equal, sub_seq, enumerated, tuple, conjunction, disjunction, implies, conditional, assert, for_all, for_some, choose, member, not_member, subset, cup, cap, minus, filtered, functions, product, image, function, record_of, records, Fields, no_exprs, more_exprs}
+use Rattle.tla_tree.specs.declared.tree.Constant.{Constant}
+use Rattle.tla_tree.specs.declared.tree.Constant.TheVariants.{True, False, Boolean, String}
 use Rattle.tla_expand.specs.declared.nodes.Leaf.{Leaf}
 use Rattle.tla_expand.specs.declared.nodes.Leaf.TheVariants as leaf_
 use Rattle.tla_expand.specs.declared.nodes.One.{One}

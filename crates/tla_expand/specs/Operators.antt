@@ -1,11 +1,11 @@
 -- The operators that have an expansion (book, chapter 15). None for those of time, and for UNCHANGED and \X, which are forms of their own.
 use Rattle.std.specs.Prelude.{Option, Some, None}
-use Rattle.tla_eval.specs.declared.expression.Unary.TheVariants as u
-use Rattle.tla_eval.specs.declared.expression.Binary.TheVariants as b
-use Rattle.tla_parse.specs.declared.tree.Infix.{Infix}
-use Rattle.tla_parse.specs.declared.tree.Infix.TheVariants as i
-use Rattle.tla_parse.specs.declared.tree.Prefix.{Prefix}
-use Rattle.tla_parse.specs.declared.tree.Prefix.TheVariants as p
+use Rattle.tla_core.specs.declared.expression.Unary.TheVariants as u
+use Rattle.tla_core.specs.declared.expression.Binary.TheVariants as b
+use Rattle.tla_tree.specs.declared.tree.Infix.{Infix}
+use Rattle.tla_tree.specs.declared.tree.Infix.TheVariants as i
+use Rattle.tla_tree.specs.declared.tree.Prefix.{Prefix}
+use Rattle.tla_tree.specs.declared.tree.Prefix.TheVariants as p
 use Rattle.tla_expand.specs.declared.nodes.One.{One}
 use Rattle.tla_expand.specs.declared.nodes.One.TheVariants as one
 use Rattle.tla_expand.specs.declared.nodes.Two.{Two}

@@ -1,7 +1,7 @@
 -- The names of parameters. Private contracts alone cite this.
 use Rattle.std.specs.Prelude.{◌≡◌, ℕ, zero, suc, true, false, List, [], ◌∷◌}
 use Rattle.std.specs.Str.{bytes_eq}
-use Rattle.tla_parse.specs.declared.word.Written.{Written}
+use Rattle.tla_tree.specs.declared.word.Written.{Written}
 use Rattle.tla_expand.specs.Places.{Name}
 
 abbrev pub IsAbsent : Name → List Written → Type 0

@@ -1,7 +1,7 @@
 -- Places and names.
 use Rattle.std.specs.Prelude.{ℕ, List, codes}
 use Rattle.tla_lex.specs.declared.token.Place as text
-use Rattle.tla_eval.specs.declared.fault.Place.{Place}
+use Rattle.tla_core.specs.declared.fault.Place.{Place}
 
 -- the bytes of a word
 abbrev pub Name : Type 0

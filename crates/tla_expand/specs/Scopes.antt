@@ -1,8 +1,8 @@
 -- The scopes that a list of entries makes: entry k makes the scope k + 1 from earlier ones. Scope 0 is that of the modules. Private contracts alone cite this.
 use Rattle.std.specs.Prelude.{◌≡◌, ℕ, ◌+◌, ◌≤◌, List, [], ◌∷◌, ◌++◌, map, get_or}
-use Rattle.tla_parse.specs.declared.tree.Expr as s
-use Rattle.tla_parse.specs.Tree.{binders}
-use Rattle.tla_parse.specs.View.{view, group_view}
+use Rattle.tla_tree.specs.declared.tree.Expr as s
+use Rattle.tla_tree.specs.Tree.{binders}
+use Rattle.tla_tree.specs.View.{view, group_view}
 use Rattle.tla_expand.specs.declared.nodes.Gather.TheVariants as gathers
 use Rattle.tla_expand.specs.declared.arena.Entry.{Entry}
 use Rattle.tla_expand.specs.declared.arena.What.{What}

@@ -6,8 +6,8 @@ ghost use Rattle.tla_expand.specs.Scopes.{AreLinked, IsBelow, Extends, scope_at,
 
 use crate::failure::Failure;
 use crate::nodes::Builtin;
-use tla_eval::Place;
-use tla_parse::{Binder, Expr, Written};
+use tla_core::Place;
+use tla_tree::{Binder, Expr, Written};
 use tla_value::Value;
 
 /// What a name means.

@@ -1,8 +1,8 @@
 //! The names of binder lists.
 
 ghost use Rattle.std.specs.Prelude.{◌≡◌, ◌++◌, ◌∷◌, [], map, IfOk, OnOk, IfErr};
-ghost use Rattle.tla_parse.specs.View.{view, group_view};
-ghost use Rattle.tla_parse.specs.Tree.{binders};
+ghost use Rattle.tla_tree.specs.View.{view, group_view};
+ghost use Rattle.tla_tree.specs.Tree.{binders};
 ghost use Rattle.tla_expand.specs.Meanings.{Scope};
 ghost use Rattle.tla_expand.specs.Bound.{bind_each};
 ghost use Rattle.tla_expand.specs.Expand.{binds_of, expand};
@@ -10,7 +10,7 @@ ghost use Rattle.tla_expand.specs.Binders.{binds_in};
 
 use crate::failure::Failure;
 use std::alloc::Global;
-use tla_parse::{Binder, Expr, Written};
+use tla_tree::{Binder, Expr, Written};
 
 /// A name that is bound, with its set.
 #[derive(Clone, Copy)]

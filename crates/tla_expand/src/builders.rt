@@ -1,8 +1,8 @@
 //! The nodes of an expression, made of their parts.
 
 ghost use Rattle.std.specs.Prelude.{◌≡◌, ◌∷◌, IfOk, IfErr, map};
-ghost use Rattle.tla_eval.specs.ExprOf.{expr_of, exprs_of_arm};
-ghost use Rattle.tla_eval.specs.Expr as expr;
+ghost use Rattle.tla_core.specs.ExprOf.{expr_of, exprs_of_arm};
+ghost use Rattle.tla_core.specs.Expr as expr;
 ghost use Rattle.tla_expand.specs.Lists.{exprs, arms_with, fields_of, updates_of, named_part, changed_part};
 ghost use Rattle.tla_expand.specs.Places as places;
 ghost use Rattle.tla_expand.specs.Nodes as nodes;
@@ -10,9 +10,10 @@ ghost use Rattle.tla_expand.specs.Gives.{MakesLeaf};
 
 use crate::failure::Failure;
 use crate::nodes::{Binding, Fielded, Gather, Leaf, Many, One, Three, Two};
+use crate::parts::{box_beside, box_three, box_two, boxed, list_of_two, with_first};
 use std::alloc::Global;
-use tla_eval::{Core, Kind, Place};
-use tla_parse::{Constant, Word};
+use tla_core::{Core, Kind, Place};
+use tla_tree::{Constant, Word};
 use tla_value::{Text, Value};
 
 /// A place of the text, as an expression keeps it.
@@ -22,16 +23,6 @@ pub(crate) fn place_of(place: tla_lex::Place) -> Place
     Place {
         line: place.line,
         column: place.column,
-    }
-}
-
-pub(crate) fn boxed(alloc: Global, core: Core) -> Result<Box<Core>, Failure>
-    ensures ok { IfOk result (λ b. b.value ≡ core) }
-    ensures err { IfErr result (λ e. e ≡ Failure.Memory) }
-{
-    match Box::new(alloc, core) {
-        Ok(b) => Ok(b),
-        Err(_) => Err(Failure::Memory),
     }
 }
 
@@ -106,20 +97,6 @@ pub(crate) fn one_core(
     }
 }
 
-fn list_of_two(alloc: Global, first: Core, second: Core) -> Result<Vec<Core>, Failure>
-    ensures ok { IfOk result (λ v. exprs (map expr_of v.items) ≡ expr.more_exprs (expr_of first) (expr.more_exprs (expr_of second) expr.no_exprs)) }
-    ensures err { IfErr result (λ e. e ≡ Failure.Memory) }
-{
-    let mut parts = Vec::new(alloc);
-    if parts.push(first).is_err() {
-        return Err(Failure::Memory);
-    }
-    if parts.push(second).is_err() {
-        return Err(Failure::Memory);
-    }
-    Ok(parts)
-}
-
 /// A node of two parts.
 pub(crate) fn two_core(
     alloc: Global,
@@ -134,7 +111,10 @@ pub(crate) fn two_core(
     match node {
         Two::And => Ok(conjunction(place, list_of_two(alloc, first, second)?)),
         Two::Or => Ok(disjunction(place, list_of_two(alloc, first, second)?)),
-        _ => two_boxed(place, node, boxed(alloc, first)?, boxed(alloc, second)?),
+        _ => {
+            let (first, second) = box_two(alloc, first, second)?;
+            two_boxed(place, node, first, second)
+        }
     }
 }
 
@@ -172,9 +152,8 @@ pub(crate) fn three_core(
     ensures ok { IfOk result (λ c. expr_of c ≡ nodes.three node place (expr_of first) (expr_of second) (expr_of third)) }
     ensures err { IfErr result (λ e. e ≡ Failure.Memory) }
 {
-    let first = boxed(alloc, first)?;
-    let second = boxed(alloc, second)?;
-    let third = boxed(alloc, third)?;
+    let (two, third) = box_three(alloc, first, second, third)?;
+    let (first, second) = two;
     match node {
         Three::If => Ok(Core::If(place, first, second, third)),
         Three::SubSeq => Ok(Core::SubSeq(place, first, second, third)),
@@ -245,8 +224,7 @@ pub(crate) fn binding_core(
     ensures ok { IfOk result (λ c. expr_of c ≡ nodes.binding node place (expr_of set) (expr_of body)) }
     ensures err { IfErr result (λ e. e ≡ Failure.Memory) }
 {
-    let set = boxed(alloc, set)?;
-    let body = boxed(alloc, body)?;
+    let (set, body) = box_two(alloc, set, body)?;
     match node {
         Binding::ForAll => Ok(Core::ForAll(place, set, body)),
         Binding::ForSome => Ok(Core::ForSome(place, set, body)),
@@ -260,11 +238,8 @@ pub(crate) fn product_core(place: Place, first: Core, others: Vec<Core>) -> Resu
     ensures ok { IfOk result (λ c. expr_of c ≡ expr.product place (exprs (expr_of first ∷ map expr_of others.items))) }
     ensures err { IfErr result (λ e. e ≡ Failure.Memory) }
 {
-    let mut parts = others;
-    match parts.insert(0, first) {
-        Ok(()) => Ok(product(place, parts)),
-        Err(_) => Err(Failure::Memory),
-    }
+    let parts = with_first(first, others)?;
+    Ok(product(place, parts))
 }
 
 /// CASE.
@@ -284,7 +259,7 @@ pub(crate) fn cases_or_core(
     ensures ok { IfOk result (λ c. expr_of c ≡ expr.cases place (arms_with (map exprs_of_arm arms.items) (expr.other (expr_of last)))) }
     ensures err { IfErr result (λ e. e ≡ Failure.Memory) }
 {
-    let last = boxed(alloc, last)?;
+    let (last, arms) = box_beside(alloc, last, arms)?;
     Ok(cases_or(place, arms, last))
 }
 
@@ -305,7 +280,7 @@ pub(crate) fn gather_core(
     ensures ok { IfOk result (λ c. expr_of c ≡ nodes.gather node place (exprs (map expr_of sets.items)) (expr_of body)) }
     ensures err { IfErr result (λ e. e ≡ Failure.Memory) }
 {
-    let body = boxed(alloc, body)?;
+    let (body, sets) = box_beside(alloc, body, sets)?;
     match node {
         Gather::Image => Ok(image(place, sets, body)),
         Gather::Function => Ok(function(place, sets, body)),
@@ -356,7 +331,7 @@ pub(crate) fn except_core(
     ensures ok { IfOk result (λ c. expr_of c ≡ expr.except place (expr_of function) (updates_of (map changed_part updates.items))) }
     ensures err { IfErr result (λ e. e ≡ Failure.Memory) }
 {
-    let function = boxed(alloc, function)?;
+    let (function, updates) = box_beside(alloc, function, updates)?;
     Ok(except(place, function, updates))
 }
 

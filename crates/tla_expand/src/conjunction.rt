@@ -2,13 +2,13 @@
 
 ghost use Rattle.std.specs.Prelude.{◌≡◌, ◌≢◌, ◌≤◌, length, map, Some, IfOk, IfErr};
 ghost use Rattle.std.specs.Borrow.{Bor};
-ghost use Rattle.tla_eval.specs.Expr as expr;
-ghost use Rattle.tla_eval.specs.ExprOf.{expr_of};
+ghost use Rattle.tla_core.specs.Expr as expr;
+ghost use Rattle.tla_core.specs.ExprOf.{expr_of};
 ghost use Rattle.tla_model.specs.Size.{IsWithinLimits};
-ghost use Rattle.tla_parse.specs.declared.tree.Bullet.TheVariants as bullet;
-ghost use Rattle.tla_parse.specs.declared.tree.Expr as syntax;
-ghost use Rattle.tla_parse.specs.Tree.{Junction, trees as trees_of};
-ghost use Rattle.tla_parse.specs.View.{view};
+ghost use Rattle.tla_tree.specs.declared.tree.Bullet.TheVariants as bullet;
+ghost use Rattle.tla_tree.specs.declared.tree.Expr as syntax;
+ghost use Rattle.tla_tree.specs.Tree.{Junction, trees as trees_of};
+ghost use Rattle.tla_tree.specs.View.{view};
 ghost use Rattle.tla_expand.specs.Expand as expansion;
 ghost use Rattle.tla_expand.specs.Gives.{part_in, pointed, GivesMany};
 ghost use Rattle.tla_expand.specs.Maybe.{each_of};
@@ -17,15 +17,16 @@ ghost use Rattle.tla_expand.specs.Scopes.{AreLinked, scope_at};
 
 use crate::arena::Entry;
 use crate::builders::{many_core, place_of};
-use crate::expand::{Setting, expand, push};
+use crate::expand::{Setting, expand};
 use crate::expanded::Many as Parts;
 use crate::failure::Failure;
 use crate::nodes::Many;
+use crate::parts::push;
 use crate::primes::Primes;
 use std::alloc::Global;
-use tla_eval::Core;
+use tla_core::Core;
 use tla_lex::Place;
-use tla_parse::Expr;
+use tla_tree::Expr;
 
 /// Expressions of one scope that stand apart, with at most 199,999 nodes, of which at most 299 on a path.
 fn each_apart<'a>(

@@ -1,10 +1,10 @@
 //! The expansion of an expression, within limits of its size.
 
 ghost use Rattle.std.specs.Prelude.{◌≡◌, ◌≢◌, ◌≤◌, ◌<◌, ◌+◌, ◌∷◌, [], length, ℕ, Some, None, map, IfOk, IfErr, OnOk};
-ghost use Rattle.tla_eval.specs.declared.fault.Place.{Place};
-ghost use Rattle.tla_eval.specs.Expr as expr;
-ghost use Rattle.tla_eval.specs.ExprOf.{expr_of};
-ghost use Rattle.tla_parse.specs.View.{view};
+ghost use Rattle.tla_core.specs.declared.fault.Place.{Place};
+ghost use Rattle.tla_core.specs.Expr as expr;
+ghost use Rattle.tla_core.specs.ExprOf.{expr_of};
+ghost use Rattle.tla_tree.specs.View.{view};
 ghost use Rattle.tla_expand.specs.Maybe.{each_of};
 ghost use Rattle.tla_expand.specs.Lists.{exprs, arms_with, fields_of};
 ghost use Rattle.tla_expand.specs.Primes.{primed_now, with_primes};
@@ -34,11 +34,10 @@ use crate::primes::Primes;
 use binding::{bound_one, bound_several, gather_node};
 use kept::{angle_node, square_node};
 use levels::{node_behind, unchanged_node};
-pub(crate) use lists::push;
 use lists::{arms_of, each, key, named_parts};
 use std::alloc::Global;
-use tla_eval::{Core, Place};
-use tla_parse::{Arm, Expr, Field, Step};
+use tla_core::{Core, Place};
+use tla_tree::{Arm, Expr, Field, Step};
 use updates::except_node;
 
 /// Where an expression stands, and how large its expansion may be.

@@ -1,6 +1,6 @@
 //! Expressions that were expanded, and how many nodes there may still be.
 
-use tla_eval::Core;
+use tla_core::Core;
 use tla_value::Text;
 
 #[derive(Drop)]

@@ -1,6 +1,6 @@
 //! Why an expression has no expansion.
 
-use tla_eval::Place;
+use tla_core::Place;
 
 /// Why an expression has no expansion within the limits.
 #[derive(Clone, Copy, Debug)]

@@ -1,7 +1,7 @@
 //! Forms with their parts.
 
 ghost use Rattle.std.specs.Prelude.{◌≡◌, IfSome, IfNone, ℕ, None};
-ghost use Rattle.tla_parse.specs.View.{view};
+ghost use Rattle.tla_tree.specs.View.{view};
 ghost use Rattle.tla_expand.specs.Meanings.{Scope, builtin_meaning};
 ghost use Rattle.tla_expand.specs.Expand.{of_quantifier};
 ghost use Rattle.tla_expand.specs.Forms.{GivesForm, GivesPrefix, form_in};
@@ -13,8 +13,8 @@ use crate::nodes::{
     Binders, Binding, Builtin, Fielded, Form, Gather, Headed, Leaf, Many, One, Shape, Three, Two,
 };
 use crate::operators::{infix_for, prefix_for};
-use tla_eval::Place;
-use tla_parse::{Brackets, Bullet, Expr, Prefix, Quantifier};
+use tla_core::Place;
+use tla_tree::{Brackets, Bullet, Expr, Prefix, Quantifier};
 
 fn of_brackets(brackets: Brackets) -> Many
     ensures { result ≡ spec.of_brackets brackets }

@@ -1,8 +1,8 @@
 //! From an expression to the form that it stands for.
 
 ghost use Rattle.std.specs.Prelude.{◌≡◌, ◌≤◌, length, ℕ, List, map, IfOk, OnOk, IfErr};
-ghost use Rattle.tla_parse.specs.View.{view, definition_view};
-ghost use Rattle.tla_parse.specs.Tree.{definitions as definitions_of};
+ghost use Rattle.tla_tree.specs.View.{view, definition_view};
+ghost use Rattle.tla_tree.specs.Tree.{definitions as definitions_of};
 ghost use Rattle.tla_expand.specs.declared.arena.Entry as arena_entry;
 ghost use Rattle.tla_expand.specs.Meanings.{Scope, standard, builtin_meaning};
 ghost use Rattle.tla_expand.specs.Expand.{expand, definitions_in, definition_in};
@@ -18,8 +18,8 @@ use crate::nodes::{Binders, Builtin, Form, Gather, Leaf, Shape};
 use crate::operators::builtin_for;
 use crate::primes::{Primes, one_more};
 use crate::shortened::shortened;
-use tla_eval::Place;
-use tla_parse::{Definition, Expr};
+use tla_core::Place;
+use tla_tree::{Definition, Expr};
 
 /// A form, with the scope of its parts and so many primes on it; and where the last of them stands that was met on the
 /// way to it.

@@ -17,6 +17,7 @@ pub mod laws;
 mod named;
 mod nodes;
 mod operators;
+mod parts;
 mod primes;
 mod scopes;
 mod shortened;

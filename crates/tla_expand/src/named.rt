@@ -1,10 +1,10 @@
 //! The expansion of a name.
 
 ghost use Rattle.std.specs.Prelude.{◌≡◌, ◌≢◌, ◌≤◌, length, Some, IfOk, IfErr};
-ghost use Rattle.tla_eval.specs.Expr as expr;
-ghost use Rattle.tla_eval.specs.ExprOf.{expr_of};
+ghost use Rattle.tla_core.specs.Expr as expr;
+ghost use Rattle.tla_core.specs.ExprOf.{expr_of};
 ghost use Rattle.tla_model.specs.Size.{IsWithinLimits};
-ghost use Rattle.tla_parse.specs.Tree.{Name};
+ghost use Rattle.tla_tree.specs.Tree.{Name};
 ghost use Rattle.tla_expand.specs.Expand as expansion;
 ghost use Rattle.tla_expand.specs.Primes.{with_primes};
 ghost use Rattle.tla_expand.specs.Scopes.{AreLinked, scope_at};
@@ -16,8 +16,8 @@ use crate::failure::Failure;
 use crate::heads::{Step, use_of};
 use crate::primes::Primes;
 use std::alloc::Global;
-use tla_eval::Core;
-use tla_parse::Written;
+use tla_core::Core;
+use tla_tree::Written;
 
 /// The expansion of a name without arguments in a scope, under so many primes, with at most 200,000 nodes, of which at
 /// most 300 on a path.

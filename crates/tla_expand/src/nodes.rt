@@ -1,7 +1,7 @@
 //! The nodes that forms make of their parts, and forms with their parts.
 
-use tla_eval::{Binary, Kind, Place, Unary};
-use tla_parse::{Arm, Binder, Constant, Expr, Field, Step, Update, Word, Written};
+use tla_core::{Binary, Kind, Place, Unary};
+use tla_tree::{Arm, Binder, Constant, Expr, Field, Step, Update, Word, Written};
 use tla_value::Value;
 
 /// A node without parts.

@@ -5,8 +5,8 @@ ghost use Rattle.tla_expand.specs.Operators as operators;
 ghost use Rattle.tla_expand.specs.Library.{library};
 
 use crate::nodes::{Builtin, One, Three, Two};
-use tla_eval::{Binary, Kind, Unary};
-use tla_parse::{Infix, Prefix};
+use tla_core::{Binary, Kind, Unary};
+use tla_tree::{Infix, Prefix};
 
 /// The node of one part that a prefix operator stands for.
 pub(crate) fn prefix_for<'a>(operator: Prefix) -> Option<One<'a>>

@@ -2,14 +2,14 @@
 
 ghost use Rattle.std.specs.Prelude.{◌≡◌, ◌≢◌, ◌≤◌, [], length, map, IfOk, IfErr, Some, None};
 ghost use Rattle.std.specs.Borrow.{Bor};
-ghost use Rattle.tla_eval.specs.declared.fault.Place.{Place};
-ghost use Rattle.tla_eval.specs.Expr as expr;
-ghost use Rattle.tla_eval.specs.ExprOf.{expr_of};
+ghost use Rattle.tla_core.specs.declared.fault.Place.{Place};
+ghost use Rattle.tla_core.specs.Expr as expr;
+ghost use Rattle.tla_core.specs.ExprOf.{expr_of};
 ghost use Rattle.tla_model.specs.Size.{IsWithinLimits};
-ghost use Rattle.tla_parse.specs.Tree.{Name, Junction, trees as trees_of};
-ghost use Rattle.tla_parse.specs.declared.tree.Bullet.TheVariants as bullet;
-ghost use Rattle.tla_parse.specs.declared.tree.Expr as syntax;
-ghost use Rattle.tla_parse.specs.View.{view, definition_view};
+ghost use Rattle.tla_tree.specs.Tree.{Name, Junction, trees as trees_of};
+ghost use Rattle.tla_tree.specs.declared.tree.Bullet.TheVariants as bullet;
+ghost use Rattle.tla_tree.specs.declared.tree.Expr as syntax;
+ghost use Rattle.tla_tree.specs.View.{view, definition_view};
 ghost use Rattle.tla_expand.specs.Meanings.{standard, with_name, variable, value_name, operator};
 ghost use Rattle.tla_expand.specs.Expand.{definition_in, expand};
 ghost use Rattle.tla_expand.specs.Scopes.{AreLinked, IsBelow, entry_scope, scope_at};
@@ -25,8 +25,8 @@ use crate::named::named_expansion;
 use crate::operators::builtin_for;
 use crate::primes::Primes;
 use std::alloc::Global;
-use tla_eval::{Core, Place};
-use tla_parse::{Definition, Expr, Word, Written};
+use tla_core::{Core, Place};
+use tla_tree::{Definition, Expr, Word, Written};
 use tla_value::Value;
 
 /// Where there is no expansion: the place that was sought, or where that ended otherwise, the one that was met first.

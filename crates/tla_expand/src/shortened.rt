@@ -2,15 +2,15 @@
 //! argument costs its uses nothing, however often others that do so stand in its body.
 
 ghost use Rattle.std.specs.Prelude.{◌≡◌, ◌≤◌, ◌<◌, length, ℕ, List, Some, IfSome, IfNone};
-ghost use Rattle.tla_eval.specs.declared.fault.Place.{Place};
-ghost use Rattle.tla_parse.specs.View.{view};
+ghost use Rattle.tla_core.specs.declared.fault.Place.{Place};
+ghost use Rattle.tla_tree.specs.View.{view};
 ghost use Rattle.tla_expand.specs.Meanings.{Scope, Argument, with_parameters, operator};
 ghost use Rattle.tla_expand.specs.Expand.{expand};
 ghost use Rattle.tla_expand.specs.Parameters.{IsAbsent, IsLast};
 ghost use Rattle.tla_expand.specs.Scopes.{AreLinked, scope_at, arguments_in};
 
 use crate::arena::{Entry, What, find};
-use tla_parse::{Expr, Written};
+use tla_tree::{Expr, Written};
 
 /// The last parameter of a name.
 fn last_of(parameters: &[Written], name: &[u8]) -> Option<usize>

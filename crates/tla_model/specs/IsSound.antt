@@ -1,8 +1,8 @@
 -- What evaluating and reading a model ask of it (this project's own choice).
 use Rattle.std.specs.Prelude.{◌≤◌, ℕ, Bool, true, false, IsTrue, List, [], ◌∷◌, length, map, ⊤}
 use Rattle.std.proofs.Props.{props}
-use Rattle.tla_eval.specs.Expr.{Expr}
-use Rattle.tla_eval.specs.Fits.{fits}
+use Rattle.tla_core.specs.Expr.{Expr}
+use Rattle.tla_core.specs.Fits.{fits}
 use Rattle.tla_model.specs.ModelTree.{ModelTree}
 use Rattle.tla_model.specs.Size.{depth}
 

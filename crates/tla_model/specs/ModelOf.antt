@@ -1,8 +1,8 @@
 -- The model that a model in memory stands for.
 use Rattle.std.specs.Prelude.{ℕ, Bool, List, map}
-use Rattle.tla_eval.specs.Expr.{Expr}
-use Rattle.tla_eval.specs.ExprOf.{expr_of}
-use Rattle.tla_eval.specs.declared.expression.Core.{Core}
+use Rattle.tla_core.specs.Expr.{Expr}
+use Rattle.tla_core.specs.ExprOf.{expr_of}
+use Rattle.tla_core.specs.declared.expression.Core.{Core}
 use Rattle.tla_model.specs.ModelTree.{ModelTree}
 use Rattle.tla_model.specs.declared.invariant.Invariant.{Invariant}
 

@@ -1,6 +1,6 @@
 -- What is checked: the variables, the assumptions, the behaviour and the invariants (book, chapter 14).
 use Rattle.std.specs.Prelude.{ℕ, Bool, List}
-use Rattle.tla_eval.specs.Expr.{Expr}
+use Rattle.tla_core.specs.Expr.{Expr}
 
 -- names are written by their bytes
 pub record ModelTree : Type 0 where

@@ -1,6 +1,6 @@
 //! An invariant.
 
-use tla_eval::Core;
+use tla_core::Core;
 use tla_value::Text;
 
 /// An invariant by its name.

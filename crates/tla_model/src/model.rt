@@ -1,11 +1,11 @@
 //! The model that is checked.
 ghost use Rattle.std.specs.Prelude.{◌≡◌, map};
-ghost use Rattle.tla_eval.specs.ExprOf.{expr_of};
+ghost use Rattle.tla_core.specs.ExprOf.{expr_of};
 ghost use Rattle.tla_model.specs.IsSound.{IsSound, IsSound-prop};
 ghost use Rattle.tla_model.specs.ModelOf.{invariant_of, tree_of_parts};
 
 use crate::invariant::Invariant;
-use tla_eval::Core;
+use tla_core::Core;
 use tla_value::Text;
 
 /// A model of which every expression can be evaluated: its names and variables exist, and at most 300 nodes stand on

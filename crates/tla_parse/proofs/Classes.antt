@@ -4,11 +4,11 @@ use Rattle.tla_lex.specs.declared.token.Token.{Token}
 use Rattle.tla_lex.specs.declared.token.Kind.{Kind}
 use Rattle.tla_lex.specs.declared.token.Kind.TheVariants as k
 use Rattle.tla_parse.specs.declared.scope.Scope.{Scope}
-use Rattle.tla_parse.specs.declared.tree.Prefix.{Prefix}
-use Rattle.tla_parse.specs.declared.tree.Bullet.{Bullet}
-use Rattle.tla_parse.specs.declared.tree.Quantifier.{Quantifier}
-use Rattle.tla_parse.specs.declared.tree.Constant.{Constant}
-use Rattle.tla_parse.specs.Tree.{Tree}
+use Rattle.tla_tree.specs.declared.tree.Prefix.{Prefix}
+use Rattle.tla_tree.specs.declared.tree.Bullet.{Bullet}
+use Rattle.tla_tree.specs.declared.tree.Quantifier.{Quantifier}
+use Rattle.tla_tree.specs.declared.tree.Constant.{Constant}
+use Rattle.tla_tree.specs.Tree.{Tree}
 use Rattle.tla_parse.specs.Operators.{prefix_of, bullet_of, quantifier_of, constant_of}
 use Rattle.tla_parse.specs.Outcome.{Outcome}
 use Rattle.tla_parse.specs.Reading.{by_class, operand_by}

@@ -9,13 +9,13 @@ use Rattle.tla_parse.specs.declared.scope.Scope.{Scope}
 use Rattle.tla_parse.specs.declared.tokens.Between.TheVariants as between
 use Rattle.tla_parse.specs.declared.ahead.Opened.{Opened}
 use Rattle.tla_parse.specs.declared.ahead.Opened.TheVariants as opened
-use Rattle.tla_parse.specs.declared.word.Written.{Written}
-use Rattle.tla_parse.specs.declared.tree.Brackets.TheVariants as br
-use Rattle.tla_parse.specs.declared.tree.Step.{Step}
-use Rattle.tla_parse.specs.declared.tree.Step.TheVariants as st
-use Rattle.tla_parse.specs.declared.tree.Fairness.{Fairness}
-use Rattle.tla_parse.specs.declared.tree.Fairness.TheVariants as fa
-use Rattle.tla_parse.specs.Tree.{Tree, Trees, Binders, Fields, Updates, none, more, unbound, bound, no_fields, field, Name, Paren, Listing, Filter, Image, Function, FunctionSet, Record, RecordSet, Except, Action, Fair}
+use Rattle.tla_tree.specs.declared.word.Written.{Written}
+use Rattle.tla_tree.specs.declared.tree.Brackets.TheVariants as br
+use Rattle.tla_tree.specs.declared.tree.Step.{Step}
+use Rattle.tla_tree.specs.declared.tree.Step.TheVariants as st
+use Rattle.tla_tree.specs.declared.tree.Fairness.{Fairness}
+use Rattle.tla_tree.specs.declared.tree.Fairness.TheVariants as fa
+use Rattle.tla_tree.specs.Tree.{Tree, Trees, Binders, Fields, Updates, none, more, unbound, bound, no_fields, field, Name, Paren, Listing, Filter, Image, Function, FunctionSet, Record, RecordSet, Except, Action, Fair}
 use Rattle.tla_parse.specs.Edges.{depth, depths}
 use Rattle.tla_parse.specs.Tokens.{seen, goes_on, Has, Writes}
 use Rattle.tla_parse.specs.Kinds.{same_kind, kind_at, binds}

@@ -5,9 +5,9 @@ use Rattle.tla_lex.specs.declared.token.Token.{Token}
 use Rattle.tla_lex.specs.declared.token.Kind.{Kind}
 use Rattle.tla_lex.specs.declared.token.Kind.TheVariants as k
 use Rattle.tla_parse.specs.declared.scope.Scope.{Scope}
-use Rattle.tla_parse.specs.declared.word.Written.{Written}
+use Rattle.tla_tree.specs.declared.word.Written.{Written}
 use Rattle.tla_parse.specs.declared.tokens.Between.TheVariants as between
-use Rattle.tla_parse.specs.Tree.{Tree, Arms, Other, Definition, Definitions, Choice, no_arms, arm, no_other, other, DefinesOperator, DefinesFunction, undefined, defined}
+use Rattle.tla_tree.specs.Tree.{Tree, Arms, Other, Definition, Definitions, Choice, no_arms, arm, no_other, other, DefinesOperator, DefinesFunction, undefined, defined}
 use Rattle.tla_parse.specs.Edges.{depth, arms_depth, definition_depth, definitions_depth}
 use Rattle.tla_parse.specs.Tokens.{seen, goes_on, Has, Writes, Names}
 use Rattle.tla_parse.specs.Kinds.{same_kind, kind_at}

@@ -6,12 +6,13 @@ use Rattle.tla_lex.specs.declared.token.Kind.{Kind}
 use Rattle.tla_lex.specs.declared.token.Kind.TheVariants as k
 use Rattle.tla_parse.specs.declared.scope.Scope.{Scope}
 use Rattle.tla_parse.specs.declared.tokens.Between.TheVariants as between
-use Rattle.tla_parse.specs.declared.word.Written.{Written}
-use Rattle.tla_parse.specs.declared.tree.Bullet.{Bullet}
-use Rattle.tla_parse.specs.declared.tree.Brackets.{Brackets}
-use Rattle.tla_parse.specs.declared.tree.Brackets.TheVariants as br
-use Rattle.tla_parse.specs.Tree.{Tree, Trees, Binders, Group, trees, binders, none, more, unbound, bound, Listing, If}
-use Rattle.tla_parse.specs.Edges.{place, depth, depths, bound_depth}
+use Rattle.tla_tree.specs.declared.word.Written.{Written}
+use Rattle.tla_tree.specs.declared.tree.Bullet.{Bullet}
+use Rattle.tla_tree.specs.declared.tree.Brackets.{Brackets}
+use Rattle.tla_tree.specs.declared.tree.Brackets.TheVariants as br
+use Rattle.tla_tree.specs.Tree.{Tree, Trees, Binders, Group, trees, binders, none, more, unbound, bound, Listing, If}
+use Rattle.tla_tree.specs.Places.{place}
+use Rattle.tla_parse.specs.Edges.{depth, depths, bound_depth}
 use Rattle.tla_parse.specs.Tokens.{seen, goes_on, is_bullet_at, may_follow, Has, Names}
 use Rattle.tla_parse.specs.Kinds.{same_kind, kind_at, closing}
 use Rattle.tla_parse.specs.Grammar.{Spells, Items, Listed, Others, Bound, MoreBound, is_some}

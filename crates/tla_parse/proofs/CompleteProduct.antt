@@ -7,11 +7,12 @@ use Rattle.tla_lex.specs.declared.token.Kind.{Kind}
 use Rattle.tla_lex.specs.declared.token.Kind.TheVariants as k
 use Rattle.tla_parse.specs.declared.scope.Scope.{Scope}
 use Rattle.tla_parse.specs.declared.tokens.Between.TheVariants as between
-use Rattle.tla_parse.specs.declared.tree.Infix.{Infix}
-use Rattle.tla_parse.specs.declared.tree.Infix.TheVariants as i
-use Rattle.tla_parse.specs.Tree.{Tree, Trees, trees, none, more, Product}
+use Rattle.tla_tree.specs.declared.tree.Infix.{Infix}
+use Rattle.tla_tree.specs.declared.tree.Infix.TheVariants as i
+use Rattle.tla_tree.specs.Tree.{Tree, Trees, trees, none, more, Product}
 use Rattle.tla_parse.specs.Operators.{low, high, infix_of}
-use Rattle.tla_parse.specs.Edges.{yields, edge_allows, last_allows, top_above, place, depth, depths}
+use Rattle.tla_tree.specs.Places.{place}
+use Rattle.tla_parse.specs.Edges.{yields, edge_allows, last_allows, top_above, depth, depths}
 use Rattle.tla_parse.specs.Tokens.{seen, is_suffix, Has}
 use Rattle.tla_parse.specs.Kinds.{same_kind, kind_at}
 use Rattle.tla_parse.specs.Ending.{above, infix_at, allows, may_end}

@@ -6,8 +6,8 @@ use Rattle.tla_lex.specs.declared.token.Kind.{Kind}
 use Rattle.tla_lex.specs.declared.token.Kind.TheVariants as k
 use Rattle.tla_parse.specs.declared.scope.Scope.{Scope}
 use Rattle.tla_parse.specs.declared.tokens.Between.TheVariants as between
-use Rattle.tla_parse.specs.declared.word.Written.{Written}
-use Rattle.tla_parse.specs.Tree.{Tree, Fields, Key, Keys, Updates, Entry, Change, fields, keys, updates, no_fields, field, AtIndex, AtField, no_keys, key, no_updates, update, Record, RecordSet, Except}
+use Rattle.tla_tree.specs.declared.word.Written.{Written}
+use Rattle.tla_tree.specs.Tree.{Tree, Fields, Key, Keys, Updates, Entry, Change, fields, keys, updates, no_fields, field, AtIndex, AtField, no_keys, key, no_updates, update, Record, RecordSet, Except}
 use Rattle.tla_parse.specs.Edges.{depth, fields_depth, key_depth, keys_depth, updates_depth}
 use Rattle.tla_parse.specs.Tokens.{seen, goes_on, Has, Writes}
 use Rattle.tla_parse.specs.Kinds.{same_kind, kind_at}

@@ -8,12 +8,12 @@ use Rattle.tla_parse.specs.declared.scope.Scope.{Scope}
 use Rattle.tla_parse.specs.declared.tokens.Between.TheVariants as between
 use Rattle.tla_parse.specs.declared.ahead.Opened.{Opened}
 use Rattle.tla_parse.specs.declared.ahead.Opened.TheVariants as opened
-use Rattle.tla_parse.specs.declared.tree.Brackets.{Brackets}
-use Rattle.tla_parse.specs.declared.tree.Brackets.TheVariants as br
-use Rattle.tla_parse.specs.declared.tree.Step.{Step}
-use Rattle.tla_parse.specs.declared.tree.Step.TheVariants as step
-use Rattle.tla_parse.specs.declared.tree.Fairness.{Fairness}
-use Rattle.tla_parse.specs.Tree.{Tree, Action, Fair, Key, Change, Entry}
+use Rattle.tla_tree.specs.declared.tree.Brackets.{Brackets}
+use Rattle.tla_tree.specs.declared.tree.Brackets.TheVariants as br
+use Rattle.tla_tree.specs.declared.tree.Step.{Step}
+use Rattle.tla_tree.specs.declared.tree.Step.TheVariants as step
+use Rattle.tla_tree.specs.declared.tree.Fairness.{Fairness}
+use Rattle.tla_tree.specs.Tree.{Tree, Action, Fair, Key, Change, Entry}
 use Rattle.tla_parse.specs.Edges.{depth}
 use Rattle.tla_parse.specs.Tokens.{seen}
 use Rattle.tla_parse.specs.Kinds.{kind_at, closing, binds}

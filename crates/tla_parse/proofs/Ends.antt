@@ -6,9 +6,11 @@ use Rattle.tla_lex.specs.declared.token.Kind.TheVariants as k
 use Rattle.tla_parse.specs.declared.scope.Scope.{Scope}
 use Rattle.tla_parse.specs.declared.tokens.Postfix.{Postfix}
 use Rattle.tla_parse.specs.declared.tokens.Postfix.TheVariants as form
-use Rattle.tla_parse.specs.Tree.{Tree, Name, Prime, Index, Field}
-use Rattle.tla_parse.specs.Edges.{is_delimited, is_closed, place, depth}
-use Rattle.tla_parse.specs.Tokens.{seen, written}
+use Rattle.tla_tree.specs.Tree.{Tree, Name, Prime, Index, Field}
+use Rattle.tla_tree.specs.Places.{place}
+use Rattle.tla_parse.specs.Edges.{is_delimited, is_closed, depth}
+use Rattle.tla_tree.specs.Words.{written}
+use Rattle.tla_parse.specs.Tokens.{seen}
 use Rattle.tla_parse.specs.Grammar.{Spells}
 use Rattle.tla_parse.specs.Outcome.{Outcome, ◌>>=◌}
 use Rattle.tla_parse.specs.ReadingLists.{name_at, some}

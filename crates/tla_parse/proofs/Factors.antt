@@ -1,9 +1,9 @@
 -- The last operand of a product.
 use Rattle.std.proofs.Common.{◌≡◌, ℕ, suc, ◌-◌, true, length, map, slice_get, List, [], ◌∷◌, Some, None, refl, arith}
-use Rattle.tla_parse.specs.declared.tree.Infix.{Infix}
-use Rattle.tla_parse.specs.declared.tree.Expr.{Expr}
-use Rattle.tla_parse.specs.Tree.{trees}
-use Rattle.tla_parse.specs.View.{view}
+use Rattle.tla_tree.specs.declared.tree.Infix.{Infix}
+use Rattle.tla_tree.specs.declared.tree.Expr.{Expr}
+use Rattle.tla_tree.specs.Tree.{trees}
+use Rattle.tla_tree.specs.View.{view}
 use Rattle.tla_parse.specs.Edges.{edge_allows, last_allows}
 
 pub last_some : (es : List Expr) (op : Infix) (e : Expr) → slice_get es (length es - 1) ≡ Some e → last_allows (trees (map view es)) op ≡ edge_allows (view e) op

@@ -4,12 +4,12 @@ use Rattle.std.proofs.lemmas.Bool.{ltb-true, lt-ltb, le-ltb, eqb-true}
 use Rattle.tla_lex.specs.declared.token.Token.{Token}
 use Rattle.tla_lex.specs.declared.token.Kind.{Kind}
 use Rattle.tla_lex.specs.declared.token.Kind.TheVariants as k
-use Rattle.tla_parse.specs.declared.tree.Infix.{Infix}
-use Rattle.tla_parse.specs.declared.tree.Infix.TheVariants as i
-use Rattle.tla_parse.specs.declared.tree.Prefix.{Prefix}
-use Rattle.tla_parse.specs.declared.tree.Prefix.TheVariants as p
-use Rattle.tla_parse.specs.declared.tree.Bullet.{Bullet}
-use Rattle.tla_parse.specs.Tree.{Tree}
+use Rattle.tla_tree.specs.declared.tree.Infix.{Infix}
+use Rattle.tla_tree.specs.declared.tree.Infix.TheVariants as i
+use Rattle.tla_tree.specs.declared.tree.Prefix.{Prefix}
+use Rattle.tla_tree.specs.declared.tree.Prefix.TheVariants as p
+use Rattle.tla_tree.specs.declared.tree.Bullet.{Bullet}
+use Rattle.tla_tree.specs.Tree.{Tree}
 use Rattle.tla_parse.specs.Operators.{low, high, left_group, prefix_low, prefix_high, infix_of, bullet_of}
 use Rattle.tla_parse.specs.Edges.{yields, edge_allows}
 use Rattle.tla_parse.specs.Tokens.{is_suffix, right_of, seen, goes_on, is_some_infix, is_bullet, is_bullet_at, may_follow, Has}

@@ -6,11 +6,12 @@ use Rattle.tla_lex.specs.declared.token.Kind.{Kind}
 use Rattle.tla_lex.specs.declared.token.Kind.TheVariants as k
 use Rattle.tla_parse.specs.declared.tokens.Postfix.{Postfix}
 use Rattle.tla_parse.specs.declared.tokens.Postfix.TheVariants as form
-use Rattle.tla_parse.specs.declared.tree.Infix.{Infix}
-use Rattle.tla_parse.specs.declared.tree.Bullet.{Bullet}
-use Rattle.tla_parse.specs.declared.tree.Bullet.TheVariants as b
+use Rattle.tla_tree.specs.declared.tree.Infix.{Infix}
+use Rattle.tla_tree.specs.declared.tree.Bullet.{Bullet}
+use Rattle.tla_tree.specs.declared.tree.Bullet.TheVariants as b
 use Rattle.tla_parse.specs.Operators.{low, infix_of, bullet_of, same_bullet}
-use Rattle.tla_parse.specs.Tokens.{right_of, seen, written, is_bullet_at, Is, Has, Writes}
+use Rattle.tla_tree.specs.Words.{written}
+use Rattle.tla_parse.specs.Tokens.{right_of, seen, is_bullet_at, Is, Has, Writes}
 use Rattle.tla_parse.specs.Kinds.{same_kind, kind_at}
 use Rattle.tla_parse.specs.LeftOut.{KindAt, Commas}
 use Rattle.tla_parse.specs.Ending.{above, infix_at}

@@ -6,9 +6,9 @@ use Rattle.tla_lex.specs.declared.token.Kind.TheVariants as k
 use Rattle.tla_parse.specs.declared.scope.Scope.{Scope}
 use Rattle.tla_parse.specs.declared.tokens.Between.{Between}
 use Rattle.tla_parse.specs.declared.tokens.Between.TheVariants as between
-use Rattle.tla_parse.specs.declared.word.Written.{Written}
-use Rattle.tla_parse.specs.declared.tree.Bullet.{Bullet}
-use Rattle.tla_parse.specs.Tree.{Tree, Trees, Binders, Arms, Other, Definition, Definitions, Group, Choice, trees, binders, arms, definitions, none, more, unbound, bound, no_arms, arm, undefined, defined}
+use Rattle.tla_tree.specs.declared.word.Written.{Written}
+use Rattle.tla_tree.specs.declared.tree.Bullet.{Bullet}
+use Rattle.tla_tree.specs.Tree.{Tree, Trees, Binders, Arms, Other, Definition, Definitions, Group, Choice, trees, binders, arms, definitions, none, more, unbound, bound, no_arms, arm, undefined, defined}
 use Rattle.tla_parse.specs.Tokens.{seen, is_bullet_at, Has, Names}
 use Rattle.tla_parse.specs.Kinds.{kind_at}
 use Rattle.tla_parse.specs.Grammar.{Spells, Items, Listed, Others, Bound, MoreBound, Chosen, MoreChosen, Defines, Defined, is_some, is_defined}

@@ -4,11 +4,11 @@ use Rattle.tla_lex.specs.declared.token.Token.{Token}
 use Rattle.tla_lex.specs.declared.token.Kind.{Kind}
 use Rattle.tla_lex.specs.declared.token.Kind.TheVariants as k
 use Rattle.tla_parse.specs.declared.scope.Scope.{Scope}
-use Rattle.tla_parse.specs.declared.word.Written.{Written}
+use Rattle.tla_tree.specs.declared.word.Written.{Written}
 use Rattle.tla_parse.specs.declared.ahead.Role.{Role}
 use Rattle.tla_parse.specs.declared.ahead.Role.TheVariants as role
 use Rattle.tla_parse.specs.declared.ahead.Opened.TheVariants as opened
-use Rattle.tla_parse.specs.Tree.{Tree, Trees, Binders, none, more, unbound, bound}
+use Rattle.tla_tree.specs.Tree.{Tree, Trees, Binders, none, more, unbound, bound}
 use Rattle.tla_parse.specs.Tokens.{seen, goes_on, Has, Writes}
 use Rattle.tla_parse.specs.Kinds.{same_kind, kind_at, binds}
 use Rattle.tla_parse.specs.Grammar.{Spells, Others, Bound, MoreBound}

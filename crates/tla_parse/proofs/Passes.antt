@@ -6,19 +6,19 @@ use Rattle.tla_lex.specs.declared.token.Kind.TheVariants as k
 use Rattle.tla_parse.specs.declared.scope.Scope.{Scope}
 use Rattle.tla_parse.specs.declared.ahead.Role.{Role}
 use Rattle.tla_parse.specs.declared.ahead.Role.TheVariants as role
-use Rattle.tla_parse.specs.declared.word.Written.{Written}
-use Rattle.tla_parse.specs.declared.tree.Infix.{Infix}
-use Rattle.tla_parse.specs.declared.tree.Prefix.{Prefix}
-use Rattle.tla_parse.specs.declared.tree.Bullet.{Bullet}
-use Rattle.tla_parse.specs.declared.tree.Quantifier.{Quantifier}
-use Rattle.tla_parse.specs.declared.tree.Constant.{Constant}
-use Rattle.tla_parse.specs.declared.tree.Brackets.{Brackets}
-use Rattle.tla_parse.specs.declared.tree.Brackets.TheVariants as br
-use Rattle.tla_parse.specs.declared.tree.Step.{Step}
-use Rattle.tla_parse.specs.declared.tree.Step.TheVariants as st
-use Rattle.tla_parse.specs.declared.tree.Fairness.{Fairness}
-use Rattle.tla_parse.specs.declared.tree.Fairness.TheVariants as fa
-use Rattle.tla_parse.specs.Tree.{Tree, Trees, Binders, Arms, Other, Definition, Definitions, none, more, unbound, bound, no_arms, arm, no_other, other, DefinesOperator, DefinesFunction, undefined, defined, Case, Let, Name, Number, Text, Word, At, Paren, Listing, Call, Prime, Index, Field, Unary, Binary, Quantified, Choose, If, Junction, Filter, Image, Function, FunctionSet, Record, RecordSet, Except, Action, Fair, Product, Fields, Key, Keys, Updates, no_fields, field, AtIndex, AtField, no_keys, key, no_updates, update}
+use Rattle.tla_tree.specs.declared.word.Written.{Written}
+use Rattle.tla_tree.specs.declared.tree.Infix.{Infix}
+use Rattle.tla_tree.specs.declared.tree.Prefix.{Prefix}
+use Rattle.tla_tree.specs.declared.tree.Bullet.{Bullet}
+use Rattle.tla_tree.specs.declared.tree.Quantifier.{Quantifier}
+use Rattle.tla_tree.specs.declared.tree.Constant.{Constant}
+use Rattle.tla_tree.specs.declared.tree.Brackets.{Brackets}
+use Rattle.tla_tree.specs.declared.tree.Brackets.TheVariants as br
+use Rattle.tla_tree.specs.declared.tree.Step.{Step}
+use Rattle.tla_tree.specs.declared.tree.Step.TheVariants as st
+use Rattle.tla_tree.specs.declared.tree.Fairness.{Fairness}
+use Rattle.tla_tree.specs.declared.tree.Fairness.TheVariants as fa
+use Rattle.tla_tree.specs.Tree.{Tree, Trees, Binders, Arms, Other, Definition, Definitions, none, more, unbound, bound, no_arms, arm, no_other, other, DefinesOperator, DefinesFunction, undefined, defined, Case, Let, Name, Number, Text, Word, At, Paren, Listing, Call, Prime, Index, Field, Unary, Binary, Quantified, Choose, If, Junction, Filter, Image, Function, FunctionSet, Record, RecordSet, Except, Action, Fair, Product, Fields, Key, Keys, Updates, no_fields, field, AtIndex, AtField, no_keys, key, no_updates, update}
 use Rattle.tla_parse.specs.Operators.{infix_of, prefix_of, bullet_of, quantifier_of, constant_of}
 use Rattle.tla_parse.specs.Tokens.{seen, Has, Writes, Names, is_bullet_at}
 use Rattle.tla_parse.specs.Kinds.{opening, closing, step_opening, step_closing, fairness_word}

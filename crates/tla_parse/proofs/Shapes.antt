@@ -5,10 +5,10 @@ use Rattle.tla_lex.specs.declared.token.Token.{Token}
 use Rattle.tla_lex.specs.declared.token.Kind.{Kind}
 use Rattle.tla_lex.specs.declared.token.Kind.TheVariants as k
 use Rattle.tla_parse.specs.declared.scope.Scope.{Scope}
-use Rattle.tla_parse.specs.declared.tree.Infix.{Infix}
-use Rattle.tla_parse.specs.declared.tree.Infix.TheVariants as i
-use Rattle.tla_parse.specs.declared.tree.Bullet.{Bullet}
-use Rattle.tla_parse.specs.Tree.{Tree, Trees, Binders, Arms, Other, Definition, Definitions, none, more, unbound, bound, no_arms, arm, no_other, other, DefinesOperator, DefinesFunction, undefined, defined, Case, Let, Name, Number, Text, Word, At, Paren, Listing, Call, Prime, Index, Field, Unary, Binary, Quantified, Choose, If, Junction, Filter, Image, Function, FunctionSet, Record, RecordSet, Except, Action, Fair, Product, Fields, Key, Keys, Updates, no_fields, field, AtIndex, AtField, no_keys, key, no_updates, update}
+use Rattle.tla_tree.specs.declared.tree.Infix.{Infix}
+use Rattle.tla_tree.specs.declared.tree.Infix.TheVariants as i
+use Rattle.tla_tree.specs.declared.tree.Bullet.{Bullet}
+use Rattle.tla_tree.specs.Tree.{Tree, Trees, Binders, Arms, Other, Definition, Definitions, none, more, unbound, bound, no_arms, arm, no_other, other, DefinesOperator, DefinesFunction, undefined, defined, Case, Let, Name, Number, Text, Word, At, Paren, Listing, Call, Prime, Index, Field, Unary, Binary, Quantified, Choose, If, Junction, Filter, Image, Function, FunctionSet, Record, RecordSet, Except, Action, Fair, Product, Fields, Key, Keys, Updates, no_fields, field, AtIndex, AtField, no_keys, key, no_updates, update}
 use Rattle.tla_parse.specs.Operators.{low}
 use Rattle.tla_parse.specs.Edges.{yields, edge_allows, last_allows, top_above, depth}
 use Rattle.tla_parse.specs.Kinds.{closing}

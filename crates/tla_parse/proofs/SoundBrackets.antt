@@ -8,12 +8,13 @@ use Rattle.tla_parse.specs.declared.scope.Scope.{Scope}
 use Rattle.tla_parse.specs.declared.tokens.Between.TheVariants as between
 use Rattle.tla_parse.specs.declared.ahead.Opened.{Opened}
 use Rattle.tla_parse.specs.declared.ahead.Opened.TheVariants as opened
-use Rattle.tla_parse.specs.declared.tree.Brackets.TheVariants as br
-use Rattle.tla_parse.specs.declared.tree.Step.{Step}
-use Rattle.tla_parse.specs.declared.tree.Step.TheVariants as st
-use Rattle.tla_parse.specs.declared.tree.Fairness.{Fairness}
-use Rattle.tla_parse.specs.Tree.{Tree, Trees, Group, none, trees, binders, Name, Paren, Listing, Filter, Image, Function, FunctionSet, Action, Fair}
-use Rattle.tla_parse.specs.Tokens.{seen, written, Is, Has, Writes}
+use Rattle.tla_tree.specs.declared.tree.Brackets.TheVariants as br
+use Rattle.tla_tree.specs.declared.tree.Step.{Step}
+use Rattle.tla_tree.specs.declared.tree.Step.TheVariants as st
+use Rattle.tla_tree.specs.declared.tree.Fairness.{Fairness}
+use Rattle.tla_tree.specs.Tree.{Tree, Trees, Group, none, trees, binders, Name, Paren, Listing, Filter, Image, Function, FunctionSet, Action, Fair}
+use Rattle.tla_tree.specs.Words.{written}
+use Rattle.tla_parse.specs.Tokens.{seen, Is, Has, Writes}
 use Rattle.tla_parse.specs.Kinds.{kind_at, closing, binds, step_opening, step_closing, fairness_word}
 use Rattle.tla_parse.specs.Ahead.{filters, maps}
 use Rattle.tla_parse.specs.Grammar.{Spells, Listed, Bound, is_subscript}

@@ -3,10 +3,11 @@ use Rattle.std.proofs.Common.{◌≡◌, ℕ, ◌+◌, true, false, not, inl, in
 use Rattle.tla_lex.specs.declared.token.Token.{Token}
 use Rattle.tla_lex.specs.declared.token.Kind.TheVariants as k
 use Rattle.tla_parse.specs.declared.scope.Scope.{Scope}
-use Rattle.tla_parse.specs.declared.word.Written.{Written}
+use Rattle.tla_tree.specs.declared.word.Written.{Written}
 use Rattle.tla_parse.specs.declared.tokens.Between.TheVariants as between
-use Rattle.tla_parse.specs.Tree.{Tree, Choice, Definition, binders, arms, definitions, no_other, other, DefinesOperator, DefinesFunction, Case, Let}
-use Rattle.tla_parse.specs.Tokens.{seen, written, Has, Writes, Names}
+use Rattle.tla_tree.specs.Tree.{Tree, Choice, Definition, binders, arms, definitions, no_other, other, DefinesOperator, DefinesFunction, Case, Let}
+use Rattle.tla_tree.specs.Words.{written}
+use Rattle.tla_parse.specs.Tokens.{seen, Has, Writes, Names}
 use Rattle.tla_parse.specs.Kinds.{kind_at}
 use Rattle.tla_parse.specs.Grammar.{Spells, Defines, Defined, Chosen, is_defined}
 use Rattle.tla_parse.specs.Outcome.{Outcome, Refused, ◌>>=◌, need, at_op}

@@ -6,20 +6,22 @@ use Rattle.tla_lex.specs.declared.token.Kind.{Kind}
 use Rattle.tla_lex.specs.declared.token.Kind.TheVariants as k
 use Rattle.tla_lex.specs.Strings.{string_text}
 use Rattle.tla_parse.specs.declared.scope.Scope.{Scope}
-use Rattle.tla_parse.specs.declared.word.Written.{Written}
-use Rattle.tla_parse.specs.declared.tree.Infix.{Infix}
-use Rattle.tla_parse.specs.declared.tree.Prefix.{Prefix}
-use Rattle.tla_parse.specs.declared.tree.Bullet.{Bullet}
-use Rattle.tla_parse.specs.declared.tree.Brackets.{Brackets}
-use Rattle.tla_parse.specs.declared.tree.Brackets.TheVariants as b
+use Rattle.tla_tree.specs.declared.word.Written.{Written}
+use Rattle.tla_tree.specs.declared.tree.Infix.{Infix}
+use Rattle.tla_tree.specs.declared.tree.Prefix.{Prefix}
+use Rattle.tla_tree.specs.declared.tree.Bullet.{Bullet}
+use Rattle.tla_tree.specs.declared.tree.Brackets.{Brackets}
+use Rattle.tla_tree.specs.declared.tree.Brackets.TheVariants as b
 use Rattle.tla_parse.specs.declared.tokens.Between.TheVariants as between
 use Rattle.tla_parse.specs.declared.tokens.Postfix.{Postfix}
 use Rattle.tla_parse.specs.declared.tokens.Postfix.TheVariants as form
-use Rattle.tla_parse.specs.declared.tree.Quantifier.{Quantifier}
-use Rattle.tla_parse.specs.Tree.{Tree, Trees, Group, none, trees, binders, Name, Number, Text, Word, At, Paren, Listing, Call, Prime, Index, Field, Unary, Binary, Quantified, Choose, If, Junction, Product}
+use Rattle.tla_tree.specs.declared.tree.Quantifier.{Quantifier}
+use Rattle.tla_tree.specs.Tree.{Tree, Trees, Group, none, trees, binders, Name, Number, Text, Word, At, Paren, Listing, Call, Prime, Index, Field, Unary, Binary, Quantified, Choose, If, Junction, Product}
 use Rattle.tla_parse.specs.Operators.{low, high, prefix_high, infix_of, prefix_of, bullet_of, quantifier_of, constant_of}
-use Rattle.tla_parse.specs.Edges.{edge_allows, top_above, is_closed, place, depth}
-use Rattle.tla_parse.specs.Tokens.{seen, word_of, written, is_bullet_at, may_follow, Is, Has, Writes}
+use Rattle.tla_tree.specs.Places.{place}
+use Rattle.tla_parse.specs.Edges.{edge_allows, top_above, is_closed, depth}
+use Rattle.tla_tree.specs.Words.{word_of, written}
+use Rattle.tla_parse.specs.Tokens.{seen, is_bullet_at, may_follow, Is, Has, Writes}
 use Rattle.tla_parse.specs.Kinds.{kind_at, opening, closing}
 use Rattle.tla_parse.specs.Grammar.{Spells, Items, Listed, is_some, within}
 use Rattle.tla_parse.specs.Ending.{above, infix_at}

@@ -5,11 +5,12 @@ use Rattle.tla_lex.specs.declared.token.Kind.{Kind}
 use Rattle.tla_lex.specs.declared.token.Kind.TheVariants as k
 use Rattle.tla_parse.specs.declared.scope.Scope.{Scope}
 use Rattle.tla_parse.specs.declared.tokens.Between.TheVariants as between
-use Rattle.tla_parse.specs.declared.tree.Infix.{Infix}
-use Rattle.tla_parse.specs.declared.tree.Infix.TheVariants as i
-use Rattle.tla_parse.specs.Tree.{Tree, trees, Product}
+use Rattle.tla_tree.specs.declared.tree.Infix.{Infix}
+use Rattle.tla_tree.specs.declared.tree.Infix.TheVariants as i
+use Rattle.tla_tree.specs.Tree.{Tree, trees, Product}
 use Rattle.tla_parse.specs.Operators.{low, high, is_product, infix_of}
-use Rattle.tla_parse.specs.Edges.{edge_allows, top_above, place, depth}
+use Rattle.tla_tree.specs.Places.{place}
+use Rattle.tla_parse.specs.Edges.{edge_allows, top_above, depth}
 use Rattle.tla_parse.specs.Tokens.{seen, Has}
 use Rattle.tla_parse.specs.Kinds.{kind_at}
 use Rattle.tla_parse.specs.Grammar.{Spells, Factors, is_some}

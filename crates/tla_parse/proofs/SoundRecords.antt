@@ -5,8 +5,9 @@ use Rattle.tla_lex.specs.declared.token.Kind.{Kind}
 use Rattle.tla_lex.specs.declared.token.Kind.TheVariants as k
 use Rattle.tla_parse.specs.declared.scope.Scope.{Scope}
 use Rattle.tla_parse.specs.declared.tokens.Between.TheVariants as between
-use Rattle.tla_parse.specs.Tree.{Tree, Entry, Key, Change, fields, keys, updates, AtIndex, AtField, Record, RecordSet, Except}
-use Rattle.tla_parse.specs.Tokens.{seen, written, Is, Has, Writes}
+use Rattle.tla_tree.specs.Tree.{Tree, Entry, Key, Change, fields, keys, updates, AtIndex, AtField, Record, RecordSet, Except}
+use Rattle.tla_tree.specs.Words.{written}
+use Rattle.tla_parse.specs.Tokens.{seen, Is, Has, Writes}
 use Rattle.tla_parse.specs.Kinds.{kind_at}
 use Rattle.tla_parse.specs.Grammar.{Spells, Fielded, Leads, Selects, Updated, is_path, updating}
 use Rattle.tla_parse.specs.Outcome.{Outcome, Refused, ◌>>=◌, need, at_op}

@@ -6,12 +6,13 @@ use Rattle.tla_lex.specs.declared.token.Kind.TheVariants as k
 use Rattle.tla_parse.specs.declared.scope.Scope.{Scope}
 use Rattle.tla_parse.specs.declared.tokens.Postfix.{Postfix}
 use Rattle.tla_parse.specs.declared.refusal.Refusal.{Refusal}
-use Rattle.tla_parse.specs.declared.tree.Infix.{Infix}
-use Rattle.tla_parse.specs.declared.tree.Bullet.{Bullet}
-use Rattle.tla_parse.specs.declared.tree.Expr.{Expr}
-use Rattle.tla_parse.specs.Tree.{Tree, Trees, Group, Choice, Definition, trees, binders, arms, definitions}
-use Rattle.tla_parse.specs.View.{view}
-use Rattle.tla_parse.specs.Edges.{place, depth, depths, bound_depth, arms_depth, definition_depth, definitions_depth}
+use Rattle.tla_tree.specs.declared.tree.Infix.{Infix}
+use Rattle.tla_tree.specs.declared.tree.Bullet.{Bullet}
+use Rattle.tla_tree.specs.declared.tree.Expr.{Expr}
+use Rattle.tla_tree.specs.Tree.{Tree, Trees, Group, Choice, Definition, trees, binders, arms, definitions}
+use Rattle.tla_tree.specs.View.{view}
+use Rattle.tla_tree.specs.Places.{place}
+use Rattle.tla_parse.specs.Edges.{depth, depths, bound_depth, arms_depth, definition_depth, definitions_depth}
 use Rattle.tla_parse.specs.Tokens.{seen, is_bullet_at}
 use Rattle.tla_parse.specs.Kinds.{kind_at}
 use Rattle.tla_parse.specs.Ending.{above, infix_at}

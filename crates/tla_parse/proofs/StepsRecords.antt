@@ -1,6 +1,6 @@
 -- The depth of one field, step or update more.
 use Rattle.std.proofs.Common.{◌≡◌, max, List, [], ◌∷◌, ◌++◌, arith}
-use Rattle.tla_parse.specs.Tree.{Entry, Key, Change, fields, keys, updates}
+use Rattle.tla_tree.specs.Tree.{Entry, Key, Change, fields, keys, updates}
 use Rattle.tla_parse.specs.Edges.{depth, fields_depth, key_depth, keys_depth, updates_depth}
 
 pub fields_depth_snoc : (front : List Entry) (e : Entry) → fields_depth (fields (front ++ e ∷ [])) ≡ max (fields_depth (fields front)) (depth e.1)

@@ -6,12 +6,14 @@ use Rattle.std.proofs.lemmas.Option.{slice_get_within}
 use Rattle.tla_lex.specs.declared.token.Token.{Token}
 use Rattle.tla_lex.specs.declared.token.Kind.{Kind}
 use Rattle.tla_lex.specs.declared.token.Kind.TheVariants as k
-use Rattle.tla_parse.specs.declared.word.Written.{Written}
+use Rattle.tla_tree.specs.declared.word.Written.{Written}
 use Rattle.tla_parse.specs.Modules.{is_module}
 use Rattle.tla_parse.specs.Edges.{depth}
-use Rattle.tla_parse.specs.Tokens.{seen, word_of, written, goes_on, Has, Is, Writes, Names}
+use Rattle.tla_tree.specs.Words.{word_of, written}
+use Rattle.tla_parse.specs.Tokens.{seen, goes_on, Has, Is, Writes, Names}
 use Rattle.tla_parse.specs.Kinds.{same_kind, kind_at}
-use Rattle.tla_parse.specs.Units.{UnitTree, Separator, Extends, Variables, Operator, Defines, Local, Constants, Assume, Theorem, Declared, Blanks, Declares, MoreDeclared, AllDeclared, Claims, has_parameters, is_extends, is_separator, unit_depth, units_depth, outermost, SpellsUnit, Units, SpellsModule}
+use Rattle.tla_tree.specs.Units.{UnitTree, Separator, Extends, Variables, Operator, Defines, Local, Constants, Assume, Theorem, Declared}
+use Rattle.tla_parse.specs.Units.{Blanks, Declares, MoreDeclared, AllDeclared, Claims, has_parameters, is_extends, is_separator, unit_depth, units_depth, outermost, SpellsUnit, Units, SpellsModule}
 use Rattle.tla_parse.specs.Outcome.{◌>>=◌}
 use Rattle.tla_parse.specs.ReadingLists.{name_at, following, names}
 use Rattle.tla_parse.specs.Reading.{definition, expr}
@@ -22,7 +24,7 @@ use Rattle.tla_parse.proofs.Shapes.{top_zero, advances, defines_advance}
 use Rattle.tla_parse.proofs.Complete.{definition_complete, expr_complete}
 use Rattle.tla_parse.specs.declared.tokens.Between.TheVariants as between
 use Rattle.tla_parse.specs.Grammar.{Spells}
-use Rattle.tla_parse.specs.Tree.{Tree, Definition, DefinesOperator, DefinesFunction}
+use Rattle.tla_tree.specs.Tree.{Tree, Definition, DefinesOperator, DefinesFunction}
 use Rattle.tla_parse.proofs.Sequence.{Behind, Follows, follows_fit, sequence_complete}
 use Rattle.tla_parse.proofs.Lists.{comma_here, rises}
 use Rattle.tla_parse.proofs.First.{second_token}

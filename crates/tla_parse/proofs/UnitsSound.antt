@@ -6,12 +6,14 @@ use Rattle.std.proofs.lemmas.List.{append-nil}
 use Rattle.tla_lex.specs.declared.token.Token.{Token}
 use Rattle.tla_lex.specs.declared.token.Kind.{Kind}
 use Rattle.tla_lex.specs.declared.token.Kind.TheVariants as k
-use Rattle.tla_parse.specs.declared.word.Written.{Written}
+use Rattle.tla_tree.specs.declared.word.Written.{Written}
 use Rattle.tla_parse.specs.LeftOut.{KindAt, OnlySeparators}
 use Rattle.tla_parse.specs.Modules.{is_module}
-use Rattle.tla_parse.specs.Tokens.{seen, word_of, written, Has, Writes, Names}
+use Rattle.tla_tree.specs.Words.{word_of, written}
+use Rattle.tla_parse.specs.Tokens.{seen, Has, Writes, Names}
 use Rattle.tla_parse.specs.Kinds.{kind_at}
-use Rattle.tla_parse.specs.Units.{UnitTree, Separator, Extends, Variables, Operator, Defines, Local, Constants, Assume, Theorem, Declared, Blanks, Declares, MoreDeclared, AllDeclared, Claims, is_extends, is_separator, outermost, SpellsUnit, Units, SpellsModule}
+use Rattle.tla_tree.specs.Units.{UnitTree, Separator, Extends, Variables, Operator, Defines, Local, Constants, Assume, Theorem, Declared}
+use Rattle.tla_parse.specs.Units.{Blanks, Declares, MoreDeclared, AllDeclared, Claims, is_extends, is_separator, outermost, SpellsUnit, Units, SpellsModule}
 use Rattle.tla_parse.specs.Outcome.{Outcome, Refused, ◌>>=◌, at_op, need}
 use Rattle.tla_parse.specs.ReadingLists.{name_at, following, names}
 use Rattle.tla_parse.specs.Reading.{definition, expr}
@@ -24,7 +26,7 @@ use Rattle.tla_parse.proofs.SoundCase.{definition_sound}
 use Rattle.tla_parse.proofs.Sound.{expr_sound}
 use Rattle.tla_parse.specs.declared.tokens.Between.TheVariants as between
 use Rattle.tla_parse.specs.Grammar as Grammar
-use Rattle.tla_parse.specs.Tree.{Definition, DefinesOperator, DefinesFunction}
+use Rattle.tla_tree.specs.Tree.{Definition, DefinesOperator, DefinesFunction}
 
 or_true : (b : Bool) → (b || true) ≡ true
 or_true true = refl

@@ -4,18 +4,20 @@ use Rattle.tla_lex.specs.declared.token.Token.{Token}
 use Rattle.tla_lex.specs.declared.token.Kind.{Kind}
 use Rattle.tla_lex.specs.declared.token.Kind.TheVariants as k
 use Rattle.tla_parse.specs.LeftOut.{KindAt, IsExtended}
-use Rattle.tla_parse.specs.declared.word.Written.{Written}
+use Rattle.tla_tree.specs.declared.word.Written.{Written}
 use Rattle.tla_parse.specs.declared.refusal.Refusal.{Refusal}
 use Rattle.tla_parse.specs.Gives.{Fails}
 use Rattle.tla_parse.proofs.Fails.{fails_bind}
-use Rattle.tla_parse.specs.declared.units.Unit.{Unit}
-use Rattle.tla_parse.specs.UnitsView.{unit_view}
+use Rattle.tla_tree.specs.declared.unit.Unit.{Unit}
+use Rattle.tla_tree.specs.UnitsView.{unit_view}
 use Rattle.tla_parse.specs.Modules.{is_module}
-use Rattle.tla_parse.specs.Tokens.{seen, word_of, written}
+use Rattle.tla_tree.specs.Words.{word_of, written}
+use Rattle.tla_parse.specs.Tokens.{seen}
 use Rattle.tla_parse.specs.Kinds.{kind_at}
 use Rattle.tla_parse.specs.Outcome.{Outcome, Refused, ◌>>=◌, need}
 use Rattle.tla_parse.specs.ReadingLists.{name_at}
-use Rattle.tla_parse.specs.Units.{UnitTree, is_separator, unit_depth, units_depth}
+use Rattle.tla_tree.specs.Units.{UnitTree}
+use Rattle.tla_parse.specs.Units.{is_separator, unit_depth, units_depth}
 use Rattle.tla_parse.specs.UnitsReading.{modules, blanks, unit_by, unit, units}
 
 -- kinds of tokens that begin a unit

@@ -5,7 +5,8 @@ use Rattle.tla_lex.specs.declared.token.Kind.{Kind}
 use Rattle.tla_lex.specs.declared.token.Kind.TheVariants as k
 use Rattle.tla_parse.specs.Tokens.{seen}
 use Rattle.tla_parse.specs.Kinds.{kind_at}
-use Rattle.tla_parse.specs.Units.{UnitTree, is_separator, units_depth, outermost, SpellsModule}
+use Rattle.tla_tree.specs.Units.{UnitTree}
+use Rattle.tla_parse.specs.Units.{is_separator, units_depth, outermost, SpellsModule}
 use Rattle.tla_parse.specs.Outcome.{Outcome, Refused, Nested, ◌>>=◌}
 use Rattle.tla_parse.specs.Reading.{definition, expr}
 use Rattle.tla_parse.specs.UnitsReading.{claim_name, claim, unit_by, unit, units, whole}

@@ -1,10 +1,9 @@
 -- Which trees may stand beside which operators, and how deep a tree is.
 use Rattle.std.specs.Prelude.{ℕ, ◌+◌, max, Bool, true, false, ◌&&◌, ◌||◌, nat_lt, nat_eq}
-use Rattle.tla_lex.specs.declared.token.Place.{Place}
-use Rattle.tla_parse.specs.declared.tree.Infix.{Infix}
-use Rattle.tla_parse.specs.declared.tree.Infix.TheVariants as i
+use Rattle.tla_tree.specs.declared.tree.Infix.{Infix}
+use Rattle.tla_tree.specs.declared.tree.Infix.TheVariants as i
 use Rattle.tla_parse.specs.Operators.{low, high, prefix_low, left_group}
-use Rattle.tla_parse.specs.Tree.{Tree, Trees, Binders, Arms, Other, Definition, Definitions, none, more, unbound, bound, no_arms, arm, no_other, other, DefinesOperator, DefinesFunction, undefined, defined, Case, Let, Name, Number, Text, Word, At, Paren, Listing, Call, Prime, Index, Field, Unary, Binary, Quantified, Choose, If, Junction, Filter, Image, Function, FunctionSet, Record, RecordSet, Except, Action, Fair, Product, Fields, no_fields, field, Key, AtIndex, AtField, Keys, no_keys, key, Updates, no_updates, update}
+use Rattle.tla_tree.specs.Tree.{Tree, Trees, Binders, Arms, Other, Definition, Definitions, none, more, unbound, bound, no_arms, arm, no_other, other, DefinesOperator, DefinesFunction, undefined, defined, Case, Let, Name, Number, Text, Word, At, Paren, Listing, Call, Prime, Index, Field, Unary, Binary, Quantified, Choose, If, Junction, Filter, Image, Function, FunctionSet, Record, RecordSet, Except, Action, Fair, Product, Fields, no_fields, field, Key, AtIndex, AtField, Keys, no_keys, key, Updates, no_updates, update}
 
 -- the first operator is above the second, or is the second and groups to the left
 abbrev pub yields : Infix → Infix → Bool
@@ -63,37 +62,6 @@ is_delimited (Except _ _ _) = true
 is_delimited (Action _ _ _ _) = true
 is_delimited (Fair _ _ _ _) = true
 is_delimited _ = false
-
-abbrev pub place : Tree → Place
-place (Name w) = w.place
-place (Number at _) = at
-place (Text at _) = at
-place (Word at _) = at
-place (At at) = at
-place (Paren at _) = at
-place (Listing at _ _) = at
-place (Call w _) = w.place
-place (Prime at _) = at
-place (Index at _ _) = at
-place (Field at _ _) = at
-place (Unary at _ _) = at
-place (Binary at _ _ _ _) = at
-place (Quantified at _ _ _) = at
-place (Choose at _ _ _) = at
-place (If at _ _ _) = at
-place (Case at _ _) = at
-place (Let at _ _) = at
-place (Junction at _ _) = at
-place (Filter at _ _ _) = at
-place (Image at _ _) = at
-place (Function at _ _) = at
-place (FunctionSet at _ _) = at
-place (Record at _) = at
-place (RecordSet at _) = at
-place (Except at _ _) = at
-place (Action at _ _ _) = at
-place (Fair at _ _ _) = at
-place (Product at _ _) = at
 
 -- the greatest number of nested forms
 abbrev mutual

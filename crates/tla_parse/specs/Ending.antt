@@ -2,11 +2,11 @@
 use Rattle.std.specs.Prelude.{◌≡◌, ℕ, Bool, true, not, ◌&&◌, nat_lt, if◌then◌else◌, List, Option, Some, None}
 use Rattle.tla_lex.specs.declared.token.Token.{Token}
 use Rattle.tla_parse.specs.declared.scope.Scope.{Scope}
-use Rattle.tla_parse.specs.declared.tree.Infix.{Infix}
+use Rattle.tla_tree.specs.declared.tree.Infix.{Infix}
 use Rattle.tla_parse.specs.Operators.{low, infix_of}
 use Rattle.tla_parse.specs.Edges.{edge_allows, top_above}
 use Rattle.tla_parse.specs.Tokens.{seen, is_suffix}
-use Rattle.tla_parse.specs.Tree.{Tree}
+use Rattle.tla_tree.specs.Tree.{Tree}
 use Rattle.tla_parse.specs.Grammar.{Spells}
 
 -- the operator, where it is above the floor

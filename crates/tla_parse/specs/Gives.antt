@@ -11,12 +11,12 @@ use Rattle.tla_parse.specs.declared.parts.ParsedArms.{ParsedArms}
 use Rattle.tla_parse.specs.declared.parts.ParsedDefinition.{ParsedDefinition}
 use Rattle.tla_parse.specs.declared.parts.ParsedDefinitions.{ParsedDefinitions}
 use Rattle.tla_parse.specs.declared.names.ParsedNames.{ParsedNames}
-use Rattle.tla_parse.specs.declared.word.Written.{Written}
+use Rattle.tla_tree.specs.declared.word.Written.{Written}
 use Rattle.tla_parse.specs.declared.refusal.Refusal.{Refusal}
 use Rattle.tla_parse.specs.declared.refusal.Refusal.TheVariants as refusal
 use Rattle.tla_parse.specs.LeftOut.{BeginsLeftOut, IsUnknownModule}
-use Rattle.tla_parse.specs.Tree.{Tree, Trees, Group, Choice, Definition, trees, binders, arms, definitions}
-use Rattle.tla_parse.specs.View.{view, group_view, choice_view, definition_view}
+use Rattle.tla_tree.specs.Tree.{Tree, Trees, Group, Choice, Definition, trees, binders, arms, definitions}
+use Rattle.tla_tree.specs.View.{view, group_view, choice_view, definition_view}
 use Rattle.tla_parse.specs.Edges.{depth, depths, bound_depth, arms_depth, definition_depth, definitions_depth}
 use Rattle.tla_parse.specs.Outcome.{Outcome, Refused, Nested}
 

@@ -8,8 +8,8 @@ use Rattle.tla_parse.specs.declared.record_parts.ParsedKeys.{ParsedKeys}
 use Rattle.tla_parse.specs.declared.record_parts.ParsedUpdate.{ParsedUpdate}
 use Rattle.tla_parse.specs.declared.record_parts.ParsedUpdates.{ParsedUpdates}
 use Rattle.tla_parse.specs.declared.refusal.Refusal.{Refusal}
-use Rattle.tla_parse.specs.Tree.{Entry, Key, Change, fields, keys, updates}
-use Rattle.tla_parse.specs.View.{view, field_view, key_view, update_view}
+use Rattle.tla_tree.specs.Tree.{Entry, Key, Change, fields, keys, updates}
+use Rattle.tla_tree.specs.View.{view, field_view, key_view, update_view}
 use Rattle.tla_parse.specs.Edges.{depth, fields_depth, key_depth, keys_depth, updates_depth}
 use Rattle.tla_parse.specs.Outcome.{Outcome}
 use Rattle.tla_parse.specs.Gives.{Fails}

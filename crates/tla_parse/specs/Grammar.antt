@@ -5,14 +5,16 @@ use Rattle.tla_lex.specs.declared.token.Kind.{Kind}
 use Rattle.tla_lex.specs.declared.token.Kind.TheVariants as k
 use Rattle.tla_lex.specs.Strings.{string_text}
 use Rattle.tla_parse.specs.declared.scope.Scope.{Scope}
-use Rattle.tla_parse.specs.declared.tree.Bullet.{Bullet}
-use Rattle.tla_parse.specs.declared.tree.Infix.TheVariants as i
+use Rattle.tla_tree.specs.declared.tree.Bullet.{Bullet}
+use Rattle.tla_tree.specs.declared.tree.Infix.TheVariants as i
 use Rattle.tla_parse.specs.Operators.{high, prefix_high, is_product, infix_of, prefix_of, bullet_of, quantifier_of, constant_of}
-use Rattle.tla_parse.specs.Edges.{edge_allows, top_above, is_closed, place}
+use Rattle.tla_tree.specs.Places.{place}
+use Rattle.tla_parse.specs.Edges.{edge_allows, top_above, is_closed}
 use Rattle.tla_parse.specs.Kinds.{kind_at, opening, closing, binds, step_opening, step_closing, fairness_word}
-use Rattle.tla_parse.specs.declared.tree.Brackets.TheVariants as b
-use Rattle.tla_parse.specs.Tokens.{Has, Is, Writes, Names, seen, word_of, is_bullet_at, may_follow}
-use Rattle.tla_parse.specs.Tree.{Filter, Image, Function, FunctionSet, Record, RecordSet, Except, Action, Fair, Product, Fields, Key, Keys, Updates, no_fields, field, AtIndex, AtField, no_keys, key, no_updates, update, Tree, Trees, Binders, Arms, Other, Definition, Definitions, none, more, unbound, bound, no_arms, arm, no_other, other, DefinesOperator, DefinesFunction, undefined, defined, Case, Let, Name, Number, Text, Word, At, Paren, Listing, Call, Prime, Index, Field, Unary, Binary, Quantified, Choose, If, Junction}
+use Rattle.tla_tree.specs.declared.tree.Brackets.TheVariants as b
+use Rattle.tla_tree.specs.Words.{word_of}
+use Rattle.tla_parse.specs.Tokens.{Has, Is, Writes, Names, seen, is_bullet_at, may_follow}
+use Rattle.tla_tree.specs.Tree.{Filter, Image, Function, FunctionSet, Record, RecordSet, Except, Action, Fair, Product, Fields, Key, Keys, Updates, no_fields, field, AtIndex, AtField, no_keys, key, no_updates, update, Tree, Trees, Binders, Arms, Other, Definition, Definitions, none, more, unbound, bound, no_arms, arm, no_other, other, DefinesOperator, DefinesFunction, undefined, defined, Case, Let, Name, Number, Text, Word, At, Paren, Listing, Call, Prime, Index, Field, Unary, Binary, Quantified, Choose, If, Junction}
 
 -- the scope of an item: every token stands right of the list's column
 abbrev pub within : Scope → ℕ → Scope

@@ -3,12 +3,12 @@ use Rattle.std.specs.Prelude.{ℕ, ◌+◌, Bool, true, false, ◌&&◌, Option,
 use Rattle.tla_lex.specs.declared.token.Kind.{Kind}
 use Rattle.tla_lex.specs.declared.token.Kind.TheVariants as k
 use Rattle.tla_lex.specs.declared.token.Token.{Token}
-use Rattle.tla_parse.specs.declared.tree.Brackets.{Brackets}
-use Rattle.tla_parse.specs.declared.tree.Brackets.TheVariants as b
-use Rattle.tla_parse.specs.declared.tree.Step.{Step}
-use Rattle.tla_parse.specs.declared.tree.Step.TheVariants as step
-use Rattle.tla_parse.specs.declared.tree.Fairness.{Fairness}
-use Rattle.tla_parse.specs.declared.tree.Fairness.TheVariants as fair
+use Rattle.tla_tree.specs.declared.tree.Brackets.{Brackets}
+use Rattle.tla_tree.specs.declared.tree.Brackets.TheVariants as b
+use Rattle.tla_tree.specs.declared.tree.Step.{Step}
+use Rattle.tla_tree.specs.declared.tree.Step.TheVariants as step
+use Rattle.tla_tree.specs.declared.tree.Fairness.{Fairness}
+use Rattle.tla_tree.specs.declared.tree.Fairness.TheVariants as fair
 use Rattle.tla_parse.specs.Tokens.{seen}
 
 -- the same kind, of those that stand between the parts of forms and units

@@ -1,5 +1,3 @@
-pub mod Tree
-pub mod View
 pub mod Operators
 pub mod Edges
 pub mod Tokens
@@ -7,7 +5,6 @@ pub mod Grammar
 pub mod Ending
 pub mod Modules
 pub mod Units
-pub mod UnitsView
 pub mod Codes
 pub mod Parsing
 pub mod Kinds

@@ -2,16 +2,16 @@
 use Rattle.std.specs.Prelude.{ℕ, Option, Some, None, Bool, true, false}
 use Rattle.tla_lex.specs.declared.token.Kind.{Kind}
 use Rattle.tla_lex.specs.declared.token.Kind.TheVariants as k
-use Rattle.tla_parse.specs.declared.tree.Infix.{Infix}
-use Rattle.tla_parse.specs.declared.tree.Infix.TheVariants as i
-use Rattle.tla_parse.specs.declared.tree.Prefix.{Prefix}
-use Rattle.tla_parse.specs.declared.tree.Prefix.TheVariants as p
-use Rattle.tla_parse.specs.declared.tree.Bullet.{Bullet}
-use Rattle.tla_parse.specs.declared.tree.Bullet.TheVariants as bu
-use Rattle.tla_parse.specs.declared.tree.Quantifier.{Quantifier}
-use Rattle.tla_parse.specs.declared.tree.Quantifier.TheVariants as q
-use Rattle.tla_parse.specs.declared.tree.Constant.{Constant}
-use Rattle.tla_parse.specs.declared.tree.Constant.TheVariants as c
+use Rattle.tla_tree.specs.declared.tree.Infix.{Infix}
+use Rattle.tla_tree.specs.declared.tree.Infix.TheVariants as i
+use Rattle.tla_tree.specs.declared.tree.Prefix.{Prefix}
+use Rattle.tla_tree.specs.declared.tree.Prefix.TheVariants as p
+use Rattle.tla_tree.specs.declared.tree.Bullet.{Bullet}
+use Rattle.tla_tree.specs.declared.tree.Bullet.TheVariants as bu
+use Rattle.tla_tree.specs.declared.tree.Quantifier.{Quantifier}
+use Rattle.tla_tree.specs.declared.tree.Quantifier.TheVariants as q
+use Rattle.tla_tree.specs.declared.tree.Constant.{Constant}
+use Rattle.tla_tree.specs.declared.tree.Constant.TheVariants as c
 
 -- the low end of an infix operator's range
 abbrev pub low : Infix → ℕ

@@ -4,9 +4,10 @@ use Rattle.tla_lex.specs.declared.token.Place.{Place}
 use Rattle.tla_lex.specs.declared.token.Token.{Token}
 use Rattle.tla_parse.specs.declared.error.ParseCode.{ParseCode}
 use Rattle.tla_parse.specs.declared.error.ParseCode.TheVariants as code
-use Rattle.tla_parse.specs.Tokens.{word_of}
+use Rattle.tla_tree.specs.Words.{word_of}
 use Rattle.tla_parse.specs.LeftOut.{BeginsLeftOut, IsUnknownModule}
-use Rattle.tla_parse.specs.Units.{UnitTree, units_depth, SpellsModule}
+use Rattle.tla_tree.specs.Units.{UnitTree}
+use Rattle.tla_parse.specs.Units.{units_depth, SpellsModule}
 
 module _ (text : List ℕ) (ts : List Token) where
   -- no units of any depth

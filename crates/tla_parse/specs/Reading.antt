@@ -8,26 +8,28 @@ use Rattle.tla_lex.specs.Strings.{string_text}
 use Rattle.tla_parse.specs.declared.scope.Scope.{Scope}
 use Rattle.tla_parse.specs.declared.tokens.Between.{Between}
 use Rattle.tla_parse.specs.declared.tokens.Between.TheVariants as between
-use Rattle.tla_parse.specs.declared.tree.Infix.{Infix}
-use Rattle.tla_parse.specs.declared.tree.Infix.TheVariants as i
-use Rattle.tla_parse.specs.declared.tree.Prefix.{Prefix}
-use Rattle.tla_parse.specs.declared.tree.Bullet.{Bullet}
-use Rattle.tla_parse.specs.declared.tree.Brackets.{Brackets}
-use Rattle.tla_parse.specs.declared.tree.Brackets.TheVariants as b
-use Rattle.tla_parse.specs.declared.tree.Quantifier.{Quantifier}
+use Rattle.tla_tree.specs.declared.tree.Infix.{Infix}
+use Rattle.tla_tree.specs.declared.tree.Infix.TheVariants as i
+use Rattle.tla_tree.specs.declared.tree.Prefix.{Prefix}
+use Rattle.tla_tree.specs.declared.tree.Bullet.{Bullet}
+use Rattle.tla_tree.specs.declared.tree.Brackets.{Brackets}
+use Rattle.tla_tree.specs.declared.tree.Brackets.TheVariants as b
+use Rattle.tla_tree.specs.declared.tree.Quantifier.{Quantifier}
 use Rattle.tla_parse.specs.declared.tokens.Postfix.{Postfix}
 use Rattle.tla_parse.specs.declared.tokens.Postfix.TheVariants as form
-use Rattle.tla_parse.specs.declared.word.Written.{Written}
-use Rattle.tla_parse.specs.Tree.{Tree, Trees, Group, Choice, Definition, trees, binders, arms, definitions, none, no_other, other, DefinesOperator, DefinesFunction, Case, Let, Name, Number, Text, Word, At, Paren, Listing, Call, Prime, Index, Field, Unary, Binary, Quantified, Choose, If, Junction, Product}
+use Rattle.tla_tree.specs.declared.word.Written.{Written}
+use Rattle.tla_tree.specs.Tree.{Tree, Trees, Group, Choice, Definition, trees, binders, arms, definitions, none, no_other, other, DefinesOperator, DefinesFunction, Case, Let, Name, Number, Text, Word, At, Paren, Listing, Call, Prime, Index, Field, Unary, Binary, Quantified, Choose, If, Junction, Product}
 use Rattle.tla_parse.specs.Operators.{high, prefix_high, is_product, prefix_of, bullet_of, quantifier_of, constant_of}
-use Rattle.tla_parse.specs.Edges.{edge_allows, place, depth}
-use Rattle.tla_parse.specs.Tokens.{seen, word_of, written, is_bullet_at, may_follow}
+use Rattle.tla_tree.specs.Places.{place}
+use Rattle.tla_parse.specs.Edges.{edge_allows, depth}
+use Rattle.tla_tree.specs.Words.{word_of, written}
+use Rattle.tla_parse.specs.Tokens.{seen, is_bullet_at, may_follow}
 use Rattle.tla_parse.specs.Kinds.{same_kind, kind_at, closing}
 use Rattle.tla_parse.specs.Ending.{above, infix_at}
 use Rattle.tla_parse.specs.Grammar.{within}
 use Rattle.tla_parse.specs.ReadingLists.{name_at, following, names, exprs, some, listing, call, group, groups, paren}
 use Rattle.tla_parse.specs.ReadingBrackets.{fair, brace, tuple, bracket}
-use Rattle.tla_parse.specs.declared.tree.Fairness.TheVariants as fa
+use Rattle.tla_tree.specs.declared.tree.Fairness.TheVariants as fa
 use Rattle.tla_parse.specs.Outcome.{Fault, Refused, Nested, Outcome, ◌>>=◌, need, room, at_op, sequence}
 
 abbrev pub postfix_of : Kind → Option Postfix

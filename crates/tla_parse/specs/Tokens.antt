@@ -1,21 +1,14 @@
 -- Tokens as the grammar reads them: by their number in the list, and only right of a column.
-use Rattle.std.specs.Prelude.{◌≡◌, ℕ, ◌+◌, ◌-◌, Bool, true, false, not, ◌&&◌, ◌||◌, nat_lt, nat_eq, if◌then◌else◌, List, [], ◌∷◌, Option, Some, None, slice_get, take, drop}
+use Rattle.std.specs.Prelude.{◌≡◌, ℕ, ◌+◌, Bool, true, false, not, ◌&&◌, ◌||◌, nat_lt, nat_eq, if◌then◌else◌, List, [], ◌∷◌, Option, Some, None, slice_get}
 use Rattle.tla_lex.specs.declared.token.Place.{Place}
 use Rattle.tla_lex.specs.declared.token.Token.{Token}
 use Rattle.tla_lex.specs.declared.token.Kind.{Kind}
 use Rattle.tla_lex.specs.declared.token.Kind.TheVariants as k
-use Rattle.tla_parse.specs.declared.tree.Bullet.{Bullet}
-use Rattle.tla_parse.specs.declared.tree.Infix.{Infix}
-use Rattle.tla_parse.specs.declared.word.Written.{Written}
+use Rattle.tla_tree.specs.declared.tree.Bullet.{Bullet}
+use Rattle.tla_tree.specs.declared.tree.Infix.{Infix}
+use Rattle.tla_tree.specs.declared.word.Written.{Written}
+use Rattle.tla_tree.specs.Words.{written}
 use Rattle.tla_parse.specs.Operators.{infix_of, bullet_of, same_bullet}
-
--- a token's slice of the text
-abbrev pub word_of : List ℕ → Token → List ℕ
-word_of text t = take (t.end - t.start) (drop t.start text)
-
--- a token as it is written, and where
-abbrev pub written : List ℕ → Token → Written
-written text t = record { place = t.place; word = word_of text t }
 
 abbrev pub right_of : ℕ → Option Token → Option Token
 right_of column None = None

@@ -5,32 +5,14 @@ use Rattle.tla_lex.specs.declared.token.Place.{Place}
 use Rattle.tla_lex.specs.declared.token.Token.{Token}
 use Rattle.tla_lex.specs.declared.token.Kind.TheVariants as k
 use Rattle.tla_parse.specs.declared.scope.Scope.{Scope}
-use Rattle.tla_parse.specs.declared.word.Written.{Written}
+use Rattle.tla_tree.specs.declared.word.Written.{Written}
 use Rattle.tla_parse.specs.Edges.{depth, definition_depth}
 use Rattle.tla_parse.specs.Tokens.{Has, Is, Writes, Names}
-use Rattle.tla_parse.specs.Tree.{Tree, Definition, DefinesOperator, DefinesFunction}
+use Rattle.tla_tree.specs.Tree.{Tree, Definition, DefinesOperator, DefinesFunction}
+use Rattle.tla_tree.specs.Units.{UnitTree, Separator, Extends, Variables, Operator, Defines, Local, Constants, Assume, Theorem, Declared}
 use Rattle.tla_parse.specs.Modules.{is_module}
 use Rattle.tla_parse.specs.Grammar.{Spells}
 use Rattle.tla_parse.specs.Grammar as Grammar
-
--- a constant, and how many arguments it has
-abbrev pub Declared : Type 0
-Declared = Written × ℕ
-
-pub data UnitTree : Type 0 where
-  Separator : Place → UnitTree
-  Extends : Place → List Written → UnitTree
-  Variables : Place → List Written → UnitTree
-  -- Op == e
-  Operator : Written → Tree → UnitTree
-  -- a definition with parameters, or of a function
-  Defines : Definition → UnitTree
-  -- LOCAL before a definition
-  Local : Place → Definition → UnitTree
-  Constants : Place → List Declared → UnitTree
-  -- with a name, or without
-  Assume : Place → Option Written → Tree → UnitTree
-  Theorem : Place → Option Written → Tree → UnitTree
 
 abbrev pub is_extends : UnitTree → Bool
 is_extends (Extends _ _) = true

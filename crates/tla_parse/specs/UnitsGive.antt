@@ -1,7 +1,7 @@
 -- What the answer of a reader of units says of the reading.
 use Rattle.std.specs.Prelude.{◌≡◌, ◌≤◌, ℕ, map, List, Result, Ok, Err}
 use Rattle.tla_lex.specs.declared.token.Token.{Token}
-use Rattle.tla_parse.specs.declared.units.Unit.{Unit}
+use Rattle.tla_tree.specs.declared.unit.Unit.{Unit}
 use Rattle.tla_parse.specs.declared.units.ParsedUnit.{ParsedUnit}
 use Rattle.tla_parse.specs.declared.units.ParsedUnits.{ParsedUnits}
 use Rattle.tla_parse.specs.declared.refusal.Refusal.{Refusal}
@@ -9,10 +9,11 @@ use Rattle.tla_parse.specs.declared.units.ParsedDeclaration.{ParsedDeclaration}
 use Rattle.tla_parse.specs.declared.units.ParsedDeclarations.{ParsedDeclarations}
 use Rattle.tla_parse.specs.declared.units.ParsedClaim.{ParsedClaim}
 use Rattle.tla_parse.specs.Edges.{depth}
-use Rattle.tla_parse.specs.View.{view}
-use Rattle.tla_parse.specs.Units.{UnitTree, Declared, unit_depth, units_depth}
+use Rattle.tla_tree.specs.View.{view}
+use Rattle.tla_tree.specs.Units.{UnitTree, Declared}
+use Rattle.tla_parse.specs.Units.{unit_depth, units_depth}
 use Rattle.tla_parse.specs.UnitsReading.{Claim}
-use Rattle.tla_parse.specs.UnitsView.{unit_view, declared}
+use Rattle.tla_tree.specs.UnitsView.{unit_view, declared}
 use Rattle.tla_parse.specs.Outcome.{Outcome}
 use Rattle.tla_parse.specs.Gives.{Fails}
 

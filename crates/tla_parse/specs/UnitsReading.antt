@@ -3,13 +3,15 @@ use Rattle.std.specs.Prelude.{◌≡◌, ℕ, zero, suc, ◌+◌, Bool, true, fa
 use Rattle.tla_lex.specs.declared.token.Token.{Token}
 use Rattle.tla_lex.specs.declared.token.Kind.{Kind}
 use Rattle.tla_lex.specs.declared.token.Kind.TheVariants as k
-use Rattle.tla_parse.specs.declared.word.Written.{Written}
+use Rattle.tla_tree.specs.declared.word.Written.{Written}
 use Rattle.tla_parse.specs.Modules.{is_module}
-use Rattle.tla_parse.specs.Tokens.{seen, word_of, written}
+use Rattle.tla_tree.specs.Words.{word_of, written}
+use Rattle.tla_parse.specs.Tokens.{seen}
 use Rattle.tla_parse.specs.Kinds.{kind_at}
-use Rattle.tla_parse.specs.Units.{UnitTree, Separator, Extends, Variables, Operator, Defines, Local, Constants, Assume, Theorem, Declared, is_separator, outermost}
+use Rattle.tla_tree.specs.Units.{UnitTree, Separator, Extends, Variables, Operator, Defines, Local, Constants, Assume, Theorem, Declared}
+use Rattle.tla_parse.specs.Units.{is_separator, outermost}
 use Rattle.tla_parse.specs.declared.tokens.Between.TheVariants as between
-use Rattle.tla_parse.specs.Tree.{Tree, Definition, DefinesOperator, DefinesFunction}
+use Rattle.tla_tree.specs.Tree.{Tree, Definition, DefinesOperator, DefinesFunction}
 use Rattle.tla_parse.specs.Outcome.{Outcome, Refused, ◌>>=◌, need, at_op, sequence}
 use Rattle.tla_parse.specs.ReadingLists.{name_at, following, names}
 use Rattle.tla_parse.specs.Reading.{definition, expr}

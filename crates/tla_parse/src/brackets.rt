@@ -1,9 +1,9 @@
 //! Forms in brackets and braces, and subscripts.
 
 ghost use Rattle.std.specs.Prelude.{◌≡◌, ℕ, ◌+◌, ◌-◌, ◌≤◌, ◌<◌, length, slice_get, suc, IfOk, IfErr, OnOk, map, [], ◌∷◌, ◌++◌};
-ghost use Rattle.tla_parse.specs.View.{view, group_view, field_view, key_view, update_view};
-ghost use Rattle.tla_parse.specs.Tree as tree;
-ghost use Rattle.tla_parse.specs.Tree.{trees, binders};
+ghost use Rattle.tla_tree.specs.View.{view, group_view, field_view, key_view, update_view};
+ghost use Rattle.tla_tree.specs.Tree as tree;
+ghost use Rattle.tla_tree.specs.Tree.{trees, binders};
 ghost use Rattle.tla_parse.specs.Edges as edges;
 ghost use Rattle.tla_parse.specs.Reading.{expr};
 ghost use Rattle.tla_parse.specs.ReadingBrackets as reading;
@@ -17,9 +17,9 @@ use crate::parts::{Parsed, ParsedItems, child_of, image_of, listing_of, mapping_
 use crate::refusal::Refusal;
 use crate::scope::Scope;
 use crate::tokens::{Between, following, is_kind, name_at, refused, refused_form, seen, written};
-use crate::tree::{Brackets, Expr, Fairness, Step};
 use std::alloc::Global;
 use tla_lex::{Kind, Place, Token};
+use tla_tree::{Brackets, Expr, Fairness, Step};
 
 impl<F: Fn(Global, &[u8], &[Token], usize, Scope, u8, usize) -> Result<Parsed, Refusal>> Grammar<
     F,

@@ -3,8 +3,8 @@
 ghost use Rattle.std.specs.Prelude.{◌≡◌};
 ghost use Rattle.tla_parse.specs.Codes.{code_name};
 
-use crate::word::Word;
 use tla_lex::Place;
+use tla_tree::Word;
 
 /// What is wrong with a module's tokens.
 #[derive(Clone, Copy, Debug, PartialEq, Eq)]

@@ -18,9 +18,9 @@ use crate::tokens::{
     Between, following, is_kind, name_at, refused, refused_choice, refused_name, refused_parameter,
     seen, written,
 };
-use crate::tree::{Definition, Expr, Quantifier};
 use std::alloc::Global;
 use tla_lex::{Kind, Place, Token};
+use tla_tree::{Definition, Expr, Quantifier};
 
 impl<F: Fn(Global, &[u8], &[Token], usize, Scope, u8, usize) -> Result<Parsed, Refusal>> Grammar<
     F,

@@ -1,7 +1,7 @@
 //! Expressions, by precedence climbing. The rules take the reader of inner expressions as a parameter, so that each is proved by itself.
 
 ghost use Rattle.std.specs.Prelude.{◌≡◌, ◌+◌, ◌-◌, ◌≤◌, ◌<◌, length, []};
-ghost use Rattle.tla_parse.specs.View.{view};
+ghost use Rattle.tla_tree.specs.View.{view};
 ghost use Rattle.tla_parse.specs.Edges as edges;
 ghost use Rattle.tla_parse.specs.Reading as reading;
 ghost use Rattle.tla_parse.specs.Gives.{Gives, GivesChild, GivesDefinition};
@@ -14,9 +14,9 @@ use crate::parts::{Parsed, ParsedChild, ParsedDefinition, child_of, index_of};
 use crate::refusal::Refusal;
 use crate::scope::Scope;
 use crate::tokens::{Postfix, name_at, operator_at, postfix_at, refused, seen, text_of, written};
-use crate::tree::{Expr, Fairness, Infix, Prefix};
 use std::alloc::Global;
 use tla_lex::{Kind, Place, Token};
+use tla_tree::{Expr, Fairness, Infix, Prefix};
 
 /// The rules of expressions, over a reader of the expressions in them.
 #[derive(Clone, Copy)]

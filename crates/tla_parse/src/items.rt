@@ -1,8 +1,8 @@
 //! Lists of expressions, the forms that are lists, and binder lists.
 
 ghost use Rattle.std.specs.Prelude.{◌≡◌, ◌+◌, ◌-◌, ◌≤◌, ◌<◌, length, map, []};
-ghost use Rattle.tla_parse.specs.View.{view};
-ghost use Rattle.tla_parse.specs.Tree.{trees};
+ghost use Rattle.tla_tree.specs.View.{view};
+ghost use Rattle.tla_tree.specs.Tree.{trees};
 ghost use Rattle.tla_parse.specs.Edges as edges;
 ghost use Rattle.tla_parse.specs.Reading as reading;
 ghost use Rattle.tla_parse.specs.ReadingLists as lists;
@@ -21,9 +21,9 @@ use crate::tokens::{
     Between, closing, following, is_kind, may_follow, refused, refused_binder, refused_names, seen,
     written,
 };
-use crate::tree::{Binder, Brackets, Bullet, Expr};
 use std::alloc::Global;
 use tla_lex::{Kind, Place, Token};
+use tla_tree::{Binder, Brackets, Bullet, Expr};
 
 impl<F: Fn(Global, &[u8], &[Token], usize, Scope, u8, usize) -> Result<Parsed, Refusal>> Grammar<
     F,

@@ -3,7 +3,7 @@
 ghost use Rattle.std.specs.Prelude.{◌≡◌, ℕ, List, IsTrue};
 ghost use Rattle.tla_lex.specs.declared.token.Token.{Token};
 ghost use Rattle.tla_parse.specs.declared.scope.Scope.{Scope};
-ghost use Rattle.tla_parse.specs.Tree.{Tree};
+ghost use Rattle.tla_tree.specs.Tree.{Tree};
 ghost use Rattle.tla_parse.specs.Edges.{is_delimited};
 ghost use Rattle.tla_parse.specs.Grammar.{Spells};
 ghost use Rattle.tla_parse.specs.Ending.{EndsAt};

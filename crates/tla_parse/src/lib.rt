@@ -20,15 +20,7 @@ mod records;
 mod refusal;
 mod scope;
 mod tokens;
-mod tree;
 mod units;
-mod word;
 
 pub use error::{ParseCode, ParseError};
-pub use parse::{Module, parse_module};
-pub use tree::{
-    Arm, Binder, Brackets, Bullet, Constant, Definition, Expr, Fairness, Field, Infix, Key, Prefix,
-    Quantifier, Step, Update,
-};
-pub use units::{Declaration, Unit};
-pub use word::{Word, Written};
+pub use parse::parse_module;

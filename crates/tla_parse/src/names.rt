@@ -7,9 +7,9 @@ ghost use Rattle.tla_parse.specs.Gives.{GivesNames};
 use crate::list::push;
 use crate::refusal::Refusal;
 use crate::tokens::{is_kind, name_at, refused, seen, written};
-use crate::word::Written;
 use std::alloc::Global;
 use tla_lex::{Kind, Token};
+use tla_tree::Written;
 
 /// Names, and the number of the token after the last.
 #[derive(Drop)]

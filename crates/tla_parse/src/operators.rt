@@ -1,12 +1,12 @@
 //! Operators and the edges of trees.
 
 ghost use Rattle.std.specs.Prelude.{◌≡◌};
-ghost use Rattle.tla_parse.specs.View.{view};
+ghost use Rattle.tla_tree.specs.View.{view};
 ghost use Rattle.tla_parse.specs.Operators as operators;
 ghost use Rattle.tla_parse.specs.Edges as edges;
 
-use crate::tree::{Bullet, Constant, Expr, Infix, Prefix, Quantifier};
 use tla_lex::Kind;
+use tla_tree::{Bullet, Constant, Expr, Infix, Prefix, Quantifier};
 
 pub fn low(op: Infix) -> u8
     ensures { result ≡ operators.low op }

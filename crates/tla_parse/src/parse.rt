@@ -1,8 +1,9 @@
 //! The tree of a module.
 
 ghost use Rattle.std.specs.Prelude.{◌≡◌, ◌≤◌, ◌⊎◌, List, map, IfOk, IfErr};
-ghost use Rattle.tla_parse.specs.Units.{UnitTree, units_depth, SpellsModule};
-ghost use Rattle.tla_parse.specs.UnitsView.{unit_view};
+ghost use Rattle.tla_tree.specs.Units.{UnitTree};
+ghost use Rattle.tla_parse.specs.Units.{units_depth, SpellsModule};
+ghost use Rattle.tla_tree.specs.UnitsView.{unit_view};
 ghost use Rattle.tla_parse.specs.UnitsReading.{whole};
 ghost use Rattle.tla_parse.specs.LeftOut.{BeginsLeftOut, IsUnknownModule};
 ghost use Rattle.tla_parse.specs.Parsing.{NoneSpells, Justified, IsLocated};
@@ -11,15 +12,10 @@ ghost use Rattle.tla_parse.specs.Gives.{Fails};
 use crate::error::{ParseCode, ParseError};
 use crate::refusal::Refusal;
 use crate::tokens::written;
-use crate::units::{Unit, module_units};
+use crate::units::module_units;
 use std::alloc::Global;
 use tla_lex::{Place, Token};
-
-/// The units of a module, in order.
-#[derive(Drop)]
-pub struct Module {
-    pub units: Vec<Unit>,
-}
+use tla_tree::Module;
 
 /// The place of the token, or of the last one where there are fewer.
 fn place_of(tokens: &[Token], at: usize) -> Place {

@@ -1,15 +1,14 @@
 //! What the rules of expressions hand on, and nodes made of lists.
 
 ghost use Rattle.std.specs.Prelude.{◌≡◌, max, IfOk, IfErr, OnOk, map, [], ◌∷◌, ◌++◌};
-ghost use Rattle.tla_parse.specs.View.{view, group_view, choice_view, definition_view};
-ghost use Rattle.tla_parse.specs.Tree as tree;
-ghost use Rattle.tla_parse.specs.Tree.{trees, binders};
+ghost use Rattle.tla_tree.specs.View.{view, group_view, choice_view, definition_view};
+ghost use Rattle.tla_tree.specs.Tree as tree;
+ghost use Rattle.tla_tree.specs.Tree.{trees, binders};
 
 use crate::refusal::Refusal;
-use crate::tree::{Arm, Binder, Brackets, Bullet, Definition, Expr, Quantifier};
-use crate::word::Written;
 use std::alloc::Global;
 use tla_lex::Place;
+use tla_tree::{Arm, Binder, Brackets, Bullet, Definition, Expr, Quantifier, Written};
 
 /// A tree, the number of the token after it, and its depth.
 #[derive(Drop)]

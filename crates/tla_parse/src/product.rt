@@ -1,7 +1,7 @@
 //! `a \X b \X c`: one product of all its operands.
 
 ghost use Rattle.std.specs.Prelude.{◌≡◌, ◌+◌, ◌≤◌, ◌<◌, length, []};
-ghost use Rattle.tla_parse.specs.View.{view};
+ghost use Rattle.tla_tree.specs.View.{view};
 ghost use Rattle.tla_parse.specs.Edges as edges;
 ghost use Rattle.tla_parse.specs.Reading as reading;
 ghost use Rattle.tla_parse.specs.Gives.{Gives, GivesItems};
@@ -14,9 +14,9 @@ use crate::parts::{Parsed, ParsedItems, child_of, product_of};
 use crate::refusal::Refusal;
 use crate::scope::Scope;
 use crate::tokens::{Between, following, is_kind, refused, seen};
-use crate::tree::Infix;
 use std::alloc::Global;
 use tla_lex::{Kind, Token};
+use tla_tree::Infix;
 
 impl<F: Fn(Global, &[u8], &[Token], usize, Scope, u8, usize) -> Result<Parsed, Refusal>> Grammar<
     F,

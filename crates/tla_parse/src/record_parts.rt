@@ -1,13 +1,13 @@
 //! What the rules of records and updates hand on, and nodes made of their lists.
 
 ghost use Rattle.std.specs.Prelude.{◌≡◌, IfErr, OnOk, map, [], ◌∷◌, ◌++◌};
-ghost use Rattle.tla_parse.specs.View.{view, field_view, key_view, update_view};
-ghost use Rattle.tla_parse.specs.Tree as tree;
-ghost use Rattle.tla_parse.specs.Tree.{trees};
+ghost use Rattle.tla_tree.specs.View.{view, field_view, key_view, update_view};
+ghost use Rattle.tla_tree.specs.Tree as tree;
+ghost use Rattle.tla_tree.specs.Tree.{trees};
 
 use crate::refusal::Refusal;
-use crate::tree::{Expr, Field, Key, Update};
 use tla_lex::Place;
+use tla_tree::{Expr, Field, Key, Update};
 
 /// A field, the number of the token after it, and the depth of its value.
 #[derive(Drop)]

@@ -12,10 +12,9 @@ ghost use Rattle.tla_parse.specs.Gives.{Refuses};
 
 use crate::operators::{bullet_of, infix_of, low};
 use crate::refusal::Refusal;
-use crate::tree::{Brackets, Bullet, Infix};
-use crate::word::{Word, Written};
 use std::alloc::Global;
 use tla_lex::{Kind, Token, string_text};
+use tla_tree::{Brackets, Bullet, Infix, Word, Written};
 
 /// What stands between the items of a list.
 #[derive(Clone, Copy, Debug)]

@@ -2,14 +2,14 @@
 
 ghost use Rattle.std.specs.Prelude.{◌≡◌, ◌+◌, ◌<◌, ◌≤◌, ◌++◌, ◌∷◌, ◌&&◌, ◌||◌, [], length, true, not, IfErr, OnOk, OnSome, IsTrue};
 ghost use Rattle.tla_parse.specs.Units as units;
-ghost use Rattle.tla_parse.specs.UnitsView.{unit_view};
+ghost use Rattle.tla_tree.specs.UnitsView.{unit_view};
 ghost use Rattle.tla_parse.specs.UnitsReading as reading;
 ghost use Rattle.tla_parse.specs.LeftOut.{IsExtended, OnlySeparators};
 ghost use Rattle.tla_parse.specs.Kinds.{kind_at};
 ghost use Rattle.tla_parse.specs.Tokens.{seen};
 ghost use Rattle.tla_lex.specs.declared.token.Kind.TheVariants as k;
 ghost use Rattle.tla_parse.specs.Gives.{GivesNames};
-ghost use Rattle.tla_parse.specs.View.{definition_view};
+ghost use Rattle.tla_tree.specs.View.{definition_view};
 ghost use Rattle.tla_parse.specs.UnitsGive.{GivesDeclared, GivesConstants, GivesClaim, GivesUnit, GivesUnits};
 
 use crate::grammar::{definition, expr};
@@ -20,10 +20,9 @@ use crate::parts::ParsedDefinition;
 use crate::refusal::Refusal;
 use crate::scope::Scope;
 use crate::tokens::{Between, following, is_kind, name_at, refused, refused_unit, seen, written};
-use crate::tree::{Definition, Expr};
-use crate::word::Written;
 use std::alloc::Global;
 use tla_lex::{Kind, Place, Token};
+use tla_tree::{Declaration, Definition, Expr, Unit, Written};
 
 /// How deep the tree of an expression may be.
 pub const MAX_DEPTH: usize = 200;
@@ -34,40 +33,11 @@ const OUTERMOST: Scope = Scope {
     updating: false,
 };
 
-/// A unit of a module.
-#[derive(Drop)]
-pub enum Unit {
-    /// Four or more dashes.
-    Separator(Place),
-    Extends(Place, Vec<Written>),
-    Variables(Place, Vec<Written>),
-    /// `Op == e`
-    Operator(Written, Expr),
-    /// A definition with parameters, or of a function.
-    Defines(Definition),
-    /// `LOCAL` before a definition.
-    Local(Place, Definition),
-    Constants(Place, Vec<Declaration>),
-    /// An assumption, with a name or without.
-    Assume(Place, Option<Written>, Expr),
-    /// A theorem, with a name or without.
-    Theorem(Place, Option<Written>, Expr),
-}
-
-/// A constant: `c`, or `F(_, ..)` with so many arguments.
-#[derive(Drop)]
-pub struct Declaration {
-    pub name: Written,
-    pub arity: usize,
-}
-
-impl Unit {
-    /// Whether EXTENDS may stand behind it.
-    fn stays_first(&self, first: bool) -> bool
-        ensures { result ≡ (first && units.is_separator (unit_view self.now)) }
-    {
-        first && matches!(self, Unit::Separator(_))
-    }
+/// Whether EXTENDS may stand behind the unit.
+fn stays_first(unit: &Unit, first: bool) -> bool
+    ensures { result ≡ (first && units.is_separator (unit_view unit.now)) }
+{
+    first && matches!(unit, Unit::Separator(_))
 }
 
 /// How many underscores, and the number of the token after the last.
@@ -388,7 +358,7 @@ fn units_from(
         }
         let found = unit_at(alloc, text, tokens, at)?;
         at = found.end;
-        first = found.unit.stays_first(first);
+        first = stays_first(&found.unit, first);
         push(&mut units, found.unit)?;
     }
     Err(refused(tokens, 0, at))

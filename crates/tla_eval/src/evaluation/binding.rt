@@ -1,22 +1,21 @@
 //! Forms that bind names.
 ghost use Rattle.std.specs.Prelude.{◌++◌, ◌∷◌, [], map};
 ghost use Rattle.tla_value.specs.TreeOf.{tree_of};
-ghost use Rattle.tla_eval.specs.Lists.{all_hold, some_hold, first_passing, passing};
-ghost use Rattle.tla_eval.specs.Meaning.{asks};
-ghost use Rattle.tla_eval.specs.Logic.{means-for_all, means-for_some, means-choose};
-ghost use Rattle.tla_eval.specs.SetForms.{means-filtered};
-ghost use Rattle.tla_eval.specs.Value.{means};
-ghost use Rattle.tla_eval.specs.ExprOf.{expr_of};
+ghost use Rattle.tla_core.specs.Lists.{all_hold, some_hold, first_passing, passing};
+ghost use Rattle.tla_core.specs.Meaning.{asks};
+ghost use Rattle.tla_core.specs.Logic.{means-for_all, means-for_some, means-choose};
+ghost use Rattle.tla_core.specs.SetForms.{means-filtered};
+ghost use Rattle.tla_core.specs.Value.{means};
+ghost use Rattle.tla_core.specs.ExprOf.{expr_of};
 ghost use Rattle.tla_eval.specs.Gives.{Gives, GivesBy, GivesTruth, GivesBorrowed};
 ghost use Rattle.tla_eval.specs.Environment.{Evaluates, bound_in, present_in, next_in};
 
 use crate::environment::{Environment, Evaluated, Scope};
 use crate::evaluation::{ask, evaluate};
-use crate::expression::Core;
-use crate::fault::{Fault, FaultCode, Place};
 use crate::rules::{copied, fault_at};
 use crate::sets::{keep_copy, made_set, members};
 use std::alloc::Global;
+use tla_core::{Core, Fault, FaultCode, Place};
 use tla_value::{SetValue, Value};
 
 /// Whether a body is TRUE of each element of a set.

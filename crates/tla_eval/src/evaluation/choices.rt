@@ -1,20 +1,19 @@
 //! Forms that bind several names.
 ghost use Rattle.std.specs.Prelude.{◌∷◌, map};
 ghost use Rattle.tla_value.specs.TreeOf.{tree_of};
-ghost use Rattle.tla_eval.specs.Lists.{each};
-ghost use Rattle.tla_eval.specs.Meaning.{Meaning};
-ghost use Rattle.tla_eval.specs.Value.{means};
-ghost use Rattle.tla_eval.specs.ExprOf.{expr_of, parts_of_cores};
+ghost use Rattle.tla_core.specs.Lists.{each};
+ghost use Rattle.tla_core.specs.Meaning.{Meaning};
+ghost use Rattle.tla_core.specs.Value.{means};
+ghost use Rattle.tla_core.specs.ExprOf.{expr_of, parts_of_cores};
 ghost use Rattle.tla_eval.specs.Gives.{GivesBy, image_rule, chosen_function_rule, chosen_rule, values_for, then_more};
 ghost use Rattle.tla_eval.specs.Environment.{Evaluates, tree_of_evaluated, bound_in, present_in, next_in};
 
 use crate::domain::{function_on, lists_of};
 use crate::environment::{Environment, Evaluated, Scope};
 use crate::evaluation::evaluate;
-use crate::expression::Core;
-use crate::fault::{Fault, Place};
 use crate::sets::made_set;
 use std::alloc::Global;
+use tla_core::{Core, Fault, Place};
 use tla_value::{SetValue, Value};
 
 /// The set of the values of a body for all choices from some sets.

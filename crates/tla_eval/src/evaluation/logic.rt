@@ -1,18 +1,17 @@
 //! Logic, and the arms of IF and CASE.
 ghost use Rattle.std.specs.Prelude.{option_map};
 ghost use Rattle.tla_value.specs.TreeOf.{tree_of};
-ghost use Rattle.tla_eval.specs.Logic.{means-conjunction, means-disjunction, means-implies, means-cases, means-assert};
-ghost use Rattle.tla_eval.specs.Value.{means};
-ghost use Rattle.tla_eval.specs.ExprOf.{expr_of, parts_of_cores, arms_of_cores};
+ghost use Rattle.tla_core.specs.Logic.{means-conjunction, means-disjunction, means-implies, means-cases, means-assert};
+ghost use Rattle.tla_core.specs.Value.{means};
+ghost use Rattle.tla_core.specs.ExprOf.{expr_of, parts_of_cores, arms_of_cores};
 ghost use Rattle.tla_eval.specs.Gives.{GivesTruth};
 ghost use Rattle.tla_eval.specs.Environment.{Evaluates, bound_in, present_in, next_in};
 
 use crate::environment::{Environment, Evaluated};
 use crate::evaluation::{ask, evaluate, has};
-use crate::expression::Core;
-use crate::fault::{Fault, FaultCode, Place};
 use crate::rules::fault_at;
 use std::alloc::Global;
+use tla_core::{Core, Fault, FaultCode, Place};
 use tla_value::Value;
 
 /// Whether all parts are TRUE, up to the first that is not.

@@ -1,20 +1,19 @@
 //! Membership, and the sets with a rule of their own for it.
 ghost use Rattle.std.specs.Prelude.{map};
 ghost use Rattle.tla_value.specs.TreeOf.{tree_of};
-ghost use Rattle.tla_eval.specs.Lists.{all_hold};
-ghost use Rattle.tla_eval.specs.Membership.{means-member, means-not_member, means-subset};
-ghost use Rattle.tla_eval.specs.SetForms.{means-cup, means-cap, means-minus};
-ghost use Rattle.tla_eval.specs.Value.{mem, means};
-ghost use Rattle.tla_eval.specs.ExprOf.{expr_of};
+ghost use Rattle.tla_core.specs.Lists.{all_hold};
+ghost use Rattle.tla_core.specs.Membership.{means-member, means-not_member, means-subset};
+ghost use Rattle.tla_core.specs.SetForms.{means-cup, means-cap, means-minus};
+ghost use Rattle.tla_core.specs.Value.{mem, means};
+ghost use Rattle.tla_core.specs.ExprOf.{expr_of};
 ghost use Rattle.tla_eval.specs.Gives.{GivesTruth};
 ghost use Rattle.tla_eval.specs.Environment.{Evaluates, bound_in, present_in, next_in};
 
 use crate::environment::{Environment, Evaluated};
 use crate::evaluation::{evaluate, has};
-use crate::expression::Core;
-use crate::fault::{Fault, Place};
 use crate::sets::{difference_of, intersection_of, members, union_of};
 use std::alloc::Global;
+use tla_core::{Core, Fault, Place};
 use tla_value::Value;
 
 /// Whether a value is a member of an expression.

@@ -1,24 +1,23 @@
 //! Forms whose operands are all evaluated.
 ghost use Rattle.std.specs.Prelude.{List, ℕ, map};
 ghost use Rattle.tla_value.specs.TreeOf.{tree_of, pair_of};
-ghost use Rattle.tla_eval.specs.Expr.{Apply, Field};
-ghost use Rattle.tla_eval.specs.Lists.{each};
-ghost use Rattle.tla_eval.specs.Meaning.{Meaning, means-unary, means-binary, means-equal, means-sub_seq, means-enumerated, means-tuple};
-ghost use Rattle.tla_eval.specs.Value.{means};
-ghost use Rattle.tla_eval.specs.ExprOf.{expr_of, parts_of_cores, fields_of_cores, unary_of, binary_of};
+ghost use Rattle.tla_core.specs.Expr.{Apply, Field};
+ghost use Rattle.tla_core.specs.Lists.{each};
+ghost use Rattle.tla_core.specs.Meaning.{Meaning, means-unary, means-binary, means-equal, means-sub_seq, means-enumerated, means-tuple};
+ghost use Rattle.tla_core.specs.Value.{means};
+ghost use Rattle.tla_core.specs.ExprOf.{expr_of, parts_of_cores, fields_of_cores, unary_of, binary_of};
 ghost use Rattle.tla_eval.specs.Gives.{GivesBy, named_value, record_rule};
 ghost use Rattle.tla_eval.specs.Environment.{Evaluates, bound_in, present_in, next_in};
 
 use crate::environment::{Environment, Evaluated};
 use crate::evaluation::evaluate;
-use crate::expression::{Binary, Core, Unary};
-use crate::fault::{Fault, Place};
 use crate::functions::{apply, field, made_fun};
 use crate::operators::{binary, unary};
 use crate::rules::copied_text;
 use crate::sequences::{sequence_of, sub_seq};
 use crate::sets::made_set;
 use std::alloc::Global;
+use tla_core::{Binary, Core, Fault, Place, Unary};
 use tla_value::{FunValue, SetValue, Text, Value};
 
 /// An operator on one value.

@@ -2,23 +2,22 @@
 ghost use Rattle.std.specs.Prelude.{◌≡◌, length, map};
 ghost use Rattle.tla_value.specs.TreeOf.{tree_of, pair_of};
 ghost use Rattle.tla_value.specs.Choices.{parts_of};
-ghost use Rattle.tla_eval.specs.Lists.{each, all_hold};
-ghost use Rattle.tla_eval.specs.Meaning.{Meaning};
-ghost use Rattle.tla_eval.specs.SetForms.{means-records, means-product, field_has, parts_have};
-ghost use Rattle.tla_eval.specs.ExprOf.{parts_of_cores, fields_of_cores};
+ghost use Rattle.tla_core.specs.Lists.{each, all_hold};
+ghost use Rattle.tla_core.specs.Meaning.{Meaning};
+ghost use Rattle.tla_core.specs.SetForms.{means-records, means-product, field_has, parts_have};
+ghost use Rattle.tla_core.specs.ExprOf.{parts_of_cores, fields_of_cores};
 ghost use Rattle.tla_eval.specs.Gives.{GivesBy, GivesTruth, values_of, product_rule, record_set_rule};
 ghost use Rattle.tla_eval.specs.Environment.{Evaluates, tree_of_evaluated, bound_in, present_in, next_in};
 
 use crate::environment::{Environment, Evaluated};
 use crate::evaluation::choices::evaluated_each;
 use crate::evaluation::{evaluate, has};
-use crate::expression::Core;
-use crate::fault::{Fault, Place};
 use crate::fields::{field_in, has_just, records_with};
 use crate::functions::if_function;
 use crate::sequences::sequence_pairs;
 use crate::sets::tuples_with;
 use std::alloc::Global;
+use tla_core::{Core, Fault, Place};
 use tla_value::{Text, Value};
 
 /// The records with each field in its set.

@@ -2,23 +2,22 @@
 ghost use Rattle.std.specs.Prelude.{map};
 ghost use Rattle.tla_value.specs.TreeOf.{tree_of, pair_of};
 ghost use Rattle.tla_value.specs.Tree.{Tree};
-ghost use Rattle.tla_eval.specs.Lists.{all_hold};
-ghost use Rattle.tla_eval.specs.Membership.{means-sequences};
-ghost use Rattle.tla_eval.specs.SetForms.{means-power, means-functions};
-ghost use Rattle.tla_eval.specs.Value.{mem, means};
-ghost use Rattle.tla_eval.specs.ExprOf.{expr_of};
+ghost use Rattle.tla_core.specs.Lists.{all_hold};
+ghost use Rattle.tla_core.specs.Membership.{means-sequences};
+ghost use Rattle.tla_core.specs.SetForms.{means-power, means-functions};
+ghost use Rattle.tla_core.specs.Value.{mem, means};
+ghost use Rattle.tla_core.specs.ExprOf.{expr_of};
 ghost use Rattle.tla_eval.specs.Gives.{GivesTruth, values_of};
 ghost use Rattle.tla_eval.specs.Environment.{Evaluates, bound_in, present_in, next_in};
 
 use crate::environment::{Environment, Evaluated};
 use crate::evaluation::membership::has_all;
 use crate::evaluation::{evaluate, has};
-use crate::expression::Core;
-use crate::fault::{Fault, Place};
 use crate::functions::if_function;
 use crate::sequences::sequence_pairs;
 use crate::sets::{functions_between, has_domain, if_set, members, subsets_of};
 use std::alloc::Global;
+use tla_core::{Core, Fault, Place};
 use tla_value::Value;
 
 /// All subsets of a set.

@@ -1,18 +1,17 @@
 //! EXCEPT.
 ghost use Rattle.std.specs.Prelude.{◌∷◌};
-ghost use Rattle.tla_eval.specs.Functions.{means-except, update, update_all};
-ghost use Rattle.tla_eval.specs.Value.{means};
-ghost use Rattle.tla_eval.specs.ExprOf.{expr_of, parts_of_cores, updates_of_cores};
+ghost use Rattle.tla_core.specs.Functions.{means-except, update, update_all};
+ghost use Rattle.tla_core.specs.Value.{means};
+ghost use Rattle.tla_core.specs.ExprOf.{expr_of, parts_of_cores, updates_of_cores};
 ghost use Rattle.tla_eval.specs.Gives.{Gives};
 ghost use Rattle.tla_eval.specs.Environment.{Evaluates, tree_of_evaluated, bound_in, present_in, next_in};
 
 use crate::environment::{Environment, Evaluated};
 use crate::evaluation::binding::value_with;
 use crate::evaluation::evaluate;
-use crate::expression::Core;
-use crate::fault::{Fault, Place};
 use crate::functions::{into_function, made_fun};
 use std::alloc::Global;
+use tla_core::{Core, Fault, Place};
 use tla_value::Value;
 
 /// A function with other values: each update on the result of the one before.

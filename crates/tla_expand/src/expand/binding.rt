@@ -1,8 +1,8 @@
 //! Forms that bind names.
 
 ghost use Rattle.std.specs.Prelude.{◌≡◌, ◌≤◌, ◌<◌, ◌+◌, ◌∷◌, [], length, map, IfOk, IfErr, OnOk};
-ghost use Rattle.tla_parse.specs.View.{view, group_view};
-ghost use Rattle.tla_parse.specs.Tree.{binders};
+ghost use Rattle.tla_tree.specs.View.{view, group_view};
+ghost use Rattle.tla_tree.specs.Tree.{binders};
 ghost use Rattle.tla_expand.specs.Primes.{with_primes};
 ghost use Rattle.tla_expand.specs.Expand as expansion;
 ghost use Rattle.tla_expand.specs.Bound as names;
@@ -16,14 +16,14 @@ ghost use Rattle.tla_expand.specs.Gives.{Gives, GivesMany, set_in};
 use crate::arena::{Entry, What, enter};
 use crate::binders::{Bind, bind_list};
 use crate::builders::{binding_core, gather_core};
-use crate::expand::lists::push;
 use crate::expand::{Setting, expand};
 use crate::expanded::{Expanded, Many};
 use crate::failure::Failure;
 use crate::nodes::{Binding, Gather};
+use crate::parts::push;
 use std::alloc::Global;
-use tla_eval::Place;
-use tla_parse::{Binder, Expr, Written};
+use tla_core::Place;
+use tla_tree::{Binder, Expr, Written};
 
 /// A form of a body under names: its node, the scope of the names' sets, and the body.
 #[derive(Clone, Copy)]

@@ -11,16 +11,16 @@ ghost use Rattle.tla_expand.specs.Gives.{kept_part, changed_in, part_in, both, m
 use crate::arena::Entry;
 use crate::builders::{kept_core, two_core};
 use crate::expand::levels::{changed_subscript, kept_parts, kept_subscript, told_at};
-use crate::expand::lists::push;
 use crate::expand::{Setting, expand, two_parts};
 use crate::expanded::{Expanded, Many as Parts};
 use crate::failure::Failure;
 use crate::heads::find_head;
 use crate::nodes::{Form, Many, Two};
+use crate::parts::push;
 use crate::primes::{Primes, one_more};
 use std::alloc::Global;
-use tla_eval::{Binary, Place};
-use tla_parse::Expr;
+use tla_core::{Binary, Place};
+use tla_tree::Expr;
 
 /// How UNCHANGED is read under so many primes.
 pub(super) fn settled(primes: Primes) -> Primes

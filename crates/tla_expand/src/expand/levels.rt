@@ -16,8 +16,8 @@ use crate::heads::{Head, find_head};
 use crate::nodes::Form;
 use crate::primes::{Primes, are_fewer};
 use std::alloc::Global;
-use tla_eval::Place;
-use tla_parse::Expr;
+use tla_core::Place;
+use tla_tree::Expr;
 
 /// Whether a refusal under these primes has to name the first expression of too high a level.
 fn is_sought(sought: Option<Primes>, primes: Primes) -> bool {

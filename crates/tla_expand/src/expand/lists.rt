@@ -1,7 +1,7 @@
 //! Lists of expressions of one scope.
 
 ghost use Rattle.std.specs.Prelude.{◌≡◌, ◌≤◌, ◌+◌, ◌++◌, ◌∷◌, [], length, Some, IfErr, OnOk};
-ghost use Rattle.tla_eval.specs.Expr as expr;
+ghost use Rattle.tla_core.specs.Expr as expr;
 ghost use Rattle.tla_expand.specs.Maybe.{each_of};
 ghost use Rattle.tla_expand.specs.Lists.{exprs};
 ghost use Rattle.tla_expand.specs.Scopes.{AreLinked, scope_at};
@@ -12,30 +12,11 @@ use crate::builders::{place_of, text_of, tuple};
 use crate::expand::{Setting, expand, two_parts};
 use crate::expanded::{Arms, Expanded, Fields, Many};
 use crate::failure::Failure;
+use crate::parts::push;
 use std::alloc::Global;
-use tla_eval::{Core, Place};
-use tla_parse::{Arm, Expr, Field};
+use tla_core::{Core, Place};
+use tla_tree::{Arm, Expr, Field};
 use tla_value::Text;
-
-pub(crate) fn push(parts: &mut Vec<Core>, core: Core) -> Result<(), Failure>
-    ensures ok { OnOk result (parts.new.items ≡ parts.old.items ++ core ∷ []) }
-    ensures err { IfErr result (λ e. e ≡ Failure.Memory) }
-{
-    match parts.push(core) {
-        Ok(()) => Ok(()),
-        Err(_) => Err(Failure::Memory),
-    }
-}
-
-fn push_arm(arms: &mut Vec<(Core, Core)>, arm: (Core, Core)) -> Result<(), Failure>
-    ensures ok { OnOk result (arms.new.items ≡ arms.old.items ++ arm ∷ []) }
-    ensures err { IfErr result (λ e. e ≡ Failure.Memory) }
-{
-    match arms.push(arm) {
-        Ok(()) => Ok(()),
-        Err(_) => Err(Failure::Memory),
-    }
-}
 
 /// Expressions of one scope.
 #[cycle(expand)]
@@ -140,19 +121,9 @@ pub(super) fn arms_of<'a>(
         let inside = Setting { left, ..at };
         let two = two_parts(alloc, entries, &arm.guard, &arm.value, at.primes, inside)?;
         left = two.left;
-        push_arm(&mut made, (two.first, two.second))?;
+        push(&mut made, (two.first, two.second))?;
     }
     Ok(Arms { arms: made, left })
-}
-
-fn push_field(fields: &mut Vec<(Text, Core)>, field: (Text, Core)) -> Result<(), Failure>
-    ensures ok { OnOk result (fields.new.items ≡ fields.old.items ++ field ∷ []) }
-    ensures err { IfErr result (λ e. e ≡ Failure.Memory) }
-{
-    match fields.push(field) {
-        Ok(()) => Ok(()),
-        Err(_) => Err(Failure::Memory),
-    }
 }
 
 /// The parts of fields, with the fields' names.
@@ -176,7 +147,7 @@ pub(super) fn named_parts<'a>(
         let part = expand(alloc, entries, &field.value, Setting { left, ..at })?;
         left = part.left;
         let name = text_of(alloc, &field.name.word)?;
-        push_field(&mut made, (name, part.core))?;
+        push(&mut made, (name, part.core))?;
     }
     Ok(Fields { fields: made, left })
 }

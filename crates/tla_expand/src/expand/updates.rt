@@ -2,7 +2,7 @@
 
 ghost use Rattle.std.specs.Prelude.{◌≡◌, ◌≤◌, ◌<◌, ◌+◌, ◌++◌, ◌∷◌, [], length, Some, IfErr, OnOk};
 ghost use Rattle.tla_value.specs.Tree as value;
-ghost use Rattle.tla_eval.specs.Expr as expr;
+ghost use Rattle.tla_core.specs.Expr as expr;
 ghost use Rattle.tla_expand.specs.Places as places;
 ghost use Rattle.tla_expand.specs.Maybe.{each_of};
 ghost use Rattle.tla_expand.specs.Lists.{updates_of};
@@ -11,14 +11,15 @@ ghost use Rattle.tla_expand.specs.Gives.{both, made, part_in, step_in, update_in
 
 use crate::arena::{Entry, What, enter};
 use crate::builders::{except_core, place_of};
-use crate::expand::lists::{key, push};
+use crate::expand::lists::key;
 use crate::expand::{Setting, expand, leaf_of};
 use crate::expanded::{Change, Changes, Expanded, Many};
 use crate::failure::Failure;
 use crate::nodes::Leaf;
+use crate::parts::push;
 use std::alloc::Global;
-use tla_eval::{Core, Place};
-use tla_parse::{Expr, Key, Update, Written};
+use tla_core::{Core, Place};
+use tla_tree::{Expr, Key, Update, Written};
 
 /// EXCEPT.
 #[cycle(expand)]
@@ -46,19 +47,6 @@ pub(super) fn except_node<'a>(
     })
 }
 
-fn push_update(
-    updates: &mut Vec<(Vec<Core>, Core)>,
-    update: (Vec<Core>, Core),
-) -> Result<(), Failure>
-    ensures ok { OnOk result (updates.new.items ≡ updates.old.items ++ update ∷ []) }
-    ensures err { IfErr result (λ e. e ≡ Failure.Memory) }
-{
-    match updates.push(update) {
-        Ok(()) => Ok(()),
-        Err(_) => Err(Failure::Memory),
-    }
-}
-
 /// The updates of an EXCEPT that stands at this place.
 #[cycle(expand)]
 fn changes<'a>(
@@ -79,7 +67,7 @@ fn changes<'a>(
     for i in 0..updates.len() {
         let change = change(alloc, entries, place, &updates[i], Setting { left, ..at })?;
         left = change.left;
-        push_update(&mut made, (change.path, change.value))?;
+        push(&mut made, (change.path, change.value))?;
     }
     Ok(Changes {
         updates: made,

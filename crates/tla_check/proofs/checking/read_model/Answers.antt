@@ -1,7 +1,7 @@
 use Rattle.std.proofs.Common.{◌≡◌, List, map, sym, subst}
 use Rattle.tla_lex.specs.Tokens.{AreTokens}
 use Rattle.tla_lex.specs.declared.token.Token.{Token}
-use Rattle.tla_parse.specs.UnitsView.{unit_view}
+use Rattle.tla_tree.specs.UnitsView.{unit_view}
 use Rattle.tla_model.specs.Models.{model_of}
 use Rattle.tla_check.proofs.Named.{none-by-module, none-by-model, named-only}
 use Rattle.tla_check.proofs.Stopped.{stopped-tokens, stopped-module, stopped-configuration, stopped-model}

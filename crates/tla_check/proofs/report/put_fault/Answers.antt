@@ -1,6 +1,6 @@
 use Rattle.std.proofs.Common.{codes}
 use Rattle.counted_writer.specs.PutsLaws.{puts_then, puts_short, puts_exit}
-use Rattle.tla_eval.specs.Fault.{code_text}
+use Rattle.tla_core.specs.Fault.{code_text}
 use Rattle.tla_check.specs.Report.{site_text, part_line}
 use Rattle.tla_check.proofs.Joins.{fault_joins}
 use Rattle.tla_check.proofs.report.put_fault.Goals as goal

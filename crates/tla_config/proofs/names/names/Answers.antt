@@ -1,6 +1,6 @@
 use Rattle.std.proofs.Common.{arith}
 use Rattle.std.proofs.lemmas.Result.{err_from_is_err_and}
-use Rattle.tla_parse.specs.declared.word.Written.{Written}
+use Rattle.tla_tree.specs.declared.word.Written.{Written}
 use Rattle.tla_config.specs.Configuration.{IsName}
 use Rattle.tla_config.specs.Gives.{NoNames}
 use Rattle.tla_config.proofs.Arms.{fails_map}

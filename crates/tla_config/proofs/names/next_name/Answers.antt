@@ -1,5 +1,5 @@
 use Rattle.std.proofs.Common.{inr, refl, sym, ◌∙◌}
-use Rattle.tla_parse.specs.Tokens.{written}
+use Rattle.tla_tree.specs.Words.{written}
 use Rattle.tla_config.proofs.Fronts.{name_found}
 use Rattle.tla_config.proofs.names.next_name.Goals as goal
 

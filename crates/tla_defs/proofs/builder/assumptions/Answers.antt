@@ -1,7 +1,7 @@
 use Rattle.std.proofs.Common.{map}
-use Rattle.tla_eval.specs.ExprOf.{expr_of}
+use Rattle.tla_core.specs.ExprOf.{expr_of}
 use Rattle.tla_expand.specs.Names.{scope_of}
-use Rattle.tla_parse.specs.UnitsView.{unit_view}
+use Rattle.tla_tree.specs.UnitsView.{unit_view}
 use Rattle.tla_defs.specs.Model.{assumptions_of}
 use Rattle.tla_defs.proofs.Found.{assumptions_end}
 use Rattle.tla_defs.proofs.builder.assumptions.Goals as goal

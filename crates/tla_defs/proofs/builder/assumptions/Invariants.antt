@@ -1,8 +1,8 @@
 use Rattle.std.proofs.Common.{◌++◌, List, length, map}
-use Rattle.tla_eval.specs.Expr.{Expr}
-use Rattle.tla_eval.specs.ExprOf.{expr_of}
+use Rattle.tla_core.specs.Expr.{Expr}
+use Rattle.tla_core.specs.ExprOf.{expr_of}
 use Rattle.tla_expand.specs.Names.{scope_of}
-use Rattle.tla_parse.specs.UnitsView.{unit_view}
+use Rattle.tla_tree.specs.UnitsView.{unit_view}
 use Rattle.tla_defs.specs.Formulas.{LacksAssumption}
 use Rattle.tla_defs.specs.Model.{AreAssumptions, assumptions_of}
 use Rattle.tla_defs.proofs.builder.assumptions.Given as goal

@@ -1,6 +1,6 @@
 use Rattle.std.proofs.Common.{map}
 use Rattle.tla_model.specs.Models.{model_of}
-use Rattle.tla_parse.specs.UnitsView.{unit_view}
+use Rattle.tla_tree.specs.UnitsView.{unit_view}
 use Rattle.tla_defs.proofs.Locating.{refused_located}
 use Rattle.tla_defs.proofs.Unique.{one_model}
 use Rattle.tla_defs.proofs.builder.build.Goals as goal

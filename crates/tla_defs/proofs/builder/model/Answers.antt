@@ -4,7 +4,7 @@ use Rattle.std.proofs.lemmas.Result.{err_from_is_err_and}
 use Rattle.std.specs.Borrow.{Bor}
 use Rattle.tla_config.specs.View.{statement_view}
 use Rattle.tla_expand.specs.Names.{scope_of}
-use Rattle.tla_parse.specs.UnitsView.{unit_view}
+use Rattle.tla_tree.specs.UnitsView.{unit_view}
 use Rattle.tla_defs.specs.Formulas.{mentions}
 use Rattle.tla_defs.specs.Global.{global}
 use Rattle.tla_defs.specs.Mentions.{behaviour_of}

@@ -1,5 +1,5 @@
 use Rattle.std.proofs.Common.{length, map}
-use Rattle.tla_parse.specs.declared.word.Written.{Written}
+use Rattle.tla_tree.specs.declared.word.Written.{Written}
 use Rattle.tla_defs.specs.Circles.{AreStraight, IsFirstCircle}
 use Rattle.tla_defs.specs.Mentions.{item_of}
 use Rattle.tla_defs.proofs.circle.each_straight.Given as goal

@@ -1,6 +1,6 @@
 use Rattle.std.proofs.Common.{◌≡◌, ◌≢◌, List, Result, Ok, Err, map}
 use Rattle.std.specs.Prelude.{OnOk, IfErr}
-use Rattle.tla_parse.specs.UnitsView.{unit_view}
+use Rattle.tla_tree.specs.UnitsView.{unit_view}
 use Rattle.tla_config.specs.declared.error.DefsCode.TheVariants.{Memory}
 use Rattle.tla_config.specs.declared.error.DefsError.{DefsError}
 use Rattle.tla_config.specs.Names.{Name}

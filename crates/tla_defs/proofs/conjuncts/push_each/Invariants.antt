@@ -1,6 +1,6 @@
 use Rattle.std.proofs.Common.{◌≡◌, ◌++◌, length, map}
-use Rattle.tla_parse.specs.Tree.{trees}
-use Rattle.tla_parse.specs.View.{view}
+use Rattle.tla_tree.specs.Tree.{trees}
+use Rattle.tla_tree.specs.View.{view}
 use Rattle.tla_defs.specs.Conjuncts.{all_conjuncts}
 use Rattle.tla_defs.specs.Bodies.{Bodies}
 use Rattle.tla_defs.specs.Specification.{conjuncts_of, conjuncts_each}

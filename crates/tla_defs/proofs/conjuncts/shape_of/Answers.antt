@@ -1,7 +1,7 @@
 use Rattle.std.proofs.Common.{ap, sym, ◌∙◌, map}
-use Rattle.tla_parse.specs.declared.tree.Bullet.TheVariants as bullet
-use Rattle.tla_parse.specs.Tree.{trees, Junction}
-use Rattle.tla_parse.specs.View.{view, views_items}
+use Rattle.tla_tree.specs.declared.tree.Bullet.TheVariants as bullet
+use Rattle.tla_tree.specs.Tree.{trees, Junction}
+use Rattle.tla_tree.specs.View.{view, views_items}
 use Rattle.tla_defs.specs.Specification.{conjuncts_in, conjuncts_each}
 use Rattle.tla_defs.proofs.conjuncts.shape_of.Goals as goal
 

@@ -1,5 +1,5 @@
 use Rattle.std.proofs.Common.{◌≡◌, ◌++◌, length, map}
-use Rattle.tla_parse.specs.UnitsView.{declared}
+use Rattle.tla_tree.specs.UnitsView.{declared}
 use Rattle.tla_defs.specs.Constants.{constants, misused_constants}
 use Rattle.tla_defs.proofs.constants.declare.Given as goal
 

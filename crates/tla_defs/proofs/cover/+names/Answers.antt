@@ -1,6 +1,6 @@
 use Rattle.std.proofs.Common.{ap, sym, ◌∙◌, map}
-use Rattle.tla_eval.specs.declared.expression.Core.{Core}
-use Rattle.tla_eval.specs.ExprOf.{expr_of}
+use Rattle.tla_core.specs.declared.expression.Core.{Core}
+use Rattle.tla_core.specs.ExprOf.{expr_of}
 use Rattle.tla_expand.specs.Lists.{exprs}
 use Rattle.tla_expand.proofs.Vectors.{expr_tuple}
 use Rattle.tla_defs.specs.Subscripts.{is_names, are_names}

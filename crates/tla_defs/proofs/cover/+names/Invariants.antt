@@ -1,7 +1,7 @@
 use Rattle.std.proofs.Common.{◌≡◌, ◌≤◌, ◌+◌, ◌*◌, length, map}
 use denote.Param.Weighed.{most}
-use Rattle.tla_eval.specs.declared.expression.Core.{size-Core}
-use Rattle.tla_eval.specs.ExprOf.{expr_of}
+use Rattle.tla_core.specs.declared.expression.Core.{size-Core}
+use Rattle.tla_core.specs.ExprOf.{expr_of}
 use Rattle.tla_expand.specs.Lists.{exprs}
 use Rattle.tla_defs.specs.Subscripts as spec
 use Rattle.tla_defs.proofs.cover.+names.Given as goal

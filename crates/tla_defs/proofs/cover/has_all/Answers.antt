@@ -1,6 +1,6 @@
 use Rattle.std.proofs.Common.{◌≡◌, ℕ, suc, ◌-◌, true, arith, refl, sym, ◌∙◌}
-use Rattle.tla_eval.specs.Expr.{Expr}
-use Rattle.tla_eval.specs.ExprOf.{expr_of}
+use Rattle.tla_core.specs.Expr.{Expr}
+use Rattle.tla_core.specs.ExprOf.{expr_of}
 use Rattle.tla_defs.specs.Subscripts.{has_all, has_name}
 use Rattle.tla_defs.proofs.cover.has_all.Goals as goal
 

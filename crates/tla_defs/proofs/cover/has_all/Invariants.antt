@@ -1,5 +1,5 @@
 use Rattle.std.proofs.Common.{◌≡◌}
-use Rattle.tla_eval.specs.ExprOf.{expr_of}
+use Rattle.tla_core.specs.ExprOf.{expr_of}
 use Rattle.tla_defs.specs.Subscripts as spec
 use Rattle.tla_defs.proofs.cover.has_all.Given as goal
 

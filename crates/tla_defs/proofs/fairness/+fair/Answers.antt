@@ -1,6 +1,6 @@
 use Rattle.std.proofs.Common.{◌≡◌, ◌&&◌, ◌++◌, ap, sym, ◌∙◌, map}
-use Rattle.tla_parse.specs.Tree.{trees, binders}
-use Rattle.tla_parse.specs.View.{view, group_view, views_items, bound_views_items}
+use Rattle.tla_tree.specs.Tree.{trees, binders}
+use Rattle.tla_tree.specs.View.{view, group_view, views_items, bound_views_items}
 use Rattle.tla_defs.specs.Conjuncts.{bodies_of}
 use Rattle.tla_defs.specs.Scope.{plain, bound_names}
 use Rattle.tla_defs.specs.Fairness.{fair_in, fair_each, fair_of, is_and_list, is_for_all}

@@ -1,8 +1,8 @@
 use Rattle.std.proofs.Common.{◌≡◌, ◌≤◌, ◌&&◌, ◌+◌, ◌*◌, length, map}
-use Rattle.tla_parse.specs.Tree.{trees}
-use Rattle.tla_parse.specs.View.{view}
+use Rattle.tla_tree.specs.Tree.{trees}
+use Rattle.tla_tree.specs.View.{view}
 use denote.Param.Weighed.{most}
-use Rattle.tla_parse.specs.declared.tree.Expr.{size-Expr}
+use Rattle.tla_tree.specs.declared.tree.Expr.{size-Expr}
 use Rattle.tla_defs.specs.Conjuncts.{bodies_of, all_fair}
 use Rattle.tla_defs.specs.Fairness.{fair_of, fair_each}
 use Rattle.tla_defs.proofs.fairness.+fair.Given as goal

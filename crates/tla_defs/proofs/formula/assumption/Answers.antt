@@ -1,7 +1,7 @@
 use Rattle.std.proofs.Common.{sym, ◌∙◌}
-use Rattle.tla_eval.specs.ExprOf.{expr_of}
+use Rattle.tla_core.specs.ExprOf.{expr_of}
 use Rattle.tla_expand.specs.Names.{scope_of}
-use Rattle.tla_parse.specs.View.{view}
+use Rattle.tla_tree.specs.View.{view}
 use Rattle.tla_defs.proofs.Found.{found_assumption, no_assumption, high_assumption, not_both}
 use Rattle.tla_defs.proofs.formula.assumption.Goals as goal
 

@@ -1,6 +1,6 @@
-use Rattle.tla_eval.specs.ExprOf.{expr_of}
+use Rattle.tla_core.specs.ExprOf.{expr_of}
 use Rattle.tla_expand.specs.Names.{scope_of}
-use Rattle.tla_parse.specs.Tree.{Name}
+use Rattle.tla_tree.specs.Tree.{Name}
 use Rattle.tla_defs.proofs.Found.{found_initial, no_initial}
 use Rattle.tla_defs.proofs.formula.initial.Goals as goal
 

@@ -1,5 +1,5 @@
 use Rattle.std.proofs.Common.{sym, ◌∙◌}
-use Rattle.tla_eval.specs.ExprOf.{expr_of}
+use Rattle.tla_core.specs.ExprOf.{expr_of}
 use Rattle.tla_expand.specs.Names.{scope_of}
 use Rattle.tla_defs.proofs.Found.{found_invariant, no_invariant, high_invariant, not_both}
 use Rattle.tla_defs.proofs.formula.invariant.Goals as goal

@@ -1,6 +1,6 @@
 use Rattle.std.proofs.Common.{◌≡◌, length, map}
 use Rattle.tla_expand.specs.Names.{scope_of}
-use Rattle.tla_parse.specs.UnitsView.{unit_view}
+use Rattle.tla_tree.specs.UnitsView.{unit_view}
 use Rattle.tla_defs.specs.Global as global
 use Rattle.tla_defs.specs.Mentions.{item_of}
 use Rattle.tla_defs.proofs.global.raised.Given as goal

@@ -1,6 +1,6 @@
 use Rattle.std.proofs.Common.{rules, ap, ◌∙◌, ◌++◌, [], None, map}
-use Rattle.tla_parse.specs.Tree.{trees, arms}
-use Rattle.tla_parse.specs.View.{view, key_view, definition_view, choice_view, views_items, bound_views_items, arm_views_items, definition_views_items, field_views_items, update_views_items}
+use Rattle.tla_tree.specs.Tree.{trees, arms}
+use Rattle.tla_tree.specs.View.{view, key_view, definition_view, choice_view, views_items, bound_views_items, arm_views_items, definition_views_items, field_views_items, update_views_items}
 use Rattle.tla_expand.specs.Maybe.{or_else}
 use Rattle.tla_defs.specs.Known.{misused, misused_key, misused_fields, misused_updates, misused_each, misused_arms, misused_sets, misused_definition, misused_definitions, used, new_name, count}
 use Rattle.tla_defs.specs.Scope.{plain, bound_names, signatures}

@@ -1,16 +1,16 @@
 use Rattle.std.proofs.Common.{◌≡◌, ◌≤◌, ◌+◌, ◌*◌, max, ◌++◌, [], length, map}
-use Rattle.tla_parse.specs.Tree.{trees, binders, arms, definitions, fields, keys, updates}
-use Rattle.tla_parse.specs.View.{view, group_view, choice_view, definition_view, field_view, key_view, update_view}
+use Rattle.tla_tree.specs.Tree.{trees, binders, arms, definitions, fields, keys, updates}
+use Rattle.tla_tree.specs.View.{view, group_view, choice_view, definition_view, field_view, key_view, update_view}
 use Rattle.tla_defs.specs.Scope.{bound_names, signatures}
 use Rattle.tla_defs.specs.Known.{misused_each, misused_arms, misused_sets, misused_definitions, misused_fields, misused_keys, misused_updates}
 use denote.Param.Weighed.{most}
-use Rattle.tla_parse.specs.declared.tree.Expr.{size-Expr}
-use Rattle.tla_parse.specs.declared.tree.Definition.{size-Definition}
-use Rattle.tla_parse.specs.declared.tree.Arm.{size-Arm}
-use Rattle.tla_parse.specs.declared.tree.Binder.{size-Binder}
-use Rattle.tla_parse.specs.declared.tree.Field.{size-Field}
-use Rattle.tla_parse.specs.declared.tree.Update.{size-Update}
-use Rattle.tla_parse.specs.declared.tree.Key.{size-Key}
+use Rattle.tla_tree.specs.declared.tree.Expr.{size-Expr}
+use Rattle.tla_tree.specs.declared.tree.Definition.{size-Definition}
+use Rattle.tla_tree.specs.declared.tree.Arm.{size-Arm}
+use Rattle.tla_tree.specs.declared.tree.Binder.{size-Binder}
+use Rattle.tla_tree.specs.declared.tree.Field.{size-Field}
+use Rattle.tla_tree.specs.declared.tree.Update.{size-Update}
+use Rattle.tla_tree.specs.declared.tree.Key.{size-Key}
 use Rattle.tla_defs.proofs.known.+known.Given as goal
 
 abbrev pub invariant-each-loop-left : goal.invariant-each-loop-left

@@ -1,8 +1,8 @@
 use Rattle.std.proofs.Common.{◌≢◌, refl, subst, Some, IfErr}
 use Rattle.tla_config.specs.declared.error.DefsCode.TheVariants.{Memory}
-use Rattle.tla_eval.specs.Expr as expr
+use Rattle.tla_core.specs.Expr as expr
 use Rattle.tla_expand.specs.Names.{scope_of}
-use Rattle.tla_parse.specs.Tree.{Tree}
+use Rattle.tla_tree.specs.Tree.{Tree}
 use Rattle.tla_defs.specs.Model.{IsInitial}
 use Rattle.tla_defs.proofs.Unique.{same_some}
 use Rattle.tla_defs.proofs.meant.initial_predicate.Goals as goal

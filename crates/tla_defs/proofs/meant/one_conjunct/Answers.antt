@@ -1,6 +1,6 @@
-use Rattle.tla_eval.specs.ExprOf.{expr_of}
+use Rattle.tla_core.specs.ExprOf.{expr_of}
 use Rattle.tla_expand.specs.Names.{scope_of}
-use Rattle.tla_parse.specs.View.{view}
+use Rattle.tla_tree.specs.View.{view}
 use Rattle.tla_defs.proofs.Found.{found_initial, no_initial}
 use Rattle.tla_defs.proofs.meant.one_conjunct.Goals as goal
 

@@ -1,7 +1,7 @@
-use Rattle.tla_eval.specs.ExprOf.{expr_of}
+use Rattle.tla_core.specs.ExprOf.{expr_of}
 use Rattle.tla_expand.specs.Names.{scope_of}
-use Rattle.tla_parse.specs.declared.tree.Bullet.TheVariants as bullet
-use Rattle.tla_parse.specs.Tree.{Junction, trees}
+use Rattle.tla_tree.specs.declared.tree.Bullet.TheVariants as bullet
+use Rattle.tla_tree.specs.Tree.{Junction, trees}
 use Rattle.tla_defs.specs.Conjuncts.{seen}
 use Rattle.tla_defs.proofs.Found.{found_initial, no_initial}
 use Rattle.tla_defs.proofs.meant.several_conjuncts.Goals as goal

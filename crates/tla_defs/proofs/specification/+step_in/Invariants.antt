@@ -1,4 +1,4 @@
-use Rattle.tla_parse.specs.declared.tree.Expr.{size-Expr}
+use Rattle.tla_tree.specs.declared.tree.Expr.{size-Expr}
 use Rattle.tla_defs.proofs.specification.+step_in.Given as goal
 
 abbrev pub decreases-step_in : goal.decreases-step_in

@@ -1,7 +1,7 @@
 use Rattle.std.proofs.Common.{arith, ◌≡◌, ◌∙◌, ap, inr, pos, negsuc}
 use Rattle.std.proofs.lemmas.Int.{ints}
 use Rattle.std.specs.Int.{int_pow}
-use Rattle.tla_eval.specs.Kinds.{number}
+use Rattle.tla_core.specs.Kinds.{number}
 use Rattle.tla_eval.proofs.Numbers.{zero_number, one_number, minus_one_even, minus_one_odd, high_number}
 use Rattle.tla_eval.proofs.arithmetic.high_power.Goals as goal
 

@@ -3,9 +3,9 @@ use Rattle.tla_value.specs.Tree.{Tree}
 use Rattle.tla_value.specs.TreeOf.{tree_of, pair_of}
 use Rattle.tla_value.specs.Funs.{fun_of}
 use Rattle.tla_eval.specs.Environment.{tree_of_evaluated}
-use Rattle.tla_eval.specs.Fault.{Outcome}
+use Rattle.tla_core.specs.Fault.{Outcome}
 use Rattle.tla_eval.specs.Gives.{Gives}
-use Rattle.tla_eval.specs.Kinds.{as_set, make_fun}
+use Rattle.tla_core.specs.Kinds.{as_set, make_fun}
 use Rattle.tla_eval.proofs.Collected.{function_on_single}
 use Rattle.tla_eval.proofs.Domains.{one_item, one_list, rule_is}
 use Rattle.tla_eval.proofs.domain.function_on.Goals as goal

@@ -6,7 +6,7 @@ use Rattle.tla_value.specs.Funs.{fun_of}
 use Rattle.tla_value.specs.Sets.{set_of, MakesSetOfFunctions}
 use Rattle.tla_value.specs.Choices.{tuples_of}
 use Rattle.tla_eval.specs.Environment.{tree_of_evaluated}
-use Rattle.tla_eval.specs.Fault.{Outcome}
+use Rattle.tla_core.specs.Fault.{Outcome}
 use Rattle.tla_eval.specs.Gives.{Gives}
 use Rattle.tla_eval.proofs.Domains.{AllRise, tuples_made, tuples_refused}
 use Rattle.tla_eval.proofs.domain.function_on_tuples.Goals as goal

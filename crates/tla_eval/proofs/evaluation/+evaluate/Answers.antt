@@ -1,23 +1,23 @@
 use Rattle.std.proofs.Common.{rules, arith, map, length, option_map, Bor, List, ◌++◌, ◌∷◌, [], Bool, Some, None, Ok, ap, sym, ◌∙◌, subst}
-use Rattle.tla_eval.specs.Logic.{means-conjunction, means-disjunction, means-cases}
-use Rattle.tla_eval.specs.Meaning.{Meaning, asks, means-enumerated, means-tuple}
-use Rattle.tla_eval.specs.Functions.{means-except}
-use Rattle.tla_eval.specs.Value.{means, mem}
-use Rattle.tla_eval.specs.ExprOf.{expr_of, parts_of_cores, fields_of_cores, arms_of_cores, updates_of_cores}
+use Rattle.tla_core.specs.Logic.{means-conjunction, means-disjunction, means-cases}
+use Rattle.tla_core.specs.Meaning.{Meaning, asks, means-enumerated, means-tuple}
+use Rattle.tla_core.specs.Functions.{means-except}
+use Rattle.tla_core.specs.Value.{means, mem}
+use Rattle.tla_core.specs.ExprOf.{expr_of, parts_of_cores, fields_of_cores, arms_of_cores, updates_of_cores}
 use Rattle.tla_value.specs.Tree.{Tree}
-use Rattle.tla_eval.specs.Fault.{Outcome}
+use Rattle.tla_core.specs.Fault.{Outcome}
 use Rattle.tla_eval.specs.Gives.{GivesBy, GivesTruth, record_rule, image_rule, chosen_function_rule, product_rule, record_set_rule, values_of}
 use Rattle.tla_value.specs.TreeOf.{tree_of, pair_of}
-use Rattle.tla_eval.specs.declared.expression.Core.{Core}
+use Rattle.tla_core.specs.declared.expression.Core.{Core}
 use Rattle.tla_value.specs.declared.value.Value.{Value}
 use Rattle.tla_eval.specs.Environment.{Evaluates, tree_of_evaluated, bound_in, present_in, next_in}
-use Rattle.tla_eval.proofs.Loops.{all_hold_step, some_hold_step, first_passing_step}
+use Rattle.tla_core.proofs.Loops.{all_hold_step, some_hold_step, first_passing_step}
 use Rattle.tla_eval.proofs.Collected.{record_is}
 use Rattle.tla_eval.proofs.Choices.{image_is, function_is, chosen_step, chosen_from, chosen_long, passing_step}
-use Rattle.tla_eval.proofs.Parts.{means_conjunction, means_disjunction, means_enumerated, means_tuple, means_record, means_image, means_function, means_except, means_cases, means_cases_or, means_records, means_product}
+use Rattle.tla_core.proofs.Parts.{means_conjunction, means_disjunction, means_enumerated, means_tuple, means_record, means_image, means_function, means_except, means_cases, means_cases_or, means_records, means_product}
 use Rattle.tla_eval.proofs.RecordSets.{product_is, record_set_is, fields_long, tuple_long, tuple_other, same_number, number_same}
-use Rattle.tla_eval.specs.Kinds.{items}
-use Rattle.tla_eval.specs.SetForms.{means-records, means-product}
+use Rattle.tla_core.specs.Kinds.{items}
+use Rattle.tla_core.specs.SetForms.{means-records, means-product}
 use Rattle.tla_eval.proofs.evaluation.+evaluate.Goals as goal
 
 pub evaluate-returns-in-Conjunction : goal.evaluate-returns-in-Conjunction

@@ -1,19 +1,19 @@
 use Rattle.std.proofs.Common.{◌≡◌, ℕ, ◌+◌, ◌*◌, ◌^◌, length, ◌++◌, ◌∷◌, [], max, map, drop, Option, Some, None, option_map, Bor, List, Ok}
 use Rattle.tla_value.specs.TreeOf.{tree_of, pair_of}
-use Rattle.tla_eval.specs.Lists.{each, all_hold, some_hold, first_passing, passing}
-use Rattle.tla_eval.specs.Fault.{◌>>=◌}
+use Rattle.tla_core.specs.Lists.{each, all_hold, some_hold, first_passing, passing}
+use Rattle.tla_core.specs.Fault.{◌>>=◌}
 use Rattle.tla_eval.specs.Gives.{named_value, values_of, values_for, then_more}
 use Rattle.tla_value.specs.Choices.{parts_of}
-use Rattle.tla_eval.specs.SetForms.{field_has, parts_have}
-use Rattle.tla_eval.specs.Meaning.{Meaning, asks}
-use Rattle.tla_eval.specs.Logic.{means-cases}
-use Rattle.tla_eval.specs.Functions.{update_all}
+use Rattle.tla_core.specs.SetForms.{field_has, parts_have}
+use Rattle.tla_core.specs.Meaning.{Meaning, asks}
+use Rattle.tla_core.specs.Logic.{means-cases}
+use Rattle.tla_core.specs.Functions.{update_all}
 use Rattle.tla_value.specs.Tree.{Tree}
 use Rattle.tla_value.specs.declared.value.Value.{Value}
-use Rattle.tla_eval.specs.Value.{means, mem}
-use Rattle.tla_eval.specs.ExprOf.{expr_of, parts_of_cores, fields_of_cores, arms_of_cores, updates_of_cores}
+use Rattle.tla_core.specs.Value.{means, mem}
+use Rattle.tla_core.specs.ExprOf.{expr_of, parts_of_cores, fields_of_cores, arms_of_cores, updates_of_cores}
 use Rattle.tla_eval.specs.Environment.{tree_of_evaluated, bound_in, present_in, next_in}
-use Rattle.tla_eval.specs.declared.expression.Core.{Core, size-Core}
+use Rattle.tla_core.specs.declared.expression.Core.{Core, size-Core}
 use Rattle.tla_eval.proofs.evaluation.+evaluate.Given as goal
 
 -- ---- how deep what is left is, and then which function comes before which

@@ -1,6 +1,6 @@
 use Rattle.std.proofs.Common.{◌≡◌, drop}
 use Rattle.tla_value.specs.Choices.{keys_of, is_each_once}
-use Rattle.tla_eval.specs.ExprOf.{fields_of_cores}
+use Rattle.tla_core.specs.ExprOf.{fields_of_cores}
 use Rattle.tla_eval.proofs.fields.are_different.Given as goal
 
 abbrev pub invariant-loop-i : goal.invariant-loop-i

@@ -4,7 +4,7 @@ use Rattle.tla_value.specs.TreeOf.{pair_of}
 use Rattle.tla_value.specs.Funs.{arguments}
 use Rattle.tla_value.specs.Sets.{is_member}
 use Rattle.tla_value.specs.Choices.{keys_of}
-use Rattle.tla_eval.specs.ExprOf.{fields_of_cores}
+use Rattle.tla_core.specs.ExprOf.{fields_of_cores}
 use Rattle.tla_eval.proofs.fields.has_fields.Given as goal
 
 abbrev pub invariant-loop-field : goal.invariant-loop-field

@@ -3,8 +3,8 @@ use Rattle.tla_value.specs.Tree.{Tree}
 use Rattle.tla_value.specs.Sets.{set_of, MakesSetOfFunctions}
 use Rattle.tla_value.specs.Choices.{keys_of, is_each_once, records_of}
 use Rattle.tla_eval.specs.Environment.{tree_of_evaluated}
-use Rattle.tla_eval.specs.ExprOf.{fields_of_cores}
-use Rattle.tla_eval.specs.Fault.{Outcome}
+use Rattle.tla_core.specs.ExprOf.{fields_of_cores}
+use Rattle.tla_core.specs.Fault.{Outcome}
 use Rattle.tla_eval.specs.Gives.{Gives}
 use Rattle.tla_eval.proofs.RecordSets.{named_long, records_made}
 use Rattle.tla_eval.proofs.fields.records_with.Goals as goal

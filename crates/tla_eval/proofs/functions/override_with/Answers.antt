@@ -1,7 +1,7 @@
 use Rattle.std.proofs.Common.{◌++◌, sym, subst}
 use Rattle.tla_value.specs.Tree.{Tree}
 use Rattle.tla_value.specs.Funs.{fun_of}
-use Rattle.tla_eval.specs.Fault.{Outcome}
+use Rattle.tla_core.specs.Fault.{Outcome}
 use Rattle.tla_eval.specs.Gives.{Gives}
 use Rattle.tla_eval.proofs.Known.{override_known}
 use Rattle.tla_eval.proofs.functions.override_with.Goals as goal

@@ -1,8 +1,8 @@
 use Rattle.std.proofs.Common.{◌++◌, ◌-◌, map, take, drop, ap, ◌∙◌, subst}
 use Rattle.tla_value.specs.Tree.{Tree}
 use Rattle.tla_value.specs.TreeOf.{tree_of, pair_of}
-use Rattle.tla_eval.specs.Fault.{Outcome}
-use Rattle.tla_eval.specs.Kinds.{make_sequence}
+use Rattle.tla_core.specs.Fault.{Outcome}
+use Rattle.tla_core.specs.Kinds.{make_sequence}
 use Rattle.tla_eval.specs.Gives.{Gives, values_of}
 use Rattle.tla_eval.proofs.Numbered.{values_part, few_part, shallow_part, make_sequence_ok}
 use Rattle.tla_eval.proofs.sequences.part.Goals as goal

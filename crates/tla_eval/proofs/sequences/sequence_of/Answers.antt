@@ -3,7 +3,7 @@ use Rattle.std.proofs.lemmas.List.{length-map}
 use Rattle.tla_value.specs.Tree.{Tree}
 use Rattle.tla_value.specs.TreeOf.{tree_of, pair_of}
 use Rattle.tla_value.specs.Funs.{fun_of}
-use Rattle.tla_eval.specs.Kinds.{rising_fun}
+use Rattle.tla_core.specs.Kinds.{rising_fun}
 use Rattle.tla_eval.specs.Gives.{Gives}
 use Rattle.tla_eval.proofs.Numbered.{make_sequence_many, fun_of-numbered}
 use Rattle.tla_eval.proofs.sequences.sequence_of.Goals as goal

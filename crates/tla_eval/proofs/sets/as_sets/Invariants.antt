@@ -1,8 +1,8 @@
 use Rattle.std.proofs.Common.{◌≡◌, ◌++◌, drop, map, Ok}
 use Rattle.tla_eval.specs.Environment.{tree_of_evaluated}
-use Rattle.tla_eval.specs.Fault.{◌>>=◌}
-use Rattle.tla_eval.specs.Kinds.{as_set}
-use Rattle.tla_eval.specs.Lists.{each}
+use Rattle.tla_core.specs.Fault.{◌>>=◌}
+use Rattle.tla_core.specs.Kinds.{as_set}
+use Rattle.tla_core.specs.Lists.{each}
 use Rattle.tla_eval.proofs.sets.as_sets.Given as goal
 
 -- what is left, behind what is there

@@ -1,7 +1,7 @@
 use Rattle.std.proofs.Common.{◌≡◌, ◌++◌, drop, map, Ok}
 use Rattle.tla_value.specs.TreeOf.{tree_of}
-use Rattle.tla_eval.specs.Fault.{◌>>=◌}
-use Rattle.tla_eval.specs.Operators.{joined_sets}
+use Rattle.tla_core.specs.Fault.{◌>>=◌}
+use Rattle.tla_core.specs.Operators.{joined_sets}
 use Rattle.tla_eval.proofs.sets.joined.Given as goal
 
 -- what is left, behind what is there

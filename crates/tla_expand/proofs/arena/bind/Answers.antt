@@ -1,5 +1,5 @@
 use Rattle.std.proofs.Common.{arith, ◌∙◌, ap, sym}
-use Rattle.tla_parse.specs.declared.word.Written.{Written}
+use Rattle.tla_tree.specs.declared.word.Written.{Written}
 use Rattle.tla_expand.proofs.Binds.{bind_more, extends_more}
 use Rattle.tla_expand.proofs.arena.bind.Goals as goal
 

@@ -1,6 +1,6 @@
 use Rattle.std.proofs.Common.{◌≡◌, ◌++◌, drop, map}
-use Rattle.tla_parse.specs.View.{group_view}
-use Rattle.tla_parse.specs.Tree.{binders}
+use Rattle.tla_tree.specs.View.{group_view}
+use Rattle.tla_tree.specs.Tree.{binders}
 use Rattle.tla_expand.specs.Meanings.{Scope}
 use Rattle.tla_expand.specs.Expand.{binds_of}
 use Rattle.tla_expand.specs.Binders.{binds_in}

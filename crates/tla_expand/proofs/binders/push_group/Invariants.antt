@@ -1,5 +1,5 @@
 use Rattle.std.proofs.Common.{◌≡◌, ◌++◌, [], drop}
-use Rattle.tla_parse.specs.View.{view}
+use Rattle.tla_tree.specs.View.{view}
 use Rattle.tla_expand.specs.Meanings.{Scope}
 use Rattle.tla_expand.specs.Bound.{bind_each}
 use Rattle.tla_expand.specs.Expand.{expand}

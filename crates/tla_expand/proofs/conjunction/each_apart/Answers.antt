@@ -3,8 +3,8 @@ use Rattle.std.proofs.lemmas.Result.{err_from_is_err_and}
 use Rattle.std.proofs.lemmas.List.{map-append, drop_all, length-map}
 use Rattle.std.specs.Borrow.{Bor}
 use Rattle.tla_model.specs.Size.{nodes, depth}
-use Rattle.tla_eval.specs.ExprOf.{expr_of}
-use Rattle.tla_parse.specs.declared.tree.Expr as syntax
+use Rattle.tla_core.specs.ExprOf.{expr_of}
+use Rattle.tla_tree.specs.declared.tree.Expr as syntax
 use Rattle.tla_expand.specs.Scopes.{scope_at}
 use Rattle.tla_expand.specs.Gives.{part_in, pointed}
 use Rattle.tla_expand.proofs.Lists.{part_done, part_fails, all_done, total_more, highest_more}
@@ -28,15 +28,15 @@ loop-i-preserved c =
     let k = length-map c.args.trees.now (λ (t : Bor syntax.Expr). t.now) in
     let old = map expr_of c.loop-i.parts.items in
     let x = expr_of c.in_ok-part.part.core in
-    let p : map expr_of c.push.new.parts.items ≡ old ++ x ∷ [] = ap (λ ps. map expr_of ps) c.in_ok-push.ensures.ok ∙ map-append expr_of c.loop-i.parts.items (c.in_ok-part.part.core ∷ []) in
-    let n = total_more nodes old (map expr_of c.push.new.parts.items) x p in
+    let p : map expr_of c.push.new.items.items ≡ old ++ x ∷ [] = ap (λ ps. map expr_of ps) c.in_ok-push.ensures.ok ∙ map-append expr_of c.loop-i.parts.items (c.in_ok-part.part.core ∷ []) in
+    let n = total_more nodes old (map expr_of c.push.new.items.items) x p in
     record {
       kept = c.in_ok-part.ensures.kept ∙ c.loop-i.invariant.kept;
       so_far = part_done (part_in c.args.primes (scope_at c.args.entries.now.items c.args.scope) 0) (pointed c.args.trees.now)
-          old (map expr_of c.push.new.parts.items) c.loop-i.i c.index-trees-i.result.now x
+          old (map expr_of c.push.new.items.items) c.loop-i.i c.index-trees-i.result.now x
           c.loop-i.invariant.so_far (omega (arith, k)) (pointed_at c.args.trees.now c.loop-i.i c.index-trees-i.result (omega arith) c.index-trees-i.is) f.0 p;
       left = omega (arith, f.1, c.loop-i.invariant.left, n);
-      depth = highest_more depth old (map expr_of c.push.new.parts.items) x 299 p c.loop-i.invariant.depth f.2;
+      depth = highest_more depth old (map expr_of c.push.new.items.items) x 299 p c.loop-i.invariant.depth f.2;
     }
 
 pub returns : goal.returns

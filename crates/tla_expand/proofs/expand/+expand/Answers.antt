@@ -2,13 +2,13 @@ use Rattle.std.proofs.Common.{rules, ◌≡◌, ◌-◌, ◌+◌, ℕ, length, L
 use Rattle.std.proofs.lemmas.Result.{err_from_is_err_and}
 use Rattle.std.proofs.lemmas.List.{map-append, drop_all}
 use Rattle.tla_model.specs.Size.{nodes, depth}
-use Rattle.tla_eval.specs.declared.expression.Binary.TheVariants.{Unequal}
-use Rattle.tla_eval.specs.Expr as e
-use Rattle.tla_eval.specs.Expr.{Expr, tuple, cases, product, except}
-use Rattle.tla_eval.specs.ExprOf.{expr_of, exprs_of_arm}
-use Rattle.tla_parse.specs.View.{view, group_view, key_view, views_items}
-use Rattle.tla_parse.specs.Tree as tree
-use Rattle.tla_parse.specs.Tree.{binders}
+use Rattle.tla_core.specs.declared.expression.Binary.TheVariants.{Unequal}
+use Rattle.tla_core.specs.Expr as e
+use Rattle.tla_core.specs.Expr.{Expr, tuple, cases, product, except}
+use Rattle.tla_core.specs.ExprOf.{expr_of, exprs_of_arm}
+use Rattle.tla_tree.specs.View.{view, group_view, key_view, views_items}
+use Rattle.tla_tree.specs.Tree as tree
+use Rattle.tla_tree.specs.Tree.{binders}
 use Rattle.tla_expand.specs.declared.nodes.Two.TheVariants as twos
 use Rattle.tla_expand.specs.declared.nodes.Many.TheVariants as manies
 use Rattle.tla_expand.specs.Lists.{exprs, arms_with, fields_of, updates_of, named_part, changed_part}
@@ -159,14 +159,14 @@ lists::each-loop-i-preserved t c =
     let f = rw c.loop-i.invariant.kept at c.in_ok-part.ensures.same in
     let old = map expr_of c.loop-i.parts.items in
     let x = expr_of c.in_ok-part.part.core in
-    let p : map expr_of c.push.new.parts.items ≡ old ++ x ∷ [] = ap (λ ps. map expr_of ps) c.in_ok-push.ensures.ok ∙ map-append expr_of c.loop-i.parts.items (c.in_ok-part.part.core ∷ []) in
-    let n = total_more nodes old (map expr_of c.push.new.parts.items) x p in
+    let p : map expr_of c.push.new.items.items ≡ old ++ x ∷ [] = ap (λ ps. map expr_of ps) c.in_ok-push.ensures.ok ∙ map-append expr_of c.loop-i.parts.items (c.in_ok-part.part.core ∷ []) in
+    let n = total_more nodes old (map expr_of c.push.new.items.items) x p in
     record {
       kept = c.in_ok-part.ensures.kept ∙ c.loop-i.invariant.kept;
       so_far = part_done (part_in c.args.at.primes (scope_at c.args.entries.now.items c.args.at.scope) c.args.at.bound) c.args.trees.now
-          old (map expr_of c.push.new.parts.items) c.loop-i.i c.index-trees-i.result x c.loop-i.invariant.so_far (omega arith) c.index-trees-i.is f.0 p;
+          old (map expr_of c.push.new.items.items) c.loop-i.i c.index-trees-i.result x c.loop-i.invariant.so_far (omega arith) c.index-trees-i.is f.0 p;
       left = omega (arith, f.1, c.loop-i.invariant.left, n);
-      depth = highest_more depth old (map expr_of c.push.new.parts.items) x c.args.at.room p c.loop-i.invariant.depth f.2;
+      depth = highest_more depth old (map expr_of c.push.new.items.items) x c.args.at.room p c.loop-i.invariant.depth f.2;
     }
 
 pub lists::each-returns-clause-same : goal.lists::each-returns-clause-same
@@ -190,8 +190,8 @@ lists::arms_of-loop-i-preserved t c =
     let f = rw c.loop-i.invariant.kept at c.in_ok-two.ensures.same in
     let old = map exprs_of_arm c.loop-i.made.items in
     let x = parts_of c.in_ok-two.two in
-    let new = map exprs_of_arm c.push_arm.new.arms.items in
-    let p : new ≡ old ++ x ∷ [] = ap (λ ps. map exprs_of_arm ps) c.in_ok-push_arm.ensures.ok ∙ map-append exprs_of_arm c.loop-i.made.items ((c.in_ok-two.two.first, c.in_ok-two.two.second) ∷ []) in
+    let new = map exprs_of_arm c.push.new.items.items in
+    let p : new ≡ old ++ x ∷ [] = ap (λ ps. map exprs_of_arm ps) c.in_ok-push.ensures.ok ∙ map-append exprs_of_arm c.loop-i.made.items ((c.in_ok-two.two.first, c.in_ok-two.two.second) ∷ []) in
     let n = total_more (sum_of nodes nodes) old new x p in
     record {
       kept = c.in_ok-two.ensures.kept ∙ c.loop-i.invariant.kept;
@@ -257,14 +257,14 @@ kept::kept_each-loop-i-preserved t c =
     let f = rw c.loop-i.invariant.kept at c.in_ok-part.ensures.same in
     let old = map expr_of c.loop-i.parts.items in
     let x = expr_of c.in_ok-part.part.core in
-    let p : map expr_of c.push.new.parts.items ≡ old ++ x ∷ [] = ap (λ ps. map expr_of ps) c.in_ok-push.ensures.ok ∙ map-append expr_of c.loop-i.parts.items (c.in_ok-part.part.core ∷ []) in
-    let n = total_more nodes old (map expr_of c.push.new.parts.items) x p in
+    let p : map expr_of c.push.new.items.items ≡ old ++ x ∷ [] = ap (λ ps. map expr_of ps) c.in_ok-push.ensures.ok ∙ map-append expr_of c.loop-i.parts.items (c.in_ok-part.part.core ∷ []) in
+    let n = total_more nodes old (map expr_of c.push.new.items.items) x p in
     record {
       kept = c.in_ok-part.ensures.kept ∙ c.loop-i.invariant.kept;
       so_far = part_done (kept_part c.args.at.primes c.args.place (scope_at c.args.entries.now.items c.args.at.scope) c.args.at.bound) c.args.trees.now
-          old (map expr_of c.push.new.parts.items) c.loop-i.i c.index-trees-i.result x c.loop-i.invariant.so_far (omega arith) c.index-trees-i.is f.0 p;
+          old (map expr_of c.push.new.items.items) c.loop-i.i c.index-trees-i.result x c.loop-i.invariant.so_far (omega arith) c.index-trees-i.is f.0 p;
       left = omega (arith, f.1, c.loop-i.invariant.left, n);
-      depth = highest_more depth old (map expr_of c.push.new.parts.items) x c.args.at.room p c.loop-i.invariant.depth f.2;
+      depth = highest_more depth old (map expr_of c.push.new.items.items) x c.args.at.room p c.loop-i.invariant.depth f.2;
     }
 
 pub kept::kept_each-returns-clause-same : goal.kept::kept_each-returns-clause-same
@@ -413,7 +413,7 @@ binding::sets_of-loop-i-preserved t c =
     let f = rw c.loop-i.invariant.kept at c.in_ok-part.ensures.same in
     let old = map expr_of c.loop-i.parts.items in
     let x = expr_of c.in_ok-part.part.core in
-    let new = map expr_of c.push.new.parts.items in
+    let new = map expr_of c.push.new.items.items in
     let p : new ≡ old ++ x ∷ [] = ap (λ ps. map expr_of ps) c.in_ok-push.ensures.ok ∙ map-append expr_of c.loop-i.parts.items (c.in_ok-part.part.core ∷ []) in
     let n = total_more nodes old new x p in
     record {
@@ -444,7 +444,7 @@ updates::path_of-loop-i-preserved t c =
     let f = rw c.loop-i.invariant.kept at c.in_ok-part.ensures.same in
     let old = map expr_of c.loop-i.parts.items in
     let x = expr_of c.in_ok-part.part.core in
-    let new = map expr_of c.push.new.parts.items in
+    let new = map expr_of c.push.new.items.items in
     let p : new ≡ old ++ x ∷ [] = ap (λ ps. map expr_of ps) c.in_ok-push.ensures.ok ∙ map-append expr_of c.loop-i.parts.items (c.in_ok-part.part.core ∷ []) in
     let n = total_more nodes old new x p in
     record {
@@ -475,8 +475,8 @@ updates::changes-loop-i-preserved t c =
     let f = rw c.loop-i.invariant.kept at c.in_ok-change.ensures.same in
     let old = map changed_part c.loop-i.made.items in
     let x : List Expr × Expr = (map expr_of c.in_ok-change.change.path.items, expr_of c.in_ok-change.change.value) in
-    let new = map changed_part c.push_update.new.updates.items in
-    let p : new ≡ old ++ x ∷ [] = ap (λ ps. map changed_part ps) c.in_ok-push_update.ensures.ok ∙ map-append changed_part c.loop-i.made.items ((c.in_ok-change.change.path, c.in_ok-change.change.value) ∷ []) in
+    let new = map changed_part c.push.new.items.items in
+    let p : new ≡ old ++ x ∷ [] = ap (λ ps. map changed_part ps) c.in_ok-push.ensures.ok ∙ map-append changed_part c.loop-i.made.items ((c.in_ok-change.change.path, c.in_ok-change.change.value) ∷ []) in
     let n = total_more update_nodes old new x p in
     record {
       kept = c.in_ok-change.ensures.kept ∙ c.loop-i.invariant.kept;
@@ -506,8 +506,8 @@ lists::named_parts-loop-i-preserved t c =
     let f = rw c.loop-i.invariant.kept at c.in_ok-part.ensures.same in
     let old = map named_part c.loop-i.made.items in
     let x : List ℕ × Expr = (c.in_ok-name.name, expr_of c.in_ok-part.part.core) in
-    let new = map named_part c.push_field.new.fields.items in
-    let p : new ≡ old ++ x ∷ [] = ap (λ ps. map named_part ps) c.in_ok-push_field.ensures.ok ∙ map-append named_part c.loop-i.made.items ((c.in_ok-name.name, c.in_ok-part.part.core) ∷ []) in
+    let new = map named_part c.push.new.items.items in
+    let p : new ≡ old ++ x ∷ [] = ap (λ ps. map named_part ps) c.in_ok-push.ensures.ok ∙ map-append named_part c.loop-i.made.items ((c.in_ok-name.name, c.in_ok-part.part.core) ∷ []) in
     let n = total_more field_nodes old new x p in
     record {
       kept = c.in_ok-part.ensures.kept ∙ c.loop-i.invariant.kept;

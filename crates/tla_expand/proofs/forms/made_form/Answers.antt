@@ -1,6 +1,6 @@
 use Rattle.std.proofs.Common.{◌≡◌, map, ap, refl}
-use Rattle.tla_parse.specs.Tree as t
-use Rattle.tla_parse.specs.View.{view, field_view, update_view, views_items, field_views_items, update_views_items}
+use Rattle.tla_tree.specs.Tree as t
+use Rattle.tla_tree.specs.View.{view, field_view, update_view, views_items, field_views_items, update_views_items}
 use Rattle.tla_expand.proofs.forms.made_form.Goals as goal
 
 pub returns-in-Record : goal.returns-in-Record

@@ -1,6 +1,6 @@
 use Rattle.std.proofs.Common.{◌≡◌, map, ap, refl}
-use Rattle.tla_parse.specs.Tree as t
-use Rattle.tla_parse.specs.View.{view, group_view, choice_view, views_items, bound_views_items, arm_views_items}
+use Rattle.tla_tree.specs.Tree as t
+use Rattle.tla_tree.specs.View.{view, group_view, choice_view, views_items, bound_views_items, arm_views_items}
 use Rattle.tla_expand.proofs.forms.other_form.Goals as goal
 
 pub returns-in-Quantified : goal.returns-in-Quantified

@@ -1,6 +1,6 @@
 use Rattle.std.proofs.Common.{◌≡◌, map, ap}
-use Rattle.tla_parse.specs.Tree as t
-use Rattle.tla_parse.specs.View.{view, views_items}
+use Rattle.tla_tree.specs.Tree as t
+use Rattle.tla_tree.specs.View.{view, views_items}
 use Rattle.tla_expand.proofs.Steps.{expand_listing, expand_junction}
 use Rattle.tla_expand.proofs.forms.plain_form.Goals as goal
 

@@ -1,7 +1,7 @@
 use Rattle.std.proofs.Common.{◌≡◌, ◌∙◌, ap, map, length, arith}
 use Rattle.std.proofs.lemmas.List.{drop_all}
-use Rattle.tla_parse.specs.Tree.{definitions}
-use Rattle.tla_parse.specs.View.{definition_view}
+use Rattle.tla_tree.specs.Tree.{definitions}
+use Rattle.tla_tree.specs.View.{definition_view}
 use Rattle.tla_expand.specs.Expand.{definitions_in, definition_in}
 use Rattle.tla_expand.specs.Scopes.{entry_scope, scope_at}
 use Rattle.tla_expand.proofs.Links.{below_more}

@@ -1,6 +1,6 @@
 use Rattle.std.proofs.Common.{◌≡◌, ◌≤◌, length, drop, map}
-use Rattle.tla_parse.specs.Tree.{definitions}
-use Rattle.tla_parse.specs.View.{definition_view}
+use Rattle.tla_tree.specs.Tree.{definitions}
+use Rattle.tla_tree.specs.View.{definition_view}
 use Rattle.tla_expand.specs.Scopes.{scope_at, AreLinked, Extends}
 use Rattle.tla_expand.specs.Expand.{definitions_in}
 use Rattle.tla_expand.proofs.heads.define.Given as goal

@@ -1,6 +1,6 @@
 use Rattle.std.proofs.Common.{◌≡◌, map, ap, refl}
-use Rattle.tla_parse.specs.Tree as t
-use Rattle.tla_parse.specs.View.{view, group_view, definition_view, bound_views_items}
+use Rattle.tla_tree.specs.Tree as t
+use Rattle.tla_tree.specs.View.{view, group_view, definition_view, bound_views_items}
 use Rattle.tla_expand.specs.Meanings.{operator}
 use Rattle.tla_expand.specs.Expand.{expand}
 use Rattle.tla_expand.specs.Scopes.{scope_at}

@@ -3,7 +3,7 @@ use Rattle.std.proofs.lemmas.Result.{err_from_is_err_and}
 use Rattle.tla_expand.specs.Expand.{expand}
 use Rattle.tla_expand.specs.Scopes.{scope_at}
 use Rattle.tla_expand.specs.Primes.{with_primes}
-use Rattle.tla_parse.specs.View.{view}
+use Rattle.tla_tree.specs.View.{view}
 use Rattle.tla_expand.proofs.Binds.{extends_trans}
 use Rattle.tla_expand.proofs.Steps.{explains_by}
 use Rattle.tla_expand.proofs.heads.find_head.Goals as goal

@@ -2,7 +2,7 @@ use Rattle.std.proofs.Common.{◌≡◌, ◌≤◌, length, ℕ}
 use Rattle.tla_expand.specs.Scopes.{scope_at, AreLinked, Extends}
 use Rattle.tla_expand.specs.Expand.{expand}
 use Rattle.tla_expand.specs.Primes.{with_primes}
-use Rattle.tla_parse.specs.View.{view}
+use Rattle.tla_tree.specs.View.{view}
 use Rattle.tla_expand.proofs.heads.find_head.Given as goal
 
 abbrev pub invariant-loop-turn : goal.invariant-loop-turn

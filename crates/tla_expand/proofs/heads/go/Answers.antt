@@ -1,6 +1,6 @@
 use Rattle.std.proofs.Common.{◌≡◌, ℕ, map, ap, sym, subst, IfOk, IfErr, refl}
-use Rattle.tla_parse.specs.Tree as t
-use Rattle.tla_parse.specs.View.{view, views_items, definition_view, definition_views_items}
+use Rattle.tla_tree.specs.Tree as t
+use Rattle.tla_tree.specs.View.{view, views_items, definition_view, definition_views_items}
 use Rattle.tla_expand.specs.Meanings.{Argument}
 use Rattle.tla_expand.specs.Expand.{expand}
 use Rattle.tla_expand.specs.Scopes.{scope_at, arguments_in}

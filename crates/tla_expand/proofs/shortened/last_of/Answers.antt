@@ -1,6 +1,6 @@
 use Rattle.std.proofs.Common.{rules, ◌≡◌, ◌∙◌, ◌+◌, ◌-◌, true, ap, sym, arith}
 use Rattle.std.specs.Str.{bytes_eq}
-use Rattle.tla_parse.specs.declared.word.Written.{Written}
+use Rattle.tla_tree.specs.declared.word.Written.{Written}
 use Rattle.tla_expand.specs.Places.{Name}
 use Rattle.tla_expand.proofs.Shorter.{last_at}
 use Rattle.tla_expand.proofs.shortened.last_of.Goals as goal

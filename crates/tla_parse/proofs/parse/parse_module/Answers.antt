@@ -1,4 +1,4 @@
-use Rattle.tla_parse.specs.UnitsView.{unit_view}
+use Rattle.tla_tree.specs.UnitsView.{unit_view}
 use Rattle.std.proofs.Common.{map}
 use Rattle.tla_parse.proofs.Whole.{found, only}
 use Rattle.tla_parse.proofs.parse.parse_module.Goals as goal

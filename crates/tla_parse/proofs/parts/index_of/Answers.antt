@@ -1,6 +1,6 @@
 use Rattle.std.proofs.Common.{ap}
-use Rattle.tla_parse.specs.Tree as t
-use Rattle.tla_parse.specs.View.{view, views_items}
+use Rattle.tla_tree.specs.Tree as t
+use Rattle.tla_tree.specs.View.{view, views_items}
 use Rattle.tla_parse.proofs.parts.index_of.Goals as goal
 
 pub returns : goal.returns

@@ -1,7 +1,7 @@
 use Rattle.std.proofs.Common.{◌≡◌, ◌-◌, ◌≤◌, length, map, [], true}
 use Rattle.tla_parse.specs.Units.{units_depth}
 use Rattle.tla_parse.specs.LeftOut.{OnlySeparators}
-use Rattle.tla_parse.specs.UnitsView.{unit_view}
+use Rattle.tla_tree.specs.UnitsView.{unit_view}
 use Rattle.tla_parse.specs.UnitsReading.{units}
 use Rattle.tla_parse.proofs.units.units_from.Given as goal
 

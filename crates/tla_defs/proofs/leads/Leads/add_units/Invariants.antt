@@ -1,5 +1,5 @@
 use Rattle.std.proofs.Common.{◌≡◌, ◌++◌, [], length, map}
-use Rattle.tla_parse.specs.UnitsView.{unit_view}
+use Rattle.tla_tree.specs.UnitsView.{unit_view}
 use Rattle.tla_config.specs.Names.{Name}
 use Rattle.tla_defs.specs.Leads.{next_names, units_leads}
 use Rattle.tla_defs.proofs.leads.Leads.add_units.Given as goal

@@ -1,6 +1,6 @@
 use Rattle.std.proofs.Common.{◌≡◌, ◌++◌, length, map}
-use Rattle.tla_parse.specs.Tree.{binders}
-use Rattle.tla_parse.specs.View.{group_view}
+use Rattle.tla_tree.specs.Tree.{binders}
+use Rattle.tla_tree.specs.View.{group_view}
 use Rattle.tla_defs.specs.Scope.{plain, bound_names}
 use Rattle.tla_defs.proofs.scope.Scope.push_bound.Given as goal
 

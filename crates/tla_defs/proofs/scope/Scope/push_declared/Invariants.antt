@@ -1,5 +1,5 @@
 use Rattle.std.proofs.Common.{◌≡◌, ◌++◌, length, map}
-use Rattle.tla_parse.specs.UnitsView.{declared}
+use Rattle.tla_tree.specs.UnitsView.{declared}
 use Rattle.tla_defs.specs.Constants.{constants}
 use Rattle.tla_defs.proofs.scope.Scope.push_declared.Given as goal
 

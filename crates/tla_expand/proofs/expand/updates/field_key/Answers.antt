@@ -1,6 +1,6 @@
 use Rattle.std.proofs.Common.{◌-◌, Some}
 use Rattle.tla_value.specs.Tree as value
-use Rattle.tla_eval.specs.Expr.{constant}
+use Rattle.tla_core.specs.Expr.{constant}
 use Rattle.tla_expand.specs.Places.{place_of}
 use Rattle.tla_expand.proofs.Sizes.{no_room, none_left, limits_are}
 use Rattle.tla_expand.proofs.expand.updates.field_key.Goals as goal

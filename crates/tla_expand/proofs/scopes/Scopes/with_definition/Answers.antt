@@ -1,5 +1,5 @@
 use Rattle.std.proofs.Common.{◌≡◌, subst, IfOk}
-use Rattle.tla_parse.specs.View.{definition_view}
+use Rattle.tla_tree.specs.View.{definition_view}
 use Rattle.tla_expand.specs.Names.{scope_of}
 use Rattle.tla_expand.specs.Scopes.{entry_scope, scope_at}
 use Rattle.tla_expand.specs.Expand.{definition_in}

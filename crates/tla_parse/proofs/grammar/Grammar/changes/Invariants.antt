@@ -1,6 +1,6 @@
 use Rattle.std.proofs.Common.{◌≡◌, ◌-◌, ◌≤◌, length, map, []}
-use Rattle.tla_parse.specs.View.{update_view}
-use Rattle.tla_parse.specs.Tree.{updates}
+use Rattle.tla_tree.specs.View.{update_view}
+use Rattle.tla_tree.specs.Tree.{updates}
 use Rattle.tla_parse.specs.Edges.{updates_depth}
 use Rattle.tla_parse.specs.Reading.{expr}
 use Rattle.tla_parse.specs.ReadingBrackets.{changes}

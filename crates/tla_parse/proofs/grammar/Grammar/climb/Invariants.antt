@@ -1,5 +1,5 @@
 use Rattle.std.proofs.Common.{◌≡◌, ◌+◌, ◌-◌, ◌≤◌}
-use Rattle.tla_parse.specs.View.{view}
+use Rattle.tla_tree.specs.View.{view}
 use Rattle.tla_parse.specs.Edges.{depth}
 use Rattle.tla_parse.specs.Reading.{climb, expr}
 use Rattle.tla_parse.proofs.grammar.Grammar.climb.Given as goal

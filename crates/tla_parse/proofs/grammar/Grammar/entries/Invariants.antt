@@ -1,6 +1,6 @@
 use Rattle.std.proofs.Common.{◌≡◌, ◌-◌, ◌≤◌, length, map, []}
-use Rattle.tla_parse.specs.View.{field_view}
-use Rattle.tla_parse.specs.Tree.{fields}
+use Rattle.tla_tree.specs.View.{field_view}
+use Rattle.tla_tree.specs.Tree.{fields}
 use Rattle.tla_parse.specs.Edges.{fields_depth}
 use Rattle.tla_parse.specs.Reading.{expr}
 use Rattle.tla_parse.specs.ReadingBrackets.{entries}

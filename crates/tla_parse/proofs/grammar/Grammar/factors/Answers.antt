@@ -2,7 +2,7 @@ use Rattle.std.proofs.Common.{◌≡◌, ◌+◌, ◌-◌, ◌++◌, ◌∷◌, 
 use Rattle.std.proofs.lemmas.Grind.{common_steps}
 use Rattle.std.proofs.lemmas.Result.{err_from_is_err_and}
 use Rattle.tla_parse.specs.declared.tokens.Between.TheVariants as between
-use Rattle.tla_parse.specs.View.{view}
+use Rattle.tla_tree.specs.View.{view}
 use Rattle.tla_parse.specs.ReadingLists.{following}
 use Rattle.tla_parse.specs.Reading.{factor, expr}
 use Rattle.tla_parse.proofs.Fails.{refuses_fails}

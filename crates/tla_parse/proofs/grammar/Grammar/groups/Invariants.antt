@@ -1,6 +1,6 @@
 use Rattle.std.proofs.Common.{◌≡◌, ◌-◌, ◌≤◌, length, map, []}
-use Rattle.tla_parse.specs.View.{group_view}
-use Rattle.tla_parse.specs.Tree.{binders}
+use Rattle.tla_tree.specs.View.{group_view}
+use Rattle.tla_tree.specs.Tree.{binders}
 use Rattle.tla_parse.specs.Edges.{bound_depth}
 use Rattle.tla_parse.specs.ReadingLists.{groups}
 use Rattle.tla_parse.specs.Reading.{expr}

@@ -1,6 +1,6 @@
 use Rattle.std.proofs.Common.{◌≡◌, ◌-◌, ◌≤◌, length, map, []}
-use Rattle.tla_parse.specs.View.{key_view}
-use Rattle.tla_parse.specs.Tree.{keys}
+use Rattle.tla_tree.specs.View.{key_view}
+use Rattle.tla_tree.specs.Tree.{keys}
 use Rattle.tla_parse.specs.Edges.{keys_depth}
 use Rattle.tla_parse.specs.Reading.{expr}
 use Rattle.tla_parse.specs.ReadingBrackets.{path}

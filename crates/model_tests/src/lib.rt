@@ -1,0 +1,13 @@
+//! Tests of the public calls that make a model of two texts, and of its steps.
+//!
+//! They stand in a crate of their own, since a crate with tests is proved a second time.
+#![tactic(auto)]
+
+#[cfg(test)]
+mod expansion_texts;
+#[cfg(test)]
+mod expansions;
+#[cfg(test)]
+mod models;
+#[cfg(test)]
+mod steps;

@@ -1,0 +1,99 @@
+//! Boxes and lists of parts, whatever they are: the only error is want of memory.
+
+ghost use Rattle.std.specs.Prelude.{◌≡◌, ◌++◌, ◌∷◌, [], OnOk, IfOk, IfErr};
+
+use crate::failure::Failure;
+use std::alloc::Global;
+
+pub(crate) fn boxed<T: Drop>(alloc: Global, item: T) -> Result<Box<T>, Failure>
+    ensures ok { IfOk result (λ b. b.value ≡ item) }
+    ensures err { IfErr result (λ e. e ≡ Failure.Memory) }
+{
+    match Box::new(alloc, item) {
+        Ok(b) => Ok(b),
+        Err(_) => Err(Failure::Memory),
+    }
+}
+
+/// Two boxes.
+pub(crate) fn box_two<T: Drop>(
+    alloc: Global,
+    first: T,
+    second: T,
+) -> Result<(Box<T>, Box<T>), Failure>
+    ensures first { IfOk result (λ b. b.0.value ≡ first) }
+    ensures second { IfOk result (λ b. b.1.value ≡ second) }
+    ensures err { IfErr result (λ e. e ≡ Failure.Memory) }
+{
+    let first = boxed(alloc, first)?;
+    let second = boxed(alloc, second)?;
+    Ok((first, second))
+}
+
+/// Three boxes, the first two in a pair.
+pub(crate) fn box_three<T: Drop>(
+    alloc: Global,
+    first: T,
+    second: T,
+    third: T,
+) -> Result<((Box<T>, Box<T>), Box<T>), Failure>
+    ensures first { IfOk result (λ b. b.0.0.value ≡ first) }
+    ensures second { IfOk result (λ b. b.0.1.value ≡ second) }
+    ensures third { IfOk result (λ b. b.1.value ≡ third) }
+    ensures err { IfErr result (λ e. e ≡ Failure.Memory) }
+{
+    let two = box_two(alloc, first, second)?;
+    let third = boxed(alloc, third)?;
+    Ok((two, third))
+}
+
+/// A box, and what stands beside it.
+pub(crate) fn box_beside<T: Drop, U: Drop>(
+    alloc: Global,
+    item: T,
+    beside: U,
+) -> Result<(Box<T>, U), Failure>
+    ensures item { IfOk result (λ b. b.0.value ≡ item) }
+    ensures beside { IfOk result (λ b. b.1 ≡ beside) }
+    ensures err { IfErr result (λ e. e ≡ Failure.Memory) }
+{
+    let item = boxed(alloc, item)?;
+    Ok((item, beside))
+}
+
+/// Adds an item behind the others.
+pub(crate) fn push<T: Drop>(items: &mut Vec<T>, item: T) -> Result<(), Failure>
+    ensures ok { OnOk result (items.new.items ≡ items.old.items ++ item ∷ []) }
+    ensures err { IfErr result (λ e. e ≡ Failure.Memory) }
+{
+    match items.push(item) {
+        Ok(()) => Ok(()),
+        Err(_) => Err(Failure::Memory),
+    }
+}
+
+pub(crate) fn list_of_two<T: Drop>(alloc: Global, first: T, second: T) -> Result<Vec<T>, Failure>
+    ensures ok { IfOk result (λ v. v.items ≡ first ∷ second ∷ []) }
+    ensures err { IfErr result (λ e. e ≡ Failure.Memory) }
+{
+    let mut items = Vec::new(alloc);
+    if items.push(first).is_err() {
+        return Err(Failure::Memory);
+    }
+    if items.push(second).is_err() {
+        return Err(Failure::Memory);
+    }
+    Ok(items)
+}
+
+/// The list with an item before the others.
+pub(crate) fn with_first<T: Drop>(first: T, others: Vec<T>) -> Result<Vec<T>, Failure>
+    ensures ok { IfOk result (λ v. v.items ≡ first ∷ others.items) }
+    ensures err { IfErr result (λ e. e ≡ Failure.Memory) }
+{
+    let mut items = others;
+    match items.insert(0, first) {
+        Ok(()) => Ok(items),
+        Err(_) => Err(Failure::Memory),
+    }
+}
