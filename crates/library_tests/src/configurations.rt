@@ -159,3 +159,25 @@ fn table(rt: HostRuntime) -> Result<(), Fail> {
     }
     Ok(())
 }
+
+/// A value that opens so many sets and closes none.
+fn opened(alloc: Global, sets: usize) -> Result<Vec<u8>, Fail> {
+    let mut text = Vec::new(alloc);
+    for b in b"CONSTANT c = " {
+        text.push(*b)?;
+    }
+    for _set in 0..sets {
+        text.push(b'{')?;
+    }
+    Ok(text)
+}
+
+#[test]
+fn opened_sets(rt: HostRuntime) -> Result<(), Fail> {
+    for (sets, expected) in [(64, "C1 1:78"), (65, "C11 1:10"), (500_000, "C11 1:10")] {
+        let text = opened(rt.alloc(), sets)?;
+        let found = read(rt.alloc(), text.as_slice())?;
+        assert_eq!(rt; found.as_str(), expected);
+    }
+    Ok(())
+}

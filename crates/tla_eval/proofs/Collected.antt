@@ -11,7 +11,9 @@ use Rattle.tla_core.specs.Kinds.{within, make_fun}
 use Rattle.tla_core.specs.Functions.{argument_of, function_on}
 use Rattle.tla_core.specs.Meaning.{Meaning, Bound, Present, Next, means-record_of}
 use Rattle.tla_eval.specs.Gives.{named_value, record_rule}
-use Rattle.tla_core.specs.Fault.{Place, Fault, Outcome, ◌>>=◌}
+use Rattle.tla_core.specs.declared.fault.Place.{Place}
+use Rattle.tla_core.specs.declared.fault.Fault.{Fault}
+use Rattle.tla_core.specs.Fault.{Outcome, ◌>>=◌}
 use Rattle.tla_core.specs.Lists.{each, passing}
 
 module _ {A B : Type 0} (f : A → Outcome B) (kept : List B) (x : A) (xs : List A) where

@@ -19,7 +19,10 @@ use Rattle.tla_value.proofs.Ranges.{length-counted_up}
 use Rattle.tla_value.proofs.Choosing.{long-choices, rising-functions_by}
 use Rattle.tla_value.proofs.FunctionSets.{most-functions_by}
 use Rattle.tla_value.proofs.Tuples.{tuples_are}
-use Rattle.tla_core.specs.Fault.{Place, Fault, FaultCode, Outcome, ◌>>=◌, out_of_memory}
+use Rattle.tla_core.specs.declared.fault.Place.{Place}
+use Rattle.tla_core.specs.declared.fault.Fault.{Fault}
+use Rattle.tla_core.specs.declared.fault.FaultCode.{FaultCode}
+use Rattle.tla_core.specs.Fault.{Outcome, ◌>>=◌, out_of_memory}
 use Rattle.tla_core.specs.Kinds.{as_set, within, make_fun, make_function_set, size_of_functions}
 use Rattle.tla_core.specs.Lists.{each}
 use Rattle.tla_core.specs.Functions.{argument_of, names_in, function_on}

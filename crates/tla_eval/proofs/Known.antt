@@ -8,7 +8,8 @@ use Rattle.tla_value.specs.Tree.{Tree, members-trees, entries-pairs}
 use Rattle.tla_value.specs.TreeOf.{tree_of}
 use Rattle.tla_value.specs.declared.value.Value.{Value}
 use Rattle.tla_value.specs.declared.value.Value.TheVariants.{Set, Fun}
-use Rattle.tla_core.specs.Fault.{Place, Outcome, ◌>>=◌}
+use Rattle.tla_core.specs.declared.fault.Place.{Place}
+use Rattle.tla_core.specs.Fault.{Outcome, ◌>>=◌}
 use Rattle.tla_core.specs.Expr.{Override}
 use Rattle.tla_core.specs.Kinds.{as_set, as_fun, members_of, pairs_of, make_set, make_fun, rising_set}
 use Rattle.tla_core.specs.Operators.{binary_rule}

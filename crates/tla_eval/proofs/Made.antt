@@ -7,7 +7,10 @@ use Rattle.tla_value.specs.Sets.{RefusesSet, RefusesSetOfSize, most_pairs}
 use Rattle.tla_value.specs.Funs.{RefusesFun}
 use Rattle.tla_value.specs.declared.error.ValueError.{ValueError}
 use Rattle.tla_value.specs.declared.error.ValueError.TheVariants.{TooMany, TooDeep, Memory}
-use Rattle.tla_core.specs.Fault.{Place, Fault, FaultCode, fault, out_of_memory}
+use Rattle.tla_core.specs.declared.fault.Place.{Place}
+use Rattle.tla_core.specs.declared.fault.Fault.{Fault}
+use Rattle.tla_core.specs.declared.fault.FaultCode.{FaultCode}
+use Rattle.tla_core.specs.Fault.{fault, out_of_memory}
 use Rattle.tla_core.specs.Kinds.{within, rising_set, rising_fun, sized_set, size_of_functions}
 use Rattle.tla_eval.specs.Gives.{IsRefusal}
 

@@ -14,7 +14,10 @@ use Rattle.tla_core.specs.Kinds.{as_set, within, sized_set, make_set}
 use Rattle.tla_value.specs.Funs.{arguments}
 use Rattle.tla_value.specs.Choices.{choices, sublists, functions_of}
 use Rattle.std.specs.List.{flat_map}
-use Rattle.tla_core.specs.Fault.{Place, Fault, Outcome, ◌>>=◌, TooMany, TooDeep}
+use Rattle.tla_core.specs.declared.fault.Place.{Place}
+use Rattle.tla_core.specs.declared.fault.Fault.{Fault}
+use Rattle.tla_core.specs.declared.fault.FaultCode.TheVariants.{TooMany, TooDeep}
+use Rattle.tla_core.specs.Fault.{Outcome, ◌>>=◌}
 
 -- ---- Bool
 pub bool-iff : (a b : Bool) → (a ≡ true → b ≡ true) → (b ≡ true → a ≡ true) → a ≡ b

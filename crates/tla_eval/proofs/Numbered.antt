@@ -11,7 +11,9 @@ use Rattle.tla_value.specs.Choices.{numbered, sequence, counted_up}
 use Rattle.tla_value.proofs.Ranges.{rising-counted_up}
 use Rattle.tla_value.specs.declared.value.Value.{Value}
 use Rattle.tla_value.specs.declared.value.Value.TheVariants.{Int, Fun}
-use Rattle.tla_core.specs.Fault.{Place, WrongKind, TooMany, fault}
+use Rattle.tla_core.specs.declared.fault.Place.{Place}
+use Rattle.tla_core.specs.declared.fault.FaultCode.TheVariants.{WrongKind, TooMany}
+use Rattle.tla_core.specs.Fault.{fault}
 use Rattle.tla_core.specs.Kinds.{or_fault, items, as_sequence, make_sequence}
 use Rattle.tla_eval.specs.Gives.{values_of}
 use Rattle.tla_eval.proofs.Made.{within_ok, within_many}

@@ -5,7 +5,9 @@ use Rattle.std.proofs.lemmas.Int.{ints}
 use Rattle.std.specs.Int.{w64, int_pow}
 use Rattle.std.proofs.Math.Nat.{pow-le-pow_left, pow-le-pow_right, pow-suc}
 use Rattle.tla_value.specs.Tree.{int}
-use Rattle.tla_core.specs.Fault.{Place, fault, Overflow}
+use Rattle.tla_core.specs.declared.fault.Place.{Place}
+use Rattle.tla_core.specs.declared.fault.FaultCode.TheVariants.{Overflow}
+use Rattle.tla_core.specs.Fault.{fault}
 use Rattle.tla_core.specs.Kinds.{number, is_in_range}
 
 -- ---- 64 bits

@@ -14,7 +14,8 @@ use Rattle.tla_core.specs.Functions.{sets_of}
 use Rattle.tla_core.specs.Membership.{if_some}
 use Rattle.tla_core.specs.SetForms.{parts_have, means-product}
 use Rattle.tla_core.specs.Laws.{KnowsItsMembers}
-use Rattle.tla_core.specs.Fault.{Place, Outcome, ◌>>=◌}
+use Rattle.tla_core.specs.declared.fault.Place.{Place}
+use Rattle.tla_core.specs.Fault.{Outcome, ◌>>=◌}
 use Rattle.tla_eval.proofs.Members.{bool-iff, and-both, eq-true, eq-refl, eq-same, any-map, pairs-entries, bind-ok, made-sized, stand_in, choices-any, choices-found}
 use Rattle.tla_eval.proofs.TwoSets.{then-ok, not-there, cond-and, has-elements}
 

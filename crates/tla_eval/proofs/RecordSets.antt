@@ -12,7 +12,9 @@ use Rattle.tla_value.specs.Funs.{arguments, value_at}
 use Rattle.tla_value.specs.Sets.{is_member, set_of}
 use Rattle.tla_value.specs.SetLaws.{is-set_of, is_member-set_of}
 use Rattle.tla_value.specs.Choices.{keys_of, parts_of, is_each_once, records_of, tuples_of}
-use Rattle.tla_core.specs.Fault.{Place, NoField, Outcome, ◌>>=◌, fault}
+use Rattle.tla_core.specs.declared.fault.Place.{Place}
+use Rattle.tla_core.specs.declared.fault.FaultCode.TheVariants.{NoField}
+use Rattle.tla_core.specs.Fault.{Outcome, ◌>>=◌, fault}
 use Rattle.tla_core.specs.Kinds.{as_set, make_function_set}
 use Rattle.tla_core.specs.Lists.{each}
 use Rattle.tla_core.specs.Meaning.{Meaning, Bound, Present, Next}

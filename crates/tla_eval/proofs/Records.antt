@@ -22,7 +22,9 @@ use Rattle.tla_core.specs.Membership.{if_some}
 use Rattle.tla_core.specs.SetForms.{field_has, names_of, means-records}
 use Rattle.std.specs.List.{flat_map}
 use Rattle.tla_core.specs.Laws.{KnowsItsMembers}
-use Rattle.tla_core.specs.Fault.{Place, NoField, fault}
+use Rattle.tla_core.specs.declared.fault.Place.{Place}
+use Rattle.tla_core.specs.declared.fault.FaultCode.TheVariants.{NoField}
+use Rattle.tla_core.specs.Fault.{fault}
 use Rattle.tla_eval.proofs.Members.{and-both, both-and, or-cases, or-first, or-second, eq-true, eq-refl, member-append, member-filter, pairs-entries, bind-ok, set-same, made-sized, cond-first, into, member-functions}
 use Rattle.tla_eval.proofs.TwoSets.{then-ok, not-there, cond-and, all-by, has-elements}
 use Rattle.tla_eval.proofs.Products.{Gives, gives-sets, AllKnow}

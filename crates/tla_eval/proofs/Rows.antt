@@ -1,7 +1,9 @@
 -- Worked examples, each by computation. A fault is that of the outermost node, at column 1, where nothing else is said.
 use Rattle.std.proofs.Common.{◌≡◌, ℕ, pos, negsuc, true, false, [], ◌∷◌, refl, None, Ok}
 use Rattle.tla_value.specs.Tree.{Tree, truth, int, text, set, fun, trees, pairs}
-use Rattle.tla_core.specs.Fault.{Place, Outcome, fault, WrongKind, Overflow, OutsideDomain, NoChoice, NoArm, Endless, NotSet, SmallDivisor, EmptySequence, NoField}
+use Rattle.tla_core.specs.declared.fault.Place.{Place}
+use Rattle.tla_core.specs.declared.fault.FaultCode.TheVariants.{WrongKind, Overflow, OutsideDomain, NoChoice, NoArm, Endless, NotSet, SmallDivisor, EmptySequence, NoField}
+use Rattle.tla_core.specs.Fault.{Outcome, fault}
 use Rattle.tla_core.specs.Expr.{Not, Negate, Union, Field, Head, Cardinality, Unequal, Add, Subtract, Divide, Modulo, Power, GreaterThan, Range, Apply, Naturals, Integers, Expr, constant, bound, next, unary, binary, equal, sub_seq, enumerated, tuple, record_of, conjunction, disjunction, conditional, cases, assert, for_all, for_some, choose, image, function, except, member, subset, kind_set, sequences, power, functions, records, product, cup, filtered, no_exprs, more_exprs, no_fields, more_fields, no_arms, more_arms, no_updates, more_updates}
 use Rattle.tla_value.specs.Choices.{sequence}
 use Rattle.tla_core.specs.Value.{val}

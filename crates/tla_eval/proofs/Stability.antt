@@ -14,7 +14,8 @@ use Rattle.tla_value.specs.Choices.{choices, keys_of, parts_of, functions_of}
 use Rattle.tla_core.specs.Logic.{means-conjunction, means-disjunction, means-implies, means-cases, means-assert, means-for_all, means-for_some, means-choose}
 use Rattle.tla_core.specs.Value.{means, mean_all, mean_fields, mean_arms, means_other, mean_updates}
 use Rattle.tla_core.specs.Laws.{Extends, Stays, IsStable}
-use Rattle.tla_core.specs.Fault.{Place, Outcome}
+use Rattle.tla_core.specs.declared.fault.Place.{Place}
+use Rattle.tla_core.specs.Fault.{Outcome}
 use Rattle.tla_value.specs.Sets.{is_member, set_of}
 use Rattle.tla_core.specs.Expr.{Unary, Binary, Kind, Expr, Exprs, Fields, Arms, Updates, constant, bound, now, next, unary, binary, equal, sub_seq, enumerated, tuple, record_of, conjunction, disjunction, implies, conditional, cases, assert, for_all, for_some, choose, image, function, except, member, not_member, subset, kind_set, booleans, sequences, power, functions, records, product, cup, cap, minus, filtered, no_exprs, more_exprs, no_fields, more_fields, no_arms, other, more_arms, no_updates, more_updates}
 use Rattle.tla_eval.proofs.Stays.{same, stays-bind, stays-cond, stays-each, stays-all_hold, stays-some_hold, stays-passing, stays-first_passing}

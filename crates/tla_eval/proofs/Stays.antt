@@ -4,7 +4,8 @@ use Rattle.std.specs.List.{AllByRecursion}
 use Rattle.tla_value.specs.Tree.{Tree}
 use Rattle.tla_core.specs.Lists.{each, all_hold, some_hold, passing, first_passing}
 use Rattle.tla_core.specs.Laws.{Stays}
-use Rattle.tla_core.specs.Fault.{Place, Outcome, ◌>>=◌}
+use Rattle.tla_core.specs.declared.fault.Place.{Place}
+use Rattle.tla_core.specs.Fault.{Outcome, ◌>>=◌}
 
 pub same : {A : Type 0} {r : Outcome A} → Stays r r
 same = record { by = λ h. refl }

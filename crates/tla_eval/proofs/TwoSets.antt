@@ -16,7 +16,8 @@ use Rattle.tla_core.specs.Lists.{all_hold, passing}
 use Rattle.tla_core.specs.Membership.{if_some}
 use Rattle.tla_core.specs.SetForms.{of_two_sets, means-power, means-functions, means-cup, means-cap, means-minus, means-filtered}
 use Rattle.tla_core.specs.Laws.{KnowsItsMembers}
-use Rattle.tla_core.specs.Fault.{Place, Outcome, ◌>>=◌}
+use Rattle.tla_core.specs.declared.fault.Place.{Place}
+use Rattle.tla_core.specs.Fault.{Outcome, ◌>>=◌}
 use Rattle.tla_eval.proofs.Members.{bool-iff, and-both, both-and, or-cases, or-first, or-second, eq-true, eq-refl, eq-same, any-map, member-append, member-filter, trees-members, pairs-entries, bind-ok, set-same, made, as_set-ok, any-sublists, sublists-found, into, member-functions}
 
 -- ---- outcomes that are known

@@ -2,7 +2,8 @@
 use Rattle.std.specs.Prelude.{[], ◌∷◌, ◌++◌, map, option_map, Result}
 use Rattle.tla_value.specs.Tree.{Tree}
 use Rattle.tla_value.specs.TreeOf.{tree_of}
-use Rattle.tla_core.specs.Fault.{Fault, Outcome}
+use Rattle.tla_core.specs.declared.fault.Fault.{Fault}
+use Rattle.tla_core.specs.Fault.{Outcome}
 use Rattle.tla_eval.specs.Gives.{GivesBy}
 use Rattle.tla_core.specs.Meaning.{Bound, Present, Next}
 use Rattle.tla_eval.specs.declared.environment.Scope.{Scope}

@@ -8,7 +8,11 @@ use Rattle.tla_value.specs.Sets.{is_member}
 use Rattle.tla_value.specs.Choices.{choices, subsets_of, tuples_of, records_of, keys_of, parts_of, is_each_once}
 use Rattle.tla_value.specs.declared.error.ValueError.{ValueError}
 use Rattle.tla_value.specs.declared.error.ValueError.TheVariants.{TooMany, TooDeep, Memory}
-use Rattle.tla_core.specs.Fault.{Place, Fault, FaultCode, NoField, Outcome, ◌>>=◌, fault, out_of_memory}
+use Rattle.tla_core.specs.declared.fault.Place.{Place}
+use Rattle.tla_core.specs.declared.fault.Fault.{Fault}
+use Rattle.tla_core.specs.declared.fault.FaultCode.{FaultCode}
+use Rattle.tla_core.specs.declared.fault.FaultCode.TheVariants.{NoField}
+use Rattle.tla_core.specs.Fault.{Outcome, ◌>>=◌, fault, out_of_memory}
 use Rattle.tla_core.specs.Kinds.{as_int, as_set, make_set, make_fun, make_function_set}
 use Rattle.tla_core.specs.Lists.{each}
 use Rattle.tla_core.specs.Meaning.{Meaning, Bound, Present, Next}

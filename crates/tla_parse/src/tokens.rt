@@ -3,6 +3,7 @@
 ghost use Rattle.std.specs.Prelude.{◌≡◌, ℕ, ◌+◌, ◌^◌, ◌<◌, ◌≤◌, length, slice_get, IfOk, IfErr, IfSome, OnSome, IsTrue};
 ghost use Rattle.tla_lex.specs.Strings.{string_text};
 ghost use Rattle.tla_parse.specs.Tokens as spec;
+ghost use Rattle.tla_tree.specs.Words as words;
 ghost use Rattle.tla_parse.specs.Kinds as kinds;
 ghost use Rattle.tla_parse.specs.Ending as ending;
 ghost use Rattle.tla_parse.specs.LeftOut as left_out;
@@ -252,7 +253,7 @@ pub fn name_at(token: Option<Token>) -> Option<Token>
 /// The token's slice of the text.
 #[tactic(auto, using(crate::proofs::Slices::drop_min, crate::proofs::Slices::take_min))]
 fn slice_of(text: &[u8], token: Token) -> &[u8]
-    ensures { result.now ≡ spec.word_of text.now token }
+    ensures { result.now ≡ words.word_of text.now token }
 {
     let rest = &text[token.start.min(text.len())..];
     let length = token.end.saturating_sub(token.start);
@@ -261,7 +262,7 @@ fn slice_of(text: &[u8], token: Token) -> &[u8]
 
 /// The token as it is written, and where.
 pub fn written(alloc: Global, text: &[u8], token: Token) -> Result<Written, Refusal>
-    ensures ok { IfOk result (λ w. w ≡ spec.written text.now token) }
+    ensures ok { IfOk result (λ w. w ≡ words.written text.now token) }
     ensures err { IfErr result (λ e. e ≡ Refusal.NoMemory) }
 {
     match slice_of(text, token).to_vec(alloc) {
@@ -275,7 +276,7 @@ pub fn written(alloc: Global, text: &[u8], token: Token) -> Result<Written, Refu
 
 /// The text of a string, with its escapes read.
 pub fn text_of(alloc: Global, text: &[u8], token: Token) -> Result<Word, Refusal>
-    ensures ok { IfOk result (λ w. w ≡ string_text (spec.word_of text.now token)) }
+    ensures ok { IfOk result (λ w. w ≡ string_text (words.word_of text.now token)) }
     ensures err { IfErr result (λ e. e ≡ Refusal.NoMemory) }
 {
     let literal = slice_of(text, token);
