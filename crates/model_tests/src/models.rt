@@ -346,18 +346,3 @@ fn refusals(rt: HostRuntime) -> Result<(), Fail> {
     }
     Ok(())
 }
-
-/// Ten thousand definitions, each but the first of which is the one before it.
-#[test]
-fn a_chain_of_names(rt: HostRuntime) -> Result<(), Fail> {
-    let mut text = String::from_str(rt.alloc(), "F0 == 1")?;
-    for i in 1..10_000u32 {
-        let before = i.wrapping_sub(1);
-        let definition = format!(in rt.alloc(); "\nF{i} == F{before}")?;
-        text.push_str(definition.as_str())?;
-    }
-    text.push_str("\nInit == x = F9999\nNext == x' = F9999")?;
-    let found = answer(rt.alloc(), text.as_str(), "INIT Init NEXT Next")?;
-    assert_eq!(rt; found.as_str(), "x 10004:9 10005:9 D+");
-    Ok(())
-}
