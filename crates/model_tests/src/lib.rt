@@ -4,6 +4,8 @@
 #![tactic(auto)]
 
 #[cfg(test)]
+mod chains;
+#[cfg(test)]
 mod expansion_texts;
 #[cfg(test)]
 mod expansions;

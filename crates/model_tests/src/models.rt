@@ -44,7 +44,7 @@ fn show(alloc: Global, model: &Model) -> Result<String, AllocError> {
 }
 
 /// The model that a module of these definitions names with a configuration, or its refusal.
-fn answer(alloc: Global, definitions: &str, config: &str) -> Result<String, AllocError> {
+pub(crate) fn answer(alloc: Global, definitions: &str, config: &str) -> Result<String, AllocError> {
     let text = format!(in alloc;
         "---- MODULE M ----\nEXTENDS Integers\nVARIABLE x\n{definitions}\n====\n"
     )?;

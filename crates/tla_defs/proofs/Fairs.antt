@@ -1,38 +1,192 @@
--- Formulas that are left, all of which have to be fairness.
-use Rattle.std.proofs.Common.{◌≡◌, ℕ, suc, ◌-◌, arith, Some, refl, ap, sym, ◌∙◌, Bool, true, false, ◌&&◌, List, [], ◌∷◌, ◌++◌}
-use Rattle.tla_defs.specs.declared.bodies.Formula.{Formula}
-use Rattle.tla_tree.specs.Tree.{Tree}
+-- Fairness, where more or fewer names are known to stand for it.
+use Rattle.std.proofs.Common.{◌≡◌, ◌≤◌, ℕ, zero, suc, arith, refl, ap, sym, ◌∙◌, Bool, true, false, not, true≢false, List, [], ◌∷◌, ◌++◌, Option, Some, None, subst, take, length}
+use Rattle.std.specs.Prelude.{unwrap_or, is_some}
+use Rattle.std.proofs.Math.Seq.{take-append_seam}
+use Rattle.std.proofs.lemmas.Bool.{and_parts, and_from}
+use Rattle.std.proofs.lemmas.List.Elements.{filter_map-append, filter-append}
+use Rattle.tla_tree.specs.declared.tree.Bullet.TheVariants as bullet
+use Rattle.tla_tree.specs.declared.tree.Infix.{Infix}
+use Rattle.tla_tree.specs.declared.tree.Infix.TheVariants as op
+use Rattle.tla_tree.specs.declared.word.Written.{Written}
+use Rattle.tla_tree.specs.Tree.{Tree, Trees, none, more}
+use Rattle.tla_tree.specs.Tree as t
 use Rattle.tla_config.specs.Names.{Name}
+use Rattle.tla_names.specs.Scope.{Scope, arity, plain, bound_names}
+use Rattle.tla_expand.specs.Maybe.{◌>>=◌}
 use Rattle.tla_defs.specs.Bodies.{Bodies}
-use Rattle.tla_defs.specs.Fairness.{fair, fair_of}
-use Rattle.tla_defs.specs.Conjuncts.{fair_from, all_fair}
+use Rattle.tla_defs.specs.Conjuncts.{initials_by, is_initial_by, Rests}
+use Rattle.tla_defs.specs.Fairness.{fair_in, fair_each, fair_body, fair_of, is_and}
+use Rattle.tla_defs.specs.Specification.{always, steps_of, conjuncts_in, conjuncts_each, conjuncts_of, conjuncts}
 
-and_true : (a : Bool) → a ≡ (a && true)
-and_true true = refl
-and_true false = refl
+module _ (φ ψ : Name → Bool) (grows : (x : Name) → φ x ≡ true → ψ x ≡ true) where
+  mutual
+    pub more_fair : (σ : Scope) (e : Tree) → fair_in φ σ e ≡ true → fair_in ψ σ e ≡ true
+    more_fair σ (t.Fair p f v a) h = refl
+    more_fair σ (t.Name w) h = let hs = and_parts _ _ h in and_from _ _ hs.0 (grows w.word hs.1)
+    more_fair σ (t.Paren p e) h = more_fair σ e h
+    more_fair σ (t.Binary p o w a c) h =
+        let hs = and_parts _ _ h in
+        let both = and_parts _ _ hs.1 in
+        and_from _ _ hs.0 (and_from _ _ (more_fair σ a both.0) (more_fair σ c both.1))
+    more_fair σ (t.Junction p b es) h = let hs = and_parts _ _ h in and_from _ _ hs.0 (more_fair_each σ es hs.1)
+    more_fair σ (t.Quantified p q bs e) h = let hs = and_parts _ _ h in and_from _ _ hs.0 (more_fair (σ ++ plain (bound_names bs)) e hs.1)
+    more_fair σ (t.Number p n) h = absurd (true≢false (sym h))
+    more_fair σ (t.Text p n) h = absurd (true≢false (sym h))
+    more_fair σ (t.Word p c) h = absurd (true≢false (sym h))
+    more_fair σ (t.At p) h = absurd (true≢false (sym h))
+    more_fair σ (t.Listing p b es) h = absurd (true≢false (sym h))
+    more_fair σ (t.Call w es) h = absurd (true≢false (sym h))
+    more_fair σ (t.Prime p e) h = absurd (true≢false (sym h))
+    more_fair σ (t.Index p e es) h = absurd (true≢false (sym h))
+    more_fair σ (t.Field p e w) h = absurd (true≢false (sym h))
+    more_fair σ (t.Unary p o e) h = absurd (true≢false (sym h))
+    more_fair σ (t.Choose p w s e) h = absurd (true≢false (sym h))
+    more_fair σ (t.If p a b c) h = absurd (true≢false (sym h))
+    more_fair σ (t.Case p cs o) h = absurd (true≢false (sym h))
+    more_fair σ (t.Let p ds e) h = absurd (true≢false (sym h))
+    more_fair σ (t.Filter p w s e) h = absurd (true≢false (sym h))
+    more_fair σ (t.Image p e bs) h = absurd (true≢false (sym h))
+    more_fair σ (t.Function p bs e) h = absurd (true≢false (sym h))
+    more_fair σ (t.FunctionSet p s e) h = absurd (true≢false (sym h))
+    more_fair σ (t.Record p fs) h = absurd (true≢false (sym h))
+    more_fair σ (t.RecordSet p fs) h = absurd (true≢false (sym h))
+    more_fair σ (t.Except p e us) h = absurd (true≢false (sym h))
+    more_fair σ (t.Action p s a v) h = absurd (true≢false (sym h))
+    more_fair σ (t.Product p e es) h = absurd (true≢false (sym h))
 
-pub and_false : (a : Bool) → (a && false) ≡ false
-and_false true = refl
-and_false false = refl
+    more_fair_each : (σ : Scope) (es : Trees) → fair_each φ σ es ≡ true → fair_each ψ σ es ≡ true
+    more_fair_each σ none h = refl
+    more_fair_each σ (more e es) h = let hs = and_parts _ _ h in and_from _ _ (more_fair σ e hs.0) (more_fair_each σ es hs.1)
 
-pub and_assoc : (a b c : Bool) → ((a && b) && c) ≡ (a && (b && c))
-and_assoc true b c = refl
-and_assoc false b c = refl
+  pub more_fair_body : (o : Option Tree) → fair_body φ o ≡ true → fair_body ψ o ≡ true
+  more_fair_body None h = absurd (true≢false (sym h))
+  more_fair_body (Some e) h = more_fair [] e h
 
-pub fair_more : (b : Bodies) (fs : List Formula) (f : Formula) → all_fair b (fs ++ f ∷ []) ≡ (all_fair b fs && fair_from b f)
-fair_more b [] f = sym (and_true (fair_from b f))
-fair_more b (g ∷ fs) f = ap (λ x. fair_from b g && x) (fair_more b fs f) ∙ sym (and_assoc (fair_from b g) (all_fair b fs) (fair_from b f))
+-- names that stand for fairness still do where names stand for their definitions deeper
+pub fair_deeper : (b : Bodies) (n : ℕ) (x : Name) → fair_of n b x ≡ true → fair_of (suc n) b x ≡ true
+fair_deeper b zero x h = absurd (true≢false (sym h))
+fair_deeper b (suc n) x h = more_fair_body (fair_of n b) (fair_of (suc n) b) (λ y g. fair_deeper b n y g) (b x) h
 
--- what is left, then a first formula, then others
-pub first_unfair : (l a c l1 : Bool) → (l && a) ≡ (false && l1) → (l && (a && c)) ≡ false
-first_unfair l a c l1 h = sym (and_assoc l a c) ∙ ap (λ x. x && c) h
+pub fair_within : (b : Bodies) (n m : ℕ) (x : Name) → n ≤ m → fair_of n b x ≡ true → fair_of m b x ≡ true
+fair_within b zero m x l h = absurd (true≢false (sym h))
+fair_within b (suc n) zero x l h = let z : ⊥ = omega (arith, l) in absurd z
+fair_within b (suc n) (suc m) x l h = more_fair_body (fair_of n b) (fair_of m b) (λ y g. fair_within b n m y (omega (arith, l)) g) (b x) h
 
-pub first_fair : (l a c l1 r l2 : Bool) → (l && a) ≡ (true && l1) → (l1 && c) ≡ (r && l2) → (l && (a && c)) ≡ (r && l2)
-first_fair l a c l1 r l2 h g = sym (and_assoc l a c) ∙ ap (λ x. x && c) h ∙ g
+-- what stands for fairness is made of what does
+pub fair_rests : (b : Bodies) (n : ℕ) → Rests (fair_of n b) b
+fair_rests b zero x h = absurd (true≢false (sym h))
+fair_rests b (suc n) x h = more_fair_body (fair_of n b) (fair_of (suc n) b) (λ y g. fair_deeper b n y g) (b x) h
 
-fair_next : (b : Bodies) (m n : ℕ) (x : Name) (t : Tree) → n ≡ suc m → b x ≡ Some t → fair m b t ≡ fair_of n b x
-fair_next b m n x t e h = rw (e, h) refl
+-- all that is fairness, where names that are made of what stands for fairness do too
+pub all_fair_names : (b : Bodies) (φ : Name → Bool) → ((x : Name) → fair_body φ (b x) ≡ true → φ x ≡ true) → (n : ℕ) (x : Name) → fair_of n b x ≡ true → φ x ≡ true
+all_fair_names b φ closed zero x h = absurd (true≢false (sym h))
+all_fair_names b φ closed (suc n) x h = closed x (more_fair_body (fair_of n b) φ (λ y g. all_fair_names b φ closed n y g) (b x) h)
 
--- the name of a definition, one name less deep
-pub fair_step : (b : Bodies) (n : ℕ) (x : Name) (t : Tree) → (n ≡ 0 → ⊥) → b x ≡ Some t → fair (n - 1) b t ≡ fair_of n b x
-fair_step b n x t e h = fair_next b (n - 1) n x t (omega (arith, e)) h
+-- two answers of which each is yes where the other is
+pub same_answer : (a b : Bool) → (a ≡ true → b ≡ true) → (b ≡ true → a ≡ true) → a ≡ b
+same_answer true b f g = sym (f refl)
+same_answer false true f g = g refl
+same_answer false false f g = refl
+
+-- the one operator of conjunctions
+and_alone : (o : Infix) → is_and o ≡ true → o ≡ op.And
+and_alone op.And h = refl
+and_alone op.Implies h = absurd (true≢false (sym h))
+and_alone op.Equivalent h = absurd (true≢false (sym h))
+and_alone op.LeadsTo h = absurd (true≢false (sym h))
+and_alone op.Or h = absurd (true≢false (sym h))
+and_alone op.Equal h = absurd (true≢false (sym h))
+and_alone op.NotEqual h = absurd (true≢false (sym h))
+and_alone op.Less h = absurd (true≢false (sym h))
+and_alone op.Greater h = absurd (true≢false (sym h))
+and_alone op.AtMost h = absurd (true≢false (sym h))
+and_alone op.AtLeast h = absurd (true≢false (sym h))
+and_alone op.Member h = absurd (true≢false (sym h))
+and_alone op.NotMember h = absurd (true≢false (sym h))
+and_alone op.SubsetEqual h = absurd (true≢false (sym h))
+and_alone op.Override h = absurd (true≢false (sym h))
+and_alone op.Pair h = absurd (true≢false (sym h))
+and_alone op.Cup h = absurd (true≢false (sym h))
+and_alone op.Cap h = absurd (true≢false (sym h))
+and_alone op.Difference h = absurd (true≢false (sym h))
+and_alone op.Range h = absurd (true≢false (sym h))
+and_alone op.Plus h = absurd (true≢false (sym h))
+and_alone op.Remainder h = absurd (true≢false (sym h))
+and_alone op.Minus h = absurd (true≢false (sym h))
+and_alone op.Product h = absurd (true≢false (sym h))
+and_alone op.Times h = absurd (true≢false (sym h))
+and_alone op.Quotient h = absurd (true≢false (sym h))
+and_alone op.Concatenation h = absurd (true≢false (sym h))
+and_alone op.Power h = absurd (true≢false (sym h))
+
+-- The conjuncts of fairness are fairness: no step, and no part of the initial predicate.
+pub record SaysNothing (φ : Name → Bool) (es : List Tree) : Type 0 where
+  pub no_step : steps_of es ≡ []
+  pub no_initial : initials_by φ es ≡ []
+
+nothing_two : (φ : Name → Bool) (us cs : List Tree) → SaysNothing φ us → SaysNothing φ cs → SaysNothing φ (us ++ cs)
+nothing_two φ us cs h g = record {
+  no_step = filter_map-append always us cs ∙ ap (λ xs. xs ++ steps_of cs) h.no_step ∙ g.no_step;
+  no_initial = filter-append (is_initial_by φ) us cs ∙ ap (λ xs. xs ++ initials_by φ cs) h.no_initial ∙ g.no_initial;
+}
+
+alone : (φ : Name → Bool) (e : Tree) → always e ≡ None → fair_in φ [] e ≡ true → SaysNothing φ (e ∷ [])
+alone φ e h g = record { no_step = rw h refl; no_initial = rw (h, g) refl }
+
+module _ (φ : Name → Bool) (ρ : Name → Option (List Tree)) (names : (w : Written) → fair_in φ [] (t.Name w) ≡ true → SaysNothing φ (conjuncts_in ρ (t.Name w))) where
+  mutual
+    says_nothing : (e : Tree) → fair_in φ [] e ≡ true → SaysNothing φ (conjuncts_in ρ e)
+    says_nothing (t.Fair p f v a) h = alone φ (t.Fair p f v a) refl h
+    says_nothing (t.Name w) h = names w h
+    says_nothing (t.Paren p e) h = says_nothing e h
+    says_nothing (t.Binary p o w a c) h =
+        let hs = and_parts _ _ h in
+        let both = and_parts _ _ hs.1 in
+        subst (λ (k : Infix). SaysNothing φ (conjuncts_in ρ (t.Binary p k w a c))) (sym (and_alone o hs.0))
+        (nothing_two φ (conjuncts_in ρ a) (conjuncts_in ρ c) (says_nothing a both.0) (says_nothing c both.1))
+    says_nothing (t.Junction p bullet.And es) h = each_says_nothing es h
+    says_nothing (t.Junction p bullet.Or es) h = absurd (true≢false (sym h))
+    says_nothing (t.Quantified p q bs e) h = alone φ (t.Quantified p q bs e) refl h
+    says_nothing (t.Number p n) h = absurd (true≢false (sym h))
+    says_nothing (t.Text p n) h = absurd (true≢false (sym h))
+    says_nothing (t.Word p c) h = absurd (true≢false (sym h))
+    says_nothing (t.At p) h = absurd (true≢false (sym h))
+    says_nothing (t.Listing p b es) h = absurd (true≢false (sym h))
+    says_nothing (t.Call w es) h = absurd (true≢false (sym h))
+    says_nothing (t.Prime p e) h = absurd (true≢false (sym h))
+    says_nothing (t.Index p e es) h = absurd (true≢false (sym h))
+    says_nothing (t.Field p e w) h = absurd (true≢false (sym h))
+    says_nothing (t.Unary p o e) h = absurd (true≢false (sym h))
+    says_nothing (t.Choose p w s e) h = absurd (true≢false (sym h))
+    says_nothing (t.If p a b c) h = absurd (true≢false (sym h))
+    says_nothing (t.Case p cs o) h = absurd (true≢false (sym h))
+    says_nothing (t.Let p ds e) h = absurd (true≢false (sym h))
+    says_nothing (t.Filter p w s e) h = absurd (true≢false (sym h))
+    says_nothing (t.Image p e bs) h = absurd (true≢false (sym h))
+    says_nothing (t.Function p bs e) h = absurd (true≢false (sym h))
+    says_nothing (t.FunctionSet p s e) h = absurd (true≢false (sym h))
+    says_nothing (t.Record p fs) h = absurd (true≢false (sym h))
+    says_nothing (t.RecordSet p fs) h = absurd (true≢false (sym h))
+    says_nothing (t.Except p e us) h = absurd (true≢false (sym h))
+    says_nothing (t.Action p s a v) h = absurd (true≢false (sym h))
+    says_nothing (t.Product p e es) h = absurd (true≢false (sym h))
+
+    each_says_nothing : (es : Trees) → fair_each φ [] es ≡ true → SaysNothing φ (conjuncts_each ρ es)
+    each_says_nothing none h = record { no_step = refl; no_initial = refl }
+    each_says_nothing (more e es) h =
+        let both = and_parts _ _ h in
+        nothing_two φ (conjuncts_in ρ e) (conjuncts_each ρ es) (says_nothing e both.0) (each_says_nothing es both.1)
+
+module _ (b : Bodies) (φ : Name → Bool) (rests : Rests φ b) where
+  by_name : (n : ℕ) (w : Written) (o : Option Tree) → b w.word ≡ o → fair_in φ [] (t.Name w) ≡ true → ((e : Tree) → fair_in φ [] e ≡ true → SaysNothing φ (conjuncts n b e))
+      → SaysNothing φ (unwrap_or (o >>= λ e. Some (conjuncts n b e)) (t.Name w ∷ []))
+  by_name n w None q h less = alone φ (t.Name w) refl h
+  by_name n w (Some e) q h less = less e (ap (λ x. fair_body φ x) (sym q) ∙ rests w.word (and_parts (not (is_some (arity [] w.word))) (φ w.word) h).1)
+
+  pub fair_says_nothing : (n : ℕ) (e : Tree) → fair_in φ [] e ≡ true → SaysNothing φ (conjuncts n b e)
+  fair_says_nothing zero e h = says_nothing φ (conjuncts_of zero b) (λ w g. alone φ (t.Name w) refl g) e h
+  fair_says_nothing (suc n) e h = says_nothing φ (conjuncts_of (suc n) b) (λ w g. by_name n w (b w.word) refl g (λ x k. fair_says_nothing n x k)) e h
+
+-- what was pushed since is cut off
+pub cut_back : (σ τ : Scope) → take (length σ) (σ ++ τ) ≡ σ
+cut_back σ τ = take-append_seam σ τ

@@ -1,22 +1,25 @@
 -- The formula that SPECIFICATION names, as the code finds it.
-use Rattle.std.proofs.Common.{◌≡◌, ℕ, refl, ap, sym, ◌∙◌, subst, length, map, get_or, arith, List, [], ◌∷◌, Option, Some, None}
+use Rattle.std.proofs.Common.{◌≡◌, ℕ, refl, ap, sym, ◌∙◌, subst, length, get_or, arith, inl, inr, Bool, List, [], ◌∷◌, Some, None}
 use Rattle.std.specs.Borrow.{Bor}
-use Rattle.tla_core.specs.Expr.{Expr}
 use Rattle.tla_tree.specs.declared.tree.Expr as s
 use Rattle.tla_tree.specs.declared.word.Written.{Written}
 use Rattle.tla_tree.specs.declared.tree.Bullet.TheVariants as bullet
 use Rattle.tla_tree.specs.Places.{place}
 use Rattle.tla_tree.specs.Tree.{Tree, Junction, trees}
 use Rattle.tla_tree.specs.Units.{UnitTree}
+use Rattle.tla_config.specs.Names.{Name}
 use Rattle.tla_config.specs.Statements.{Item}
 use Rattle.tla_expand.specs.Meanings.{Scope}
-use Rattle.tla_defs.specs.Conjuncts.{tree_at, seen}
-use Rattle.tla_defs.specs.Model.{IsInitial}
+use Rattle.tla_defs.specs.Seen.{tree_at, seen}
 use Rattle.tla_defs.specs.Bodies.{Bodies, body_of}
 use Rattle.tla_defs.specs.Subscripts.{IsCover}
 use Rattle.tla_defs.specs.Specification.{Step, IsSpecification, conjuncts, conjunction_of, initials_of, steps_of}
 use Rattle.tla_defs.specs.Specified.{LacksState, NoForm}
-use Rattle.tla_defs.proofs.States.{lacks_state}
+use Rattle.tla_defs.specs.Conjuncts.{Rests, initials_by}
+use Rattle.tla_defs.specs.Fairness.{fair_of}
+use Rattle.tla_defs.specs.Parts.{AreMany}
+use Rattle.tla_defs.proofs.Fairs.{fair_rests}
+use Rattle.tla_defs.proofs.States.{lacks_state, too_long}
 use Rattle.tla_defs.proofs.Unique.{same_some}
 
 pub one_item : {A : Type 0} (xs : List A) (x : A) → length xs ≡ 1 → x ≡ get_or xs 0 x → xs ≡ x ∷ []
@@ -41,6 +44,14 @@ pub of_items : (ts : List (Bor s.Expr)) (t : Bor s.Expr) (i : Tree) → (length 
 of_items [] t i n m e p = absurd (n refl)
 of_items (u ∷ []) t i n m e p = absurd (m refl)
 of_items (u ∷ v ∷ ts) t i n m e p = same_some (conjunction_of (seen (u ∷ v ∷ ts))) _ i (ap (λ (x : Bor s.Expr). Some (Junction (place (tree_at x)) bullet.And (trees (seen (u ∷ v ∷ ts))))) (sym e)) p
+
+-- what is known of fairness, of what names stand for
+module _ (φ : Name → Bool) (b c : Bodies) (k : ℕ) (known : b ≡ c) (fair : φ ≡ fair_of k c) where
+  pub rests_known : Rests φ b
+  rests_known = subst (λ (d : Bodies). Rests φ d) (sym known) (subst (λ (ψ : Name → Bool). Rests ψ c) (sym fair) (fair_rests c k))
+
+  pub initials_known : (es : List Tree) → initials_by φ es ≡ initials_of k b es
+  initials_known es = ap (λ (ψ : Name → Bool). initials_by ψ es) (fair ∙ ap (λ (d : Bodies). fair_of k d) (sym known))
 
 module _ (us : List UnitTree) (is : List Item) (σ : Scope) (n : ℕ) (w : Written) where
   pub no_body : body_of us is w.word ≡ None → NoForm us is σ n w
@@ -81,6 +92,10 @@ module _ (us : List UnitTree) (is : List Item) (σ : Scope) (n : ℕ) (w : Writt
         let q = its_steps i a h in
         let same : s ≡ (a, h.subscript) = cc in
         none (subst (λ (v : Tree). IsCover σ n v) (sym (ap (λ (u : Step). u.1) same)) h.covered)
+
+    pub many : AreMany steps initial → NoForm us is σ n w
+    many (inl m) i a h x init = let one = ap (λ es. length es) (its_steps i a h) in omega (arith, m, one)
+    many (inr m) i a h x init = too_long σ initial i (its_initial i a h) m x init
 
     pub lacking : LacksState σ initial → NoForm us is σ n w
     lacking l i a h x init = lacks_state σ initial i (its_initial i a h) l x init

@@ -26,12 +26,12 @@ use Rattle.tla_model.specs.declared.invariant.Invariant.{Invariant}
 use Rattle.tla_model.specs.Size.{IsWithinLimits}
 use Rattle.tla_defs.specs.Formulas.{Follow, mentions}
 use Rattle.tla_defs.specs.Global.{global}
-use Rattle.tla_defs.specs.Constants.{unvalued}
-use Rattle.tla_defs.specs.Misuses.{misuse, variables_of}
-use Rattle.tla_defs.specs.Items.{definitions_of, replaceable_of, nameable_of, replaced_names, items_misused}
-use Rattle.tla_defs.specs.Leads.{leads}
-use Rattle.tla_defs.specs.Circles.{AreStraight}
-use Rattle.tla_defs.specs.Named.{names_misused}
+use Rattle.tla_names.specs.Constants.{unvalued}
+use Rattle.tla_names.specs.Misuses.{misuse, variables_of}
+use Rattle.tla_names.specs.Items.{definitions_of, replaceable_of, nameable_of, replaced_names, items_misused}
+use Rattle.tla_names.specs.Leads.{leads}
+use Rattle.tla_names.specs.Circles.{AreStraight}
+use Rattle.tla_names.specs.Named.{names_misused}
 use Rattle.tla_defs.specs.Model.{IsModel, IsBehaviour, meaning_in, IsInitial, IsAction, IsInvariant, IsAssumption, IsStateLevel, IsConstantLevel, AreInvariants, AreAssumptions, assumptions_of, invariants_named}
 
 -- nothing of so many primes is within the limits

@@ -1,4 +1,3 @@
-pub mod Stacks
 pub mod Unique
 pub mod Worked
 pub mod NamedWorked
@@ -7,14 +6,12 @@ pub mod SpecificationWorked
 pub mod Behaviours
 pub mod Nones
 pub mod Means
-pub mod Joined
 pub mod Fairs
+pub mod Begun
+pub mod Tabled
 pub mod States
 pub mod Covers
 pub mod Forms
 pub mod Sound
 pub mod Found
 pub mod Locating
-pub mod Walks
-pub mod Keys
-pub mod Tables

@@ -1,5 +1,5 @@
 -- Each refusal has its place, and its name where it prints one.
-use Rattle.std.proofs.Common.{◌≡◌, refl, sym, ap, inl, inr, List, [], Option, Some, None, Bool, true, false, Result, Ok, Err}
+use Rattle.std.proofs.Common.{◌≡◌, refl, sym, ap, inl, inr, List, [], Option, Some, None, true, Result, Ok, Err}
 use Rattle.std.specs.Prelude.{is_some}
 use Rattle.tla_lex.specs.declared.token.Place.{Place}
 use Rattle.tla_tree.specs.declared.word.Written.{Written}
@@ -13,13 +13,14 @@ use Rattle.tla_config.specs.Names.{Name}
 use Rattle.tla_config.specs.Refusals.{IsLocated}
 use Rattle.tla_config.specs.Statements.{Statement, Item, items_of}
 use Rattle.tla_config.specs.View.{ConfigTree}
-use Rattle.tla_expand.specs.Maybe.{or_else}
-use Rattle.tla_defs.specs.Known.{Misuse, Twice, Unknown, Arguments}
-use Rattle.tla_defs.specs.Constants.{unvalued}
-use Rattle.tla_defs.specs.Items.{definitions_of, replaceable_of, nameable_of, replaced_names, items_misused}
-use Rattle.tla_defs.specs.Named.{names_misused}
-use Rattle.tla_defs.specs.Misuses.{misuse}
-use Rattle.tla_defs.specs.Refused.{Behaviour, Named, Specified, behaviour, behaviour_refused, form_refused, constant_refused, items_refused, refusal_for, refused, IsLast, IsRefusal, refusal_is, IsOfFormula, is_of_formula}
+use Rattle.tla_names.specs.Maybe.{or_else}
+use Rattle.tla_names.specs.Known.{Misuse, Twice, Unknown, Arguments}
+use Rattle.tla_names.specs.Constants.{unvalued}
+use Rattle.tla_names.specs.Items.{definitions_of, replaceable_of, nameable_of, replaced_names, items_misused}
+use Rattle.tla_names.specs.Named.{names_misused}
+use Rattle.tla_names.specs.Misuses.{misuse}
+use Rattle.tla_defs.specs.Refused.{Behaviour, Named, Specified, behaviour, behaviour_refused, form_refused, refused, IsLast, IsRefusal, refusal_is, IsOfFormula, is_of_formula}
+use Rattle.tla_names.specs.Refusal.{items_refused, constant_refused, refusal_for}
 
 -- the refusal, if there is one
 abbrev Located : Option DefsError → Type 0

@@ -1,7 +1,6 @@
 -- What a behaviour means: its initial predicate and its action.
-use Rattle.std.proofs.Common.{◌≡◌, refl, ap, sym, ◌∙◌, subst, inl, inr, ℕ, length, List, [], ◌∷◌, Option, Some, None}
+use Rattle.std.proofs.Common.{◌≡◌, refl, ap, inl, inr, ℕ, length, List, Some}
 use Rattle.tla_core.specs.Expr.{Expr}
-use Rattle.tla_tree.specs.declared.word.Written.{Written}
 use Rattle.tla_tree.specs.Tree.{Tree}
 use Rattle.tla_tree.specs.Tree as t
 use Rattle.tla_tree.specs.Units.{UnitTree}
@@ -11,8 +10,8 @@ use Rattle.tla_model.specs.ModelTree.{ModelTree}
 use Rattle.tla_defs.specs.declared.meant.Meant.{Meant}
 use Rattle.tla_defs.specs.declared.meant.Meant.TheVariants as meant
 use Rattle.tla_defs.specs.Global.{global}
-use Rattle.tla_defs.specs.Misuses.{variables_of}
-use Rattle.tla_defs.specs.Model.{IsModel, IsBehaviour, IsInitial, specifications_named, initials_named}
+use Rattle.tla_names.specs.Misuses.{variables_of}
+use Rattle.tla_defs.specs.Model.{IsModel, IsBehaviour, IsInitial, specifications_named}
 use Rattle.tla_defs.specs.Refused.{Behaviour, Named, Specified}
 use Rattle.tla_defs.specs.Specified.{IsOnly, IsMeant, NoneMeant, initial_tree, action_tree}
 use Rattle.tla_defs.proofs.Unique.{same_one}

@@ -1,5 +1,5 @@
 -- Where there is a model, no step refuses.
-use Rattle.std.proofs.Common.{◌≡◌, refl, sym, inl, inr, List, [], ◌∷◌, Some, None, Err, subst}
+use Rattle.std.proofs.Common.{◌≡◌, refl, sym, inl, inr, List, [], ◌∷◌, Some, None, Result, Ok, Err, subst}
 use Rattle.tla_core.specs.Expr.{Expr}
 use Rattle.tla_lex.specs.declared.token.Place.{Place}
 use Rattle.tla_tree.specs.declared.word.Written.{Written}
@@ -14,12 +14,16 @@ use Rattle.tla_expand.specs.Meanings.{Scope}
 use Rattle.tla_model.specs.ModelTree.{ModelTree}
 use Rattle.tla_defs.specs.Formulas.{LacksInvariant, LacksAssumption}
 use Rattle.tla_defs.specs.Global.{global}
-use Rattle.tla_defs.specs.Items.{definitions_of}
-use Rattle.tla_defs.specs.Leads.{Lead, leads, IsCircular}
-use Rattle.tla_defs.specs.Circles.{AreStraight, IsFirstCircle}
-use Rattle.tla_defs.specs.Model.{IsModel, IsBehaviour, IsInitial, IsAction, IsInvariant, IsAssumption, AreInvariants, AreAssumptions, assumptions_of, invariants_named}
-use Rattle.tla_defs.specs.Named.{names_misused}
-use Rattle.tla_defs.specs.Refused.{refused, behaviour, refusal_for, items_refused, IsOfCircle}
+use Rattle.std.specs.Prelude.{IfErr}
+use Rattle.tla_names.specs.Constants.{unvalued}
+use Rattle.tla_names.specs.Misuses.{misuse}
+use Rattle.tla_names.specs.Items.{definitions_of, replaceable_of, nameable_of, replaced_names, items_misused}
+use Rattle.tla_names.specs.Leads.{Lead, leads, IsCircular}
+use Rattle.tla_names.specs.Circles.{AreStraight, IsFirstCircle}
+use Rattle.tla_defs.specs.Model.{IsModel, IsBehaviour, IsInitial, IsAction, AreInvariants, AreAssumptions, assumptions_of, invariants_named}
+use Rattle.tla_names.specs.Named.{names_misused}
+use Rattle.tla_defs.specs.Refused.{Behaviour, refused, behaviour, form_refused, IsLast, IsRefusal}
+use Rattle.tla_names.specs.Refusal.{items_refused, refusal_for, IsOfCircle}
 use Rattle.tla_defs.proofs.Behaviours.{behaviour_found}
 use Rattle.tla_defs.proofs.Unique.{one_behaviour}
 
@@ -28,6 +32,21 @@ pub no_refusal : (us : List UnitTree) (config : ConfigTree) (m : ModelTree) → 
 no_refusal us config m h =
     let f = behaviour_found us config.statements config.end h.initial h.action h.behaviour in
     rw (h.known, h.given, h.valued, f.1, h.named) refl
+
+-- where the steps that look at names refuse nothing, and no item leads back to its name, a refusal is one of the last steps
+pub last_refusal : (us : List UnitTree) (config : ConfigTree) (is : List Item) (b : Behaviour) (e : DefsError) → misuse us ≡ None → is ≡ items_of config.statements
+    → items_misused (replaceable_of us) (nameable_of us) [] is ≡ None → unvalued (replaced_names is) us ≡ None → behaviour config.statements config.end None None ≡ Ok b
+    → names_misused (definitions_of us) config.statements ≡ None → AreStraight (leads us is) is → IsLast (form_refused (Ok b)) e → IsRefusal us config e
+last_refusal us config is b e known at given valued behaves named straight last =
+    let g = rw at at given in
+    let v = rw at at valued in
+    let s = rw at at straight in
+    let none : refused us config ≡ None = rw (known, g, v, behaves, named) refl in
+    rw (none, behaves) (inr (s, last))
+
+pub if_err : {A E : Type 0} {P Q : E → Type 0} (r : Result A E) → ((e : E) → P e → Q e) → IfErr r P → IfErr r Q
+if_err (Ok x) f h = tt
+if_err (Err e) f h = f e h
 
 pub no_behaviour : (us : List UnitTree) (config : ConfigTree) (p : Place) → behaviour config.statements config.end None None ≡ Err p → (m : ModelTree) → IsModel us config.statements m → ⊥
 no_behaviour us config p q m h =

@@ -20,9 +20,10 @@ use Rattle.tla_model.specs.IsSound.{IsSound, IsUsable, AreUsable, bodies}
 use Rattle.tla_model.specs.ModelTree.{ModelTree}
 use Rattle.tla_model.specs.Size.{IsWithinLimits}
 use Rattle.tla_defs.specs.Global.{global, meant, raised, units_in, unless, variables_in, with_variable, with_operator}
-use Rattle.tla_defs.specs.Items.{fixed, with_items, replaced_names}
-use Rattle.tla_defs.specs.Scope.{signature}
-use Rattle.tla_defs.specs.Misuses.{variables_of}
+use Rattle.tla_names.specs.Items.{replaced_names}
+use Rattle.tla_defs.specs.Given.{fixed, with_items}
+use Rattle.tla_names.specs.Scope.{signature}
+use Rattle.tla_names.specs.Misuses.{variables_of}
 use Rattle.tla_defs.specs.Model.{meaning_in, AreInvariants, AreAssumptions, IsModel, assumptions_of, invariants_named}
 
 variables_fit : (ws : List Written) (i n : ℕ) (σ : Scope) → i + length ws ≤ n → FitsScope n 0 σ → FitsScope n 0 (variables_in i ws σ)

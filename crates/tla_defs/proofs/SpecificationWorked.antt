@@ -1,8 +1,8 @@
 -- The models of modules with a specification, by computation.
-use Rattle.std.proofs.Common.{◌≡◌, refl, arith, inr}
+use Rattle.std.proofs.Common.{refl, arith, inr}
 use Rattle.std.specs.Prelude.{codes}
 use Rattle.tla_tree.specs.declared.tree.Bullet.TheVariants as bullet
-use Rattle.tla_tree.specs.Tree.{Name, Junction, more, none}
+use Rattle.tla_tree.specs.Tree.{Junction, more, none}
 use Rattle.tla_defs.specs.NamedRows.{name_at}
 use Rattle.tla_defs.specs.Rows.{place, word, x_at, now_at, init_tree, init_before}
 use Rattle.tla_defs.specs.SpecificationRows.{Specified, SpecifiedInParts, safe_tree, whole_tree, below_tree}

@@ -1,8 +1,8 @@
 -- The conjuncts of an initial predicate: where one has none of its own within the limits, the whole has none.
-use Rattle.std.proofs.Common.{◌≡◌, ◌≤◌, ℕ, ◌+◌, max, refl, ap, sym, ◌∙◌, subst, inl, inr, arith, length, map, get_or, List, [], ◌∷◌, ◌++◌, Option, Some, None}
+use Rattle.std.proofs.Common.{◌≡◌, ◌≤◌, refl, ap, sym, subst, inl, inr, arith, length, get_or, List, [], ◌∷◌, Some}
 use Rattle.std.specs.Borrow.{Bor}
-use Rattle.tla_core.specs.Expr.{Expr, Exprs, conjunction, no_exprs, more_exprs}
-use Rattle.tla_model.specs.Size.{IsWithinLimits, nodes, depth, nodes_each, depth_each}
+use Rattle.tla_core.specs.Expr.{Expr, Exprs, conjunction, more_exprs}
+use Rattle.tla_model.specs.Size.{nodes, depth, nodes_each, depth_each}
 use Rattle.tla_tree.specs.declared.tree.Bullet.TheVariants as bullet
 use Rattle.tla_tree.specs.declared.tree.Expr as s
 use Rattle.tla_tree.specs.Places.{place}
@@ -14,7 +14,8 @@ use Rattle.tla_expand.specs.Maybe.{◌>>=◌}
 use Rattle.tla_expand.specs.Places.{place_of}
 use Rattle.tla_expand.specs.Primes.{primes, primes_each}
 use Rattle.tla_expand.proofs.PrimesFit.{inv}
-use Rattle.tla_defs.specs.Conjuncts.{tree_at, seen}
+use Rattle.tla_expand.proofs.Sizes.{some_node}
+use Rattle.tla_defs.specs.Seen.{tree_at, seen}
 use Rattle.tla_defs.specs.Model.{IsInitial}
 use Rattle.tla_defs.specs.Specification.{conjunction_of}
 use Rattle.tla_defs.specs.Specified.{LacksState}
@@ -82,6 +83,27 @@ list_lacks σ p ts l e h =
     let d = h.limits.shallow in
     each_lacks σ ts a.0 b.0 a.1 b.1 (omega (arith, small, n)) (omega (arith, shallow, d)) l
 
+-- each conjunct has a node at least
+each_has_nodes : (σ : Scope) (ts : List Tree) (xs ys : Exprs) → expand_each (trees ts) σ 0 ≡ Some xs → primes_each Once xs ≡ Some ys → length ts ≤ nodes_each ys
+each_has_nodes σ [] xs ys p q = omega arith
+each_has_nodes σ (t ∷ ts) xs ys p q =
+    let h = split σ t ts xs ys p q in
+    let all = ap nodes_each h.same in
+    let some = some_node h.first in
+    let others = each_has_nodes σ ts h.others_before h.others h.others_meaning h.others_primed in
+    omega (arith, all, some, others)
+
+list_too_long : (σ : Scope) (p : _) (ts : List Tree) → 200001 ≤ length ts → (e : Expr) → IsInitial σ (Junction p bullet.And (trees ts)) e → ⊥
+list_too_long σ p ts l e h =
+    let a = inv (expand_each (trees ts) σ 0) (λ us. Some (conjunction (place_of p) us)) h.before h.meaning in
+    let is_before : Some (conjunction (place_of p) a.0) ≡ Some h.before = a.2 in
+    let r = subst (λ x. primes Once x ≡ Some e) (sym (same_expr (conjunction (place_of p) a.0) h.before is_before)) h.primed in
+    let b = inv (primes_each Once a.0) (λ us. Some (conjunction (place_of p) us)) e r in
+    let small = ap nodes (same_expr (conjunction (place_of p) b.0) e b.2) in
+    let n = h.limits.small in
+    let many = each_has_nodes σ ts a.0 b.0 a.1 b.1 in
+    omega (arith, l, small, n, many)
+
 same_tree : (t u : Tree) → Some t ≡ Some u → t ≡ u
 same_tree t u p = cc
 
@@ -90,6 +112,12 @@ lacks_state σ [] i p l e h = l
 lacks_state σ (t ∷ []) i p (inl l) e h = l e (subst (λ u. IsInitial σ u e) (sym (same_tree t i p)) h)
 lacks_state σ (t ∷ []) i p (inr l) e h = l
 lacks_state σ (t ∷ u ∷ ts) i p l e h = list_lacks σ (place t) (t ∷ u ∷ ts) l e (subst (λ v. IsInitial σ v e) (sym (same_tree _ i p)) h)
+
+-- an initial predicate within the limits has no more conjuncts than these have nodes
+pub too_long : (σ : Scope) (ts : List Tree) (i : Tree) → conjunction_of ts ≡ Some i → 200001 ≤ length ts → (e : Expr) → IsInitial σ i e → ⊥
+too_long σ [] i p l e h = omega (arith, l)
+too_long σ (t ∷ []) i p l e h = omega (arith, l)
+too_long σ (t ∷ u ∷ ts) i p l e h = list_too_long σ (place t) (t ∷ u ∷ ts) l e (subst (λ v. IsInitial σ v e) (sym (same_tree _ i p)) h)
 
 -- what the first conjunct and the others are, together
 pub of_one : (t : Bor s.Expr) (others : List (Bor s.Expr)) → length others ≡ 0 → conjunction_of (seen (t ∷ others)) ≡ Some (tree_at t)

@@ -13,7 +13,7 @@ use Rattle.tla_expand.specs.Expand.{expand}
 use Rattle.tla_expand.specs.Primes.{primes}
 use Rattle.tla_model.specs.ModelTree.{ModelTree}
 use Rattle.tla_defs.specs.Global.{global}
-use Rattle.tla_defs.specs.Misuses.{variables_of}
+use Rattle.tla_names.specs.Misuses.{variables_of}
 use Rattle.tla_defs.specs.Model.{meaning_in, IsInitial, IsBehaviour, AreInvariants, AreAssumptions, IsModel, assumptions_of, initials_named, nexts_named, specifications_named, invariants_named}
 use Rattle.tla_defs.specs.Bodies.{body_of}
 use Rattle.tla_defs.specs.Specification.{IsSpecification, conjuncts, conjunction_of, initials_of, steps_of}

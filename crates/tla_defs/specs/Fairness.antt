@@ -9,7 +9,7 @@ use Rattle.tla_tree.specs.declared.tree.Quantifier.TheVariants as quantifier
 use Rattle.tla_tree.specs.Tree.{Tree, Trees, none, more}
 use Rattle.tla_tree.specs.Tree as t
 use Rattle.tla_config.specs.Names.{Name}
-use Rattle.tla_defs.specs.Scope.{Scope, arity, plain, bound_names}
+use Rattle.tla_names.specs.Scope.{Scope, arity, plain, bound_names}
 use Rattle.tla_defs.specs.Bodies.{Bodies}
 
 abbrev pub is_and : Infix → Bool

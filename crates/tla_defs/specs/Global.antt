@@ -7,8 +7,9 @@ use Rattle.tla_config.specs.Names.{Name, is_among}
 use Rattle.tla_config.specs.Statements.{Item, Value, Replaces}
 use Rattle.tla_expand.specs.Meanings.{Scope, standard, with_name, variable, operator}
 use Rattle.tla_expand.specs.Expand.{expand, definition_in}
-use Rattle.tla_defs.specs.Scope.{signature}
-use Rattle.tla_defs.specs.Items.{replaced_names, with_items}
+use Rattle.tla_names.specs.Scope.{signature}
+use Rattle.tla_names.specs.Items.{replaced_names}
+use Rattle.tla_defs.specs.Given.{with_items}
 
 abbrev pub with_variable : ℕ → Name → Scope → Scope
 with_variable i x σ = with_name x (variable i) σ

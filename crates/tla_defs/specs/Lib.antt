@@ -1,13 +1,4 @@
-pub mod Operators
-pub mod Scope
-pub mod Known
-pub mod Constants
-pub mod Items
-pub mod Leads
-pub mod Circles
-pub mod Reached
-pub mod Misuses
-pub mod Named
+pub mod Given
 pub mod Global
 pub mod Bodies
 pub mod Fairness
@@ -22,6 +13,9 @@ pub mod GivenRows
 pub mod SpecificationRows
 pub mod Mentions
 pub mod Formulas
+pub mod Seen
+pub mod Parts
+pub mod Table
 pub mod Conjuncts
 pub mod Shapes
 pub mod Specified

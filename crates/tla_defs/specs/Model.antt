@@ -17,12 +17,12 @@ use Rattle.tla_expand.specs.Expand.{expand}
 use Rattle.tla_model.specs.ModelTree.{ModelTree}
 use Rattle.tla_model.specs.Size.{IsWithinLimits}
 use Rattle.tla_defs.specs.Global.{global}
-use Rattle.tla_defs.specs.Constants.{unvalued}
-use Rattle.tla_defs.specs.Items.{definitions_of, replaceable_of, nameable_of, replaced_names, items_misused}
-use Rattle.tla_defs.specs.Leads.{leads}
-use Rattle.tla_defs.specs.Circles.{AreStraight}
-use Rattle.tla_defs.specs.Named.{names_misused}
-use Rattle.tla_defs.specs.Misuses.{variables_of, misuse}
+use Rattle.tla_names.specs.Constants.{unvalued}
+use Rattle.tla_names.specs.Items.{definitions_of, replaceable_of, nameable_of, replaced_names, items_misused}
+use Rattle.tla_names.specs.Leads.{leads}
+use Rattle.tla_names.specs.Circles.{AreStraight}
+use Rattle.tla_names.specs.Named.{names_misused}
+use Rattle.tla_names.specs.Misuses.{variables_of, misuse}
 use Rattle.tla_defs.specs.Specification.{IsSpecification}
 
 -- what a name of the configuration says, where the names of the module mean this

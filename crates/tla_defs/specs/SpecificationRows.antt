@@ -10,7 +10,7 @@ use Rattle.tla_tree.specs.declared.tree.Prefix.TheVariants as prefix
 use Rattle.tla_tree.specs.declared.tree.Quantifier.TheVariants as quantifier
 use Rattle.tla_tree.specs.declared.tree.Step.TheVariants as step
 use Rattle.tla_tree.specs.Tree.{Tree, Action, Binary, Fair, Junction, Listing, Quantified, Unary, more, none, bound, unbound}
-use Rattle.tla_tree.specs.Units.{UnitTree, Operator}
+use Rattle.tla_tree.specs.Units.{Operator}
 use Rattle.tla_expand.specs.Places.{place_of}
 use Rattle.tla_config.specs.Statements.{Statement}
 use Rattle.tla_config.specs.Statements as s

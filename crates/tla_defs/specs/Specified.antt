@@ -1,6 +1,5 @@
 -- What the code finds of a specification. Private contracts alone cite this.
-use Rattle.std.specs.Prelude.{◌≡◌, ◌⊎◌, ℕ, List, [], ◌∷◌, Option, Some, map}
-use Rattle.std.specs.Borrow.{Bor}
+use Rattle.std.specs.Prelude.{◌≡◌, ◌⊎◌, ℕ, List, [], ◌∷◌, Option, Some}
 use Rattle.tla_core.specs.Expr.{Expr}
 use Rattle.tla_tree.specs.declared.word.Written.{Written}
 use Rattle.tla_tree.specs.Tree.{Tree}
@@ -10,19 +9,11 @@ use Rattle.tla_config.specs.Statements.{Statement, Item}
 use Rattle.tla_expand.specs.Meanings.{Scope}
 use Rattle.tla_defs.specs.declared.meant.Meant.{Meant}
 use Rattle.tla_defs.specs.declared.meant.Meant.TheVariants as meant
-use Rattle.tla_defs.specs.declared.specification.Boxed.{Boxed}
-use Rattle.tla_defs.specs.declared.specification.Parts.{Parts}
 use Rattle.tla_defs.specs.declared.specification.Specified as declared
-use Rattle.tla_defs.specs.Conjuncts.{tree_at, seen}
+use Rattle.tla_defs.specs.Seen.{tree_at, seen}
 use Rattle.tla_defs.specs.Model.{IsInitial, initials_named, nexts_named, specifications_named}
 use Rattle.tla_defs.specs.Refused.{Behaviour, Named, Specified}
-use Rattle.tla_defs.specs.Specification.{Step, conjunction_of, IsSpecification}
-
-abbrev pub step_of : Boxed → Step
-step_of s = (tree_at s.action, tree_at s.subscript)
-
-abbrev pub steps_in : Parts → List Step
-steps_in p = map step_of p.steps.items
+use Rattle.tla_defs.specs.Specification.{conjunction_of, IsSpecification}
 
 -- one of these is no initial predicate
 abbrev pub LacksState : Scope → List Tree → Type 0

@@ -13,34 +13,32 @@ ghost use Rattle.tla_model.specs.ModelOf.{invariant_of};
 ghost use Rattle.tla_model.specs.Models.{model_of};
 ghost use Rattle.tla_tree.specs.declared.word.Written as written;
 ghost use Rattle.tla_tree.specs.UnitsView.{unit_view};
-ghost use Rattle.tla_defs.specs.Circles.{AreStraight};
-ghost use Rattle.tla_defs.specs.Constants.{unvalued};
+ghost use Rattle.tla_names.specs.Circles.{AreStraight};
+ghost use Rattle.tla_names.specs.Constants.{unvalued};
 ghost use Rattle.tla_defs.specs.Formulas.{LacksInvariant, LacksAssumption, Follow, mentions};
-ghost use Rattle.tla_defs.specs.Items as given;
-ghost use Rattle.tla_defs.specs.Leads.{leads};
+ghost use Rattle.tla_names.specs.Items as given;
+ghost use Rattle.tla_names.specs.Leads.{leads};
 ghost use Rattle.tla_defs.specs.Mentions.{behaviour_of};
-ghost use Rattle.tla_defs.specs.Misuses as known;
+ghost use Rattle.tla_names.specs.Misuses as known;
 ghost use Rattle.tla_defs.specs.Model as model;
-ghost use Rattle.tla_defs.specs.Named as named;
+ghost use Rattle.tla_names.specs.Named as named;
 ghost use Rattle.tla_defs.specs.Refused as refused;
 ghost use Rattle.tla_defs.specs.Specified.{IsOnly};
 
 use crate::behaviour::{Behaviour, named_behaviour};
-use crate::bodies::Bodies;
-use crate::circle::straight;
-use crate::constants::unvalued;
-use crate::formula::{assumption, invariant, statements_named};
+use crate::formula::{assumption, invariant};
 use crate::global::global_scope;
-use crate::items::{Items, definitions_of, items_named};
 use crate::meant::{initial_predicate, meaning, next_action};
-use crate::names::Names;
-use crate::refusal::{no_memory, refusal_at, refusal_of, text_of};
-use crate::units::variables;
+use crate::places::Places;
 use std::alloc::Global;
 use tla_config::{Config, DefsCode, DefsError, Source, Statement};
 use tla_core::Core;
 use tla_expand::Scopes;
 use tla_model::{Invariant, Model};
+use tla_names::{
+    Items, Names, definitions_of, no_memory, refusal_at, statements_named, straight, text_of,
+    valued, variables,
+};
 use tla_tree::{Module, Unit, Written};
 
 /// Whether deadlock is looked for.
@@ -104,7 +102,7 @@ fn push(invariants: &mut Vec<Invariant>, invariant: Invariant) -> Result<(), Def
 /// The invariant of this name.
 fn named_invariant(
     alloc: Global,
-    bodies: &Bodies<'_, '_>,
+    places: &Places<'_, '_>,
     scopes: &Scopes<'_>,
     name: &Written,
 ) -> Result<Invariant, DefsError>
@@ -113,7 +111,7 @@ fn named_invariant(
     ensures formula { IfErr result (λ e. e.code ≢ Memory → refused.IsOfFormula e) }
     ensures none { IfErr result (λ e. e.code ≢ Memory → (x : expr.Expr) → model.IsInvariant (scope_of scopes.now) name.now x → ⊥) }
 {
-    let core = invariant(alloc, bodies, scopes, name)?;
+    let core = invariant(alloc, places, scopes, name)?;
     let name = text_of(alloc, name.word.as_bytes())?;
     Ok(Invariant { name, core })
 }
@@ -121,7 +119,7 @@ fn named_invariant(
 /// One invariant more. Contracts see what it adds to the lists that may still follow.
 fn push_invariant(
     alloc: Global,
-    bodies: &Bodies<'_, '_>,
+    places: &Places<'_, '_>,
     scopes: &Scopes<'_>,
     name: &Written,
     invariants: &mut Vec<Invariant>,
@@ -130,7 +128,7 @@ fn push_invariant(
     ensures formula { IfErr result (λ e. e.code ≢ Memory → refused.IsOfFormula e) }
     ensures none { IfErr result (λ e. e.code ≢ Memory → (x : expr.Expr) → model.IsInvariant (scope_of scopes.now) name.now x → ⊥) }
 {
-    let invariant = named_invariant(alloc, bodies, scopes, name)?;
+    let invariant = named_invariant(alloc, places, scopes, name)?;
     push(invariants, invariant)?;
     Ok(())
 }
@@ -138,7 +136,7 @@ fn push_invariant(
 /// The invariants of these names, in order.
 fn invariants(
     alloc: Global,
-    bodies: &Bodies<'_, '_>,
+    places: &Places<'_, '_>,
     scopes: &Scopes<'_>,
     names: &[&Written],
 ) -> Result<Vec<Invariant>, DefsError>
@@ -149,7 +147,7 @@ fn invariants(
     let mut invariants = Vec::new(alloc);
     let mut left = names;
     while let [first, rest @ ..] = left {
-        push_invariant(alloc, bodies, scopes, first, &mut invariants)?;
+        push_invariant(alloc, places, scopes, first, &mut invariants)?;
         left = rest;
     }
     Ok(invariants)
@@ -187,21 +185,6 @@ fn push_assumption(assumptions: &mut Vec<Core>, assumption: Core) -> Result<(), 
     }
 }
 
-/// Items for constants and definitions that may have them, so that each constant has a value.
-fn valued(alloc: Global, units: &[Unit], items: &Items<'_>) -> Result<(), DefsError>
-    ensures given { OnOk result (given.items_misused (given.replaceable_of (map unit_view units.now)) (given.nameable_of (map unit_view units.now)) [] items.now ≡ None) }
-    ensures valued { OnOk result (unvalued (given.replaced_names items.now) (map unit_view units.now) ≡ None) }
-    ensures err { IfErr result (λ e. e.code ≢ Memory → refused.items_refused (map unit_view units.now) items.now ≡ Some e) }
-{
-    items_named(alloc, units, items)?;
-    let replaced = items.names(alloc)?;
-    if let Some(found) = unvalued(&replaced, units) {
-        let source = Source::Module;
-        return Err(refusal_of(alloc, DefsCode::ConstantWithoutValue, source, found));
-    }
-    Ok(())
-}
-
 /// The model of these variables, items, names and statements.
 fn model<'a>(
     alloc: Global,
@@ -224,14 +207,14 @@ fn model<'a>(
     ensures none { IfErr result (λ e. e.code ≢ Memory → (m : ModelTree) → model.IsModel (map unit_view units.now) (map statement_view statements.now) m → ⊥) }
 {
     let scopes = global_scope(alloc, units, items)?;
-    let bodies = Bodies::of(units, items);
+    let places = Places::of(units, items);
     let count = variables.words().len();
     let meant = meaning(alloc, units, items, &scopes, count, behaviour)?;
     let assumptions = assumptions(alloc, units, &scopes)?;
-    let init = initial_predicate(alloc, &bodies, &scopes, &meant)?;
-    let next = next_action(alloc, &bodies, &scopes, &meant)?;
+    let init = initial_predicate(alloc, &places, &scopes, &meant)?;
+    let next = next_action(alloc, &places, &scopes, &meant)?;
     let named = invariants_named(alloc, statements)?;
-    let invariants = invariants(alloc, &bodies, &scopes, named.as_slice())?;
+    let invariants = invariants(alloc, &places, &scopes, named.as_slice())?;
     let names = variables.texts(alloc)?;
     let check = looks_for_deadlock(statements);
     Ok(Model::new(names, assumptions, init, next, invariants, check))

@@ -1,25 +1,36 @@
-//! The conjuncts of a formula.
+//! The conjuncts of the formula that SPECIFICATION names.
 
-ghost use Rattle.std.specs.Prelude.{◌≡◌, ◌++◌, ◌∷◌, [], List, map, OnOk, IfOk, IfErr};
+ghost use Rattle.std.specs.Prelude.{◌≡◌, ◌≢◌, ◌++◌, ◌∷◌, [], ℕ, List, Some, map, option_map, OnOk, IfOk, IfErr};
 ghost use Rattle.tla_config.specs.declared.error.DefsCode.TheVariants.{Memory};
-ghost use Rattle.tla_tree.specs.Tree.{trees as trees_of};
+ghost use Rattle.tla_tree.specs.Tree.{Tree, trees as trees_of};
 ghost use Rattle.tla_tree.specs.View.{view};
+ghost use Rattle.tla_names.specs.Refusal as refusal;
 ghost use Rattle.tla_defs.specs.Bodies as bodies;
-ghost use Rattle.tla_defs.specs.Specification as spec;
-ghost use Rattle.tla_defs.specs.Conjuncts.{bodies_of, conjuncts_from, all_conjuncts, gathered, seen};
+ghost use Rattle.tla_defs.specs.Conjuncts.{bodies_of, fair_names, conjuncts_from, ahead, initials_by, Rests, IsBegun};
+ghost use Rattle.tla_defs.specs.Parts.{steps_in, AreMany};
+ghost use Rattle.tla_defs.specs.Refused.{IsLast};
+ghost use Rattle.tla_defs.specs.Seen.{tree_at, seen};
 ghost use Rattle.tla_defs.specs.Shapes.{conjuncts_by};
+ghost use Rattle.tla_defs.specs.Specification as spec;
 
-use crate::bodies::{Bodies, Formula};
-use crate::refusal::no_memory;
+use crate::fairness::is_fair;
+use crate::parts::Parts;
+use crate::table::Definitions;
 use std::alloc::Global;
-use tla_config::DefsError;
+use tla_config::{DefsCode, DefsError, Source};
+use tla_lex::Place;
+use tla_names::no_memory;
 use tla_tree::{Bullet, Expr, Infix, Word};
 
+/// A formula, in which names stand for their definitions so many definitions deep.
+#[derive(Clone, Copy)]
+pub(crate) struct Formula<'a> {
+    pub(crate) tree: &'a Expr,
+    pub(crate) names: usize,
+}
+
 /// One formula more. The only error is want of memory.
-pub(crate) fn push<'a>(
-    formulas: &mut Vec<Formula<'a>>,
-    formula: Formula<'a>,
-) -> Result<(), DefsError>
+fn push<'a>(formulas: &mut Vec<Formula<'a>>, formula: Formula<'a>) -> Result<(), DefsError>
     ensures ok { OnOk result (formulas.new.items ≡ formulas.old.items ++ formula.entry ∷ []) }
     ensures err { IfErr result (λ e. e.code ≡ Memory) }
 {
@@ -29,30 +40,18 @@ pub(crate) fn push<'a>(
     }
 }
 
-/// One tree more. The only error is want of memory.
-pub(crate) fn push_tree<'a>(trees: &mut Vec<&'a Expr>, tree: &'a Expr) -> Result<(), DefsError>
-    ensures ok { OnOk result (trees.new.items ≡ trees.old.items ++ tree.entry ∷ []) }
-    ensures err { IfErr result (λ e. e.code ≡ Memory) }
-{
-    match trees.push(tree) {
-        Ok(()) => Ok(()),
-        Err(_) => Err(no_memory()),
-    }
-}
-
-/// Formulas more, in which names stand for their definitions so many definitions deep. The only error is want of memory.
+/// Formulas more, of which the first one comes last. The only error is want of memory.
 fn push_each<'a>(
     formulas: &mut Vec<Formula<'a>>,
     trees: &'a [Expr],
     names: usize,
 ) -> Result<(), DefsError>
-    ensures ok { (b : bodies.Bodies) → OnOk result (all_conjuncts b formulas.new.items ≡ all_conjuncts b formulas.old.items ++ spec.conjuncts_each (spec.conjuncts_of names b) (trees_of (map view trees.entry.now))) }
+    ensures ok { (b : bodies.Bodies) → OnOk result (ahead b formulas.new.items ≡ spec.conjuncts_each (spec.conjuncts_of names b) (trees_of (map view trees.entry.now)) ++ ahead b formulas.old.items) }
     ensures err { IfErr result (λ e. e.code ≡ Memory) }
 {
-    let mut left = trees;
-    while let [first, rest @ ..] = left {
-        push(formulas, Formula { tree: first, names })?;
-        left = rest;
+    for i in 0..trees.len() {
+        let tree = &trees[trees.len() - 1 - i];
+        push(formulas, Formula { tree, names })?;
     }
     Ok(())
 }
@@ -84,57 +83,99 @@ fn shape_of<'a>(tree: &'a Expr) -> Shape<'a>
     }
 }
 
-/// The parts of a formula that is a conjunction, behind the formulas that are left; or the formula, which is a conjunct
-/// itself, behind those that were found from the last one on. The only error is want of memory.
-fn part<'a>(
-    bodies: &Bodies<'_, 'a>,
+impl<'t, 'a> Definitions<'t, 'a> {
+    /// The formula that a name stands for, where names do so many definitions deep.
+    fn formula(&self, name: &[u8], names: usize) -> Option<Formula<'a>>
+        ensures { option_map (conjuncts_from (bodies_of self.now)) result ≡ spec.conjuncts_of names (bodies_of self.now) name.now }
+    {
+        if names == 0 {
+            return None;
+        }
+        match self.body(name) {
+            Some(tree) => Some(Formula {
+                tree,
+                names: names - 1,
+            }),
+            None => None,
+        }
+    }
+}
+
+/// Formulas to go on with, the first one last, and what was found before them.
+#[derive(Drop)]
+struct Walk<'a> {
+    left: Vec<Formula<'a>>,
+    parts: Parts<'a>,
+}
+
+/// A formula's parts to go on with, or the formula itself where it is a conjunct. A name that stands for fairness is passed
+/// over, so that what it stands for is not looked at again. The only error is want of memory.
+fn go_on<'a>(
+    alloc: Global,
+    definitions: &Definitions<'_, 'a>,
     formula: Formula<'a>,
-    left: &mut Vec<Formula<'a>>,
-    found: &mut Vec<&'a Expr>,
+    walk: &mut Walk<'a>,
 ) -> Result<(), DefsError>
-    ensures ok { OnOk result (gathered (bodies_of bodies.now) (left.old.items ++ formula.entry ∷ []) found.old.items ≡ gathered (bodies_of bodies.now) left.new.items found.new.items) }
+    requires rests { Rests (fair_names definitions.now) (bodies_of definitions.now) }
+    ensures ok { OnOk result ((ss : List spec.Step) (es : List Tree) → IsBegun (fair_names definitions.now) (bodies_of definitions.now) (walk.old.left.items ++ formula.entry ∷ []) walk.old.parts ss es → IsBegun (fair_names definitions.now) (bodies_of definitions.now) walk.new.left.items walk.new.parts ss es) }
     ensures err { IfErr result (λ e. e.code ≡ Memory) }
 {
-    let names = formula.names;
-    match shape_of(formula.tree) {
-        Shape::Same(tree) => push(left, Formula { tree, names }),
+    let Formula { tree, names } = formula;
+    match shape_of(tree) {
+        Shape::Same(inner) => push(&mut walk.left, Formula { tree: inner, names }),
         Shape::Two(first, second) => {
-            push(left, Formula { tree: first, names })?;
             push(
-                left,
+                &mut walk.left,
                 Formula {
                     tree: second,
                     names,
                 },
-            )
+            )?;
+            push(&mut walk.left, Formula { tree: first, names })
         }
-        Shape::Many(items) => push_each(left, items, names),
-        Shape::Name(name) => match bodies.formula(name.as_bytes(), names) {
-            Some(body) => push(left, body),
-            None => push_tree(found, formula.tree),
-        },
-        Shape::Whole => push_tree(found, formula.tree),
+        Shape::Many(items) => push_each(&mut walk.left, items, names),
+        Shape::Name(name) => {
+            if is_fair(alloc, definitions, tree)? {
+                return Ok(());
+            }
+            match definitions.formula(name.as_bytes(), names) {
+                Some(body) => push(&mut walk.left, body),
+                None => walk.parts.sort(alloc, definitions, tree),
+            }
+        }
+        Shape::Whole => walk.parts.sort(alloc, definitions, tree),
     }
 }
 
-/// The conjuncts of a formula, in order. The only error is want of memory.
-pub(crate) fn conjuncts<'a>(
+/// The conjuncts of a formula by what they are, where SPECIFICATION stands at this place. An error is want of memory, two
+/// steps, or an initial predicate of more conjuncts than an expression within the limits has nodes: the walk ends there,
+/// however many there are.
+pub(crate) fn parts_of<'a>(
     alloc: Global,
-    bodies: &Bodies<'_, 'a>,
-    whole: Formula<'a>,
-) -> Result<Vec<&'a Expr>, DefsError>
-    ensures ok { IfOk result (λ ts. seen ts.items ≡ conjuncts_from (bodies_of bodies.now) whole.entry) }
-    ensures err { IfErr result (λ e. e.code ≡ Memory) }
+    definitions: &Definitions<'_, 'a>,
+    names: usize,
+    whole: &'a Expr,
+    place: Place,
+) -> Result<Parts<'a>, DefsError>
+    requires rests { Rests (fair_names definitions.now) (bodies_of definitions.now) }
+    ensures steps { IfOk result (λ p. steps_in p ≡ spec.steps_of (spec.conjuncts names (bodies_of definitions.now) (tree_at whole.entry))) }
+    ensures initial { IfOk result (λ p. seen p.initial.items ≡ initials_by (fair_names definitions.now) (spec.conjuncts names (bodies_of definitions.now) (tree_at whole.entry))) }
+    ensures refused { IfErr result (λ e. e.code ≢ Memory → IsLast (Some (refusal.refusal_at DefsCode.SpecificationForm Source.Configuration place)) e) }
+    ensures many { IfErr result (λ e. e.code ≢ Memory → AreMany (spec.steps_of (spec.conjuncts names (bodies_of definitions.now) (tree_at whole.entry))) (initials_by (fair_names definitions.now) (spec.conjuncts names (bodies_of definitions.now) (tree_at whole.entry)))) }
 {
-    let mut found = Vec::new(alloc);
-    let mut left = Vec::new(alloc);
-    push(&mut left, whole)?;
+    let mut walk = Walk {
+        left: Vec::new(alloc),
+        parts: Parts::new(alloc),
+    };
+    push(&mut walk.left, Formula { tree: whole, names })?;
     for _turn in 0..u64::MAX {
-        let Some(formula) = left.pop() else {
-            found.reverse();
-            return Ok(found);
+        if !walk.parts.are_few() {
+            return Err(walk.parts.too_many(place));
+        }
+        let Some(formula) = walk.left.pop() else {
+            return Ok(walk.parts);
         };
-        part(bodies, formula, &mut left, &mut found)?;
+        go_on(alloc, definitions, formula, &mut walk)?;
     }
     Err(no_memory())
 }

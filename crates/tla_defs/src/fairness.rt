@@ -1,20 +1,18 @@
 //! Whether a formula is made of fairness alone.
 
-ghost use Rattle.std.specs.Prelude.{◌≡◌, ◌&&◌, ◌++◌, ◌∷◌, map, OnOk, IfOk, IfErr};
+ghost use Rattle.std.specs.Prelude.{◌≡◌, ◌&&◌, ◌++◌, ◌∷◌, [], map, OnOk, IfOk, IfErr};
 ghost use Rattle.tla_config.specs.declared.error.DefsCode.TheVariants.{Memory};
 ghost use Rattle.tla_tree.specs.Tree.{trees as trees_of, binders};
 ghost use Rattle.tla_tree.specs.View.{view, group_view};
-ghost use Rattle.tla_defs.specs.Scope.{plain, bound_names};
+ghost use Rattle.tla_names.specs.Scope.{plain, bound_names};
 ghost use Rattle.tla_defs.specs.Fairness as spec;
-ghost use Rattle.tla_defs.specs.Conjuncts.{bodies_of, fair_from, all_fair};
+ghost use Rattle.tla_defs.specs.Conjuncts.{fair_names};
 
-use crate::bodies::{Bodies, Formula};
-use crate::conjuncts::push;
-use crate::refusal::no_memory;
-use crate::scope::Scope;
+use crate::table::Definitions;
 use std::alloc::Global;
 use tla_config::DefsError;
-use tla_tree::{Binder, Bullet, Expr, Infix, Quantifier, Word};
+use tla_names::Scope;
+use tla_tree::{Binder, Bullet, Expr, Infix, Quantifier};
 
 fn is_and(operator: Infix) -> bool
     ensures { result ≡ spec.is_and operator }
@@ -34,70 +32,44 @@ fn is_for_all(quantifier: Quantifier) -> bool
     matches!(quantifier, Quantifier::ForAll)
 }
 
-/// Whether a name may stand for fairness. The formula that it stands for is put behind those that are left.
-#[tactic(auto, using(crate::proofs::Fairs::fair_more))]
-fn fair_name<'a>(
-    bodies: &Bodies<'_, 'a>,
-    bound: &Scope<'a>,
-    name: &Word,
-    names: usize,
-    left: &mut Vec<Formula<'a>>,
-) -> Result<bool, DefsError>
-    ensures same { IfOk result (λ r. (all_fair (bodies_of bodies.now) left.old.items && spec.fair_name (spec.fair_of names (bodies_of bodies.now)) bound.now name.now) ≡ (r && all_fair (bodies_of bodies.now) left.new.items)) }
-    ensures err { IfErr result (λ e. e.code ≡ Memory) }
-{
-    let name = name.as_bytes();
-    if bound.knows(name) {
-        return Ok(false);
-    }
-    match bodies.formula(name, names) {
-        Some(body) => {
-            push(left, body)?;
-            Ok(true)
-        }
-        None => Ok(false),
-    }
-}
-
-/// Whether a formula is fairness, where these names are bound round it and the formulas that names stand for are. They
-/// are put behind those that are left.
+/// Whether a formula is fairness, where these names are bound round it. The only error is want of memory.
 #[cycle(fair)]
-#[tactic(auto, using(crate::proofs::Fairs::and_false))]
 fn fair_tree<'a>(
-    bodies: &Bodies<'_, 'a>,
+    definitions: &Definitions<'_, 'a>,
     bound: &mut Scope<'a>,
     tree: &'a Expr,
-    names: usize,
-    left: &mut Vec<Formula<'a>>,
 ) -> Result<bool, DefsError>
     ensures kept { OnOk result (bound.new ≡ bound.old) }
-    ensures same { IfOk result (λ r. (all_fair (bodies_of bodies.now) left.old.items && spec.fair_in (spec.fair_of names (bodies_of bodies.now)) bound.old (view tree.entry.now)) ≡ (r && all_fair (bodies_of bodies.now) left.new.items)) }
+    ensures same { IfOk result (λ r. r ≡ spec.fair_in (fair_names definitions.now) bound.old (view tree.entry.now)) }
     ensures err { IfErr result (λ e. e.code ≡ Memory) }
 {
     match tree {
         Expr::Fair(_, _, _, _) => Ok(true),
-        Expr::Name(name) => fair_name(bodies, bound, &name.word, names, left),
-        Expr::Paren(_, inner) => fair_tree(bodies, bound, inner, names, left),
+        Expr::Name(name) => {
+            let name = name.word.as_bytes();
+            Ok(!bound.knows(name) && definitions.is_fair(name))
+        }
+        Expr::Paren(_, inner) => fair_tree(definitions, bound, inner),
         Expr::Binary(_, operator, _, first, second) => {
             if !is_and(*operator) {
                 return Ok(false);
             }
-            if !fair_tree(bodies, bound, first, names, left)? {
+            if !fair_tree(definitions, bound, first)? {
                 return Ok(false);
             }
-            fair_tree(bodies, bound, second, names, left)
+            fair_tree(definitions, bound, second)
         }
         Expr::Junction(_, bullet, items) => {
             if !is_and_list(*bullet) {
                 return Ok(false);
             }
-            each_fair(bodies, bound, items, names, left)
+            each_fair(definitions, bound, items)
         }
         Expr::Quantified(_, quantifier, groups, body) => {
             if !is_for_all(*quantifier) {
                 return Ok(false);
             }
-            fair_under(bodies, bound, groups, body, names, left)
+            fair_under(definitions, bound, groups, body)
         }
         Expr::Number(_, _)
         | Expr::Text(_, _)
@@ -127,21 +99,20 @@ fn fair_tree<'a>(
 
 /// Whether a formula is fairness under names more.
 #[cycle(fair)]
+#[tactic(auto, using(crate::proofs::Fairs::cut_back))]
 fn fair_under<'a>(
-    bodies: &Bodies<'_, 'a>,
+    definitions: &Definitions<'_, 'a>,
     bound: &mut Scope<'a>,
     groups: &'a [Binder],
     body: &'a Expr,
-    names: usize,
-    left: &mut Vec<Formula<'a>>,
 ) -> Result<bool, DefsError>
     ensures kept { OnOk result (bound.new ≡ bound.old) }
-    ensures same { IfOk result (λ r. (all_fair (bodies_of bodies.now) left.old.items && spec.fair_in (spec.fair_of names (bodies_of bodies.now)) (bound.old ++ plain (bound_names (binders (map group_view groups.entry.now)))) (view body.entry.now)) ≡ (r && all_fair (bodies_of bodies.now) left.new.items)) }
+    ensures same { IfOk result (λ r. r ≡ spec.fair_in (fair_names definitions.now) (bound.old ++ plain (bound_names (binders (map group_view groups.entry.now)))) (view body.entry.now)) }
     ensures err { IfErr result (λ e. e.code ≡ Memory) }
 {
     let mark = bound.len();
     bound.push_bound(groups)?;
-    let found = fair_tree(bodies, bound, body, names, left)?;
+    let found = fair_tree(definitions, bound, body)?;
     bound.truncate(mark);
     Ok(found)
 }
@@ -149,19 +120,17 @@ fn fair_under<'a>(
 /// Whether these formulas are fairness.
 #[cycle(fair)]
 fn each_fair<'a>(
-    bodies: &Bodies<'_, 'a>,
+    definitions: &Definitions<'_, 'a>,
     bound: &mut Scope<'a>,
     trees: &'a [Expr],
-    names: usize,
-    left: &mut Vec<Formula<'a>>,
 ) -> Result<bool, DefsError>
     ensures kept { OnOk result (bound.new ≡ bound.old) }
-    ensures same { IfOk result (λ r. (all_fair (bodies_of bodies.now) left.old.items && spec.fair_each (spec.fair_of names (bodies_of bodies.now)) bound.old (trees_of (map view trees.entry.now))) ≡ (r && all_fair (bodies_of bodies.now) left.new.items)) }
+    ensures same { IfOk result (λ r. r ≡ spec.fair_each (fair_names definitions.now) bound.old (trees_of (map view trees.entry.now))) }
     ensures err { IfErr result (λ e. e.code ≡ Memory) }
 {
     let mut others = trees;
     while let [first, rest @ ..] = others {
-        if !fair_tree(bodies, bound, first, names, left)? {
+        if !fair_tree(definitions, bound, first)? {
             return Ok(false);
         }
         others = rest;
@@ -170,25 +139,14 @@ fn each_fair<'a>(
 }
 
 /// Whether a formula is fairness. The only error is want of memory.
-#[tactic(auto, using(crate::proofs::Fairs::fair_more))]
 pub(crate) fn is_fair<'a>(
     alloc: Global,
-    bodies: &Bodies<'_, 'a>,
-    whole: Formula<'a>,
+    definitions: &Definitions<'_, 'a>,
+    tree: &'a Expr,
 ) -> Result<bool, DefsError>
-    ensures ok { IfOk result (λ r. r ≡ fair_from (bodies_of bodies.now) whole.entry) }
+    ensures ok { IfOk result (λ r. r ≡ spec.fair_in (fair_names definitions.now) [] (view tree.entry.now)) }
     ensures err { IfErr result (λ e. e.code ≡ Memory) }
 {
     let mut bound = Scope::new(alloc);
-    let mut left = Vec::new(alloc);
-    push(&mut left, whole)?;
-    for _turn in 0..u64::MAX {
-        let Some(formula) = left.pop() else {
-            return Ok(true);
-        };
-        if !fair_tree(bodies, &mut bound, formula.tree, formula.names, &mut left)? {
-            return Ok(false);
-        }
-    }
-    Err(no_memory())
+    fair_tree(definitions, &mut bound, tree)
 }

@@ -1,98 +1,23 @@
-//! The names of a configuration, and the formulas that they stand for.
+//! The formulas that names of a configuration stand for.
 
 ghost use Rattle.std.specs.Prelude.{◌≡◌, ◌≢◌, IfOk, IfErr, map};
 ghost use Rattle.tla_config.specs.declared.error.DefsCode.TheVariants.{Memory};
-ghost use Rattle.tla_config.specs.View.{statement_view};
 ghost use Rattle.tla_core.specs.Expr as expr;
 ghost use Rattle.tla_core.specs.ExprOf.{expr_of};
 ghost use Rattle.tla_expand.specs.Names.{scope_of};
 ghost use Rattle.tla_tree.specs.Tree.{Name};
 ghost use Rattle.tla_tree.specs.View.{view};
 ghost use Rattle.tla_defs.specs.Model as model;
-ghost use Rattle.tla_defs.specs.Named as naming;
 ghost use Rattle.tla_defs.specs.Refused as refused;
 
-use crate::bodies::Bodies;
-use crate::mention::Mention;
-use crate::refusal::{no_memory, refusal_at, refusal_of};
-use crate::scope::Scope;
+use crate::places::Places;
 use std::alloc::Global;
-use tla_config::{DefsCode, DefsError, Source, Statement};
+use tla_config::{DefsCode, DefsError, Source};
 use tla_core::Core;
 use tla_expand::{Failure, Primes, Scopes};
 use tla_lex::Place;
+use tla_names::{no_memory, refusal_at};
 use tla_tree::{Expr, Written};
-
-/// The name of a definition without parameters.
-fn named(alloc: Global, definitions: &Scope<'_>, name: &Written) -> Result<(), DefsError>
-    ensures { refused.Says Source.Configuration result (naming.misnamed definitions.now name.now) }
-{
-    match definitions.arity(name.word.as_bytes()) {
-        None => Err(refusal_of(
-            alloc,
-            DefsCode::UnknownName,
-            Source::Configuration,
-            Mention::of(name),
-        )),
-        Some(arity) => {
-            if arity == 0 {
-                Ok(())
-            } else {
-                Err(refusal_of(
-                    alloc,
-                    DefsCode::ArgumentCount,
-                    Source::Configuration,
-                    Mention::of(name),
-                ))
-            }
-        }
-    }
-}
-
-/// Names of definitions without parameters.
-fn each_named(alloc: Global, definitions: &Scope<'_>, names: &[Written]) -> Result<(), DefsError>
-    ensures { refused.Says Source.Configuration result (naming.each_misnamed definitions.now names.now) }
-{
-    let mut left = names;
-    while let [first, rest @ ..] = left {
-        named(alloc, definitions, first)?;
-        left = rest;
-    }
-    Ok(())
-}
-
-/// A statement that names definitions without parameters.
-#[tactic(auto, using(crate::proofs::Stacks::or_else_none))]
-fn statement_named(
-    alloc: Global,
-    definitions: &Scope<'_>,
-    statement: &Statement,
-) -> Result<(), DefsError>
-    ensures { refused.Says Source.Configuration result (naming.each_misnamed definitions.now (naming.named (statement_view statement.now))) }
-{
-    match statement {
-        Statement::Init(_, name) | Statement::Next(_, name) | Statement::Specification(_, name) =>
-            named(alloc, definitions, name),
-        Statement::Invariants(_, names) => each_named(alloc, definitions, names),
-        Statement::Constants(_, _) | Statement::CheckDeadlock(_, _) => Ok(()),
-    }
-}
-
-/// Statements that name definitions without parameters.
-pub(crate) fn statements_named(
-    alloc: Global,
-    definitions: &Scope<'_>,
-    statements: &[Statement],
-) -> Result<(), DefsError>
-    ensures { refused.Says Source.Configuration result (naming.names_misused definitions.now (map statement_view statements.now)) }
-{
-    let mut left = statements;
-    while let [first, rest @ ..] = left {
-        statement_named(alloc, definitions, first)?;
-        left = rest;
-    }
-    Ok(())
-}
 
 /// A place of an expression, as a refusal tells it.
 fn place_of(place: tla_core::Place) -> Place {
@@ -131,7 +56,7 @@ fn too_high(found: Result<Core, Failure>, begins: Place) -> DefsError
 /// The initial condition of this name, over the variables next.
 pub(crate) fn initial(
     alloc: Global,
-    bodies: &Bodies<'_, '_>,
+    places: &Places<'_, '_>,
     scopes: &Scopes<'_>,
     name: &Written,
 ) -> Result<Core, DefsError>
@@ -141,14 +66,14 @@ pub(crate) fn initial(
 {
     match scopes.meaning(alloc, name, Primes::Once) {
         Ok(core) => Ok(core),
-        Err(failure) => Err(refusal(failure, bodies.begins(name))),
+        Err(failure) => Err(refusal(failure, places.begins(name))),
     }
 }
 
 /// The action of this name.
 pub(crate) fn action(
     alloc: Global,
-    bodies: &Bodies<'_, '_>,
+    places: &Places<'_, '_>,
     scopes: &Scopes<'_>,
     name: &Written,
 ) -> Result<Core, DefsError>
@@ -158,14 +83,14 @@ pub(crate) fn action(
 {
     match scopes.meaning(alloc, name, Primes::Never) {
         Ok(core) => Ok(core),
-        Err(failure) => Err(refusal(failure, bodies.begins(name))),
+        Err(failure) => Err(refusal(failure, places.begins(name))),
     }
 }
 
 /// The invariant of this name.
 pub(crate) fn invariant(
     alloc: Global,
-    bodies: &Bodies<'_, '_>,
+    places: &Places<'_, '_>,
     scopes: &Scopes<'_>,
     name: &Written,
 ) -> Result<Core, DefsError>
@@ -177,16 +102,16 @@ pub(crate) fn invariant(
         Ok(core) => {
             if core.is_primed() {
                 let found = scopes.meaning(alloc, name, Primes::Once);
-                Err(too_high(found, bodies.begins(name)))
+                Err(too_high(found, places.begins(name)))
             } else {
                 Ok(core)
             }
         }
         Err(Failure::NoExpansion(_)) => {
             let found = scopes.meaning(alloc, name, Primes::Once);
-            Err(too_high(found, bodies.begins(name)))
+            Err(too_high(found, places.begins(name)))
         }
-        Err(failure) => Err(refusal(failure, bodies.begins(name))),
+        Err(failure) => Err(refusal(failure, places.begins(name))),
     }
 }
 

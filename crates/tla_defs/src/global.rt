@@ -9,16 +9,15 @@ ghost use Rattle.tla_expand.specs.Names.{scope_of, outer_of};
 ghost use Rattle.tla_tree.specs.Units.{UnitTree};
 ghost use Rattle.tla_tree.specs.UnitsView.{unit_view};
 ghost use Rattle.tla_tree.specs.View.{view, definition_view};
+ghost use Rattle.tla_defs.specs.Given as made;
 ghost use Rattle.tla_defs.specs.Global as global;
-ghost use Rattle.tla_defs.specs.Items as items;
-ghost use Rattle.tla_defs.specs.Scope.{signature};
+ghost use Rattle.tla_names.specs.Items as items;
+ghost use Rattle.tla_names.specs.Scope.{signature};
 
-use crate::items::Items;
-use crate::names::Names;
-use crate::refusal::no_memory;
 use std::alloc::Global;
 use tla_config::{DefsError, Item};
 use tla_expand::Scopes;
+use tla_names::{Items, Names, name_of, no_memory};
 use tla_tree::{Definition, Expr, Unit, Word, Written};
 
 /// A scope, and how many variables are in it.
@@ -109,15 +108,6 @@ fn with_operator_unless<'a>(
     with_operator(counted, name, body)
 }
 
-/// The name of a definition.
-pub(crate) fn name_of<'a>(definition: &'a Definition) -> &'a Word
-    ensures { result.now ≡ (signature (definition_view definition.entry.now)).0 }
-{
-    match definition {
-        Definition::Operator(name, _, _) | Definition::Function(name, _, _) => &name.word,
-    }
-}
-
 /// With a definition more, where its name isn't replaced.
 fn with_definition_unless<'a>(
     counted: Counted<'a>,
@@ -161,7 +151,7 @@ fn with_unit<'a>(
 
 /// With the name of an item more.
 fn with_item<'a>(scopes: Scopes<'a>, item: &'a Item) -> Result<Scopes<'a>, DefsError>
-    ensures ok { IfOk result (λ s. scope_of s ≡ items.with_item (outer_of scopes.entry) (item_view item.now) (scope_of scopes.entry)) }
+    ensures ok { IfOk result (λ s. scope_of s ≡ made.with_item (outer_of scopes.entry) (item_view item.now) (scope_of scopes.entry)) }
     ensures outer { IfOk result (λ s. outer_of s ≡ outer_of scopes.entry) }
     ensures err { IfErr result (λ e. e.code ≡ Memory) }
 {
@@ -177,7 +167,7 @@ fn with_item<'a>(scopes: Scopes<'a>, item: &'a Item) -> Result<Scopes<'a>, DefsE
 
 /// With the names of items more.
 fn with_items<'a>(scopes: Scopes<'a>, given: &Items<'a>) -> Result<Scopes<'a>, DefsError>
-    ensures ok { IfOk result (λ s. scope_of s ≡ items.with_items (outer_of scopes.entry) given.now (scope_of scopes.entry)) }
+    ensures ok { IfOk result (λ s. scope_of s ≡ made.with_items (outer_of scopes.entry) given.now (scope_of scopes.entry)) }
     ensures err { IfErr result (λ e. e.code ≡ Memory) }
 {
     let mut all = scopes;

@@ -5,28 +5,18 @@
 #![tactic(auto)]
 
 mod behaviour;
-mod bodies;
 mod builder;
-mod circle;
 mod conjuncts;
-mod constants;
 mod cover;
 mod fairness;
 mod formula;
 mod global;
-mod items;
-mod known;
 pub mod laws;
-mod leads;
 mod meant;
-mod mention;
-mod name_set;
-mod names;
-mod names_in;
-mod refusal;
-mod scope;
+mod parts;
+mod places;
 mod specification;
-mod units;
+mod table;
 
 pub use builder::build;
 pub use tla_config::{Config, DefsCode, DefsError, Source, parse_config};

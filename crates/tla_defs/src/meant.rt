@@ -7,7 +7,7 @@ ghost use Rattle.tla_core.specs.ExprOf.{expr_of};
 ghost use Rattle.tla_expand.specs.Names.{scope_of};
 ghost use Rattle.tla_tree.specs.declared.tree.Bullet.TheVariants as bullet;
 ghost use Rattle.tla_tree.specs.Tree.{Tree, Junction, trees as trees_of};
-ghost use Rattle.tla_defs.specs.Conjuncts.{seen};
+ghost use Rattle.tla_defs.specs.Seen.{seen};
 ghost use Rattle.tla_tree.specs.UnitsView.{unit_view};
 ghost use Rattle.tla_tree.specs.View.{view};
 ghost use Rattle.tla_defs.specs.Mentions.{behaviour_of};
@@ -16,16 +16,15 @@ ghost use Rattle.tla_defs.specs.Refused as refused;
 ghost use Rattle.tla_defs.specs.Specified.{initial_in, initial_tree, action_tree, IsMeant, NoneMeant};
 
 use crate::behaviour::Behaviour;
-use crate::bodies::Bodies;
 use crate::formula::{action, initial, refusal};
-use crate::items::Items;
-use crate::refusal::no_memory;
+use crate::places::Places;
 use crate::specification::{Specified, specification};
 use std::alloc::Global;
 use tla_config::DefsError;
 use tla_core::Core;
 use tla_expand::{Primes, Scopes};
 use tla_lex::Place;
+use tla_names::{Items, no_memory};
 use tla_tree::{Expr, Unit, Written};
 
 /// The names of the initial predicate and the action, or what a specification says of them.
@@ -125,7 +124,7 @@ fn specified_action<'a>(
 /// The initial predicate, over the variables next.
 pub(crate) fn initial_predicate<'a>(
     alloc: Global,
-    bodies: &Bodies<'_, 'a>,
+    places: &Places<'_, 'a>,
     scopes: &Scopes<'a>,
     meant: &Meant<'a>,
 ) -> Result<Core, DefsError>
@@ -134,7 +133,7 @@ pub(crate) fn initial_predicate<'a>(
     ensures none { (i : Tree) → initial_tree «meant».now ≡ Some i → IfErr result (λ e. e.code ≢ Memory → (x : expr.Expr) → model.IsInitial (scope_of scopes.now) i x → ⊥) }
 {
     match meant {
-        Meant::Named(name, _) => initial(alloc, bodies, scopes, name),
+        Meant::Named(name, _) => initial(alloc, places, scopes, name),
         Meant::Specified(specified) => specified_initial(alloc, scopes, specified),
     }
 }
@@ -142,7 +141,7 @@ pub(crate) fn initial_predicate<'a>(
 /// The next-state action.
 pub(crate) fn next_action<'a>(
     alloc: Global,
-    bodies: &Bodies<'_, 'a>,
+    places: &Places<'_, 'a>,
     scopes: &Scopes<'a>,
     meant: &Meant<'a>,
 ) -> Result<Core, DefsError>
@@ -151,7 +150,7 @@ pub(crate) fn next_action<'a>(
     ensures none { IfErr result (λ e. e.code ≢ Memory → (x : expr.Expr) → model.IsAction (scope_of scopes.now) (action_tree «meant».now) x → ⊥) }
 {
     match meant {
-        Meant::Named(_, name) => action(alloc, bodies, scopes, name),
+        Meant::Named(_, name) => action(alloc, places, scopes, name),
         Meant::Specified(specified) => specified_action(alloc, scopes, specified.action),
     }
 }

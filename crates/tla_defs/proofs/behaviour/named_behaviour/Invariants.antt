@@ -1,6 +1,6 @@
 use Rattle.std.proofs.Common.{◌≡◌, length, map, None}
 use Rattle.tla_config.specs.View.{statement_view}
-use Rattle.tla_defs.specs.Mentions.{found}
+use Rattle.tla_names.specs.Mentions.{found}
 use Rattle.tla_defs.specs.Refused.{behaviour}
 use Rattle.tla_defs.proofs.behaviour.named_behaviour.Given as goal
 

@@ -1,9 +1,10 @@
-use Rattle.std.proofs.Common.{map}
+use Rattle.std.proofs.Common.{map, ap, ◌∙◌}
 use Rattle.std.proofs.lemmas.Result.{err_from_is_err_and}
 use Rattle.tla_tree.specs.UnitsView.{unit_view}
+use Rattle.tla_config.specs.Statements.{items_of}
 use Rattle.tla_defs.specs.Mentions.{behaviour_of}
 use Rattle.tla_defs.proofs.Behaviours.{behaviour_only}
-use Rattle.tla_defs.proofs.Nones.{no_behaviour, no_items, no_names, no_circle}
+use Rattle.tla_defs.proofs.Nones.{no_behaviour, no_items, no_names, no_circle, last_refusal, if_err}
 use Rattle.tla_defs.proofs.builder.model_or_refusal.Goals as goal
 
 pub model-requires-clause-only : goal.model-requires-clause-only
@@ -30,3 +31,12 @@ returns-in_err-straight-clause-none c =
 
 pub returns-clause-none : goal.returns-clause-none
 returns-clause-none c = rw c.statements-statements.ensures at c.model.ensures.none
+
+pub returns-clause-refused : goal.returns-clause-refused
+returns-clause-refused c =
+    if_err c.model.result
+    (λ e h m.
+    last_refusal (map unit_view c.args.units.now) c.args.config.now c.in_ok-items.items (behaviour_of c.in-Ok.found) e c.in_ok-variables.ensures.known
+    (c.in_ok-items.ensures.ok ∙ ap (λ cs. items_of cs) c.statements-statements.ensures) c.in_ok-valued.ensures.given c.in_ok-valued.ensures.valued c.in-Ok.ensures
+    (rw (c.in_ok-definitions.ensures.ok, c.statements-statements.ensures) at c.in_ok-statements_named.ensures) c.in_ok-straight.ensures.ok (h m))
+    c.model.ensures.refused

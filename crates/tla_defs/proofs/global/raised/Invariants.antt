@@ -2,7 +2,7 @@ use Rattle.std.proofs.Common.{◌≡◌, length, map}
 use Rattle.tla_expand.specs.Names.{scope_of}
 use Rattle.tla_tree.specs.UnitsView.{unit_view}
 use Rattle.tla_defs.specs.Global as global
-use Rattle.tla_defs.specs.Mentions.{item_of}
+use Rattle.tla_names.specs.Mentions.{item_of}
 use Rattle.tla_defs.proofs.global.raised.Given as goal
 
 abbrev pub invariant-loop-left : goal.invariant-loop-left

@@ -1,4 +1,4 @@
-use Rattle.std.proofs.Common.{◌≢◌, refl, subst, Some, IfErr}
+use Rattle.std.proofs.Common.{◌≢◌, refl, subst, IfErr}
 use Rattle.tla_config.specs.declared.error.DefsCode.TheVariants.{Memory}
 use Rattle.tla_core.specs.Expr as expr
 use Rattle.tla_expand.specs.Names.{scope_of}

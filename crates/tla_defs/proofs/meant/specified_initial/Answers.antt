@@ -1,12 +1,9 @@
-use Rattle.std.proofs.Common.{◌≢◌, ap, sym, ◌∙◌, subst, length, arith, IfOk, IfErr}
+use Rattle.std.proofs.Common.{◌≢◌, subst, arith, IfOk, IfErr}
 use Rattle.tla_config.specs.declared.error.DefsCode.TheVariants.{Memory}
 use Rattle.tla_core.specs.Expr as expr
 use Rattle.tla_core.specs.ExprOf.{expr_of}
 use Rattle.tla_expand.specs.Names.{scope_of}
-use Rattle.tla_tree.specs.Places.{place}
-use Rattle.tla_tree.specs.Tree.{Tree, Junction, trees}
-use Rattle.tla_tree.specs.declared.tree.Bullet.TheVariants as bullet
-use Rattle.tla_defs.specs.Conjuncts.{seen, tree_at}
+use Rattle.tla_tree.specs.Tree.{Tree}
 use Rattle.tla_defs.specs.Model.{IsInitial}
 use Rattle.tla_defs.proofs.Forms.{of_one_item, of_items}
 use Rattle.tla_defs.proofs.meant.specified_initial.Goals as goal

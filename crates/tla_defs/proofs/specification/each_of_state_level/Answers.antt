@@ -5,5 +5,5 @@ use Rattle.tla_defs.proofs.specification.each_of_state_level.Goals as goal
 
 pub returns-in_err-of_state_level-clause-none : goal.returns-in_err-of_state_level-clause-none
 returns-in_err-of_state_level-clause-none c =
-    let e = err_from_is_err_and c.from_residual.result c.from_residual.ensures.1 in
+    let e = err_from_is_err_and c.from_residual-in_err-of_state_level.result c.from_residual-in_err-of_state_level.ensures.1 in
     rw (e.1, e.2) (λ h. c.loop-left.invariant (lacks_first (scope_of c.args.scopes.now) c.loop-left.left.now c.first-item.result c.in-len1-up.len_at_least c.first-item.is (c.in_err-of_state_level.ensures.none h)))

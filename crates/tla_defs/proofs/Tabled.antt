@@ -1,0 +1,253 @@
+-- The definitions of a module in a table.
+use Rattle.std.proofs.Common.{◌≡◌, ◌≤◌, ◌<◌, ◌+◌, ◌-◌, ◌*◌, ℕ, suc, refl, ap, sym, ◌∙◌, arith, Bool, true, false, true≢false, List, [], ◌∷◌, ◌++◌, length, option_map, Option, Some, None, if◌then◌else◌, slice_get}
+use Rattle.std.specs.Prelude.{unwrap_or, is_some}
+use Rattle.std.specs.Borrow.{Bor}
+use Rattle.std.specs.Map.{lookup}
+use Rattle.std.specs.Str.{bytes_eq}
+use Rattle.indexmap.specs.IndexMap.{insert_entry}
+use Rattle.tla_tree.specs.Tree.{Tree}
+use Rattle.tla_tree.specs.Units.{UnitTree}
+use Rattle.tla_config.specs.Names.{Name}
+use Rattle.tla_config.specs.Statements.{Item}
+use Rattle.tla_names.specs.Items.{stands_for}
+use Rattle.tla_names.proofs.Inserted.{same, named, same_name, lookup_after}
+use Rattle.tla_expand.specs.Maybe.{◌>>=◌, or_else}
+use Rattle.tla_defs.specs.declared.table.Body.{Body}
+use Rattle.tla_defs.specs.Bodies.{Bodies, body_if, body_in, body_of}
+use Rattle.tla_defs.specs.Fairness.{fair_in, fair_of, fair_body}
+use Rattle.tla_defs.specs.Seen.{tree_at}
+use Rattle.tla_defs.specs.Table.{Row, definition_at, body_at, fair_at, bodies_by, fair_by, fair_count, IsFairSoFar, IsPassed, AreMore}
+use Rattle.tla_defs.proofs.Fairs.{more_fair, fair_deeper, fair_within, all_fair_names, same_answer}
+
+-- a new name at the end
+lookup_end : {V : Type 0} (es : List (Bor Name × V)) (k : Bor Name) (v : V) (x : Name) → lookup (named x) es ≡ None → lookup (named x) (es ++ (k, v) ∷ []) ≡ (if bytes_eq x k.now then Some v else None)
+lookup_end [] k v x h = at (bytes_eq x k.now) refl
+  where
+    at : (b : Bool) → bytes_eq x k.now ≡ b → lookup (named x) ((k, v) ∷ []) ≡ (if bytes_eq x k.now then Some v else None)
+    at true g = rw g refl
+    at false g = rw g refl
+lookup_end (e ∷ es) k v x h = at (bytes_eq x e.0.now) refl h (lookup_end es k v x)
+  where
+    at : (b : Bool) → bytes_eq x e.0.now ≡ b → lookup (named x) (e ∷ es) ≡ None → (lookup (named x) es ≡ None → lookup (named x) (es ++ (k, v) ∷ []) ≡ (if bytes_eq x k.now then Some v else None))
+        → lookup (named x) ((e ∷ es) ++ (k, v) ∷ []) ≡ (if bytes_eq x k.now then Some v else None)
+    at true g n r = let z : Some e.1 ≡ None = rw g at n in let w : ⊥ = cc in absurd w
+    at false g n r = rw g (r (rw g at n))
+
+lookup_before : {V : Type 0} (es : List (Bor Name × V)) (k : Bor Name) (v w : V) (x : Name) → Some w ≡ lookup (named x) es → lookup (named x) (es ++ (k, v) ∷ []) ≡ Some w
+lookup_before [] k v w x h = let z : ⊥ = cc in absurd z
+lookup_before (e ∷ es) k v w x h = at (bytes_eq x e.0.now) refl h (lookup_before es k v w x)
+  where
+    at : (b : Bool) → bytes_eq x e.0.now ≡ b → Some w ≡ lookup (named x) (e ∷ es) → (Some w ≡ lookup (named x) es → lookup (named x) (es ++ (k, v) ∷ []) ≡ Some w) → lookup (named x) ((e ∷ es) ++ (k, v) ∷ []) ≡ Some w
+    at true g n r = rw g (sym (rw g at n))
+    at false g n r = rw g (r (rw g at n))
+
+module _ (es : List Row) (k : Bor Name) (d : Body) (unfair : d.is_fair ≡ false) (new : definition_at es k.now ≡ None) where
+  grown : (x : Name) (o : Option Body) → definition_at es x ≡ o → definition_at (es ++ (k, d) ∷ []) x ≡ unwrap_or (option_map (λ b. Some b) o) (if bytes_eq x k.now then Some d else None)
+  grown x None h = lookup_end es k d x h
+  grown x (Some b) h = lookup_before es k d b x (sym h)
+
+  pub added_bodies : (x : Name) (o : Option Tree) → or_else (body_at (es ++ (k, d) ∷ []) x) o ≡ or_else (body_at es x) (body_if (bytes_eq x k.now) (tree_at d.tree) o)
+  added_bodies x o = at (definition_at es x) refl (bytes_eq x k.now) refl
+    where
+      at : (b : Option Body) → definition_at es x ≡ b → (c : Bool) → bytes_eq x k.now ≡ c → or_else (body_at (es ++ (k, d) ∷ []) x) o ≡ or_else (body_at es x) (body_if (bytes_eq x k.now) (tree_at d.tree) o)
+      at None h true g = rw (grown x None h, h, g) refl
+      at None h false g = rw (grown x None h, h, g) refl
+      at (Some b) h c g = rw (grown x (Some b) h, h) refl
+
+  pub added_fair : (x : Name) → fair_at (es ++ (k, d) ∷ []) x ≡ fair_at es x
+  added_fair x = at (definition_at es x) refl (bytes_eq x k.now) refl
+    where
+      at : (b : Option Body) → definition_at es x ≡ b → (c : Bool) → bytes_eq x k.now ≡ c → fair_at (es ++ (k, d) ∷ []) x ≡ fair_at es x
+      at None h true g = rw (grown x None h, h, g) unfair
+      at None h false g = rw (grown x None h, h, g) refl
+      at (Some b) h c g = rw (grown x (Some b) h, h) refl
+
+-- a name that is known already
+pub known_body : (es : List Row) (k : Name) (e : Tree) (x : Name) (o : Option Tree) → is_some (definition_at es k) ≡ true → or_else (body_at es x) o ≡ or_else (body_at es x) (body_if (bytes_eq x k) e o)
+known_body es k e x o h = at (definition_at es x) refl (bytes_eq x k) refl
+  where
+    at : (b : Option Body) → definition_at es x ≡ b → (c : Bool) → bytes_eq x k ≡ c → or_else (body_at es x) o ≡ or_else (body_at es x) (body_if (bytes_eq x k) e o)
+    at (Some b) g c m = rw g refl
+    at None g false m = rw (g, m) refl
+    at None g true m =
+        let none : is_some (definition_at es k) ≡ false = ap (λ y. is_some (definition_at es y)) (sym (same_name x k m)) ∙ ap (λ b. is_some b) g in
+        absurd (true≢false (sym h ∙ none))
+
+-- One definition more is known to be fairness.
+module _ (es : List Row) (is : List Item) (k : Bor Name) (d e : Body) (is_there : definition_at es k.now ≡ Some d) (unfair : d.is_fair ≡ false) (tree : e.tree ≡ d.tree) (fair : e.is_fair ≡ true) where
+  abbrev pub after : List Row
+  after = insert_entry same es k e
+
+  pub same_bodies : (x : Name) → body_at after x ≡ body_at es x
+  same_bodies x = ap (λ o. option_map (λ (b : Body). tree_at b.tree) o) (lookup_after es k e x) ∙ at (bytes_eq x k.now) refl
+    where
+      at : (c : Bool) → bytes_eq x k.now ≡ c → option_map (λ (b : Body). tree_at b.tree) (if bytes_eq x k.now then Some e else definition_at es x) ≡ body_at es x
+      at true h = rw (h, same_name x k.now h, is_there, tree) refl
+      at false h = rw h refl
+
+  fair_after : (x : Name) → fair_at after x ≡ (if bytes_eq x k.now then true else fair_at es x)
+  fair_after x = ap (λ o. unwrap_or (option_map (λ (b : Body). b.is_fair) o) false) (lookup_after es k e x) ∙ at (bytes_eq x k.now) refl
+    where
+      at : (c : Bool) → bytes_eq x k.now ≡ c → unwrap_or (option_map (λ (b : Body). b.is_fair) (if bytes_eq x k.now then Some e else definition_at es x)) false ≡ (if bytes_eq x k.now then true else fair_at es x)
+      at true h = rw h fair
+      at false h = rw h refl
+
+count_after : (es : List Row) (k : Bor Name) (d e : Body) → definition_at es k.now ≡ Some d → d.is_fair ≡ false → e.is_fair ≡ true → fair_count (insert_entry same es k e) ≡ fair_count es + 1
+count_after [] k d e h u f = let z : ⊥ = cc in absurd z
+count_after (r ∷ es) k d e h u f = at (bytes_eq k.now r.0.now) refl h (count_after es k d e)
+  where
+    at : (c : Bool) → bytes_eq k.now r.0.now ≡ c → definition_at (r ∷ es) k.now ≡ Some d → (definition_at es k.now ≡ Some d → d.is_fair ≡ false → e.is_fair ≡ true → fair_count (insert_entry same es k e) ≡ fair_count es + 1)
+        → fair_count (insert_entry same (r ∷ es) k e) ≡ fair_count (r ∷ es) + 1
+    at true g n i =
+        let is : Some r.1 ≡ Some d = rw g at n in
+        let it : r.1 ≡ d = cc in
+        rw (g, f, it, u) refl
+    at false g n i =
+        let rest = i (rw g at n) u f in
+        rw g (more r.1.is_fair refl rest)
+      where
+        more : (c : Bool) → r.1.is_fair ≡ c → fair_count (insert_entry same es k e) ≡ fair_count es + 1 → fair_count (r ∷ insert_entry same es k e) ≡ fair_count (r ∷ es) + 1
+        more true m q = rw m (ap (λ n. n + 1) q)
+        more false m q = rw m q
+
+length_after : (es : List Row) (k : Bor Name) (d e : Body) → definition_at es k.now ≡ Some d → length (insert_entry same es k e) ≡ length es
+length_after [] k d e h = let z : ⊥ = cc in absurd z
+length_after (r ∷ es) k d e h = at (bytes_eq k.now r.0.now) refl h (length_after es k d e)
+  where
+    at : (c : Bool) → bytes_eq k.now r.0.now ≡ c → definition_at (r ∷ es) k.now ≡ Some d → (definition_at es k.now ≡ Some d → length (insert_entry same es k e) ≡ length es) → length (insert_entry same (r ∷ es) k e) ≡ length (r ∷ es)
+    at true g n i = rw g refl
+    at false g n i = rw g (ap (λ m. suc m) (i (rw g at n)))
+
+-- the names mean the same
+by_meant : (es fs : List Row) (is : List Item) → ((x : Name) → body_at fs x ≡ body_at es x) → (x : Name) (o : Option Name) → stands_for is x ≡ o → bodies_by fs is x ≡ bodies_by es is x
+by_meant es fs is h x None m = rw m refl
+by_meant es fs is h x (Some y) m = rw m (h y)
+
+pub same_by : (es fs : List Row) (is : List Item) → ((x : Name) → body_at fs x ≡ body_at es x) → bodies_by fs is ≡ bodies_by es is
+same_by es fs is h = λ j x. by_meant es fs is h x (stands_for is x) refl j
+
+module _ (es : List Row) (is : List Item) (k : Bor Name) (d e : Body) (is_there : definition_at es k.now ≡ Some d) (unfair : d.is_fair ≡ false) (tree : e.tree ≡ d.tree) (fair : e.is_fair ≡ true)
+    (made : fair_in (fair_by es is) [] (tree_at d.tree) ≡ true) where
+  abbrev pub fs : List Row
+  fs = insert_entry same es k e
+
+  meant : (x y : Name) → stands_for is x ≡ Some y → bytes_eq y k.now ≡ true → bodies_by es is x ≡ Some (tree_at d.tree)
+  meant x y m h = rw (m, same_name y k.now h, is_there) refl
+
+  goes_deeper : IsFairSoFar es is → (x : Name) → fair_by fs is x ≡ true → fair_of (suc (fair_count es)) (bodies_by es is) x ≡ true
+  goes_deeper g x h = at (stands_for is x) refl
+    where
+      by_other : (y : Name) → stands_for is x ≡ Some y → (c : Bool) → bytes_eq y k.now ≡ c → fair_of (suc (fair_count es)) (bodies_by es is) x ≡ true
+      by_other y m true n =
+          let known = more_fair (fair_by es is) (fair_of (fair_count es) (bodies_by es is)) (λ z q. g.known z q) [] (tree_at d.tree) made in
+          ap (λ o. fair_body (fair_of (fair_count es) (bodies_by es is)) o) (meant x y m n) ∙ known
+      by_other y m false n =
+          let now : fair_by fs is x ≡ fair_at fs y = rw m refl in
+          let was : fair_by es is x ≡ fair_at es y = rw m refl in
+          let same : fair_at fs y ≡ fair_at es y = fair_after es is k d e is_there unfair tree fair y ∙ rw n refl in
+          fair_deeper (bodies_by es is) (fair_count es) x (g.known x (was ∙ sym same ∙ sym now ∙ h))
+
+      at : (o : Option Name) → stands_for is x ≡ o → fair_of (suc (fair_count es)) (bodies_by es is) x ≡ true
+      at None m = let none : fair_by fs is x ≡ false = rw m refl in absurd (true≢false (sym h ∙ none))
+      at (Some y) m = by_other y m (bytes_eq y k.now) refl
+
+  pub one_more : fair_count fs ≡ fair_count es + 1
+  one_more = count_after es k d e is_there unfair fair
+
+  next : fair_count fs ≡ suc (fair_count es)
+  next = let one = one_more in omega (arith, one)
+
+  pub are_more : AreMore es fs is
+  are_more = record {
+    bodies = same_bodies es is k d e is_there unfair tree fair;
+    many = length_after es k d e is_there;
+    sound = λ g. record {
+      known = λ x h.
+          ap (λ n. fair_of n (bodies_by fs is) x) next
+          ∙ ap (λ (b : Bodies). fair_of (suc (fair_count es)) b x) (same_by es fs is (same_bodies es is k d e is_there unfair tree fair))
+          ∙ goes_deeper g x h;
+    };
+  }
+
+pub same_more : (es : List Row) (is : List Item) → AreMore es es is
+same_more es is = record { bodies = λ x. refl; many = refl; sound = λ g. g }
+
+pub more_yet : (es ms gs : List Row) (is : List Item) → AreMore es ms is → AreMore ms gs is → AreMore es gs is
+more_yet es ms gs is h g = record { bodies = λ x. g.bodies x ∙ h.bodies x; many = g.many ∙ h.many; sound = λ s. g.sound (h.sound s) }
+
+-- where a name's definition stands
+record IsRow (es : List Row) (d : Body) : Type 0 where
+  number : ℕ
+  row : Row
+  within : number < length es
+  is_row : slice_get es number ≡ Some row
+  says : row.1 ≡ d
+
+row_of : (es : List Row) (y : Name) (d : Body) → definition_at es y ≡ Some d → IsRow es d
+row_of [] y d h = let z : ⊥ = cc in absurd z
+row_of (e ∷ es) y d h = at (bytes_eq y e.0.now) refl h (row_of es y d)
+  where
+    at : (c : Bool) → bytes_eq y e.0.now ≡ c → definition_at (e ∷ es) y ≡ Some d → (definition_at es y ≡ Some d → IsRow es d) → IsRow (e ∷ es) d
+    at true g n r =
+        let is : Some e.1 ≡ Some d = rw g at n in
+        record { number = 0; row = e; within = omega arith; is_row = refl; says = cc }
+    at false g n r =
+        let i = r (rw g at n) in
+        let inside = i.within in
+        record { number = suc i.number; row = i.row; within = omega (arith, inside); is_row = i.is_row; says = i.says }
+
+pub few : (fs : List Row) → fair_count fs ≤ length fs
+few [] = omega arith
+few (e ∷ fs) = at e.1.is_fair refl (few fs)
+  where
+    at : (c : Bool) → e.1.is_fair ≡ c → fair_count fs ≤ length fs → fair_count (e ∷ fs) ≤ length (e ∷ fs)
+    at true g h = rw g (omega (arith, h))
+    at false g h = rw g (omega (arith, h))
+
+-- what is left to find out, after a turn
+pub smaller : (n k j : ℕ) (r : Bool) → (r ≡ true → k < j) → (r ≡ false → j ≡ k) → j ≤ n → 2 * (n - j) + (if r then 1 else 0) < 2 * (n - k) + 1
+smaller n k j true one same most = let more = one refl in omega (arith, more, most)
+smaller n k j false one same most = let equal = same refl in omega (arith, equal)
+
+module _ (es : List Row) (is : List Item) (passed : (i : ℕ) → i < length es → IsPassed es is i) where
+  closed_at : (x : Name) (o : Option Name) → stands_for is x ≡ o → (b : Option Body) → (o >>= λ y. definition_at es y) ≡ b → fair_body (fair_by es is) (bodies_by es is x) ≡ true → fair_by es is x ≡ true
+  closed_at x None m b n h =
+      let none : fair_body (fair_by es is) (bodies_by es is x) ≡ false = rw m refl in
+      absurd (true≢false (sym h ∙ none))
+  closed_at x (Some y) m None n h =
+      let none : fair_body (fair_by es is) (bodies_by es is x) ≡ false = rw (m, n) refl in
+      absurd (true≢false (sym h ∙ none))
+  closed_at x (Some y) m (Some d) n h =
+      let made : fair_body (fair_by es is) (bodies_by es is x) ≡ fair_in (fair_by es is) [] (tree_at d.tree) = rw (m, n) refl in
+      let i = row_of es y d n in
+      let same : tree_at i.row.1.tree ≡ tree_at d.tree = ap (λ (b : Body). tree_at b.tree) i.says in
+      let fair = passed i.number i.within i.row i.is_row (ap (λ t. fair_in (fair_by es is) [] t) same ∙ sym made ∙ h) in
+      let it : fair_by es is x ≡ d.is_fair = rw (m, n) refl in
+      it ∙ sym (ap (λ (b : Body). b.is_fair) i.says) ∙ fair
+
+  -- where no definition is found to be fairness any more, all that are were found
+  pub settled : IsFairSoFar es is → (n : ℕ) → length es ≤ n → fair_by es is ≡ fair_of n (bodies_by es is)
+  settled g n l = λ j x.
+      same_answer (fair_by es is x) (fair_of n (bodies_by es is) x)
+      (λ h. let most = few es in fair_within (bodies_by es is) (fair_count es) n x (omega (arith, most, l)) (g.known x h))
+      (λ h. all_fair_names (bodies_by es is) (fair_by es is) (λ y q. closed_at y (stands_for is y) refl (stands_for is y >>= λ z. definition_at es z) refl q) n x h) j
+
+-- where none is known to be fairness
+pub none_known : (es : List Row) (is : List Item) → ((x : Name) → fair_at es x ≡ false) → IsFairSoFar es is
+none_known es is h = record { known = λ x g. at x g (stands_for is x) refl }
+  where
+    at : (x : Name) → fair_by es is x ≡ true → (o : Option Name) → stands_for is x ≡ o → fair_of (fair_count es) (bodies_by es is) x ≡ true
+    at x g None m = let none : fair_by es is x ≡ false = rw m refl in absurd (true≢false (sym g ∙ none))
+    at x g (Some y) m = let none : fair_by es is x ≡ false = rw m (h y) in absurd (true≢false (sym g ∙ none))
+
+-- the definitions of a module
+pub bodies_are : (es : List Row) (us : List UnitTree) (is : List Item) → ((x : Name) → body_at es x ≡ body_in us x) → bodies_by es is ≡ body_of us is
+bodies_are es us is h = λ j x. at x (stands_for is x) refl j
+  where
+    at : (x : Name) (o : Option Name) → stands_for is x ≡ o → bodies_by es is x ≡ body_of us is x
+    at x None m = rw m refl
+    at x (Some y) m = rw m (h y)
+
+pub absent : {A : Type 0} (o : Option A) → is_some o ≡ false → o ≡ None
+absent None h = refl
+absent (Some x) h = absurd (true≢false h)

@@ -1,0 +1,27 @@
+use Rattle.std.proofs.Common.{◌≡◌, ◌-◌, ◌+◌, ◌++◌, suc, arith, ap, sym, ◌∙◌, length, map, take}
+use Rattle.std.proofs.lemmas.List.{append_assoc}
+use Rattle.tla_tree.specs.Tree.{trees}
+use Rattle.tla_tree.specs.View.{view}
+use Rattle.tla_defs.specs.Conjuncts.{ahead}
+use Rattle.tla_defs.specs.Specification.{conjuncts_of, conjuncts_each, conjuncts_in}
+use Rattle.tla_defs.proofs.Begun.{ahead_last, take_more, each_more}
+use Rattle.tla_defs.proofs.conjuncts.push_each.Goals as goal
+
+pub loop-i-preserved : goal.loop-i-preserved
+loop-i-preserved c = λ b.
+    let ρ = conjuncts_of c.args.names b in
+    let all = c.args.trees.now in
+    let n = length all - (c.loop-i.i + 1) in
+    let fs = c.loop-i.formulas.items in
+    let e = c.index-trees-trees.result in
+    let inside = c.loop-i-test.true in
+    let one : length all - c.loop-i.i ≡ suc n = omega (arith, inside) in
+    let at : length all - 1 - c.loop-i.i ≡ n = omega (arith, inside) in
+    let cut = ap (λ m. take m all) one ∙ take_more n all e (omega (arith, inside)) (rw (sym at) c.index-trees-trees.is) in
+    let first = conjuncts_each ρ (trees (map view (take n all))) in
+    c.loop-i.invariant b
+    ∙ ap (λ ts. conjuncts_each ρ (trees (map view ts)) ++ ahead b fs) cut
+    ∙ ap (λ ts. ts ++ ahead b fs) (each_more ρ (take n all) e)
+    ∙ append_assoc first (conjuncts_in ρ (view e)) (ahead b fs)
+    ∙ ap (λ ts. first ++ ts) (sym (ahead_last b fs _))
+    ∙ ap (λ gs. first ++ ahead b gs) (sym c.in_ok-push.ensures.ok)

@@ -1,9 +1,0 @@
-use Rattle.std.proofs.Common.{◌≡◌, length}
-use Rattle.tla_defs.specs.Named.{each_misnamed}
-use Rattle.tla_defs.proofs.formula.each_named.Given as goal
-
-abbrev pub invariant-loop-left : goal.invariant-loop-left
-invariant-loop-left l = each_misnamed l.definitions l.names ≡ each_misnamed l.definitions l.left
-
-abbrev pub decreases-loop-left : goal.decreases-loop-left
-decreases-loop-left l = length l.left

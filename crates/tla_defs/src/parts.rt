@@ -1,0 +1,130 @@
+//! The conjuncts of a specification by what they are.
+
+ghost use Rattle.std.specs.Prelude.{◌≡◌, ◌≢◌, ◌++◌, ◌∷◌, [], Some, true, false, option_map, OnOk, IfErr};
+ghost use Rattle.tla_config.specs.declared.error.DefsCode.TheVariants.{Memory};
+ghost use Rattle.tla_tree.specs.View.{view};
+ghost use Rattle.tla_names.specs.Refusal as refusal;
+ghost use Rattle.tla_defs.specs.Conjuncts.{fair_names, initials_by};
+ghost use Rattle.tla_defs.specs.Parts.{step_of, steps_in, AreFew};
+ghost use Rattle.tla_defs.specs.Refused.{IsLast};
+ghost use Rattle.tla_defs.specs.Seen.{tree_at, seen};
+ghost use Rattle.tla_defs.specs.Specification as spec;
+
+use crate::fairness::is_fair;
+use crate::table::Definitions;
+use std::alloc::Global;
+use tla_config::{DefsCode, DefsError, Source};
+use tla_lex::Place;
+use tla_names::{no_memory, refusal_at};
+use tla_tree::{Expr, Prefix, Step};
+
+/// An action and its subscript.
+#[derive(Clone, Copy)]
+pub(crate) struct Boxed<'a> {
+    pub(crate) action: &'a Expr,
+    pub(crate) subscript: &'a Expr,
+}
+
+/// The conjuncts of a specification but for its fairness, in order.
+#[derive(Drop)]
+pub(crate) struct Parts<'a> {
+    pub(crate) steps: Vec<Boxed<'a>>,
+    pub(crate) initial: Vec<&'a Expr>,
+}
+
+/// The action and the subscript of `[A]_v`.
+fn step_in<'a>(tree: &'a Expr) -> Option<Boxed<'a>>
+    ensures { option_map step_of result ≡ spec.boxed (view tree.entry.now) }
+{
+    match tree {
+        Expr::Paren(_, inner) => step_in(inner),
+        Expr::Action(_, Step::Box, action, subscript) => Some(Boxed { action, subscript }),
+        _ => None,
+    }
+}
+
+/// The action and the subscript of `[][A]_v`.
+fn always<'a>(tree: &'a Expr) -> Option<Boxed<'a>>
+    ensures { option_map step_of result ≡ spec.always (view tree.entry.now) }
+{
+    match tree {
+        Expr::Unary(_, Prefix::Always, formula) => step_in(formula),
+        _ => None,
+    }
+}
+
+fn push_step<'a>(steps: &mut Vec<Boxed<'a>>, step: Boxed<'a>) -> Result<(), DefsError>
+    ensures ok { OnOk result (steps.new.items ≡ steps.old.items ++ step.entry ∷ []) }
+    ensures err { IfErr result (λ e. e.code ≡ Memory) }
+{
+    match steps.push(step) {
+        Ok(()) => Ok(()),
+        Err(_) => Err(no_memory()),
+    }
+}
+
+fn push_tree<'a>(trees: &mut Vec<&'a Expr>, tree: &'a Expr) -> Result<(), DefsError>
+    ensures ok { OnOk result (trees.new.items ≡ trees.old.items ++ tree.entry ∷ []) }
+    ensures err { IfErr result (λ e. e.code ≡ Memory) }
+{
+    match trees.push(tree) {
+        Ok(()) => Ok(()),
+        Err(_) => Err(no_memory()),
+    }
+}
+
+impl<'a> Parts<'a> {
+    /// No conjunct.
+    pub(crate) fn new(alloc: Global) -> Parts<'a>
+        ensures steps { steps_in result ≡ [] }
+        ensures initial { seen result.initial.items ≡ [] }
+    {
+        Parts {
+            steps: Vec::new(alloc),
+            initial: Vec::new(alloc),
+        }
+    }
+
+    /// One conjunct more. The only error is want of memory.
+    pub(crate) fn sort(
+        &mut self,
+        alloc: Global,
+        definitions: &Definitions<'_, 'a>,
+        tree: &'a Expr,
+    ) -> Result<(), DefsError>
+        ensures steps { OnOk result (steps_in self.new ≡ steps_in self.old ++ spec.steps_of (tree_at tree.entry ∷ [])) }
+        ensures initial { OnOk result (seen self.new.initial.items ≡ seen self.old.initial.items ++ initials_by (fair_names definitions.now) (tree_at tree.entry ∷ [])) }
+        ensures err { IfErr result (λ e. e.code ≡ Memory) }
+    {
+        if let Some(step) = always(tree) {
+            return push_step(&mut self.steps, step);
+        }
+        if is_fair(alloc, definitions, tree)? {
+            return Ok(());
+        }
+        push_tree(&mut self.initial, tree)
+    }
+
+    /// Whether there is one step at most, and no more other conjuncts than an expression within the limits has nodes.
+    pub(crate) fn are_few(&self) -> bool
+        ensures yes { result ≡ true → AreFew self.now }
+        ensures no { result ≡ false → AreFew self.now → ⊥ }
+    {
+        self.steps.len() < 2 && self.initial.len() <= 200_000
+    }
+
+    /// The refusal of more than a few conjuncts, where SPECIFICATION stands at this place: of two steps, or of an initial
+    /// predicate that is too large.
+    pub(crate) fn too_many(&self, place: Place) -> DefsError
+        ensures { result.code ≢ Memory → IsLast (Some (refusal.refusal_at DefsCode.SpecificationForm Source.Configuration place)) result }
+    {
+        if self.steps.len() > 1 || self.initial.len() == 0 {
+            return refusal_at(DefsCode::SpecificationForm, Source::Configuration, place);
+        }
+        refusal_at(
+            DefsCode::ExpansionTooLarge,
+            Source::Module,
+            self.initial[0].place(),
+        )
+    }
+}

@@ -1,0 +1,15 @@
+pub mod Maybe
+pub mod Operators
+pub mod Scope
+pub mod Known
+pub mod Constants
+pub mod Misuses
+pub mod Items
+pub mod Named
+pub mod Leads
+pub mod Circles
+pub mod Refusal
+pub mod Mentions
+pub mod Latest
+pub mod Remembered
+pub mod Reached

@@ -1,0 +1,634 @@
+//! The names of expressions: each is brought in once, known where it is used, and used with its number of arguments.
+
+ghost use Rattle.std.specs.Prelude.{◌≡◌, ◌≢◌, ◌++◌, ◌∷◌, [], List, None, Some, true, false, IfOk, IfErr, OnOk, map, option_map, is_some, length, take};
+ghost use Rattle.tla_config.specs.declared.error.DefsCode.TheVariants.{Memory};
+ghost use Rattle.tla_config.specs.Names.{Name, words};
+ghost use Rattle.tla_tree.specs.Tree.{trees, binders, arms, definitions, fields, keys, updates};
+ghost use Rattle.tla_tree.specs.View.{view, group_view, choice_view, definition_view, field_view, key_view, update_view};
+ghost use Rattle.tla_names.specs.Scope as scope_of;
+ghost use Rattle.tla_names.specs.Operators as operators;
+ghost use Rattle.tla_names.specs.Known as known;
+ghost use Rattle.tla_names.specs.Maybe.{or_else};
+ghost use Rattle.tla_names.specs.Mentions.{written_of};
+ghost use Rattle.tla_names.specs.Refusal.{Says};
+
+use crate::mention::Mention;
+use crate::names::Names;
+use crate::refusal::refusal_of;
+use crate::scope::Scope;
+use std::alloc::Global;
+use tla_config::{DefsCode, DefsError, Source};
+use tla_lex::Place;
+use tla_tree::{Arm, Binder, Definition, Expr, Field, Infix, Key, Prefix, Update, Written};
+
+/// Whether an infix operator may be used where these modules are extended.
+fn infix_known(modules: &Names<'_>, operator: Infix) -> bool
+    ensures { result ≡ operators.infix_known modules.now operator }
+{
+    match operator {
+        Infix::Less
+        | Infix::Greater
+        | Infix::AtMost
+        | Infix::AtLeast
+        | Infix::Plus
+        | Infix::Minus
+        | Infix::Times
+        | Infix::Quotient
+        | Infix::Remainder
+        | Infix::Power
+        | Infix::Range => modules.contains(b"Naturals") || modules.contains(b"Integers"),
+        Infix::Concatenation => modules.contains(b"Sequences"),
+        Infix::Pair | Infix::Override => modules.contains(b"TLC"),
+        _ => true,
+    }
+}
+
+/// Whether a prefix operator may be used where these modules are extended.
+fn prefix_known(modules: &Names<'_>, operator: Prefix) -> bool
+    ensures { result ≡ operators.prefix_known modules.now operator }
+{
+    match operator {
+        Prefix::Negate => modules.contains(b"Integers"),
+        _ => true,
+    }
+}
+
+/// How a prefix operator is written.
+fn prefix_word(operator: Prefix) -> &'static [u8]
+    ensures { result.now ≡ operators.prefix_word operator }
+{
+    match operator {
+        Prefix::Not => b"~",
+        Prefix::Negate => b"-",
+        Prefix::Always => b"[]",
+        Prefix::Eventually => b"<>",
+        Prefix::Unchanged => b"UNCHANGED",
+        Prefix::Subset => b"SUBSET",
+        Prefix::Union => b"UNION",
+        Prefix::Domain => b"DOMAIN",
+    }
+}
+
+/// The use of a name with so many arguments.
+fn used(alloc: Global, scope: &Scope<'_>, name: &Written, count: usize) -> Result<(), DefsError>
+    ensures { Says Source.Module result (known.used scope.now name.now count) }
+{
+    match scope.arity(name.word.as_bytes()) {
+        None => Err(refusal_of(
+            alloc,
+            DefsCode::UnknownName,
+            Source::Module,
+            Mention::of(name),
+        )),
+        Some(arity) => {
+            if count == arity {
+                Ok(())
+            } else {
+                Err(refusal_of(
+                    alloc,
+                    DefsCode::ArgumentCount,
+                    Source::Module,
+                    Mention::of(name),
+                ))
+            }
+        }
+    }
+}
+
+/// A name that is not in scope.
+pub(crate) fn new_name(alloc: Global, scope: &Scope<'_>, name: &Written) -> Result<(), DefsError>
+    ensures { Says Source.Module result (known.new_name scope.now name.now) }
+{
+    if scope.knows(name.word.as_bytes()) {
+        return Err(refusal_of(
+            alloc,
+            DefsCode::DefinedTwice,
+            Source::Module,
+            Mention::of(name),
+        ));
+    }
+    Ok(())
+}
+
+/// New names more, none of which is in scope.
+fn bring<'a>(
+    alloc: Global,
+    scope: &Scope<'_>,
+    new: &mut Names<'a>,
+    names: &'a [Written],
+) -> Result<(), DefsError>
+    ensures ok { OnOk result (new.new ≡ new.old ++ words names.now) }
+    ensures first { Says Source.Module result (known.brought scope.now new.old names.now) }
+{
+    let mut left = names;
+    while let [first, rest @ ..] = left {
+        let name = first.word.as_bytes();
+        if scope.knows(name) || new.contains(name) {
+            return Err(refusal_of(
+                alloc,
+                DefsCode::DefinedTwice,
+                Source::Module,
+                Mention::of(first),
+            ));
+        }
+        new.push(&first.word)?;
+        left = rest;
+    }
+    Ok(())
+}
+
+/// Names that are not in scope, each once.
+pub(crate) fn new_names(
+    alloc: Global,
+    scope: &Scope<'_>,
+    names: &[Written],
+) -> Result<(), DefsError>
+    ensures { Says Source.Module result (known.brought scope.now [] names.now) }
+{
+    let mut new = Names::new(alloc);
+    bring(alloc, scope, &mut new, names)
+}
+
+/// A name behind others.
+fn once(alloc: Global, before: &Names<'_>, name: &Written) -> Result<(), DefsError>
+    ensures { Says Source.Module result (known.again before.now name.now) }
+{
+    if before.contains(name.word.as_bytes()) {
+        return Err(refusal_of(
+            alloc,
+            DefsCode::DefinedTwice,
+            Source::Module,
+            Mention::of(name),
+        ));
+    }
+    Ok(())
+}
+
+/// An operator that may be used.
+fn operator(alloc: Global, is_known: bool, place: Place, word: &[u8]) -> Result<(), DefsError>
+    ensures { Says Source.Module result (known.if_not is_known place word.now) }
+{
+    if is_known {
+        return Ok(());
+    }
+    let mention = Mention { place, word };
+    Err(refusal_of(alloc, DefsCode::UnknownName, Source::Module, mention))
+}
+
+/// An expression of which each name is used as it may be.
+#[cycle(known)]
+pub(crate) fn expression<'a>(
+    alloc: Global,
+    modules: &Names<'_>,
+    scope: &mut Scope<'a>,
+    tree: &'a Expr,
+) -> Result<(), DefsError>
+    ensures same { OnOk result (scope.new ≡ scope.old) }
+    ensures first { Says Source.Module result (known.misused modules.now scope.old (view tree.now)) }
+{
+    match tree {
+        Expr::Name(name) => used(alloc, scope, name, 0),
+        Expr::Number(_, _) | Expr::Text(_, _) | Expr::Constant(_, _) | Expr::At(_) => Ok(()),
+        Expr::Paren(_, inner) | Expr::Prime(_, inner) | Expr::Field(_, inner, _) => {
+            expression(alloc, modules, scope, inner)
+        }
+        Expr::Listing(_, _, items) => each(alloc, modules, scope, items),
+        Expr::Junction(_, _, items) => each(alloc, modules, scope, items),
+        Expr::Call(name, arguments) => call(alloc, modules, scope, name, arguments),
+        Expr::Index(_, function, arguments) => index(alloc, modules, scope, function, arguments),
+        Expr::Unary(place, prefix, operand) => {
+            let is_known = prefix_known(modules, *prefix);
+            operator(alloc, is_known, *place, prefix_word(*prefix))?;
+            expression(alloc, modules, scope, operand)
+        }
+        Expr::Binary(_, infix, written, first, second) => {
+            expression(alloc, modules, scope, first)?;
+            let is_known = infix_known(modules, *infix);
+            operator(alloc, is_known, written.place, written.word.as_bytes())?;
+            expression(alloc, modules, scope, second)
+        }
+        Expr::Quantified(_, _, groups, body) => bound(alloc, modules, scope, groups, body),
+        Expr::Choose(_, name, set, body) => chosen(alloc, modules, scope, name, set, body),
+        Expr::If(_, condition, yes, no) => {
+            expression(alloc, modules, scope, condition)?;
+            expression(alloc, modules, scope, yes)?;
+            expression(alloc, modules, scope, no)
+        }
+        Expr::Case(_, arms, other) => match other {
+            None => each_arm(alloc, modules, scope, arms),
+            Some(value) => case(alloc, modules, scope, arms, value),
+        },
+        Expr::Let(_, definitions, body) => within(alloc, modules, scope, definitions, body),
+        Expr::Filter(_, name, set, body) => chosen(alloc, modules, scope, name, set, body),
+        Expr::Image(_, value, groups) => image(alloc, modules, scope, value, groups),
+        Expr::Function(_, groups, body) => bound(alloc, modules, scope, groups, body),
+        Expr::FunctionSet(_, first, second)
+        | Expr::Action(_, _, first, second)
+        | Expr::Fair(_, _, first, second) => {
+            expression(alloc, modules, scope, first)?;
+            expression(alloc, modules, scope, second)
+        }
+        Expr::Record(_, fields) => each_field(alloc, modules, scope, fields),
+        Expr::RecordSet(_, fields) => each_field(alloc, modules, scope, fields),
+        Expr::Except(_, function, updates) => except(alloc, modules, scope, function, updates),
+        Expr::Product(_, first, others) => index(alloc, modules, scope, first, others),
+    }
+}
+
+/// An operator on arguments.
+#[cycle(known)]
+#[tactic(auto, using(crate::proofs::Stacks::count_trees))]
+fn call<'a>(
+    alloc: Global,
+    modules: &Names<'_>,
+    scope: &mut Scope<'a>,
+    name: &Written,
+    arguments: &'a [Expr],
+) -> Result<(), DefsError>
+    ensures same { OnOk result (scope.new ≡ scope.old) }
+    ensures first { Says Source.Module result (or_else (known.used scope.old name.now (length arguments.now)) (known.misused_each modules.now scope.old (trees (map view arguments.now)))) }
+{
+    used(alloc, scope, name, arguments.len())?;
+    each(alloc, modules, scope, arguments)
+}
+
+/// A function at arguments.
+#[cycle(known)]
+fn index<'a>(
+    alloc: Global,
+    modules: &Names<'_>,
+    scope: &mut Scope<'a>,
+    function: &'a Expr,
+    arguments: &'a [Expr],
+) -> Result<(), DefsError>
+    ensures same { OnOk result (scope.new ≡ scope.old) }
+    ensures first { Says Source.Module result (or_else (known.misused modules.now scope.old (view function.now)) (known.misused_each modules.now scope.old (trees (map view arguments.now)))) }
+{
+    expression(alloc, modules, scope, function)?;
+    each(alloc, modules, scope, arguments)
+}
+
+/// A body behind one name, whose set doesn't see it.
+#[cycle(known)]
+#[tactic(auto, using(crate::proofs::Stacks::cut_back))]
+fn chosen<'a>(
+    alloc: Global,
+    modules: &Names<'_>,
+    scope: &mut Scope<'a>,
+    name: &'a Written,
+    set: &'a Expr,
+    body: &'a Expr,
+) -> Result<(), DefsError>
+    ensures same { OnOk result (scope.new ≡ scope.old) }
+    ensures first { Says Source.Module result (or_else (known.new_name scope.old name.now) (or_else (known.misused modules.now scope.old (view set.now)) (known.misused modules.now (scope.old ++ scope_of.plain (name.now.word ∷ [])) (view body.now)))) }
+{
+    new_name(alloc, scope, name)?;
+    expression(alloc, modules, scope, set)?;
+    let mark = scope.len();
+    scope.push(name.word.as_bytes(), 0)?;
+    expression(alloc, modules, scope, body)?;
+    scope.truncate(mark);
+    Ok(())
+}
+
+/// An element before the binder list of its names.
+#[cycle(known)]
+#[tactic(auto, using(crate::proofs::Stacks::cut_back))]
+fn element<'a>(
+    alloc: Global,
+    modules: &Names<'_>,
+    scope: &mut Scope<'a>,
+    value: &'a Expr,
+    groups: &'a [Binder],
+) -> Result<(), DefsError>
+    ensures same { OnOk result (scope.new ≡ scope.old) }
+    ensures first { Says Source.Module result (known.misused modules.now (scope.old ++ scope_of.plain (scope_of.bound_names (binders (map group_view groups.now)))) (view value.now)) }
+{
+    let mark = scope.len();
+    scope.push_bound(groups)?;
+    expression(alloc, modules, scope, value)?;
+    scope.truncate(mark);
+    Ok(())
+}
+
+/// A binder list behind its element.
+#[cycle(known)]
+#[tactic(auto, using(crate::proofs::Stacks::cut_back))]
+fn bound_before<'a>(
+    alloc: Global,
+    modules: &Names<'_>,
+    scope: &mut Scope<'a>,
+    groups: &'a [Binder],
+) -> Result<(), DefsError>
+    ensures same { OnOk result (scope.new ≡ scope.old) }
+    ensures first { Says Source.Module result (known.misused_sets modules.now scope.old [] (binders (map group_view groups.now))) }
+{
+    let mark = scope.len();
+    bind(alloc, modules, scope, groups)?;
+    scope.truncate(mark);
+    Ok(())
+}
+
+/// An element and the binder list of its names.
+#[cycle(known)]
+fn image<'a>(
+    alloc: Global,
+    modules: &Names<'_>,
+    scope: &mut Scope<'a>,
+    value: &'a Expr,
+    groups: &'a [Binder],
+) -> Result<(), DefsError>
+    ensures same { OnOk result (scope.new ≡ scope.old) }
+    ensures first { Says Source.Module result (or_else (known.misused modules.now (scope.old ++ scope_of.plain (scope_of.bound_names (binders (map group_view groups.now)))) (view value.now)) (known.misused_sets modules.now scope.old [] (binders (map group_view groups.now)))) }
+{
+    element(alloc, modules, scope, value, groups)?;
+    bound_before(alloc, modules, scope, groups)
+}
+
+/// Fields of which each name stands once.
+#[cycle(known)]
+fn each_field<'a>(
+    alloc: Global,
+    modules: &Names<'_>,
+    scope: &mut Scope<'a>,
+    items: &'a [Field],
+) -> Result<(), DefsError>
+    ensures same { OnOk result (scope.new ≡ scope.old) }
+    ensures first { Says Source.Module result (known.misused_fields modules.now scope.old [] (fields (map field_view items.now))) }
+{
+    let mut before = Names::new(alloc);
+    let mut left = items;
+    while let [first, rest @ ..] = left {
+        once(alloc, &before, &first.name)?;
+        expression(alloc, modules, scope, &first.value)?;
+        before.push(&first.name.word)?;
+        left = rest;
+    }
+    Ok(())
+}
+
+/// A function and its updates.
+#[cycle(known)]
+fn except<'a>(
+    alloc: Global,
+    modules: &Names<'_>,
+    scope: &mut Scope<'a>,
+    function: &'a Expr,
+    items: &'a [Update],
+) -> Result<(), DefsError>
+    ensures same { OnOk result (scope.new ≡ scope.old) }
+    ensures first { Says Source.Module result (or_else (known.misused modules.now scope.old (view function.now)) (known.misused_updates modules.now scope.old (updates (map update_view items.now)))) }
+{
+    expression(alloc, modules, scope, function)?;
+    each_update(alloc, modules, scope, items)
+}
+
+/// Updates of which each name is used as it may be.
+#[cycle(known)]
+fn each_update<'a>(
+    alloc: Global,
+    modules: &Names<'_>,
+    scope: &mut Scope<'a>,
+    items: &'a [Update],
+) -> Result<(), DefsError>
+    ensures same { OnOk result (scope.new ≡ scope.old) }
+    ensures first { Says Source.Module result (known.misused_updates modules.now scope.old (updates (map update_view items.now))) }
+{
+    let mut left = items;
+    while let [first, rest @ ..] = left {
+        one_update(alloc, modules, scope, first)?;
+        left = rest;
+    }
+    Ok(())
+}
+
+/// The path and the value of an update.
+#[cycle(known)]
+fn one_update<'a>(
+    alloc: Global,
+    modules: &Names<'_>,
+    scope: &mut Scope<'a>,
+    update: &'a Update,
+) -> Result<(), DefsError>
+    ensures same { OnOk result (scope.new ≡ scope.old) }
+    ensures first { Says Source.Module result (or_else (known.misused_keys modules.now scope.old (update_view update.now).0) (known.misused modules.now scope.old (update_view update.now).1)) }
+{
+    path(alloc, modules, scope, &update.path)?;
+    expression(alloc, modules, scope, &update.value)
+}
+
+/// A step of a path.
+#[cycle(known)]
+fn one_key<'a>(
+    alloc: Global,
+    modules: &Names<'_>,
+    scope: &mut Scope<'a>,
+    key: &'a Key,
+) -> Result<(), DefsError>
+    ensures same { OnOk result (scope.new ≡ scope.old) }
+    ensures first { Says Source.Module result (known.misused_key modules.now scope.old (key_view key.now)) }
+{
+    match key {
+        Key::Index(arguments) => each(alloc, modules, scope, arguments),
+        Key::Field(_) => Ok(()),
+    }
+}
+
+/// The path of an update.
+#[cycle(known)]
+fn path<'a>(
+    alloc: Global,
+    modules: &Names<'_>,
+    scope: &mut Scope<'a>,
+    items: &'a [Key],
+) -> Result<(), DefsError>
+    ensures same { OnOk result (scope.new ≡ scope.old) }
+    ensures first { Says Source.Module result (known.misused_keys modules.now scope.old (keys (map key_view items.now))) }
+{
+    let mut left = items;
+    while let [first, rest @ ..] = left {
+        one_key(alloc, modules, scope, first)?;
+        left = rest;
+    }
+    Ok(())
+}
+
+/// A body behind a binder list.
+#[cycle(known)]
+#[tactic(auto, using(crate::proofs::Stacks::cut_back))]
+fn bound<'a>(
+    alloc: Global,
+    modules: &Names<'_>,
+    scope: &mut Scope<'a>,
+    groups: &'a [Binder],
+    body: &'a Expr,
+) -> Result<(), DefsError>
+    ensures same { OnOk result (scope.new ≡ scope.old) }
+    ensures first { Says Source.Module result (or_else (known.misused_sets modules.now scope.old [] (binders (map group_view groups.now))) (known.misused modules.now (scope.old ++ scope_of.plain (scope_of.bound_names (binders (map group_view groups.now)))) (view body.now))) }
+{
+    let mark = scope.len();
+    bind(alloc, modules, scope, groups)?;
+    expression(alloc, modules, scope, body)?;
+    scope.truncate(mark);
+    Ok(())
+}
+
+/// A body behind definitions.
+#[cycle(known)]
+#[tactic(auto, using(crate::proofs::Stacks::cut_back))]
+fn within<'a>(
+    alloc: Global,
+    modules: &Names<'_>,
+    scope: &mut Scope<'a>,
+    items: &'a [Definition],
+    body: &'a Expr,
+) -> Result<(), DefsError>
+    ensures same { OnOk result (scope.new ≡ scope.old) }
+    ensures first { Says Source.Module result (or_else (known.misused_definitions modules.now scope.old (definitions (map definition_view items.now))) (known.misused modules.now (scope.old ++ scope_of.signatures (definitions (map definition_view items.now))) (view body.now))) }
+{
+    let mark = scope.len();
+    define(alloc, modules, scope, items)?;
+    expression(alloc, modules, scope, body)?;
+    scope.truncate(mark);
+    Ok(())
+}
+
+/// Arms, and the value for other cases.
+#[cycle(known)]
+fn case<'a>(
+    alloc: Global,
+    modules: &Names<'_>,
+    scope: &mut Scope<'a>,
+    items: &'a [Arm],
+    other: &'a Expr,
+) -> Result<(), DefsError>
+    ensures same { OnOk result (scope.new ≡ scope.old) }
+    ensures first { Says Source.Module result (or_else (known.misused_arms modules.now scope.old (arms (map choice_view items.now))) (known.misused modules.now scope.old (view other.now))) }
+{
+    each_arm(alloc, modules, scope, items)?;
+    expression(alloc, modules, scope, other)
+}
+
+/// Expressions of which each name is used as it may be.
+#[cycle(known)]
+fn each<'a>(
+    alloc: Global,
+    modules: &Names<'_>,
+    scope: &mut Scope<'a>,
+    items: &'a [Expr],
+) -> Result<(), DefsError>
+    ensures same { OnOk result (scope.new ≡ scope.old) }
+    ensures first { Says Source.Module result (known.misused_each modules.now scope.old (trees (map view items.now))) }
+{
+    let mut left = items;
+    while let [first, rest @ ..] = left {
+        expression(alloc, modules, scope, first)?;
+        left = rest;
+    }
+    Ok(())
+}
+
+/// Arms of which each name is used as it may be.
+#[cycle(known)]
+fn each_arm<'a>(
+    alloc: Global,
+    modules: &Names<'_>,
+    scope: &mut Scope<'a>,
+    items: &'a [Arm],
+) -> Result<(), DefsError>
+    ensures same { OnOk result (scope.new ≡ scope.old) }
+    ensures first { Says Source.Module result (known.misused_arms modules.now scope.old (arms (map choice_view items.now))) }
+{
+    let mut left = items;
+    while let [first, rest @ ..] = left {
+        expression(alloc, modules, scope, &first.guard)?;
+        expression(alloc, modules, scope, &first.value)?;
+        left = rest;
+    }
+    Ok(())
+}
+
+/// The names of a binder list more. Its sets see none of them.
+#[cycle(known)]
+fn bind<'a>(
+    alloc: Global,
+    modules: &Names<'_>,
+    scope: &mut Scope<'a>,
+    groups: &'a [Binder],
+) -> Result<(), DefsError>
+    ensures more { OnOk result (scope.new ≡ scope.old ++ scope_of.plain (scope_of.bound_names (binders (map group_view groups.now)))) }
+    ensures first { Says Source.Module result (known.misused_sets modules.now scope.old [] (binders (map group_view groups.now))) }
+{
+    let mut new = Names::new(alloc);
+    let mut left = groups;
+    while let [first, rest @ ..] = left {
+        bring(alloc, scope, &mut new, &first.names)?;
+        expression(alloc, modules, scope, &first.set)?;
+        left = rest;
+    }
+    scope.push_names(&new)
+}
+
+/// The definition of a function.
+#[cycle(known)]
+fn function<'a>(
+    alloc: Global,
+    modules: &Names<'_>,
+    scope: &mut Scope<'a>,
+    name: &'a Written,
+    groups: &'a [Binder],
+    body: &'a Expr,
+) -> Result<(), DefsError>
+    ensures more { OnOk result (scope.new ≡ scope.old ++ (name.now.word, 0) ∷ []) }
+    ensures first { Says Source.Module result (or_else (known.new_name scope.old name.now) (or_else (known.misused_sets modules.now scope.old [] (binders (map group_view groups.now))) (known.misused modules.now (scope.old ++ scope_of.plain (scope_of.bound_names (binders (map group_view groups.now)))) (view body.now)))) }
+{
+    new_name(alloc, scope, name)?;
+    bound(alloc, modules, scope, groups, body)?;
+    scope.push(name.word.as_bytes(), 0)
+}
+
+/// A definition of which each name is used as it may be.
+#[cycle(known)]
+pub(crate) fn definition<'a>(
+    alloc: Global,
+    modules: &Names<'_>,
+    scope: &mut Scope<'a>,
+    definition: &'a Definition,
+) -> Result<(), DefsError>
+    ensures more { OnOk result (scope.new ≡ scope.old ++ scope_of.signature (definition_view definition.now) ∷ []) }
+    ensures first { Says Source.Module result (known.misused_definition modules.now scope.old (definition_view definition.now)) }
+{
+    match definition {
+        Definition::Operator(name, parameters, body) => {
+            let mark = scope.len();
+            new_name(alloc, scope, name)?;
+            new_names(alloc, scope, parameters)?;
+            scope.push_all(parameters)?;
+            expression(alloc, modules, scope, body)?;
+            scope.truncate(mark);
+            scope.push(name.word.as_bytes(), parameters.len())
+        }
+        Definition::Function(name, groups, body) => {
+            function(alloc, modules, scope, name, groups, body)
+        }
+    }
+}
+
+/// Definitions more, each of which sees those before it.
+#[cycle(known)]
+fn define<'a>(
+    alloc: Global,
+    modules: &Names<'_>,
+    scope: &mut Scope<'a>,
+    items: &'a [Definition],
+) -> Result<(), DefsError>
+    ensures more { OnOk result (scope.new ≡ scope.old ++ scope_of.signatures (definitions (map definition_view items.now))) }
+    ensures first { Says Source.Module result (known.misused_definitions modules.now scope.old (definitions (map definition_view items.now))) }
+{
+    let mut left = items;
+    while let [first, rest @ ..] = left {
+        definition(alloc, modules, scope, first)?;
+        left = rest;
+    }
+    Ok(())
+}
