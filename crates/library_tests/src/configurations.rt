@@ -174,7 +174,7 @@ fn opened(alloc: Global, sets: usize) -> Result<Vec<u8>, Fail> {
 
 #[test]
 fn opened_sets(rt: HostRuntime) -> Result<(), Fail> {
-    for (sets, expected) in [(64, "C1 1:78"), (65, "C11 1:10"), (100_000, "C11 1:10")] {
+    for (sets, expected) in [(64, "C1 1:78"), (65, "C11 1:10"), (500_000, "C11 1:10")] {
         let text = opened(rt.alloc(), sets)?;
         let found = read(rt.alloc(), text.as_slice())?;
         assert_eq!(rt; found.as_str(), expected);
