@@ -49,7 +49,7 @@ fn long_specification(rt: HostRuntime) -> Result<(), Fail> {
 #[test]
 fn doubling_conjuncts(rt: HostRuntime) -> Result<(), Fail> {
     let alloc = rt.alloc();
-    let mut text = chain(alloc, "x = 0", "D", 61, true)?;
+    let mut text = chain(alloc, "x = 0 /\\ x = 0", "D", 61, true)?;
     text.push_str("Spec == D60 /\\ [][x' = x]_x")?;
     let got = answer(alloc, text.as_str(), "SPECIFICATION Spec")?;
     assert_eq!(rt; got.as_str(), "C11 4:7");
