@@ -29,8 +29,8 @@ fn chain(
 #[test]
 fn long_chain(rt: HostRuntime) -> Result<(), Fail> {
     let alloc = rt.alloc();
-    let mut text = chain(alloc, "1", "F", 10_000, false)?;
-    text.push_str("Init == x = F9999\nNext == x' = F9999")?;
+    let mut text = chain(alloc, "1", "One", 10_000, false)?;
+    text.push_str("Init == x = One9999\nNext == x' = One9999")?;
     let got = answer(alloc, text.as_str(), "INIT Init NEXT Next")?;
     assert_eq!(rt; got.as_str(), "x 10004:9 10005:9 D+");
     Ok(())
@@ -39,28 +39,38 @@ fn long_chain(rt: HostRuntime) -> Result<(), Fail> {
 #[test]
 fn long_specification(rt: HostRuntime) -> Result<(), Fail> {
     let alloc = rt.alloc();
-    let mut text = chain(alloc, "x = 0 /\\ [][x' = x]_x", "S", 10_000, false)?;
+    let mut text = chain(alloc, "x = 0 /\\ [][x' = x]_x", "Spec", 10_000, false)?;
     text.push_str("Inv == x < 3")?;
-    let got = answer(alloc, text.as_str(), "SPECIFICATION S9999 INVARIANT Inv")?;
-    assert_eq!(rt; got.as_str(), "x 4:7 4:19 Inv 10004:8 D+");
+    let got = answer(alloc, text.as_str(), "SPECIFICATION Spec9999 INVARIANT Inv")?;
+    assert_eq!(rt; got.as_str(), "x 4:10 4:22 Inv 10004:8 D+");
     Ok(())
 }
 
 #[test]
 fn doubling_conjuncts(rt: HostRuntime) -> Result<(), Fail> {
     let alloc = rt.alloc();
-    let mut text = chain(alloc, "x = 0 /\\ x = 0", "D", 61, true)?;
-    text.push_str("Spec == D60 /\\ [][x' = x]_x")?;
+    let mut text = chain(alloc, "x = 0 /\\ x = 0", "Part", 61, true)?;
+    text.push_str("Spec == Part60 /\\ [][x' = x]_x")?;
     let got = answer(alloc, text.as_str(), "SPECIFICATION Spec")?;
-    assert_eq!(rt; got.as_str(), "C11 4:7");
+    assert_eq!(rt; got.as_str(), "C11 4:10");
+    Ok(())
+}
+
+#[test]
+fn doubling_names(rt: HostRuntime) -> Result<(), Fail> {
+    let alloc = rt.alloc();
+    let mut text = chain(alloc, "x = 0", "Part", 61, true)?;
+    text.push_str("Spec == Part60 /\\ [][x' = x]_x")?;
+    let got = answer(alloc, text.as_str(), "SPECIFICATION Spec")?;
+    assert_eq!(rt; got.as_str(), "C11 5:10");
     Ok(())
 }
 
 #[test]
 fn doubling_steps(rt: HostRuntime) -> Result<(), Fail> {
     let alloc = rt.alloc();
-    let mut text = chain(alloc, "[][x' = x]_x", "D", 61, true)?;
-    text.push_str("Spec == x = 0 /\\ D60")?;
+    let mut text = chain(alloc, "[][x' = x]_x", "Part", 61, true)?;
+    text.push_str("Spec == x = 0 /\\ Part60")?;
     let got = answer(alloc, text.as_str(), "SPECIFICATION Spec")?;
     assert_eq!(rt; got.as_str(), "C8 1:1");
     Ok(())
@@ -69,8 +79,8 @@ fn doubling_steps(rt: HostRuntime) -> Result<(), Fail> {
 #[test]
 fn doubling_fairness(rt: HostRuntime) -> Result<(), Fail> {
     let alloc = rt.alloc();
-    let mut text = chain(alloc, "WF_x(x' = x)", "W", 61, true)?;
-    text.push_str("Init == x = 0\nSpec == Init /\\ [][x' = x]_x /\\ W60")?;
+    let mut text = chain(alloc, "WF_x(x' = x)", "Fair", 61, true)?;
+    text.push_str("Init == x = 0\nSpec == Init /\\ [][x' = x]_x /\\ Fair60")?;
     let got = answer(alloc, text.as_str(), "SPECIFICATION Spec")?;
     assert_eq!(rt; got.as_str(), "x 65:9 66:20 D+");
     Ok(())

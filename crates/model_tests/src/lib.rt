@@ -12,4 +12,6 @@ mod expansions;
 #[cfg(test)]
 mod models;
 #[cfg(test)]
+mod specifications;
+#[cfg(test)]
 mod steps;

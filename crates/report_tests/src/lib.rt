@@ -1,4 +1,4 @@
-//! Tests of the command line, the input files and the report, by example.
+//! Tests of the command line, the input files, the report, and the texts of the search's errors, by example.
 //!
 //! They stand in a crate of their own, since a crate with tests is proved a second time.
 #![tactic(auto)]
@@ -11,3 +11,5 @@ mod input;
 mod line;
 #[cfg(test)]
 mod report;
+#[cfg(test)]
+mod search_options;

@@ -1,5 +1,5 @@
 -- Names, and places in the text.
-use Rattle.std.specs.Prelude.{ℕ, Bool, true, not, ◌&&◌, List, [], ◌∷◌, map, codes}
+use Rattle.std.specs.Prelude.{ℕ, Bool, List, [], ◌∷◌, map, codes}
 use Rattle.std.specs.List.{list_any}
 use Rattle.std.specs.Str.{bytes_eq}
 use Rattle.tla_tree.specs.declared.word.Written.{Written}
@@ -10,11 +10,6 @@ Name = List ℕ
 
 abbrev pub is_among : Name → List Name → Bool
 is_among x names = list_any (bytes_eq x) names
-
--- no name stands there twice
-abbrev pub differ : List Name → Bool
-differ [] = true
-differ (x ∷ names) = not (is_among x names) && differ names
 
 abbrev pub words : List Written → List Name
 words ws = map (λ (w : Written). w.word) ws

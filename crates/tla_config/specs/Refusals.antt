@@ -19,11 +19,11 @@ left_out_words =
     ∷ codes "VIEW" ∷ codes "CONSTRAINT" ∷ codes "CONSTRAINTS" ∷ codes "ACTION_CONSTRAINT" ∷ codes "ACTION_CONSTRAINTS"
     ∷ codes "ALIAS" ∷ codes "POSTCONDITION" ∷ []
 
--- the token of this number is the word of a statement that is left out, or the bracket of a replacement in another module
+-- the token of this number is one of the words that begin statements left out, or a bracket (with which a replacement in another module begins)
 abbrev pub IsLeftOutAt : Bytes → List Token → ℕ → Place → Name → Type 0
 IsLeftOutAt text ts at p word = (t : Token) × (slice_get ts at ≡ Some t) × (t.place ≡ p) × (word_of text t ≡ word) × (IsTrue (is_among word left_out_words) ⊎ (t.kind ≡ k.LeftBracket))
 
--- the token of this number begins a statement that is left out
+-- the token of this number is such a word or bracket
 abbrev pub IsLeftOutHere : Bytes → List Token → ℕ → Type 0
 IsLeftOutHere text ts at = (t : Token) × (word : Name) × IsLeftOutAt text ts at t.place word
 
@@ -56,7 +56,7 @@ IsLocated code.Memory _ _ = ⊥
 IsLocated c None name = ⊥
 IsLocated c (Some p) name = is_some name ≡ has_name c
 
--- Of a configuration's text: it is no configuration, a value in it is beyond the limits of values, or a statement is left out, which the name says.
+-- Of a configuration's text that is refused: the name of a statement left out is a word or a bracket that stands at the place. Which of the codes a text gets is not said here.
 abbrev pub Explains : Bytes → DefsCode → Option Place → Option Name → Type 0
 Explains text code.ConfigurationText p name = Unit {0}
 Explains text code.ExpansionTooLarge p name = Unit {0}

@@ -1,10 +1,9 @@
 -- What a configuration says, statement by statement (book, chapter 14; CHECK_DEADLOCK: this project's own choice).
-use Rattle.std.specs.Prelude.{Bool, false, not, List, [], ◌∷◌}
+use Rattle.std.specs.Prelude.{Bool, false, not, List, []}
 use Rattle.std.specs.List.{list_any, flat_map}
 use Rattle.tla_lex.specs.declared.token.Place.{Place}
 use Rattle.tla_tree.specs.declared.word.Written.{Written}
 use Rattle.tla_value.specs.Tree.{Tree}
-use Rattle.tla_config.specs.Names.{Name, words}
 
 -- an item of CONSTANT
 pub data Item : Type 0 where
@@ -27,45 +26,17 @@ pub data Statement : Type 0 where
   -- CHECK_DEADLOCK TRUE or FALSE
   CheckDeadlock : Place → Bool → Statement
 
-abbrev pub initial_names : Statement → List Name
-initial_names (Init p w) = w.word ∷ []
-initial_names _ = []
-
-abbrev pub next_names : Statement → List Name
-next_names (Next p w) = w.word ∷ []
-next_names _ = []
-
-abbrev pub invariant_names : Statement → List Name
-invariant_names (Invariants p ws) = words ws
-invariant_names _ = []
-
 abbrev pub constant_items : Statement → List Item
 constant_items (Constants p is) = is
 constant_items _ = []
-
-abbrev pub specification_names : Statement → List Name
-specification_names (Specification p w) = w.word ∷ []
-specification_names _ = []
 
 abbrev pub leaves_deadlock : Statement → Bool
 leaves_deadlock (CheckDeadlock p check) = not check
 leaves_deadlock _ = false
 
--- the names of SPECIFICATION, of INIT, of NEXT and of INVARIANT, and the items of CONSTANT, in the order of the configuration
-abbrev pub specifications_of : List Statement → List Name
-specifications_of cs = flat_map specification_names cs
-
+-- the items of CONSTANT, in the order of the configuration
 abbrev pub items_of : List Statement → List Item
 items_of cs = flat_map constant_items cs
-
-abbrev pub initials_of : List Statement → List Name
-initials_of cs = flat_map initial_names cs
-
-abbrev pub nexts_of : List Statement → List Name
-nexts_of cs = flat_map next_names cs
-
-abbrev pub invariants_of : List Statement → List Name
-invariants_of cs = flat_map invariant_names cs
 
 -- deadlock is looked for unless CHECK_DEADLOCK FALSE stands
 abbrev pub checks_deadlock : List Statement → Bool

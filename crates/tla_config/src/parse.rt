@@ -1,9 +1,8 @@
 //! Reading a configuration.
 
-ghost use Rattle.std.specs.Prelude.{◌≡◌, ◌≢◌, ◌⊎◌, ◌≤◌, List, Some, None, length, filter, IfOk, IfErr, IfSome};
+ghost use Rattle.std.specs.Prelude.{◌≡◌, ◌≢◌, ◌⊎◌, List, Some, None, length, IfOk, IfErr, IfSome};
 ghost use Rattle.tla_lex.specs.Places.{place_at};
-ghost use Rattle.tla_lex.specs.Reads.{Reads};
-ghost use Rattle.tla_lex.specs.Tokens.{IsNotUtf8, no_memory};
+ghost use Rattle.tla_lex.specs.Tokens.{no_memory};
 ghost use Rattle.tla_lex.specs.declared.lexeme.Source as lexed;
 ghost use Rattle.tla_lex.specs.declared.scan.Stop.{Stop};
 ghost use Rattle.tla_config.specs.Configuration.{IsConfiguration};

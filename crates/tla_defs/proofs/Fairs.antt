@@ -1,5 +1,5 @@
 -- Fairness, where more or fewer names are known to stand for it.
-use Rattle.std.proofs.Common.{◌≡◌, ◌≤◌, ℕ, zero, suc, arith, refl, ap, sym, ◌∙◌, Bool, true, false, not, true≢false, List, [], ◌∷◌, ◌++◌, Option, Some, None, subst, take, length}
+use Rattle.std.proofs.Common.{◌≡◌, ℕ, zero, suc, refl, ap, sym, ◌∙◌, Bool, true, false, not, true≢false, List, [], ◌∷◌, ◌++◌, Option, Some, None, subst, take, length}
 use Rattle.std.specs.Prelude.{unwrap_or, is_some}
 use Rattle.std.proofs.Math.Seq.{take-append_seam}
 use Rattle.std.proofs.lemmas.Bool.{and_parts, and_from}
@@ -13,10 +13,11 @@ use Rattle.tla_tree.specs.Tree as t
 use Rattle.tla_config.specs.Names.{Name}
 use Rattle.tla_names.specs.Scope.{Scope, arity, plain, bound_names}
 use Rattle.tla_expand.specs.Maybe.{◌>>=◌}
-use Rattle.tla_defs.specs.Bodies.{Bodies}
-use Rattle.tla_defs.specs.Conjuncts.{initials_by, is_initial_by, Rests}
-use Rattle.tla_defs.specs.Fairness.{fair_in, fair_each, fair_body, fair_of, is_and}
+use Rattle.tla_defs.specs.Bodies.{Bodies, body_has}
+use Rattle.tla_defs.specs.Conjuncts.{initials_by, is_initial_by, AreMadeOfFairness}
+use Rattle.tla_defs.specs.Fairness.{fair_in, fair_each, fairness, fair_of, is_and}
 use Rattle.tla_defs.specs.Specification.{always, steps_of, conjuncts_in, conjuncts_each, conjuncts_of, conjuncts}
+use Rattle.tla_defs.proofs.Properties.{Grows, deeper}
 
 module _ (φ ψ : Name → Bool) (grows : (x : Name) → φ x ≡ true → ψ x ≡ true) where
   mutual
@@ -58,35 +59,13 @@ module _ (φ ψ : Name → Bool) (grows : (x : Name) → φ x ≡ true → ψ x 
     more_fair_each σ none h = refl
     more_fair_each σ (more e es) h = let hs = and_parts _ _ h in and_from _ _ (more_fair σ e hs.0) (more_fair_each σ es hs.1)
 
-  pub more_fair_body : (o : Option Tree) → fair_body φ o ≡ true → fair_body ψ o ≡ true
-  more_fair_body None h = absurd (true≢false (sym h))
-  more_fair_body (Some e) h = more_fair [] e h
-
--- names that stand for fairness still do where names stand for their definitions deeper
-pub fair_deeper : (b : Bodies) (n : ℕ) (x : Name) → fair_of n b x ≡ true → fair_of (suc n) b x ≡ true
-fair_deeper b zero x h = absurd (true≢false (sym h))
-fair_deeper b (suc n) x h = more_fair_body (fair_of n b) (fair_of (suc n) b) (λ y g. fair_deeper b n y g) (b x) h
-
-pub fair_within : (b : Bodies) (n m : ℕ) (x : Name) → n ≤ m → fair_of n b x ≡ true → fair_of m b x ≡ true
-fair_within b zero m x l h = absurd (true≢false (sym h))
-fair_within b (suc n) zero x l h = let z : ⊥ = omega (arith, l) in absurd z
-fair_within b (suc n) (suc m) x l h = more_fair_body (fair_of n b) (fair_of m b) (λ y g. fair_within b n m y (omega (arith, l)) g) (b x) h
+pub fairness_grows : Grows fairness
+fairness_grows φ ψ g e h = more_fair φ ψ g [] e h
 
 -- what stands for fairness is made of what does
-pub fair_rests : (b : Bodies) (n : ℕ) → Rests (fair_of n b) b
-fair_rests b zero x h = absurd (true≢false (sym h))
-fair_rests b (suc n) x h = more_fair_body (fair_of n b) (fair_of (suc n) b) (λ y g. fair_deeper b n y g) (b x) h
-
--- all that is fairness, where names that are made of what stands for fairness do too
-pub all_fair_names : (b : Bodies) (φ : Name → Bool) → ((x : Name) → fair_body φ (b x) ≡ true → φ x ≡ true) → (n : ℕ) (x : Name) → fair_of n b x ≡ true → φ x ≡ true
-all_fair_names b φ closed zero x h = absurd (true≢false (sym h))
-all_fair_names b φ closed (suc n) x h = closed x (more_fair_body (fair_of n b) φ (λ y g. all_fair_names b φ closed n y g) (b x) h)
-
--- two answers of which each is yes where the other is
-pub same_answer : (a b : Bool) → (a ≡ true → b ≡ true) → (b ≡ true → a ≡ true) → a ≡ b
-same_answer true b f g = sym (f refl)
-same_answer false true f g = g refl
-same_answer false false f g = refl
+pub made_of_fairness : (b : Bodies) (n : ℕ) → AreMadeOfFairness (fair_of n b) b
+made_of_fairness b zero x e h q = absurd (true≢false (sym h))
+made_of_fairness b (suc n) x e h q = fairness_grows (fair_of n b) (fair_of (suc n) b) (λ y g. deeper fairness fairness_grows b n y g) e (ap (λ o. body_has fairness (fair_of n b) o) (sym q) ∙ h)
 
 -- the one operator of conjunctions
 and_alone : (o : Infix) → is_and o ≡ true → o ≡ op.And
@@ -177,11 +156,11 @@ module _ (φ : Name → Bool) (ρ : Name → Option (List Tree)) (names : (w : W
         let both = and_parts _ _ h in
         nothing_two φ (conjuncts_in ρ e) (conjuncts_each ρ es) (says_nothing e both.0) (each_says_nothing es both.1)
 
-module _ (b : Bodies) (φ : Name → Bool) (rests : Rests φ b) where
+module _ (b : Bodies) (φ : Name → Bool) (made : AreMadeOfFairness φ b) where
   by_name : (n : ℕ) (w : Written) (o : Option Tree) → b w.word ≡ o → fair_in φ [] (t.Name w) ≡ true → ((e : Tree) → fair_in φ [] e ≡ true → SaysNothing φ (conjuncts n b e))
       → SaysNothing φ (unwrap_or (o >>= λ e. Some (conjuncts n b e)) (t.Name w ∷ []))
   by_name n w None q h less = alone φ (t.Name w) refl h
-  by_name n w (Some e) q h less = less e (ap (λ x. fair_body φ x) (sym q) ∙ rests w.word (and_parts (not (is_some (arity [] w.word))) (φ w.word) h).1)
+  by_name n w (Some e) q h less = less e (made w.word e (and_parts (not (is_some (arity [] w.word))) (φ w.word) h).1 q)
 
   pub fair_says_nothing : (n : ℕ) (e : Tree) → fair_in φ [] e ≡ true → SaysNothing φ (conjuncts n b e)
   fair_says_nothing zero e h = says_nothing φ (conjuncts_of zero b) (λ w g. alone φ (t.Name w) refl g) e h

@@ -1,5 +1,5 @@
 -- The formula that SPECIFICATION names, as the code finds it.
-use Rattle.std.proofs.Common.{◌≡◌, ℕ, refl, ap, sym, ◌∙◌, subst, length, get_or, arith, inl, inr, Bool, List, [], ◌∷◌, Some, None}
+use Rattle.std.proofs.Common.{◌≡◌, ℕ, refl, ap, sym, ◌∙◌, subst, length, get_or, arith, inl, inr, Bool, true, false, ◌||◌, Option, List, [], ◌∷◌, Some, None}
 use Rattle.std.specs.Borrow.{Bor}
 use Rattle.tla_tree.specs.declared.tree.Expr as s
 use Rattle.tla_tree.specs.declared.word.Written.{Written}
@@ -13,12 +13,13 @@ use Rattle.tla_expand.specs.Meanings.{Scope}
 use Rattle.tla_defs.specs.Seen.{tree_at, seen}
 use Rattle.tla_defs.specs.Bodies.{Bodies, body_of}
 use Rattle.tla_defs.specs.Subscripts.{IsCover}
-use Rattle.tla_defs.specs.Specification.{Step, IsSpecification, conjuncts, conjunction_of, initials_of, steps_of}
+use Rattle.tla_defs.specs.Specification.{Step, IsSpecification, is_conjunction, replaced, replaced_by, conjuncts, conjunction_of, initials_of, steps_of}
 use Rattle.tla_defs.specs.Specified.{LacksState, NoForm}
-use Rattle.tla_defs.specs.Conjuncts.{Rests, initials_by}
-use Rattle.tla_defs.specs.Fairness.{fair_of}
+use Rattle.tla_defs.specs.Conjuncts.{AreMadeOfFairness, initials_by}
+use Rattle.tla_defs.specs.Fairness.{fair_in, fair_of}
+use Rattle.tla_defs.specs.Temporal.{temporal_of}
 use Rattle.tla_defs.specs.Parts.{AreMany}
-use Rattle.tla_defs.proofs.Fairs.{fair_rests}
+use Rattle.tla_defs.proofs.Fairs.{made_of_fairness}
 use Rattle.tla_defs.proofs.States.{lacks_state, too_long}
 use Rattle.tla_defs.proofs.Unique.{same_some}
 
@@ -45,37 +46,55 @@ of_items [] t i n m e p = absurd (n refl)
 of_items (u ∷ []) t i n m e p = absurd (m refl)
 of_items (u ∷ v ∷ ts) t i n m e p = same_some (conjunction_of (seen (u ∷ v ∷ ts))) _ i (ap (λ (x : Bor s.Expr). Some (Junction (place (tree_at x)) bullet.And (trees (seen (u ∷ v ∷ ts))))) (sym e)) p
 
--- what is known of fairness, of what names stand for
-module _ (φ : Name → Bool) (b c : Bodies) (k : ℕ) (known : b ≡ c) (fair : φ ≡ fair_of k c) where
-  pub rests_known : Rests φ b
-  rests_known = subst (λ (d : Bodies). Rests φ d) (sym known) (subst (λ (ψ : Name → Bool). Rests ψ c) (sym fair) (fair_rests c k))
+body_replaced : (τ : Name → Bool) (b : Bodies) (x : Name) (e : Tree) → replaced_by τ b x ≡ Some e → b x ≡ Some e
+body_replaced τ b x e h = at (b x) refl
+  where
+    at : (o : Option Tree) → b x ≡ o → b x ≡ Some e
+    at None q = let none : replaced_by τ b x ≡ None = rw q refl in let z : Some e ≡ None = sym h ∙ none in let y : ⊥ = cc in absurd y
+    at (Some d) q = kept (is_conjunction d || τ x) refl
+      where
+        kept : (k : Bool) → (is_conjunction d || τ x) ≡ k → b x ≡ Some e
+        kept true m = let it : replaced_by τ b x ≡ Some d = rw (q, m) refl in q ∙ sym it ∙ h
+        kept false m = let none : replaced_by τ b x ≡ None = rw (q, m) refl in let z : Some e ≡ None = sym h ∙ none in let y : ⊥ = cc in absurd y
 
-  pub initials_known : (es : List Tree) → initials_by φ es ≡ initials_of k b es
-  initials_known es = ap (λ (ψ : Name → Bool). initials_by ψ es) (fair ∙ ap (λ (d : Bodies). fair_of k d) (sym known))
+-- what is known of fairness, where all that is fairness is known
+module _ (φ : Name → Bool) (c : Bodies) (k : ℕ) (fair : φ ≡ fair_of k c) where
+  pub made_known : (τ : Name → Bool) (b : Bodies) → b ≡ c → AreMadeOfFairness φ (replaced_by τ b)
+  made_known τ b known x e h q =
+      subst (λ (ψ : Name → Bool). fair_in ψ [] e ≡ true) (sym fair)
+      (made_of_fairness c k x e (subst (λ (ψ : Name → Bool). ψ x ≡ true) fair h) (ap (λ (d : Bodies). d x) (sym known) ∙ body_replaced τ b x e q))
+
+  pub initials_known : (n : ℕ) → k ≡ n → (es : List Tree) → initials_by φ es ≡ initials_of n c es
+  initials_known n counted es = ap (λ (ψ : Name → Bool). initials_by ψ es) fair ∙ ap (λ m. initials_of m c es) counted
+
+-- the bodies that names are replaced by
+pub replaced_known : (us : List UnitTree) (is : List Item) (τ : Name → Bool) (b : Bodies) (k : ℕ) → b ≡ body_of us is → τ ≡ temporal_of k (body_of us is) → k ≡ length us → replaced_by τ b ≡ replaced us is
+replaced_known us is τ b k bodies temporal counted =
+    ap (λ (d : Bodies). replaced_by τ d) bodies ∙ ap (λ (ψ : Name → Bool). replaced_by ψ (body_of us is)) (temporal ∙ ap (λ m. temporal_of m (body_of us is)) counted)
 
 module _ (us : List UnitTree) (is : List Item) (σ : Scope) (n : ℕ) (w : Written) where
   pub no_body : body_of us is w.word ≡ None → NoForm us is σ n w
   no_body p i a h x init = let q = h.is_body in let z : ⊥ = cc in z
 
-  module _ (t : Tree) (b : Bodies) (k : ℕ) (known : b ≡ body_of us is) (counted : k ≡ length us) (is_body : b w.word ≡ Some t) (steps : List Step) (initial : List Tree)
-      (steps_are : steps ≡ steps_of (conjuncts k b t)) (initial_are : initial ≡ initials_of k b (conjuncts k b t)) where
-    body : body_of us is w.word ≡ Some t
-    body = ap (λ (c : Bodies). c w.word) (sym known) ∙ is_body
+  module _ (t : Tree) (r : Bodies) (k : ℕ) (known : r ≡ replaced us is) (counted : k ≡ length us) (body : body_of us is w.word ≡ Some t) (steps : List Step) (initial : List Tree)
+      (steps_are : steps ≡ steps_of (conjuncts k r t)) (initial_are : initial ≡ initials_of (length us) (body_of us is) (conjuncts k r t)) where
+    found_conjuncts : conjuncts k r t ≡ conjuncts (length us) (replaced us is) t
+    found_conjuncts = ap (λ (c : Bodies). conjuncts k c t) known ∙ ap (λ m. conjuncts m (replaced us is) t) counted
 
-    are_steps : steps ≡ steps_of (conjuncts (length us) (body_of us is) t)
-    are_steps = steps_are ∙ ap (λ (c : Bodies). steps_of (conjuncts k c t)) known ∙ ap (λ m. steps_of (conjuncts m (body_of us is) t)) counted
+    are_steps : steps ≡ steps_of (conjuncts (length us) (replaced us is) t)
+    are_steps = steps_are ∙ ap (λ es. steps_of es) found_conjuncts
 
-    are_initial : initial ≡ initials_of (length us) (body_of us is) (conjuncts (length us) (body_of us is) t)
-    are_initial = initial_are ∙ ap (λ (c : Bodies). initials_of k c (conjuncts k c t)) known ∙ ap (λ m. initials_of m (body_of us is) (conjuncts m (body_of us is) t)) counted
+    are_initial : initial ≡ initials_of (length us) (body_of us is) (conjuncts (length us) (replaced us is) t)
+    are_initial = initial_are ∙ ap (λ es. initials_of (length us) (body_of us is) es) found_conjuncts
 
     same_body : (i a : Tree) (h : IsSpecification us is σ n w i a) → h.body ≡ t
     same_body i a h = same_some (body_of us is w.word) h.body t h.is_body body
 
     its_steps : (i a : Tree) (h : IsSpecification us is σ n w i a) → steps ≡ (a, h.subscript) ∷ []
-    its_steps i a h = are_steps ∙ ap (λ e. steps_of (conjuncts (length us) (body_of us is) e)) (sym (same_body i a h)) ∙ h.one_step
+    its_steps i a h = are_steps ∙ ap (λ e. steps_of (conjuncts (length us) (replaced us is) e)) (sym (same_body i a h)) ∙ h.one_step
 
     its_initial : (i a : Tree) (h : IsSpecification us is σ n w i a) → conjunction_of initial ≡ Some i
-    its_initial i a h = ap (λ es. conjunction_of es) (are_initial ∙ ap (λ e. initials_of (length us) (body_of us is) (conjuncts (length us) (body_of us is) e)) (sym (same_body i a h))) ∙ h.is_initial
+    its_initial i a h = ap (λ es. conjunction_of es) (are_initial ∙ ap (λ e. initials_of (length us) (body_of us is) (conjuncts (length us) (replaced us is) e)) (sym (same_body i a h))) ∙ h.is_initial
 
     pub not_one : (length steps ≡ 1 → ⊥) → NoForm us is σ n w
     not_one p i a h x init = p (ap (λ es. length es) (its_steps i a h))

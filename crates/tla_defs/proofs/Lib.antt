@@ -6,8 +6,10 @@ pub mod SpecificationWorked
 pub mod Behaviours
 pub mod Nones
 pub mod Means
+pub mod Properties
 pub mod Fairs
-pub mod Begun
+pub mod Temporals
+pub mod FoundOrLeft
 pub mod Tabled
 pub mod States
 pub mod Covers

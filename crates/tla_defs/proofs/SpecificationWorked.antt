@@ -4,8 +4,8 @@ use Rattle.std.specs.Prelude.{codes}
 use Rattle.tla_tree.specs.declared.tree.Bullet.TheVariants as bullet
 use Rattle.tla_tree.specs.Tree.{Junction, more, none}
 use Rattle.tla_defs.specs.NamedRows.{name_at}
-use Rattle.tla_defs.specs.Rows.{place, word, x_at, now_at, init_tree, init_before}
-use Rattle.tla_defs.specs.SpecificationRows.{Specified, SpecifiedInParts, safe_tree, whole_tree, below_tree}
+use Rattle.tla_defs.specs.Rows.{place, word, x_at, now_at, init_before}
+use Rattle.tla_defs.specs.SpecificationRows.{Specified, SpecifiedInParts, SpecifiedByNames, safe_tree, whole_tree, below_tree, named_tree}
 use Rattle.tla_defs.proofs.Worked.{within}
 
 pub specified : Specified
@@ -16,7 +16,7 @@ specified =
       valued = refl;
       named = refl;
       straight = tt;
-      initial = init_tree 0;
+      initial = name_at 6 9 (codes "Init");
       action = name_at 6 20 (codes "Next");
       behaviour = inr (record {
         name = word 1 15 (codes "Spec");
@@ -48,7 +48,7 @@ specified_in_parts =
       valued = refl;
       named = refl;
       straight = tt;
-      initial = Junction (place 4 9) bullet.And (more (init_tree 0) (more below_tree none));
+      initial = Junction (place 6 9) bullet.And (more (name_at 6 9 (codes "Init")) (more below_tree none));
       action = name_at 6 20 (codes "Next");
       behaviour = inr (record {
         name = word 1 15 (codes "Spec");
@@ -67,6 +67,38 @@ specified_in_parts =
       variables = refl;
       assumptions = tt;
       init = record { before = _; meaning = refl; primed = refl; limits = within _ 7 3 refl refl (omega arith) (omega arith) };
+      next = record { meaning = refl; limits = within _ 7 4 refl refl (omega arith) (omega arith) };
+      invariants = tt;
+      check_deadlock = refl;
+    }
+
+pub specified_by_names : SpecifiedByNames
+specified_by_names =
+    record {
+      known = refl;
+      given = refl;
+      valued = refl;
+      named = refl;
+      straight = tt;
+      initial = name_at 7 9 (codes "Init");
+      action = name_at 6 11 (codes "Next");
+      behaviour = inr (record {
+        name = word 1 15 (codes "Spec");
+        one_specification = refl;
+        no_init = refl;
+        no_next = refl;
+        form = record {
+          body = named_tree;
+          is_body = refl;
+          subscript = x_at 6 17;
+          one_step = refl;
+          covered = record { names = now_at 6 17; expanded = refl; limits = within _ 1 1 refl refl (omega arith) (omega arith); all = refl };
+          is_initial = refl;
+        };
+      });
+      variables = refl;
+      assumptions = tt;
+      init = record { before = init_before 0; meaning = refl; primed = refl; limits = within _ 3 2 refl refl (omega arith) (omega arith) };
       next = record { meaning = refl; limits = within _ 7 4 refl refl (omega arith) (omega arith) };
       invariants = tt;
       check_deadlock = refl;

@@ -11,13 +11,13 @@ use Rattle.tla_config.specs.Names.{Name}
 use Rattle.tla_config.specs.Statements.{Item}
 use Rattle.tla_names.specs.Items.{stands_for}
 use Rattle.tla_names.proofs.Inserted.{same, named, same_name, lookup_after}
-use Rattle.tla_expand.specs.Maybe.{◌>>=◌, or_else}
+use Rattle.tla_expand.specs.Maybe.{◌>>=◌}
+use Rattle.tla_names.specs.Maybe.{or_else}
 use Rattle.tla_defs.specs.declared.table.Body.{Body}
-use Rattle.tla_defs.specs.Bodies.{Bodies, body_if, body_in, body_of}
-use Rattle.tla_defs.specs.Fairness.{fair_in, fair_of, fair_body}
+use Rattle.tla_defs.specs.Bodies.{Bodies, Property, body_if, body_in, body_of, body_has, names_with}
 use Rattle.tla_defs.specs.Seen.{tree_at}
-use Rattle.tla_defs.specs.Table.{Row, definition_at, body_at, fair_at, bodies_by, fair_by, fair_count, IsFairSoFar, IsPassed, AreMore}
-use Rattle.tla_defs.proofs.Fairs.{more_fair, fair_deeper, fair_within, all_fair_names, same_answer}
+use Rattle.tla_defs.specs.Table.{Row, definition_at, body_at, found_at, bodies_by, found_by, found_count, AreRight, IsFound, SameDefinitions}
+use Rattle.tla_defs.proofs.Properties.{Grows, deeper, deeper_within, all_names, same_answer}
 
 -- a new name at the end
 lookup_end : {V : Type 0} (es : List (Bor Name × V)) (k : Bor Name) (v : V) (x : Name) → lookup (named x) es ≡ None → lookup (named x) (es ++ (k, v) ∷ []) ≡ (if bytes_eq x k.now then Some v else None)
@@ -41,7 +41,7 @@ lookup_before (e ∷ es) k v w x h = at (bytes_eq x e.0.now) refl h (lookup_befo
     at true g n r = rw g (sym (rw g at n))
     at false g n r = rw g (r (rw g at n))
 
-module _ (es : List Row) (k : Bor Name) (d : Body) (unfair : d.is_fair ≡ false) (new : definition_at es k.now ≡ None) where
+module _ (es : List Row) (k : Bor Name) (d : Body) (unfound : d.is_found ≡ false) (new : definition_at es k.now ≡ None) where
   grown : (x : Name) (o : Option Body) → definition_at es x ≡ o → definition_at (es ++ (k, d) ∷ []) x ≡ unwrap_or (option_map (λ b. Some b) o) (if bytes_eq x k.now then Some d else None)
   grown x None h = lookup_end es k d x h
   grown x (Some b) h = lookup_before es k d b x (sym h)
@@ -54,11 +54,11 @@ module _ (es : List Row) (k : Bor Name) (d : Body) (unfair : d.is_fair ≡ false
       at None h false g = rw (grown x None h, h, g) refl
       at (Some b) h c g = rw (grown x (Some b) h, h) refl
 
-  pub added_fair : (x : Name) → fair_at (es ++ (k, d) ∷ []) x ≡ fair_at es x
-  added_fair x = at (definition_at es x) refl (bytes_eq x k.now) refl
+  pub added_found : (x : Name) → found_at (es ++ (k, d) ∷ []) x ≡ found_at es x
+  added_found x = at (definition_at es x) refl (bytes_eq x k.now) refl
     where
-      at : (b : Option Body) → definition_at es x ≡ b → (c : Bool) → bytes_eq x k.now ≡ c → fair_at (es ++ (k, d) ∷ []) x ≡ fair_at es x
-      at None h true g = rw (grown x None h, h, g) unfair
+      at : (b : Option Body) → definition_at es x ≡ b → (c : Bool) → bytes_eq x k.now ≡ c → found_at (es ++ (k, d) ∷ []) x ≡ found_at es x
+      at None h true g = rw (grown x None h, h, g) unfound
       at None h false g = rw (grown x None h, h, g) refl
       at (Some b) h c g = rw (grown x (Some b) h, h) refl
 
@@ -73,8 +73,8 @@ known_body es k e x o h = at (definition_at es x) refl (bytes_eq x k) refl
         let none : is_some (definition_at es k) ≡ false = ap (λ y. is_some (definition_at es y)) (sym (same_name x k m)) ∙ ap (λ b. is_some b) g in
         absurd (true≢false (sym h ∙ none))
 
--- One definition more is known to be fairness.
-module _ (es : List Row) (is : List Item) (k : Bor Name) (d e : Body) (is_there : definition_at es k.now ≡ Some d) (unfair : d.is_fair ≡ false) (tree : e.tree ≡ d.tree) (fair : e.is_fair ≡ true) where
+-- One definition more is known to be of the class.
+module _ (es : List Row) (is : List Item) (k : Bor Name) (d e : Body) (is_there : definition_at es k.now ≡ Some d) (unfound : d.is_found ≡ false) (tree : e.tree ≡ d.tree) (found : e.is_found ≡ true) where
   abbrev pub after : List Row
   after = insert_entry same es k e
 
@@ -85,28 +85,28 @@ module _ (es : List Row) (is : List Item) (k : Bor Name) (d e : Body) (is_there 
       at true h = rw (h, same_name x k.now h, is_there, tree) refl
       at false h = rw h refl
 
-  fair_after : (x : Name) → fair_at after x ≡ (if bytes_eq x k.now then true else fair_at es x)
-  fair_after x = ap (λ o. unwrap_or (option_map (λ (b : Body). b.is_fair) o) false) (lookup_after es k e x) ∙ at (bytes_eq x k.now) refl
+  found_after : (x : Name) → found_at after x ≡ (if bytes_eq x k.now then true else found_at es x)
+  found_after x = ap (λ o. unwrap_or (option_map (λ (b : Body). b.is_found) o) false) (lookup_after es k e x) ∙ at (bytes_eq x k.now) refl
     where
-      at : (c : Bool) → bytes_eq x k.now ≡ c → unwrap_or (option_map (λ (b : Body). b.is_fair) (if bytes_eq x k.now then Some e else definition_at es x)) false ≡ (if bytes_eq x k.now then true else fair_at es x)
-      at true h = rw h fair
+      at : (c : Bool) → bytes_eq x k.now ≡ c → unwrap_or (option_map (λ (b : Body). b.is_found) (if bytes_eq x k.now then Some e else definition_at es x)) false ≡ (if bytes_eq x k.now then true else found_at es x)
+      at true h = rw h found
       at false h = rw h refl
 
-count_after : (es : List Row) (k : Bor Name) (d e : Body) → definition_at es k.now ≡ Some d → d.is_fair ≡ false → e.is_fair ≡ true → fair_count (insert_entry same es k e) ≡ fair_count es + 1
+count_after : (es : List Row) (k : Bor Name) (d e : Body) → definition_at es k.now ≡ Some d → d.is_found ≡ false → e.is_found ≡ true → found_count (insert_entry same es k e) ≡ found_count es + 1
 count_after [] k d e h u f = let z : ⊥ = cc in absurd z
 count_after (r ∷ es) k d e h u f = at (bytes_eq k.now r.0.now) refl h (count_after es k d e)
   where
-    at : (c : Bool) → bytes_eq k.now r.0.now ≡ c → definition_at (r ∷ es) k.now ≡ Some d → (definition_at es k.now ≡ Some d → d.is_fair ≡ false → e.is_fair ≡ true → fair_count (insert_entry same es k e) ≡ fair_count es + 1)
-        → fair_count (insert_entry same (r ∷ es) k e) ≡ fair_count (r ∷ es) + 1
+    at : (c : Bool) → bytes_eq k.now r.0.now ≡ c → definition_at (r ∷ es) k.now ≡ Some d → (definition_at es k.now ≡ Some d → d.is_found ≡ false → e.is_found ≡ true → found_count (insert_entry same es k e) ≡ found_count es + 1)
+        → found_count (insert_entry same (r ∷ es) k e) ≡ found_count (r ∷ es) + 1
     at true g n i =
         let is : Some r.1 ≡ Some d = rw g at n in
         let it : r.1 ≡ d = cc in
         rw (g, f, it, u) refl
     at false g n i =
         let rest = i (rw g at n) u f in
-        rw g (more r.1.is_fair refl rest)
+        rw g (more r.1.is_found refl rest)
       where
-        more : (c : Bool) → r.1.is_fair ≡ c → fair_count (insert_entry same es k e) ≡ fair_count es + 1 → fair_count (r ∷ insert_entry same es k e) ≡ fair_count (r ∷ es) + 1
+        more : (c : Bool) → r.1.is_found ≡ c → found_count (insert_entry same es k e) ≡ found_count es + 1 → found_count (r ∷ insert_entry same es k e) ≡ found_count (r ∷ es) + 1
         more true m q = rw m (ap (λ n. n + 1) q)
         more false m q = rw m q
 
@@ -126,54 +126,54 @@ by_meant es fs is h x (Some y) m = rw m (h y)
 pub same_by : (es fs : List Row) (is : List Item) → ((x : Name) → body_at fs x ≡ body_at es x) → bodies_by fs is ≡ bodies_by es is
 same_by es fs is h = λ j x. by_meant es fs is h x (stands_for is x) refl j
 
-module _ (es : List Row) (is : List Item) (k : Bor Name) (d e : Body) (is_there : definition_at es k.now ≡ Some d) (unfair : d.is_fair ≡ false) (tree : e.tree ≡ d.tree) (fair : e.is_fair ≡ true)
-    (made : fair_in (fair_by es is) [] (tree_at d.tree) ≡ true) where
+module _ (f : Property) (grows : Grows f) (es : List Row) (is : List Item) (k : Bor Name) (d e : Body) (is_there : definition_at es k.now ≡ Some d) (unfound : d.is_found ≡ false) (tree : e.tree ≡ d.tree) (found : e.is_found ≡ true)
+    (made : f (found_by es is) (tree_at d.tree) ≡ true) where
   abbrev pub fs : List Row
   fs = insert_entry same es k e
 
   meant : (x y : Name) → stands_for is x ≡ Some y → bytes_eq y k.now ≡ true → bodies_by es is x ≡ Some (tree_at d.tree)
   meant x y m h = rw (m, same_name y k.now h, is_there) refl
 
-  goes_deeper : IsFairSoFar es is → (x : Name) → fair_by fs is x ≡ true → fair_of (suc (fair_count es)) (bodies_by es is) x ≡ true
+  goes_deeper : AreRight f es is → (x : Name) → found_by fs is x ≡ true → names_with f (suc (found_count es)) (bodies_by es is) x ≡ true
   goes_deeper g x h = at (stands_for is x) refl
     where
-      by_other : (y : Name) → stands_for is x ≡ Some y → (c : Bool) → bytes_eq y k.now ≡ c → fair_of (suc (fair_count es)) (bodies_by es is) x ≡ true
+      by_other : (y : Name) → stands_for is x ≡ Some y → (c : Bool) → bytes_eq y k.now ≡ c → names_with f (suc (found_count es)) (bodies_by es is) x ≡ true
       by_other y m true n =
-          let known = more_fair (fair_by es is) (fair_of (fair_count es) (bodies_by es is)) (λ z q. g.known z q) [] (tree_at d.tree) made in
-          ap (λ o. fair_body (fair_of (fair_count es) (bodies_by es is)) o) (meant x y m n) ∙ known
+          let known = grows (found_by es is) (names_with f (found_count es) (bodies_by es is)) (λ z q. g.known z q) (tree_at d.tree) made in
+          ap (λ o. body_has f (names_with f (found_count es) (bodies_by es is)) o) (meant x y m n) ∙ known
       by_other y m false n =
-          let now : fair_by fs is x ≡ fair_at fs y = rw m refl in
-          let was : fair_by es is x ≡ fair_at es y = rw m refl in
-          let same : fair_at fs y ≡ fair_at es y = fair_after es is k d e is_there unfair tree fair y ∙ rw n refl in
-          fair_deeper (bodies_by es is) (fair_count es) x (g.known x (was ∙ sym same ∙ sym now ∙ h))
+          let now : found_by fs is x ≡ found_at fs y = rw m refl in
+          let was : found_by es is x ≡ found_at es y = rw m refl in
+          let same : found_at fs y ≡ found_at es y = found_after es is k d e is_there unfound tree found y ∙ rw n refl in
+          deeper f grows (bodies_by es is) (found_count es) x (g.known x (was ∙ sym same ∙ sym now ∙ h))
 
-      at : (o : Option Name) → stands_for is x ≡ o → fair_of (suc (fair_count es)) (bodies_by es is) x ≡ true
-      at None m = let none : fair_by fs is x ≡ false = rw m refl in absurd (true≢false (sym h ∙ none))
+      at : (o : Option Name) → stands_for is x ≡ o → names_with f (suc (found_count es)) (bodies_by es is) x ≡ true
+      at None m = let none : found_by fs is x ≡ false = rw m refl in absurd (true≢false (sym h ∙ none))
       at (Some y) m = by_other y m (bytes_eq y k.now) refl
 
-  pub one_more : fair_count fs ≡ fair_count es + 1
-  one_more = count_after es k d e is_there unfair fair
+  pub one_more : found_count fs ≡ found_count es + 1
+  one_more = count_after es k d e is_there unfound found
 
-  next : fair_count fs ≡ suc (fair_count es)
+  next : found_count fs ≡ suc (found_count es)
   next = let one = one_more in omega (arith, one)
 
-  pub are_more : AreMore es fs is
-  are_more = record {
-    bodies = same_bodies es is k d e is_there unfair tree fair;
+  pub found_more : SameDefinitions f es fs is
+  found_more = record {
+    bodies = same_bodies es is k d e is_there unfound tree found;
     many = length_after es k d e is_there;
     sound = λ g. record {
       known = λ x h.
-          ap (λ n. fair_of n (bodies_by fs is) x) next
-          ∙ ap (λ (b : Bodies). fair_of (suc (fair_count es)) b x) (same_by es fs is (same_bodies es is k d e is_there unfair tree fair))
+          ap (λ n. names_with f n (bodies_by fs is) x) next
+          ∙ ap (λ (b : Bodies). names_with f (suc (found_count es)) b x) (same_by es fs is (same_bodies es is k d e is_there unfound tree found))
           ∙ goes_deeper g x h;
     };
   }
 
-pub same_more : (es : List Row) (is : List Item) → AreMore es es is
-same_more es is = record { bodies = λ x. refl; many = refl; sound = λ g. g }
+pub same_definitions : (f : Property) (es : List Row) (is : List Item) → SameDefinitions f es es is
+same_definitions f es is = record { bodies = λ x. refl; many = refl; sound = λ g. g }
 
-pub more_yet : (es ms gs : List Row) (is : List Item) → AreMore es ms is → AreMore ms gs is → AreMore es gs is
-more_yet es ms gs is h g = record { bodies = λ x. g.bodies x ∙ h.bodies x; many = g.many ∙ h.many; sound = λ s. g.sound (h.sound s) }
+pub same_again : (f : Property) (es ms gs : List Row) (is : List Item) → SameDefinitions f es ms is → SameDefinitions f ms gs is → SameDefinitions f es gs is
+same_again f es ms gs is h g = record { bodies = λ x. g.bodies x ∙ h.bodies x; many = g.many ∙ h.many; sound = λ s. g.sound (h.sound s) }
 
 -- where a name's definition stands
 record IsRow (es : List Row) (d : Body) : Type 0 where
@@ -196,11 +196,11 @@ row_of (e ∷ es) y d h = at (bytes_eq y e.0.now) refl h (row_of es y d)
         let inside = i.within in
         record { number = suc i.number; row = i.row; within = omega (arith, inside); is_row = i.is_row; says = i.says }
 
-pub few : (fs : List Row) → fair_count fs ≤ length fs
+pub few : (fs : List Row) → found_count fs ≤ length fs
 few [] = omega arith
-few (e ∷ fs) = at e.1.is_fair refl (few fs)
+few (e ∷ fs) = at e.1.is_found refl (few fs)
   where
-    at : (c : Bool) → e.1.is_fair ≡ c → fair_count fs ≤ length fs → fair_count (e ∷ fs) ≤ length (e ∷ fs)
+    at : (c : Bool) → e.1.is_found ≡ c → found_count fs ≤ length fs → found_count (e ∷ fs) ≤ length (e ∷ fs)
     at true g h = rw g (omega (arith, h))
     at false g h = rw g (omega (arith, h))
 
@@ -209,36 +209,36 @@ pub smaller : (n k j : ℕ) (r : Bool) → (r ≡ true → k < j) → (r ≡ fal
 smaller n k j true one same most = let more = one refl in omega (arith, more, most)
 smaller n k j false one same most = let equal = same refl in omega (arith, equal)
 
-module _ (es : List Row) (is : List Item) (passed : (i : ℕ) → i < length es → IsPassed es is i) where
-  closed_at : (x : Name) (o : Option Name) → stands_for is x ≡ o → (b : Option Body) → (o >>= λ y. definition_at es y) ≡ b → fair_body (fair_by es is) (bodies_by es is x) ≡ true → fair_by es is x ≡ true
+module _ (f : Property) (grows : Grows f) (es : List Row) (is : List Item) (passed : (i : ℕ) → i < length es → IsFound f es is i) where
+  closed_at : (x : Name) (o : Option Name) → stands_for is x ≡ o → (b : Option Body) → (o >>= λ y. definition_at es y) ≡ b → body_has f (found_by es is) (bodies_by es is x) ≡ true → found_by es is x ≡ true
   closed_at x None m b n h =
-      let none : fair_body (fair_by es is) (bodies_by es is x) ≡ false = rw m refl in
+      let none : body_has f (found_by es is) (bodies_by es is x) ≡ false = rw m refl in
       absurd (true≢false (sym h ∙ none))
   closed_at x (Some y) m None n h =
-      let none : fair_body (fair_by es is) (bodies_by es is x) ≡ false = rw (m, n) refl in
+      let none : body_has f (found_by es is) (bodies_by es is x) ≡ false = rw (m, n) refl in
       absurd (true≢false (sym h ∙ none))
   closed_at x (Some y) m (Some d) n h =
-      let made : fair_body (fair_by es is) (bodies_by es is x) ≡ fair_in (fair_by es is) [] (tree_at d.tree) = rw (m, n) refl in
+      let made : body_has f (found_by es is) (bodies_by es is x) ≡ f (found_by es is) (tree_at d.tree) = rw (m, n) refl in
       let i = row_of es y d n in
       let same : tree_at i.row.1.tree ≡ tree_at d.tree = ap (λ (b : Body). tree_at b.tree) i.says in
-      let fair = passed i.number i.within i.row i.is_row (ap (λ t. fair_in (fair_by es is) [] t) same ∙ sym made ∙ h) in
-      let it : fair_by es is x ≡ d.is_fair = rw (m, n) refl in
-      it ∙ sym (ap (λ (b : Body). b.is_fair) i.says) ∙ fair
+      let found = passed i.number i.within i.row i.is_row (ap (λ t. f (found_by es is) t) same ∙ sym made ∙ h) in
+      let it : found_by es is x ≡ d.is_found = rw (m, n) refl in
+      it ∙ sym (ap (λ (b : Body). b.is_found) i.says) ∙ found
 
-  -- where no definition is found to be fairness any more, all that are were found
-  pub settled : IsFairSoFar es is → (n : ℕ) → length es ≤ n → fair_by es is ≡ fair_of n (bodies_by es is)
-  settled g n l = λ j x.
-      same_answer (fair_by es is x) (fair_of n (bodies_by es is) x)
-      (λ h. let most = few es in fair_within (bodies_by es is) (fair_count es) n x (omega (arith, most, l)) (g.known x h))
-      (λ h. all_fair_names (bodies_by es is) (fair_by es is) (λ y q. closed_at y (stands_for is y) refl (stands_for is y >>= λ z. definition_at es z) refl q) n x h) j
+  -- where no definition is found any more, all are
+  pub all_found : AreRight f es is → (n : ℕ) → length es ≤ n → found_by es is ≡ names_with f n (bodies_by es is)
+  all_found g n l = λ j x.
+      same_answer (found_by es is x) (names_with f n (bodies_by es is) x)
+      (λ h. let most = few es in deeper_within f grows (bodies_by es is) (found_count es) n x (omega (arith, most, l)) (g.known x h))
+      (λ h. all_names f grows (bodies_by es is) (found_by es is) (λ y q. closed_at y (stands_for is y) refl (stands_for is y >>= λ z. definition_at es z) refl q) n x h) j
 
--- where none is known to be fairness
-pub none_known : (es : List Row) (is : List Item) → ((x : Name) → fair_at es x ≡ false) → IsFairSoFar es is
-none_known es is h = record { known = λ x g. at x g (stands_for is x) refl }
+-- where none is known
+pub none_known : (f : Property) (es : List Row) (is : List Item) → ((x : Name) → found_at es x ≡ false) → AreRight f es is
+none_known f es is h = record { known = λ x g. at x g (stands_for is x) refl }
   where
-    at : (x : Name) → fair_by es is x ≡ true → (o : Option Name) → stands_for is x ≡ o → fair_of (fair_count es) (bodies_by es is) x ≡ true
-    at x g None m = let none : fair_by es is x ≡ false = rw m refl in absurd (true≢false (sym g ∙ none))
-    at x g (Some y) m = let none : fair_by es is x ≡ false = rw m (h y) in absurd (true≢false (sym g ∙ none))
+    at : (x : Name) → found_by es is x ≡ true → (o : Option Name) → stands_for is x ≡ o → names_with f (found_count es) (bodies_by es is) x ≡ true
+    at x g None m = let none : found_by es is x ≡ false = rw m refl in absurd (true≢false (sym g ∙ none))
+    at x g (Some y) m = let none : found_by es is x ≡ false = rw m (h y) in absurd (true≢false (sym g ∙ none))
 
 -- the definitions of a module
 pub bodies_are : (es : List Row) (us : List UnitTree) (is : List Item) → ((x : Name) → body_at es x ≡ body_in us x) → bodies_by es is ≡ body_of us is
@@ -247,7 +247,3 @@ bodies_are es us is h = λ j x. at x (stands_for is x) refl j
     at : (x : Name) (o : Option Name) → stands_for is x ≡ o → bodies_by es is x ≡ body_of us is x
     at x None m = rw m refl
     at x (Some y) m = rw m (h y)
-
-pub absent : {A : Type 0} (o : Option A) → is_some o ≡ false → o ≡ None
-absent None h = refl
-absent (Some x) h = absurd (true≢false h)

@@ -16,7 +16,7 @@ use Rattle.tla_defs.specs.Global.{global}
 use Rattle.tla_names.specs.Misuses.{variables_of}
 use Rattle.tla_defs.specs.Model.{meaning_in, IsInitial, IsBehaviour, AreInvariants, AreAssumptions, IsModel, assumptions_of, initials_named, nexts_named, specifications_named, invariants_named}
 use Rattle.tla_defs.specs.Bodies.{body_of}
-use Rattle.tla_defs.specs.Specification.{IsSpecification, conjuncts, conjunction_of, initials_of, steps_of}
+use Rattle.tla_defs.specs.Specification.{IsSpecification, replaced, conjuncts, conjunction_of, initials_of, steps_of}
 
 pub same_some : {A : Type 0} (o : Option A) (a b : A) → o ≡ Some a → o ≡ Some b → a ≡ b
 same_some o a b p q = cc
@@ -76,9 +76,9 @@ one_form : (us : List UnitTree) (is : List Item) (σ : Scope) (n : ℕ) (w v : W
 one_form us is σ n w v i a j b same g h =
     let known = body_of us is in
     let body = same_some (known w.word) g.body h.body g.is_body (ap (λ (x : Written). known x.word) same ∙ h.is_body) in
-    let split = ap (λ e. conjuncts (length us) known e) body in (
-      same_some (conjunction_of (initials_of (length us) known (conjuncts (length us) known g.body))) i j g.is_initial (ap (λ es. conjunction_of (initials_of (length us) known es)) split ∙ h.is_initial),
-      one_step (steps_of (conjuncts (length us) known g.body)) a b g.subscript h.subscript g.one_step (ap (λ es. steps_of es) split ∙ h.one_step),
+    let split = ap (λ e. conjuncts (length us) (replaced us is) e) body in (
+      same_some (conjunction_of (initials_of (length us) known (conjuncts (length us) (replaced us is) g.body))) i j g.is_initial (ap (λ es. conjunction_of (initials_of (length us) known es)) split ∙ h.is_initial),
+      one_step (steps_of (conjuncts (length us) (replaced us is) g.body)) a b g.subscript h.subscript g.one_step (ap (λ es. steps_of es) split ∙ h.one_step),
     )
 
 pub one_behaviour : (us : List UnitTree) (cs : List Statement) (i a j b : Tree) → IsBehaviour us cs i a → IsBehaviour us cs j b → Same i a j b

@@ -1,5 +1,5 @@
 -- Fairness in the formula that SPECIFICATION names (book, chapter 8): it says nothing of steps.
-use Rattle.std.specs.Prelude.{ℕ, zero, suc, Bool, true, false, not, ◌&&◌, [], ◌++◌, Option, Some, None, is_some}
+use Rattle.std.specs.Prelude.{ℕ, Bool, true, false, not, ◌&&◌, [], ◌++◌, is_some}
 use Rattle.tla_tree.specs.declared.tree.Bullet.{Bullet}
 use Rattle.tla_tree.specs.declared.tree.Bullet.TheVariants as bullet
 use Rattle.tla_tree.specs.declared.tree.Infix.{Infix}
@@ -10,7 +10,7 @@ use Rattle.tla_tree.specs.Tree.{Tree, Trees, none, more}
 use Rattle.tla_tree.specs.Tree as t
 use Rattle.tla_config.specs.Names.{Name}
 use Rattle.tla_names.specs.Scope.{Scope, arity, plain, bound_names}
-use Rattle.tla_defs.specs.Bodies.{Bodies}
+use Rattle.tla_defs.specs.Bodies.{Bodies, Property, names_with}
 
 abbrev pub is_and : Infix → Bool
 is_and op.And = true
@@ -24,15 +24,15 @@ abbrev pub is_for_all : Quantifier → Bool
 is_for_all quantifier.ForAll = true
 is_for_all quantifier.Exists = false
 
--- a name that a \A round it binds stands for no definition
-abbrev pub fair_name : (Name → Bool) → Scope → Name → Bool
-fair_name φ σ x = not (is_some (arity σ x)) && φ x
+-- one of these names, where no quantifier round it binds it: else it stands for no definition
+abbrev pub name_in : (Name → Bool) → Scope → Name → Bool
+name_in φ σ x = not (is_some (arity σ x)) && φ x
 
 -- fairness: WF_v(A) and SF_v(A), under /\ and \A
 abbrev mutual
   pub fair_in : (Name → Bool) → Scope → Tree → Bool
   fair_in φ σ (t.Fair p f v a) = true
-  fair_in φ σ (t.Name w) = fair_name φ σ w.word
+  fair_in φ σ (t.Name w) = name_in φ σ w.word
   fair_in φ σ (t.Paren p e) = fair_in φ σ e
   fair_in φ σ (t.Binary p o w a c) = is_and o && (fair_in φ σ a && fair_in φ σ c)
   fair_in φ σ (t.Junction p b es) = is_and_list b && fair_each φ σ es
@@ -43,13 +43,12 @@ abbrev mutual
   fair_each φ σ none = true
   fair_each φ σ (more e es) = fair_in φ σ e && fair_each φ σ es
 
-abbrev pub fair_body : (Name → Bool) → Option Tree → Bool
-fair_body φ None = false
-fair_body φ (Some e) = fair_in φ [] e
+abbrev pub fairness : Property
+fairness φ e = fair_in φ [] e
 
+-- the names that stand for fairness, so many definitions deep
 abbrev pub fair_of : ℕ → Bodies → Name → Bool
-fair_of zero b x = false
-fair_of (suc n) b x = fair_body (fair_of n b) (b x)
+fair_of = names_with fairness
 
 abbrev pub fair : ℕ → Bodies → Tree → Bool
-fair n b e = fair_in (fair_of n b) [] e
+fair n b e = fairness (fair_of n b) e

@@ -1,4 +1,4 @@
--- The formulas of a model, as the code finds them.
+-- The formulas of a model, as the code finds them. Private contracts alone cite this.
 use Rattle.std.specs.Prelude.{◌⊎◌, List, [], ◌∷◌, ◌++◌, map}
 use Rattle.std.specs.Borrow.{Bor}
 use Rattle.tla_core.specs.Expr.{Expr}

@@ -2,6 +2,7 @@ pub mod Given
 pub mod Global
 pub mod Bodies
 pub mod Fairness
+pub mod Temporal
 pub mod Subscripts
 pub mod Specification
 pub mod Model

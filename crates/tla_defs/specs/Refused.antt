@@ -63,7 +63,7 @@ is_of_formula c.Level = true
 is_of_formula c.ExpansionTooLarge = true
 is_of_formula _ = false
 
--- a formula is of too high a level or too large, at some place of the module
+-- what is told of a formula of too high a level, or of one that is too large: some place of the module (which of the two, and where, is not said here)
 pub record IsOfFormula (e : DefsError) : Type 0 where
   pub code : is_of_formula e.code ≡ true
   pub source : e.source ≡ source.Module

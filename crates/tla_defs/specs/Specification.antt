@@ -1,5 +1,5 @@
--- The formula that SPECIFICATION names: Init /\ [][Next]_v, and fairness (book, chapters 8 and 14).
-use Rattle.std.specs.Prelude.{◌≡◌, ℕ, zero, suc, Bool, not, ◌&&◌, List, [], ◌∷◌, ◌++◌, Option, Some, None, is_some, unwrap_or, filter, length}
+-- The formula that SPECIFICATION names: Init /\ [][Next]_v, and fairness (book, chapters 8 and 14; what a name in it is replaced by: this project's own choice).
+use Rattle.std.specs.Prelude.{◌≡◌, ℕ, zero, suc, Bool, true, false, not, ◌&&◌, ◌||◌, if◌then◌else◌, List, [], ◌∷◌, ◌++◌, Option, Some, None, is_some, unwrap_or, filter, length}
 use Rattle.std.specs.List.{filter_map}
 use Rattle.tla_tree.specs.declared.word.Written.{Written}
 use Rattle.tla_tree.specs.declared.tree.Bullet.TheVariants as bullet
@@ -17,8 +17,9 @@ use Rattle.tla_expand.specs.Maybe.{◌>>=◌}
 use Rattle.tla_defs.specs.Bodies.{Bodies, body_of}
 use Rattle.tla_defs.specs.Fairness.{fair}
 use Rattle.tla_defs.specs.Subscripts.{IsCover}
+use Rattle.tla_defs.specs.Temporal.{temporal_of}
 
--- The conjuncts of a formula: those of the parts of a conjunction, and of what a name stands for. Any other formula is one itself.
+-- The conjuncts of a formula: those of the parts of a conjunction, and of what a name is replaced by. Any other formula is one itself.
 abbrev mutual
   pub conjuncts_in : (Name → Option (List Tree)) → Tree → List Tree
   conjuncts_in ρ (t.Name w) = unwrap_or (ρ w.word) (t.Name w ∷ [])
@@ -38,6 +39,19 @@ conjuncts_of (suc n) b x = b x >>= λ e. Some (conjuncts_in (conjuncts_of n b) e
 
 abbrev pub conjuncts : ℕ → Bodies → Tree → List Tree
 conjuncts n b e = conjuncts_in (conjuncts_of n b) e
+
+abbrev pub is_conjunction : Tree → Bool
+is_conjunction (t.Paren p e) = is_conjunction e
+is_conjunction (t.Binary p op.And w a c) = true
+is_conjunction (t.Junction p bullet.And es) = true
+is_conjunction e = false
+
+-- a name is replaced by its body where that is a conjunction, or temporal
+abbrev pub replaced_by : (Name → Bool) → Bodies → Bodies
+replaced_by τ b x = b x >>= λ e. if is_conjunction e || τ x then Some e else None
+
+abbrev pub replaced : List UnitTree → List Item → Bodies
+replaced us is = replaced_by (temporal_of (length us) (body_of us is)) (body_of us is)
 
 -- an action and its subscript
 abbrev pub Step : Type 0
@@ -76,6 +90,6 @@ pub record IsSpecification (us : List UnitTree) (is : List Item) (σ : Scope) (v
   pub body : Tree
   pub is_body : body_of us is w.word ≡ Some body
   pub subscript : Tree
-  pub one_step : steps_of (conjuncts (length us) (body_of us is) body) ≡ (action, subscript) ∷ []
+  pub one_step : steps_of (conjuncts (length us) (replaced us is) body) ≡ (action, subscript) ∷ []
   pub covered : IsCover σ variables subscript
-  pub is_initial : conjunction_of (initials_of (length us) (body_of us is) (conjuncts (length us) (body_of us is) body)) ≡ Some initial
+  pub is_initial : conjunction_of (initials_of (length us) (body_of us is) (conjuncts (length us) (replaced us is) body)) ≡ Some initial

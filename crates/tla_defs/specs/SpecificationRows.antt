@@ -45,7 +45,7 @@ whole_tree = Junction (place 7 9) bullet.And (more (Binary (place 7 12) op.And (
 
 -- the parts of the initial predicate, over the variables next
 abbrev pub joined_init : Expr
-joined_init = conjunction (place_of (place 4 9))
+joined_init = conjunction (place_of (place 6 9))
     (more_exprs (equal (place_of (place 4 9)) (next (place_of (place 4 9)) 0) (constant_at 4 13 0))
     (more_exprs (binary (place_of (place 7 12)) e.LessThan (next (place_of (place 7 12)) 0) (constant_at 7 16 1)) no_exprs))
 
@@ -53,3 +53,16 @@ abbrev pub SpecifiedInParts : Type 0
 SpecifiedInParts = IsModel
     (frame 0 (counter_tree 3) (Operator (word 6 1 (codes "Safe")) safe_tree ∷ Operator (word 7 1 (codes "Spec")) whole_tree ∷ []))
     specified (record (model 0 (counter_step 3) [] true) { init = joined_init })
+
+-- Box == [][Next]_x in line 6
+abbrev pub box_tree : Tree
+box_tree = Unary (place 6 8) prefix.Always (Action (place 6 10) step.Box (name_at 6 11 (codes "Next")) (x_at 6 17))
+
+-- Spec == Init /\ Box in line 7
+abbrev pub named_tree : Tree
+named_tree = Binary (place 7 9) op.And (word 7 14 (codes "/\\")) (name_at 7 9 (codes "Init")) (name_at 7 17 (codes "Box"))
+
+abbrev pub SpecifiedByNames : Type 0
+SpecifiedByNames = IsModel
+    (frame 0 (counter_tree 3) (Operator (word 6 1 (codes "Box")) box_tree ∷ Operator (word 7 1 (codes "Spec")) named_tree ∷ []))
+    specified (model 0 (counter_step 3) [] true)

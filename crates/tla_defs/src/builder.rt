@@ -1,6 +1,6 @@
 //! The model of a module and a configuration.
 
-ghost use Rattle.std.specs.Prelude.{◌≡◌, ◌≢◌, ◌++◌, ◌∷◌, [], None, Some, Ok, IfOk, IfErr, OnOk, List, map};
+ghost use Rattle.std.specs.Prelude.{◌≡◌, ◌≢◌, ◌++◌, ◌∷◌, [], None, Ok, IfOk, IfErr, OnOk, List, map};
 ghost use Rattle.tla_config.specs.declared.error.DefsCode.TheVariants.{Memory};
 ghost use Rattle.tla_config.specs.Refusals.{IsLocated};
 ghost use Rattle.tla_config.specs.Statements.{items_of, checks_deadlock};
@@ -245,7 +245,8 @@ fn model_or_refusal(alloc: Global, units: &[Unit], config: &Config) -> Result<Mo
 
 /// The model that a module and a configuration name, or the first step that refuses them: the names of the module, the
 /// items of CONSTANT, a constant without a value, the behaviour, the names of the configuration, an item that leads back to
-/// its name, the form of SPECIFICATION, the assumptions, Init, Next, and the invariants.
+/// its name, the form of SPECIFICATION, the assumptions, Init, Next, and the invariants. (Which of the steps behind the
+/// items refuses, no clause says.)
 /// It recurses as deep as the module's trees are nested, which is at most 200 from `parse_module`, and over a formula's
 /// expansion to depth 300.
 pub fn build(alloc: Global, module: &Module, config: &Config) -> Result<Model, DefsError>

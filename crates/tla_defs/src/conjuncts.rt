@@ -1,12 +1,12 @@
 //! The conjuncts of the formula that SPECIFICATION names.
 
-ghost use Rattle.std.specs.Prelude.{◌≡◌, ◌≢◌, ◌++◌, ◌∷◌, [], ℕ, List, Some, map, option_map, OnOk, IfOk, IfErr};
+ghost use Rattle.std.specs.Prelude.{◌≡◌, ◌≢◌, ◌++◌, ◌∷◌, [], List, Some, map, option_map, OnOk, IfOk, IfErr};
 ghost use Rattle.tla_config.specs.declared.error.DefsCode.TheVariants.{Memory};
 ghost use Rattle.tla_tree.specs.Tree.{Tree, trees as trees_of};
 ghost use Rattle.tla_tree.specs.View.{view};
 ghost use Rattle.tla_names.specs.Refusal as refusal;
 ghost use Rattle.tla_defs.specs.Bodies as bodies;
-ghost use Rattle.tla_defs.specs.Conjuncts.{bodies_of, fair_names, conjuncts_from, ahead, initials_by, Rests, IsBegun};
+ghost use Rattle.tla_defs.specs.Conjuncts.{replaced_in, fair_names, conjuncts_from, conjuncts_left, initials_by, AreMadeOfFairness, AreFoundOrLeft};
 ghost use Rattle.tla_defs.specs.Parts.{steps_in, AreMany};
 ghost use Rattle.tla_defs.specs.Refused.{IsLast};
 ghost use Rattle.tla_defs.specs.Seen.{tree_at, seen};
@@ -46,7 +46,7 @@ fn push_each<'a>(
     trees: &'a [Expr],
     names: usize,
 ) -> Result<(), DefsError>
-    ensures ok { (b : bodies.Bodies) → OnOk result (ahead b formulas.new.items ≡ spec.conjuncts_each (spec.conjuncts_of names b) (trees_of (map view trees.entry.now)) ++ ahead b formulas.old.items) }
+    ensures ok { (b : bodies.Bodies) → OnOk result (conjuncts_left b formulas.new.items ≡ spec.conjuncts_each (spec.conjuncts_of names b) (trees_of (map view trees.entry.now)) ++ conjuncts_left b formulas.old.items) }
     ensures err { IfErr result (λ e. e.code ≡ Memory) }
 {
     for i in 0..trees.len() {
@@ -83,15 +83,50 @@ fn shape_of<'a>(tree: &'a Expr) -> Shape<'a>
     }
 }
 
-impl<'t, 'a> Definitions<'t, 'a> {
-    /// The formula that a name stands for, where names do so many definitions deep.
+fn is_conjunction(tree: &Expr) -> bool
+    ensures { result ≡ spec.is_conjunction (view tree.now) }
+{
+    match tree {
+        Expr::Paren(_, inner) => is_conjunction(inner),
+        Expr::Binary(_, Infix::And, _, _, _) => true,
+        Expr::Junction(_, bullet, _) => match bullet {
+            Bullet::And => true,
+            Bullet::Or => false,
+        },
+        _ => false,
+    }
+}
+
+/// What names stand for, and which of them stand for fairness and for temporal formulas.
+#[derive(Clone, Copy)]
+pub(crate) struct Classes<'t, 'a> {
+    pub(crate) fairness: Definitions<'t, 'a>,
+    pub(crate) temporal: Definitions<'t, 'a>,
+}
+
+impl<'t, 'a> Classes<'t, 'a> {
+    /// The body that a name is replaced by: a conjunction, or a temporal formula.
+    fn replacing(&self, name: &[u8]) -> Option<&'a Expr>
+        ensures { option_map tree_at result ≡ replaced_in self.now name.now }
+    {
+        let Some(tree) = self.temporal.body(name) else {
+            return None;
+        };
+        if is_conjunction(tree) || self.temporal.is_known(name) {
+            Some(tree)
+        } else {
+            None
+        }
+    }
+
+    /// The formula that a name is replaced by, where names are so many definitions deep.
     fn formula(&self, name: &[u8], names: usize) -> Option<Formula<'a>>
-        ensures { option_map (conjuncts_from (bodies_of self.now)) result ≡ spec.conjuncts_of names (bodies_of self.now) name.now }
+        ensures { option_map (conjuncts_from (replaced_in self.now)) result ≡ spec.conjuncts_of names (replaced_in self.now) name.now }
     {
         if names == 0 {
             return None;
         }
-        match self.body(name) {
+        match self.replacing(name) {
             Some(tree) => Some(Formula {
                 tree,
                 names: names - 1,
@@ -112,12 +147,12 @@ struct Walk<'a> {
 /// over, so that what it stands for is not looked at again. The only error is want of memory.
 fn go_on<'a>(
     alloc: Global,
-    definitions: &Definitions<'_, 'a>,
+    classes: &Classes<'_, 'a>,
     formula: Formula<'a>,
     walk: &mut Walk<'a>,
 ) -> Result<(), DefsError>
-    requires rests { Rests (fair_names definitions.now) (bodies_of definitions.now) }
-    ensures ok { OnOk result ((ss : List spec.Step) (es : List Tree) → IsBegun (fair_names definitions.now) (bodies_of definitions.now) (walk.old.left.items ++ formula.entry ∷ []) walk.old.parts ss es → IsBegun (fair_names definitions.now) (bodies_of definitions.now) walk.new.left.items walk.new.parts ss es) }
+    requires fair { AreMadeOfFairness (fair_names classes.now) (replaced_in classes.now) }
+    ensures ok { OnOk result ((ss : List spec.Step) (es : List Tree) → AreFoundOrLeft (fair_names classes.now) (replaced_in classes.now) (walk.old.left.items ++ formula.entry ∷ []) walk.old.parts ss es → AreFoundOrLeft (fair_names classes.now) (replaced_in classes.now) walk.new.left.items walk.new.parts ss es) }
     ensures err { IfErr result (λ e. e.code ≡ Memory) }
 {
     let Formula { tree, names } = formula;
@@ -135,15 +170,15 @@ fn go_on<'a>(
         }
         Shape::Many(items) => push_each(&mut walk.left, items, names),
         Shape::Name(name) => {
-            if is_fair(alloc, definitions, tree)? {
+            if is_fair(alloc, &classes.fairness, tree)? {
                 return Ok(());
             }
-            match definitions.formula(name.as_bytes(), names) {
+            match classes.formula(name.as_bytes(), names) {
                 Some(body) => push(&mut walk.left, body),
-                None => walk.parts.sort(alloc, definitions, tree),
+                None => walk.parts.add(alloc, &classes.fairness, tree),
             }
         }
-        Shape::Whole => walk.parts.sort(alloc, definitions, tree),
+        Shape::Whole => walk.parts.add(alloc, &classes.fairness, tree),
     }
 }
 
@@ -152,16 +187,16 @@ fn go_on<'a>(
 /// however many there are.
 pub(crate) fn parts_of<'a>(
     alloc: Global,
-    definitions: &Definitions<'_, 'a>,
+    classes: &Classes<'_, 'a>,
     names: usize,
     whole: &'a Expr,
     place: Place,
 ) -> Result<Parts<'a>, DefsError>
-    requires rests { Rests (fair_names definitions.now) (bodies_of definitions.now) }
-    ensures steps { IfOk result (λ p. steps_in p ≡ spec.steps_of (spec.conjuncts names (bodies_of definitions.now) (tree_at whole.entry))) }
-    ensures initial { IfOk result (λ p. seen p.initial.items ≡ initials_by (fair_names definitions.now) (spec.conjuncts names (bodies_of definitions.now) (tree_at whole.entry))) }
+    requires fair { AreMadeOfFairness (fair_names classes.now) (replaced_in classes.now) }
+    ensures steps { IfOk result (λ p. steps_in p ≡ spec.steps_of (spec.conjuncts names (replaced_in classes.now) (tree_at whole.entry))) }
+    ensures initial { IfOk result (λ p. seen p.initial.items ≡ initials_by (fair_names classes.now) (spec.conjuncts names (replaced_in classes.now) (tree_at whole.entry))) }
     ensures refused { IfErr result (λ e. e.code ≢ Memory → IsLast (Some (refusal.refusal_at DefsCode.SpecificationForm Source.Configuration place)) e) }
-    ensures many { IfErr result (λ e. e.code ≢ Memory → AreMany (spec.steps_of (spec.conjuncts names (bodies_of definitions.now) (tree_at whole.entry))) (initials_by (fair_names definitions.now) (spec.conjuncts names (bodies_of definitions.now) (tree_at whole.entry)))) }
+    ensures many { IfErr result (λ e. e.code ≢ Memory → AreMany (spec.steps_of (spec.conjuncts names (replaced_in classes.now) (tree_at whole.entry))) (initials_by (fair_names classes.now) (spec.conjuncts names (replaced_in classes.now) (tree_at whole.entry)))) }
 {
     let mut walk = Walk {
         left: Vec::new(alloc),
@@ -175,7 +210,7 @@ pub(crate) fn parts_of<'a>(
         let Some(formula) = walk.left.pop() else {
             return Ok(walk.parts);
         };
-        go_on(alloc, definitions, formula, &mut walk)?;
+        go_on(alloc, classes, formula, &mut walk)?;
     }
     Err(no_memory())
 }

@@ -1,12 +1,12 @@
 //! Whether a formula is made of fairness alone.
 
-ghost use Rattle.std.specs.Prelude.{◌≡◌, ◌&&◌, ◌++◌, ◌∷◌, [], map, OnOk, IfOk, IfErr};
+ghost use Rattle.std.specs.Prelude.{◌≡◌, ◌&&◌, ◌++◌, [], map, OnOk, IfOk, IfErr};
 ghost use Rattle.tla_config.specs.declared.error.DefsCode.TheVariants.{Memory};
 ghost use Rattle.tla_tree.specs.Tree.{trees as trees_of, binders};
 ghost use Rattle.tla_tree.specs.View.{view, group_view};
 ghost use Rattle.tla_names.specs.Scope.{plain, bound_names};
 ghost use Rattle.tla_defs.specs.Fairness as spec;
-ghost use Rattle.tla_defs.specs.Conjuncts.{fair_names};
+ghost use Rattle.tla_defs.specs.Conjuncts.{found_names};
 
 use crate::table::Definitions;
 use std::alloc::Global;
@@ -40,14 +40,14 @@ fn fair_tree<'a>(
     tree: &'a Expr,
 ) -> Result<bool, DefsError>
     ensures kept { OnOk result (bound.new ≡ bound.old) }
-    ensures same { IfOk result (λ r. r ≡ spec.fair_in (fair_names definitions.now) bound.old (view tree.entry.now)) }
+    ensures same { IfOk result (λ r. r ≡ spec.fair_in (found_names definitions.now) bound.old (view tree.entry.now)) }
     ensures err { IfErr result (λ e. e.code ≡ Memory) }
 {
     match tree {
         Expr::Fair(_, _, _, _) => Ok(true),
         Expr::Name(name) => {
             let name = name.word.as_bytes();
-            Ok(!bound.knows(name) && definitions.is_fair(name))
+            Ok(!bound.knows(name) && definitions.is_known(name))
         }
         Expr::Paren(_, inner) => fair_tree(definitions, bound, inner),
         Expr::Binary(_, operator, _, first, second) => {
@@ -71,29 +71,7 @@ fn fair_tree<'a>(
             }
             fair_under(definitions, bound, groups, body)
         }
-        Expr::Number(_, _)
-        | Expr::Text(_, _)
-        | Expr::Constant(_, _)
-        | Expr::At(_)
-        | Expr::Listing(_, _, _)
-        | Expr::Call(_, _)
-        | Expr::Prime(_, _)
-        | Expr::Index(_, _, _)
-        | Expr::Field(_, _, _)
-        | Expr::Unary(_, _, _)
-        | Expr::Choose(_, _, _, _)
-        | Expr::If(_, _, _, _)
-        | Expr::Case(_, _, _)
-        | Expr::Let(_, _, _)
-        | Expr::Filter(_, _, _, _)
-        | Expr::Image(_, _, _)
-        | Expr::Function(_, _, _)
-        | Expr::FunctionSet(_, _, _)
-        | Expr::Record(_, _)
-        | Expr::RecordSet(_, _)
-        | Expr::Except(_, _, _)
-        | Expr::Action(_, _, _, _)
-        | Expr::Product(_, _, _) => Ok(false),
+        _ => Ok(false),
     }
 }
 
@@ -107,7 +85,7 @@ fn fair_under<'a>(
     body: &'a Expr,
 ) -> Result<bool, DefsError>
     ensures kept { OnOk result (bound.new ≡ bound.old) }
-    ensures same { IfOk result (λ r. r ≡ spec.fair_in (fair_names definitions.now) (bound.old ++ plain (bound_names (binders (map group_view groups.entry.now)))) (view body.entry.now)) }
+    ensures same { IfOk result (λ r. r ≡ spec.fair_in (found_names definitions.now) (bound.old ++ plain (bound_names (binders (map group_view groups.entry.now)))) (view body.entry.now)) }
     ensures err { IfErr result (λ e. e.code ≡ Memory) }
 {
     let mark = bound.len();
@@ -125,7 +103,7 @@ fn each_fair<'a>(
     trees: &'a [Expr],
 ) -> Result<bool, DefsError>
     ensures kept { OnOk result (bound.new ≡ bound.old) }
-    ensures same { IfOk result (λ r. r ≡ spec.fair_each (fair_names definitions.now) bound.old (trees_of (map view trees.entry.now))) }
+    ensures same { IfOk result (λ r. r ≡ spec.fair_each (found_names definitions.now) bound.old (trees_of (map view trees.entry.now))) }
     ensures err { IfErr result (λ e. e.code ≡ Memory) }
 {
     let mut others = trees;
@@ -144,7 +122,7 @@ pub(crate) fn is_fair<'a>(
     definitions: &Definitions<'_, 'a>,
     tree: &'a Expr,
 ) -> Result<bool, DefsError>
-    ensures ok { IfOk result (λ r. r ≡ spec.fair_in (fair_names definitions.now) [] (view tree.entry.now)) }
+    ensures ok { IfOk result (λ r. r ≡ spec.fair_in (found_names definitions.now) [] (view tree.entry.now)) }
     ensures err { IfErr result (λ e. e.code ≡ Memory) }
 {
     let mut bound = Scope::new(alloc);

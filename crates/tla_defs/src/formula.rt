@@ -1,6 +1,6 @@
 //! The formulas that names of a configuration stand for.
 
-ghost use Rattle.std.specs.Prelude.{◌≡◌, ◌≢◌, IfOk, IfErr, map};
+ghost use Rattle.std.specs.Prelude.{◌≡◌, ◌≢◌, IfOk, IfErr};
 ghost use Rattle.tla_config.specs.declared.error.DefsCode.TheVariants.{Memory};
 ghost use Rattle.tla_core.specs.Expr as expr;
 ghost use Rattle.tla_core.specs.ExprOf.{expr_of};

@@ -9,7 +9,7 @@ ghost use Rattle.tla_expand.specs.Names.{scope_of, outer_of};
 ghost use Rattle.tla_tree.specs.Units.{UnitTree};
 ghost use Rattle.tla_tree.specs.UnitsView.{unit_view};
 ghost use Rattle.tla_tree.specs.View.{view, definition_view};
-ghost use Rattle.tla_defs.specs.Given as made;
+ghost use Rattle.tla_defs.specs.Given as given_names;
 ghost use Rattle.tla_defs.specs.Global as global;
 ghost use Rattle.tla_names.specs.Items as items;
 ghost use Rattle.tla_names.specs.Scope.{signature};
@@ -151,7 +151,7 @@ fn with_unit<'a>(
 
 /// With the name of an item more.
 fn with_item<'a>(scopes: Scopes<'a>, item: &'a Item) -> Result<Scopes<'a>, DefsError>
-    ensures ok { IfOk result (λ s. scope_of s ≡ made.with_item (outer_of scopes.entry) (item_view item.now) (scope_of scopes.entry)) }
+    ensures ok { IfOk result (λ s. scope_of s ≡ given_names.with_item (outer_of scopes.entry) (item_view item.now) (scope_of scopes.entry)) }
     ensures outer { IfOk result (λ s. outer_of s ≡ outer_of scopes.entry) }
     ensures err { IfErr result (λ e. e.code ≡ Memory) }
 {
@@ -167,7 +167,7 @@ fn with_item<'a>(scopes: Scopes<'a>, item: &'a Item) -> Result<Scopes<'a>, DefsE
 
 /// With the names of items more.
 fn with_items<'a>(scopes: Scopes<'a>, given: &Items<'a>) -> Result<Scopes<'a>, DefsError>
-    ensures ok { IfOk result (λ s. scope_of s ≡ made.with_items (outer_of scopes.entry) given.now (scope_of scopes.entry)) }
+    ensures ok { IfOk result (λ s. scope_of s ≡ given_names.with_items (outer_of scopes.entry) given.now (scope_of scopes.entry)) }
     ensures err { IfErr result (λ e. e.code ≡ Memory) }
 {
     let mut all = scopes;

@@ -3,7 +3,7 @@
 ghost use Rattle.tla_defs.specs.Laws.{OnlyModel, NoneRefused, IsAlwaysSound};
 ghost use Rattle.tla_defs.specs.Rows.{CounterOfThree, CounterOfFive, BoundedSteps, BoundedStepsMayEnd, LargestNumber};
 ghost use Rattle.tla_defs.specs.GivenRows.{WithValue, WithReplacement, Circle, TwoVariables};
-ghost use Rattle.tla_defs.specs.SpecificationRows.{Specified, SpecifiedInParts};
+ghost use Rattle.tla_defs.specs.SpecificationRows.{Specified, SpecifiedInParts, SpecifiedByNames};
 ghost use Rattle.tla_defs.specs.NamedRows.{WithParameter, WithLet, WithoutCapture};
 
 /// A module and a configuration name at most one model.
@@ -11,7 +11,7 @@ pub fn one_model()
     ensures { OnlyModel }
 {}
 
-/// No step refuses a module and a configuration that name a model.
+/// None of the steps that are told exactly refuses a module and a configuration that name a model.
 pub fn none_refused()
     ensures { NoneRefused }
 {}
@@ -36,6 +36,7 @@ pub fn models()
     ensures two_variables { TwoVariables }
     ensures specified { Specified }
     ensures specified_in_parts { SpecifiedInParts }
+    ensures specified_by_names { SpecifiedByNames }
 {}
 
 /// A replacement that leads back to its name.

@@ -17,6 +17,7 @@ mod parts;
 mod places;
 mod specification;
 mod table;
+mod temporal;
 
 pub use builder::build;
 pub use tla_config::{Config, DefsCode, DefsError, Source, parse_config};

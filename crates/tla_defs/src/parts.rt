@@ -4,7 +4,7 @@ ghost use Rattle.std.specs.Prelude.{◌≡◌, ◌≢◌, ◌++◌, ◌∷◌, [
 ghost use Rattle.tla_config.specs.declared.error.DefsCode.TheVariants.{Memory};
 ghost use Rattle.tla_tree.specs.View.{view};
 ghost use Rattle.tla_names.specs.Refusal as refusal;
-ghost use Rattle.tla_defs.specs.Conjuncts.{fair_names, initials_by};
+ghost use Rattle.tla_defs.specs.Conjuncts.{found_names, initials_by};
 ghost use Rattle.tla_defs.specs.Parts.{step_of, steps_in, AreFew};
 ghost use Rattle.tla_defs.specs.Refused.{IsLast};
 ghost use Rattle.tla_defs.specs.Seen.{tree_at, seen};
@@ -86,14 +86,14 @@ impl<'a> Parts<'a> {
     }
 
     /// One conjunct more. The only error is want of memory.
-    pub(crate) fn sort(
+    pub(crate) fn add(
         &mut self,
         alloc: Global,
         definitions: &Definitions<'_, 'a>,
         tree: &'a Expr,
     ) -> Result<(), DefsError>
         ensures steps { OnOk result (steps_in self.new ≡ steps_in self.old ++ spec.steps_of (tree_at tree.entry ∷ [])) }
-        ensures initial { OnOk result (seen self.new.initial.items ≡ seen self.old.initial.items ++ initials_by (fair_names definitions.now) (tree_at tree.entry ∷ [])) }
+        ensures initial { OnOk result (seen self.new.initial.items ≡ seen self.old.initial.items ++ initials_by (found_names definitions.now) (tree_at tree.entry ∷ [])) }
         ensures err { IfErr result (λ e. e.code ≡ Memory) }
     {
         if let Some(step) = always(tree) {

@@ -13,9 +13,9 @@ ghost use Rattle.tla_names.specs.Refusal as refusal;
 ghost use Rattle.tla_defs.specs.Subscripts as subscripts;
 ghost use Rattle.tla_defs.specs.Specified.{IsForm, LacksState, NoForm};
 
-use crate::conjuncts::parts_of;
+use crate::conjuncts::{Classes, parts_of};
 use crate::cover::covers;
-use crate::table::{Definitions, Table};
+use crate::table::{Class, Definitions, Table};
 use indexmap::IndexSet;
 use std::alloc::Global;
 use tla_config::{DefsCode, DefsError, Source};
@@ -91,28 +91,44 @@ fn of_state_level<'a>(
     }
 }
 
-/// A place of the module, which tells conjuncts apart.
+/// Where what a conjunct says begins, by which a set keeps it.
 #[derive(Clone, Copy, PartialEq, Eq, Hash)]
-struct Spot {
+struct PlaceKey {
     line: u64,
     column: u128,
 }
 
-/// Whether a conjunct was not met before. The only error is want of memory.
-fn is_new(met: &mut IndexSet<Spot>, tree: &Expr) -> Result<bool, DefsError>
+/// Where what a conjunct says begins: for a name, its definition.
+fn says_at(definitions: &Definitions<'_, '_>, tree: &Expr) -> Place {
+    match tree {
+        Expr::Name(name) => match definitions.body(name.word.as_bytes()) {
+            Some(body) => body.place(),
+            None => tree.place(),
+        },
+        _ => tree.place(),
+    }
+}
+
+/// Whether what a conjunct says was not met before. The only error is want of memory.
+fn is_new(
+    met: &mut IndexSet<PlaceKey>,
+    definitions: &Definitions<'_, '_>,
+    tree: &Expr,
+) -> Result<bool, DefsError>
     ensures err { IfErr result (λ e. e.code ≡ Memory) }
 {
-    let Place { line, column } = tree.place();
-    match met.insert(Spot { line, column }) {
+    let Place { line, column } = says_at(definitions, tree);
+    match met.insert(PlaceKey { line, column }) {
         Ok(fresh) => Ok(fresh),
         Err(_) => Err(no_memory()),
     }
 }
 
-/// The conjuncts of an initial predicate. One that stands there twice is looked at once.
+/// The conjuncts of an initial predicate. What is said there twice is looked at once.
 fn each_of_state_level<'a>(
     alloc: Global,
     scopes: &Scopes<'a>,
+    definitions: &Definitions<'_, 'a>,
     trees: &[&'a Expr],
     place: Place,
 ) -> Result<(), DefsError>
@@ -122,7 +138,7 @@ fn each_of_state_level<'a>(
     let mut met = IndexSet::new(alloc);
     let mut left = trees;
     while let [first, rest @ ..] = left {
-        if is_new(&mut met, first)? {
+        if is_new(&mut met, definitions, first)? {
             of_state_level(alloc, scopes, first, place)?;
         }
         left = rest;
@@ -145,15 +161,22 @@ pub(crate) fn specification<'a>(
     ensures refused { IfErr result (λ e. e.code ≢ Memory → refused.IsLast (refused.form_refused (Ok (refused.Specified place name.now))) e) }
     ensures none { IfErr result (λ e. e.code ≢ Memory → NoForm (map unit_view units.now) items.now (scope_of scopes.now) variables name.now) }
 {
-    let table = Table::of(alloc, units, items)?;
-    let definitions = Definitions {
-        table: &table,
-        items,
+    let fairness = Table::of(alloc, units, items, Class::Fairness)?;
+    let temporal = Table::of(alloc, units, items, Class::Temporal)?;
+    let classes = Classes {
+        fairness: Definitions {
+            table: &fairness,
+            items,
+        },
+        temporal: Definitions {
+            table: &temporal,
+            items,
+        },
     };
-    let Some(body) = definitions.body(name.word.as_bytes()) else {
+    let Some(body) = classes.temporal.body(name.word.as_bytes()) else {
         return Err(not_of_form(place));
     };
-    let parts = parts_of(alloc, &definitions, units.len(), body, place)?;
+    let parts = parts_of(alloc, &classes, units.len(), body, place)?;
     if parts.steps.len() != 1 {
         return Err(not_of_form(place));
     }
@@ -162,7 +185,13 @@ pub(crate) fn specification<'a>(
         return Err(not_of_form(place));
     }
     covered(alloc, scopes, variables, step.subscript, place)?;
-    each_of_state_level(alloc, scopes, parts.initial.as_slice(), place)?;
+    each_of_state_level(
+        alloc,
+        scopes,
+        &classes.temporal,
+        parts.initial.as_slice(),
+        place,
+    )?;
     Ok(Specified {
         initial: parts.initial,
         action: step.action,

@@ -1,34 +1,43 @@
-//! The definitions that names stand for, and which of them are fairness.
+//! The definitions that names stand for, and which of them are of a class of formulas.
 
-ghost use Rattle.std.specs.Prelude.{◌≡◌, ◌≢◌, ◌≤◌, ◌<◌, ◌+◌, ◌∷◌, ℕ, List, Option, Some, None, true, false, map, length, option_map, OnOk, IfOk, IfErr, slice_get};
+ghost use Rattle.std.specs.Prelude.{◌≡◌, ◌≤◌, ◌<◌, ◌+◌, ◌∷◌, ℕ, List, Option, Some, None, true, false, map, length, option_map, OnOk, IfOk, IfErr};
 ghost use Rattle.std.specs.Str.{bytes_eq};
 ghost use Rattle.tla_config.specs.declared.error.DefsCode.TheVariants.{Memory};
 ghost use Rattle.tla_config.specs.Names.{Name};
 ghost use Rattle.tla_tree.specs.Tree.{Tree};
 ghost use Rattle.tla_tree.specs.Units.{UnitTree};
 ghost use Rattle.tla_tree.specs.UnitsView.{unit_view};
-ghost use Rattle.tla_expand.specs.Maybe.{or_else};
-ghost use Rattle.tla_defs.specs.Bodies.{body_if, body_in, body_of};
-ghost use Rattle.tla_defs.specs.Fairness.{fair_of};
-ghost use Rattle.tla_defs.specs.Conjuncts.{bodies_of, fair_names};
+ghost use Rattle.tla_names.specs.Maybe.{or_else};
+ghost use Rattle.tla_defs.specs.Bodies.{body_if, body_in, body_of, names_with};
+ghost use Rattle.tla_defs.specs.Conjuncts.{bodies_of, found_names};
 ghost use Rattle.tla_defs.specs.Seen.{tree_at};
 ghost use Rattle.tla_defs.specs.Table as spec;
 
 use crate::fairness::is_fair;
+use crate::temporal::is_temporal;
 use indexmap::IndexMap;
 use std::alloc::Global;
 use tla_config::DefsError;
 use tla_names::{Items, no_memory};
 use tla_tree::{Definition, Expr, Unit};
 
-/// What a definition without parameters says, and whether it is known to be fairness.
+/// A class of formulas, of which a name is where its definition is.
+#[derive(Clone, Copy)]
+pub(crate) enum Class {
+    /// `WF_v(A)` and `SF_v(A)`, under `/\` and `\A`.
+    Fairness,
+    /// Temporal formulas.
+    Temporal,
+}
+
+/// What a definition without parameters says, and whether it is known to be of the class.
 #[derive(Clone, Copy)]
 pub(crate) struct Body<'a> {
     pub(crate) tree: &'a Expr,
-    pub(crate) is_fair: bool,
+    pub(crate) is_found: bool,
 }
 
-/// Definitions without parameters, by their names.
+/// Definitions without parameters, by their names, and which of them are of a class.
 #[derive(Drop)]
 pub(crate) struct Table<'a> {
     definitions: IndexMap<&'a [u8], Body<'a>>,
@@ -43,7 +52,7 @@ pub(crate) struct Definitions<'t, 'a> {
 
 /// The name and the body of the definition of a unit, where it has no parameters.
 fn defined<'a>(unit: &'a Unit) -> Option<(&'a [u8], &'a Expr)>
-    ensures { (us : List UnitTree) (x : Name) → spec.says (option_map spec.named result) x (body_in us x) ≡ body_in (unit_view unit.entry.now ∷ us) x }
+    ensures { (us : List UnitTree) (x : Name) → spec.body_or (option_map spec.named result) x (body_in us x) ≡ body_in (unit_view unit.entry.now ∷ us) x }
 {
     match unit {
         Unit::Operator(name, body) | Unit::Assume(_, Some(name), body) => {
@@ -65,7 +74,7 @@ impl<'a> Table<'a> {
     /// With a definition, unless its name is known already. The only error is want of memory.
     fn add(&mut self, name: &'a [u8], tree: &'a Expr) -> Result<(), DefsError>
         ensures bodies { OnOk result ((x : Name) (o : Option Tree) → or_else (spec.body_at self.new.definitions.entries x) o ≡ or_else (spec.body_at self.old.definitions.entries x) (body_if (bytes_eq x name.entry.now) (tree_at tree.entry) o)) }
-        ensures fair { OnOk result ((x : Name) → spec.fair_at self.new.definitions.entries x ≡ spec.fair_at self.old.definitions.entries x) }
+        ensures found { OnOk result ((x : Name) → spec.found_at self.new.definitions.entries x ≡ spec.found_at self.old.definitions.entries x) }
         ensures many { OnOk result (length self.new.definitions.entries ≤ length self.old.definitions.entries + 1) }
         ensures err { IfErr result (λ e. e.code ≡ Memory) }
     {
@@ -74,7 +83,7 @@ impl<'a> Table<'a> {
         }
         let body = Body {
             tree,
-            is_fair: false,
+            is_found: false,
         };
         match self.definitions.insert(name, body) {
             Ok(_) => Ok(()),
@@ -85,7 +94,7 @@ impl<'a> Table<'a> {
     /// With the definition of a unit. The only error is want of memory.
     fn add_unit(&mut self, unit: &'a Unit) -> Result<(), DefsError>
         ensures bodies { OnOk result ((x : Name) (us : List UnitTree) → or_else (spec.body_at self.new.definitions.entries x) (body_in us x) ≡ or_else (spec.body_at self.old.definitions.entries x) (body_in (unit_view unit.entry.now ∷ us) x)) }
-        ensures fair { OnOk result ((x : Name) → spec.fair_at self.new.definitions.entries x ≡ spec.fair_at self.old.definitions.entries x) }
+        ensures found { OnOk result ((x : Name) → spec.found_at self.new.definitions.entries x ≡ spec.found_at self.old.definitions.entries x) }
         ensures many { OnOk result (length self.new.definitions.entries ≤ length self.old.definitions.entries + 1) }
         ensures err { IfErr result (λ e. e.code ≡ Memory) }
     {
@@ -95,10 +104,10 @@ impl<'a> Table<'a> {
         }
     }
 
-    /// The definitions of a module, none of which is known to be fairness. The only error is want of memory.
+    /// The definitions of a module, none of which is known to be of the class. The only error is want of memory.
     fn of_units(alloc: Global, units: &'a [Unit]) -> Result<Table<'a>, DefsError>
         ensures bodies { IfOk result (λ t. (x : Name) → spec.body_at t.definitions.entries x ≡ body_in (map unit_view units.entry.now) x) }
-        ensures fair { IfOk result (λ t. (x : Name) → spec.fair_at t.definitions.entries x ≡ false) }
+        ensures found { IfOk result (λ t. (x : Name) → spec.found_at t.definitions.entries x ≡ false) }
         ensures many { IfOk result (λ t. length t.definitions.entries ≤ length units.entry.now) }
         ensures err { IfErr result (λ e. e.code ≡ Memory) }
     {
@@ -123,69 +132,97 @@ impl<'a> Table<'a> {
         }
     }
 
-    /// Whether the definition of this number is found to be fairness only now. The only error is want of memory.
-    fn settle(&mut self, alloc: Global, items: &Items<'a>, number: usize) -> Result<bool, DefsError>
-        ensures passed { IfOk result (λ b. b ≡ false → spec.IsPassed self.old.definitions.entries items.now number) }
+    /// Whether the definition of this number is found to be of the class only now. The only error is want of memory.
+    fn find(
+        &mut self,
+        alloc: Global,
+        items: &Items<'a>,
+        class: Class,
+        number: usize,
+    ) -> Result<bool, DefsError>
+        ensures passed { IfOk result (λ b. b ≡ false → spec.IsFound (spec.property class) self.old.definitions.entries items.now number) }
         ensures same { IfOk result (λ b. b ≡ false → self.new.definitions.entries ≡ self.old.definitions.entries) }
-        ensures one { IfOk result (λ b. b ≡ true → spec.fair_count self.new.definitions.entries ≡ spec.fair_count self.old.definitions.entries + 1) }
-        ensures more { OnOk result (spec.AreMore self.old.definitions.entries self.new.definitions.entries items.now) }
+        ensures one { IfOk result (λ b. b ≡ true → spec.found_count self.new.definitions.entries ≡ spec.found_count self.old.definitions.entries + 1) }
+        ensures more { OnOk result (spec.SameDefinitions (spec.property class) self.old.definitions.entries self.new.definitions.entries items.now) }
         ensures err { IfErr result (λ e. e.code ≡ Memory) }
     {
         let Some((name, body)) = self.definitions.get_index(number) else {
             return Ok(false);
         };
         let (name, body) = (*name, *body);
-        if body.is_fair {
+        if body.is_found {
             return Ok(false);
         }
         let definitions = Definitions { table: self, items };
-        if !is_fair(alloc, &definitions, body.tree)? {
+        if !is_of(alloc, class, &definitions, body.tree)? {
             return Ok(false);
         }
-        let fair = Body {
+        let found = Body {
             tree: body.tree,
-            is_fair: true,
+            is_found: true,
         };
-        match self.definitions.insert(name, fair) {
+        match self.definitions.insert(name, found) {
             Ok(_) => Ok(true),
             Err(_) => Err(no_memory()),
         }
     }
 
-    /// Whether a definition is found to be fairness only now. The only error is want of memory.
-    fn settle_each(&mut self, alloc: Global, items: &Items<'a>) -> Result<bool, DefsError>
-        ensures passed { IfOk result (λ b. b ≡ false → (i : ℕ) → i < length self.new.definitions.entries → spec.IsPassed self.new.definitions.entries items.now i) }
-        ensures same { IfOk result (λ b. b ≡ false → spec.fair_count self.new.definitions.entries ≡ spec.fair_count self.old.definitions.entries) }
-        ensures one { IfOk result (λ b. b ≡ true → spec.fair_count self.old.definitions.entries < spec.fair_count self.new.definitions.entries) }
-        ensures more { OnOk result (spec.AreMore self.old.definitions.entries self.new.definitions.entries items.now) }
+    /// Whether a definition is found to be of the class only now. The only error is want of memory.
+    fn find_each(
+        &mut self,
+        alloc: Global,
+        items: &Items<'a>,
+        class: Class,
+    ) -> Result<bool, DefsError>
+        ensures passed { IfOk result (λ b. b ≡ false → (i : ℕ) → i < length self.new.definitions.entries → spec.IsFound (spec.property class) self.new.definitions.entries items.now i) }
+        ensures same { IfOk result (λ b. b ≡ false → spec.found_count self.new.definitions.entries ≡ spec.found_count self.old.definitions.entries) }
+        ensures one { IfOk result (λ b. b ≡ true → spec.found_count self.old.definitions.entries < spec.found_count self.new.definitions.entries) }
+        ensures more { OnOk result (spec.SameDefinitions (spec.property class) self.old.definitions.entries self.new.definitions.entries items.now) }
         ensures err { IfErr result (λ e. e.code ≡ Memory) }
     {
         let mut changed = false;
         for i in 0..self.definitions.len() {
-            if self.settle(alloc, items, i)? {
+            if self.find(alloc, items, class, i)? {
                 changed = true;
             }
         }
         Ok(changed)
     }
 
-    /// The definitions of a module, of which those are known to be fairness that are, where the configuration has these
+    /// The definitions of a module, of which those are known to be of a class that are, where the configuration has these
     /// items. The only error is want of memory.
     pub(crate) fn of(
         alloc: Global,
         units: &'a [Unit],
         items: &Items<'a>,
+        class: Class,
     ) -> Result<Table<'a>, DefsError>
         ensures bodies { IfOk result (λ t. spec.bodies_by t.definitions.entries items.now ≡ body_of (map unit_view units.entry.now) items.now) }
-        ensures fair { IfOk result (λ t. spec.fair_by t.definitions.entries items.now ≡ fair_of (length units.entry.now) (body_of (map unit_view units.entry.now) items.now)) }
+        ensures found { IfOk result (λ t. spec.found_by t.definitions.entries items.now ≡ names_with (spec.property class) (length units.entry.now) (body_of (map unit_view units.entry.now) items.now)) }
         ensures err { IfErr result (λ e. e.code ≡ Memory) }
     {
         let mut table = Table::of_units(alloc, units)?;
         let mut changes = true;
         while changes {
-            changes = table.settle_each(alloc, items)?;
+            changes = table.find_each(alloc, items, class)?;
         }
         Ok(table)
+    }
+}
+
+/// Whether a formula is of a class. The only error is want of memory.
+fn is_of<'a>(
+    alloc: Global,
+    class: Class,
+    definitions: &Definitions<'_, 'a>,
+    tree: &'a Expr,
+) -> Result<bool, DefsError>
+    ensures ok { IfOk result (λ r. r ≡ spec.property class (found_names definitions.now) (tree_at tree.entry)) }
+    ensures err { IfErr result (λ e. e.code ≡ Memory) }
+{
+    match class {
+        Class::Fairness => is_fair(alloc, definitions, tree),
+        Class::Temporal => is_temporal(alloc, definitions, tree),
     }
 }
 
@@ -203,13 +240,13 @@ impl<'t, 'a> Definitions<'t, 'a> {
         }
     }
 
-    /// Whether a name stands for fairness.
-    pub(crate) fn is_fair(&self, name: &[u8]) -> bool
-        ensures { result ≡ fair_names self.now name.now }
+    /// Whether a name is known to stand for a formula of the class.
+    pub(crate) fn is_known(&self, name: &[u8]) -> bool
+        ensures { result ≡ found_names self.now name.now }
     {
         match self.items.meant(name) {
             Some(meant) => match self.table.get(meant) {
-                Some(body) => body.is_fair,
+                Some(body) => body.is_found,
                 None => false,
             },
             None => false,

@@ -18,6 +18,7 @@ abbrev pub bind_each : List Written → Argument → List Bind → List Bind
 bind_each [] s rest = rest
 bind_each (w ∷ ws) s rest = (w.word, s) ∷ bind_each ws s rest
 
+-- what stands for the last one of a list, and what for the others: `bs` are those behind one
 abbrev pub last_or : {A B : Type 0} → List A → B → B → B
 last_or [] x y = x
 last_or (b ∷ bs) x y = y

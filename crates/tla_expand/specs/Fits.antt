@@ -23,7 +23,7 @@ FitsMeaning v b m = (p : Place) (args : List Argument) (d : ℕ) → b ≤ d →
 abbrev pub FitsScope : ℕ → ℕ → Scope → Type 0
 FitsScope v b σ = (x : names.Name) → FitsMeaning v b (σ x)
 
--- Of how many variables there are, and whether present values may stand: without a prime as before, under one no present value is left, under two no variable.
+-- How many variables an expansion may name, and whether present values may stand in it, before and after so many primes: under one prime no present value is left, under two no variable.
 abbrev pub Stays : Primes → ℕ → ℕ → Bool → Type 0
 Stays Never v n s = (n ≡ v) × (s ≡ true)
 Stays Once v n s = n ≡ v

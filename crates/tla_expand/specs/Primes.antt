@@ -21,7 +21,7 @@ are_fewer Once Once = false
 are_fewer Once Twice = true
 are_fewer Twice k = false
 
--- how UNCHANGED e is read with so many primes: with one already e has no variable, or there is none
+-- with how many primes e is read in UNCHANGED e under so many: with two under one, which only an e without variables has an expansion for
 abbrev pub settled_primes : Primes → Primes
 settled_primes Never = Never
 settled_primes Once = Twice

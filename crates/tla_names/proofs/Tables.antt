@@ -53,12 +53,12 @@ known_before x l rest (e ∷ es) h = at (bytes_eq x e.0.now) (bytes_eq l.0 e.0.n
         rw k (another x l rest es (ap (λ y. bytes_eq x y) same ∙ k))
     at false false k m r = rw k (r (rw m at h))
 
-unknown : {X : Type 0} (o : Option X) → is_some o ≡ false → o ≡ None
-unknown None h = refl
-unknown (Some x) h = let z : ⊥ = cc in absurd z
+pub absent : {X : Type 0} (o : Option X) → is_some o ≡ false → o ≡ None
+absent None h = refl
+absent (Some x) h = let z : ⊥ = cc in absurd z
 
 pub absent_lookup : (x : Name) (es : List Row) → is_some (lookup (named x) es) ≡ false → lookup (named x) es ≡ None
-absent_lookup x es h = unknown (lookup (named x) es) h
+absent_lookup x es h = absent (lookup (named x) es) h
 
 -- a new row at the end
 pub added : (es : List Row) (e : Row) (rest : List Lead) → map row (es ++ e ∷ []) ++ rest ≡ map row es ++ row e ∷ rest

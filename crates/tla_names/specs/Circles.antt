@@ -1,4 +1,4 @@
--- Items `c <- Op` that lead back to their name (book, chapter 14).
+-- Items `c <- Op` that lead back to their name (book, chapter 14; that they are refused: this project's own choice).
 use Rattle.std.specs.Prelude.{◌≡◌, ◌⊎◌, List, [], ◌∷◌}
 use Rattle.tla_tree.specs.declared.word.Written.{Written}
 use Rattle.tla_config.specs.Statements.{Item}

@@ -16,17 +16,17 @@ abbrev pub arity_in : List Signature → Name → Option ℕ
 arity_in ks x = arity (map signature_of ks) x
 
 -- how many it takes by a table
-abbrev pub told : List (Bor Name × Option ℕ) → Name → Option ℕ
-told es x = unwrap_or (lookup (λ (k : Bor Name). bytes_eq x k.now) es) None
+abbrev pub arity_by : List (Bor Name × Option ℕ) → Name → Option ℕ
+arity_by es x = unwrap_or (lookup (λ (k : Bor Name). bytes_eq x k.now) es) None
 
 -- the table tells what is in scope
-pub record Tells (es : List (Bor Name × Option ℕ)) (ks : List Signature) : Type 0 where
-  pub each : (x : Name) → told es x ≡ arity_in ks x
+pub record IsTable (es : List (Bor Name × Option ℕ)) (ks : List Signature) : Type 0 where
+  pub each : (x : Name) → arity_by es x ≡ arity_in ks x
 
 -- each of these remembers how many arguments its name took before it
-abbrev pub RememberFrom : List Signature → List Signature → Type 0
-RememberFrom before [] = Unit {0}
-RememberFrom before (k ∷ ks) = (k.before ≡ arity_in before k.name.now) × RememberFrom (before ++ k ∷ []) ks
+abbrev pub KeepBeforeFrom : List Signature → List Signature → Type 0
+KeepBeforeFrom before [] = Unit {0}
+KeepBeforeFrom before (k ∷ ks) = (k.before ≡ arity_in before k.name.now) × KeepBeforeFrom (before ++ k ∷ []) ks
 
-pub record Remember (ks : List Signature) : Type 0 where
-  pub each : RememberFrom [] ks
+pub record KeepBefore (ks : List Signature) : Type 0 where
+  pub each : KeepBeforeFrom [] ks

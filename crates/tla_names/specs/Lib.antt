@@ -11,5 +11,5 @@ pub mod Circles
 pub mod Refusal
 pub mod Mentions
 pub mod Latest
-pub mod Remembered
+pub mod LatestProps
 pub mod Reached

@@ -1,4 +1,4 @@
--- The names that a name leads to, as the code finds them.
+-- The names that a name leads to, as the code finds them. Private contracts alone cite this.
 use Rattle.std.specs.Prelude.{◌≡◌, true, List, [], ◌∷◌, ◌++◌}
 use Rattle.tla_config.specs.Names.{Name, is_among}
 use Rattle.tla_names.specs.Leads.{Lead, next_names, LeadsBy}

@@ -1,7 +1,6 @@
 //! The names of expressions: each is brought in once, known where it is used, and used with its number of arguments.
 
-ghost use Rattle.std.specs.Prelude.{◌≡◌, ◌≢◌, ◌++◌, ◌∷◌, [], List, None, Some, true, false, IfOk, IfErr, OnOk, map, option_map, is_some, length, take};
-ghost use Rattle.tla_config.specs.declared.error.DefsCode.TheVariants.{Memory};
+ghost use Rattle.std.specs.Prelude.{◌≡◌, ◌++◌, ◌∷◌, [], List, None, Some, true, OnOk, map, length};
 ghost use Rattle.tla_config.specs.Names.{Name, words};
 ghost use Rattle.tla_tree.specs.Tree.{trees, binders, arms, definitions, fields, keys, updates};
 ghost use Rattle.tla_tree.specs.View.{view, group_view, choice_view, definition_view, field_view, key_view, update_view};
@@ -9,7 +8,6 @@ ghost use Rattle.tla_names.specs.Scope as scope_of;
 ghost use Rattle.tla_names.specs.Operators as operators;
 ghost use Rattle.tla_names.specs.Known as known;
 ghost use Rattle.tla_names.specs.Maybe.{or_else};
-ghost use Rattle.tla_names.specs.Mentions.{written_of};
 ghost use Rattle.tla_names.specs.Refusal.{Says};
 
 use crate::mention::Mention;

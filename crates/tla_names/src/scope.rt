@@ -7,8 +7,8 @@ ghost use Rattle.tla_tree.specs.Tree.{binders};
 ghost use Rattle.tla_tree.specs.View.{group_view};
 ghost use Rattle.tla_tree.specs.UnitsView.{declared};
 ghost use Rattle.tla_names.specs.Constants.{constants};
-ghost use Rattle.tla_names.specs.Latest.{Tells, Remember};
-ghost use Rattle.tla_names.specs.Remembered.{Tells-prop, Remember-prop};
+ghost use Rattle.tla_names.specs.Latest.{IsTable, KeepBefore};
+ghost use Rattle.tla_names.specs.LatestProps.{IsTable-prop, KeepBefore-prop};
 ghost use Rattle.tla_names.specs.Scope.{arity, plain, bound_names, module_names, extended};
 
 use crate::names::Names;
@@ -32,8 +32,8 @@ pub(crate) struct Signature<'a> {
 pub struct Scope<'a> {
     names: Vec<Signature<'a>>,
     latest: IndexMap<&'a [u8], Option<usize>>,
-    ghost tells: { Tells latest.entries names.items } by { Tells-prop latest.entries names.items },
-    ghost remember: { Remember names.items } by { Remember-prop names.items },
+    ghost indexed: { IsTable latest.entries names.items } by { IsTable-prop latest.entries names.items },
+    ghost kept_before: { KeepBefore names.items } by { KeepBefore-prop names.items },
 }
 
 impl<'a> Model for Scope<'a> {

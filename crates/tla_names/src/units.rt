@@ -1,6 +1,6 @@
 //! The names of a module: each is brought in once, known where it is used, and used with its number of arguments.
 
-ghost use Rattle.std.specs.Prelude.{◌≡◌, ◌≢◌, ◌++◌, ◌∷◌, [], List, None, Some, IfOk, IfErr, OnOk, map};
+ghost use Rattle.std.specs.Prelude.{◌≡◌, ◌≢◌, ◌++◌, ◌∷◌, List, None, Some, IfOk, IfErr, OnOk, map};
 ghost use Rattle.tla_config.specs.Names.{words};
 ghost use Rattle.tla_tree.specs.Units.{UnitTree};
 ghost use Rattle.tla_tree.specs.UnitsView.{unit_view};

@@ -1,28 +1,28 @@
-use Rattle.std.proofs.Common.{◌≡◌, ◌++◌, ◌∷◌, [], List, subst, None, ap, sym, ◌∙◌, option_map}
+use Rattle.std.proofs.Common.{◌≡◌, ◌++◌, ◌∷◌, [], List, subst, Some, None, ap, sym, ◌∙◌, option_map}
 use Rattle.std.specs.Prelude.{unwrap_or}
 use Rattle.tla_defs.specs.declared.conjuncts.Formula.{Formula}
-use Rattle.tla_defs.specs.Conjuncts.{bodies_of, fair_names, conjuncts_from, ahead, IsBegun}
+use Rattle.tla_defs.specs.Conjuncts.{replaced_in, fair_names, conjuncts_from, conjuncts_left, AreFoundOrLeft}
 use Rattle.tla_defs.specs.Seen.{tree_at}
 use Rattle.tla_defs.specs.Specification.{conjuncts_of}
-use Rattle.tla_defs.proofs.Begun.{goes_on, one_part, two_parts, fair_part, sorted, on_ok, on_ok_two}
+use Rattle.tla_defs.proofs.FoundOrLeft.{goes_on, one_part, two_parts, fair_part, sorted, on_ok, on_ok_two}
 use Rattle.tla_defs.proofs.conjuncts.go_on.Goals as goal
 
 pub returns-then-branch-clause-ok : goal.returns-then-branch-clause-ok
 returns-then-branch-clause-ok c = λ ss es r.
-    fair_part (fair_names c.args.definitions.now) (bodies_of c.args.definitions.now) c.args.walk.now.left.items c.args.formula c.args.walk.now.parts ss es c.requires.rests
+    fair_part (fair_names c.args.classes.now) (replaced_in c.args.classes.now) c.args.walk.now.left.items c.args.formula c.args.walk.now.parts ss es c.requires.fair
     (sym c.in_ok-is_fair-in-Name.ensures.ok ∙ c.if-branch.true) r
 
 pub returns-in-Same-clause-ok : goal.returns-in-Same-clause-ok
 returns-in-Same-clause-ok c =
-    let b = bodies_of c.args.definitions.now in
+    let b = replaced_in c.args.classes.now in
     on_ok c.push.result
-    (λ h ss es r. rw h (one_part (fair_names c.args.definitions.now) b c.args.walk.now.left.items c.args.formula c.args.walk.now.parts ss es _ (c.in-Same.ensures (conjuncts_of c.args.formula.names b)) r))
+    (λ h ss es r. rw h (one_part (fair_names c.args.classes.now) b c.args.walk.now.left.items c.args.formula c.args.walk.now.parts ss es _ (c.in-Same.ensures (conjuncts_of c.args.formula.names b)) r))
     c.push.ensures.ok
 
 pub returns-in_ok-push-in-Two-clause-ok : goal.returns-in_ok-push-in-Two-clause-ok
 returns-in_ok-push-in-Two-clause-ok c =
-    let b = bodies_of c.args.definitions.now in
-    let φ = fair_names c.args.definitions.now in
+    let b = replaced_in c.args.classes.now in
+    let φ = fair_names c.args.classes.now in
     let p = c.args.walk.now.parts in
     let first : Formula = record { tree = c.in-Two.first; names = c.args.formula.names } in
     let second : Formula = record { tree = c.in-Two.second; names = c.args.formula.names } in
@@ -30,32 +30,44 @@ returns-in_ok-push-in-Two-clause-ok c =
     (λ h ss es r.
     let both = two_parts φ b c.args.walk.now.left.items c.args.formula p ss es first second (c.in-Two.ensures (conjuncts_of c.args.formula.names b)) r in
     let all = h ∙ ap (λ fs. fs ++ first ∷ []) c.in_ok-push-in-Two.ensures.ok in
-    subst (λ (fs : List Formula). IsBegun φ b fs p ss es) (sym all) both)
+    subst (λ (fs : List Formula). AreFoundOrLeft φ b fs p ss es) (sym all) both)
     c.push-in-Two-2.ensures.ok
 
 pub returns-in-Many-clause-ok : goal.returns-in-Many-clause-ok
 returns-in-Many-clause-ok c =
-    let b = bodies_of c.args.definitions.now in
+    let b = replaced_in c.args.classes.now in
     on_ok c.push_each.result
-    (λ h ss es r. goes_on (fair_names c.args.definitions.now) b c.args.walk.now.left.items c.args.formula c.args.walk.now.parts ss es c.push_each.new.formulas.items
-    (h ∙ ap (λ ts. ts ++ ahead b c.args.walk.now.left.items) (sym (c.in-Many.ensures (conjuncts_of c.args.formula.names b)))) r)
+    (λ h ss es r. goes_on (fair_names c.args.classes.now) b c.args.walk.now.left.items c.args.formula c.args.walk.now.parts ss es c.push_each.new.formulas.items
+    (h ∙ ap (λ ts. ts ++ conjuncts_left b c.args.walk.now.left.items) (sym (c.in-Many.ensures (conjuncts_of c.args.formula.names b)))) r)
     (c.push_each.ensures.ok b)
 
 pub returns-in-None-clause-ok : goal.returns-in-None-clause-ok
 returns-in-None-clause-ok c =
-    let b = bodies_of c.args.definitions.now in
+    let b = replaced_in c.args.classes.now in
     let n = c.args.formula.names in
     let t = tree_at c.args.formula.tree in
     let none : conjuncts_of n b c.in-Name.name.now ≡ None = ap (λ x. conjuncts_of n b x) (sym c.as_bytes.ensures) ∙ sym c.formula.ensures ∙ ap (λ o. option_map (conjuncts_from b) o) c.in-None.is in
     let alone = c.in-Name.ensures (conjuncts_of n b) ∙ ap (λ o. unwrap_or o (t ∷ [])) none in
-    on_ok_two c.sort.result
-    (λ s i ss es r. sorted (fair_names c.args.definitions.now) b c.args.walk.now.left.items c.args.formula c.args.walk.now.parts ss es t c.sort.new.self alone s i r)
-    c.sort.ensures.steps c.sort.ensures.initial
+    on_ok_two c.add.result
+    (λ s i ss es r. sorted (fair_names c.args.classes.now) b c.args.walk.now.left.items c.args.formula c.args.walk.now.parts ss es t c.add.new.self alone s i r)
+    c.add.ensures.steps c.add.ensures.initial
 
 pub returns-in-Whole-clause-ok : goal.returns-in-Whole-clause-ok
 returns-in-Whole-clause-ok c =
-    let b = bodies_of c.args.definitions.now in
+    let b = replaced_in c.args.classes.now in
     let t = tree_at c.args.formula.tree in
-    on_ok_two c.sort-in-Whole.result
-    (λ s i ss es r. sorted (fair_names c.args.definitions.now) b c.args.walk.now.left.items c.args.formula c.args.walk.now.parts ss es t c.sort-in-Whole.new.self (c.in-Whole.ensures (conjuncts_of c.args.formula.names b)) s i r)
-    c.sort-in-Whole.ensures.steps c.sort-in-Whole.ensures.initial
+    on_ok_two c.add-in-Whole.result
+    (λ s i ss es r. sorted (fair_names c.args.classes.now) b c.args.walk.now.left.items c.args.formula c.args.walk.now.parts ss es t c.add-in-Whole.new.self (c.in-Whole.ensures (conjuncts_of c.args.formula.names b)) s i r)
+    c.add-in-Whole.ensures.steps c.add-in-Whole.ensures.initial
+
+pub returns-in-Some-clause-ok : goal.returns-in-Some-clause-ok
+returns-in-Some-clause-ok c =
+    let b = replaced_in c.args.classes.now in
+    let n = c.args.formula.names in
+    let t = tree_at c.args.formula.tree in
+    let some : conjuncts_of n b c.in-Name.name.now ≡ Some (conjuncts_from b c.in-Some.body) =
+    ap (λ x. conjuncts_of n b x) (sym c.as_bytes.ensures) ∙ sym c.formula.ensures ∙ ap (λ o. option_map (conjuncts_from b) o) c.in-Some.is in
+    let part : conjuncts_from b c.args.formula ≡ conjuncts_from b c.in-Some.body = c.in-Name.ensures (conjuncts_of n b) ∙ ap (λ o. unwrap_or o (t ∷ [])) some in
+    on_ok c.push-in-Some.result
+    (λ h ss es r. rw h (one_part (fair_names c.args.classes.now) b c.args.walk.now.left.items c.args.formula c.args.walk.now.parts ss es _ part r))
+    c.push-in-Some.ensures.ok

@@ -1,10 +1,11 @@
-use Rattle.std.proofs.Common.{◌≡◌, ◌-◌, ◌+◌, ◌++◌, suc, arith, ap, sym, ◌∙◌, length, map, take}
+use Rattle.std.proofs.Common.{◌≡◌, ◌-◌, ◌+◌, ◌++◌, ◌∷◌, [], suc, arith, ap, sym, ◌∙◌, length, map, take}
+use Rattle.std.proofs.Math.Seq.{take-suc}
 use Rattle.std.proofs.lemmas.List.{append_assoc}
 use Rattle.tla_tree.specs.Tree.{trees}
 use Rattle.tla_tree.specs.View.{view}
-use Rattle.tla_defs.specs.Conjuncts.{ahead}
+use Rattle.tla_defs.specs.Conjuncts.{conjuncts_left}
 use Rattle.tla_defs.specs.Specification.{conjuncts_of, conjuncts_each, conjuncts_in}
-use Rattle.tla_defs.proofs.Begun.{ahead_last, take_more, each_more}
+use Rattle.tla_defs.proofs.FoundOrLeft.{conjuncts_left_last, each_more}
 use Rattle.tla_defs.proofs.conjuncts.push_each.Goals as goal
 
 pub loop-i-preserved : goal.loop-i-preserved
@@ -17,11 +18,11 @@ loop-i-preserved c = λ b.
     let inside = c.loop-i-test.true in
     let one : length all - c.loop-i.i ≡ suc n = omega (arith, inside) in
     let at : length all - 1 - c.loop-i.i ≡ n = omega (arith, inside) in
-    let cut = ap (λ m. take m all) one ∙ take_more n all e (omega (arith, inside)) (rw (sym at) c.index-trees-trees.is) in
+    let cut = ap (λ m. take m all) one ∙ take-suc all n e (omega (arith, inside)) ∙ ap (λ x. take n all ++ x ∷ []) (sym (rw (sym at) c.index-trees-trees.is)) in
     let first = conjuncts_each ρ (trees (map view (take n all))) in
     c.loop-i.invariant b
-    ∙ ap (λ ts. conjuncts_each ρ (trees (map view ts)) ++ ahead b fs) cut
-    ∙ ap (λ ts. ts ++ ahead b fs) (each_more ρ (take n all) e)
-    ∙ append_assoc first (conjuncts_in ρ (view e)) (ahead b fs)
-    ∙ ap (λ ts. first ++ ts) (sym (ahead_last b fs _))
-    ∙ ap (λ gs. first ++ ahead b gs) (sym c.in_ok-push.ensures.ok)
+    ∙ ap (λ ts. conjuncts_each ρ (trees (map view ts)) ++ conjuncts_left b fs) cut
+    ∙ ap (λ ts. ts ++ conjuncts_left b fs) (each_more ρ (take n all) e)
+    ∙ append_assoc first (conjuncts_in ρ (view e)) (conjuncts_left b fs)
+    ∙ ap (λ ts. first ++ ts) (sym (conjuncts_left_last b fs _))
+    ∙ ap (λ gs. first ++ conjuncts_left b gs) (sym c.in_ok-push.ensures.ok)

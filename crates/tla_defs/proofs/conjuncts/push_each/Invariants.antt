@@ -1,12 +1,12 @@
 use Rattle.std.proofs.Common.{◌≡◌, ◌++◌, ◌-◌, length, map, take}
 use Rattle.tla_tree.specs.Tree.{trees}
 use Rattle.tla_tree.specs.View.{view}
-use Rattle.tla_defs.specs.Conjuncts.{ahead}
+use Rattle.tla_defs.specs.Conjuncts.{conjuncts_left}
 use Rattle.tla_defs.specs.Bodies.{Bodies}
 use Rattle.tla_defs.specs.Specification.{conjuncts_of, conjuncts_each}
 use Rattle.tla_defs.proofs.conjuncts.push_each.Given as goal
 
 abbrev pub invariant-loop-i : goal.invariant-loop-i
 invariant-loop-i l = (b : Bodies)
-    → conjuncts_each (conjuncts_of l.names b) (trees (map view l.trees)) ++ ahead b l.fn.formulas.items
-    ≡ conjuncts_each (conjuncts_of l.names b) (trees (map view (take (length l.trees - l.i) l.trees))) ++ ahead b l.formulas.items
+    → conjuncts_each (conjuncts_of l.names b) (trees (map view l.trees)) ++ conjuncts_left b l.fn.formulas.items
+    ≡ conjuncts_each (conjuncts_of l.names b) (trees (map view (take (length l.trees - l.i) l.trees))) ++ conjuncts_left b l.formulas.items

@@ -2,14 +2,14 @@ use Rattle.std.proofs.Common.{◌≡◌, ◌&&◌, ◌++◌, ap, sym, ◌∙◌,
 use Rattle.tla_tree.specs.Tree.{trees, binders}
 use Rattle.tla_tree.specs.View.{view, group_view, views_items, bound_views_items}
 use Rattle.tla_names.specs.Scope.{plain, bound_names}
-use Rattle.tla_defs.specs.Conjuncts.{fair_names}
+use Rattle.tla_defs.specs.Conjuncts.{found_names}
 use Rattle.tla_defs.specs.Fairness.{fair_in, fair_each, is_and_list, is_for_all}
 use Rattle.tla_defs.proofs.fairness.+fair.Goals as goal
 
 pub fair_tree-returns-else-not-is_and_list-clause-same : goal.fair_tree-returns-else-not-is_and_list-clause-same
 fair_tree-returns-else-not-is_and_list-clause-same t c =
     let m = c.in-Junction in
-    let φ = fair_names c.args.definitions.now in
+    let φ = found_names c.args.definitions.now in
     let σ = c.args.bound.now in
     let same : fair_in φ σ (view c.args.tree.now) ≡ fair_each φ σ (trees (map view c.deref-in-Junction.result.now)) =
     ap (λ k. fair_in φ σ (view k)) m.is
@@ -21,7 +21,7 @@ fair_tree-returns-else-not-is_and_list-clause-same t c =
 pub fair_tree-returns-else-not-is_for_all-clause-same : goal.fair_tree-returns-else-not-is_for_all-clause-same
 fair_tree-returns-else-not-is_for_all-clause-same t c =
     let m = c.in-Quantified in
-    let φ = fair_names c.args.definitions.now in
+    let φ = found_names c.args.definitions.now in
     let σ = c.args.bound.now in
     let same : fair_in φ σ (view c.args.tree.now) ≡ fair_in φ (σ ++ plain (bound_names (binders (map group_view c.deref-in-Quantified.result.now)))) (view c.deref-in-Quantified-2.result.now) =
     ap (λ k. fair_in φ σ (view k)) m.is

@@ -3,7 +3,7 @@ use Rattle.tla_tree.specs.Tree.{trees}
 use Rattle.tla_tree.specs.View.{view}
 use denote.Param.Weighed.{most}
 use Rattle.tla_tree.specs.declared.tree.Expr.{size-Expr}
-use Rattle.tla_defs.specs.Conjuncts.{fair_names}
+use Rattle.tla_defs.specs.Conjuncts.{found_names}
 use Rattle.tla_defs.specs.Fairness.{fair_each}
 use Rattle.tla_defs.proofs.fairness.+fair.Given as goal
 
@@ -11,7 +11,7 @@ abbrev pub invariant-each_fair-loop-others : goal.invariant-each_fair-loop-other
 invariant-each_fair-loop-others l = record {
   shallow : most size-Expr l.others ≤ most size-Expr l.trees;
   kept : l.bound ≡ l.fn.bound;
-  same : fair_each (fair_names l.definitions) l.fn.bound (trees (map view l.trees)) ≡ fair_each (fair_names l.definitions) l.fn.bound (trees (map view l.others));
+  same : fair_each (found_names l.definitions) l.fn.bound (trees (map view l.trees)) ≡ fair_each (found_names l.definitions) l.fn.bound (trees (map view l.others));
 }
 
 abbrev pub decreases-each_fair-loop-others : goal.decreases-each_fair-loop-others

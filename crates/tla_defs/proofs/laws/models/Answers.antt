@@ -42,3 +42,6 @@ returns-clause-specified c = specification.specified
 
 pub returns-clause-specified_in_parts : goal.returns-clause-specified_in_parts
 returns-clause-specified_in_parts c = specification.specified_in_parts
+
+pub returns-clause-specified_by_names : goal.returns-clause-specified_by_names
+returns-clause-specified_by_names c = specification.specified_by_names

@@ -7,17 +7,19 @@ use Rattle.tla_tree.specs.UnitsView.{unit_view}
 use Rattle.tla_defs.specs.Seen.{tree_at, seen}
 use Rattle.tla_defs.specs.Bodies as spec
 use Rattle.tla_defs.specs.Bodies.{body_of}
-use Rattle.tla_defs.specs.Specification.{conjuncts, steps_of, initials_of}
-use Rattle.tla_defs.specs.Table.{bodies_by, fair_by}
+use Rattle.tla_defs.specs.Specification.{conjuncts, replaced_by, steps_of, initials_of}
+use Rattle.tla_defs.specs.Table.{bodies_by, found_by}
 use Rattle.tla_defs.specs.Parts.{step_of, steps_in}
 use Rattle.tla_defs.specs.Parts.{AreMany}
-use Rattle.tla_defs.proofs.Forms.{rests_known, initials_known, many, no_body, not_one, no_conjunct, not_covered, lacking, found, one_item, none_seen, some_seen}
+use Rattle.tla_defs.proofs.Forms.{made_known, initials_known, replaced_known, many, no_body, not_one, no_conjunct, not_covered, lacking, found, one_item, none_seen, some_seen}
 use Rattle.tla_defs.proofs.specification.specification.Goals as goal
 
 pub returns-in_default-clause-none : goal.returns-in_default-clause-none
 returns-in_default-clause-none c = λ h.
-    no_body (map unit_view c.args.units.now) c.args.items.now (scope_of c.args.scopes.now) c.args.variables c.args.name.now
-    (ap (λ (b : spec.Bodies). b c.args.name.now.word) (sym c.in_ok-table.ensures.bodies) ∙ ap (λ x. bodies_by c.in_ok-table.table.definitions.entries c.args.items.now x) (sym c.as_bytes.ensures) ∙ sym c.body.ensures ∙ ap (λ o. option_map tree_at o) c.in_default.is)
+    let is = c.args.items.now in
+    let w = c.args.name.now in
+    no_body (map unit_view c.args.units.now) is (scope_of c.args.scopes.now) c.args.variables w
+    (ap (λ (b : spec.Bodies). b w.word) (sym c.in_ok-temporal.ensures.bodies) ∙ ap (λ x. bodies_by c.in_ok-temporal.temporal.definitions.entries is x) (sym c.as_bytes.ensures) ∙ sym c.body.ensures ∙ ap (λ o. option_map tree_at o) c.in_default.is)
 
 pub returns-then-len-ne1-clause-none : goal.returns-then-len-ne1-clause-none
 returns-then-len-ne1-clause-none c = λ h.
@@ -26,17 +28,20 @@ returns-then-len-ne1-clause-none c = λ h.
     let σ = scope_of c.args.scopes.now in
     let n = c.args.variables in
     let w = c.args.name.now in
-    let b = bodies_by c.in_ok-table.table.definitions.entries is in
     let t = tree_at c.in-Some.body in
     let k = length c.args.units.now in
     let counted = sym (length-map c.args.units.now unit_view) in
-    let fair = initials_known (fair_by c.in_ok-table.table.definitions.entries is) b (body_of us is) k c.in_ok-table.ensures.bodies c.in_ok-table.ensures.fair in
-    let body : b w.word ≡ Some t = ap (λ x. b x) (sym c.as_bytes.ensures) ∙ sym c.body.ensures ∙ ap (λ o. option_map tree_at o) c.in-Some.is in
+    let b = bodies_by c.in_ok-temporal.temporal.definitions.entries is in
+    let r = replaced_by (found_by c.in_ok-temporal.temporal.definitions.entries is) b in
+    let known = replaced_known us is (found_by c.in_ok-temporal.temporal.definitions.entries is) b k c.in_ok-temporal.ensures.bodies c.in_ok-temporal.ensures.found counted in
+    let fair = initials_known (found_by c.in_ok-fairness.fairness.definitions.entries is) (body_of us is) k c.in_ok-fairness.ensures.found (length us) counted in
+    let body : body_of us is w.word ≡ Some t = ap (λ (d : spec.Bodies). d w.word) (sym c.in_ok-temporal.ensures.bodies) ∙ ap (λ x. b x) (sym c.as_bytes.ensures) ∙ sym c.body.ensures ∙ ap (λ o. option_map tree_at o) c.in-Some.is in
     let steps = steps_in c.in_ok-parts.parts in
     let initial = seen c.in_ok-parts.parts.initial.items in
+    let initial_are = c.in_ok-parts.ensures.initial ∙ fair (conjuncts k r t) in
     let items = c.in_ok-parts.parts.steps.items in
     let counts = length-map items step_of in
-    not_one us is σ n w t b k c.in_ok-table.ensures.bodies counted body steps initial c.in_ok-parts.ensures.steps (c.in_ok-parts.ensures.initial ∙ fair (conjuncts k b t)) (λ p. c.if-len-ne1.true (omega (arith, p, counts, c.len.ensures)))
+    not_one us is σ n w t r k known counted body steps initial c.in_ok-parts.ensures.steps initial_are (λ p. c.if-len-ne1.true (omega (arith, p, counts, c.len.ensures)))
 
 pub returns-then-len-eq0-clause-none : goal.returns-then-len-eq0-clause-none
 returns-then-len-eq0-clause-none c = λ h.
@@ -45,17 +50,18 @@ returns-then-len-eq0-clause-none c = λ h.
     let σ = scope_of c.args.scopes.now in
     let n = c.args.variables in
     let w = c.args.name.now in
-    let b = bodies_by c.in_ok-table.table.definitions.entries is in
     let t = tree_at c.in-Some.body in
     let k = length c.args.units.now in
     let counted = sym (length-map c.args.units.now unit_view) in
-    let fair = initials_known (fair_by c.in_ok-table.table.definitions.entries is) b (body_of us is) k c.in_ok-table.ensures.bodies c.in_ok-table.ensures.fair in
-    let body : b w.word ≡ Some t = ap (λ x. b x) (sym c.as_bytes.ensures) ∙ sym c.body.ensures ∙ ap (λ o. option_map tree_at o) c.in-Some.is in
+    let b = bodies_by c.in_ok-temporal.temporal.definitions.entries is in
+    let r = replaced_by (found_by c.in_ok-temporal.temporal.definitions.entries is) b in
+    let known = replaced_known us is (found_by c.in_ok-temporal.temporal.definitions.entries is) b k c.in_ok-temporal.ensures.bodies c.in_ok-temporal.ensures.found counted in
+    let fair = initials_known (found_by c.in_ok-fairness.fairness.definitions.entries is) (body_of us is) k c.in_ok-fairness.ensures.found (length us) counted in
+    let body : body_of us is w.word ≡ Some t = ap (λ (d : spec.Bodies). d w.word) (sym c.in_ok-temporal.ensures.bodies) ∙ ap (λ x. b x) (sym c.as_bytes.ensures) ∙ sym c.body.ensures ∙ ap (λ o. option_map tree_at o) c.in-Some.is in
     let steps = steps_in c.in_ok-parts.parts in
     let initial = seen c.in_ok-parts.parts.initial.items in
-    let items = c.in_ok-parts.parts.steps.items in
-    let counts = length-map items step_of in
-    no_conjunct us is σ n w t b k c.in_ok-table.ensures.bodies counted body steps initial c.in_ok-parts.ensures.steps (c.in_ok-parts.ensures.initial ∙ fair (conjuncts k b t)) (none_seen c.in_ok-parts.parts.initial.items (omega (arith, c.len-2.ensures, c.if-len-eq0.true)))
+    let initial_are = c.in_ok-parts.ensures.initial ∙ fair (conjuncts k r t) in
+    no_conjunct us is σ n w t r k known counted body steps initial c.in_ok-parts.ensures.steps initial_are (none_seen c.in_ok-parts.parts.initial.items (omega (arith, c.len-2.ensures, c.if-len-eq0.true)))
 
 pub returns-in_err-covered-clause-none : goal.returns-in_err-covered-clause-none
 returns-in_err-covered-clause-none c =
@@ -65,19 +71,21 @@ returns-in_err-covered-clause-none c =
     let σ = scope_of c.args.scopes.now in
     let n = c.args.variables in
     let w = c.args.name.now in
-    let b = bodies_by c.in_ok-table.table.definitions.entries is in
     let t = tree_at c.in-Some.body in
     let k = length c.args.units.now in
     let counted = sym (length-map c.args.units.now unit_view) in
-    let fair = initials_known (fair_by c.in_ok-table.table.definitions.entries is) b (body_of us is) k c.in_ok-table.ensures.bodies c.in_ok-table.ensures.fair in
-    let body : b w.word ≡ Some t = ap (λ x. b x) (sym c.as_bytes.ensures) ∙ sym c.body.ensures ∙ ap (λ o. option_map tree_at o) c.in-Some.is in
+    let b = bodies_by c.in_ok-temporal.temporal.definitions.entries is in
+    let r = replaced_by (found_by c.in_ok-temporal.temporal.definitions.entries is) b in
+    let known = replaced_known us is (found_by c.in_ok-temporal.temporal.definitions.entries is) b k c.in_ok-temporal.ensures.bodies c.in_ok-temporal.ensures.found counted in
+    let fair = initials_known (found_by c.in_ok-fairness.fairness.definitions.entries is) (body_of us is) k c.in_ok-fairness.ensures.found (length us) counted in
+    let body : body_of us is w.word ≡ Some t = ap (λ (d : spec.Bodies). d w.word) (sym c.in_ok-temporal.ensures.bodies) ∙ ap (λ x. b x) (sym c.as_bytes.ensures) ∙ sym c.body.ensures ∙ ap (λ o. option_map tree_at o) c.in-Some.is in
     let steps = steps_in c.in_ok-parts.parts in
     let initial = seen c.in_ok-parts.parts.initial.items in
+    let initial_are = c.in_ok-parts.ensures.initial ∙ fair (conjuncts k r t) in
     let items = c.in_ok-parts.parts.steps.items in
-    let counts = length-map items step_of in
     let step = c.index-step.result.now in
     let one : steps ≡ step_of step ∷ [] = ap (λ xs. map step_of xs) (one_item items step (omega (arith, c.len.ensures, c.if-len-ne1.false)) c.index-step.ensures) in
-    rw (e.1, e.2) (λ h. not_covered us is σ n w t b k c.in_ok-table.ensures.bodies counted body steps initial c.in_ok-parts.ensures.steps (c.in_ok-parts.ensures.initial ∙ fair (conjuncts k b t)) (step_of step) one (c.in_err-covered.ensures.none h))
+    rw (e.1, e.2) (λ h. not_covered us is σ n w t r k known counted body steps initial c.in_ok-parts.ensures.steps initial_are (step_of step) one (c.in_err-covered.ensures.none h))
 
 pub returns-in_err-each_of_state_level-clause-none : goal.returns-in_err-each_of_state_level-clause-none
 returns-in_err-each_of_state_level-clause-none c =
@@ -87,17 +95,18 @@ returns-in_err-each_of_state_level-clause-none c =
     let σ = scope_of c.args.scopes.now in
     let n = c.args.variables in
     let w = c.args.name.now in
-    let b = bodies_by c.in_ok-table.table.definitions.entries is in
     let t = tree_at c.in-Some.body in
     let k = length c.args.units.now in
     let counted = sym (length-map c.args.units.now unit_view) in
-    let fair = initials_known (fair_by c.in_ok-table.table.definitions.entries is) b (body_of us is) k c.in_ok-table.ensures.bodies c.in_ok-table.ensures.fair in
-    let body : b w.word ≡ Some t = ap (λ x. b x) (sym c.as_bytes.ensures) ∙ sym c.body.ensures ∙ ap (λ o. option_map tree_at o) c.in-Some.is in
+    let b = bodies_by c.in_ok-temporal.temporal.definitions.entries is in
+    let r = replaced_by (found_by c.in_ok-temporal.temporal.definitions.entries is) b in
+    let known = replaced_known us is (found_by c.in_ok-temporal.temporal.definitions.entries is) b k c.in_ok-temporal.ensures.bodies c.in_ok-temporal.ensures.found counted in
+    let fair = initials_known (found_by c.in_ok-fairness.fairness.definitions.entries is) (body_of us is) k c.in_ok-fairness.ensures.found (length us) counted in
+    let body : body_of us is w.word ≡ Some t = ap (λ (d : spec.Bodies). d w.word) (sym c.in_ok-temporal.ensures.bodies) ∙ ap (λ x. b x) (sym c.as_bytes.ensures) ∙ sym c.body.ensures ∙ ap (λ o. option_map tree_at o) c.in-Some.is in
     let steps = steps_in c.in_ok-parts.parts in
     let initial = seen c.in_ok-parts.parts.initial.items in
-    let items = c.in_ok-parts.parts.steps.items in
-    let counts = length-map items step_of in
-    rw (e.1, e.2) (λ h. lacking us is σ n w t b k c.in_ok-table.ensures.bodies counted body steps initial c.in_ok-parts.ensures.steps (c.in_ok-parts.ensures.initial ∙ fair (conjuncts k b t)) (rw c.as_slice.ensures.value at (c.in_err-each_of_state_level.ensures.none h)))
+    let initial_are = c.in_ok-parts.ensures.initial ∙ fair (conjuncts k r t) in
+    rw (e.1, e.2) (λ h. lacking us is σ n w t r k known counted body steps initial c.in_ok-parts.ensures.steps initial_are (rw c.as_slice.ensures.value at (c.in_err-each_of_state_level.ensures.none h)))
 
 pub returns-clause-found : goal.returns-clause-found
 returns-clause-found c =
@@ -106,39 +115,49 @@ returns-clause-found c =
     let σ = scope_of c.args.scopes.now in
     let n = c.args.variables in
     let w = c.args.name.now in
-    let b = bodies_by c.in_ok-table.table.definitions.entries is in
     let t = tree_at c.in-Some.body in
     let k = length c.args.units.now in
     let counted = sym (length-map c.args.units.now unit_view) in
-    let fair = initials_known (fair_by c.in_ok-table.table.definitions.entries is) b (body_of us is) k c.in_ok-table.ensures.bodies c.in_ok-table.ensures.fair in
-    let body : b w.word ≡ Some t = ap (λ x. b x) (sym c.as_bytes.ensures) ∙ sym c.body.ensures ∙ ap (λ o. option_map tree_at o) c.in-Some.is in
+    let b = bodies_by c.in_ok-temporal.temporal.definitions.entries is in
+    let r = replaced_by (found_by c.in_ok-temporal.temporal.definitions.entries is) b in
+    let known = replaced_known us is (found_by c.in_ok-temporal.temporal.definitions.entries is) b k c.in_ok-temporal.ensures.bodies c.in_ok-temporal.ensures.found counted in
+    let fair = initials_known (found_by c.in_ok-fairness.fairness.definitions.entries is) (body_of us is) k c.in_ok-fairness.ensures.found (length us) counted in
+    let body : body_of us is w.word ≡ Some t = ap (λ (d : spec.Bodies). d w.word) (sym c.in_ok-temporal.ensures.bodies) ∙ ap (λ x. b x) (sym c.as_bytes.ensures) ∙ sym c.body.ensures ∙ ap (λ o. option_map tree_at o) c.in-Some.is in
     let steps = steps_in c.in_ok-parts.parts in
     let initial = seen c.in_ok-parts.parts.initial.items in
+    let initial_are = c.in_ok-parts.ensures.initial ∙ fair (conjuncts k r t) in
     let items = c.in_ok-parts.parts.steps.items in
-    let counts = length-map items step_of in
     let step = c.index-step.result.now in
     let one : steps ≡ step_of step ∷ [] = ap (λ xs. map step_of xs) (one_item items step (omega (arith, c.len.ensures, c.if-len-ne1.false)) c.index-step.ensures) in
     let i = some_seen c.in_ok-parts.parts.initial.items (λ p. c.if-len-eq0.false (omega (arith, c.len-2.ensures, p))) in
-    (i.0, i.1, found us is σ n w t b k c.in_ok-table.ensures.bodies counted body steps initial c.in_ok-parts.ensures.steps (c.in_ok-parts.ensures.initial ∙ fair (conjuncts k b t)) (step_of step) i.0 one c.in_ok-covered.ensures.covers i.1)
+    (i.0, i.1, found us is σ n w t r k known counted body steps initial c.in_ok-parts.ensures.steps initial_are (step_of step) i.0 one c.in_ok-covered.ensures.covers i.1)
 
 pub parts_of-requires : goal.parts_of-requires
 parts_of-requires c =
-    let es = c.in_ok-table.table.definitions.entries in
     let is = c.args.items.now in
-    record { rests = rests_known (fair_by es is) (bodies_by es is) (body_of (map unit_view c.args.units.now) is) (length c.args.units.now) c.in_ok-table.ensures.bodies c.in_ok-table.ensures.fair }
+    let es = c.in_ok-temporal.temporal.definitions.entries in
+    record {
+      fair = made_known (found_by c.in_ok-fairness.fairness.definitions.entries is) (body_of (map unit_view c.args.units.now) is) (length c.args.units.now) c.in_ok-fairness.ensures.found
+          (found_by es is) (bodies_by es is) c.in_ok-temporal.ensures.bodies;
+    }
 
 pub returns-in_err-parts-clause-none : goal.returns-in_err-parts-clause-none
 returns-in_err-parts-clause-none c =
     let e = err_from_is_err_and c.from_residual-in_err-parts.result c.from_residual-in_err-parts.ensures.1 in
     let us = map unit_view c.args.units.now in
     let is = c.args.items.now in
-    let b = bodies_by c.in_ok-table.table.definitions.entries is in
+    let σ = scope_of c.args.scopes.now in
+    let n = c.args.variables in
+    let w = c.args.name.now in
     let t = tree_at c.in-Some.body in
     let k = length c.args.units.now in
     let counted = sym (length-map c.args.units.now unit_view) in
-    let fair = initials_known (fair_by c.in_ok-table.table.definitions.entries is) b (body_of us is) k c.in_ok-table.ensures.bodies c.in_ok-table.ensures.fair in
-    let body : b c.args.name.now.word ≡ Some t = ap (λ x. b x) (sym c.as_bytes.ensures) ∙ sym c.body.ensures ∙ ap (λ o. option_map tree_at o) c.in-Some.is in
-    let all = conjuncts k b t in
+    let b = bodies_by c.in_ok-temporal.temporal.definitions.entries is in
+    let r = replaced_by (found_by c.in_ok-temporal.temporal.definitions.entries is) b in
+    let known = replaced_known us is (found_by c.in_ok-temporal.temporal.definitions.entries is) b k c.in_ok-temporal.ensures.bodies c.in_ok-temporal.ensures.found counted in
+    let fair = initials_known (found_by c.in_ok-fairness.fairness.definitions.entries is) (body_of us is) k c.in_ok-fairness.ensures.found (length us) counted in
+    let body : body_of us is w.word ≡ Some t = ap (λ (d : spec.Bodies). d w.word) (sym c.in_ok-temporal.ensures.bodies) ∙ ap (λ x. b x) (sym c.as_bytes.ensures) ∙ sym c.body.ensures ∙ ap (λ o. option_map tree_at o) c.in-Some.is in
+    let all = conjuncts k r t in
     rw (e.1, e.2) (λ h.
-    many us is (scope_of c.args.scopes.now) c.args.variables c.args.name.now t b k c.in_ok-table.ensures.bodies counted body (steps_of all) (initials_of k b all) refl refl
+    many us is σ n w t r k known counted body (steps_of all) (initials_of (length us) (body_of us is) all) refl refl
     (subst (λ (es : List Tree). AreMany (steps_of all) es) (fair all) (c.in_err-parts.ensures.many h)))

@@ -2,16 +2,16 @@ use Rattle.std.proofs.Common.{◌≡◌, ◌<◌, ◌+◌, ◌-◌, ◌*◌, ◌
 use Rattle.tla_tree.specs.UnitsView.{unit_view}
 use Rattle.tla_config.specs.Names.{Name}
 use Rattle.tla_defs.specs.Bodies.{body_in}
-use Rattle.tla_defs.specs.Table.{body_at, fair_count, IsFairSoFar, IsPassed}
+use Rattle.tla_defs.specs.Table.{body_at, found_count, property, AreRight, IsFound}
 use Rattle.tla_defs.proofs.table.Table.of.Given as goal
 
 abbrev pub invariant-loop-changes : goal.invariant-loop-changes
 invariant-loop-changes l = record {
   bodies : (x : Name) → body_at l.table.definitions.entries x ≡ body_in (map unit_view l.units) x;
   many : length l.table.definitions.entries ≤ length l.units;
-  sound : IsFairSoFar l.table.definitions.entries l.items;
-  passed : l.changes ≡ false → (i : ℕ) → i < length l.table.definitions.entries → IsPassed l.table.definitions.entries l.items i;
+  sound : AreRight (property l.class) l.table.definitions.entries l.items;
+  passed : l.changes ≡ false → (i : ℕ) → i < length l.table.definitions.entries → IsFound (property l.class) l.table.definitions.entries l.items i;
 }
 
 abbrev pub decreases-loop-changes : goal.decreases-loop-changes
-decreases-loop-changes l = 2 * (length l.table.definitions.entries - fair_count l.table.definitions.entries) + (if l.changes then 1 else 0)
+decreases-loop-changes l = 2 * (length l.table.definitions.entries - found_count l.table.definitions.entries) + (if l.changes then 1 else 0)

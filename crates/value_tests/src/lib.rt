@@ -1,20 +1,12 @@
-//! Tests of the libraries' public calls: with ample memory, and of what no clause says.
+//! Tests of the public calls of values, expressions and their values: with ample memory, and of what no clause says.
 //!
 //! They stand in a crate of their own, since a crate with tests is proved a second time.
 #![tactic(auto)]
 
 #[cfg(test)]
-mod configurations;
-#[cfg(test)]
 mod expression_depths;
 #[cfg(test)]
 mod expressions;
-#[cfg(test)]
-mod search_options;
-#[cfg(test)]
-mod tokens;
-#[cfg(test)]
-mod trees;
 #[cfg(test)]
 mod value_texts;
 #[cfg(test)]

@@ -1,0 +1,15 @@
+use Rattle.std.proofs.Common.{List, subst}
+use Rattle.tla_tree.specs.View.{view}
+use Rattle.tla_defs.specs.declared.conjuncts.Formula.{Formula}
+use Rattle.tla_defs.specs.Conjuncts.{replaced_in, fair_names, initials_by, AreFoundOrLeft}
+use Rattle.tla_defs.specs.Specification.{conjuncts, steps_of}
+use Rattle.tla_defs.proofs.conjuncts.parts_of.Goals as goal
+
+pub loop-turn-preserved : goal.loop-turn-preserved
+loop-turn-preserved c =
+    let φ = fair_names c.args.classes.now in
+    let b = replaced_in c.args.classes.now in
+    let all = conjuncts c.args.names b (view c.args.whole.now) in
+    let ss = steps_of all in
+    let es = initials_by φ all in
+    c.in_ok-go_on.ensures.ok ss es (subst (λ (fs : List Formula). AreFoundOrLeft φ b fs c.loop-turn.walk.parts ss es) c.in-Some.ensures.items c.loop-turn.invariant)

@@ -1,0 +1,27 @@
+use Rattle.std.proofs.Common.{◌≡◌, ◌≤◌, ◌+◌, ◌*◌, length, map}
+use Rattle.tla_tree.specs.Tree.{trees}
+use Rattle.tla_tree.specs.View.{view}
+use denote.Param.Weighed.{most}
+use Rattle.tla_tree.specs.declared.tree.Expr.{size-Expr}
+use Rattle.tla_defs.specs.Conjuncts.{found_names}
+use Rattle.tla_defs.specs.Temporal.{some_temporal}
+use Rattle.tla_defs.proofs.temporal.+temporal.Given as goal
+
+abbrev pub invariant-some_temporal-loop-others : goal.invariant-some_temporal-loop-others
+invariant-some_temporal-loop-others l = record {
+  shallow : most size-Expr l.others ≤ most size-Expr l.trees;
+  kept : l.bound ≡ l.fn.bound;
+  same : some_temporal (found_names l.definitions) l.fn.bound (trees (map view l.trees)) ≡ some_temporal (found_names l.definitions) l.fn.bound (trees (map view l.others));
+}
+
+abbrev pub decreases-some_temporal-loop-others : goal.decreases-some_temporal-loop-others
+decreases-some_temporal-loop-others l = length l.others
+
+abbrev pub decreases-temporal_tree : goal.decreases-temporal_tree
+decreases-temporal_tree l = 4 * size-Expr l.tree.now
+
+abbrev pub decreases-temporal_under : goal.decreases-temporal_under
+decreases-temporal_under l = 4 * size-Expr l.body.now + 1
+
+abbrev pub decreases-some_temporal : goal.decreases-some_temporal
+decreases-some_temporal l = 4 * most size-Expr l.trees.now + 1
