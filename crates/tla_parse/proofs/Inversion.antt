@@ -11,9 +11,8 @@ use Rattle.tla_tree.specs.declared.tree.Bullet.{Bullet}
 use Rattle.tla_tree.specs.declared.tree.Bullet.TheVariants as b
 use Rattle.tla_parse.specs.Operators.{low, infix_of, bullet_of, same_bullet}
 use Rattle.tla_tree.specs.Words.{written}
-use Rattle.tla_parse.specs.Tokens.{right_of, seen, is_bullet_at, Is, Has, Writes}
+use Rattle.tla_parse.specs.Tokens.{right_of, seen, is_bullet_at, Is, Has, Writes, KindAt, Commas}
 use Rattle.tla_parse.specs.Kinds.{same_kind, kind_at}
-use Rattle.tla_parse.specs.LeftOut.{KindAt, Commas}
 use Rattle.tla_parse.specs.Ending.{above, infix_at}
 use Rattle.tla_parse.specs.Outcome.{Outcome, ◌>>=◌, need, room, at_op}
 use Rattle.tla_parse.specs.ReadingLists.{name_at}

@@ -10,6 +10,7 @@ pub mod Deeper
 pub mod DeeperBrackets
 pub mod DeeperLists
 pub mod Ends
+pub mod Entries
 pub mod Factors
 pub mod Fails
 pub mod First

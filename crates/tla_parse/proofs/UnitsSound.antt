@@ -7,10 +7,10 @@ use Rattle.tla_lex.specs.declared.token.Token.{Token}
 use Rattle.tla_lex.specs.declared.token.Kind.{Kind}
 use Rattle.tla_lex.specs.declared.token.Kind.TheVariants as k
 use Rattle.tla_tree.specs.declared.word.Written.{Written}
-use Rattle.tla_parse.specs.LeftOut.{KindAt, OnlySeparators}
+use Rattle.tla_parse.specs.LeftOut.{OnlySeparators}
 use Rattle.tla_parse.specs.Modules.{is_module}
 use Rattle.tla_tree.specs.Words.{word_of, written}
-use Rattle.tla_parse.specs.Tokens.{seen, Has, Writes, Names}
+use Rattle.tla_parse.specs.Tokens.{seen, Has, Writes, Names, KindAt}
 use Rattle.tla_parse.specs.Kinds.{kind_at}
 use Rattle.tla_tree.specs.Units.{UnitTree, Separator, Extends, Variables, Operator, Defines, Local, Constants, Assume, Theorem, Declared}
 use Rattle.tla_parse.specs.Units.{Blanks, Declares, MoreDeclared, AllDeclared, Claims, is_extends, is_separator, outermost, SpellsUnit, Units, SpellsModule}

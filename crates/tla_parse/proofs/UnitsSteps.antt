@@ -3,7 +3,7 @@ use Rattle.std.proofs.Common.{◌≡◌, ℕ, ◌+◌, max, Bool, true, false, n
 use Rattle.tla_lex.specs.declared.token.Token.{Token}
 use Rattle.tla_lex.specs.declared.token.Kind.{Kind}
 use Rattle.tla_lex.specs.declared.token.Kind.TheVariants as k
-use Rattle.tla_parse.specs.LeftOut.{KindAt, IsExtended}
+use Rattle.tla_parse.specs.LeftOut.{IsExtended}
 use Rattle.tla_tree.specs.declared.word.Written.{Written}
 use Rattle.tla_parse.specs.declared.refusal.Refusal.{Refusal}
 use Rattle.tla_parse.specs.Gives.{Fails}
@@ -12,7 +12,7 @@ use Rattle.tla_tree.specs.declared.unit.Unit.{Unit}
 use Rattle.tla_tree.specs.UnitsView.{unit_view}
 use Rattle.tla_parse.specs.Modules.{is_module}
 use Rattle.tla_tree.specs.Words.{word_of, written}
-use Rattle.tla_parse.specs.Tokens.{seen}
+use Rattle.tla_parse.specs.Tokens.{seen, KindAt}
 use Rattle.tla_parse.specs.Kinds.{kind_at}
 use Rattle.tla_parse.specs.Outcome.{Outcome, Refused, ◌>>=◌, need}
 use Rattle.tla_parse.specs.ReadingLists.{name_at}

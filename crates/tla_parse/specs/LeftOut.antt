@@ -5,6 +5,8 @@ use Rattle.tla_lex.specs.declared.token.Kind.{Kind}
 use Rattle.tla_lex.specs.declared.token.Kind.TheVariants as k
 use Rattle.tla_tree.specs.Words.{word_of}
 use Rattle.tla_parse.specs.Modules.{is_module}
+use Rattle.tla_parse.specs.Tokens.{KindAt, Commas}
+use Rattle.tla_parse.specs.Patterns.{is_quantifier, IsPattern}
 
 -- refused wherever they stand
 abbrev pub is_left_out : Kind → Bool
@@ -24,74 +26,44 @@ is_left_out k.MinusMinus = true
 is_left_out k.Guarantees = true
 is_left_out _ = false
 
-abbrev pub is_quantifier : Kind → Bool
-is_quantifier k.ForAll = true
-is_quantifier k.Exists = true
-is_quantifier _ = false
-
--- a binder may begin behind such a token
-abbrev pub binds : Kind → Bool
-binds k.ForAll = true
-binds k.Exists = true
-binds k.Choose = true
-binds k.LeftBrace = true
-binds k.LeftBracket = true
-binds k.Colon = true
-binds k.Comma = true
-binds _ = false
-
 -- `!` behind such a token begins no update: it selects from a module
 abbrev pub may_select : Kind → Bool
 may_select k.Except = false
 may_select _ = true
 
 module _ (ts : List Token) where
-  -- a token of this kind has this number
-  abbrev pub KindAt : ℕ → Kind → Type 0
-  KindAt at kind = (t : Token) × (slice_get ts at ≡ Some t) × (t.kind ≡ kind)
-
   -- a word or symbol that is left out
   abbrev pub IsWordLeftOut : ℕ → Type 0
   IsWordLeftOut at = (t : Token) × (slice_get ts at ≡ Some t) × IsTrue (is_left_out t.kind)
 
   -- `!`, but for one directly behind EXCEPT
   abbrev pub IsSelector : ℕ → Type 0
-  IsSelector at = (before : ℕ) × (t : Token) × (slice_get ts before ≡ Some t) × IsTrue (may_select t.kind) × (at ≡ before + 1) × KindAt at k.Bang
-
-  -- so many names from the first number up to the second, each with a comma behind it
-  abbrev pub Commas : ℕ → ℕ → ℕ → Type 0
-  Commas zero from at = at ≡ from
-  Commas (suc n) from at = (before : ℕ) × Commas n from before × KindAt before k.Name × KindAt (before + 1) k.Comma × (at ≡ before + 2)
+  IsSelector at = (before : ℕ) × (t : Token) × (slice_get ts before ≡ Some t) × IsTrue (may_select t.kind) × (at ≡ before + 1) × KindAt ts at k.Bang
 
   -- a quantifier over names without a set, \A x, y : p
   abbrev pub IsUnbounded : ℕ → Type 0
-  IsUnbounded at = (n : ℕ) × (last : ℕ) × (t : Token) × (slice_get ts at ≡ Some t) × IsTrue (is_quantifier t.kind) × Commas n (at + 1) last × KindAt last k.Name × KindAt (last + 1) k.Colon
+  IsUnbounded at = (n : ℕ) × (last : ℕ) × (t : Token) × (slice_get ts at ≡ Some t) × IsTrue (is_quantifier t.kind) × Commas ts n (at + 1) last × KindAt ts last k.Name × KindAt ts (last + 1) k.Colon
 
   -- CHOOSE x : p
   abbrev pub IsUnboundedChoice : ℕ → Type 0
-  IsUnboundedChoice at = KindAt at k.Choose × KindAt (at + 1) k.Name × KindAt (at + 2) k.Colon
-
-  -- a tuple of names in a binder, <<x, y>> \in S
-  abbrev pub IsPattern : ℕ → Type 0
-  IsPattern at = (before : ℕ) × (n : ℕ) × (last : ℕ) × (t : Token) × (slice_get ts before ≡ Some t) × IsTrue (binds t.kind) × (at ≡ before + 1) × KindAt at k.LeftTuple
-      × Commas n (at + 1) last × KindAt last k.Name × KindAt (last + 1) k.RightTuple × KindAt (last + 2) k.Member
+  IsUnboundedChoice at = KindAt ts at k.Choose × KindAt ts (at + 1) k.Name × KindAt ts (at + 2) k.Colon
 
   -- a definition with an operator as parameter, Op(F(_), ..) ==
   abbrev pub HasOperatorParameter : ℕ → Type 0
-  HasOperatorParameter at = (n : ℕ) × (last : ℕ) × KindAt at k.Name × KindAt (at + 1) k.LeftParen × Commas n (at + 2) last × KindAt last k.Name × KindAt (last + 1) k.LeftParen × KindAt (last + 2) k.Underscore
+  HasOperatorParameter at = (n : ℕ) × (last : ℕ) × KindAt ts at k.Name × KindAt ts (at + 1) k.LeftParen × Commas ts n (at + 2) last × KindAt ts last k.Name × KindAt ts (last + 1) k.LeftParen × KindAt ts (last + 2) k.Underscore
 
   -- no unit but separators stands before the token: a module's name and a separator come before its units
   abbrev pub OnlySeparators : ℕ → Type 0
-  OnlySeparators to = (at : ℕ) → 2 ≤ at → at < to → KindAt at k.Separator
+  OnlySeparators to = (at : ℕ) → 2 ≤ at → at < to → KindAt ts at k.Separator
 
   -- the token behind a first EXTENDS and so many names with a comma each
   abbrev pub IsExtended : ℕ → ℕ → Type 0
-  IsExtended zero at = (before : ℕ) × KindAt before k.Extends × OnlySeparators before × (at ≡ before + 1)
-  IsExtended (suc n) at = (before : ℕ) × IsExtended n before × KindAt before k.Name × KindAt (before + 1) k.Comma × (at ≡ before + 2)
+  IsExtended zero at = (before : ℕ) × KindAt ts before k.Extends × OnlySeparators before × (at ≡ before + 1)
+  IsExtended (suc n) at = (before : ℕ) × IsExtended n before × KindAt ts before k.Name × KindAt ts (before + 1) k.Comma × (at ≡ before + 2)
 
   -- a second header: MODULE behind a line of dashes
   abbrev pub IsSecondHeader : ℕ → Type 0
-  IsSecondHeader at = (before : ℕ) × KindAt before k.Separator × KindAt (before + 1) k.Module × (at ≡ before + 1)
+  IsSecondHeader at = (before : ℕ) × KindAt ts before k.Separator × KindAt ts (before + 1) k.Module × (at ≡ before + 1)
 
   -- the list of the forms left out
   pub data LeftOut (at : ℕ) : Type 0 where
@@ -99,7 +71,7 @@ module _ (ts : List Token) where
     selector : IsSelector at → LeftOut at
     unbounded : IsUnbounded at → LeftOut at
     unbounded_choice : IsUnboundedChoice at → LeftOut at
-    pattern : IsPattern at → LeftOut at
+    pattern : IsPattern ts at → LeftOut at
     parameter : HasOperatorParameter at → LeftOut at
     second_header : IsSecondHeader at → LeftOut at
 

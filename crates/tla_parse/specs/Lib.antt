@@ -8,6 +8,7 @@ pub mod Units
 pub mod Codes
 pub mod Parsing
 pub mod Kinds
+pub mod Patterns
 pub mod LeftOut
 pub mod Outcome
 pub mod Ahead

@@ -1,5 +1,5 @@
 -- Tokens as the grammar reads them: by their number in the list, and only right of a column.
-use Rattle.std.specs.Prelude.{◌≡◌, ℕ, ◌+◌, Bool, true, false, not, ◌&&◌, ◌||◌, nat_lt, nat_eq, if◌then◌else◌, List, [], ◌∷◌, Option, Some, None, slice_get}
+use Rattle.std.specs.Prelude.{◌≡◌, ℕ, zero, suc, ◌+◌, Bool, true, false, not, ◌&&◌, ◌||◌, nat_lt, nat_eq, if◌then◌else◌, List, [], ◌∷◌, Option, Some, None, slice_get}
 use Rattle.tla_lex.specs.declared.token.Place.{Place}
 use Rattle.tla_lex.specs.declared.token.Token.{Token}
 use Rattle.tla_lex.specs.declared.token.Kind.{Kind}
@@ -66,3 +66,12 @@ module _ (ts : List Token) where
   Names text column [] from to = ⊥
   Names text column (w ∷ []) from to = Writes text column k.Name w from × (to ≡ from + 1)
   Names text column (w ∷ v ∷ ws) from to = Writes text column k.Name w from × Has column k.Comma (from + 1) × Names text column (v ∷ ws) (from + 2) to
+
+  -- a token of this kind has this number, in whatever column
+  abbrev pub KindAt : ℕ → Kind → Type 0
+  KindAt at kind = (t : Token) × (slice_get ts at ≡ Some t) × (t.kind ≡ kind)
+
+  -- so many names from the first number up to the second, each with a comma behind it
+  abbrev pub Commas : ℕ → ℕ → ℕ → Type 0
+  Commas zero from at = at ≡ from
+  Commas (suc n) from at = (before : ℕ) × Commas n from before × KindAt before k.Name × KindAt (before + 1) k.Comma × (at ≡ before + 2)

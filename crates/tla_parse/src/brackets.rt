@@ -1,22 +1,27 @@
 //! Forms in brackets and braces, and subscripts.
 
-ghost use Rattle.std.specs.Prelude.{◌≡◌, ℕ, ◌+◌, ◌-◌, ◌≤◌, ◌<◌, length, slice_get, suc, IfOk, IfErr, OnOk, map, [], ◌∷◌, ◌++◌};
+ghost use Rattle.std.specs.Prelude.{◌≡◌, ℕ, ◌+◌, ◌-◌, ◌≤◌, ◌<◌, length, slice_get, suc, IfOk, IfErr, OnOk, IsTrue, map, [], ◌∷◌, ◌++◌};
 ghost use Rattle.tla_tree.specs.View.{view, group_view, field_view, key_view, update_view};
 ghost use Rattle.tla_tree.specs.Tree as tree;
 ghost use Rattle.tla_tree.specs.Tree.{trees, binders};
+ghost use Rattle.tla_lex.specs.declared.token.Kind.TheVariants as k;
 ghost use Rattle.tla_parse.specs.Edges as edges;
+ghost use Rattle.tla_parse.specs.Kinds.{kind_at};
+ghost use Rattle.tla_parse.specs.Patterns.{BeginsBinder, IsBehindElement, IsExpression};
+ghost use Rattle.tla_parse.specs.Tokens as spec;
 ghost use Rattle.tla_parse.specs.Reading.{expr};
 ghost use Rattle.tla_parse.specs.ReadingBrackets as reading;
 ghost use Rattle.tla_parse.specs.Gives.{Gives, GivesItems, GivesTrees};
 ghost use Rattle.tla_parse.specs.Nests.{Nests};
 
 use crate::ahead::{Opened, binds, filters, opened_by};
+use crate::binders::{is_outer_bracket, refused_bracket};
 use crate::grammar::Grammar;
 use crate::list::push;
 use crate::parts::{Parsed, ParsedItems, child_of, image_of, listing_of, mapping_of};
 use crate::refusal::Refusal;
 use crate::scope::Scope;
-use crate::tokens::{Between, following, is_kind, name_at, refused, refused_form, seen, written};
+use crate::tokens::{Between, following, is_kind, name_at, refused, seen, written};
 use std::alloc::Global;
 use tla_lex::{Kind, Place, Token};
 use tla_tree::{Brackets, Expr, Fairness, Step};
@@ -207,13 +212,15 @@ impl<F: Fn(Global, &[u8], &[Token], usize, Scope, u8, usize) -> Result<Parsed, R
     ) -> Result<Parsed, Refusal>
         requires nests { Nests self.now.depth (F.pre self.now.expr) (F.post self.now.expr) }
         requires within { first.end < length tokens.now }
+        requires filter { BeginsBinder tokens.now (start + 1) }
+        requires element { IsBehindElement tokens.now (first.end + 1) }
         requires depth { first.depth ≡ edges.depth (view first.tree) }
         requires shallow { first.depth ≤ self.now.depth }
         requires small { self.now.depth < 900 }
         ensures { Gives text.now tokens.now (self.now.depth + 1) result (reading.image text.now tokens.now (expr text.now tokens.now self.now.depth) scope at (view first.tree) first.end) }
     {
         let element = child_of(self.alloc, first)?;
-        let found = self.groups(text, tokens, scope, start, element.end + 1)?;
+        let found = self.groups(text, tokens, scope, Some(start), true, element.end + 1)?;
         if !is_kind(Kind::RightBrace, seen(tokens, scope.column, found.end)) {
             return Err(refused(tokens, scope.column, found.end));
         }
@@ -237,6 +244,8 @@ impl<F: Fn(Global, &[u8], &[Token], usize, Scope, u8, usize) -> Result<Parsed, R
     ) -> Result<Parsed, Refusal>
         requires nests { Nests self.now.depth (F.pre self.now.expr) (F.post self.now.expr) }
         requires within { from < length tokens.now }
+        requires brace { spec.Has tokens.now scope.column k.LeftBrace from }
+        requires element { IsExpression tokens.now scope (from + 1) first.end }
         requires depth { first.depth ≡ edges.depth (view first.tree) }
         requires shallow { first.depth ≤ self.now.depth }
         requires small { self.now.depth < 900 }
@@ -270,6 +279,7 @@ impl<F: Fn(Global, &[u8], &[Token], usize, Scope, u8, usize) -> Result<Parsed, R
     ) -> Result<Parsed, Refusal>
         requires nests { Nests self.now.depth (F.pre self.now.expr) (F.post self.now.expr) }
         requires within { from < length tokens.now }
+        requires brace { spec.Has tokens.now scope.column k.LeftBrace from }
         requires small { self.now.depth < 900 }
         ensures { Gives text.now tokens.now (self.now.depth + 1) result (reading.brace text.now tokens.now (expr text.now tokens.now self.now.depth) scope at from) }
     {
@@ -338,10 +348,12 @@ impl<F: Fn(Global, &[u8], &[Token], usize, Scope, u8, usize) -> Result<Parsed, R
     ) -> Result<Parsed, Refusal>
         requires nests { Nests self.now.depth (F.pre self.now.expr) (F.post self.now.expr) }
         requires within { from < length tokens.now }
+        requires name { IsTrue (kind_at k.Name (spec.seen tokens.now scope.column (from + 1))) }
         requires small { self.now.depth < 900 }
         ensures { Gives text.now tokens.now (self.now.depth + 1) result (reading.mapping text.now tokens.now (expr text.now tokens.now self.now.depth) scope at from) }
     {
-        let found = self.groups(text, tokens, scope, from, from + 1)?;
+        let is_list = is_outer_bracket(tokens, from);
+        let found = self.groups(text, tokens, scope, None, is_list, from + 1)?;
         if !is_kind(Kind::MapsTo, seen(tokens, scope.column, found.end)) {
             return Err(refused(tokens, scope.column, found.end));
         }
@@ -397,6 +409,7 @@ impl<F: Fn(Global, &[u8], &[Token], usize, Scope, u8, usize) -> Result<Parsed, R
         first: Parsed,
     ) -> Result<Parsed, Refusal>
         requires nests { Nests self.now.depth (F.pre self.now.expr) (F.post self.now.expr) }
+        requires first { IsExpression tokens.now scope (start + 1) first.end }
         requires depth { first.depth ≡ edges.depth (view first.tree) }
         requires shallow { first.depth ≤ self.now.depth }
         requires small { self.now.depth < 900 }
@@ -412,7 +425,7 @@ impl<F: Fn(Global, &[u8], &[Token], usize, Scope, u8, usize) -> Result<Parsed, R
             Kind::RightBracketSubscript,
             seen(tokens, scope.column, first.end),
         ) {
-            return Err(refused_form(tokens, scope.column, start, first.end));
+            return Err(refused_bracket(tokens, scope, start, first.end));
         }
         self.action(text, tokens, scope, start, at, Step::Box, first)
     }

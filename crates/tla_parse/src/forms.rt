@@ -1,10 +1,12 @@
 //! Forms that begin with a word or a quantifier, and definitions.
 
 ghost use Rattle.std.specs.Prelude.{◌+◌, ◌-◌, ◌≤◌, ◌<◌, length, []};
+ghost use Rattle.tla_parse.specs.Patterns.{BeginsBinder, IsQuantified};
 ghost use Rattle.tla_parse.specs.Reading as reading;
 ghost use Rattle.tla_parse.specs.Gives.{Gives, GivesArm, GivesArms, GivesDefinition, GivesDefinitions};
 ghost use Rattle.tla_parse.specs.Nests.{Nests};
 
+use crate::binders::{defines_function, refused_choice, refused_name};
 use crate::grammar::Grammar;
 use crate::list::push;
 use crate::names::names;
@@ -15,8 +17,7 @@ use crate::parts::{
 use crate::refusal::Refusal;
 use crate::scope::Scope;
 use crate::tokens::{
-    Between, following, is_kind, name_at, refused, refused_choice, refused_name, refused_parameter,
-    seen, written,
+    Between, following, is_kind, name_at, refused, refused_parameter, seen, written,
 };
 use std::alloc::Global;
 use tla_lex::{Kind, Place, Token};
@@ -38,10 +39,11 @@ impl<F: Fn(Global, &[u8], &[Token], usize, Scope, u8, usize) -> Result<Parsed, R
     ) -> Result<Parsed, Refusal>
         requires nests { Nests self.now.depth (F.pre self.now.expr) (F.post self.now.expr) }
         requires within { from < length tokens.now }
+        requires quantifier { IsQuantified tokens.now (from + 1) }
         requires small { self.now.depth < 900 }
         ensures { Gives text.now tokens.now (self.now.depth + 1) result (reading.quantified text.now tokens.now (reading.expr text.now tokens.now self.now.depth) scope at quantifier from) }
     {
-        let found = self.groups(text, tokens, scope, from, from + 1)?;
+        let found = self.groups(text, tokens, scope, Some(from), true, from + 1)?;
         if !is_kind(Kind::Colon, seen(tokens, scope.column, found.end)) {
             return Err(refused(tokens, scope.column, found.end));
         }
@@ -65,6 +67,7 @@ impl<F: Fn(Global, &[u8], &[Token], usize, Scope, u8, usize) -> Result<Parsed, R
     ) -> Result<Parsed, Refusal>
         requires nests { Nests self.now.depth (F.pre self.now.expr) (F.post self.now.expr) }
         requires within { from < length tokens.now }
+        requires binder { BeginsBinder tokens.now (from + 1) }
         requires small { self.now.depth < 900 }
         ensures { Gives text.now tokens.now (self.now.depth + 1) result (reading.chosen text.now tokens.now (reading.expr text.now tokens.now self.now.depth) scope at from) }
     {
@@ -237,7 +240,7 @@ impl<F: Fn(Global, &[u8], &[Token], usize, Scope, u8, usize) -> Result<Parsed, R
         })
     }
 
-    /// `f[x \in S, ..] == e`, from its first parameter on; the name is the token at `form`.
+    /// `f[x \in S, ..] == e`, where the name is the token at `form`.
     #[tactic(auto, unfolding(crate::specs::Reading::function))]
     fn function(
         &self,
@@ -246,13 +249,13 @@ impl<F: Fn(Global, &[u8], &[Token], usize, Scope, u8, usize) -> Result<Parsed, R
         scope: Scope,
         t: Token,
         form: usize,
-        from: usize,
     ) -> Result<ParsedDefinition, Refusal>
         requires nests { Nests self.now.depth (F.pre self.now.expr) (F.post self.now.expr) }
-        requires within { from ≤ length tokens.now }
-        ensures { GivesDefinition text.now tokens.now self.now.depth result (reading.function text.now tokens.now (reading.expr text.now tokens.now self.now.depth) scope t from) }
+        requires within { form + 2 ≤ length tokens.now }
+        ensures { GivesDefinition text.now tokens.now self.now.depth result (reading.function text.now tokens.now (reading.expr text.now tokens.now self.now.depth) scope t (form + 2)) }
     {
-        let found = self.groups(text, tokens, scope, form, from)?;
+        let is_list = defines_function(tokens, form);
+        let found = self.groups(text, tokens, scope, None, is_list, form + 2)?;
         let end = found.end;
         if !is_kind(Kind::RightBracket, seen(tokens, scope.column, end)) {
             return Err(refused(tokens, scope.column, end));
@@ -298,7 +301,7 @@ impl<F: Fn(Global, &[u8], &[Token], usize, Scope, u8, usize) -> Result<Parsed, R
         if !is_kind(Kind::LeftBracket, seen(tokens, scope.column, from + 1)) {
             return Err(refused(tokens, scope.column, from + 1));
         }
-        self.function(text, tokens, scope, t, from, from + 2)
+        self.function(text, tokens, scope, t, from)
     }
 
     /// A definition.

@@ -1,8 +1,9 @@
 //! Expressions, by precedence climbing. The rules take the reader of inner expressions as a parameter, so that each is proved by itself.
 
-ghost use Rattle.std.specs.Prelude.{◌≡◌, ◌+◌, ◌-◌, ◌≤◌, ◌<◌, length, []};
+ghost use Rattle.std.specs.Prelude.{◌≡◌, ◌+◌, ◌-◌, ◌≤◌, ◌<◌, length, [], Some};
 ghost use Rattle.tla_tree.specs.View.{view};
 ghost use Rattle.tla_parse.specs.Edges as edges;
+ghost use Rattle.tla_parse.specs.Tokens as spec;
 ghost use Rattle.tla_parse.specs.Reading as reading;
 ghost use Rattle.tla_parse.specs.Gives.{Gives, GivesChild, GivesDefinition};
 ghost use Rattle.tla_parse.specs.Nests.{Nests};
@@ -294,7 +295,7 @@ impl<F: Fn(Global, &[u8], &[Token], usize, Scope, u8, usize) -> Result<Parsed, R
     }
 
     /// A form that begins with a bullet, a prefix operator, a quantifier or a word for a value.
-    #[tactic(auto, unfolding(crate::specs::Reading::by_class))]
+    #[tactic(auto, unfolding(crate::specs::Reading::by_class), using(crate::proofs::Entries::quantified_here))]
     fn by_class(
         &self,
         text: &[u8],
@@ -305,6 +306,7 @@ impl<F: Fn(Global, &[u8], &[Token], usize, Scope, u8, usize) -> Result<Parsed, R
     ) -> Result<Parsed, Refusal>
         requires nests { Nests self.now.depth (F.pre self.now.expr) (F.post self.now.expr) }
         requires within { from < length tokens.now }
+        requires token { spec.seen tokens.now scope.column from ≡ Some t }
         requires small { self.now.depth < 900 }
         ensures { Gives text.now tokens.now (self.now.depth + 1) result (reading.by_class text.now tokens.now (reading.expr text.now tokens.now self.now.depth) (self.now.depth + 1) scope t from) }
     {

@@ -1,14 +1,20 @@
 //! Lists of expressions, the forms that are lists, and binder lists.
 
-ghost use Rattle.std.specs.Prelude.{◌≡◌, ◌+◌, ◌-◌, ◌≤◌, ◌<◌, length, map, []};
+ghost use Rattle.std.specs.Prelude.{◌≡◌, ◌+◌, ◌-◌, ◌≤◌, ◌<◌, length, map, [], not, IsTrue};
+ghost use Rattle.std.specs.Option.{ForSome};
 ghost use Rattle.tla_tree.specs.View.{view};
 ghost use Rattle.tla_tree.specs.Tree.{trees};
+ghost use Rattle.tla_lex.specs.declared.token.Kind.TheVariants as k;
 ghost use Rattle.tla_parse.specs.Edges as edges;
+ghost use Rattle.tla_parse.specs.Kinds.{kind_at};
+ghost use Rattle.tla_parse.specs.Patterns.{BeginsBinder, BeginsList};
+ghost use Rattle.tla_parse.specs.Tokens as spec;
 ghost use Rattle.tla_parse.specs.Reading as reading;
 ghost use Rattle.tla_parse.specs.ReadingLists as lists;
 ghost use Rattle.tla_parse.specs.Gives.{Gives, GivesItems, GivesTrees, GivesGroup, GivesGroups};
 ghost use Rattle.tla_parse.specs.Nests.{Nests};
 
+use crate::binders::{refused_binder, refused_names};
 use crate::grammar::Grammar;
 use crate::list::push;
 use crate::names::{ParsedNames, names};
@@ -17,10 +23,7 @@ use crate::parts::{
 };
 use crate::refusal::Refusal;
 use crate::scope::Scope;
-use crate::tokens::{
-    Between, closing, following, is_kind, may_follow, refused, refused_binder, refused_names, seen,
-    written,
-};
+use crate::tokens::{Between, closing, following, is_kind, may_follow, refused, seen, written};
 use std::alloc::Global;
 use tla_lex::{Kind, Place, Token};
 use tla_tree::{Binder, Brackets, Bullet, Expr};
@@ -196,22 +199,25 @@ impl<F: Fn(Global, &[u8], &[Token], usize, Scope, u8, usize) -> Result<Parsed, R
         })
     }
 
-    /// A group of the binder list of the form that begins at `form`.
+    /// A group of a binder list. The form that begins at `form` may be left out for its binders; `is_list` says that this is known to be a binder list.
     #[tactic(auto, using(crate::proofs::Steps::group_none), unfolding(crate::specs::ReadingLists::group))]
     pub fn group(
         &self,
         text: &[u8],
         tokens: &[Token],
         scope: Scope,
-        form: usize,
+        form: Option<usize>,
+        is_list: bool,
         from: usize,
     ) -> Result<ParsedBinder, Refusal>
         requires nests { Nests self.now.depth (F.pre self.now.expr) (F.post self.now.expr) }
         requires within { from ≤ length tokens.now }
+        requires form { ForSome form (λ f. BeginsBinder tokens.now (f + 1)) }
+        requires binder { IsTrue is_list → IsTrue (not (kind_at k.Name (spec.seen tokens.now scope.column from))) → BeginsBinder tokens.now from }
         ensures { GivesGroup text.now tokens.now self.now.depth result (lists.group text.now tokens.now (reading.expr text.now tokens.now self.now.depth) scope from) }
     {
         if !is_kind(Kind::Name, seen(tokens, scope.column, from)) {
-            return Err(refused_names(tokens, scope.column, form, from));
+            return Err(refused_names(tokens, scope.column, form, is_list, from));
         }
         let ParsedNames { names, end } = names(self.alloc, text, tokens, scope.column, from)?;
         if !is_kind(Kind::Member, seen(tokens, scope.column, end)) {
@@ -228,25 +234,29 @@ impl<F: Fn(Global, &[u8], &[Token], usize, Scope, u8, usize) -> Result<Parsed, R
         })
     }
 
-    /// The binder list of the form that begins at `form`.
+    /// A binder list, of which `form` and `is_list` say the same.
     #[tactic(auto, using(crate::proofs::Steps::bound_depth_snoc))]
     pub fn groups(
         &self,
         text: &[u8],
         tokens: &[Token],
         scope: Scope,
-        form: usize,
+        form: Option<usize>,
+        is_list: bool,
         from: usize,
     ) -> Result<ParsedBinders, Refusal>
         requires nests { Nests self.now.depth (F.pre self.now.expr) (F.post self.now.expr) }
         requires within { from ≤ length tokens.now }
+        requires form { ForSome form (λ f. BeginsBinder tokens.now (f + 1)) }
+        requires list { IsTrue is_list → BeginsList tokens.now from }
+        requires binder { IsTrue is_list → IsTrue (not (kind_at k.Name (spec.seen tokens.now scope.column from))) → BeginsBinder tokens.now from }
         ensures { GivesGroups text.now tokens.now self.now.depth result (lists.groups text.now tokens.now (reading.expr text.now tokens.now self.now.depth) (length tokens.now) [] scope from) }
     {
         let mut binders = Vec::new(self.alloc);
         let mut depth = 0;
         let mut at = from;
         for _turn in 0..tokens.len() {
-            let group = self.group(text, tokens, scope, form, at)?;
+            let group = self.group(text, tokens, scope, form, is_list, at)?;
             let end = group.end;
             depth = depth.max(group.depth);
             push(&mut binders, group.binder)?;

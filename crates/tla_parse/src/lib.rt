@@ -2,6 +2,7 @@
 #![tactic(auto)]
 
 mod ahead;
+mod binders;
 mod brackets;
 mod error;
 mod forms;

@@ -1,5 +1,5 @@
 use Rattle.std.proofs.Common.{◌≡◌, ◌+◌, ◌≤◌, length}
-use Rattle.tla_parse.specs.LeftOut.{Commas}
+use Rattle.tla_parse.specs.Tokens.{Commas}
 use Rattle.tla_parse.proofs.tokens.has_operator_parameter.Given as goal
 
 abbrev pub invariant-loop-turn : goal.invariant-loop-turn

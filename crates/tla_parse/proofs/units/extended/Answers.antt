@@ -1,10 +1,9 @@
 use Rattle.std.proofs.Common.{◌≡◌, ◌+◌, ◌-◌, ◌≤◌, ◌++◌, ◌∷◌, [], Some, None, true, false, arith, refl, sym, ap, ◌∙◌, length}
 use Rattle.std.proofs.lemmas.Option.{slice_get_within}
 use Rattle.tla_lex.specs.declared.token.Kind.TheVariants as k
-use Rattle.tla_parse.specs.LeftOut.{KindAt}
 use Rattle.tla_parse.specs.Modules.{is_module}
 use Rattle.tla_tree.specs.Words.{word_of, written}
-use Rattle.tla_parse.specs.Tokens.{seen}
+use Rattle.tla_parse.specs.Tokens.{seen, KindAt}
 use Rattle.tla_parse.specs.Kinds.{kind_at}
 use Rattle.tla_parse.specs.ReadingLists.{name_at}
 use Rattle.tla_parse.proofs.Inversion.{name_is, has_kind, seen_is}

@@ -1,18 +1,18 @@
 use Rattle.std.proofs.Common.{◌≡◌, ◌+◌, ◌≤◌, Some, true, false, arith, refl, length}
 use Rattle.std.proofs.lemmas.Option.{slice_get_within}
 use Rattle.tla_lex.specs.declared.token.Kind.TheVariants as k
-use Rattle.tla_parse.specs.LeftOut.{KindAt}
-use Rattle.tla_parse.specs.Tokens.{seen}
+use Rattle.tla_parse.specs.Tokens.{seen, KindAt}
 use Rattle.tla_parse.specs.Kinds.{kind_at}
-use Rattle.tla_parse.proofs.Inversion.{seen_is, kind_stands, commas_more}
-use Rattle.tla_parse.proofs.tokens.is_unbounded.Goals as goal
+use Rattle.tla_parse.proofs.Inversion.{kind_stands, commas_more}
+use Rattle.tla_parse.proofs.binders.is_tuple_of_names.Goals as goal
 
 pub returns-then-is_kind : goal.returns-then-is_kind
-returns-then-is_kind c _ =
+returns-then-is_kind c h =
+    let a : kind_at k.LeftTuple (seen c.args.tokens.now c.args.column c.args.from) ≡ true = cc in
     let p : kind_at k.Name (seen c.args.tokens.now c.args.column c.loop-turn.at) ≡ true = cc in
-    let q : kind_at k.Colon (seen c.args.tokens.now c.args.column (c.loop-turn.at + 1)) ≡ true = cc in
-    let e : seen c.args.tokens.now c.args.column c.args.from ≡ Some c.in-Some.t = cc in
-    (c.loop-turn._turn, c.loop-turn.at, c.in-Some.t, seen_is c.args.tokens.now c.args.column c.args.from c.in-Some.t e, cc, c.loop-turn.invariant.listed, kind_stands c.args.tokens.now c.args.column c.loop-turn.at k.Name p, kind_stands c.args.tokens.now c.args.column (c.loop-turn.at + 1) k.Colon q)
+    let q : kind_at k.RightTuple (seen c.args.tokens.now c.args.column (c.loop-turn.at + 1)) ≡ true = cc in
+    let r : kind_at k.Member (seen c.args.tokens.now c.args.column (c.loop-turn.at + 2)) ≡ true = cc in
+    (c.loop-turn._turn, c.loop-turn.at, kind_stands c.args.tokens.now c.args.column c.args.from k.LeftTuple a, c.loop-turn.invariant.listed, kind_stands c.args.tokens.now c.args.column c.loop-turn.at k.Name p, kind_stands c.args.tokens.now c.args.column (c.loop-turn.at + 1) k.RightTuple q, kind_stands c.args.tokens.now c.args.column (c.loop-turn.at + 2) k.Member r)
 
 pub loop-turn-preserved : goal.loop-turn-preserved
 loop-turn-preserved c =

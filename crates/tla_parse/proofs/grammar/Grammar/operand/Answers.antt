@@ -1,0 +1,9 @@
+use Rattle.std.proofs.Common.{◌≡◌}
+use Rattle.tla_parse.proofs.Entries.{chosen_here}
+use Rattle.tla_parse.proofs.grammar.Grammar.operand.Goals as goal
+
+pub brace-requires-clause-brace : goal.brace-requires-clause-brace
+brace-requires-clause-brace g c = (c.in-Some.t, cc, cc)
+
+pub chosen-requires-clause-binder : goal.chosen-requires-clause-binder
+chosen-requires-clause-binder g c = chosen_here c.args.tokens.now c.args.scope.column c.args.from c.in-Some.t cc cc
