@@ -1,5 +1,5 @@
 -- Where the entries of binders begin, by what was read before them.
-use Rattle.std.proofs.Common.{◌≡◌, ℕ, ◌+◌, Bool, true, false, not, ◌&&◌, ◌||◌, ◌⊎◌, inl, inr, IsTrue, if◌then◌else◌, drop, List, Some, None, Ok, refl, ap, sym, subst}
+use Rattle.std.proofs.Common.{◌≡◌, ℕ, ◌+◌, Bool, true, false, ◌&&◌, ◌||◌, ◌⊎◌, inl, inr, IsTrue, if◌then◌else◌, drop, List, Some, Ok, refl}
 use Rattle.tla_lex.specs.declared.token.Token.{Token}
 use Rattle.tla_lex.specs.declared.token.Kind.{Kind}
 use Rattle.tla_lex.specs.declared.token.Kind.TheVariants as k
@@ -17,7 +17,7 @@ use Rattle.tla_parse.specs.Ahead.{ending}
 use Rattle.tla_parse.specs.ReadingLists.{following, group}
 use Rattle.tla_parse.specs.ReadingBrackets.{opened_by}
 use Rattle.tla_parse.specs.Reading.{expr}
-use Rattle.tla_parse.proofs.Inversion.{choice_ok, and_true, has_kind, seen_is}
+use Rattle.tla_parse.proofs.Inversion.{has_kind, seen_is}
 use Rattle.tla_parse.proofs.Lists.{GroupAt, comma_is}
 use Rattle.tla_parse.proofs.SoundParts.{group_sound}
 use Rattle.tla_parse.proofs.Sound.{expr_sound}

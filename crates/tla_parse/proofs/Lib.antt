@@ -21,6 +21,7 @@ pub mod ListsRecords
 pub mod NameLists
 pub mod PartEnds
 pub mod Passes
+pub mod Patterns
 pub mod Roles
 pub mod Sequence
 pub mod Shapes

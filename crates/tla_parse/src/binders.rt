@@ -1,6 +1,6 @@
 //! Refusals of binders, and of the forms among them that are left out: quantifiers and CHOOSE without a set, and tuples of names.
 
-ghost use Rattle.std.specs.Prelude.{◌≡◌, ◌+◌, ◌<◌, length, slice_get, IsTrue};
+ghost use Rattle.std.specs.Prelude.{◌≡◌, ◌+◌, ◌<◌, length, IsTrue};
 ghost use Rattle.std.specs.Option.{ForSome};
 ghost use Rattle.tla_parse.specs.LeftOut as left_out;
 ghost use Rattle.tla_parse.specs.Patterns as patterns;
