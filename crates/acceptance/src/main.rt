@@ -1,4 +1,6 @@
-//! Runs each active case of the data folder, and names those whose report or status isn't the one that is wanted.
+//! Runs each active case of the data folder, and names those whose report or status isn't the one that is wanted. Each text
+//! is checked with the options of its case, and again by 1, 2, 7 and 64 workers in pieces of 1, 3 and 65,536 states; all
+//! thirteen reports have to be the same bytes.
 //!
 //! The file `active` has a line for each case, `waiting` for those that the language doesn't reach yet: the name of the
 //! case's folder, the status that is wanted, and words of the command line. The folder has `module.tla`, `model.cfg` and
@@ -37,6 +39,7 @@ fn passes(rt: &HostRuntime, case: &Case<'_>) -> io::Result<bool> {
         Wanted::Status(status) => {
             let files = files_of(rt, case.name)?;
             is_as_wanted(
+                rt,
                 rt.alloc(),
                 &files.module,
                 &files.config,
@@ -45,16 +48,16 @@ fn passes(rt: &HostRuntime, case: &Case<'_>) -> io::Result<bool> {
                 &files.report,
             )
         }
-        Wanted::Prefixes => prefixes_are_as_wanted(rt.alloc(), &files_of(rt, case.name)?),
+        Wanted::Prefixes => prefixes_are_as_wanted(rt, rt.alloc(), &files_of(rt, case.name)?),
         Wanted::Lines => {
             let files = files_of(rt, case.name)?;
             let lines = bytes_of(rt, case.name, "lines")?;
-            lines_are_as_wanted(rt.alloc(), &files, lines.as_slice())
+            lines_are_as_wanted(rt, rt.alloc(), &files, lines.as_slice())
         }
         Wanted::Texts => {
             let texts = bytes_of(rt, case.name, "texts")?;
             let report = bytes_of(rt, case.name, "report")?;
-            texts_are_as_wanted(rt.alloc(), texts.as_slice(), report.as_slice())
+            texts_are_as_wanted(rt, rt.alloc(), texts.as_slice(), report.as_slice())
         }
     }
 }

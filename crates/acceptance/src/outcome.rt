@@ -2,7 +2,9 @@
 
 use std::alloc::Global;
 use std::io;
-use tla_check::{NoGate, check, read_line, write_report};
+use std::sync::Wait;
+use std::thread::Threads;
+use tla_check::{NoGate, Options, check, read_line, write_report};
 
 /// The files of a case.
 #[derive(Drop)]
@@ -18,9 +20,60 @@ const REFUSED_LINE: u8 = 21;
 /// The status of a text that is refused.
 const REFUSED_TEXT: u8 = 20;
 
-/// The status of a check of these texts and what it reports, or none where the report isn't written. `options` are words
-/// of the command line.
-fn reported(
+/// The numbers of workers and of states in a piece by which each text is checked again: each of the one with each of the
+/// other.
+const WORKERS: [u64; 4] = [1, 2, 7, 64];
+
+const CUTS: [u64; 3] = [1, 3, 65_536];
+
+/// What a check ends with.
+#[derive(Drop)]
+struct Ending {
+    status: u8,
+    report: Vec<u8>,
+}
+
+/// What a check of these texts ends with, or none where the report isn't written.
+fn ending<R: Threads + Wait + Sync>(
+    rt: &R,
+    alloc: Global,
+    module: &[u8],
+    config: &[u8],
+    options: &Options,
+) -> Option<Ending> {
+    let mut report = Vec::new(alloc);
+    let checked = check(rt, alloc, module, config, options, &NoGate);
+    match write_report(&checked, &mut report) {
+        Ok(()) => Some(Ending {
+            status: checked.status(),
+            report,
+        }),
+        Err(_) => None,
+    }
+}
+
+/// Whether the check of these texts ends alike by each number of workers and each cut.
+fn ends_alike<R: Threads + Wait + Sync>(
+    rt: &R,
+    alloc: Global,
+    module: &[u8],
+    config: &[u8],
+    limit: u64,
+    wanted: &Ending,
+) -> bool {
+    WORKERS.iter().all(|&workers| {
+        CUTS.iter().all(|&cut| {
+            Options::new(workers, cut, limit)
+                .and_then(|options| ending(rt, alloc, module, config, &options))
+                .is_some_and(|it| it.status == wanted.status && it.report == wanted.report)
+        })
+    })
+}
+
+/// The status of a check of these texts and what it reports, or none where the report isn't written or isn't the same for
+/// each number of workers and each cut. `options` are words of the command line.
+fn reported<R: Threads + Wait + Sync>(
+    rt: &R,
     alloc: Global,
     module: &[u8],
     config: &[u8],
@@ -28,19 +81,22 @@ fn reported(
 ) -> io::Result<Option<(u8, Vec<u8>)>> {
     let mut words = vec![in alloc; "tlacheck", "MODULE", "CONFIG"]?;
     words.extend_from_slice(options)?;
-    let mut report = Vec::new(alloc);
     let Ok(line) = read_line(alloc, words.as_slice()) else {
-        return Ok(Some((REFUSED_LINE, report)));
+        return Ok(Some((REFUSED_LINE, Vec::new(alloc))));
     };
-    let checked = check(alloc, module, config, &line.options, &NoGate);
-    match write_report(&checked, &mut report) {
-        Ok(()) => Ok(Some((checked.status(), report))),
-        Err(_) => Ok(None),
+    let Some(first) = ending(rt, alloc, module, config, &line.options) else {
+        return Ok(None);
+    };
+    if ends_alike(rt, alloc, module, config, line.options.limit(), &first) {
+        Ok(Some((first.status, first.report)))
+    } else {
+        Ok(None)
     }
 }
 
 /// Whether the check of these texts writes this report and ends with this status.
-pub fn is_as_wanted(
+pub fn is_as_wanted<R: Threads + Wait + Sync>(
+    rt: &R,
     alloc: Global,
     module: &[u8],
     config: &[u8],
@@ -48,20 +104,24 @@ pub fn is_as_wanted(
     status: u8,
     report: &[u8],
 ) -> io::Result<bool> {
-    match reported(alloc, module, config, options)? {
+    match reported(rt, alloc, module, config, options)? {
         Some(answer) => Ok(answer.0 == status && answer.1.as_slice() == report),
         None => Ok(false),
     }
 }
 
 /// Whether each line of the report is that of the module cut short after as many bytes as lines stand before it.
-pub fn prefixes_are_as_wanted(alloc: Global, files: &Files) -> io::Result<bool> {
+pub fn prefixes_are_as_wanted<R: Threads + Wait + Sync>(
+    rt: &R,
+    alloc: Global,
+    files: &Files,
+) -> io::Result<bool> {
     let lines = files.report.split_inclusive(|b| *b == b'\n');
     for (len, report) in lines.enumerate() {
         let Some(module) = files.module.get(..len) else {
             return Ok(false);
         };
-        if !is_as_wanted(alloc, module, &files.config, &[], REFUSED_TEXT, report)? {
+        if !is_as_wanted(rt, alloc, module, &files.config, &[], REFUSED_TEXT, report)? {
             return Ok(false);
         }
     }
@@ -72,14 +132,19 @@ pub fn prefixes_are_as_wanted(alloc: Global, files: &Files) -> io::Result<bool> 
 const CLOSING: &[u8] = b"====\n";
 
 /// Whether the reports of the module with each of these lines as its last, one behind the other, are that of the case.
-pub fn lines_are_as_wanted(alloc: Global, files: &Files, lines: &[u8]) -> io::Result<bool> {
+pub fn lines_are_as_wanted<R: Threads + Wait + Sync>(
+    rt: &R,
+    alloc: Global,
+    files: &Files,
+    lines: &[u8],
+) -> io::Result<bool> {
     let mut wanted = files.report.as_slice();
     for line in lines.split_inclusive(|b| *b == b'\n') {
         let mut module = Vec::new(alloc);
         module.extend_from_slice(&files.module)?;
         module.extend_from_slice(line)?;
         module.extend_from_slice(CLOSING)?;
-        let Some(answer) = reported(alloc, &module, &files.config, &[])? else {
+        let Some(answer) = reported(rt, alloc, &module, &files.config, &[])? else {
             return Ok(false);
         };
         let Some(rest) = wanted.strip_prefix(answer.1.as_slice()) else {
@@ -95,7 +160,12 @@ const BETWEEN: u8 = b'\x0c';
 
 /// Whether the reports of each module of these texts with the configuration behind it, one behind the other, are this
 /// one.
-pub fn texts_are_as_wanted(alloc: Global, texts: &[u8], report: &[u8]) -> io::Result<bool> {
+pub fn texts_are_as_wanted<R: Threads + Wait + Sync>(
+    rt: &R,
+    alloc: Global,
+    texts: &[u8],
+    report: &[u8],
+) -> io::Result<bool> {
     let mut wanted = report;
     let mut module: Option<&[u8]> = None;
     for text in texts.split(|b| *b == BETWEEN) {
@@ -103,7 +173,7 @@ pub fn texts_are_as_wanted(alloc: Global, texts: &[u8], report: &[u8]) -> io::Re
             module = Some(text);
             continue;
         };
-        let Some(answer) = reported(alloc, first, text, &[])? else {
+        let Some(answer) = reported(rt, alloc, first, text, &[])? else {
             return Ok(false);
         };
         let Some(rest) = wanted.strip_prefix(answer.1.as_slice()) else {

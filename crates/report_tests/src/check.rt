@@ -1,6 +1,8 @@
 // Checks of small modules. The reports were worked out by hand.
 use std::alloc::Global;
 use std::process::Abort;
+use std::sync::Wait;
+use std::thread::Threads;
 use tla_check::{NoGate, Options, check_and_report};
 
 const COUNTER: &str = "---- MODULE M ----
@@ -34,8 +36,8 @@ NEXT Next
 CHECK_DEADLOCK FALSE
 ";
 
-fn assert_check(
-    rt: &impl Abort,
+fn assert_check<R: Abort + Threads + Wait + Sync>(
+    rt: &R,
     alloc: Global,
     texts: (&str, &str),
     limit: u64,
@@ -47,6 +49,7 @@ fn assert_check(
     assert!(rt; options.is_some());
     if let Some(options) = options {
         let answer = check_and_report(
+            rt,
             alloc,
             texts.0.as_bytes(),
             texts.1.as_bytes(),

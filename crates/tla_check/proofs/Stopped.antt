@@ -80,4 +80,4 @@ module _ (text config : List ℕ) where
   found-checked m limit (Answered a) named h = (m, named, h.0, h.1)
   found-checked m limit (Refused r) named h = absurd h
   found-checked m limit NoMemory named h = tt
-  found-checked m limit NoWorker named h = absurd h
+  found-checked m limit NoWorker named h = (m, named)

@@ -92,8 +92,9 @@ pub record IsExact (m : ModelTree) (most : ℕ) (a : AnsweredCheck) : Type 0 whe
 -- what is right of a model within a limit, where its search gives an answer
 abbrev pub IsFound : ModelTree → ℕ → Checked → Type 0
 IsFound m limit (Answered a) = IsAnswered m limit a × IsExact m limit a
+IsFound m limit (Refused r) = ⊥
 IsFound m limit NoMemory = ⊤
-IsFound m limit _ = ⊥
+IsFound m limit NoWorker = ⊤
 
 -- what ends a check before its search
 abbrev pub IsStopped : List ℕ → List ℕ → Checked → Type 0
@@ -102,9 +103,9 @@ IsStopped text config NoMemory = ⊤
 IsStopped text config _ = ⊥
 
 -- What is right of two texts within a limit: the answer to the search of the one model that they name, or why they name
--- none. Want of memory promises nothing; no worker is started.
+-- none. Want of memory promises nothing; where a worker could not be started, the texts name one model.
 abbrev pub IsChecked : List ℕ → List ℕ → ℕ → Checked → Type 0
 IsChecked text config limit (Answered a) = (m : ModelTree) × NameOnly text config m × IsAnswered m limit a × IsExact m limit a
 IsChecked text config limit (Refused r) = AreRefused text config r
 IsChecked text config limit NoMemory = ⊤
-IsChecked text config limit NoWorker = ⊥
+IsChecked text config limit NoWorker = (m : ModelTree) × NameOnly text config m

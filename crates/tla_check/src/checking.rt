@@ -17,6 +17,8 @@ use crate::checked::{Answered, Checked, Names, Refusal, RefusalCode, RefusalName
 use crate::report::{WriteFault, write_report};
 use std::alloc::Global;
 use std::io::Write;
+use std::sync::Wait;
+use std::thread::Threads;
 use tla_config::{DefsError, Source, parse_config};
 use tla_core::Place;
 use tla_defs::build;
@@ -28,8 +30,10 @@ use tla_tree::Word;
 use tla_value::{Text, ValueError};
 
 /// What a module and a configuration come to: the answer to the search of the model that they name, or the first refusal
-/// of tokens, module, configuration and model, in this order.
-pub fn check<G: Gate>(
+/// of tokens, module, configuration and model, in this order. It is the same for every number of workers, every cut, every
+/// gate and every order of the workers' steps.
+pub fn check<G: Gate, R: Threads + Wait + Sync>(
+    rt: &R,
     alloc: Global,
     module: &[u8],
     config: &[u8],
@@ -39,7 +43,7 @@ pub fn check<G: Gate>(
     ensures { IsChecked «module».now config.now options.now.limit result }
 {
     match read_model(alloc, module, config) {
-        Ok(model) => answered(alloc, &model, options, gate),
+        Ok(model) => answered(rt, alloc, &model, options, gate),
         Err(stopped) => stopped,
     }
 }
@@ -141,7 +145,13 @@ fn name_of_text(text: Option<Text>) -> Option<RefusalName>
 }
 
 /// The answer to the search of a model.
-fn answered<G: Gate>(alloc: Global, model: &Model, options: &Options, gate: &G) -> Checked
+fn answered<G: Gate, R: Threads + Wait + Sync>(
+    rt: &R,
+    alloc: Global,
+    model: &Model,
+    options: &Options,
+    gate: &G,
+) -> Checked
     ensures { IsFound (model_of model.now) options.now.limit result }
 {
     let Ok(variables) = variable_names(alloc, model.variables()) else {
@@ -150,7 +160,7 @@ fn answered<G: Gate>(alloc: Global, model: &Model, options: &Options, gate: &G) 
     let Ok(invariants) = invariant_names(alloc, model.invariants()) else {
         return Checked::NoMemory;
     };
-    match search(alloc, model, options, gate) {
+    match search(rt, alloc, model, options, gate) {
         Ok(answer) => Checked::Answered(Answered {
             answer,
             variables,
@@ -185,7 +195,8 @@ fn invariant_names(alloc: Global, invariants: &[Invariant]) -> Result<Names, Val
 /// Checks two texts, writes the report and answers the status with which the program ends.
 ///
 /// The first write that fails or takes no byte ends the report.
-pub fn check_and_report<W: Write, G: Gate>(
+pub fn check_and_report<W: Write, G: Gate, R: Threads + Wait + Sync>(
+    rt: &R,
     alloc: Global,
     module: &[u8],
     config: &[u8],
@@ -202,7 +213,7 @@ pub fn check_and_report<W: Write, G: Gate>(
         × IsChecked «module».now config.now options.now.limit checked
         × AddsFirst (W.contents out.old) (W.contents out.new) (report checked) e.written) }
 {
-    let checked = check(alloc, module, config, options, gate);
+    let checked = check(rt, alloc, module, config, options, gate);
     write_report(&checked, out)?;
     Ok(checked.status())
 }

@@ -5,6 +5,8 @@ use std::alloc::{AllocError, Global};
 use std::io::ErrorKind;
 use std::process::ExitCode;
 use std::rt::{Env, Files};
+use std::sync::Wait;
+use std::thread::Threads;
 use std::{env, fs, io};
 use tla_check::{Line, LineFault, NoGate, check_and_report, read_line, read_whole};
 
@@ -16,7 +18,7 @@ fn main(rt: HostRuntime) -> ExitCode {
 }
 
 /// The status of a run on the words of the command line.
-fn status<R: AllocGlobal + Env + Eprint + Files + Print>(rt: &R) -> u8 {
+fn status<R: AllocGlobal + Env + Eprint + Files + Print + Threads + Wait + Sync>(rt: &R) -> u8 {
     let words = match words(rt) {
         Ok(words) => words,
         Err(error) if error.kind() == ErrorKind::OutOfMemory => {
@@ -67,7 +69,10 @@ fn refused<R: Eprint + Print>(rt: &R, fault: &LineFault) -> u8 {
 }
 
 /// Checks the files of a line and prints the report.
-fn checked<R: AllocGlobal + Eprint + Files + Print>(rt: &R, line: &Line<'_>) -> u8 {
+fn checked<R: AllocGlobal + Eprint + Files + Print + Threads + Wait + Sync>(
+    rt: &R,
+    line: &Line<'_>,
+) -> u8 {
     let Some(module) = file(rt, line.module) else {
         return NO_REPORT;
     };
@@ -76,6 +81,7 @@ fn checked<R: AllocGlobal + Eprint + Files + Print>(rt: &R, line: &Line<'_>) -> 
     };
     let mut out = io::writer(rt);
     match check_and_report(
+        rt,
         rt.alloc(),
         &module,
         &config,

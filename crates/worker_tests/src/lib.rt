@@ -1,0 +1,12 @@
+//! Tests of checks by several workers, whose gates hold them at chosen pieces.
+//!
+//! No clause says that workers run at the same time, that they claim pieces, or that a piece is dropped: these tests do.
+//! They stand in a crate of their own, since a crate with tests is proved a second time.
+#![tactic(auto)]
+
+#[cfg(test)]
+mod gates;
+#[cfg(test)]
+mod texts;
+#[cfg(test)]
+mod workers;
