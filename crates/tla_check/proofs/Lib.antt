@@ -8,4 +8,5 @@ pub mod Told
 pub mod Named
 pub mod Stopped
 pub mod NamesIn
+pub mod ReportTells
 mod Examples
