@@ -9,4 +9,5 @@ pub mod Named
 pub mod Stopped
 pub mod NamesIn
 pub mod ReportTells
+pub mod ReportsKept
 mod Examples

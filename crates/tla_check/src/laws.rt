@@ -1,8 +1,16 @@
 //! Laws of what is right of two texts, and of its report, over the definitions alone.
-ghost use Rattle.std.specs.Prelude.{◌≡◌, ◌↔◌};
+ghost use Rattle.std.specs.Prelude.{◌≡◌, ◌↔◌, List, ℕ};
 ghost use Rattle.tla_check.specs.declared.checked.Checked.{Checked};
-ghost use Rattle.tla_check.specs.Laws.{SaysNoError, TellsStatus};
+ghost use Rattle.tla_check.specs.Laws.{ReportsKept, SaysNoError, SaysTruly, TellsStatus};
 ghost use Rattle.tla_check.specs.Status.{status_of};
+
+/// Where the report of two texts says `No error.`, they name one model, and it is kept: every assumption is TRUE and, at
+/// every state that is reached, every invariant is TRUE and, where deadlock is checked, a step leads on. Within the limit,
+/// and where reading Init and Next met no fault, the report of a model that is kept says so.
+pub fn no_error_means_kept()
+    ensures truly { (text config : List ℕ) → SaysTruly text config }
+    ensures exactly { (text config : List ℕ) → ReportsKept text config }
+{}
 
 /// Reports of the same bytes have one status, and a report says `No error.` exactly where the status is 0.
 pub fn reports_tell()
