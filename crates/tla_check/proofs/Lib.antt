@@ -10,4 +10,5 @@ pub mod Stopped
 pub mod NamesIn
 pub mod ReportTells
 pub mod ReportsKept
+pub mod Alike
 mod Examples
