@@ -8,4 +8,7 @@ pub mod Told
 pub mod Named
 pub mod Stopped
 pub mod NamesIn
+pub mod ReportTells
+pub mod ReportsKept
+pub mod Alike
 mod Examples

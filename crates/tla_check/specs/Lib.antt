@@ -8,3 +8,4 @@ pub mod Report
 pub mod Pieces
 pub mod CarriesOver
 pub mod Checks
+pub mod Laws

@@ -5,6 +5,7 @@ mod carried;
 mod checked;
 mod checking;
 mod input;
+pub mod laws;
 mod line;
 mod report;
 mod status;

@@ -1,0 +1,51 @@
+-- Laws of what is right of two texts, and of its report. (This project's own choice.)
+use Rattle.std.specs.Prelude.{◌≡◌, ◌↔◌, ℕ, List, ◌++◌, codes, ⊤}
+use Rattle.tla_lex.specs.Tokens.{NoTokens}
+use Rattle.tla_model.specs.ModelTree.{ModelTree}
+use Rattle.tla_search.specs.Kept.{IsKept, FaultsInReading, PassesLimit}
+use Rattle.tla_check.specs.declared.checked.Answered.{Answered as AnsweredCheck}
+use Rattle.tla_check.specs.declared.checked.Checked.{Checked}
+use Rattle.tla_check.specs.declared.checked.Checked.TheVariants.{Answered, Refused, NoMemory, NoWorker}
+use Rattle.tla_check.specs.Checks.{IsChecked, NameModel, NameOnly}
+use Rattle.tla_check.specs.Report.{report}
+use Rattle.tla_check.specs.Status.{status_of}
+
+-- the first line of the report is `No error.`
+abbrev pub SaysNoError : Checked → Type 0
+SaysNoError checked = (rest : List ℕ) × (report checked ≡ codes "No error.\n" ++ rest)
+
+-- where the report of two texts says `No error.`, they name one model, and it is kept
+abbrev pub SaysTruly : List ℕ → List ℕ → Type 0
+SaysTruly text config = (limit : ℕ) (checked : Checked) → IsChecked text config limit checked → SaysNoError checked
+    → (m : ModelTree) × NameOnly text config m × IsKept m
+
+-- Of two texts that name a model, within the limit and where reading Init and Next met no fault, the report says
+-- `No error.` exactly where the model is kept.
+abbrev pub ReportsKept : List ℕ → List ℕ → Type 0
+ReportsKept text config = (limit : ℕ) (a : AnsweredCheck) (m : ModelTree) → IsChecked text config limit (Answered a) → NameModel text config m
+    → (FaultsInReading a.answer → ⊥) → (PassesLimit a.answer → ⊥) → SaysNoError (Answered a) ↔ IsKept m
+
+-- an answer or a refusal: memory sufficed, and each worker was started
+abbrev pub IsSettled : Checked → Type 0
+IsSettled (Answered a) = ⊤
+IsSettled (Refused r) = ⊤
+IsSettled NoMemory = ⊥
+IsSettled NoWorker = ⊥
+
+-- Two outcomes of one module and one configuration end with one status. Their reports are the same bytes where the texts
+-- name a model, and where the module has no tokens. (Of other refusals the definitions leave free which of several
+-- reasons is told.)
+pub record AreAlike (text config : List ℕ) (a b : Checked) : Type 0 where
+  pub status : status_of a ≡ status_of b
+  pub named : (m : ModelTree) → NameModel text config m → report a ≡ report b
+  pub no_tokens : NoTokens text → report a ≡ report b
+
+-- What is right of two texts within a limit is right of them whatever the number of workers, the cut and the schedule: of
+-- these it says nothing. So two calls that differ in them alone come out alike.
+abbrev pub ComeOutAlike : List ℕ → List ℕ → Type 0
+ComeOutAlike text config = (limit : ℕ) (a b : Checked) → IsChecked text config limit a → IsChecked text config limit b
+    → IsSettled a → IsSettled b → AreAlike text config a b
+
+-- the bytes of a report tell the status
+abbrev pub TellsStatus : Checked → Checked → Type 0
+TellsStatus a b = report a ≡ report b → status_of a ≡ status_of b

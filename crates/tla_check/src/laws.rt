@@ -1,0 +1,25 @@
+//! Laws of what is right of two texts, and of its report, over the definitions alone.
+ghost use Rattle.std.specs.Prelude.{◌≡◌, ◌↔◌, List, ℕ};
+ghost use Rattle.tla_check.specs.declared.checked.Checked.{Checked};
+ghost use Rattle.tla_check.specs.Laws.{ComeOutAlike, ReportsKept, SaysNoError, SaysTruly, TellsStatus};
+ghost use Rattle.tla_check.specs.Status.{status_of};
+
+/// Where the report of two texts says `No error.`, they name one model, and it is kept: every assumption is TRUE and, at
+/// every state that is reached, every invariant is TRUE and, where deadlock is checked, a step leads on. Within the limit,
+/// and where reading Init and Next met no fault, the report of a model that is kept says so.
+pub fn no_error_means_kept()
+    ensures truly { (text config : List ℕ) → SaysTruly text config }
+    ensures exactly { (text config : List ℕ) → ReportsKept text config }
+{}
+
+/// Two calls for the same texts and limit, neither of which wanted for memory or a worker, end with one status, whatever
+/// their workers, cuts and schedules; and with one report, where the texts name a model or the module has no tokens.
+pub fn two_calls_alike()
+    ensures { (text config : List ℕ) → ComeOutAlike text config }
+{}
+
+/// Reports of the same bytes have one status, and a report says `No error.` exactly where the status is 0.
+pub fn reports_tell()
+    ensures status { (a b : Checked) → TellsStatus a b }
+    ensures no_error { (checked : Checked) → SaysNoError checked ↔ (status_of checked ≡ 0) }
+{}
