@@ -1,6 +1,7 @@
-//! Runs each active case of the data folder, and names those whose report or status isn't the one that is wanted. Each text
-//! is checked with the options of its case, and again by 1, 2, 7 and 64 workers in pieces of 1, 3 and 65,536 states; all
-//! thirteen reports have to be the same bytes.
+//! Runs each active case of the data folder, and names those whose report or status isn't the one that is wanted. Each case
+//! is checked with its own options, and again by 1, 2, 7 and 64 workers in pieces of 1, 3 and 65,536 states: each of the one
+//! with each of the other. Where a case has many texts, each text is checked again by one of these twelve pairs, in turn. All
+//! reports of a text have to be the same bytes.
 //!
 //! The file `active` has a line for each case, `waiting` for those that the language doesn't reach yet: the name of the
 //! case's folder, the status that is wanted, and words of the command line. The folder has `module.tla`, `model.cfg` and

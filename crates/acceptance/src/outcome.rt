@@ -20,11 +20,19 @@ const REFUSED_LINE: u8 = 21;
 /// The status of a text that is refused.
 const REFUSED_TEXT: u8 = 20;
 
-/// The numbers of workers and of states in a piece by which each text is checked again: each of the one with each of the
-/// other.
+/// The numbers of workers and of states in a piece by which texts are checked again.
 const WORKERS: [u64; 4] = [1, 2, 7, 64];
 
 const CUTS: [u64; 3] = [1, 3, 65_536];
+
+/// By which workers and pieces a text is checked again.
+#[derive(Clone, Copy)]
+enum Again {
+    /// Each number of workers with each number of states.
+    ByEach,
+    /// The next in turn of each, where this is the number of the text among many. After twelve texts each pair had its turn.
+    InTurn(usize),
+}
 
 /// What a check ends with.
 #[derive(Drop)]
@@ -52,32 +60,52 @@ fn ending<R: Threads + Wait + Sync>(
     }
 }
 
-/// Whether the check of these texts ends alike by each number of workers and each cut.
+/// Whether the check of these texts by these workers ends like this.
 fn ends_alike<R: Threads + Wait + Sync>(
     rt: &R,
     alloc: Global,
-    module: &[u8],
-    config: &[u8],
+    texts: (&[u8], &[u8]),
+    options: Option<Options>,
+    wanted: &Ending,
+) -> bool {
+    options
+        .and_then(|options| ending(rt, alloc, texts.0, texts.1, &options))
+        .is_some_and(|it| it.status == wanted.status && it.report == wanted.report)
+}
+
+/// Whether the check of these texts, again, ends like this.
+fn ends_alike_again<R: Threads + Wait + Sync>(
+    rt: &R,
+    alloc: Global,
+    texts: (&[u8], &[u8]),
+    again: Again,
     limit: u64,
     wanted: &Ending,
 ) -> bool {
-    WORKERS.iter().all(|&workers| {
-        CUTS.iter().all(|&cut| {
-            Options::new(workers, cut, limit)
-                .and_then(|options| ending(rt, alloc, module, config, &options))
-                .is_some_and(|it| it.status == wanted.status && it.report == wanted.report)
-        })
-    })
+    match again {
+        Again::ByEach => WORKERS.iter().all(|&workers| {
+            CUTS.iter().all(|&cut| {
+                let options = Options::new(workers, cut, limit);
+                ends_alike(rt, alloc, texts, options, wanted)
+            })
+        }),
+        Again::InTurn(text) => {
+            let workers = WORKERS[text % WORKERS.len()];
+            let options = Options::new(workers, CUTS[text % CUTS.len()], limit);
+            ends_alike(rt, alloc, texts, options, wanted)
+        }
+    }
 }
 
-/// The status of a check of these texts and what it reports, or none where the report isn't written or isn't the same for
-/// each number of workers and each cut. `options` are words of the command line.
+/// The status of a check of these texts and what it reports, or none where the report isn't written, or where a check again
+/// ends otherwise. `options` are words of the command line.
 fn reported<R: Threads + Wait + Sync>(
     rt: &R,
     alloc: Global,
     module: &[u8],
     config: &[u8],
     options: &[&str],
+    again: Again,
 ) -> io::Result<Option<(u8, Vec<u8>)>> {
     let mut words = vec![in alloc; "tlacheck", "MODULE", "CONFIG"]?;
     words.extend_from_slice(options)?;
@@ -87,7 +115,8 @@ fn reported<R: Threads + Wait + Sync>(
     let Some(first) = ending(rt, alloc, module, config, &line.options) else {
         return Ok(None);
     };
-    if ends_alike(rt, alloc, module, config, line.options.limit(), &first) {
+    let limit = line.options.limit();
+    if ends_alike_again(rt, alloc, (module, config), again, limit, &first) {
         Ok(Some((first.status, first.report)))
     } else {
         Ok(None)
@@ -104,7 +133,7 @@ pub fn is_as_wanted<R: Threads + Wait + Sync>(
     status: u8,
     report: &[u8],
 ) -> io::Result<bool> {
-    match reported(rt, alloc, module, config, options)? {
+    match reported(rt, alloc, module, config, options, Again::ByEach)? {
         Some(answer) => Ok(answer.0 == status && answer.1.as_slice() == report),
         None => Ok(false),
     }
@@ -121,8 +150,10 @@ pub fn prefixes_are_as_wanted<R: Threads + Wait + Sync>(
         let Some(module) = files.module.get(..len) else {
             return Ok(false);
         };
-        if !is_as_wanted(rt, alloc, module, &files.config, &[], REFUSED_TEXT, report)? {
-            return Ok(false);
+        let again = Again::InTurn(len);
+        match reported(rt, alloc, module, &files.config, &[], again)? {
+            Some(answer) if answer.0 == REFUSED_TEXT && answer.1.as_slice() == report => {}
+            _ => return Ok(false),
         }
     }
     Ok(true)
@@ -139,12 +170,13 @@ pub fn lines_are_as_wanted<R: Threads + Wait + Sync>(
     lines: &[u8],
 ) -> io::Result<bool> {
     let mut wanted = files.report.as_slice();
-    for line in lines.split_inclusive(|b| *b == b'\n') {
+    for (number, line) in lines.split_inclusive(|b| *b == b'\n').enumerate() {
         let mut module = Vec::new(alloc);
         module.extend_from_slice(&files.module)?;
         module.extend_from_slice(line)?;
         module.extend_from_slice(CLOSING)?;
-        let Some(answer) = reported(rt, alloc, &module, &files.config, &[])? else {
+        let again = Again::InTurn(number);
+        let Some(answer) = reported(rt, alloc, &module, &files.config, &[], again)? else {
             return Ok(false);
         };
         let Some(rest) = wanted.strip_prefix(answer.1.as_slice()) else {
@@ -168,12 +200,13 @@ pub fn texts_are_as_wanted<R: Threads + Wait + Sync>(
 ) -> io::Result<bool> {
     let mut wanted = report;
     let mut module: Option<&[u8]> = None;
-    for text in texts.split(|b| *b == BETWEEN) {
+    for (number, text) in texts.split(|b| *b == BETWEEN).enumerate() {
         let Some(first) = module else {
             module = Some(text);
             continue;
         };
-        let Some(answer) = reported(rt, alloc, first, text, &[])? else {
+        let again = Again::InTurn(number / 2);
+        let Some(answer) = reported(rt, alloc, first, text, &[], again)? else {
             return Ok(false);
         };
         let Some(rest) = wanted.strip_prefix(answer.1.as_slice()) else {

@@ -18,7 +18,7 @@ pub enum Held {
 /// What lets the held pieces go.
 #[derive(Clone, Copy, Debug, PartialEq, Eq)]
 pub enum Until {
-    /// So many pieces were entered.
+    /// So many of them were entered.
     Entered(u64),
     /// So many pieces were left.
     Left(u64),
@@ -32,7 +32,9 @@ pub struct Holds {
     pass: Pass,
     held: Held,
     until: Until,
+    /// How many pieces were entered, and how many held ones.
     entered: AtomicU64,
+    held_entered: AtomicU64,
     left: AtomicU64,
     left_piece: AtomicU64,
     /// How many held pieces were dropped, and how many others.
@@ -49,6 +51,7 @@ impl Holds {
             held,
             until,
             entered: AtomicU64::new(0),
+            held_entered: AtomicU64::new(0),
             left: AtomicU64::new(0),
             left_piece: AtomicU64::new(0),
             held_dropped: AtomicU64::new(0),
@@ -82,7 +85,7 @@ impl Holds {
 
     fn is_open(&self) -> bool {
         match self.until {
-            Until::Entered(pieces) => self.entered.load(Ordering::SeqCst) >= pieces,
+            Until::Entered(pieces) => self.held_entered.load(Ordering::SeqCst) >= pieces,
             Until::Left(pieces) => self.left.load(Ordering::SeqCst) >= pieces,
             Until::LeftPiece(_) => self.left_piece.load(Ordering::SeqCst) > 0,
         }
@@ -104,6 +107,7 @@ impl Gate for Holds {
         if self.is_here(place) {
             let before = self.entered.fetch_add(1, Ordering::SeqCst);
             if self.is_held(place, before) {
+                self.held_entered.fetch_add(1, Ordering::SeqCst);
                 self.wait();
             }
         }

@@ -35,7 +35,12 @@ pub const NO_ERROR: &str = "No error.
 Levels 1, states 10.
 ";
 
-/// Jugs of five and of three gallons, one of which is to hold four.
+pub const JUGS_CONFIG: &str = "INIT Init
+NEXT Next
+INVARIANT NotFour
+";
+
+/// Jugs of five and of three gallons, the larger of which is to hold four.
 pub const JUGS: &str = "---- MODULE Jugs ----
 EXTENDS Integers
 VARIABLES big, small
@@ -51,11 +56,11 @@ BigToSmall == /\\ small' = Min(big + small, 3)
               /\\ big' = big - (small' - small)
 Next == FillBig \\/ FillSmall \\/ EmptyBig \\/ EmptySmall
           \\/ SmallToBig \\/ BigToSmall
-Inv == big # 4
+NotFour == big # 4
 ====
 ";
 
-pub const FOUR_GALLONS: &str = "Invariant Inv is false.
+pub const FOUR_GALLONS: &str = "Invariant NotFour is false.
 State 1:
 /\\ big = 0
 /\\ small = 0

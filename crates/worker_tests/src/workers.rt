@@ -1,34 +1,48 @@
 // Checks by several workers.
+use crate::checks::{Crew, report_of};
 use crate::gates::{Held, Holds, Until};
-use crate::texts::{CONFIG, FOUR_GALLONS, JUGS, LEAST_BAD, NO_ERROR, NONE_BAD, TWO_BAD};
+use crate::texts::{
+    CONFIG, FOUR_GALLONS, JUGS, JUGS_CONFIG, LEAST_BAD, NO_ERROR, NONE_BAD, TWO_BAD,
+};
 use std::process::Abort;
 use std::sync::Wait;
 use std::thread::Threads;
-use tla_check::{Gate, NoGate, Options, Pass, check_and_report};
+use tla_check::{NoGate, Pass};
 
-/// Asserts that this is the report of a module, by so many workers, each state a piece.
-fn assert_report<G: Gate, R: AllocGlobal + Abort + Threads + Wait + Sync>(
+/// Asserts that this is the report of a module of one level by so many workers, each state a piece, and that the gate let
+/// each held piece go in time.
+fn assert_report<R: AllocGlobal + Abort + Threads + Wait + Sync>(
     rt: &R,
-    text: &str,
+    module: &str,
     workers: u64,
-    gate: &G,
+    gate: &Holds,
     report: &str,
 ) {
-    let mut out = Vec::new(rt.alloc());
-    let options = Options::new(workers, 1, 1000);
-    assert!(rt; options.is_some());
-    if let Some(options) = options {
-        let answer = check_and_report(
-            rt,
-            rt.alloc(),
-            text.as_bytes(),
-            CONFIG.as_bytes(),
-            &options,
-            gate,
-            &mut out,
-        );
-        assert!(rt; answer.is_ok());
-        assert_eq!(rt; out.as_slice(), report.as_bytes());
+    let crew = Crew { workers, cut: 1 };
+    let told = report_of(rt, module, CONFIG, crew, gate);
+    assert_eq!(rt; gate.late(), 0);
+    assert_eq!(rt; told.as_slice(), report.as_bytes());
+}
+
+/// Asserts that these workers find how four gallons are measured.
+fn assert_four_gallons<R: AllocGlobal + Abort + Threads + Wait + Sync>(rt: &R, crew: Crew) {
+    let told = report_of(rt, JUGS, JUGS_CONFIG, crew, &NoGate);
+    assert_eq!(rt; told.as_slice(), FOUR_GALLONS.as_bytes(), "{crew:?}");
+}
+
+#[test]
+fn workers_and_cuts_give_the_same_bytes(rt: HostRuntime) {
+    for workers in [1, 2, 7] {
+        for cut in [1, 3, 64] {
+            assert_four_gallons(&rt, Crew { workers, cut });
+        }
+    }
+}
+
+#[test]
+fn a_thousand_runs_give_the_same_bytes(rt: HostRuntime) {
+    for _ in 0..1000 {
+        assert_four_gallons(&rt, Crew { workers: 8, cut: 1 });
     }
 }
 
@@ -37,34 +51,33 @@ fn the_least_of_two_bad_states_is_told(rt: HostRuntime) {
     let held = Held::Pieces { from: 2, to: 2 };
     let gate = Holds::new(Pass::Invariants, held, Until::LeftPiece(9));
     assert_report(&rt, TWO_BAD, 2, &gate, LEAST_BAD);
-    assert_eq!(rt; gate.late(), 0);
 }
+
+/// The passes that gates hold, each with the module that is checked then and its report.
+const PASSES: [(Pass, &str, &str); 2] = [
+    (Pass::Invariants, TWO_BAD, LEAST_BAD),
+    (Pass::Steps, NONE_BAD, NO_ERROR),
+];
 
 #[test]
 fn all_workers_are_at_work_at_once(rt: HostRuntime) {
     for workers in [2, 7] {
-        for (pass, text, report) in [
-            (Pass::Invariants, TWO_BAD, LEAST_BAD),
-            (Pass::Steps, NONE_BAD, NO_ERROR),
-        ] {
+        for (pass, module, report) in PASSES {
             let held = Held::Pieces {
                 from: 0,
                 to: workers - 1,
             };
             let gate = Holds::new(pass, held, Until::Entered(workers));
-            assert_report(&rt, text, workers, &gate, report);
-            assert_eq!(rt; gate.late(), 0, "{workers} workers");
+            assert_report(&rt, module, workers, &gate, report);
         }
     }
 }
 
 #[test]
 fn one_worker_does_the_rest_while_the_other_is_held(rt: HostRuntime) {
-    for pass in [Pass::Invariants, Pass::Steps] {
+    for (pass, module, report) in PASSES {
         let gate = Holds::new(pass, Held::First, Until::Left(9));
-        assert_report(&rt, NONE_BAD, 2, &gate, NO_ERROR);
-        assert_eq!(rt; gate.late(), 0);
-        assert_eq!(rt; gate.others_dropped(), 0);
+        assert_report(&rt, module, 2, &gate, report);
     }
 }
 
@@ -73,14 +86,6 @@ fn pieces_above_a_bad_state_are_dropped(rt: HostRuntime) {
     let held = Held::Pieces { from: 3, to: 9 };
     let gate = Holds::new(Pass::Invariants, held, Until::LeftPiece(2));
     assert_report(&rt, TWO_BAD, 2, &gate, LEAST_BAD);
-    assert_eq!(rt; gate.late(), 0);
     assert_eq!(rt; gate.held_dropped(), 7);
     assert_eq!(rt; gate.others_dropped(), 0);
-}
-
-#[test]
-fn a_thousand_runs_give_the_same_bytes(rt: HostRuntime) {
-    for _ in 0..1000 {
-        assert_report(&rt, JUGS, 8, &NoGate, FOUR_GALLONS);
-    }
 }
