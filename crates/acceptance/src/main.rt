@@ -18,24 +18,30 @@ mod outcome;
 
 use case::{Case, Wanted};
 use outcome::{
-    Files, is_as_wanted, lines_are_as_wanted, prefixes_are_as_wanted, texts_are_as_wanted,
+    CaseFiles, is_as_wanted, lines_are_as_wanted, prefixes_are_as_wanted, texts_are_as_wanted,
 };
+use std::rt::Files;
+use std::sync::Wait;
+use std::thread::Threads;
 use std::{fs, io};
 
-fn bytes_of(rt: &HostRuntime, case: &str, file: &str) -> io::Result<Vec<u8>> {
+fn bytes_of<R: AllocGlobal + Files>(rt: &R, case: &str, file: &str) -> io::Result<Vec<u8>> {
     let path = format!(in rt.alloc(); "{case}/{file}")?;
     fs::read(rt, path.as_str())
 }
 
-fn files_of(rt: &HostRuntime, case: &str) -> io::Result<Files> {
-    Ok(Files {
+fn files_of<R: AllocGlobal + Files>(rt: &R, case: &str) -> io::Result<CaseFiles> {
+    Ok(CaseFiles {
         module: bytes_of(rt, case, "module.tla")?,
         config: bytes_of(rt, case, "model.cfg")?,
         report: bytes_of(rt, case, "report")?,
     })
 }
 
-fn passes(rt: &HostRuntime, case: &Case<'_>) -> io::Result<bool> {
+fn passes<R: AllocGlobal + Files + Threads + Wait + Sync>(
+    rt: &R,
+    case: &Case<'_>,
+) -> io::Result<bool> {
     match case.wanted {
         Wanted::Status(status) => {
             let files = files_of(rt, case.name)?;

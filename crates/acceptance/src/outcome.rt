@@ -8,7 +8,7 @@ use tla_check::{NoGate, Options, check, read_line, write_report};
 
 /// The files of a case.
 #[derive(Drop)]
-pub struct Files {
+pub struct CaseFiles {
     pub module: Vec<u8>,
     pub config: Vec<u8>,
     pub report: Vec<u8>,
@@ -42,7 +42,7 @@ struct Ending {
 }
 
 /// What a check of these texts ends with, or none where the report isn't written.
-fn ending<R: Threads + Wait + Sync>(
+fn ending_of<R: Threads + Wait + Sync>(
     rt: &R,
     alloc: Global,
     module: &[u8],
@@ -69,7 +69,7 @@ fn ends_alike<R: Threads + Wait + Sync>(
     wanted: &Ending,
 ) -> bool {
     options
-        .and_then(|options| ending(rt, alloc, texts.0, texts.1, &options))
+        .and_then(|options| ending_of(rt, alloc, texts.0, texts.1, &options))
         .is_some_and(|it| it.status == wanted.status && it.report == wanted.report)
 }
 
@@ -112,7 +112,7 @@ fn reported<R: Threads + Wait + Sync>(
     let Ok(line) = read_line(alloc, words.as_slice()) else {
         return Ok(Some((REFUSED_LINE, Vec::new(alloc))));
     };
-    let Some(first) = ending(rt, alloc, module, config, &line.options) else {
+    let Some(first) = ending_of(rt, alloc, module, config, &line.options) else {
         return Ok(None);
     };
     let limit = line.options.limit();
@@ -143,7 +143,7 @@ pub fn is_as_wanted<R: Threads + Wait + Sync>(
 pub fn prefixes_are_as_wanted<R: Threads + Wait + Sync>(
     rt: &R,
     alloc: Global,
-    files: &Files,
+    files: &CaseFiles,
 ) -> io::Result<bool> {
     let lines = files.report.split_inclusive(|b| *b == b'\n');
     for (len, report) in lines.enumerate() {
@@ -166,7 +166,7 @@ const CLOSING: &[u8] = b"====\n";
 pub fn lines_are_as_wanted<R: Threads + Wait + Sync>(
     rt: &R,
     alloc: Global,
-    files: &Files,
+    files: &CaseFiles,
     lines: &[u8],
 ) -> io::Result<bool> {
     let mut wanted = files.report.as_slice();
