@@ -1,10 +1,8 @@
-//! Tests of the public calls of values, expressions and their values: with ample memory, and of what no clause says.
+//! Tests of the public calls of values, expressions and their values: those that no text reaches, and what no clause says.
 //!
 //! They stand in a crate of their own, since a crate with tests is proved a second time.
 #![tactic(auto)]
 
-#[cfg(test)]
-mod expression_depths;
 #[cfg(test)]
 mod expressions;
 #[cfg(test)]
