@@ -1,5 +1,6 @@
 -- The values of a body for all choices from some lists, and what is kept of a list.
-use Rattle.std.proofs.Common.{◌≡◌, ℕ, suc, ◌+◌, ◌<◌, Bool, true, false, cond, List, [], ◌∷◌, ◌++◌, map, length, drop, get_or, Ok, Err, refl, sym, ap, ◌∙◌, add-one, drop-cons, append_assoc}
+use Rattle.std.proofs.Common.{◌≡◌, ℕ, zero, suc, ◌+◌, ◌<◌, Bool, true, false, cond, List, [], ◌∷◌, ◌++◌, map, length, drop, get_or, Option, Some, None, Ok, Err, refl, sym, ap, ◌∙◌, add-one, drop-cons}
+use Rattle.std.specs.Prelude.{slice_get}
 use Rattle.std.proofs.lemmas.List.{map-append}
 use Rattle.tla_value.specs.Tree.{Tree}
 use Rattle.tla_value.specs.TreeOf.{tree_of}
@@ -13,76 +14,48 @@ use Rattle.tla_core.specs.Meaning.{Meaning, Bound, Present, Next}
 use Rattle.tla_core.specs.Functions.{function_on, means-image, means-function}
 use Rattle.tla_eval.specs.Gives.{values_for, then_more, chosen_rule, image_rule, chosen_function_rule}
 use Rattle.tla_eval.proofs.Members.{bind-ok}
-use Rattle.tla_eval.proofs.Collected.{passing_more}
+use Rattle.tla_eval.proofs.Collected.{each_more, each_stop, passing_more}
 
 -- ---- lists of values, one by one
-pub then_same : {A : Type 0} (o : Outcome A) → (o >>= λ x. Ok x) ≡ o
-then_same (Ok x) = refl
-then_same (Err e) = refl
-
-join : {B : Type 0} (o : Outcome B) (r q : Outcome (List B)) → (o >>= λ y. (r >>= λ us. q >>= λ vs. Ok (us ++ vs)) >>= λ zs. Ok (y ∷ zs)) ≡ ((o >>= λ y. r >>= λ us. Ok (y ∷ us)) >>= λ us. q >>= λ vs. Ok (us ++ vs))
-join (Err e) r q = refl
-join (Ok y) (Err e) q = refl
-join (Ok y) (Ok us) (Err e) = refl
-join (Ok y) (Ok us) (Ok vs) = refl
-
-each_append : {A B : Type 0} (f : A → Outcome B) (xs ys : List A) → each f (xs ++ ys) ≡ (each f xs >>= λ us. each f ys >>= λ vs. Ok (us ++ vs))
-each_append f [] ys = sym (then_same (each f ys))
-each_append {A} {B} f (x ∷ xs) ys = ap (λ (r : Outcome (List B)). f x >>= λ y. r >>= λ zs. Ok (y ∷ zs)) (each_append f xs ys) ∙ join (f x) (each f xs) (each f ys)
-
-each_map : {A B C : Type 0} (f : B → Outcome C) (g : A → B) (xs : List A) → each f (map g xs) ≡ each (λ x. f (g x)) xs
-each_map f g [] = refl
-each_map {A} {B} {C} f g (x ∷ xs) = ap (λ (r : Outcome (List C)). f (g x) >>= λ y. r >>= λ ys. Ok (y ∷ ys)) (each_map f g xs)
-
-each_same : {A B : Type 0} (f g : A → Outcome B) → ((x : A) → f x ≡ g x) → (xs : List A) → each f xs ≡ each g xs
-each_same f g h [] = refl
-each_same f g h (x ∷ xs) = (λ i. h x i >>= λ y. each_same f g h xs i >>= λ ys. Ok (y ∷ ys))
-
-one_more : (b : List Tree) (x : Tree) (c : List Tree) → b ++ x ∷ c ≡ (b ++ x ∷ []) ++ c
-one_more [] x c = refl
-one_more (y ∷ b) x c = ap (λ k. y ∷ k) (one_more b x c)
-
 none_more : (b : List Tree) → b ++ [] ≡ b
 none_more [] = refl
 none_more (y ∷ b) = ap (λ k. y ∷ k) (none_more b)
 
-pub then_none : (o : Outcome (List Tree)) → then_more [] o ≡ o
-then_none (Ok x) = refl
-then_none (Err e) = refl
+drop_from : {A : Type 0} (xs : List A) (i : ℕ) (x : A) → slice_get xs i ≡ Some x → drop i xs ≡ x ∷ drop (suc i) xs
+drop_from {A} [] i x h = absurd (some_none h)
+  where
+    some_none : (let o : Option A = None in o ≡ Some x) → ⊥
+    some_none e = cc
+drop_from {A} (y ∷ xs) zero x h = ap (λ z. z ∷ xs) (same_some h)
+  where
+    same_some : (let o : Option A = Some y in o ≡ Some x) → y ≡ x
+    same_some e = cc
+drop_from (y ∷ xs) (suc i) x h = drop_from xs i x h
 
-then_step : (kept : List Tree) (r q : Outcome (List Tree)) → then_more kept (r >>= λ us. q >>= λ vs. Ok (us ++ vs)) ≡ (then_more kept r >>= λ new. then_more new q)
-then_step kept (Ok us) (Ok vs) = simp append_assoc
-then_step kept (Ok us) (Err e) = refl
-then_step kept (Err e) q = refl
+drop_past : {A : Type 0} (xs : List A) (i : ℕ) → slice_get xs i ≡ None → drop i xs ≡ []
+drop_past [] zero h = refl
+drop_past [] (suc i) h = refl
+drop_past {A} (y ∷ xs) zero h = absurd (none_some h)
+  where
+    none_some : (let o : Option A = Some y in o ≡ None) → ⊥
+    none_some e = cc
+drop_past (y ∷ xs) (suc i) h = drop_past xs i h
 
 -- ---- choices
-module _ (e : Meaning) (b : Bound) (s : Present) (t : Next) (kept : List Tree) where
-  pub chosen_one : then_more kept (values_for e b s t []) ≡ (e.value b s t >>= λ y. Ok (kept ++ y ∷ []))
-  chosen_one = ap (λ k. then_more kept (e.value k s t >>= λ y. Ok (y ∷ []))) (none_more b) ∙ go (e.value b s t)
+module _ {A : Type 0} (f : A → Outcome Tree) (kept : List Tree) (all : List A) (i : ℕ) (x : A) (at : slice_get all i ≡ Some x) where
+  pub chosen_from : then_more kept (each f (drop i all)) ≡ (f x >>= λ y. then_more (kept ++ y ∷ []) (each f (drop (suc i) all)))
+  chosen_from = ap (λ us. then_more kept (each f us)) (drop_from all i x at) ∙ go (f x) refl
     where
-      go : (o : Outcome Tree) → then_more kept (o >>= λ y. Ok (y ∷ [])) ≡ (o >>= λ y. Ok (kept ++ y ∷ []))
-      go (Ok y) = refl
-      go (Err f) = refl
+      go : (o : Outcome Tree) → f x ≡ o → then_more kept (each f (x ∷ drop (suc i) all)) ≡ (f x >>= λ y. then_more (kept ++ y ∷ []) (each f (drop (suc i) all)))
+      go (Ok y) h = each_more f kept x (drop (suc i) all) y h ∙ ap (λ (o : Outcome Tree). o >>= λ z. then_more (kept ++ z ∷ []) (each f (drop (suc i) all))) (sym h)
+      go (Err e) h = each_stop f kept x (drop (suc i) all) e h ∙ ap (λ (o : Outcome Tree). o >>= λ z. then_more (kept ++ z ∷ []) (each f (drop (suc i) all))) (sym h)
 
-  values_more : (x : Tree) (xs : List Tree) (rest : List (List Tree)) → values_for e b s t ((x ∷ xs) ∷ rest) ≡ (values_for e (b ++ x ∷ []) s t rest >>= λ us. values_for e b s t (xs ∷ rest) >>= λ vs. Ok (us ++ vs))
-  values_more x xs rest =
-      let f : List Tree → Outcome Tree = λ c. e.value (b ++ c) s t in
-      each_append f (map (λ c. x ∷ c) (choices rest)) (choices (xs ∷ rest))
-      ∙ ap (λ (r : Outcome (List Tree)). r >>= λ us. each f (choices (xs ∷ rest)) >>= λ vs. Ok (us ++ vs))
-      (each_map f (λ c. x ∷ c) (choices rest) ∙ each_same (λ c. f (x ∷ c)) (λ c. e.value ((b ++ x ∷ []) ++ c) s t) (λ c. ap (λ k. e.value k s t) (one_more b x c)) (choices rest))
+  pub chosen_step : (y : Tree) (new : List Tree) → f x ≡ Ok y → new ≡ kept ++ y ∷ [] → then_more kept (each f (drop i all)) ≡ then_more new (each f (drop (i + 1) all))
+  chosen_step y new h e =
+      rw add-one (chosen_from ∙ ap (λ (o : Outcome Tree). o >>= λ z. then_more (kept ++ z ∷ []) (each f (drop (suc i) all))) h ∙ ap (λ us. then_more us (each f (drop (suc i) all))) (sym e))
 
-  chosen_more : (x : Tree) (xs : List Tree) (rest : List (List Tree)) → then_more kept (values_for e b s t ((x ∷ xs) ∷ rest)) ≡ (then_more kept (values_for e (b ++ x ∷ []) s t rest) >>= λ new. then_more new (values_for e b s t (xs ∷ rest)))
-  chosen_more x xs rest = ap (then_more kept) (values_more x xs rest) ∙ then_step kept (values_for e (b ++ x ∷ []) s t rest) (values_for e b s t (xs ∷ rest))
-
-  pub chosen_from : (items : List Value) (i : ℕ) (x : Value) (rest : List (List Tree)) → x ≡ get_or items i x → i < length items
-      → then_more kept (values_for e b s t (map tree_of (drop i items) ∷ rest)) ≡ (then_more kept (values_for e (b ++ tree_of x ∷ []) s t rest) >>= λ new. then_more new (values_for e b s t (map tree_of (drop (i + 1) items) ∷ rest)))
-  chosen_from items i x rest is h =
-      rw add-one (ap (λ us. then_more kept (values_for e b s t (map tree_of us ∷ rest))) (drop-cons items i x h ∙ ap (λ y. y ∷ drop (suc i) items) (sym is))
-      ∙ chosen_more (tree_of x) (map tree_of (drop (suc i) items)) rest)
-
-  pub chosen_step : (items : List Value) (i : ℕ) (x : Value) (rest : List (List Tree)) (new : List Tree) → x ≡ get_or items i x → i < length items → then_more kept (values_for e (b ++ tree_of x ∷ []) s t rest) ≡ Ok new
-      → then_more kept (values_for e b s t (map tree_of (drop i items) ∷ rest)) ≡ then_more new (values_for e b s t (map tree_of (drop (i + 1) items) ∷ rest))
-  chosen_step items i x rest new is h k = chosen_from items i x rest is h ∙ ap (λ (o : Outcome (List Tree)). o >>= λ n. then_more n (values_for e b s t (map tree_of (drop (i + 1) items) ∷ rest))) k
+pub chosen_end : {A : Type 0} (f : A → Outcome Tree) (kept : List Tree) (all : List A) (i : ℕ) → slice_get all i ≡ None → then_more kept (each f (drop i all)) ≡ Ok kept
+chosen_end f kept all i h = ap (λ us. then_more kept (each f us)) (drop_past all i h) ∙ ap (λ us. Ok us) (none_more kept)
 
 pub bind_assoc : {A B C : Type 0} (o : Outcome A) (k : A → Outcome B) (l : B → Outcome C) → ((o >>= k) >>= l) ≡ (o >>= λ x. k x >>= l)
 bind_assoc (Ok x) k l = refl

@@ -13,5 +13,6 @@ pub mod Collected
 pub mod RecordSets
 pub mod Arguments
 pub mod Choices
+pub mod Chosen
 pub mod Domains
 pub mod Rows

@@ -7,7 +7,7 @@ use Rattle.tla_core.specs.Fault.{Outcome}
 use Rattle.tla_eval.specs.Gives.{GivesBy}
 use Rattle.tla_core.specs.Meaning.{Bound, Present, Next}
 use Rattle.tla_eval.specs.declared.environment.Scope.{Scope}
-use Rattle.tla_eval.specs.declared.environment.Scope.TheVariants.{Outer, Inner'}
+use Rattle.tla_eval.specs.declared.environment.Scope.TheVariants.{Outer, One', Many'}
 use Rattle.tla_eval.specs.declared.environment.Environment.{Environment}
 use Rattle.tla_eval.specs.declared.environment.Evaluated.{Evaluated}
 use Rattle.tla_eval.specs.declared.environment.Evaluated.TheVariants.{Borrowed, Owned}
@@ -15,7 +15,8 @@ use Rattle.tla_eval.specs.declared.environment.Evaluated.TheVariants.{Borrowed, 
 -- the values of the bound names, the outermost first
 abbrev pub bound_of : Scope → Bound
 bound_of (Outer values) = map tree_of values.now
-bound_of (Inner' _ outer value) = bound_of outer ++ tree_of value.now ∷ []
+bound_of (One' _ outer value) = bound_of outer ++ tree_of value.now ∷ []
+bound_of (Many' _ outer values) = bound_of outer ++ map tree_of values.now
 
 abbrev pub bound_in : Environment → Bound
 bound_in env = bound_of env.scope.now

@@ -1,5 +1,5 @@
 //! The function on all choices from some sets.
-ghost use Rattle.std.specs.Prelude.{◌≡◌, List, Ok, length, map, zip, IfOk, IfErr};
+ghost use Rattle.std.specs.Prelude.{◌≡◌, ◌<◌, ◌%◌, List, Ok, length, map, option_map, slice_get, slice_index_or, zip, IfOk, IfErr};
 ghost use Rattle.std.specs.List.{AllByRecursion};
 ghost use Rattle.std.specs.List.Sorted.{IsStrictlySortedBy};
 ghost use Rattle.tla_value.specs.Order.{tree_cmp};
@@ -33,6 +33,40 @@ pub(crate) fn lists_of<'a>(
         lists.push(members(place, set.value())?)?;
     }
     Ok(lists)
+}
+
+/// The member of a list at a number, counted round and round.
+fn member_at(list: &[Value], number: usize) -> &Value
+    requires { 0 < length list.now }
+    ensures { result.now ≡ slice_index_or list.now (number % length list.now) result.now }
+{
+    &list[number % list.len()]
+}
+
+/// The choice with a number of one member of each list, the first list slowest; none where there are fewer choices.
+pub(crate) fn choice_at(
+    alloc: Global,
+    lists: &[&[Value]],
+    number: usize,
+) -> Result<Option<Vec<Value>>, Fault>
+    ensures ok { IfOk result (λ o. option_map (λ v. map tree_of v.items) o ≡ slice_get (choices (map (λ l. map tree_of l.now) lists.now)) number) }
+    ensures err { IfErr result (λ f. f ≡ out_of_memory) }
+{
+    let mut choice = Vec::with_capacity(alloc, lists.len())?;
+    let mut left = number;
+    for i in 0..lists.len() {
+        let list = lists[lists.len() - 1 - i];
+        if list.is_empty() {
+            return Ok(None);
+        }
+        choice.push(copied(alloc, member_at(list, left))?)?;
+        left /= list.len();
+    }
+    if left > 0 {
+        return Ok(None);
+    }
+    choice.reverse();
+    Ok(Some(choice))
 }
 
 /// The members of each set rise.

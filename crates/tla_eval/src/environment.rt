@@ -11,11 +11,12 @@ use std::alloc::Global;
 use tla_core::{Fault, FaultCode, Place};
 use tla_value::{State, Value};
 
-/// The values of the bound names: those of the caller, and then one for each form that binds.
+/// The values of the bound names: those of the caller, and then those of each form that binds, one or several at once.
 #[derive(Clone, Copy)]
 pub(crate) enum Scope<'a> {
     Outer(&'a [Value]),
-    Inner(&'a Scope<'a>, &'a Value),
+    One(&'a Scope<'a>, &'a Value),
+    Many(&'a Scope<'a>, &'a [Value]),
 }
 
 /// The values of the bound names and of the variables.
@@ -64,7 +65,7 @@ impl<'a> Evaluated<'a> {
     }
 }
 
-/// The value of a bound name, or how many names are bound.
+/// The value of a bound name, or how many names are bound. As many calls as forms that bind stand around it.
 fn bound_name<'a>(scope: &'a Scope<'a>, index: usize) -> Result<&'a Value, usize>
     ensures found { IfOk result (λ v. slice_get (bound_of scope.entry.now) index ≡ Some (tree_of v.now)) }
     ensures absent { IfErr result (λ n. (n ≡ length (bound_of scope.entry.now)) × (n ≤ index)) }
@@ -74,7 +75,7 @@ fn bound_name<'a>(scope: &'a Scope<'a>, index: usize) -> Result<&'a Value, usize
             Some(value) => Ok(value),
             None => Err(values.len()),
         },
-        Scope::Inner(outer, value) => match bound_name(outer, index) {
+        Scope::One(outer, value) => match bound_name(outer, index) {
             Ok(value) => Ok(value),
             Err(count) => {
                 if count == index {
@@ -83,6 +84,13 @@ fn bound_name<'a>(scope: &'a Scope<'a>, index: usize) -> Result<&'a Value, usize
                     Err(count + 1)
                 }
             }
+        },
+        Scope::Many(outer, values) => match bound_name(outer, index) {
+            Ok(value) => Ok(value),
+            Err(count) => match values.get(index - count) {
+                Some(value) => Ok(value),
+                None => Err(count + values.len()),
+            },
         },
     }
 }

@@ -134,7 +134,7 @@ pub(super) fn ask_with<'a>(
 ) -> Result<bool, Fault>
     ensures { GivesTruth result (asks place (means (expr_of body.now)) (bound_in env.entry ++ tree_of value.now ∷ []) (present_in env.entry) (next_in env.entry)) }
 {
-    let scope = Scope::Inner(env.scope, value);
+    let scope = Scope::One(env.scope, value);
     let inner = Environment {
         scope: &scope,
         now: env.now,
@@ -153,7 +153,7 @@ pub(super) fn value_with<'a>(
 ) -> Result<Value, Fault>
     ensures { Gives result ((means (expr_of body.now)).value (bound_in env.entry ++ tree_of value.now ∷ []) (present_in env.entry) (next_in env.entry)) }
 {
-    let scope = Scope::Inner(env.scope, value);
+    let scope = Scope::One(env.scope, value);
     let inner = Environment {
         scope: &scope,
         now: env.now,

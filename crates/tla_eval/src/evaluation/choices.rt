@@ -1,19 +1,20 @@
 //! Forms that bind several names.
-ghost use Rattle.std.specs.Prelude.{◌∷◌, map};
+ghost use Rattle.std.specs.Prelude.{◌++◌, ◌∷◌, [], map};
 ghost use Rattle.tla_value.specs.TreeOf.{tree_of};
 ghost use Rattle.tla_core.specs.Lists.{each};
 ghost use Rattle.tla_core.specs.Meaning.{Meaning};
 ghost use Rattle.tla_core.specs.Value.{means};
 ghost use Rattle.tla_core.specs.ExprOf.{expr_of, parts_of_cores};
-ghost use Rattle.tla_eval.specs.Gives.{GivesBy, image_rule, chosen_function_rule, chosen_rule, values_for, then_more};
+ghost use Rattle.tla_eval.specs.Gives.{Gives, GivesBy, image_rule, chosen_function_rule, chosen_rule, values_for};
 ghost use Rattle.tla_eval.specs.Environment.{Evaluates, tree_of_evaluated, bound_in, present_in, next_in};
 
-use crate::domain::{function_on, lists_of};
+use crate::domain::{choice_at, function_on, lists_of};
 use crate::environment::{Environment, Evaluated, Scope};
+use crate::evaluation::binding::value_with;
 use crate::evaluation::evaluate;
 use crate::sets::made_set;
 use std::alloc::Global;
-use tla_core::{Core, Fault, Place};
+use tla_core::{Core, Fault, Place, memory};
 use tla_value::{SetValue, Value};
 
 /// The set of the values of a body for all choices from some sets.
@@ -77,51 +78,66 @@ fn chosen<'s, 'a>(
     ensures { GivesBy (λ v. map tree_of v.items) result (chosen_rule place (means (expr_of body.now)) (bound_in env.entry) (present_in env.entry) (next_in env.entry) (map tree_of_evaluated sets.now)) }
 {
     let lists = lists_of(alloc, place, sets)?;
+    let lists = lists.as_slice();
+    if lists.len() == 1 {
+        for_each(alloc, body, lists[0], env)
+    } else {
+        for_choices(alloc, body, lists, env)
+    }
+}
+
+/// The values of a body for each of some values.
+#[cycle(evaluate)]
+fn for_each<'l, 'a>(
+    alloc: Global,
+    body: &'a Core,
+    list: &'l [Value],
+    env: Environment<'a>,
+) -> Result<Vec<Value>, Fault>
+    ensures { GivesBy (λ v. map tree_of v.items) result (values_for (means (expr_of body.now)) (bound_in env.entry) (present_in env.entry) (next_in env.entry) (map tree_of list.now ∷ [])) }
+{
     let mut values = Vec::new(alloc);
-    add_chosen(alloc, body, lists.as_slice(), env, &mut values)?;
+    for value in list {
+        values.push(value_with(alloc, body, value, env)?)?;
+    }
     Ok(values)
 }
 
-/// Adds the values of a body for all choices from some lists, the first list slowest.
+/// The values of a body for all choices from some lists, the first list slowest.
 #[cycle(evaluate)]
-fn add_chosen<'l, 'a>(
+fn for_choices<'l, 'a>(
     alloc: Global,
     body: &'a Core,
     lists: &'l [&'l [Value]],
     env: Environment<'a>,
-    values: &mut Vec<Value>,
-) -> Result<(), Fault>
-    ensures { GivesBy (λ _. map tree_of values.new.items) result (then_more (map tree_of values.old.items) (values_for (means (expr_of body.now)) (bound_in env.entry) (present_in env.entry) (next_in env.entry) (map (λ l. map tree_of l.now) lists.now))) }
+) -> Result<Vec<Value>, Fault>
+    ensures { GivesBy (λ v. map tree_of v.items) result (values_for (means (expr_of body.now)) (bound_in env.entry) (present_in env.entry) (next_in env.entry) (map (λ l. map tree_of l.now) lists.now)) }
 {
-    match lists.split_first() {
-        None => {
-            values.push(evaluate(alloc, body, env)?.into_value(alloc)?)?;
-            Ok(())
+    let mut values = Vec::new(alloc);
+    for number in 0..usize::MAX {
+        match choice_at(alloc, lists, number)? {
+            Some(choice) => values.push(value_with_all(alloc, body, choice.as_slice(), env)?)?,
+            None => return Ok(values),
         }
-        Some((first, rest)) => add_chosen_from(alloc, body, first, rest, env, values),
     }
+    Err(memory())
 }
 
-/// Adds the values of a body for all choices from one list and others.
+/// The value of a body with more bound values.
 #[cycle(evaluate)]
-fn add_chosen_from<'l, 'a>(
+fn value_with_all<'a>(
     alloc: Global,
     body: &'a Core,
-    first: &'l [Value],
-    rest: &'l [&'l [Value]],
+    choice: &'a [Value],
     env: Environment<'a>,
-    values: &mut Vec<Value>,
-) -> Result<(), Fault>
-    ensures { GivesBy (λ _. map tree_of values.new.items) result (then_more (map tree_of values.old.items) (values_for (means (expr_of body.now)) (bound_in env.entry) (present_in env.entry) (next_in env.entry) (map tree_of first.now ∷ map (λ l. map tree_of l.now) rest.now))) }
+) -> Result<Value, Fault>
+    ensures { Gives result ((means (expr_of body.now)).value (bound_in env.entry ++ map tree_of choice.now) (present_in env.entry) (next_in env.entry)) }
 {
-    for value in first {
-        let scope = Scope::Inner(env.scope, value);
-        let inner = Environment {
-            scope: &scope,
-            now: env.now,
-            next: env.next,
-        };
-        add_chosen(alloc, body, rest, inner, values)?;
-    }
-    Ok(())
+    let scope = Scope::Many(env.scope, choice);
+    let inner = Environment {
+        scope: &scope,
+        now: env.now,
+        next: env.next,
+    };
+    evaluate(alloc, body, inner)?.into_value(alloc)
 }

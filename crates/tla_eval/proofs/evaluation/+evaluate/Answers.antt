@@ -1,4 +1,6 @@
-use Rattle.std.proofs.Common.{rules, arith, map, length, option_map, Bor, List, ◌++◌, ◌∷◌, [], Bool, Some, None, Ok, ap, sym, ◌∙◌, subst}
+use Rattle.std.proofs.Common.{rules, arith, Vec, Global, map, length, option_map, Bor, List, ◌++◌, ◌∷◌, [], Bool, Some, None, Ok, ap, sym, ◌∙◌, subst}
+use Rattle.std.proofs.lemmas.List.{map-append}
+use Rattle.tla_value.specs.Choices.{choices}
 use Rattle.tla_core.specs.Logic.{means-conjunction, means-disjunction, means-cases}
 use Rattle.tla_core.specs.Meaning.{Meaning, asks, means-enumerated, means-tuple}
 use Rattle.tla_core.specs.Functions.{means-except}
@@ -13,7 +15,7 @@ use Rattle.tla_value.specs.declared.value.Value.{Value}
 use Rattle.tla_eval.specs.Environment.{Evaluates, tree_of_evaluated, bound_in, present_in, next_in}
 use Rattle.tla_core.proofs.Loops.{all_hold_step, some_hold_step, first_passing_step}
 use Rattle.tla_eval.proofs.Collected.{record_is}
-use Rattle.tla_eval.proofs.Choices.{image_is, function_is, chosen_step, chosen_from, chosen_long, passing_step}
+use Rattle.tla_eval.proofs.Choices.{image_is, function_is, chosen_step, chosen_from, chosen_end, chosen_long, passing_step}
 use Rattle.tla_core.proofs.Parts.{means_conjunction, means_disjunction, means_enumerated, means_tuple, means_record, means_image, means_function, means_except, means_cases, means_cases_or, means_records, means_product}
 use Rattle.tla_eval.proofs.RecordSets.{product_is, record_set_is, fields_long, tuple_long, tuple_other, same_number, number_same}
 use Rattle.tla_core.specs.Kinds.{items}
@@ -164,16 +166,28 @@ binding::passing-loop-value-preserved t c =
     c.loop-value.invariant
     ∙ passing_step (λ v. asks c.args.place (means (expr_of c.args.body.now)) (bound_in c.args.env ++ v ∷ []) (present_in c.args.env) (next_in c.args.env)) c.args.values.now c.loop-value.value-index c.value-item.result c.loop-value.kept.items c.keep_copy.new.kept.items c.in_ok-holds.holds c.value-item.is c.loop-value-test.true c.in_ok-holds.ensures c.in_ok-keep_copy.ensures.ok
 
-pub choices::add_chosen_from-loop-value-preserved : goal.choices::add_chosen_from-loop-value-preserved
-choices::add_chosen_from-loop-value-preserved t c =
-    c.loop-value.invariant
-    ∙ chosen_step (means (expr_of c.args.body.now)) (bound_in c.args.env) (present_in c.args.env) (next_in c.args.env) (map tree_of c.loop-value.values.items) c.args.first.now c.loop-value.value-index c.value-item.result (map (λ (r : Bor (List Value)). map tree_of r.now) c.args.rest.now) (map tree_of c.add_chosen.new.values.items) c.value-item.is c.loop-value-test.true c.in_ok-add_chosen.ensures
+pub choices::for_choices-loop-number-preserved : goal.choices::for_choices-loop-number-preserved
+choices::for_choices-loop-number-preserved t c =
+    let f : List Tree → Outcome Tree = λ k. (means (expr_of c.args.body.now)).value (bound_in c.args.env ++ k) (present_in c.args.env) (next_in c.args.env) in
+    let at = sym c.in_ok-choice.ensures.ok ∙ ap (option_map (λ (v : Vec Value Global). map tree_of v.items)) c.in-Some.is ∙ ap (λ us. Some (map tree_of us)) (sym c.as_slice.ensures.value) in
+    let v = c.in_ok-value_with_all-in-Some.field-0 in
+    c.loop-number.invariant
+    ∙ chosen_step f (map tree_of c.loop-number.values.items) (choices (map (λ (r : Bor (List Value)). map tree_of r.now) c.args.lists.now)) c.loop-number.number (map tree_of c.as_slice.result.now) at (tree_of v) (map tree_of c.push.new.self.items)
+    c.in_ok-value_with_all-in-Some.ensures (ap (map tree_of) c.in_ok-push-in-Some.ensures.items ∙ map-append tree_of c.loop-number.values.items (v ∷ []))
 
-pub choices::add_chosen_from-returns-in_err-add_chosen : goal.choices::add_chosen_from-returns-in_err-add_chosen
-choices::add_chosen_from-returns-in_err-add_chosen t c =
-    let e = c.loop-value.invariant
-    ∙ chosen_from (means (expr_of c.args.body.now)) (bound_in c.args.env) (present_in c.args.env) (next_in c.args.env) (map tree_of c.loop-value.values.items) c.args.first.now c.loop-value.value-index c.value-item.result (map (λ (r : Bor (List Value)). map tree_of r.now) c.args.rest.now) c.value-item.is c.loop-value-test.true in
-    subst (λ (o : Outcome (List Tree)). GivesBy (λ u. map tree_of c.add_chosen.new.values.items) c.from_residual.result o) (sym e) (search rules)
+pub choices::for_choices-returns-in_err-value_with_all-in-Some : goal.choices::for_choices-returns-in_err-value_with_all-in-Some
+choices::for_choices-returns-in_err-value_with_all-in-Some t c =
+    let f : List Tree → Outcome Tree = λ k. (means (expr_of c.args.body.now)).value (bound_in c.args.env ++ k) (present_in c.args.env) (next_in c.args.env) in
+    let at = sym c.in_ok-choice.ensures.ok ∙ ap (option_map (λ (v : Vec Value Global). map tree_of v.items)) c.in-Some.is ∙ ap (λ us. Some (map tree_of us)) (sym c.as_slice.ensures.value) in
+    let e = c.loop-number.invariant
+    ∙ chosen_from f (map tree_of c.loop-number.values.items) (choices (map (λ (r : Bor (List Value)). map tree_of r.now) c.args.lists.now)) c.loop-number.number (map tree_of c.as_slice.result.now) at in
+    subst (λ (o : Outcome (List Tree)). GivesBy (λ (v : Vec Value Global). map tree_of v.items) c.from_residual-in_err-value_with_all-in-Some.result o) (sym e) (search rules)
+
+pub choices::for_choices-returns-in-None : goal.choices::for_choices-returns-in-None
+choices::for_choices-returns-in-None t c =
+    let f : List Tree → Outcome Tree = λ k. (means (expr_of c.args.body.now)).value (bound_in c.args.env ++ k) (present_in c.args.env) (next_in c.args.env) in
+    c.loop-number.invariant
+    ∙ chosen_end f (map tree_of c.loop-number.values.items) (choices (map (λ (r : Bor (List Value)). map tree_of r.now) c.args.lists.now)) c.loop-number.number (sym c.in_ok-choice.ensures.ok ∙ ap (option_map (λ (v : Vec Value Global). map tree_of v.items)) c.in-None.is)
 
 pub choices::function-function_on-requires : goal.choices::function-function_on-requires
 choices::function-function_on-requires t c = λ lists h.

@@ -1,9 +1,9 @@
 use Rattle.std.proofs.Common.{◌≡◌, ℕ, ◌+◌, ◌*◌, ◌^◌, length, ◌++◌, ◌∷◌, [], max, map, drop, Option, Some, None, option_map, Bor, List, Ok}
 use Rattle.tla_value.specs.TreeOf.{tree_of, pair_of}
 use Rattle.tla_core.specs.Lists.{each, all_hold, some_hold, first_passing, passing}
-use Rattle.tla_core.specs.Fault.{◌>>=◌}
+use Rattle.tla_core.specs.Fault.{◌>>=◌, Outcome}
 use Rattle.tla_eval.specs.Gives.{named_value, values_of, values_for, then_more}
-use Rattle.tla_value.specs.Choices.{parts_of}
+use Rattle.tla_value.specs.Choices.{parts_of, choices}
 use Rattle.tla_core.specs.SetForms.{field_has, parts_have}
 use Rattle.tla_core.specs.Meaning.{Meaning, asks}
 use Rattle.tla_core.specs.Logic.{means-cases}
@@ -132,24 +132,27 @@ decreases-binding::filter l = 2 ^ 66 * max (size-Core l.set.now) (size-Core l.bo
 abbrev pub decreases-binding::passing : goal.decreases-binding::passing
 decreases-binding::passing l = 2 ^ 66 * size-Core l.body.now + 3
 
--- several names: then how many lists are left
+-- several names
 abbrev pub decreases-choices::image : goal.decreases-choices::image
-decreases-choices::image l = 2 ^ 66 * max (goal.size-choices::image l) (size-Core l.body.now) + 2 ^ 65 + 4
+decreases-choices::image l = 2 ^ 66 * max (goal.size-choices::image l) (size-Core l.body.now) + 4
 
 abbrev pub decreases-choices::function : goal.decreases-choices::function
-decreases-choices::function l = 2 ^ 66 * max (goal.size-choices::function l) (size-Core l.body.now) + 2 ^ 65 + 4
+decreases-choices::function l = 2 ^ 66 * max (goal.size-choices::function l) (size-Core l.body.now) + 4
 
 abbrev pub decreases-choices::evaluated_each : goal.decreases-choices::evaluated_each
 decreases-choices::evaluated_each l = 2 ^ 66 * goal.size-choices::evaluated_each l + 1
 
 abbrev pub decreases-choices::chosen : goal.decreases-choices::chosen
-decreases-choices::chosen l = 2 ^ 66 * size-Core l.body.now + 2 ^ 65 + 3
+decreases-choices::chosen l = 2 ^ 66 * size-Core l.body.now + 3
 
-abbrev pub decreases-choices::add_chosen : goal.decreases-choices::add_chosen
-decreases-choices::add_chosen l = 2 ^ 66 * size-Core l.body.now + 2 * length l.lists.now + 1
+abbrev pub decreases-choices::for_each : goal.decreases-choices::for_each
+decreases-choices::for_each l = 2 ^ 66 * size-Core l.body.now + 2
 
-abbrev pub decreases-choices::add_chosen_from : goal.decreases-choices::add_chosen_from
-decreases-choices::add_chosen_from l = 2 ^ 66 * size-Core l.body.now + 2 * length l.rest.now + 2
+abbrev pub decreases-choices::for_choices : goal.decreases-choices::for_choices
+decreases-choices::for_choices l = 2 ^ 66 * size-Core l.body.now + 2
+
+abbrev pub decreases-choices::value_with_all : goal.decreases-choices::value_with_all
+decreases-choices::value_with_all l = 2 ^ 66 * size-Core l.body.now + 1
 
 -- updates: then how many keys are left
 abbrev pub decreases-updates::except : goal.decreases-updates::except
@@ -231,10 +234,16 @@ invariant-choices::evaluated_each-loop-core l =
     each (λ (m : Meaning). m.value (bound_in l.env) (present_in l.env) (next_in l.env)) (parts_of_cores l.cores)
     ≡ (each (λ (m : Meaning). m.value (bound_in l.env) (present_in l.env) (next_in l.env)) (parts_of_cores (drop l.core-index l.cores)) >>= λ ys. Ok (map tree_of_evaluated l.values.items ++ ys))
 
-abbrev pub invariant-choices::add_chosen_from-loop-value : goal.invariant-choices::add_chosen_from-loop-value
-invariant-choices::add_chosen_from-loop-value l =
-    then_more (map tree_of l.initial.values.items) (values_for (means (expr_of l.body)) (bound_in l.env) (present_in l.env) (next_in l.env) (map tree_of l.first ∷ map (λ (r : Bor (List Value)). map tree_of r.now) l.rest))
-    ≡ then_more (map tree_of l.values.items) (values_for (means (expr_of l.body)) (bound_in l.env) (present_in l.env) (next_in l.env) (map tree_of (drop l.value-index l.first) ∷ map (λ (r : Bor (List Value)). map tree_of r.now) l.rest))
+abbrev pub invariant-choices::for_each-loop-value : goal.invariant-choices::for_each-loop-value
+invariant-choices::for_each-loop-value l =
+    values_for (means (expr_of l.body)) (bound_in l.env) (present_in l.env) (next_in l.env) (map tree_of l.list ∷ [])
+    ≡ then_more (map tree_of l.values.items) (values_for (means (expr_of l.body)) (bound_in l.env) (present_in l.env) (next_in l.env) (map tree_of (drop l.value-index l.list) ∷ []))
+
+abbrev pub invariant-choices::for_choices-loop-number : goal.invariant-choices::for_choices-loop-number
+invariant-choices::for_choices-loop-number l =
+    let f : List Tree → Outcome Tree = λ c. (means (expr_of l.body)).value (bound_in l.env ++ c) (present_in l.env) (next_in l.env) in
+    let all = choices (map (λ (r : Bor (List Value)). map tree_of r.now) l.lists) in
+    each f all ≡ then_more (map tree_of l.values.items) (each f (drop l.number all))
 
 abbrev pub invariant-updates::updated_by_all-loop-update : goal.invariant-updates::updated_by_all-loop-update
 invariant-updates::updated_by_all-loop-update l =
