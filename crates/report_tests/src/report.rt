@@ -39,16 +39,18 @@ fn trace(alloc: Global, values: &[i64]) -> Result<Trace, AllocError>
     Ok(Trace::new(states))
 }
 
-// An answer about the variable x and the invariant Inv.
+// An answer about the variable x, the invariant Inv and the constraint Con.
 fn about_x(alloc: Global, answer: Answer) -> Result<Checked, AllocError>
-    requires { IsNamed 1 1 answer }
+    requires { IsNamed 1 1 1 answer }
 {
     let variables = one_name(alloc, "x")?;
     let invariants = one_name(alloc, "Inv")?;
+    let constraints = one_name(alloc, "Con")?;
     Ok(Checked::Answered(Answered {
         answer,
         variables,
         invariants,
+        constraints,
         limit: 4,
     }))
 }

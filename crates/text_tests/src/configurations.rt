@@ -75,6 +75,12 @@ fn show(alloc: Global, config: &Config, out: &mut String) -> Result<(), AllocErr
                     push_word(name, out)?;
                 }
             }
+            Statement::Constraints(_, names) => {
+                out.push_str("B")?;
+                for name in names {
+                    push_word(name, out)?;
+                }
+            }
             Statement::Constants(_, items) => {
                 out.push_str("C")?;
                 for item in items {

@@ -109,6 +109,7 @@ module _ (text config : List ℕ) where
   same-answers m limit a b h k =
       let variables : a.variables ≡ b.variables = h.variables ∙ sym k.variables in
       let invariants : a.invariants ≡ b.invariants = h.invariants ∙ sym k.invariants in
+      let constraints : a.constraints ≡ b.constraints = h.constraints ∙ sym k.constraints in
       let most : a.limit ≡ b.limit = h.limit ∙ sym k.limit in
       let answer : a.answer ≡ b.answer = answered-once m limit a.answer b.answer h.answer k.answer in
       (cc, cc)

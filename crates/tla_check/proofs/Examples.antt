@@ -3,10 +3,10 @@ use Rattle.std.specs.Prelude.{◌≡◌, ℕ, [], ◌∷◌, pos, codes, Some, N
 use Rattle.std.specs.Fmt.{digits}
 use Rattle.std.proofs.Common.{lit<}
 use Rattle.tla_value.specs.Tree.{int}
-use Rattle.tla_core.specs.declared.fault.FaultCode.TheVariants.{Overflow, Lacking, TooMany}
+use Rattle.tla_core.specs.declared.fault.FaultCode.TheVariants.{Overflow, SmallDivisor, Lacking, TooMany}
 use Rattle.tla_search.specs.declared.answer.Answer.{Answer}
 use Rattle.tla_search.specs.declared.answer.Answer.TheVariants.{NoError, InvariantFalse, Deadlock, Faulted, AssumptionFalse, Limit}
-use Rattle.tla_search.specs.declared.finding.Part.TheVariants.{Assumption, NextAction}
+use Rattle.tla_search.specs.declared.finding.Part.TheVariants.{Assumption, NextAction, Constraint}
 use Rattle.tla_config.specs.declared.error.Source.TheVariants.{Module, Configuration}
 use Rattle.tla_check.specs.declared.checked.RefusalCode.TheVariants.{NumberTooLarge, StatementLeftOut}
 use Rattle.tla_check.specs.declared.checked.Checked.{Checked}
@@ -14,10 +14,10 @@ use Rattle.tla_check.specs.declared.checked.Checked.TheVariants.{Answered, Refus
 use Rattle.tla_search.specs.IsNamed.{IsNamed}
 use Rattle.tla_check.specs.Report.{report}
 
--- an answer about the variable x and the invariant Inv
-abbrev about_x : (answer : Answer) (limit : ℕ) → IsNamed 1 1 answer → Checked
+-- an answer about the variable x, the invariant Inv and the constraint Con
+abbrev about_x : (answer : Answer) (limit : ℕ) → IsNamed 1 1 1 answer → Checked
 about_x answer limit named =
-    Answered record { answer = answer; variables = codes "x" ∷ []; invariants = codes "Inv" ∷ []; limit = limit; named = named }
+    Answered record { answer = answer; variables = codes "x" ∷ []; invariants = codes "Inv" ∷ []; constraints = codes "Con" ∷ []; limit = limit; named = named }
 
 no_error : report (about_x (NoError record { levels = 3; states = 3 }) 16777216 tt) ≡ codes "No error.\nLevels 3, states 3.\n"
 unfolding digits
@@ -37,6 +37,11 @@ fault_at_a_place : report (about_x (Faulted record { code = Overflow; place = So
     ≡ codes "Fault E2 at line 5, column 14 in the next-state action.\nState 1:\n/\\ x = 9223372036854775807\nLevels 1, states 1.\n"
 unfolding digits
 fault_at_a_place = refl
+
+fault_of_a_constraint : report (about_x (Faulted record { code = SmallDivisor; place = Some record { line = 7; column = 8 }; variable = None } (Constraint 0) ((int (pos 0) ∷ []) ∷ []) record { levels = 1; states = 1 }) 16777216 (tt, lit< tt, (refl, tt)))
+    ≡ codes "Fault E3 at line 7, column 8 in constraint Con.\nState 1:\n/\\ x = 0\nLevels 1, states 1.\n"
+unfolding digits
+fault_of_a_constraint = refl
 
 fault_of_an_assumption : report (about_x (Faulted record { code = TooMany; place = Some record { line = 4; column = 20 }; variable = None } (Assumption 1) [] record { levels = 0; states = 0 }) 16777216 (tt, tt, tt))
     ≡ codes "Fault E10 at line 4, column 20 in assumption 1.\nLevels 0, states 0.\n"

@@ -23,20 +23,20 @@ status_told [] = 0
 status_told (b ∷ []) = 0
 status_told (b ∷ c ∷ rest) = by_bytes b c
 
-told-first : (variables invariants : List (List ℕ)) (limit : ℕ) (answer : Answer) (states last : List ℕ) → status_told (first_line variables invariants limit answer ++ states ++ last) ≡ answer_status answer
-told-first variables invariants limit (NoError counts) states last = refl
-told-first variables invariants limit (InvariantFalse i trace counts) states last = refl
-told-first variables invariants limit (Deadlock trace counts) states last = refl
-told-first variables invariants limit (Faulted fault part trace counts) states last = refl
-told-first variables invariants limit (AssumptionFalse number) states last = refl
-told-first variables invariants limit (Limit counts) states last = refl
+told-first : (variables invariants constraints : List (List ℕ)) (limit : ℕ) (answer : Answer) (states last : List ℕ) → status_told (first_line variables invariants constraints limit answer ++ states ++ last) ≡ answer_status answer
+told-first variables invariants constraints limit (NoError counts) states last = refl
+told-first variables invariants constraints limit (InvariantFalse i trace counts) states last = refl
+told-first variables invariants constraints limit (Deadlock trace counts) states last = refl
+told-first variables invariants constraints limit (Faulted fault part trace counts) states last = refl
+told-first variables invariants constraints limit (AssumptionFalse number) states last = refl
+told-first variables invariants constraints limit (Limit counts) states last = refl
 
 told-source : (source : Source) (rest feed : List ℕ) → status_told ((source_text source ++ rest) ++ feed) ≡ 20
 told-source Module rest feed = refl
 told-source Configuration rest feed = refl
 
 told : (c : Checked) → status_told (report c) ≡ status_of c
-told (Answered a) = told-first a.variables a.invariants a.limit a.answer (trace_lines a.variables 1 (trace_of a.answer)) (counts_line (counts_of a.answer))
+told (Answered a) = told-first a.variables a.invariants a.constraints a.limit a.answer (trace_lines a.variables 1 (trace_of a.answer)) (counts_line (counts_of a.answer))
 told (Refused r) = told-source r.source _ _
 told NoMemory = refl
 told NoWorker = refl
@@ -45,17 +45,17 @@ pub tells-status : (a b : Checked) → TellsStatus a b
 tells-status a b e = sym (told a) ∙ ap status_told e ∙ told b
 
 -- ---- `No error.`
-first-says : (variables invariants : List (List ℕ)) (limit : ℕ) (answer : Answer) (states last : List ℕ) → answer_status answer ≡ 0
-    → (more : List ℕ) × (first_line variables invariants limit answer ++ states ++ last ≡ codes "No error.\n" ++ more)
-first-says variables invariants limit (NoError counts) states last e = (states ++ last, refl)
-first-says variables invariants limit (InvariantFalse i trace counts) states last e = absurd (omega (arith, e))
-first-says variables invariants limit (Deadlock trace counts) states last e = absurd (omega (arith, e))
-first-says variables invariants limit (Faulted fault part trace counts) states last e = absurd (omega (arith, e))
-first-says variables invariants limit (AssumptionFalse number) states last e = absurd (omega (arith, e))
-first-says variables invariants limit (Limit counts) states last e = absurd (omega (arith, e))
+first-says : (variables invariants constraints : List (List ℕ)) (limit : ℕ) (answer : Answer) (states last : List ℕ) → answer_status answer ≡ 0
+    → (more : List ℕ) × (first_line variables invariants constraints limit answer ++ states ++ last ≡ codes "No error.\n" ++ more)
+first-says variables invariants constraints limit (NoError counts) states last e = (states ++ last, refl)
+first-says variables invariants constraints limit (InvariantFalse i trace counts) states last e = absurd (omega (arith, e))
+first-says variables invariants constraints limit (Deadlock trace counts) states last e = absurd (omega (arith, e))
+first-says variables invariants constraints limit (Faulted fault part trace counts) states last e = absurd (omega (arith, e))
+first-says variables invariants constraints limit (AssumptionFalse number) states last e = absurd (omega (arith, e))
+first-says variables invariants constraints limit (Limit counts) states last e = absurd (omega (arith, e))
 
 says-where-zero : (c : Checked) → status_of c ≡ 0 → SaysNoError c
-says-where-zero (Answered a) e = first-says a.variables a.invariants a.limit a.answer (trace_lines a.variables 1 (trace_of a.answer)) (counts_line (counts_of a.answer)) e
+says-where-zero (Answered a) e = first-says a.variables a.invariants a.constraints a.limit a.answer (trace_lines a.variables 1 (trace_of a.answer)) (counts_line (counts_of a.answer)) e
 says-where-zero (Refused r) e = absurd (omega (arith, e))
 says-where-zero NoMemory e = absurd (omega (arith, e))
 says-where-zero NoWorker e = absurd (omega (arith, e))

@@ -72,19 +72,21 @@ pub record AreRefused (text config : List ℕ) (r : Refusal) : Type 0 where
   pub none : NameNone text config
 
 abbrev pub names_in : List (List ℕ × Expr) → List (List ℕ)
-names_in invariants = map (λ (i : List ℕ × Expr). i.0) invariants
+names_in predicates = map (λ (p : List ℕ × Expr). p.0) predicates
 
 -- the answer is the one of the definition, by the names of the model and within the limit
 pub record IsAnswered (m : ModelTree) (most : ℕ) (a : AnsweredCheck) : Type 0 where
   pub variables : a.variables ≡ m.variables
   pub invariants : a.invariants ≡ names_in m.invariants
+  pub constraints : a.constraints ≡ names_in m.constraints
   pub limit : a.limit ≡ most
   pub answer : IsAnswerOf (read_system m) most a.answer
 
--- Where no reading faults, the answer is also the one of the definition over the steps that make Next TRUE. Within the
--- limit it says 'no error' then exactly when the invariants are TRUE, and where deadlock is checked a step exists, at every
--- state that such steps reach from one that makes Init TRUE; else it has the one shortest trace to the first state where
--- that isn't so. Its counts are those of the levels.
+-- Where no reading and no constraint faults, the answer is also the one of the definition over the steps that make Next
+-- TRUE; steps begin at states at which each constraint is TRUE. Within the limit it says 'no error' then exactly when the
+-- invariants are TRUE, and where deadlock is checked and the constraints are TRUE a step exists, at every state that such
+-- steps reach from one that makes Init TRUE; else it has the one shortest trace to the first state where that isn't so. Its
+-- counts are those of the levels.
 pub record IsExact (m : ModelTree) (most : ℕ) (a : AnsweredCheck) : Type 0 where
   pub truth : HasNoReadingFault a.answer → IsAnswerOf (true_system m) most a.answer
   pub exactly : HasNoReadingFault a.answer → IsWithinLimit (outcome_of a.answer) → SaysExactly (true_system m) most (outcome_of a.answer)

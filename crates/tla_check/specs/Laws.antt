@@ -19,8 +19,8 @@ abbrev pub SaysTruly : List ℕ → List ℕ → Type 0
 SaysTruly text config = (limit : ℕ) (checked : Checked) → IsChecked text config limit checked → SaysNoError checked
     → (m : ModelTree) × NameOnly text config m × IsKept m
 
--- Of two texts that name a model, within the limit and where reading Init and Next met no fault, the report says
--- `No error.` exactly where the model is kept.
+-- Of two texts that name a model, within the limit and where neither reading Init and Next nor a constraint met a fault, the
+-- report says `No error.` exactly where the model is kept.
 abbrev pub ReportsKept : List ℕ → List ℕ → Type 0
 ReportsKept text config = (limit : ℕ) (a : AnsweredCheck) (m : ModelTree) → IsChecked text config limit (Answered a) → NameModel text config m
     → (FaultsInReading a.answer → ⊥) → (PassesLimit a.answer → ⊥) → SaysNoError (Answered a) ↔ IsKept m

@@ -1,7 +1,7 @@
 //! A check, from two texts to its answer.
 ghost use Rattle.std.specs.Prelude.{◌≡◌, IfOk, IfErr, IsSome, None, Some, is_some, map};
 ghost use Rattle.tla_config.specs.declared.error.Source.TheVariants as source;
-ghost use Rattle.tla_model.specs.ModelOf.{invariant_of};
+ghost use Rattle.tla_model.specs.ModelOf.{predicate_of};
 ghost use Rattle.tla_model.specs.Models.{model_of};
 ghost use Rattle.counted_writer.specs.Puts.{AddsFirst};
 ghost use Rattle.std.specs.Io.KnownBytes.{Appends};
@@ -23,7 +23,7 @@ use tla_config::{DefsError, Source, parse_config};
 use tla_core::Place;
 use tla_defs::build;
 use tla_lex::{LexError, tokens};
-use tla_model::{Invariant, Model};
+use tla_model::{Model, StatePredicate};
 use tla_parse::{ParseError, parse_module};
 use tla_search::{Gate, Options, SearchError, search};
 use tla_tree::Word;
@@ -157,7 +157,10 @@ fn answered<G: Gate, R: Threads + Wait + Sync>(
     let Ok(variables) = variable_names(alloc, model.variables()) else {
         return Checked::NoMemory;
     };
-    let Ok(invariants) = invariant_names(alloc, model.invariants()) else {
+    let Ok(invariants) = predicate_names(alloc, model.invariants()) else {
+        return Checked::NoMemory;
+    };
+    let Ok(constraints) = predicate_names(alloc, model.constraints()) else {
         return Checked::NoMemory;
     };
     match search(rt, alloc, model, options, gate) {
@@ -165,6 +168,7 @@ fn answered<G: Gate, R: Threads + Wait + Sync>(
             answer,
             variables,
             invariants,
+            constraints,
             limit: options.limit(),
         }),
         Err(SearchError::Memory) => Checked::NoMemory,
@@ -182,12 +186,13 @@ fn variable_names(alloc: Global, variables: &[Text]) -> Result<Names, ValueError
     Ok(Names::new(names))
 }
 
-fn invariant_names(alloc: Global, invariants: &[Invariant]) -> Result<Names, ValueError>
-    ensures { IfOk result (λ names. names ≡ names_in (map invariant_of invariants.now)) }
+/// The names of invariants, or of constraints.
+fn predicate_names(alloc: Global, predicates: &[StatePredicate]) -> Result<Names, ValueError>
+    ensures { IfOk result (λ names. names ≡ names_in (map predicate_of predicates.now)) }
 {
     let mut names = Vec::new(alloc);
-    for invariant in invariants {
-        names.push(invariant.name.copy(alloc)?)?;
+    for predicate in predicates {
+        names.push(predicate.name.copy(alloc)?)?;
     }
     Ok(Names::new(names))
 }

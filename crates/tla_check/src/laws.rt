@@ -5,8 +5,9 @@ ghost use Rattle.tla_check.specs.Laws.{ComeOutAlike, ReportsKept, SaysNoError, S
 ghost use Rattle.tla_check.specs.Status.{status_of};
 
 /// Where the report of two texts says `No error.`, they name one model, and it is kept: every assumption is TRUE and, at
-/// every state that is reached, every invariant is TRUE and, where deadlock is checked, a step leads on. Within the limit,
-/// and where reading Init and Next met no fault, the report of a model that is kept says so.
+/// every state that is reached, every invariant is TRUE and, where deadlock is checked and every constraint is TRUE, a step
+/// leads on. Within the limit, and where neither reading Init and Next nor a constraint met a fault, the report of a model
+/// that is kept says so.
 pub fn no_error_means_kept()
     ensures truly { (text config : List ℕ) → SaysTruly text config }
     ensures exactly { (text config : List ℕ) → ReportsKept text config }

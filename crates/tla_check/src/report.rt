@@ -5,7 +5,7 @@ ghost use Rattle.counted_writer.specs.Puts.{Puts, AddsFirst};
 ghost use Rattle.tla_value.specs.TreeOf.{tree_of};
 ghost use Rattle.tla_core.specs.Fault.{code_text};
 ghost use Rattle.tla_search.specs.Answers.{trace_of};
-ghost use Rattle.tla_search.specs.IsNamed.{AreWhole, IsAboutOne, IsBelow, invariant_of};
+ghost use Rattle.tla_search.specs.IsNamed.{AreWhole, IsAboutOne, IsNamedPart};
 ghost use Rattle.tla_check.specs.Codes.{refusal_code};
 ghost use Rattle.tla_check.specs.Pieces.{piece_text, pieces_text};
 ghost use Rattle.tla_check.specs.Report.{report, line, first_line, fault_line, site_text, part_line, place_text, trace_lines, state_lines, value_line, value_lines, counts_line, answer_report, refusal_line, ending, source_text};
@@ -59,7 +59,7 @@ fn put_answer<W: Write>(answered: &Answered, out: &mut W) -> Result<u64, ShortWr
 
 fn put_first_line<W: Write>(answered: &Answered, out: &mut W) -> Result<u64, ShortWrite>
     ensures { Puts (W.contents out.old) (W.contents out.new) 0
-        (first_line answered.now.variables answered.now.invariants answered.now.limit answered.now.answer) result }
+        (first_line answered.now.variables answered.now.invariants answered.now.constraints answered.now.limit answered.now.answer) result }
 {
     match &answered.answer {
         Answer::NoError { .. } => put_line(&[Piece::Text("No error.")], out, 0),
@@ -73,9 +73,7 @@ fn put_first_line<W: Write>(answered: &Answered, out: &mut W) -> Result<u64, Sho
             put_line(&pieces, out, 0)
         }
         Answer::Deadlock { .. } => put_line(&[Piece::Text("Deadlock.")], out, 0),
-        Answer::Faulted { fault, part, .. } => {
-            put_fault(fault, *part, &answered.variables, &answered.invariants, out)
-        }
+        Answer::Faulted { fault, part, .. } => put_fault(fault, *part, answered, out),
         Answer::AssumptionFalse { number } => {
             let pieces = [
                 Piece::Text("Assumption "),
@@ -98,21 +96,21 @@ fn put_first_line<W: Write>(answered: &Answered, out: &mut W) -> Result<u64, Sho
 fn put_fault<W: Write>(
     fault: &Fault,
     part: Part,
-    variables: &Names,
-    invariants: &Names,
+    answered: &Answered,
     out: &mut W,
 ) -> Result<u64, ShortWrite>
-    requires about { IsAboutOne (length variables.now) fault.now.place fault.now.variable }
-    requires invariant { IsBelow (length invariants.now) (invariant_of part) }
-    ensures { Puts (W.contents out.old) (W.contents out.new) 0 (fault_line variables.now invariants.now fault.now part) result }
+    requires about { IsAboutOne (length answered.now.variables) fault.now.place fault.now.variable }
+    requires named { IsNamedPart (length answered.now.invariants) (length answered.now.constraints) part }
+    ensures { Puts (W.contents out.old) (W.contents out.new) 0
+        (fault_line answered.now.variables answered.now.invariants answered.now.constraints fault.now part) result }
 {
     let pieces = [
         Piece::Text("Fault "),
         Piece::Text(fault_code_text(fault.code)),
     ];
     let written = put_pieces(&pieces, out, 0)?;
-    let written = put_site(fault, variables, out, written)?;
-    put_part(part, invariants, out, written)
+    let written = put_site(fault, &answered.variables, out, written)?;
+    put_part(part, answered, out, written)
 }
 
 // Writes what a fault is about.
@@ -142,12 +140,13 @@ fn put_site<W: Write>(
 // Writes the rest of the line, which says where the fault was met.
 fn put_part<W: Write>(
     part: Part,
-    invariants: &Names,
+    answered: &Answered,
     out: &mut W,
     written: u64,
 ) -> Result<u64, ShortWrite>
-    requires { IsBelow (length invariants.now) (invariant_of part) }
-    ensures { Puts (W.contents out.old) (W.contents out.new) written (part_line invariants.now part) result }
+    requires { IsNamedPart (length answered.now.invariants) (length answered.now.constraints) part }
+    ensures { Puts (W.contents out.old) (W.contents out.new) written
+        (part_line answered.now.invariants answered.now.constraints part) result }
 {
     match part {
         Part::Assumption(number) => {
@@ -163,7 +162,15 @@ fn put_part<W: Write>(
         Part::Invariant(invariant) => {
             let pieces = [
                 Piece::Text(" in invariant "),
-                Piece::Text(invariants.name(invariant)),
+                Piece::Text(answered.invariants.name(invariant)),
+                Piece::Text("."),
+            ];
+            put_line(&pieces, out, written)
+        }
+        Part::Constraint(constraint) => {
+            let pieces = [
+                Piece::Text(" in constraint "),
+                Piece::Text(answered.constraints.name(constraint)),
                 Piece::Text("."),
             ];
             put_line(&pieces, out, written)

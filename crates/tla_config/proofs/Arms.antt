@@ -13,7 +13,7 @@ use Rattle.tla_config.specs.Fronts.{keyword_of}
 use Rattle.tla_config.specs.Gives.{Fails, NoStatement}
 use Rattle.tla_config.specs.Names.{is_among}
 use Rattle.tla_config.specs.Refusals.{IsLeftOutAt, left_out_words}
-use Rattle.tla_config.specs.Statements.{Statement, Specification, Init, Next, Invariants, Constants, CheckDeadlock}
+use Rattle.tla_config.specs.Statements.{Statement, Specification, Init, Next, Invariants, Constraints, Constants, CheckDeadlock}
 use Rattle.tla_config.proofs.Fronts.{Opens, same_pair, keyword_found, begins_is, constants_is}
 use Rattle.tla_config.proofs.Words.{left_out_word}
 
@@ -23,6 +23,7 @@ word_for (Specification p w) = word.Specification
 word_for (Init p w) = word.Init
 word_for (Next p w) = word.Next
 word_for (Invariants p ws) = word.Invariants
+word_for (Constraints p ws) = word.Constraints
 word_for (Constants p is) = word.Constants
 word_for (CheckDeadlock p check) = word.CheckDeadlock
 
@@ -31,6 +32,7 @@ place_for (Specification p w) = p
 place_for (Init p w) = p
 place_for (Next p w) = p
 place_for (Invariants p ws) = p
+place_for (Constraints p ws) = p
 place_for (Constants p is) = p
 place_for (CheckDeadlock p check) = p
 
@@ -48,6 +50,10 @@ module _ (text : List ℕ) (ts : List Token) (at : ℕ) where
   spelled_front (Invariants p ws) to x = elim x.0 [
     | inl b ↦ begins_is text ts at p (codes "INVARIANT") word.Invariants refl b
     | inr b ↦ begins_is text ts at p (codes "INVARIANTS") word.Invariants refl b
+  ]
+  spelled_front (Constraints p ws) to x = elim x.0 [
+    | inl b ↦ begins_is text ts at p (codes "CONSTRAINT") word.Constraints refl b
+    | inr b ↦ begins_is text ts at p (codes "CONSTRAINTS") word.Constraints refl b
   ]
   spelled_front (Constants p is) to x = constants_is text ts at p x.0
   spelled_front (CheckDeadlock p check) to x = begins_is text ts at p (codes "CHECK_DEADLOCK") word.CheckDeadlock refl x.0
@@ -68,6 +74,7 @@ module _ (text : List ℕ) (ts : List Token) (at : ℕ) where
     none_left_out h (Init q v) to x e = other p h (Init q v) to x (λ g. let z : ⊥ = cc in z)
     none_left_out h (Next q v) to x e = other p h (Next q v) to x (λ g. let z : ⊥ = cc in z)
     none_left_out h (Invariants q vs) to x e = other p h (Invariants q vs) to x (λ g. let z : ⊥ = cc in z)
+    none_left_out h (Constraints q vs) to x e = other p h (Constraints q vs) to x (λ g. let z : ⊥ = cc in z)
     none_left_out h (Constants q is) to x e = other p h (Constants q is) to x (λ g. let z : ⊥ = cc in z)
     none_left_out h (CheckDeadlock q b) to x e = other p h (CheckDeadlock q b) to x (λ g. let z : ⊥ = cc in z)
 

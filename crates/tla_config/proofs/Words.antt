@@ -14,6 +14,7 @@ is_same word.Specification word.Specification = true
 is_same word.Init word.Init = true
 is_same word.Next word.Next = true
 is_same word.Invariants word.Invariants = true
+is_same word.Constraints word.Constraints = true
 is_same word.Constants word.Constants = true
 is_same word.CheckDeadlock word.CheckDeadlock = true
 is_same word.LeftOut word.LeftOut = true
@@ -24,6 +25,7 @@ is_same_self word.Specification = refl
 is_same_self word.Init = refl
 is_same_self word.Next = refl
 is_same_self word.Invariants = refl
+is_same_self word.Constraints = refl
 is_same_self word.Constants = refl
 is_same_self word.CheckDeadlock = refl
 is_same_self word.LeftOut = refl
@@ -78,6 +80,12 @@ pub invariants_word : (w : Name) → lookup keywords w ≡ Some word.Invariants 
 invariants_word w h = elim (either (bytes_eq w (codes "INVARIANT")) (bytes_eq w (codes "INVARIANTS")) (spells_found keywords w word.Invariants h)) [
   | inl b ↦ inl (same_bytes w (codes "INVARIANT") b)
   | inr b ↦ inr (same_bytes w (codes "INVARIANTS") b)
+]
+
+pub constraints_word : (w : Name) → lookup keywords w ≡ Some word.Constraints → (w ≡ codes "CONSTRAINT") ⊎ (w ≡ codes "CONSTRAINTS")
+constraints_word w h = elim (either (bytes_eq w (codes "CONSTRAINT")) (bytes_eq w (codes "CONSTRAINTS")) (spells_found keywords w word.Constraints h)) [
+  | inl b ↦ inl (same_bytes w (codes "CONSTRAINT") b)
+  | inr b ↦ inr (same_bytes w (codes "CONSTRAINTS") b)
 ]
 
 pub left_out_word : (w : Name) → lookup keywords w ≡ Some word.LeftOut → is_among w left_out_words ≡ true

@@ -15,7 +15,7 @@ use Rattle.tla_value.specs.IsValue.{IsValue}
 use Rattle.tla_value.specs.Tree.{Tree, int}
 use Rattle.tla_config.specs.Literals.{Literal, Literals, atom, braces, no_literals, more_literals, value_of, number, atom_of}
 use Rattle.tla_config.specs.Names.{Name, is_among, statement_words}
-use Rattle.tla_config.specs.Statements.{Item, Value, Replaces, Statement, Specification, Init, Next, Invariants, Constants, CheckDeadlock}
+use Rattle.tla_config.specs.Statements.{Item, Value, Replaces, Statement, Specification, Init, Next, Invariants, Constraints, Constants, CheckDeadlock}
 
 abbrev pub is_check_deadlock : Statement → Bool
 is_check_deadlock (CheckDeadlock p check) = true
@@ -82,6 +82,7 @@ module _ (text : Bytes) (ts : List Token) where
   SpellsStatement (Init p w) from to = Begins (codes "INIT") p from × IsName w (from + 1) × (to ≡ from + 2)
   SpellsStatement (Next p w) from to = Begins (codes "NEXT") p from × IsName w (from + 1) × (to ≡ from + 2)
   SpellsStatement (Invariants p ws) from to = (Begins (codes "INVARIANT") p from ⊎ Begins (codes "INVARIANTS") p from) × Names ws (from + 1) to
+  SpellsStatement (Constraints p ws) from to = (Begins (codes "CONSTRAINT") p from ⊎ Begins (codes "CONSTRAINTS") p from) × Names ws (from + 1) to
   SpellsStatement (Constants p is) from to = Is k.Constant p from × Items is (from + 1) to
   SpellsStatement (CheckDeadlock p check) from to = Begins (codes "CHECK_DEADLOCK") p from × Has (kind_of check) (from + 1) × (to ≡ from + 2)
 

@@ -8,9 +8,9 @@ use Rattle.tla_config.specs.Names.{Name}
 abbrev pub keywords : List (Name × Keyword)
 keywords =
     (codes "SPECIFICATION", word.Specification) ∷ (codes "INIT", word.Init) ∷ (codes "NEXT", word.Next) ∷ (codes "INVARIANT", word.Invariants)
-    ∷ (codes "INVARIANTS", word.Invariants) ∷ (codes "CHECK_DEADLOCK", word.CheckDeadlock) ∷ (codes "PROPERTY", word.LeftOut)
-    ∷ (codes "PROPERTIES", word.LeftOut) ∷ (codes "SYMMETRY", word.LeftOut) ∷ (codes "VIEW", word.LeftOut) ∷ (codes "CONSTRAINT", word.LeftOut)
-    ∷ (codes "CONSTRAINTS", word.LeftOut) ∷ (codes "ACTION_CONSTRAINT", word.LeftOut) ∷ (codes "ACTION_CONSTRAINTS", word.LeftOut)
+    ∷ (codes "INVARIANTS", word.Invariants) ∷ (codes "CONSTRAINT", word.Constraints) ∷ (codes "CONSTRAINTS", word.Constraints)
+    ∷ (codes "CHECK_DEADLOCK", word.CheckDeadlock) ∷ (codes "PROPERTY", word.LeftOut) ∷ (codes "PROPERTIES", word.LeftOut)
+    ∷ (codes "SYMMETRY", word.LeftOut) ∷ (codes "VIEW", word.LeftOut) ∷ (codes "ACTION_CONSTRAINT", word.LeftOut) ∷ (codes "ACTION_CONSTRAINTS", word.LeftOut)
     ∷ (codes "ALIAS", word.LeftOut) ∷ (codes "POSTCONDITION", word.LeftOut) ∷ []
 
 abbrev pub lookup : List (Name × Keyword) → Name → Option Keyword

@@ -17,6 +17,5 @@ words ws = map (λ (w : Written). w.word) ws
 -- The words that begin a statement, also those that are left out. None of them is a name.
 abbrev pub statement_words : List Name
 statement_words =
-    codes "SPECIFICATION" ∷ codes "INIT" ∷ codes "NEXT" ∷ codes "INVARIANT" ∷ codes "INVARIANTS" ∷ codes "CHECK_DEADLOCK"
-    ∷ codes "PROPERTY" ∷ codes "PROPERTIES" ∷ codes "SYMMETRY" ∷ codes "VIEW" ∷ codes "CONSTRAINT" ∷ codes "CONSTRAINTS"
-    ∷ codes "ACTION_CONSTRAINT" ∷ codes "ACTION_CONSTRAINTS" ∷ codes "ALIAS" ∷ codes "POSTCONDITION" ∷ []
+    codes "SPECIFICATION" ∷ codes "INIT" ∷ codes "NEXT" ∷ codes "INVARIANT" ∷ codes "INVARIANTS" ∷ codes "CONSTRAINT" ∷ codes "CONSTRAINTS"
+    ∷ codes "CHECK_DEADLOCK" ∷ codes "PROPERTY" ∷ codes "PROPERTIES" ∷ codes "SYMMETRY" ∷ codes "VIEW" ∷ codes "ACTION_CONSTRAINT" ∷ codes "ACTION_CONSTRAINTS" ∷ codes "ALIAS" ∷ codes "POSTCONDITION" ∷ []

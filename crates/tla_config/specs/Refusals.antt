@@ -16,7 +16,7 @@ use Rattle.tla_config.specs.Names.{Name, is_among}
 abbrev pub left_out_words : List Name
 left_out_words =
     codes "PROPERTY" ∷ codes "PROPERTIES" ∷ codes "SYMMETRY"
-    ∷ codes "VIEW" ∷ codes "CONSTRAINT" ∷ codes "CONSTRAINTS" ∷ codes "ACTION_CONSTRAINT" ∷ codes "ACTION_CONSTRAINTS"
+    ∷ codes "VIEW" ∷ codes "ACTION_CONSTRAINT" ∷ codes "ACTION_CONSTRAINTS"
     ∷ codes "ALIAS" ∷ codes "POSTCONDITION" ∷ []
 
 -- the token of this number is one of the words that begin statements left out, or a bracket (with which a replacement in another module begins)

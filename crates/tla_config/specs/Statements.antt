@@ -21,6 +21,8 @@ pub data Statement : Type 0 where
   Next : Place → Written → Statement
   -- INVARIANT name ..
   Invariants : Place → List Written → Statement
+  -- CONSTRAINT name ..
+  Constraints : Place → List Written → Statement
   -- CONSTANT item ..
   Constants : Place → List Item → Statement
   -- CHECK_DEADLOCK TRUE or FALSE

@@ -19,13 +19,11 @@ use std::alloc::Global;
 use tla_lex::{LexError, Place, Scan, Stop, Token, configuration_tokens};
 use tla_value::Text;
 
-const LEFT_OUT_WORDS: [&str; 11] = [
+const LEFT_OUT_WORDS: [&str; 9] = [
     "PROPERTY",
     "PROPERTIES",
     "SYMMETRY",
     "VIEW",
-    "CONSTRAINT",
-    "CONSTRAINTS",
     "ACTION_CONSTRAINT",
     "ACTION_CONSTRAINTS",
     "ALIAS",

@@ -21,6 +21,8 @@ pub enum Statement {
     Next(Place, Written),
     /// `INVARIANT` or `INVARIANTS` with one name or more.
     Invariants(Place, Vec<Written>),
+    /// `CONSTRAINT` or `CONSTRAINTS` with one name or more.
+    Constraints(Place, Vec<Written>),
     /// `CONSTANT` or `CONSTANTS` with one item or more.
     Constants(Place, Vec<Item>),
     CheckDeadlock(Place, bool),

@@ -62,6 +62,13 @@ fn statement(
                 end: found.end,
             })
         }
+        Keyword::Constraints => {
+            let found = names(alloc, text, tokens, at + 1)?;
+            Ok(ParsedStatement {
+                statement: Statement::Constraints(place, found.names),
+                end: found.end,
+            })
+        }
         Keyword::Constants => {
             let found = items(alloc, text, tokens, at + 1)?;
             Ok(ParsedStatement {

@@ -4,7 +4,7 @@ use Rattle.tla_lex.specs.declared.token.Place.{Place}
 use Rattle.tla_tree.specs.declared.word.Written.{Written}
 use Rattle.tla_tree.specs.Tree.{Tree}
 use Rattle.tla_tree.specs.Units.{UnitTree}
-use Rattle.tla_config.specs.Statements.{Statement, Specification, Init, Next, Invariants, Constants, CheckDeadlock}
+use Rattle.tla_config.specs.Statements.{Statement, Specification, Init, Next, Invariants, Constraints, Constants, CheckDeadlock}
 use Rattle.tla_defs.specs.Model.{IsBehaviour, initials_named, nexts_named, specifications_named}
 use Rattle.tla_defs.specs.Refused.{Behaviour, Named, Specified, alone, behaviour}
 use Rattle.tla_defs.specs.Specified.{IsOnly, init_names, next_names, specification_names}
@@ -45,6 +45,7 @@ alone_only p v (Init at w ∷ cs) b h = absurd (no_ok at b h)
 alone_only p v (Next at w ∷ cs) b h = absurd (no_ok at b h)
 alone_only p v (Specification at w ∷ cs) b h = absurd (no_ok at b h)
 alone_only p v (Invariants at ws ∷ cs) b h = let g = alone_only p v cs b h in record { same = g.same; init = g.init; next = g.next; specification = g.specification }
+alone_only p v (Constraints at ws ∷ cs) b h = let g = alone_only p v cs b h in record { same = g.same; init = g.init; next = g.next; specification = g.specification }
 alone_only p v (CheckDeadlock at check ∷ cs) b h = let g = alone_only p v cs b h in record { same = g.same; init = g.init; next = g.next; specification = g.specification }
 alone_only p v (Constants at is ∷ cs) b h = let g = alone_only p v cs b h in record { same = g.same; init = g.init; next = g.next; specification = g.specification }
 
@@ -64,6 +65,7 @@ only_behind None None (Specification at w ∷ cs) end b p =
 only_behind None (Some n) (Specification at w ∷ cs) end b p = absurd (no_ok at b p)
 only_behind (Some i) n (Specification at w ∷ cs) end b p = absurd (no_ok at b p)
 only_behind i n (Invariants at ws ∷ cs) end b p = let h = only_behind i n cs end b p in record { init = h.init; next = h.next; specification = h.specification }
+only_behind i n (Constraints at ws ∷ cs) end b p = let h = only_behind i n cs end b p in record { init = h.init; next = h.next; specification = h.specification }
 only_behind i n (CheckDeadlock at check ∷ cs) end b p = let h = only_behind i n cs end b p in record { init = h.init; next = h.next; specification = h.specification }
 only_behind i n (Constants at is ∷ cs) end b p = let h = only_behind i n cs end b p in record { init = h.init; next = h.next; specification = h.specification }
 
@@ -84,6 +86,7 @@ named_found i None (Next at w ∷ cs) end x y p q r = named_found i (Some w) cs 
 named_found i (Some n) (Next at w ∷ cs) end x y p q r = let z : ⊥ = cc in absurd z
 named_found i n (Specification at w ∷ cs) end x y p q r = let z : ⊥ = cc in absurd z
 named_found i n (Invariants at ws ∷ cs) end x y p q r = named_found i n cs end x y p q r
+named_found i n (Constraints at ws ∷ cs) end x y p q r = named_found i n cs end x y p q r
 named_found i n (CheckDeadlock at check ∷ cs) end x y p q r = named_found i n cs end x y p q r
 named_found i n (Constants at is ∷ cs) end x y p q r = named_found i n cs end x y p q r
 
@@ -93,6 +96,7 @@ alone_found p v (Init at w ∷ cs) i n s = let z : ⊥ = cc in absurd z
 alone_found p v (Next at w ∷ cs) i n s = let z : ⊥ = cc in absurd z
 alone_found p v (Specification at w ∷ cs) i n s = let z : ⊥ = cc in absurd z
 alone_found p v (Invariants at ws ∷ cs) i n s = alone_found p v cs i n s
+alone_found p v (Constraints at ws ∷ cs) i n s = alone_found p v cs i n s
 alone_found p v (CheckDeadlock at check ∷ cs) i n s = alone_found p v cs i n s
 alone_found p v (Constants at is ∷ cs) i n s = alone_found p v cs i n s
 
@@ -102,6 +106,7 @@ specified_found (Init at w ∷ cs) end v i n s = let z : ⊥ = cc in absurd z
 specified_found (Next at w ∷ cs) end v i n s = let z : ⊥ = cc in absurd z
 specified_found (Specification at w ∷ cs) end v i n s = alone_found at w cs i n (tails w v (specifications_named cs) [] s)
 specified_found (Invariants at ws ∷ cs) end v i n s = specified_found cs end v i n s
+specified_found (Constraints at ws ∷ cs) end v i n s = specified_found cs end v i n s
 specified_found (CheckDeadlock at check ∷ cs) end v i n s = specified_found cs end v i n s
 specified_found (Constants at is ∷ cs) end v i n s = specified_found cs end v i n s
 

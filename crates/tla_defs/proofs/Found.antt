@@ -21,8 +21,8 @@ use Rattle.tla_expand.specs.Maybe.{◌>>=◌}
 use Rattle.tla_expand.specs.Primes.{primes}
 use Rattle.tla_expand.proofs.Primed.{unprimed}
 use Rattle.tla_expand.proofs.PrimesFit.{inv}
-use Rattle.tla_model.specs.ModelOf.{invariant_of, tree_of_parts}
-use Rattle.tla_model.specs.declared.invariant.Invariant.{Invariant}
+use Rattle.tla_model.specs.ModelOf.{predicate_of, tree_of_parts}
+use Rattle.tla_model.specs.declared.state_predicate.StatePredicate.{StatePredicate}
 use Rattle.tla_model.specs.Size.{IsWithinLimits}
 use Rattle.tla_defs.specs.Formulas.{Follow, mentions}
 use Rattle.tla_defs.specs.Global.{global}
@@ -32,7 +32,7 @@ use Rattle.tla_names.specs.Items.{definitions_of, replaceable_of, nameable_of, r
 use Rattle.tla_names.specs.Leads.{leads}
 use Rattle.tla_names.specs.Circles.{AreStraight}
 use Rattle.tla_names.specs.Named.{names_misused}
-use Rattle.tla_defs.specs.Model.{IsModel, IsBehaviour, meaning_in, IsInitial, IsAction, IsInvariant, IsAssumption, IsStateLevel, IsConstantLevel, AreInvariants, AreAssumptions, assumptions_of, invariants_named}
+use Rattle.tla_defs.specs.Model.{IsModel, IsBehaviour, meaning_in, IsInitial, IsAction, IsStatePredicate, IsAssumption, IsStateLevel, IsConstantLevel, AreStatePredicates, AreAssumptions, assumptions_of, invariants_named, constraints_named}
 
 -- nothing of so many primes is within the limits
 abbrev pub NoneShown : Primes → Tree → Scope → Type 0
@@ -61,15 +61,15 @@ module _ (σ : Scope) (tree : Tree) where
   no_action none e h = none e (shown_unprimed (expand tree σ 0) e h.meaning) h.limits
 
 module _ (σ : Scope) (w : Written) where
-  pub found_invariant : (e : Expr) → with_primes Never (meaning_in σ w) ≡ Some e → IsWithinLimits e → IsStateLevel e → IsInvariant σ w e
-  found_invariant e p h l = record { meaning = unprimed_is (meaning_in σ w) e p; level = l; limits = h }
+  pub found_predicate : (e : Expr) → with_primes Never (meaning_in σ w) ≡ Some e → IsWithinLimits e → IsStateLevel e → IsStatePredicate σ w e
+  found_predicate e p h l = record { meaning = unprimed_is (meaning_in σ w) e p; level = l; limits = h }
 
-  pub no_invariant : NoneShown Never (t.Name w) σ → (e : Expr) → IsInvariant σ w e → ⊥
-  no_invariant none e h = none e (shown_unprimed (meaning_in σ w) e h.meaning) h.limits
+  pub no_predicate : NoneShown Never (t.Name w) σ → (e : Expr) → IsStatePredicate σ w e → ⊥
+  no_predicate none e h = none e (shown_unprimed (meaning_in σ w) e h.meaning) h.limits
 
   -- what is found is the only expansion
-  pub high_invariant : (d : Expr) → with_primes Never (meaning_in σ w) ≡ Some d → (IsStateLevel d → ⊥) → (e : Expr) → IsInvariant σ w e → ⊥
-  high_invariant d p high e h =
+  pub high_predicate : (d : Expr) → with_primes Never (meaning_in σ w) ≡ Some d → (IsStateLevel d → ⊥) → (e : Expr) → IsStatePredicate σ w e → ⊥
+  high_predicate d p high e h =
       let q = unprimed_is (meaning_in σ w) d p in
       let r = h.meaning in
       let same : e ≡ d = cc in
@@ -90,15 +90,15 @@ module _ (σ : Scope) (tree : Tree) where
       high (subst (λ f. IsConstantLevel f) same h.level)
 
 -- the model of parts in memory
-pub parts_model : (us : List UnitTree) (cs : List Statement) (σ : Scope) (vs : List Name) (assumed : List Core) (init next : Core) (is : List Invariant) (check : Bool) (i n : Tree) (ws : List Written)
-    → σ ≡ global us (items_of cs) → ws ≡ invariants_named cs
+pub parts_model : (us : List UnitTree) (cs : List Statement) (σ : Scope) (vs : List Name) (assumed : List Core) (init next : Core) (is ks : List StatePredicate) (check : Bool) (i n : Tree)
+    → σ ≡ global us (items_of cs)
     → misuse us ≡ None → items_misused (replaceable_of us) (nameable_of us) [] (items_of cs) ≡ None → unvalued (replaced_names (items_of cs)) us ≡ None → names_misused (definitions_of us) cs ≡ None
     → AreStraight (leads us (items_of cs)) (items_of cs)
     → IsBehaviour us cs i n → vs ≡ variables_of us → AreAssumptions σ (assumptions_of us) (map expr_of assumed)
     → IsInitial σ i (expr_of init) → IsAction σ n (expr_of next)
-    → AreInvariants σ ws (map invariant_of is) → check ≡ checks_deadlock cs
-    → IsModel us cs (tree_of_parts vs assumed init next is check)
-parts_model us cs σ vs assumed init next is check i n ws at invariants known given valued named straight behaviour names assumptions initial action each deadlock =
+    → AreStatePredicates σ (invariants_named cs) (map predicate_of is) → AreStatePredicates σ (constraints_named cs) (map predicate_of ks) → check ≡ checks_deadlock cs
+    → IsModel us cs (tree_of_parts vs assumed init next is ks check)
+parts_model us cs σ vs assumed init next is ks check i n at known given valued named straight behaviour names assumptions initial action invariants constraints deadlock =
     record {
       known = known;
       given = given;
@@ -112,7 +112,8 @@ parts_model us cs σ vs assumed init next is check i n ws at invariants known gi
       assumptions = rw (sym at) assumptions;
       init = rw (sym at) initial;
       next = rw (sym at) action;
-      invariants = rw (sym at, sym invariants) each;
+      invariants = rw (sym at) invariants;
+      constraints = rw (sym at) constraints;
       check_deadlock = deadlock;
     }
 
@@ -126,22 +127,22 @@ snoc : {A : Type 0} (xs : List A) (x : A) (ys : List A) → (xs ++ x ∷ []) ++ 
 snoc [] x ys = refl
 snoc (y ∷ xs) x ys = ap (λ zs. y ∷ zs) (snoc xs x ys)
 
-map_push : (is : List Invariant) (i : Invariant) → map invariant_of (is ++ i ∷ []) ≡ map invariant_of is ++ invariant_of i ∷ []
+map_push : (is : List StatePredicate) (i : StatePredicate) → map predicate_of (is ++ i ∷ []) ≡ map predicate_of is ++ predicate_of i ∷ []
 map_push [] i = refl
-map_push (j ∷ is) i = ap (λ xs. invariant_of j ∷ xs) (map_push is i)
+map_push (j ∷ is) i = ap (λ xs. predicate_of j ∷ xs) (map_push is i)
 
--- one invariant more
-pub invariants_step : (σ : Scope) (w : Written) (left all : List Written) (done new : List Invariant) (i : Invariant) → new ≡ done ++ i ∷ [] → i.name ≡ w.word → IsInvariant σ w (expr_of i.core)
-    → Follow σ (w ∷ left) all (map invariant_of done) → Follow σ left all (map invariant_of new)
-invariants_step σ w left all done new i pushed name found f is h =
-    let more = ap (λ xs. map invariant_of xs ++ is) pushed ∙ ap (λ xs. xs ++ is) (map_push done i) ∙ snoc (map invariant_of done) (invariant_of i) is in
-    subst (λ xs. AreInvariants σ all xs) (sym more) (f (invariant_of i ∷ is) (name, found, h))
+-- one state predicate more
+pub predicates_step : (σ : Scope) (w : Written) (left all : List Written) (done new : List StatePredicate) (i : StatePredicate) → new ≡ done ++ i ∷ [] → i.name ≡ w.word → IsStatePredicate σ w (expr_of i.core)
+    → Follow σ (w ∷ left) all (map predicate_of done) → Follow σ left all (map predicate_of new)
+predicates_step σ w left all done new i pushed name found f is h =
+    let more = ap (λ xs. map predicate_of xs ++ is) pushed ∙ ap (λ xs. xs ++ is) (map_push done i) ∙ snoc (map predicate_of done) (predicate_of i) is in
+    subst (λ xs. AreStatePredicates σ all xs) (sym more) (f (predicate_of i ∷ is) (name, found, h))
 
--- where no name is left, the invariants are all there
-pub invariants_end : (σ : Scope) (left : List (Bor Written)) (all : List Written) (done : List (Name × Expr)) → length left < 1
-    → Follow σ (mentions left) all done → AreInvariants σ all done
-invariants_end σ [] all done h f = subst (λ xs. AreInvariants σ all xs) (append-nil done) (f [] tt)
-invariants_end σ (w ∷ left) all done h f = absurd (omega (arith, h))
+-- where no name is left, the state predicates are all there
+pub predicates_end : (σ : Scope) (left : List (Bor Written)) (all : List Written) (done : List (Name × Expr)) → length left < 1
+    → Follow σ (mentions left) all done → AreStatePredicates σ all done
+predicates_end σ [] all done h f = subst (λ xs. AreStatePredicates σ all xs) (append-nil done) (f [] tt)
+predicates_end σ (w ∷ left) all done h f = absurd (omega (arith, h))
 
 pub not_both : (b : Bool) → b ≡ true → b ≡ false → ⊥
 not_both b p q = let z : ⊥ = cc in z

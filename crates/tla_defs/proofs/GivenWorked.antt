@@ -25,6 +25,7 @@ with_value =
       init = record { before = init_before 0; meaning = refl; primed = refl; limits = within _ 3 2 refl refl (omega arith) (omega arith) };
       next = record { meaning = refl; limits = within _ 3 2 refl refl (omega arith) (omega arith) };
       invariants = tt;
+      constraints = tt;
       check_deadlock = refl;
     }
 
@@ -44,6 +45,7 @@ with_replacement =
       init = record { before = init_before 0; meaning = refl; primed = refl; limits = within _ 3 2 refl refl (omega arith) (omega arith) };
       next = record { meaning = refl; limits = within _ 3 2 refl refl (omega arith) (omega arith) };
       invariants = tt;
+      constraints = tt;
       check_deadlock = refl;
     }
 
@@ -66,5 +68,6 @@ two_variables =
       init = record { before = init_before 0; meaning = refl; primed = refl; limits = within _ 3 2 refl refl (omega arith) (omega arith) };
       next = record { meaning = refl; limits = within _ 7 3 refl refl (omega arith) (omega arith) };
       invariants = tt;
+      constraints = tt;
       check_deadlock = refl;
     }

@@ -22,6 +22,7 @@ with_parameter =
       init = record { before = init_before 0; meaning = refl; primed = refl; limits = within _ 3 2 refl refl (omega arith) (omega arith) };
       next = record { meaning = refl; limits = within _ 5 3 refl refl (omega arith) (omega arith) };
       invariants = tt;
+      constraints = tt;
       check_deadlock = refl;
     }
 
@@ -41,6 +42,7 @@ with_let =
       init = record { before = init_before 0; meaning = refl; primed = refl; limits = within _ 3 2 refl refl (omega arith) (omega arith) };
       next = record { meaning = refl; limits = within _ 5 3 refl refl (omega arith) (omega arith) };
       invariants = tt;
+      constraints = tt;
       check_deadlock = refl;
     }
 
@@ -60,5 +62,6 @@ without_capture =
       init = record { before = init_before 0; meaning = refl; primed = refl; limits = within _ 3 2 refl refl (omega arith) (omega arith) };
       next = record { meaning = refl; limits = within _ 13 5 refl refl (omega arith) (omega arith) };
       invariants = tt;
+      constraints = tt;
       check_deadlock = refl;
     }

@@ -12,7 +12,7 @@ use Rattle.tla_config.specs.Statements.{Statement, Item, items_of}
 use Rattle.tla_config.specs.View.{ConfigTree}
 use Rattle.tla_expand.specs.Meanings.{Scope}
 use Rattle.tla_model.specs.ModelTree.{ModelTree}
-use Rattle.tla_defs.specs.Formulas.{LacksInvariant, LacksAssumption}
+use Rattle.tla_defs.specs.Formulas.{LacksPredicate, LacksAssumption}
 use Rattle.tla_defs.specs.Global.{global}
 use Rattle.std.specs.Prelude.{IfErr}
 use Rattle.tla_names.specs.Constants.{unvalued}
@@ -20,7 +20,7 @@ use Rattle.tla_names.specs.Misuses.{misuse}
 use Rattle.tla_names.specs.Items.{definitions_of, replaceable_of, nameable_of, replaced_names, items_misused}
 use Rattle.tla_names.specs.Leads.{Lead, leads, IsCircular}
 use Rattle.tla_names.specs.Circles.{AreStraight, IsFirstCircle}
-use Rattle.tla_defs.specs.Model.{IsModel, IsBehaviour, IsInitial, IsAction, AreInvariants, AreAssumptions, assumptions_of, invariants_named}
+use Rattle.tla_defs.specs.Model.{IsModel, IsBehaviour, IsInitial, IsAction, AreStatePredicates, AreAssumptions, assumptions_of, invariants_named, constraints_named}
 use Rattle.tla_names.specs.Named.{names_misused}
 use Rattle.tla_defs.specs.Refused.{Behaviour, refused, behaviour, form_refused, IsLast, IsRefusal}
 use Rattle.tla_names.specs.Refusal.{items_refused, refusal_for, IsOfCircle}
@@ -79,12 +79,12 @@ circle_stops ls (i ∷ is) w (inr c) h = circle_stops ls is w c.1 h.1
 pub no_circle : (us : List UnitTree) (cs : List Statement) (e : DefsError) → IsOfCircle (leads us (items_of cs)) (items_of cs) e → (m : ModelTree) → IsModel us cs m → ⊥
 no_circle us cs e c m h = circle_stops (leads us (items_of cs)) (items_of cs) c.name c.first h.straight
 
--- a name without invariant stands for no list of them
-pub lacks_invariant : (σ : Scope) (ws : List Written) (is : List (Name × Expr)) → LacksInvariant σ ws → AreInvariants σ ws is → ⊥
-lacks_invariant σ [] is l h = l
-lacks_invariant σ (w ∷ ws) [] l h = h
-lacks_invariant σ (w ∷ ws) (i ∷ is) (inl l) h = l i.1 h.1
-lacks_invariant σ (w ∷ ws) (i ∷ is) (inr l) h = lacks_invariant σ ws is l h.2
+-- a name that is no state predicate stands for no list of them
+pub lacks_predicate : (σ : Scope) (ws : List Written) (is : List (Name × Expr)) → LacksPredicate σ ws → AreStatePredicates σ ws is → ⊥
+lacks_predicate σ [] is l h = l
+lacks_predicate σ (w ∷ ws) [] l h = h
+lacks_predicate σ (w ∷ ws) (i ∷ is) (inl l) h = l i.1 h.1
+lacks_predicate σ (w ∷ ws) (i ∷ is) (inr l) h = lacks_predicate σ ws is l h.2
 
 pub lacks_assumption : (σ : Scope) (ts : List Tree) (es : List Expr) → LacksAssumption σ ts → AreAssumptions σ ts es → ⊥
 lacks_assumption σ [] es l h = l
@@ -103,8 +103,11 @@ no_next us cs σ i a at p none m h =
     let same = one_behaviour us cs h.initial h.action i a h.behaviour p in
     none m.next (rw at (subst (λ v. IsAction (global us (items_of cs)) v m.next) same.1 h.next))
 
-pub no_invariants : (us : List UnitTree) (cs : List Statement) (σ : Scope) (ws : List Written) → σ ≡ global us (items_of cs) → ws ≡ invariants_named cs → LacksInvariant σ ws → (m : ModelTree) → IsModel us cs m → ⊥
-no_invariants us cs σ ws at named l m h = lacks_invariant σ ws m.invariants l (rw (at, named) h.invariants)
+pub no_invariants : (us : List UnitTree) (cs : List Statement) (σ : Scope) → σ ≡ global us (items_of cs) → LacksPredicate σ (invariants_named cs) → (m : ModelTree) → IsModel us cs m → ⊥
+no_invariants us cs σ at l m h = lacks_predicate σ (invariants_named cs) m.invariants l (rw at h.invariants)
+
+pub no_constraints : (us : List UnitTree) (cs : List Statement) (σ : Scope) → σ ≡ global us (items_of cs) → LacksPredicate σ (constraints_named cs) → (m : ModelTree) → IsModel us cs m → ⊥
+no_constraints us cs σ at l m h = lacks_predicate σ (constraints_named cs) m.constraints l (rw at h.constraints)
 
 pub no_assumptions : (us : List UnitTree) (cs : List Statement) (σ : Scope) → σ ≡ global us (items_of cs) → LacksAssumption σ (assumptions_of us) → (m : ModelTree) → IsModel us cs m → ⊥
 no_assumptions us cs σ at l m h = lacks_assumption σ (assumptions_of us) m.assumptions l (rw at h.assumptions)

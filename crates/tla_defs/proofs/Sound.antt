@@ -24,7 +24,7 @@ use Rattle.tla_names.specs.Items.{replaced_names}
 use Rattle.tla_defs.specs.Given.{fixed, with_items}
 use Rattle.tla_names.specs.Scope.{signature}
 use Rattle.tla_names.specs.Misuses.{variables_of}
-use Rattle.tla_defs.specs.Model.{meaning_in, AreInvariants, AreAssumptions, IsModel, assumptions_of, invariants_named}
+use Rattle.tla_defs.specs.Model.{meaning_in, AreStatePredicates, AreAssumptions, IsModel, assumptions_of, invariants_named, constraints_named}
 
 variables_fit : (ws : List Written) (i n : ℕ) (σ : Scope) → i + length ws ≤ n → FitsScope n 0 σ → FitsScope n 0 (variables_in i ws σ)
 variables_fit [] i n σ h s = s
@@ -87,11 +87,11 @@ module _ (n : ℕ) (σ : Scope) (scope : FitsScope n 0 σ) where
   meaning_fits : (w : Written) (e : Expr) → meaning_in σ w ≡ Some e → fits e 0 n true ≡ true
   meaning_fits w e m = expand_fits (t.Name w) σ n 0 scope e m
 
-  invariants_usable : (ws : List Written) (is : List (Name × Expr)) → AreInvariants σ ws is → AreUsable n true (bodies is)
-  invariants_usable [] [] h = tt
-  invariants_usable [] (i ∷ is) h = absurd h
-  invariants_usable (w ∷ ws) [] h = absurd h
-  invariants_usable (w ∷ ws) (i ∷ is) h = (usable n true i.1 (meaning_fits w i.1 h.1.meaning) h.1.limits, invariants_usable ws is h.2)
+  predicates_usable : (ws : List Written) (is : List (Name × Expr)) → AreStatePredicates σ ws is → AreUsable n true (bodies is)
+  predicates_usable [] [] h = tt
+  predicates_usable [] (i ∷ is) h = absurd h
+  predicates_usable (w ∷ ws) [] h = absurd h
+  predicates_usable (w ∷ ws) (i ∷ is) h = (usable n true i.1 (meaning_fits w i.1 h.1.meaning) h.1.limits, predicates_usable ws is h.2)
 
   assumptions_usable : (ts : List Tree) (es : List Expr) → AreAssumptions σ ts es → AreUsable 0 false es
   assumptions_usable [] [] h = tt
@@ -111,5 +111,6 @@ sound us cs m h =
       assumptions = assumptions_usable v σ scope (assumptions_of us) m.assumptions h.assumptions;
       init = rw n (usable v false m.init init h.init.limits);
       next = rw n (usable v true m.next (expand_fits h.action σ v 0 scope m.next h.next.meaning) h.next.limits);
-      invariants = rw n (invariants_usable v σ scope (invariants_named cs) m.invariants h.invariants);
+      invariants = rw n (predicates_usable v σ scope (invariants_named cs) m.invariants h.invariants);
+      constraints = rw n (predicates_usable v σ scope (constraints_named cs) m.constraints h.constraints);
     }

@@ -37,6 +37,7 @@ specified =
       init = record { before = init_before 0; meaning = refl; primed = refl; limits = within _ 3 2 refl refl (omega arith) (omega arith) };
       next = record { meaning = refl; limits = within _ 7 4 refl refl (omega arith) (omega arith) };
       invariants = tt;
+      constraints = tt;
       check_deadlock = refl;
     }
 
@@ -69,6 +70,7 @@ specified_in_parts =
       init = record { before = _; meaning = refl; primed = refl; limits = within _ 7 3 refl refl (omega arith) (omega arith) };
       next = record { meaning = refl; limits = within _ 7 4 refl refl (omega arith) (omega arith) };
       invariants = tt;
+      constraints = tt;
       check_deadlock = refl;
     }
 
@@ -101,5 +103,6 @@ specified_by_names =
       init = record { before = init_before 0; meaning = refl; primed = refl; limits = within _ 3 2 refl refl (omega arith) (omega arith) };
       next = record { meaning = refl; limits = within _ 7 4 refl refl (omega arith) (omega arith) };
       invariants = tt;
+      constraints = tt;
       check_deadlock = refl;
     }

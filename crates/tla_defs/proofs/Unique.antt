@@ -14,7 +14,7 @@ use Rattle.tla_expand.specs.Primes.{primes}
 use Rattle.tla_model.specs.ModelTree.{ModelTree}
 use Rattle.tla_defs.specs.Global.{global}
 use Rattle.tla_names.specs.Misuses.{variables_of}
-use Rattle.tla_defs.specs.Model.{meaning_in, IsInitial, IsBehaviour, AreInvariants, AreAssumptions, IsModel, assumptions_of, initials_named, nexts_named, specifications_named, invariants_named}
+use Rattle.tla_defs.specs.Model.{meaning_in, IsInitial, IsBehaviour, AreStatePredicates, AreAssumptions, IsModel, assumptions_of, initials_named, nexts_named, specifications_named, invariants_named, constraints_named}
 use Rattle.tla_defs.specs.Bodies.{body_of}
 use Rattle.tla_defs.specs.Specification.{IsSpecification, replaced, conjuncts, conjunction_of, initials_of, steps_of}
 
@@ -33,7 +33,7 @@ one_expansion σ t u e f same a b = same_some (expand t σ 0) e f a (ap (λ v. e
 one_initial : (σ : Scope) (t u : Tree) (e f : Expr) → t ≡ u → IsInitial σ t e → IsInitial σ u f → e ≡ f
 one_initial σ t u e f same a b = same_primed a.before b.before e f (one_expansion σ t u a.before b.before same a.meaning b.meaning) a.primed b.primed
 
-one_list : (σ : Scope) (ws : List Written) (is js : List (Name × Expr)) → AreInvariants σ ws is → AreInvariants σ ws js → is ≡ js
+one_list : (σ : Scope) (ws : List Written) (is js : List (Name × Expr)) → AreStatePredicates σ ws is → AreStatePredicates σ ws js → is ≡ js
 one_list σ [] [] [] a b = refl
 one_list σ [] [] (j ∷ js) a b = absurd b
 one_list σ [] (i ∷ is) js a b = absurd a
@@ -59,8 +59,8 @@ one_assumption σ (t ∷ ts) (e ∷ es) (f ∷ fs) a b =
 pub same_one : (ws : List Written) (w v : Written) → ws ≡ w ∷ [] → ws ≡ v ∷ [] → w ≡ v
 same_one ws w v p q = cc
 
-same_model : (m n : ModelTree) → m.variables ≡ n.variables → m.assumptions ≡ n.assumptions → m.init ≡ n.init → m.next ≡ n.next → m.invariants ≡ n.invariants → m.check_deadlock ≡ n.check_deadlock → m ≡ n
-same_model m n a b c d e f = λ k. record { variables = a k; assumptions = b k; init = c k; next = d k; invariants = e k; check_deadlock = f k }
+same_model : (m n : ModelTree) → m.variables ≡ n.variables → m.assumptions ≡ n.assumptions → m.init ≡ n.init → m.next ≡ n.next → m.invariants ≡ n.invariants → m.constraints ≡ n.constraints → m.check_deadlock ≡ n.check_deadlock → m ≡ n
+same_model m n a b c d e f g = λ k. record { variables = a k; assumptions = b k; init = c k; next = d k; invariants = e k; constraints = f k; check_deadlock = g k }
 
 -- an initial predicate and an action
 abbrev pub Same : Tree → Tree → Tree → Tree → Type 0
@@ -99,4 +99,5 @@ one_model us cs m n a b =
     (one_initial σ a.initial b.initial m.init n.init same.0 a.init b.init)
     (one_expansion σ a.action b.action m.next n.next same.1 a.next.meaning b.next.meaning)
     (one_list σ (invariants_named cs) m.invariants n.invariants a.invariants b.invariants)
+    (one_list σ (constraints_named cs) m.constraints n.constraints a.constraints b.constraints)
     (a.check_deadlock ∙ sym b.check_deadlock)

@@ -8,7 +8,7 @@ use Rattle.tla_tree.specs.Units.{UnitTree}
 use Rattle.tla_config.specs.Statements.{Statement}
 use Rattle.tla_model.specs.Size.{nodes, depth, IsWithinLimits}
 use Rattle.tla_defs.specs.Model.{IsBehaviour, initials_named, nexts_named, specifications_named}
-use Rattle.tla_defs.specs.Rows.{word, init_before, CounterOfThree, CounterOfFive, BoundedSteps, BoundedStepsMayEnd, LargestNumber}
+use Rattle.tla_defs.specs.Rows.{word, init_before, CounterOfThree, CounterOfFive, BoundedSteps, BoundedStepsMayEnd, CountsWithin, LargestNumber}
 
 pub within : (e : Expr) (n d : ℕ) → nodes e ≡ n → depth e ≡ d → n ≤ 200000 → d ≤ 300 → IsWithinLimits e
 within e n d a b p q = record { small = rw a p; shallow = rw b q }
@@ -38,6 +38,7 @@ counter_of_three =
       };
       next = record { meaning = refl; limits = within _ 7 4 refl refl (omega arith) (omega arith) };
       invariants = (refl, record { meaning = refl; level = refl; limits = within _ 3 2 refl refl (omega arith) (omega arith) }, tt);
+      constraints = tt;
       check_deadlock = refl;
     }
 
@@ -62,6 +63,7 @@ counter_of_five =
       };
       next = record { meaning = refl; limits = within _ 7 4 refl refl (omega arith) (omega arith) };
       invariants = tt;
+      constraints = tt;
       check_deadlock = refl;
     }
 
@@ -86,6 +88,7 @@ bounded_steps =
       };
       next = record { meaning = refl; limits = within _ 9 4 refl refl (omega arith) (omega arith) };
       invariants = tt;
+      constraints = tt;
       check_deadlock = refl;
     }
 
@@ -110,6 +113,32 @@ bounded_steps_may_end =
       };
       next = record { meaning = refl; limits = within _ 9 4 refl refl (omega arith) (omega arith) };
       invariants = tt;
+      constraints = tt;
+      check_deadlock = refl;
+    }
+
+pub counts_within : CountsWithin
+counts_within =
+    record {
+      known = refl;
+      given = refl;
+      valued = refl;
+      named = refl;
+      straight = tt;
+      initial = Name (word 1 6 (codes "Init"));
+      action = Name (word 2 6 (codes "Next"));
+      behaviour = by_names _ _ _ _ refl refl refl;
+      variables = refl;
+      assumptions = tt;
+      init = record {
+        before = init_before 0;
+        meaning = refl;
+        primed = refl;
+        limits = within _ 3 2 refl refl (omega arith) (omega arith);
+      };
+      next = record { meaning = refl; limits = within _ 5 3 refl refl (omega arith) (omega arith) };
+      invariants = tt;
+      constraints = (refl, record { meaning = refl; level = refl; limits = within _ 3 2 refl refl (omega arith) (omega arith) }, tt);
       check_deadlock = refl;
     }
 
@@ -134,5 +163,6 @@ largest_number =
       };
       next = record { meaning = refl; limits = within _ 5 3 refl refl (omega arith) (omega arith) };
       invariants = tt;
+      constraints = tt;
       check_deadlock = refl;
     }

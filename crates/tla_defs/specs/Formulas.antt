@@ -6,20 +6,20 @@ use Rattle.tla_tree.specs.declared.word.Written.{Written}
 use Rattle.tla_tree.specs.Tree.{Tree}
 use Rattle.tla_config.specs.Names.{Name}
 use Rattle.tla_expand.specs.Meanings.{Scope}
-use Rattle.tla_defs.specs.Model.{IsInvariant, IsAssumption, AreInvariants}
+use Rattle.tla_defs.specs.Model.{IsStatePredicate, IsAssumption, AreStatePredicates}
 
 -- names in memory
 abbrev pub mentions : List (Bor Written) → List Written
 mentions ws = map (λ (w : Bor Written). w.now) ws
 
--- Whatever are the invariants of the names that are left, those that are found and these are the invariants of all names.
+-- Whatever are the state predicates of the names that are left, those that are found and these are the state predicates of all names.
 abbrev pub Follow : Scope → List Written → List Written → List (Name × Expr) → Type 0
-Follow σ left all found = (is : List (Name × Expr)) → AreInvariants σ left is → AreInvariants σ all (found ++ is)
+Follow σ left all found = (ps : List (Name × Expr)) → AreStatePredicates σ left ps → AreStatePredicates σ all (found ++ ps)
 
--- one of these names has no invariant
-abbrev pub LacksInvariant : Scope → List Written → Type 0
-LacksInvariant σ [] = ⊥
-LacksInvariant σ (w ∷ ws) = ((e : Expr) → IsInvariant σ w e → ⊥) ⊎ LacksInvariant σ ws
+-- one of these names is no state predicate
+abbrev pub LacksPredicate : Scope → List Written → Type 0
+LacksPredicate σ [] = ⊥
+LacksPredicate σ (w ∷ ws) = ((e : Expr) → IsStatePredicate σ w e → ⊥) ⊎ LacksPredicate σ ws
 
 -- one of these is no assumption of a model
 abbrev pub LacksAssumption : Scope → List Tree → Type 0

@@ -9,7 +9,7 @@ use Rattle.tla_tree.specs.Tree.{Tree}
 use Rattle.tla_tree.specs.Tree as t
 use Rattle.tla_tree.specs.Units.{UnitTree, Assume}
 use Rattle.tla_config.specs.Names.{Name}
-use Rattle.tla_config.specs.Statements.{Statement, Specification, Init, Next, Invariants, items_of, checks_deadlock}
+use Rattle.tla_config.specs.Statements.{Statement, Specification, Init, Next, Invariants, Constraints, items_of, checks_deadlock}
 use Rattle.tla_expand.specs.Primes.{primes}
 use Rattle.tla_expand.specs.declared.primes.Primes.TheVariants.{Once}
 use Rattle.tla_expand.specs.Meanings.{Scope}
@@ -48,17 +48,18 @@ pub record IsAction (σ : Scope) (t : Tree) (e : Expr) : Type 0 where
   pub meaning : expand t σ 0 ≡ Some e
   pub limits : IsWithinLimits e
 
-pub record IsInvariant (σ : Scope) (w : Written) (e : Expr) : Type 0 where
+-- an invariant or a constraint: a formula of state level
+pub record IsStatePredicate (σ : Scope) (w : Written) (e : Expr) : Type 0 where
   pub meaning : meaning_in σ w ≡ Some e
   pub level : IsStateLevel e
   pub limits : IsWithinLimits e
 
--- each name with its invariant, in the same order
-abbrev pub AreInvariants : Scope → List Written → List (Name × Expr) → Type 0
-AreInvariants σ [] [] = Unit {0}
-AreInvariants σ [] (i ∷ is) = ⊥
-AreInvariants σ (w ∷ ws) [] = ⊥
-AreInvariants σ (w ∷ ws) (i ∷ is) = (i.0 ≡ w.word) × IsInvariant σ w i.1 × AreInvariants σ ws is
+-- each name with its state predicate, in the same order
+abbrev pub AreStatePredicates : Scope → List Written → List (Name × Expr) → Type 0
+AreStatePredicates σ [] [] = Unit {0}
+AreStatePredicates σ [] (p ∷ ps) = ⊥
+AreStatePredicates σ (w ∷ ws) [] = ⊥
+AreStatePredicates σ (w ∷ ws) (p ∷ ps) = (p.0 ≡ w.word) × IsStatePredicate σ w p.1 × AreStatePredicates σ ws ps
 
 abbrev pub assumed : UnitTree → List Tree
 assumed (Assume at w e) = e ∷ []
@@ -79,7 +80,7 @@ AreAssumptions σ [] (e ∷ es) = ⊥
 AreAssumptions σ (t ∷ ts) [] = ⊥
 AreAssumptions σ (t ∷ ts) (e ∷ es) = IsAssumption σ t e × AreAssumptions σ ts es
 
--- the names of SPECIFICATION, of INIT, of NEXT and of INVARIANT, in the order of the configuration
+-- the names of SPECIFICATION, of INIT, of NEXT, of INVARIANT and of CONSTRAINT, in the order of the configuration
 abbrev pub named_specification : Statement → List Written
 named_specification (Specification at w) = w ∷ []
 named_specification _ = []
@@ -96,6 +97,10 @@ abbrev pub named_invariants : Statement → List Written
 named_invariants (Invariants at ws) = ws
 named_invariants _ = []
 
+abbrev pub named_constraints : Statement → List Written
+named_constraints (Constraints at ws) = ws
+named_constraints _ = []
+
 abbrev pub specifications_named : List Statement → List Written
 specifications_named cs = flat_map named_specification cs
 
@@ -107,6 +112,9 @@ nexts_named cs = flat_map named_next cs
 
 abbrev pub invariants_named : List Statement → List Written
 invariants_named cs = flat_map named_invariants cs
+
+abbrev pub constraints_named : List Statement → List Written
+constraints_named cs = flat_map named_constraints cs
 
 -- exactly one INIT and one NEXT name the initial predicate and the action
 pub record IsNamed (cs : List Statement) (initial action : Tree) : Type 0 where
@@ -144,5 +152,6 @@ pub record IsModel (us : List UnitTree) (cs : List Statement) (m : ModelTree) : 
   pub assumptions : AreAssumptions (global us (items_of cs)) (assumptions_of us) m.assumptions
   pub init : IsInitial (global us (items_of cs)) initial m.init
   pub next : IsAction (global us (items_of cs)) action m.next
-  pub invariants : AreInvariants (global us (items_of cs)) (invariants_named cs) m.invariants
+  pub invariants : AreStatePredicates (global us (items_of cs)) (invariants_named cs) m.invariants
+  pub constraints : AreStatePredicates (global us (items_of cs)) (constraints_named cs) m.constraints
   pub check_deadlock : m.check_deadlock ≡ checks_deadlock cs

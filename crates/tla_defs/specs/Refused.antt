@@ -7,7 +7,7 @@ use Rattle.tla_config.specs.declared.error.DefsCode.{DefsCode}
 use Rattle.tla_config.specs.declared.error.DefsCode.TheVariants as c
 use Rattle.tla_config.specs.declared.error.DefsError.{DefsError}
 use Rattle.tla_config.specs.declared.error.Source.TheVariants as source
-use Rattle.tla_config.specs.Statements.{Statement, Specification, Init, Next, Invariants, Constants, CheckDeadlock, Item, items_of}
+use Rattle.tla_config.specs.Statements.{Statement, Specification, Init, Next, Invariants, Constraints, Constants, CheckDeadlock, Item, items_of}
 use Rattle.tla_config.specs.View.{ConfigTree}
 use Rattle.tla_names.specs.Maybe.{or_else}
 use Rattle.tla_names.specs.Items.{definitions_of}
@@ -29,6 +29,7 @@ alone p v (Init at w ∷ cs) = Err at
 alone p v (Next at w ∷ cs) = Err at
 alone p v (Specification at w ∷ cs) = Err at
 alone p v (Invariants at ws ∷ cs) = alone p v cs
+alone p v (Constraints at ws ∷ cs) = alone p v cs
 alone p v (CheckDeadlock at check ∷ cs) = alone p v cs
 alone p v (Constants at is ∷ cs) = alone p v cs
 
@@ -45,6 +46,7 @@ behaviour (Specification at w ∷ cs) end None None = alone at w cs
 behaviour (Specification at w ∷ cs) end None (Some n) = Err at
 behaviour (Specification at w ∷ cs) end (Some i) n = Err at
 behaviour (Invariants at ws ∷ cs) end i n = behaviour cs end i n
+behaviour (Constraints at ws ∷ cs) end i n = behaviour cs end i n
 behaviour (CheckDeadlock at check ∷ cs) end i n = behaviour cs end i n
 behaviour (Constants at is ∷ cs) end i n = behaviour cs end i n
 

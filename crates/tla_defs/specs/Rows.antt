@@ -58,6 +58,7 @@ model n step invariants check =
       init = equal (place_of (place 4 9)) (next (place_of (place 4 9)) 0) (constant_at 4 13 n);
       next = step;
       invariants = invariants;
+      constraints = [];
       check_deadlock = check;
     }
 
@@ -72,18 +73,18 @@ counter_step n = equal (place_of (place 5 9)) (next (place_of (place 5 9)) 0)
     (binary (place_of (place 5 14)) e.Modulo (binary (place_of (place 5 15)) e.Add (now_at 5 15) (constant_at 5 19 1)) (constant_at 5 24 n))
 
 -- x < 3 in line 6
-abbrev pub invariant_tree : Tree
-invariant_tree = Binary (place 6 8) op.Less (word 6 10 (codes "<")) (x_at 6 8) (number_at 6 12 3)
+abbrev pub below_three_tree : Tree
+below_three_tree = Binary (place 6 8) op.Less (word 6 10 (codes "<")) (x_at 6 8) (number_at 6 12 3)
 
-abbrev pub invariant : Expr
-invariant = binary (place_of (place 6 8)) e.LessThan (now_at 6 8) (constant_at 6 12 3)
+abbrev pub below_three : Expr
+below_three = binary (place_of (place 6 8)) e.LessThan (now_at 6 8) (constant_at 6 12 3)
 
 -- the counter modulo 3, with INVARIANT Inv
 abbrev pub CounterOfThree : Type 0
 CounterOfThree = IsModel
-    (frame 0 (counter_tree 3) (Operator (word 6 1 (codes "Inv")) invariant_tree ∷ []))
+    (frame 0 (counter_tree 3) (Operator (word 6 1 (codes "Inv")) below_three_tree ∷ []))
     (statements (s.Invariants (place 3 1) (word 3 11 (codes "Inv") ∷ []) ∷ []))
-    (model 0 (counter_step 3) ((codes "Inv", invariant) ∷ []) true)
+    (model 0 (counter_step 3) ((codes "Inv", below_three) ∷ []) true)
 
 -- the counter modulo 5, with no invariant
 abbrev pub CounterOfFive : Type 0
@@ -114,6 +115,13 @@ plus_tree = Binary (place 5 9) op.Equal (word 5 12 (codes "=")) (Prime (place 5 
 
 abbrev pub plus_step : Expr
 plus_step = equal (place_of (place 5 9)) (next (place_of (place 5 9)) 0) (binary (place_of (place 5 14)) e.Add (now_at 5 14) (constant_at 5 18 1))
+
+-- counting on as long as Con, which is x < 3, is TRUE
+abbrev pub CountsWithin : Type 0
+CountsWithin = IsModel
+    (frame 0 plus_tree (Operator (word 6 1 (codes "Con")) below_three_tree ∷ []))
+    (statements (s.Constraints (place 3 1) (word 3 12 (codes "Con") ∷ []) ∷ []))
+    (record (model 0 plus_step [] true) { constraints = (codes "Con", below_three) ∷ [] })
 
 -- the largest number, from which one is counted on
 abbrev pub LargestNumber : Type 0

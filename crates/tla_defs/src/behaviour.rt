@@ -33,6 +33,7 @@ fn alone<'a>(
             | Statement::Next(place, _)
             | Statement::Specification(place, _) => return Err(*place),
             Statement::Invariants(_, _)
+            | Statement::Constraints(_, _)
             | Statement::Constants(_, _)
             | Statement::CheckDeadlock(_, _) => {}
         }
@@ -69,6 +70,7 @@ pub(crate) fn named_behaviour(config: &Config) -> Result<Behaviour<'_>, Place>
                 return alone(*place, name, rest);
             }
             Statement::Invariants(_, _)
+            | Statement::Constraints(_, _)
             | Statement::Constants(_, _)
             | Statement::CheckDeadlock(_, _) => {}
         }

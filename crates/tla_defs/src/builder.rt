@@ -9,13 +9,13 @@ ghost use Rattle.tla_core.specs.Expr as expr;
 ghost use Rattle.tla_core.specs.ExprOf.{expr_of};
 ghost use Rattle.tla_expand.specs.Names.{scope_of};
 ghost use Rattle.tla_model.specs.ModelTree.{ModelTree};
-ghost use Rattle.tla_model.specs.ModelOf.{invariant_of};
+ghost use Rattle.tla_model.specs.ModelOf.{predicate_of};
 ghost use Rattle.tla_model.specs.Models.{model_of};
 ghost use Rattle.tla_tree.specs.declared.word.Written as written;
 ghost use Rattle.tla_tree.specs.UnitsView.{unit_view};
 ghost use Rattle.tla_names.specs.Circles.{AreStraight};
 ghost use Rattle.tla_names.specs.Constants.{unvalued};
-ghost use Rattle.tla_defs.specs.Formulas.{LacksInvariant, LacksAssumption, Follow, mentions};
+ghost use Rattle.tla_defs.specs.Formulas.{LacksPredicate, LacksAssumption, Follow, mentions};
 ghost use Rattle.tla_names.specs.Items as given;
 ghost use Rattle.tla_names.specs.Leads.{leads};
 ghost use Rattle.tla_defs.specs.Mentions.{behaviour_of};
@@ -26,7 +26,7 @@ ghost use Rattle.tla_defs.specs.Refused as refused;
 ghost use Rattle.tla_defs.specs.Specified.{IsOnly};
 
 use crate::behaviour::{Behaviour, named_behaviour};
-use crate::formula::{assumption, invariant};
+use crate::formula::{assumption, state_predicate};
 use crate::global::global_scope;
 use crate::meant::{initial_predicate, meaning, next_action};
 use crate::places::Places;
@@ -34,7 +34,7 @@ use std::alloc::Global;
 use tla_config::{Config, DefsCode, DefsError, Source, Statement};
 use tla_core::Core;
 use tla_expand::Scopes;
-use tla_model::{Invariant, Model};
+use tla_model::{Model, StatePredicate};
 use tla_names::{
     Items, Names, definitions_of, no_memory, refusal_at, statements_named, straight, text_of,
     valued, variables,
@@ -89,68 +89,119 @@ fn invariants_named<'a>(
     Ok(names)
 }
 
-fn push(invariants: &mut Vec<Invariant>, invariant: Invariant) -> Result<(), DefsError>
-    ensures ok { OnOk result (invariants.new.items ≡ invariants.old.items ++ invariant ∷ []) }
+/// The names of the constraints, in the order of the configuration. The only error is want of memory.
+fn constraints_named<'a>(
+    alloc: Global,
+    statements: &'a [Statement],
+) -> Result<Vec<&'a Written>, DefsError>
+    ensures ok { IfOk result (λ ws. mentions ws.items ≡ model.constraints_named (map statement_view statements.entry.now)) }
     ensures err { IfErr result (λ e. e.code ≡ Memory) }
 {
-    match invariants.push(invariant) {
+    let mut names = Vec::new(alloc);
+    let mut left = statements;
+    while let [first, rest @ ..] = left {
+        if let Statement::Constraints(_, constraints) = first {
+            push_names(&mut names, constraints)?;
+        }
+        left = rest;
+    }
+    Ok(names)
+}
+
+fn push(predicates: &mut Vec<StatePredicate>, predicate: StatePredicate) -> Result<(), DefsError>
+    ensures ok { OnOk result (predicates.new.items ≡ predicates.old.items ++ predicate ∷ []) }
+    ensures err { IfErr result (λ e. e.code ≡ Memory) }
+{
+    match predicates.push(predicate) {
         Ok(()) => Ok(()),
         Err(_) => Err(no_memory()),
     }
 }
 
-/// The invariant of this name.
-fn named_invariant(
+/// The invariant or the constraint of this name.
+fn named_predicate(
     alloc: Global,
     places: &Places<'_, '_>,
     scopes: &Scopes<'_>,
     name: &Written,
-) -> Result<Invariant, DefsError>
-    ensures name { IfOk result (λ i. i.name ≡ name.now.word) }
-    ensures found { IfOk result (λ i. model.IsInvariant (scope_of scopes.now) name.now (expr_of i.core)) }
+) -> Result<StatePredicate, DefsError>
+    ensures name { IfOk result (λ p. p.name ≡ name.now.word) }
+    ensures found { IfOk result (λ p. model.IsStatePredicate (scope_of scopes.now) name.now (expr_of p.core)) }
     ensures formula { IfErr result (λ e. e.code ≢ Memory → refused.IsOfFormula e) }
-    ensures none { IfErr result (λ e. e.code ≢ Memory → (x : expr.Expr) → model.IsInvariant (scope_of scopes.now) name.now x → ⊥) }
+    ensures none { IfErr result (λ e. e.code ≢ Memory → (x : expr.Expr) → model.IsStatePredicate (scope_of scopes.now) name.now x → ⊥) }
 {
-    let core = invariant(alloc, places, scopes, name)?;
+    let core = state_predicate(alloc, places, scopes, name)?;
     let name = text_of(alloc, name.word.as_bytes())?;
-    Ok(Invariant { name, core })
+    Ok(StatePredicate { name, core })
 }
 
-/// One invariant more. Contracts see what it adds to the lists that may still follow.
-fn push_invariant(
+/// One invariant or constraint more. Contracts see what it adds to the lists that may still follow.
+fn push_predicate(
     alloc: Global,
     places: &Places<'_, '_>,
     scopes: &Scopes<'_>,
     name: &Written,
-    invariants: &mut Vec<Invariant>,
+    predicates: &mut Vec<StatePredicate>,
 ) -> Result<(), DefsError>
-    ensures found { (left all : List written.Written) → OnOk result (Follow (scope_of scopes.now) (name.now ∷ left) all (map invariant_of invariants.old.items) → Follow (scope_of scopes.now) left all (map invariant_of invariants.new.items)) }
+    ensures found { (left all : List written.Written) → OnOk result (Follow (scope_of scopes.now) (name.now ∷ left) all (map predicate_of predicates.old.items) → Follow (scope_of scopes.now) left all (map predicate_of predicates.new.items)) }
     ensures formula { IfErr result (λ e. e.code ≢ Memory → refused.IsOfFormula e) }
-    ensures none { IfErr result (λ e. e.code ≢ Memory → (x : expr.Expr) → model.IsInvariant (scope_of scopes.now) name.now x → ⊥) }
+    ensures none { IfErr result (λ e. e.code ≢ Memory → (x : expr.Expr) → model.IsStatePredicate (scope_of scopes.now) name.now x → ⊥) }
 {
-    let invariant = named_invariant(alloc, places, scopes, name)?;
-    push(invariants, invariant)?;
+    let predicate = named_predicate(alloc, places, scopes, name)?;
+    push(predicates, predicate)?;
     Ok(())
 }
 
-/// The invariants of these names, in order.
-fn invariants(
+/// The invariants or the constraints of these names, in order.
+fn state_predicates(
     alloc: Global,
     places: &Places<'_, '_>,
     scopes: &Scopes<'_>,
     names: &[&Written],
-) -> Result<Vec<Invariant>, DefsError>
-    ensures found { IfOk result (λ is. model.AreInvariants (scope_of scopes.now) (mentions names.now) (map invariant_of is.items)) }
+) -> Result<Vec<StatePredicate>, DefsError>
+    ensures found { IfOk result (λ ps. model.AreStatePredicates (scope_of scopes.now) (mentions names.now) (map predicate_of ps.items)) }
     ensures formula { IfErr result (λ e. e.code ≢ Memory → refused.IsOfFormula e) }
-    ensures none { IfErr result (λ e. e.code ≢ Memory → LacksInvariant (scope_of scopes.now) (mentions names.now)) }
+    ensures none { IfErr result (λ e. e.code ≢ Memory → LacksPredicate (scope_of scopes.now) (mentions names.now)) }
 {
-    let mut invariants = Vec::new(alloc);
+    let mut predicates = Vec::new(alloc);
     let mut left = names;
     while let [first, rest @ ..] = left {
-        push_invariant(alloc, places, scopes, first, &mut invariants)?;
+        push_predicate(alloc, places, scopes, first, &mut predicates)?;
         left = rest;
     }
-    Ok(invariants)
+    Ok(predicates)
+}
+
+/// The invariants, in the order of the configuration.
+fn invariants(
+    alloc: Global,
+    places: &Places<'_, '_>,
+    scopes: &Scopes<'_>,
+    statements: &[Statement],
+) -> Result<Vec<StatePredicate>, DefsError>
+    ensures found { IfOk result (λ ps. model.AreStatePredicates (scope_of scopes.now) (model.invariants_named (map statement_view statements.now)) (map predicate_of ps.items)) }
+    ensures formula { IfErr result (λ e. e.code ≢ Memory → refused.IsOfFormula e) }
+    ensures none { IfErr result (λ e. e.code ≢ Memory → LacksPredicate (scope_of scopes.now) (model.invariants_named (map statement_view statements.now))) }
+{
+    let named = invariants_named(alloc, statements)?;
+    let predicates = state_predicates(alloc, places, scopes, named.as_slice())?;
+    Ok(predicates)
+}
+
+/// The constraints, in the order of the configuration.
+fn constraints(
+    alloc: Global,
+    places: &Places<'_, '_>,
+    scopes: &Scopes<'_>,
+    statements: &[Statement],
+) -> Result<Vec<StatePredicate>, DefsError>
+    ensures found { IfOk result (λ ps. model.AreStatePredicates (scope_of scopes.now) (model.constraints_named (map statement_view statements.now)) (map predicate_of ps.items)) }
+    ensures formula { IfErr result (λ e. e.code ≢ Memory → refused.IsOfFormula e) }
+    ensures none { IfErr result (λ e. e.code ≢ Memory → LacksPredicate (scope_of scopes.now) (model.constraints_named (map statement_view statements.now))) }
+{
+    let named = constraints_named(alloc, statements)?;
+    let predicates = state_predicates(alloc, places, scopes, named.as_slice())?;
+    Ok(predicates)
 }
 
 /// The assumptions, in the order of the module.
@@ -213,11 +264,19 @@ fn model<'a>(
     let assumptions = assumptions(alloc, units, &scopes)?;
     let init = initial_predicate(alloc, &places, &scopes, &meant)?;
     let next = next_action(alloc, &places, &scopes, &meant)?;
-    let named = invariants_named(alloc, statements)?;
-    let invariants = invariants(alloc, &places, &scopes, named.as_slice())?;
+    let invariants = invariants(alloc, &places, &scopes, statements)?;
+    let constraints = constraints(alloc, &places, &scopes, statements)?;
     let names = variables.texts(alloc)?;
     let check = looks_for_deadlock(statements);
-    Ok(Model::new(names, assumptions, init, next, invariants, check))
+    Ok(Model::new(
+        names,
+        assumptions,
+        init,
+        next,
+        invariants,
+        constraints,
+        check,
+    ))
 }
 
 /// The model; a refusal for want of memory may say anything else.
@@ -245,7 +304,7 @@ fn model_or_refusal(alloc: Global, units: &[Unit], config: &Config) -> Result<Mo
 
 /// The model that a module and a configuration name, or the first step that refuses them: the names of the module, the
 /// items of CONSTANT, a constant without a value, the behaviour, the names of the configuration, an item that leads back to
-/// its name, the form of SPECIFICATION, the assumptions, Init, Next, and the invariants. (Which of the steps behind the
+/// its name, the form of SPECIFICATION, the assumptions, Init, Next, the invariants and the constraints. (Which of the steps behind the
 /// items refuses, no clause says.)
 /// It recurses as deep as the module's trees are nested, which is at most 200 from `parse_module`, and over a formula's
 /// expansion to depth 300.

@@ -87,16 +87,16 @@ pub(crate) fn action(
     }
 }
 
-/// The invariant of this name.
-pub(crate) fn invariant(
+/// The invariant or the constraint of this name.
+pub(crate) fn state_predicate(
     alloc: Global,
     places: &Places<'_, '_>,
     scopes: &Scopes<'_>,
     name: &Written,
 ) -> Result<Core, DefsError>
-    ensures found { IfOk result (λ c. model.IsInvariant (scope_of scopes.now) name.now (expr_of c)) }
+    ensures found { IfOk result (λ c. model.IsStatePredicate (scope_of scopes.now) name.now (expr_of c)) }
     ensures formula { IfErr result (λ e. e.code ≢ Memory → refused.IsOfFormula e) }
-    ensures none { IfErr result (λ e. e.code ≢ Memory → (x : expr.Expr) → model.IsInvariant (scope_of scopes.now) name.now x → ⊥) }
+    ensures none { IfErr result (λ e. e.code ≢ Memory → (x : expr.Expr) → model.IsStatePredicate (scope_of scopes.now) name.now x → ⊥) }
 {
     match scopes.meaning(alloc, name, Primes::Never) {
         Ok(core) => {

@@ -1,7 +1,7 @@
 //! Laws of models, over their definitions alone.
 
 ghost use Rattle.tla_defs.specs.Laws.{OnlyModel, NoneRefused, IsAlwaysSound};
-ghost use Rattle.tla_defs.specs.Rows.{CounterOfThree, CounterOfFive, BoundedSteps, BoundedStepsMayEnd, LargestNumber};
+ghost use Rattle.tla_defs.specs.Rows.{CounterOfThree, CounterOfFive, BoundedSteps, BoundedStepsMayEnd, CountsWithin, LargestNumber};
 ghost use Rattle.tla_defs.specs.GivenRows.{WithValue, WithReplacement, Circle, TwoVariables};
 ghost use Rattle.tla_defs.specs.SpecificationRows.{Specified, SpecifiedInParts, SpecifiedByNames};
 ghost use Rattle.tla_defs.specs.NamedRows.{WithParameter, WithLet, WithoutCapture};
@@ -27,6 +27,7 @@ pub fn models()
     ensures counter_of_five { CounterOfFive }
     ensures bounded_steps { BoundedSteps }
     ensures bounded_steps_may_end { BoundedStepsMayEnd }
+    ensures counts_within { CountsWithin }
     ensures largest_number { LargestNumber }
     ensures with_parameter { WithParameter }
     ensures with_let { WithLet }

@@ -15,7 +15,7 @@ abbrev pub AreUsable : ℕ → Bool → List Expr → Type 0
 AreUsable variables present [] = ⊤
 AreUsable variables present (e ∷ es) = IsUsable variables present e × AreUsable variables present es
 
--- the expressions of invariants with their names
+-- the expressions of invariants, or of constraints, with their names
 abbrev pub bodies : List (List ℕ × Expr) → List Expr
 bodies is = map (λ (i : List ℕ × Expr). i.1) is
 
@@ -25,6 +25,7 @@ pub record IsSound (m : ModelTree) : Type 0 where
   pub init : IsUsable (length m.variables) false m.init
   pub next : IsUsable (length m.variables) true m.next
   pub invariants : AreUsable (length m.variables) true (bodies m.invariants)
+  pub constraints : AreUsable (length m.variables) true (bodies m.constraints)
 
 -- there is one proof of it at most
 pub IsUsable-prop : (variables : ℕ) (present : Bool) (e : Expr) → IsProp (IsUsable variables present e)
@@ -43,4 +44,5 @@ IsSound-prop m =
     let i = IsUsable-prop (length m.variables) false m.init in
     let n = IsUsable-prop (length m.variables) true m.next in
     let v = AreUsable-prop (length m.variables) true (bodies m.invariants) in
-    hlevel (props, a, i, n, v)
+    let c = AreUsable-prop (length m.variables) true (bodies m.constraints) in
+    hlevel (props, a, i, n, v, c)

@@ -1,4 +1,4 @@
--- What is checked: the variables, the assumptions, the behaviour and the invariants (book, chapter 14).
+-- What is checked: the variables, the assumptions, the behaviour, the invariants and the constraints (book, chapter 14).
 use Rattle.std.specs.Prelude.{ℕ, Bool, List}
 use Rattle.tla_core.specs.Expr.{Expr}
 
@@ -10,4 +10,6 @@ pub record ModelTree : Type 0 where
   pub init : Expr
   pub next : Expr
   pub invariants : List (List ℕ × Expr)
+  -- steps are taken from the states at which each is TRUE
+  pub constraints : List (List ℕ × Expr)
   pub check_deadlock : Bool

@@ -1,8 +1,8 @@
-//! What is checked: variables, assumptions, initial predicate, next-state action and invariants.
+//! What is checked: variables, assumptions, initial predicate, next-state action, invariants and constraints.
 #![tactic(auto)]
 
-mod invariant;
 mod model;
+mod state_predicate;
 
-pub use invariant::Invariant;
 pub use model::Model;
+pub use state_predicate::StatePredicate;

@@ -2,9 +2,9 @@
 ghost use Rattle.std.specs.Prelude.{◌≡◌, map};
 ghost use Rattle.tla_core.specs.ExprOf.{expr_of};
 ghost use Rattle.tla_model.specs.IsSound.{IsSound, IsSound-prop};
-ghost use Rattle.tla_model.specs.ModelOf.{invariant_of, tree_of_parts};
+ghost use Rattle.tla_model.specs.ModelOf.{predicate_of, tree_of_parts};
 
-use crate::invariant::Invariant;
+use crate::state_predicate::StatePredicate;
 use tla_core::Core;
 use tla_value::Text;
 
@@ -16,9 +16,10 @@ pub struct Model {
     assumptions: Vec<Core>,
     init: Core,
     next: Core,
-    invariants: Vec<Invariant>,
+    invariants: Vec<StatePredicate>,
+    constraints: Vec<StatePredicate>,
     check_deadlock: bool,
-    ghost sound: { IsSound (tree_of_parts variables.items assumptions.items init next invariants.items check_deadlock) } by { IsSound-prop (tree_of_parts variables.items assumptions.items init next invariants.items check_deadlock) },
+    ghost sound: { IsSound (tree_of_parts variables.items assumptions.items init next invariants.items constraints.items check_deadlock) } by { IsSound-prop (tree_of_parts variables.items assumptions.items init next invariants.items constraints.items check_deadlock) },
 }
 
 impl Model {
@@ -30,11 +31,12 @@ impl Model {
         assumptions: Vec<Core>,
         init: Core,
         next: Core,
-        invariants: Vec<Invariant>,
+        invariants: Vec<StatePredicate>,
+        constraints: Vec<StatePredicate>,
         check_deadlock: bool,
     ) -> Model
-        requires { IsSound (tree_of_parts variables.items assumptions.items init next invariants.items check_deadlock) }
-        ensures { model_of result ≡ tree_of_parts variables.items assumptions.items init next invariants.items check_deadlock }
+        requires { IsSound (tree_of_parts variables.items assumptions.items init next invariants.items constraints.items check_deadlock) }
+        ensures { model_of result ≡ tree_of_parts variables.items assumptions.items init next invariants.items constraints.items check_deadlock }
     {
         Model {
             variables,
@@ -42,6 +44,7 @@ impl Model {
             init,
             next,
             invariants,
+            constraints,
             check_deadlock,
         }
     }
@@ -75,10 +78,17 @@ impl Model {
     }
 
     /// The invariants, in the order of the configuration.
-    pub fn invariants(&self) -> &[Invariant]
-        ensures { map invariant_of result.now ≡ (model_of self.now).invariants }
+    pub fn invariants(&self) -> &[StatePredicate]
+        ensures { map predicate_of result.now ≡ (model_of self.now).invariants }
     {
         self.invariants.as_slice()
+    }
+
+    /// The constraints, in the order of the configuration: steps are taken from the states at which each is TRUE.
+    pub fn constraints(&self) -> &[StatePredicate]
+        ensures { map predicate_of result.now ≡ (model_of self.now).constraints }
+    {
+        self.constraints.as_slice()
     }
 
     /// Whether a state from which no step goes is an error.

@@ -1,7 +1,7 @@
 -- The names that a configuration looks up: each is that of a definition without parameters (this project's own choice).
 use Rattle.std.specs.Prelude.{List, [], ◌∷◌, Option, None}
 use Rattle.tla_tree.specs.declared.word.Written.{Written}
-use Rattle.tla_config.specs.Statements.{Statement, Specification, Init, Next, Invariants, Constants, CheckDeadlock}
+use Rattle.tla_config.specs.Statements.{Statement, Specification, Init, Next, Invariants, Constraints, Constants, CheckDeadlock}
 use Rattle.tla_names.specs.Maybe.{or_else}
 use Rattle.tla_names.specs.Scope.{Scope}
 use Rattle.tla_names.specs.Known.{Misuse, used}
@@ -18,6 +18,7 @@ abbrev pub named : Statement → List Written
 named (Init at w) = w ∷ []
 named (Next at w) = w ∷ []
 named (Invariants at ws) = ws
+named (Constraints at ws) = ws
 named (CheckDeadlock at check) = []
 named (Specification at w) = w ∷ []
 named (Constants at is) = []

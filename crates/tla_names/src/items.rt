@@ -83,6 +83,7 @@ impl<'a> Items<'a> {
             | Statement::Next(_, _)
             | Statement::Specification(_, _)
             | Statement::Invariants(_, _)
+            | Statement::Constraints(_, _)
             | Statement::CheckDeadlock(_, _) => Ok(()),
         }
     }

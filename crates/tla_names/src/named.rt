@@ -62,7 +62,11 @@ fn statement_named(
     match statement {
         Statement::Init(_, name) | Statement::Next(_, name) | Statement::Specification(_, name) =>
             named(alloc, definitions, name),
-        Statement::Invariants(_, names) => each_named(alloc, definitions, names),
+        Statement::Invariants(_, names) | Statement::Constraints(_, names) => each_named(
+            alloc,
+            definitions,
+            names,
+        ),
         Statement::Constants(_, _) | Statement::CheckDeadlock(_, _) => Ok(()),
     }
 }

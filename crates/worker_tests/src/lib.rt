@@ -5,11 +5,17 @@
 #![tactic(auto)]
 
 #[cfg(test)]
+mod board;
+#[cfg(test)]
 mod checks;
 #[cfg(test)]
 mod depths;
 #[cfg(test)]
 mod gates;
+#[cfg(test)]
+mod graph_gates;
+#[cfg(test)]
+mod graphs;
 #[cfg(test)]
 mod texts;
 #[cfg(test)]

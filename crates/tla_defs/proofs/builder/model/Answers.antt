@@ -5,13 +5,12 @@ use Rattle.std.specs.Borrow.{Bor}
 use Rattle.tla_config.specs.View.{statement_view}
 use Rattle.tla_expand.specs.Names.{scope_of}
 use Rattle.tla_tree.specs.UnitsView.{unit_view}
-use Rattle.tla_defs.specs.Formulas.{mentions}
 use Rattle.tla_defs.specs.Global.{global}
 use Rattle.tla_defs.specs.Mentions.{behaviour_of}
 use Rattle.tla_defs.specs.Specified.{action_tree}
 use Rattle.tla_defs.proofs.Found.{parts_model}
 use Rattle.tla_defs.proofs.Means.{meaning_behaviour, no_meaning}
-use Rattle.tla_defs.proofs.Nones.{no_init, no_next, no_invariants, no_assumptions}
+use Rattle.tla_defs.proofs.Nones.{no_init, no_next, no_invariants, no_constraints, no_assumptions}
 use Rattle.tla_defs.proofs.Sound.{sound}
 use Rattle.tla_defs.proofs.builder.model.Goals as goal
 
@@ -22,9 +21,9 @@ new-requires c =
     let at = c.in_ok-scopes.ensures.ok ∙ ap (λ is. global us is) c.requires.items in
     let counted = sym (length-map c.words-count.result.now (λ (w : Bor (List ℕ)). w.now)) ∙ ap (λ (xs : List (List ℕ)). length xs) c.words-count.ensures ∙ ap (λ (xs : List (List ℕ)). length xs) c.requires.variables in
     let means = meaning_behaviour us cs c.args.items.now (scope_of c.in_ok-scopes.scopes) (length c.words-count.result.now) (behaviour_of c.args.behaviour) c.in_ok-meant.meant c.requires.items at counted c.requires.only c.in_ok-meant.ensures.found in
-    sound us cs _ (parts_model us cs (scope_of c.in_ok-scopes.scopes) c.in_ok-names.names.items c.in_ok-assumptions.assumptions.items c.in_ok-init.init c.in_ok-next.next c.in_ok-invariants.invariants.items c.looks_for_deadlock-check.result means.0 (action_tree c.in_ok-meant.meant) _
-    at (ap mentions c.as_slice.ensures.value ∙ c.in_ok-named.ensures.ok) c.requires.known (rw c.requires.items at c.requires.given) (rw c.requires.items at c.requires.valued) c.requires.named (rw c.requires.items at c.requires.straight) means.2 (c.in_ok-names.ensures.ok ∙ c.requires.variables)
-    c.in_ok-assumptions.ensures.found (c.in_ok-init.ensures.found means.0 means.1) c.in_ok-next.ensures.found c.in_ok-invariants.ensures.found c.looks_for_deadlock-check.ensures)
+    sound us cs _ (parts_model us cs (scope_of c.in_ok-scopes.scopes) c.in_ok-names.names.items c.in_ok-assumptions.assumptions.items c.in_ok-init.init c.in_ok-next.next c.in_ok-invariants.invariants.items c.in_ok-constraints.constraints.items c.looks_for_deadlock-check.result means.0 (action_tree c.in_ok-meant.meant)
+    at c.requires.known (rw c.requires.items at c.requires.given) (rw c.requires.items at c.requires.valued) c.requires.named (rw c.requires.items at c.requires.straight) means.2 (c.in_ok-names.ensures.ok ∙ c.requires.variables)
+    c.in_ok-assumptions.ensures.found (c.in_ok-init.ensures.found means.0 means.1) c.in_ok-next.ensures.found c.in_ok-invariants.ensures.found c.in_ok-constraints.ensures.found c.looks_for_deadlock-check.ensures)
 
 pub returns-clause-found : goal.returns-clause-found
 returns-clause-found c =
@@ -33,9 +32,9 @@ returns-clause-found c =
     let at = c.in_ok-scopes.ensures.ok ∙ ap (λ is. global us is) c.requires.items in
     let counted = sym (length-map c.words-count.result.now (λ (w : Bor (List ℕ)). w.now)) ∙ ap (λ (xs : List (List ℕ)). length xs) c.words-count.ensures ∙ ap (λ (xs : List (List ℕ)). length xs) c.requires.variables in
     let means = meaning_behaviour us cs c.args.items.now (scope_of c.in_ok-scopes.scopes) (length c.words-count.result.now) (behaviour_of c.args.behaviour) c.in_ok-meant.meant c.requires.items at counted c.requires.only c.in_ok-meant.ensures.found in
-    rw c.new.ensures (parts_model us cs (scope_of c.in_ok-scopes.scopes) c.in_ok-names.names.items c.in_ok-assumptions.assumptions.items c.in_ok-init.init c.in_ok-next.next c.in_ok-invariants.invariants.items c.looks_for_deadlock-check.result means.0 (action_tree c.in_ok-meant.meant) _
-    at (ap mentions c.as_slice.ensures.value ∙ c.in_ok-named.ensures.ok) c.requires.known (rw c.requires.items at c.requires.given) (rw c.requires.items at c.requires.valued) c.requires.named (rw c.requires.items at c.requires.straight) means.2 (c.in_ok-names.ensures.ok ∙ c.requires.variables)
-    c.in_ok-assumptions.ensures.found (c.in_ok-init.ensures.found means.0 means.1) c.in_ok-next.ensures.found c.in_ok-invariants.ensures.found c.looks_for_deadlock-check.ensures)
+    rw c.new.ensures (parts_model us cs (scope_of c.in_ok-scopes.scopes) c.in_ok-names.names.items c.in_ok-assumptions.assumptions.items c.in_ok-init.init c.in_ok-next.next c.in_ok-invariants.invariants.items c.in_ok-constraints.constraints.items c.looks_for_deadlock-check.result means.0 (action_tree c.in_ok-meant.meant)
+    at c.requires.known (rw c.requires.items at c.requires.given) (rw c.requires.items at c.requires.valued) c.requires.named (rw c.requires.items at c.requires.straight) means.2 (c.in_ok-names.ensures.ok ∙ c.requires.variables)
+    c.in_ok-assumptions.ensures.found (c.in_ok-init.ensures.found means.0 means.1) c.in_ok-next.ensures.found c.in_ok-invariants.ensures.found c.in_ok-constraints.ensures.found c.looks_for_deadlock-check.ensures)
 
 pub returns-in_err-meant-clause-none : goal.returns-in_err-meant-clause-none
 returns-in_err-meant-clause-none c =
@@ -80,7 +79,15 @@ returns-in_err-invariants-clause-none c =
     let cs = map statement_view c.args.statements.now in
     let at = c.in_ok-scopes.ensures.ok ∙ ap (λ is. global us is) c.requires.items in
     let e = err_from_is_err_and c.from_residual-in_err-invariants.result c.from_residual-in_err-invariants.ensures.1 in
-    rw (e.1, e.2) (λ h. no_invariants us cs _ _ at (ap mentions c.as_slice.ensures.value ∙ c.in_ok-named.ensures.ok) (c.in_err-invariants.ensures.none h))
+    rw (e.1, e.2) (λ h. no_invariants us cs _ at (c.in_err-invariants.ensures.none h))
+
+pub returns-in_err-constraints-clause-none : goal.returns-in_err-constraints-clause-none
+returns-in_err-constraints-clause-none c =
+    let us = map unit_view c.args.units.now in
+    let cs = map statement_view c.args.statements.now in
+    let at = c.in_ok-scopes.ensures.ok ∙ ap (λ is. global us is) c.requires.items in
+    let e = err_from_is_err_and c.from_residual-in_err-constraints.result c.from_residual-in_err-constraints.ensures.1 in
+    rw (e.1, e.2) (λ h. no_constraints us cs _ at (c.in_err-constraints.ensures.none h))
 
 pub returns-in_err-names-clause-none : goal.returns-in_err-names-clause-none
 returns-in_err-names-clause-none c =

@@ -16,6 +16,9 @@ returns-clause-bounded_steps c = worked.bounded_steps
 pub returns-clause-bounded_steps_may_end : goal.returns-clause-bounded_steps_may_end
 returns-clause-bounded_steps_may_end c = worked.bounded_steps_may_end
 
+pub returns-clause-counts_within : goal.returns-clause-counts_within
+returns-clause-counts_within c = worked.counts_within
+
 pub returns-clause-largest_number : goal.returns-clause-largest_number
 returns-clause-largest_number c = worked.largest_number
 
