@@ -6,6 +6,8 @@
 #[cfg(test)]
 mod check;
 #[cfg(test)]
+mod cuts;
+#[cfg(test)]
 mod input;
 #[cfg(test)]
 mod line;

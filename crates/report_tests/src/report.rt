@@ -1,10 +1,8 @@
-// Reports of small answers, and writers that take few bytes a call, and none from some point on.
+// Reports of small answers.
 ghost use Rattle.std.specs.Prelude.{◌≡◌, length, IfOk};
 ghost use Rattle.tla_search.specs.IsNamed.{AreWhole, IsNamed};
 
 use std::alloc::{AllocError, Global};
-use std::io;
-use std::io::{ErrorKind, Write};
 use std::process::Abort;
 use std::test::*;
 use tla_check::*;
@@ -195,77 +193,5 @@ fn reports_of_refusals(rt: HostRuntime) -> Result<(), Fail> {
         22,
         "A worker could not be started.\n",
     );
-    Ok(())
-}
-
-// Takes at most `step` bytes a call, as long as there is room; then it fails, or takes none.
-#[derive(Drop)]
-struct Narrow {
-    taken: Vec<u8>,
-    step: usize,
-    room: usize,
-    fails: bool,
-}
-
-impl Write for Narrow {
-    fn write(&mut self, buf: &[u8]) -> io::Result<usize> {
-        let count = buf.len().min(self.step).min(self.room);
-        if count == 0 && self.fails {
-            return Err(io::Error::from(ErrorKind::BrokenPipe));
-        }
-        self.taken.extend_from_slice(&buf[..count])?;
-        self.room -= count;
-        Ok(count)
-    }
-
-    fn flush(&mut self) -> io::Result<()> {
-        Ok(())
-    }
-}
-
-// Writes the report with room for each number of its bytes.
-fn assert_cuts(rt: &impl Abort, alloc: Global, checked: &Checked, report: &str) {
-    for step in [1, usize::MAX] {
-        for fails in [true, false] {
-            for room in 0..=report.len() {
-                let mut out = Narrow {
-                    taken: Vec::new(alloc),
-                    step,
-                    room,
-                    fails,
-                };
-                let result = write_report(checked, &mut out);
-                if room < report.len() {
-                    let fault = WriteFault {
-                        written: room as u64,
-                    };
-                    assert!(rt; result == Err(fault), "{step} a call, {room} in all");
-                } else {
-                    assert!(rt; result == Ok(()), "{step} a call");
-                }
-                assert_eq!(rt; out.taken.as_slice(), &report.as_bytes()[..room]);
-            }
-        }
-    }
-}
-
-#[test]
-fn a_report_ends_where_its_writer_does(rt: HostRuntime) -> Result<(), Fail> {
-    let alloc = rt.alloc();
-    let answer = Answer::NoError {
-        counts: Counts {
-            levels: 3,
-            states: 3,
-        },
-    };
-    assert_cuts(
-        &rt,
-        alloc,
-        &about_x(alloc, answer)?,
-        "No error.\nLevels 3, states 3.\n",
-    );
-    let report =
-        "Fault E2 at line 5, column 14 in the next-state action.\nState 1:\n/\\ x = 9223372036854775807\nLevels 1, states 1.\n";
-    assert_cuts(&rt, alloc, &faulted(alloc)?, report);
     Ok(())
 }
