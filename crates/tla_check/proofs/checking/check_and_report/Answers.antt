@@ -15,5 +15,5 @@ pub returns-in_err-write_report-clause-fault : goal.returns-in_err-write_report-
 returns-in_err-write_report-clause-fault g c =
     exit
     (λ (e : WriteFault). (x : Checked) × IsChecked c.args.module.now c.args.config.now c.args.options.now.limit x
-        × AddsFirst (g.W.Write.contents c.args.out.now) (g.W.Write.contents c.write_report.new.out) (report x) e.written)
+    × AddsFirst (g.W.Write.contents c.args.out.now) (g.W.Write.contents c.write_report.new.out) (report x) e.written)
     _ _ c.from_residual.ensures.1 (c.check-checked.result, c.check-checked.ensures, c.in_err-write_report.ensures.fault)
