@@ -118,8 +118,8 @@ fn table(rt: HostRuntime) -> Result<(), Fail> {
             "I Init;N Next;V Inv;4:1",
         ),
         (
-            b"INVARIANTS A, B C\nCHECK_DEADLOCK FALSE".as_slice(),
-            "V A B C;D-;2:21",
+            b"INVARIANTS A, B C\nCONSTRAINT D\nCONSTRAINTS E F, D\nCHECK_DEADLOCK FALSE".as_slice(),
+            "V A B C;B D;B E F D;D-;4:21",
         ),
         (
             b"\\* a comment\n(* another *) CHECK_DEADLOCK TRUE".as_slice(),
@@ -139,6 +139,8 @@ fn table(rt: HostRuntime) -> Result<(), Fail> {
             "C A=-9223372036854775808;1:34",
         ),
         (b"CONSTANT A <- [M] B".as_slice(), "C10 1:15 ["),
+        (b"CONSTRAINT [".as_slice(), "C1 1:12"),
+        (b"CONSTRAINT VIEW".as_slice(), "C1 1:12"),
         (b"CONSTANT A = {1, }".as_slice(), "C1 1:18"),
         (b"".as_slice(), "1:1"),
         (
