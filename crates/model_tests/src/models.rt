@@ -20,7 +20,8 @@ fn show_error(alloc: Global, e: &DefsError) -> Result<String, AllocError> {
     Ok(out)
 }
 
-/// The variables, the places of Init and Next, the invariants with their places, and whether deadlock is looked for.
+/// The variables, the places of Init and Next, the invariants and the constraints with their places, and whether deadlock
+/// is looked for.
 fn show(alloc: Global, model: &Model) -> Result<String, AllocError> {
     let mut out = String::new(alloc);
     for name in model.variables() {
@@ -37,6 +38,16 @@ fn show(alloc: Global, model: &Model) -> Result<String, AllocError> {
     for invariant in model.invariants() {
         let at = invariant.core.place();
         let place = format!(in alloc; " {} {}:{}", invariant.name.as_str(), at.line, at.column)?;
+        out.push_str(place.as_str())?;
+    }
+    for constraint in model.constraints() {
+        let at = constraint.core.place();
+        let place = format!(in alloc;
+            " within {} {}:{}",
+            constraint.name.as_str(),
+            at.line,
+            at.column
+        )?;
         out.push_str(place.as_str())?;
     }
     out.push_str(if model.check_deadlock() { " D+" } else { " D-" })?;
@@ -111,6 +122,11 @@ fn models(rt: HostRuntime) -> Result<(), Fail> {
             "CONSTANT F(_)\nInit == F(x)\nNext == x' = x\nInv == F(x)\nG(y) == y = 0",
             "INIT Init NEXT Next INVARIANT Inv CONSTANT F <- G",
             "x 8:9 6:9 Inv 8:9 D+",
+        ),
+        (
+            "Init == x = 0\nNext == x' = x + 1\nA == x < 3\nB == x < 9\nC == x < 5",
+            "INIT Init NEXT Next CONSTRAINT A INVARIANT B CONSTRAINTS C, A",
+            "x 4:9 5:9 B 7:6 within A 6:6 within C 8:6 within A 6:6 D+",
         ),
     ];
     for (definitions, config, model) in rows {
@@ -293,6 +309,21 @@ fn refusals(rt: HostRuntime) -> Result<(), Fail> {
             "ASSUME A == TRUE\nInit == x = 0\nNext == x' = x\nB == A",
             "INIT Init\nNEXT Next\nCONSTANT A <- B",
             "C7 3:10 A",
+        ),
+        (
+            "Init == x = 0\nNext == x' = x + 1\nSpec == Init /\\ [][Next]_x\nCon == x' < 3",
+            "SPECIFICATION Spec\nCONSTRAINT Con",
+            "C5 7:8",
+        ),
+        (
+            "Init == x = 0\nNext == x' = x + 1\nSpec == Init /\\ [][Next]_x /\\ x' = 1\nCon == x' < 3",
+            "SPECIFICATION Spec\nCONSTRAINT Con",
+            "C8 1:1",
+        ),
+        (
+            "Init == x = 0\nNext == x'' = 0\nA == x' < 3",
+            "CONSTRAINT A\nINIT Init\nNEXT Next",
+            "C5 5:9",
         ),
         (
             "CONSTANT D\nA == 1\nB == A + 1\nInit == x = A\nNext == x' = x",
