@@ -1,5 +1,5 @@
 -- Statements by their words.
-use Rattle.std.proofs.Common.{◌≡◌, ℕ, IsTrue, List, Some, None, ◌⊎◌, inl, inr, slice_get, codes, refl, sym, ap, ◌∙◌}
+use Rattle.std.proofs.Common.{◌≡◌, ℕ, ◌+◌, List, Some, None, inl, inr, slice_get, codes, refl, sym, ap, ◌∙◌}
 use Rattle.tla_lex.specs.declared.token.Kind.TheVariants as k
 use Rattle.tla_lex.specs.declared.token.Place.{Place}
 use Rattle.tla_lex.specs.declared.token.Token.{Token}
@@ -8,14 +8,13 @@ use Rattle.tla_config.specs.declared.keyword.Keyword.{Keyword}
 use Rattle.tla_config.specs.declared.keyword.Keyword.TheVariants as word
 use Rattle.tla_config.specs.declared.refusal.Refusal.{Refusal}
 use Rattle.tla_config.specs.declared.refusal.Refusal.TheVariants as refusal
-use Rattle.tla_config.specs.Configuration.{SpellsStatement}
+use Rattle.tla_config.specs.Configuration.{Has, SpellsStatement}
 use Rattle.tla_config.specs.Fronts.{keyword_of}
-use Rattle.tla_config.specs.Gives.{Fails, NoStatement}
-use Rattle.tla_config.specs.Names.{is_among}
-use Rattle.tla_config.specs.Refusals.{IsLeftOutAt, left_out_words}
+use Rattle.tla_config.specs.Gives.{Because, Nowhere, Anything, Fails, NoStatement, LeftOutBehind, TooLargeBehind, LeftOutIn, TooLargeIn}
+use Rattle.tla_config.specs.Refusals.{IsLeftOutWord}
 use Rattle.tla_config.specs.Statements.{Statement, Specification, Init, Next, Invariants, Constraints, Constants, CheckDeadlock}
-use Rattle.tla_config.proofs.Fronts.{Opens, same_pair, keyword_found, begins_is, constants_is}
-use Rattle.tla_config.proofs.Words.{left_out_word}
+use Rattle.tla_config.proofs.Fronts.{Opens, same_pair, keyword_found, begins_is, constants_is, constants_found}
+use Rattle.tla_config.proofs.Words.{left_out_word, left_out_is}
 
 -- the word and the place of a statement
 abbrev pub word_for : Statement → Keyword
@@ -38,9 +37,15 @@ place_for (CheckDeadlock p check) = p
 
 pub fails_map : (text : List ℕ) (ts : List Token) (r : Refusal) (P Q : Type 0) → (P → Q) → Fails text ts r P → Fails text ts r Q
 fails_map text ts (refusal.Unexpected at) P Q f x = f x
-fails_map text ts (refusal.LeftOut at) P Q f x = (f x.0, x.1)
+fails_map text ts (refusal.LeftOut at) P Q f x = f x
 fails_map text ts (refusal.TooLarge at) P Q f x = f x
 fails_map text ts refusal.NoMemory P Q f x = tt
+
+pub because_map : (r : Refusal) (L M N O : ℕ → Type 0) (P Q : Type 0) → ((at : ℕ) → L at → N at) → ((at : ℕ) → M at → O at) → (P → Q) → Because r L M P → Because r N O Q
+because_map (refusal.Unexpected at) L M N O P Q l m p x = p x
+because_map (refusal.LeftOut at) L M N O P Q l m p x = l at x
+because_map (refusal.TooLarge at) L M N O P Q l m p x = m at x
+because_map refusal.NoMemory L M N O P Q l m p x = tt
 
 module _ (text : List ℕ) (ts : List Token) (at : ℕ) where
   pub spelled_front : (c : Statement) (to : ℕ) → SpellsStatement text ts c at to → keyword_of text (slice_get ts at) ≡ Some (word_for c, place_for c)
@@ -69,21 +74,46 @@ module _ (text : List ℕ) (ts : List Token) (at : ℕ) where
 
   module _ (p : Place) where
     -- a statement that is left out
-    none_left_out : keyword_of text (slice_get ts at) ≡ Some (word.LeftOut, p) → NoStatement text ts at
-    none_left_out h (Specification q v) to x e = other p h (Specification q v) to x (λ g. let z : ⊥ = cc in z)
-    none_left_out h (Init q v) to x e = other p h (Init q v) to x (λ g. let z : ⊥ = cc in z)
-    none_left_out h (Next q v) to x e = other p h (Next q v) to x (λ g. let z : ⊥ = cc in z)
-    none_left_out h (Invariants q vs) to x e = other p h (Invariants q vs) to x (λ g. let z : ⊥ = cc in z)
-    none_left_out h (Constraints q vs) to x e = other p h (Constraints q vs) to x (λ g. let z : ⊥ = cc in z)
-    none_left_out h (Constants q is) to x e = other p h (Constants q is) to x (λ g. let z : ⊥ = cc in z)
-    none_left_out h (CheckDeadlock q b) to x e = other p h (CheckDeadlock q b) to x (λ g. let z : ⊥ = cc in z)
+    pub left_out_none : keyword_of text (slice_get ts at) ≡ Some (word.LeftOut, p) → (c : Statement) (to : ℕ) → SpellsStatement text ts c at to → ⊥
+    left_out_none h (Specification q v) to x = other p h (Specification q v) to x (λ g. let z : ⊥ = cc in z)
+    left_out_none h (Init q v) to x = other p h (Init q v) to x (λ g. let z : ⊥ = cc in z)
+    left_out_none h (Next q v) to x = other p h (Next q v) to x (λ g. let z : ⊥ = cc in z)
+    left_out_none h (Invariants q vs) to x = other p h (Invariants q vs) to x (λ g. let z : ⊥ = cc in z)
+    left_out_none h (Constraints q vs) to x = other p h (Constraints q vs) to x (λ g. let z : ⊥ = cc in z)
+    left_out_none h (Constants q is) to x = other p h (Constants q is) to x (λ g. let z : ⊥ = cc in z)
+    left_out_none h (CheckDeadlock q b) to x = other p h (CheckDeadlock q b) to x (λ g. let z : ⊥ = cc in z)
 
-    left_out_by : (t : Token) → Opens text ts t word.LeftOut → IsTrue (is_among (word_of text t) left_out_words) ⊎ (t.kind ≡ k.LeftBracket)
-    left_out_by t (inl n) = inl (left_out_word (word_of text t) n.1)
-    left_out_by t (inr n) = (let e = n.1 in let z : ⊥ = cc in absurd z)
+    pub left_out : keyword_of text (slice_get ts at) ≡ Some (word.LeftOut, p) → NoStatement text ts at
+    left_out h c to x e = left_out_none h c to x
 
-    pub left_out : keyword_of text (slice_get ts at) ≡ Some (word.LeftOut, p) → Fails text ts (refusal.LeftOut at) (NoStatement text ts at)
-    left_out h =
-        let f = keyword_found text ts at word.LeftOut p h in
-        let is : IsLeftOutAt text ts at f.0.place (word_of text f.0) = (f.0, f.1, refl, refl, left_out_by f.0 f.3) in
-        (none_left_out h, (f.0, word_of text f.0, is))
+    opens_left_out : (t : Token) → slice_get ts at ≡ Some t → Opens text ts t word.LeftOut → IsLeftOutWord text ts at
+    opens_left_out t e (inl n) = (t, e, n.0, left_out_word (word_of text t) n.1)
+    opens_left_out t e (inr n) = (let q = n.1 in let z : ⊥ = cc in absurd z)
+
+    -- its word
+    pub left_out_here : keyword_of text (slice_get ts at) ≡ Some (word.LeftOut, p) → LeftOutIn text ts at at
+    left_out_here h = let f = keyword_found text ts at word.LeftOut p h in inl (opens_left_out f.0 f.1 f.3, refl)
+
+  pub left_out_front : (w : IsLeftOutWord text ts at) → keyword_of text (slice_get ts at) ≡ Some (word.LeftOut, w.0.place)
+  left_out_front w = let n = left_out_is (word_of text w.0) w.3 in rw (w.1, w.2, n) refl
+
+  -- the word of another statement, or of none
+  pub no_word : keyword_of text (slice_get ts at) ≡ None → IsLeftOutWord text ts at → ⊥
+  no_word h w = let f = left_out_front w in (let z : ⊥ = cc in z)
+
+  pub other_word : (j : Keyword) (p : Place) → keyword_of text (slice_get ts at) ≡ Some (j, p) → (j ≡ word.LeftOut → ⊥) → IsLeftOutWord text ts at → ⊥
+  other_word j p h f w = f (ap (λ (z : Keyword × Place). z.0) (same_pair (j, p) (word.LeftOut, w.0.place) (sym h ∙ left_out_front w)))
+
+  -- a statement whose names are refused, and one whose items are
+  pub because_names : (r : Refusal) (j : Keyword) (p : Place) → keyword_of text (slice_get ts at) ≡ Some (j, p) → (j ≡ word.LeftOut → ⊥) → Because r Nowhere Nowhere Anything
+      → Because r (LeftOutIn text ts at) (TooLargeIn text ts at) (IsLeftOutWord text ts at → ⊥)
+  because_names r j p h f x = because_map r Nowhere Nowhere (LeftOutIn text ts at) (TooLargeIn text ts at) Anything (IsLeftOutWord text ts at → ⊥)
+      (λ n z. absurd z) (λ n z. absurd z) (λ a. other_word j p h f) x
+
+  pub because_items : (r : Refusal) (p : Place) → keyword_of text (slice_get ts at) ≡ Some (word.Constants, p) → Because r (LeftOutBehind text ts (at + 1)) (TooLargeBehind text ts (at + 1)) Anything
+      → Because r (LeftOutIn text ts at) (TooLargeIn text ts at) (IsLeftOutWord text ts at → ⊥)
+  because_items r p h x =
+      let f = constants_found text ts at p h in
+      let has : Has text ts k.Constant at = (f.0, f.1, f.2) in
+      because_map r (LeftOutBehind text ts (at + 1)) (TooLargeBehind text ts (at + 1)) (LeftOutIn text ts at) (TooLargeIn text ts at) Anything (IsLeftOutWord text ts at → ⊥)
+      (λ n y. inr (has, y)) (λ n y. (has, y)) (λ a. other_word word.Constants p h (λ g. let z : ⊥ = cc in z)) x

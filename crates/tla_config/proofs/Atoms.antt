@@ -15,8 +15,10 @@ use Rattle.tla_config.specs.declared.refusal.Refusal.{Refusal}
 use Rattle.tla_config.specs.declared.refusal.Refusal.TheVariants as refusal
 use Rattle.tla_config.specs.Configuration.{Has, SpellsLiteral}
 use Rattle.tla_config.specs.Fronts.{kind_at, digits_of}
-use Rattle.tla_config.specs.Gives.{Fails}
-use Rattle.tla_config.specs.GivesValues.{IsValueAt, NoValue}
+use Rattle.tla_config.specs.Beyond.{IsBeyond, itself}
+use Rattle.tla_config.specs.Gives.{Because, Nowhere, Anything, Fails}
+use Rattle.tla_config.specs.GivesValues.{IsValueAt, NoValue, AtomBeyond, BeyondIn}
+use Rattle.tla_config.proofs.Arms.{because_map}
 use Rattle.tla_config.specs.Keywords.{keywords, lookup}
 use Rattle.tla_config.specs.Names.{is_among, statement_words}
 use Rattle.tla_config.specs.Literals.{Literal, model_value, atom, braces, value_of, number, atom_by, atom_of}
@@ -47,11 +49,19 @@ module _ (source : List ℕ) (ts : List Token) where
   text_fails e item w P (inl h) f = rw h tt
   text_fails e item w P (inr h) f = rw h.0 (f h.1)
 
+  pub text_because : (e : Refusal) (item : ℕ) (t : Token) (w : List ℕ) (v : Tree) → atom_of source t ≡ Some v → (IsValue v → ∥ IsUtf8 w ∥₁) → NoText e item w
+      → Because e Nowhere (λ n. (n ≡ item) × AtomBeyond source t) Anything
+  text_because e item t w v h f (inl m) = rw m tt
+  text_because e item t w v h f (inr m) = rw m.0 (refl, (v, h, λ x. not_there (f x) m.1))
+
   pub string_fails : (e : Refusal) (item : ℕ) (t : Token) (w : List ℕ) → t.kind ≡ k.Text → w ≡ string_text (word_of source t) → NoText e item w → Fails source ts e (NoAtom t)
   string_fails e item t w h p why = text_fails e item w (NoAtom t) why (λ f. atom_refused t (text (string_text (word_of source t))) (rw h refl) (λ x. not_there x (λ y. f (rw p y))))
 
   pub model_fails : (e : Refusal) (item : ℕ) (t : Token) (w : List ℕ) → atom_of source t ≡ Some (model w) → NoText e item w → Fails source ts e (NoAtom t)
   model_fails e item t w h why = text_fails e item w (NoAtom t) why (λ f. atom_refused t (model w) h (λ x. not_there x f))
+
+  pub digits_is_int : (t : Token) (w : List ℕ) → t.kind ≡ k.Digits → w ≡ word_of source t → atom_of source t ≡ Some (int (number false w))
+  digits_is_int t w h p = rw (h, p) refl
 
   pub string_is : (t : Token) (w : List ℕ) → t.kind ≡ k.Text → w ≡ string_text (word_of source t) → atom_of source t ≡ Some (text w)
   string_is t w h p = rw (h, p) refl
@@ -103,6 +113,20 @@ module _ (source : List ℕ) (ts : List Token) where
   negated_is at t v m h e x =
       let d = digits_found (slice_get ts (at + 1)) t h in
       record { literal = atom v; spelled = inr (kind_found k.Minus (slice_get ts at) m, t, d.0, d.1, e, refl); meaning = refl; is_value = x }
+
+  -- a value of one token, or behind a minus sign, beyond the limits
+  pub atom_beyond : (room at : ℕ) (t : Token) → slice_get ts at ≡ Some t → AtomBeyond source t → IsBeyond source ts room at
+  atom_beyond room at t h b = itself room at (at + 1) (atom b.0) (inl (t, h, b.1, refl)) b.2
+
+  pub atom_because : (r : Refusal) (item room at : ℕ) (t : Token) → slice_get ts at ≡ Some t → Because r Nowhere (λ n. (n ≡ item) × AtomBeyond source t) Anything
+      → Because r Nowhere (BeyondIn source ts item room at) Anything
+  atom_because r item room at t h x = because_map r Nowhere (λ n. (n ≡ item) × AtomBeyond source t) Nowhere (BeyondIn source ts item room at) Anything Anything
+      (λ n y. y) (λ n y. (y.0, atom_beyond room at t h y.1)) (λ y. y) x
+
+  pub negated_beyond : (room at : ℕ) (t : Token) → kind_at k.Minus (slice_get ts at) ≡ true → digits_of (slice_get ts (at + 1)) ≡ Some t → (FitsSigned w64 (number true (word_of source t)) → ⊥) → IsBeyond source ts room at
+  negated_beyond room at t m h f =
+      let d = digits_found (slice_get ts (at + 1)) t h in
+      itself room at (at + 2) (atom (int (number true (word_of source t)))) (inr (kind_found k.Minus (slice_get ts at) m, t, d.0, d.1, refl, refl)) f
 
   pub negated_none : (at : ℕ) → kind_at k.Minus (slice_get ts at) ≡ true → digits_of (slice_get ts (at + 1)) ≡ None → (room : ℕ) → NoValue source ts room at
   negated_none at m h room l to a x d =

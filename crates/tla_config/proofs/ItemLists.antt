@@ -2,17 +2,18 @@
 use Rattle.std.proofs.Common.{◌≡◌, ◌≤◌, ℕ, ◌+◌, true, false, List, [], ◌∷◌, ◌++◌, Some, inl, inr, slice_get, refl, sym, ap, subst, ◌∙◌, append_assoc, arith}
 use Rattle.tla_lex.specs.declared.token.Kind.TheVariants as k
 use Rattle.tla_lex.specs.declared.token.Token.{Token}
-use Rattle.tla_tree.specs.Words.{word_of}
 use Rattle.tla_tree.specs.declared.word.Written.{Written}
 use Rattle.tla_value.specs.IsValue.{IsValue}
 use Rattle.tla_value.specs.Tree.{Tree, Trees, Pairs, truth, int, text, model, set, fun, no_trees, more_trees, no_pairs, more_pairs, trees, pairs, members, entries, depth, deepest, deepest_pair}
-use Rattle.tla_config.specs.declared.refusal.Refusal.TheVariants as refusal
+use Rattle.tla_config.specs.declared.refusal.Refusal.{Refusal}
 use Rattle.tla_config.specs.Configuration.{Has, IsName, SpellsItem, Items}
 use Rattle.tla_config.specs.Fronts.{kind_at}
-use Rattle.tla_config.specs.Gives.{Ends, GoesOn, Fails}
-use Rattle.tla_config.specs.GivesValues.{IsValueAt, NoValue, NoItem, AreItems, NoItems}
+use Rattle.tla_config.specs.Gives.{Because, Nowhere, Anything, Ends, GoesOn, LeftOutBehind, TooLargeBehind}
+use Rattle.tla_config.specs.Refusals.{IsLeftOutItem, IsTooLargeItem, ItemsUpTo}
+use Rattle.tla_config.specs.GivesValues.{IsValueAt, NoValue, NoItem, AreItems, NoItems, BeyondIn}
 use Rattle.tla_config.specs.Literals.{value_of}
 use Rattle.tla_config.specs.Statements.{Item, Value, Replaces}
+use Rattle.tla_config.proofs.Arms.{because_map}
 use Rattle.tla_config.proofs.Fronts.{one_name, kind_found, kind_is}
 use Rattle.tla_config.proofs.Literals.{two_kinds, one_literal}
 use Rattle.tla_config.proofs.NameLists.{Between, same_next, goes_on_ends}
@@ -80,19 +81,29 @@ module _ (source : List ℕ) (ts : List Token) where
   no_operator_item at e f (Value c v) to x = arrow_equal (at + 1) x.1 (kind_found k.Substitute (slice_get ts (at + 1)) e)
   no_operator_item at e f (Replaces c o) to x = f o x.2
 
-  pub bracket_item : (at : ℕ) → kind_at k.Substitute (slice_get ts (at + 1)) ≡ true → kind_at k.LeftBracket (slice_get ts (at + 2)) ≡ true → Fails source ts (refusal.LeftOut (at + 2)) (NoItem source ts at)
+  pub bracket_item : (at : ℕ) → kind_at k.Substitute (slice_get ts (at + 1)) ≡ true → kind_at k.LeftBracket (slice_get ts (at + 2)) ≡ true → NoItem source ts at
   bracket_item at e b =
       let x = kind_found k.LeftBracket (slice_get ts (at + 2)) b in
       let none : (w : Written) → IsName source ts w (at + 2) → ⊥ = λ w n. two_kinds source ts (at + 2) k.LeftBracket k.Name (λ h. let z : ⊥ = cc in z) x (n.0.0, n.0.1, n.0.2) in
-      (no_operator_item at e none, (x.0, word_of source x.0, (x.0, x.1, refl, refl, inr x.2)))
+      no_operator_item at e none
+
+  pub bracket_left_out : (at : ℕ) (w : Written) → IsName source ts w at → kind_at k.Substitute (slice_get ts (at + 1)) ≡ true → kind_at k.LeftBracket (slice_get ts (at + 2)) ≡ true → IsLeftOutItem source ts at
+  bracket_left_out at w n e b = ((w, n), kind_found k.Substitute (slice_get ts (at + 1)) e, kind_found k.LeftBracket (slice_get ts (at + 2)) b)
+
+  -- the value of an item is refused
+  pub value_because : (r : Refusal) (at : ℕ) (w : Written) → IsName source ts w at → kind_at k.Equal (slice_get ts (at + 1)) ≡ true → Because r Nowhere (BeyondIn source ts at 64 (at + 2)) Anything
+      → Because r (λ n. IsLeftOutItem source ts at × (n ≡ at + 2)) (λ n. IsTooLargeItem source ts at × (n ≡ at)) Anything
+  value_because r at w n e x = because_map r Nowhere (BeyondIn source ts at 64 (at + 2)) (λ m. IsLeftOutItem source ts at × (m ≡ at + 2)) (λ m. IsTooLargeItem source ts at × (m ≡ at)) Anything Anything
+      (λ m y. absurd y) (λ m y. (((w, n), kind_found k.Equal (slice_get ts (at + 1)) e, y.1), y.0)) (λ y. y) x
 
   -- these items stand between two tokens: whatever items begin at the second, they and these stand from the first, and no others do
   pub record ItemsSoFar (front : List Item) (from at : ℕ) : Type 0 where
     pub whole : (i : Item) (is : List Item) (to : ℕ) → Items source ts (i ∷ is) at to → Items source ts (front ++ i ∷ is) from to
     pub rest : (is : List Item) (to : ℕ) → Items source ts is from to → Ends source ts to → (js : List Item) × (is ≡ front ++ js) × Items source ts js at to
+    pub before : ItemsUpTo source ts front from at
 
   pub items_none : (from : ℕ) → ItemsSoFar [] from from
-  items_none from = record { whole = λ i is to x. x; rest = λ is to x e. (is, refl, x) }
+  items_none from = record { whole = λ i is to x. x; rest = λ is to x e. (is, refl, x); before = refl }
 
   items_head : (i : Item) (is : List Item) (at to : ℕ) → Items source ts (i ∷ is) at to → IsName source ts (constant_of i) at
   items_head i [] at to x = item_name i at to x
@@ -101,6 +112,11 @@ module _ (source : List ℕ) (ts : List Token) where
   between : (end next : ℕ) → GoesOn source ts end (Some next) → Between source ts end next
   between end next (inl c) = inr c
   between end next (inr v) = inl v.1
+
+  before_more : (front : List Item) (from at end next : ℕ) (i : Item) → ItemsUpTo source ts front from at → SpellsItem source ts i at end → GoesOn source ts end (Some next)
+      → ItemsUpTo source ts (front ++ i ∷ []) from next
+  before_more [] from at end next i x n g = (end, subst (λ m. SpellsItem source ts i m end) (sym x) n, next, between end next g, refl)
+  before_more (j ∷ front) from at end next i x n g = (x.0, x.1, x.2, x.3, before_more front x.2 at end next i x.4 n g)
 
   more_rest : (i : Item) (js : List Item) (at end next to : ℕ) → SpellsItem source ts i at end → GoesOn source ts end (Some next) → Items source ts js at to → Ends source ts to
       → (ms : List Item) × (js ≡ i ∷ ms) × Items source ts ms next to
@@ -138,6 +154,7 @@ module _ (source : List ℕ) (ts : List Token) where
         let r = so.rest is to x e in
         let m = more_rest i r.0 at end next to n g r.2 e in
         (m.0, r.1 ∙ ap (λ y. front ++ y) m.1 ∙ sym (append_assoc front (i ∷ []) m.0), m.2);
+    before = before_more front from at end next i so.before n g;
   }
 
   pub items_last : (front : List Item) (from at end : ℕ) (i : Item) → ItemsSoFar front from at → SpellsItem source ts i at end → Ends source ts end
@@ -152,3 +169,9 @@ module _ (source : List ℕ) (ts : List Token) where
 
   pub items_fail : (front : List Item) (from at : ℕ) → ItemsSoFar front from at → NoItem source ts at → NoItems source ts from
   items_fail front from at so fails = λ is to x e. let r = so.rest is to x e in none_rest r.0 at to fails r.2
+
+  pub items_because : (r : Refusal) (front : List Item) (from at : ℕ) → ItemsSoFar front from at
+      → Because r (λ n. IsLeftOutItem source ts at × (n ≡ at + 2)) (λ n. IsTooLargeItem source ts at × (n ≡ at)) Anything
+      → Because r (LeftOutBehind source ts from) (TooLargeBehind source ts from) Anything
+  items_because r front from at so x = because_map r (λ n. IsLeftOutItem source ts at × (n ≡ at + 2)) (λ n. IsTooLargeItem source ts at × (n ≡ at)) (LeftOutBehind source ts from) (TooLargeBehind source ts from) Anything Anything
+      (λ n y. (at, (front, so.before), y.0, y.1)) (λ n y. subst (λ m. TooLargeBehind source ts from m) (sym y.1) ((front, so.before), y.0)) (λ y. y) x

@@ -11,3 +11,4 @@ pub mod Numbers
 pub mod Members
 pub mod Atoms
 pub mod ItemLists
+pub mod Told

@@ -6,7 +6,12 @@ use Rattle.tla_value.specs.IsValue.{IsValue}
 use Rattle.tla_value.specs.Sets.{set_of}
 use Rattle.tla_value.specs.Tree.{Tree, set, trees, members-trees, depth, deepest}
 use Rattle.tla_config.specs.Configuration.{Has, SpellsLiteral, SpellsMembers}
-use Rattle.tla_config.specs.GivesValues.{IsValueAt, NoValue}
+use Rattle.tla_config.specs.declared.refusal.Refusal.{Refusal}
+use Rattle.tla_config.specs.declared.refusal.Refusal.TheVariants as refusal
+use Rattle.tla_config.specs.Beyond.{MembersUpTo, IsBeyond, itself, member}
+use Rattle.tla_config.specs.Gives.{Because, Nowhere, Anything, Fails}
+use Rattle.tla_config.specs.GivesValues.{IsValueAt, NoValue, BeyondIn}
+use Rattle.tla_config.proofs.Arms.{because_map}
 use Rattle.tla_config.specs.Literals.{Literal, Literals, atom, braces, no_literals, more_literals, value_of, values_of}
 use Rattle.tla_config.proofs.Limits.{member_value, member_depth}
 use Rattle.tla_config.proofs.Literals.{two_kinds, atom_no_brace, brace_begins_none, one_literal}
@@ -111,6 +116,41 @@ module _ (text : List ℕ) (ts : List Token) where
       let z = subst (λ vs. IsValue (set (trees (set_of vs)))) r.5 y in
       let n = subst (λ vs. depth (set (trees (set_of vs))) ≤ room + 1) r.5 d in
       fails r.0 r.2 r.3 (member_value front (values_of r.1) (value_of r.0) z) (member_depth front (values_of r.1) (value_of r.0) room n))
+
+  -- the set that the closing brace ends is beyond the limits
+  pub set_beyond : (front : List Tree) (room from at end : ℕ) (v : Tree) → MembersSoFar front from at → IsValueAt text ts v at end → Has text ts k.RightBrace end
+      → (IsValue (set (trees (set_of (front ++ v ∷ [])))) → ⊥) → IsBeyond text ts room from
+  set_beyond front room from at end v so found brace refused =
+      let w = so.whole found.literal no_literals end (end + 1) found.spelled (brace, refl) in
+      let e : values_of w.0 ≡ front ++ v ∷ [] = w.2 ∙ ap (λ y. front ++ y ∷ []) found.meaning in
+      itself room from (end + 1) (braces w.0) w.1 (λ x. refused (subst (λ vs. IsValue (set (trees (set_of vs)))) e x))
+
+  pub empty_beyond : (room from : ℕ) → Has text ts k.LeftBrace from → Has text ts k.RightBrace (from + 1) → (IsValue (set (trees (set_of []))) → ⊥) → IsBeyond text ts room from
+  empty_beyond room from brace close refused = itself room from (from + 2) (braces no_literals) (brace, close, refl) refused
+
+  -- a set is refused, and a member of one
+  pub set_because : (r : Refusal) (vs : List Tree) (item room from : ℕ) → ((IsValue (set (trees (set_of vs))) → ⊥) → IsBeyond text ts room from)
+      → Fails text ts r (IsValue (set (trees (set_of vs))) → ⊥) → Because r Nowhere (λ n. n ≡ item) Anything → Because r Nowhere (BeyondIn text ts item room from) Anything
+  set_because (refusal.Unexpected n) vs item room from beyond fails x = tt
+  set_because (refusal.LeftOut n) vs item room from beyond fails x = x
+  set_because (refusal.TooLarge n) vs item room from beyond fails x = (x, beyond fails)
+  set_because refusal.NoMemory vs item room from beyond fails x = tt
+
+  before_more : (front : List Literal) (from at mid : ℕ) (l : Literal) → MembersUpTo text ts front from at → SpellsLiteral text ts l at mid → Has text ts k.Comma mid → MembersUpTo text ts (front ++ l ∷ []) from (mid + 1)
+  before_more [] from at mid l x a c = (mid, subst (λ n. SpellsLiteral text ts l n mid) (sym x) a, c, refl)
+  before_more (m ∷ front) from at mid l x a c = (x.0, x.1, x.2, before_more front (x.0 + 1) at mid l x.3 a c)
+
+  -- some members stand behind the brace at one token and before another
+  abbrev pub MembersBefore : ℕ → ℕ → Type 0
+  MembersBefore from at = (ls : List Literal) × MembersUpTo text ts ls (from + 1) at
+
+  pub members_before : (from at end : ℕ) (v : Tree) → MembersBefore from at → IsValueAt text ts v at end → Has text ts k.Comma end → MembersBefore from (end + 1)
+  members_before from at end v b found comma = (b.0 ++ found.literal ∷ [], before_more b.0 (from + 1) at end found.literal b.1 found.spelled comma)
+
+  pub member_because : (r : Refusal) (item room from at : ℕ) → Has text ts k.LeftBrace from → MembersBefore from at → Because r Nowhere (BeyondIn text ts item room at) Anything
+      → Because r Nowhere (BeyondIn text ts item (room + 1) from) Anything
+  member_because r item room from at brace b x = because_map r Nowhere (BeyondIn text ts item room at) Nowhere (BeyondIn text ts item (room + 1) from) Anything Anything
+      (λ n y. y) (λ n y. (y.0, member room from at b.0 brace b.1 y.1)) (λ y. y) x
 
   -- neither a comma nor the closing brace follows
   pub so_far_open : (front : List Tree) (room from at end : ℕ) (v : Tree) → Has text ts k.LeftBrace from → MembersSoFar front from at → IsValueAt text ts v at end

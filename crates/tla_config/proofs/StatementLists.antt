@@ -1,14 +1,17 @@
 -- A list of statements, found statement by statement.
 use Rattle.std.proofs.Common.{◌≡◌, ◌<◌, ◌≤◌, ℕ, ◌+◌, Bool, true, false, not, ◌&&◌, ◌||◌, List, [], ◌∷◌, ◌++◌, None, filter, slice_get, refl, sym, ap, subst, ◌∙◌, append_assoc, append-nil, length-append, arith, length}
 use Rattle.std.proofs.lemmas.List.Elements.{filter-append}
-use Rattle.std.proofs.lemmas.Option.{slice_get_past}
+use Rattle.std.proofs.lemmas.Option.{slice_get_past, slice_get_within}
 use Rattle.tla_lex.specs.declared.token.Kind.TheVariants as k
 use Rattle.tla_lex.specs.declared.token.Token.{Token}
-use Rattle.tla_config.specs.Configuration.{SpellsStatement, SpellsStatements, is_check_deadlock}
+use Rattle.tla_config.specs.declared.refusal.Refusal.{Refusal}
+use Rattle.tla_config.specs.declared.refusal.Refusal.TheVariants as refusal
+use Rattle.tla_config.specs.Configuration.{SpellsStatement, StatementsUpTo, SpellsStatements, is_check_deadlock}
 use Rattle.tla_config.specs.Fronts.{keyword_of}
-use Rattle.tla_config.specs.Gives.{Ends, IsStatement, NoStatement, AreStatements, NoStatements}
+use Rattle.tla_config.specs.Gives.{Because, Fails, Ends, IsStatement, NoStatement, AreStatements, NoStatements, LeftOutIn, TooLargeIn, LeftOutAt, TooLargeAt, NoLeftOutWord}
+use Rattle.tla_config.specs.Refusals.{IsLeftOutWord, FollowsStatements}
 use Rattle.tla_config.specs.Statements.{Statement}
-use Rattle.tla_config.proofs.Arms.{spelled_front}
+use Rattle.tla_config.proofs.Arms.{spelled_front, left_out_front, left_out_none}
 use Rattle.tla_config.proofs.Fronts.{has_within, name_within, comma_begins_none, name_begins_none}
 
 -- how many statements are CHECK_DEADLOCK
@@ -69,35 +72,57 @@ module _ (text : List ℕ) (ts : List Token) where
         no_name = λ w h. let n = name_begins_none text ts w at h in (let z : ⊥ = cc in z);
       }
 
-  ends_of : (cs : List Statement) (at : ℕ) → SpellsStatements text ts cs at → Ends text ts at
-  ends_of [] at x = record {
-    no_comma = λ h. let n = has_within text ts k.Comma at h in absurd (omega arith);
-    no_name = λ w h. let n = name_within text ts w at h in absurd (omega arith);
+  ends_last : Ends text ts (length ts)
+  ends_last = record {
+    no_comma = λ h. let n = has_within text ts k.Comma (length ts) h in absurd (omega arith);
+    no_name = λ w h. let n = name_within text ts w (length ts) h in absurd (omega arith);
   }
-  ends_of (c ∷ cs) at x = front_ends at c x.0 x.1
 
-  -- these statements stand before a token: whatever statements begin there, they and these are all, and each list of all begins with these
+  ends_of : (cs : List Statement) (at to : ℕ) → StatementsUpTo text ts cs at to → Ends text ts to → Ends text ts at
+  ends_of [] at to x e = subst (λ m. Ends text ts m) (sym x) e
+  ends_of (c ∷ cs) at to x e = front_ends at c x.0 x.1
+
+  -- no statement begins at a token, and no list of names goes on there
+  pub record Stops (at : ℕ) : Type 0 where
+    pub ends : Ends text ts at
+    pub none : (c : Statement) (to : ℕ) → SpellsStatement text ts c at to → ⊥
+
+  stops_last : Stops (length ts)
+  stops_last = record { ends = ends_last; none = λ c to x. begins_within c (length ts) to x (omega arith) }
+
+  -- at the word of a statement that is left out
+  stops_word : (at : ℕ) → IsLeftOutWord text ts at → Stops at
+  stops_word at w =
+      let f = left_out_front text ts at w in
+      record {
+        ends = record {
+          no_comma = λ h. let n = comma_begins_none text ts at h in (let z : ⊥ = cc in z);
+          no_name = λ v h. let n = name_begins_none text ts v at h in (let z : ⊥ = cc in z);
+        };
+        none = λ c to x. left_out_none text ts at w.0.place f c to x;
+      }
+
+  -- these statements stand before a token: whatever statements begin there, they and these stand from the first token, and each list that stops begins with these
   pub record StatementsSoFar (front : List Statement) (at : ℕ) : Type 0 where
-    pub whole : (cs : List Statement) → SpellsStatements text ts cs at → SpellsStatements text ts (front ++ cs) 0
-    pub rest : (cs : List Statement) → SpellsStatements text ts cs 0 → (ds : List Statement) × (cs ≡ front ++ ds) × SpellsStatements text ts ds at
+    pub whole : (cs : List Statement) (to : ℕ) → StatementsUpTo text ts cs at to → StatementsUpTo text ts (front ++ cs) 0 to
+    pub rest : (cs : List Statement) (to : ℕ) → StatementsUpTo text ts cs 0 to → Stops to → (ds : List Statement) × (cs ≡ front ++ ds) × StatementsUpTo text ts ds at to
 
   pub so_far_none : StatementsSoFar [] 0
-  so_far_none = record { whole = λ cs x. x; rest = λ cs x. (cs, refl, x) }
+  so_far_none = record { whole = λ cs to x. x; rest = λ cs to x s. (cs, refl, x) }
 
-  next_rest : (c : Statement) (ds : List Statement) (at mid : ℕ) → at < mid → mid ≤ length ts → IsStatement text ts c at mid → SpellsStatements text ts ds at
-      → (es : List Statement) × (ds ≡ c ∷ es) × SpellsStatements text ts es mid
-  next_rest c [] at mid a b st x = absurd (omega arith)
-  next_rest c (d ∷ ds) at mid a b st x =
-      let o = st.only d x.0 x.1 (ends_of ds x.0 x.2) in
-      (ds, ap (λ y. y ∷ ds) o.0, subst (λ m. SpellsStatements text ts ds m) o.1 x.2)
+  next_rest : (c : Statement) (ds : List Statement) (at mid to : ℕ) → IsStatement text ts c at mid → StatementsUpTo text ts ds at to → Stops to
+      → (es : List Statement) × (ds ≡ c ∷ es) × StatementsUpTo text ts es mid to
+  next_rest c [] at mid to st x s = absurd (s.none c mid (subst (λ m. SpellsStatement text ts c m mid) x st.spelled))
+  next_rest c (d ∷ ds) at mid to st x s =
+      let o = st.only d x.0 x.1 (ends_of ds x.0 to x.2 s.ends) in
+      (ds, ap (λ y. y ∷ ds) o.0, subst (λ m. StatementsUpTo text ts ds m to) o.1 x.2)
 
-  pub so_far_more : (front : List Statement) (at mid : ℕ) (c : Statement) → at < mid → mid ≤ length ts → StatementsSoFar front at → IsStatement text ts c at mid
-      → StatementsSoFar (front ++ c ∷ []) mid
-  so_far_more front at mid c a b so st = record {
-    whole = λ cs x. rw append_assoc (so.whole (c ∷ cs) (mid, st.spelled, x));
-    rest = λ cs x.
-        let r = so.rest cs x in
-        let n = next_rest c r.0 at mid a b st r.2 in
+  pub so_far_more : (front : List Statement) (at mid : ℕ) (c : Statement) → StatementsSoFar front at → IsStatement text ts c at mid → StatementsSoFar (front ++ c ∷ []) mid
+  so_far_more front at mid c so st = record {
+    whole = λ cs to x. rw append_assoc (so.whole (c ∷ cs) to (mid, st.spelled, x));
+    rest = λ cs to x s.
+        let r = so.rest cs to x s in
+        let n = next_rest c r.0 at mid to st r.2 s in
         (n.0, r.1 ∙ ap (λ y. front ++ y) n.1 ∙ sym (append_assoc front (c ∷ []) n.0), n.2);
   }
 
@@ -109,29 +134,66 @@ module _ (text : List ℕ) (ts : List Token) where
   so_far_all front at a b once so =
       let e : at ≡ length ts = omega arith in
       record {
-        spelled = subst (λ cs. SpellsStatements text ts cs 0) (append-nil front) (so.whole [] e);
+        spelled = subst (λ cs. SpellsStatements text ts cs 0) (append-nil front) (so.whole [] (length ts) e);
         once = once;
-        only = λ ds x. let r = so.rest ds x in r.1 ∙ ap (λ y. front ++ y) (last_rest r.0 at b r.2) ∙ append-nil front;
+        only = λ ds x. let r = so.rest ds (length ts) x stops_last in r.1 ∙ ap (λ y. front ++ y) (last_rest r.0 at b r.2) ∙ append-nil front;
       }
 
   none_rest : (ds : List Statement) (at : ℕ) → at < length ts → NoStatement text ts at → SpellsStatements text ts ds at → ⊥
   none_rest [] at h fails x = absurd (omega arith)
-  none_rest (d ∷ ds) at h fails x = fails d x.0 x.1 (ends_of ds x.0 x.2)
+  none_rest (d ∷ ds) at h fails x = fails d x.0 x.1 (ends_of ds x.0 (length ts) x.2 ends_last)
 
   pub so_far_fails : (front : List Statement) (at : ℕ) → at < length ts → StatementsSoFar front at → NoStatement text ts at → NoStatements text ts
-  so_far_fails front at h so fails = λ cs x once. let r = so.rest cs x in none_rest r.0 at h fails r.2
+  so_far_fails front at h so fails = λ cs x once. let r = so.rest cs (length ts) x stops_last in none_rest r.0 at h fails r.2
 
-  -- CHECK_DEADLOCK for a second time
-  pub so_far_twice : (front : List Statement) (at mid : ℕ) (c : Statement) (checks : Bool) → at < mid → mid ≤ length ts → StatementsSoFar front at → IsStatement text ts c at mid
-      → checks_of front ≡ count_of checks → not (checks && is_check_deadlock c) ≡ false → NoStatements text ts
-  so_far_twice front at mid c checks a b so st h second = λ cs x once.
-      let two = both_hold checks (is_check_deadlock c) second in
-      let e : is_check_deadlock c ≡ true = two.1 in
-      let one : checks_of front ≡ 1 = h ∙ ap (λ y. count_of y) two.0 in
-      let r = so.rest cs x in
-      let n = next_rest c r.0 at mid a b st r.2 in
-      let p : cs ≡ (front ++ c ∷ []) ++ n.0 = r.1 ∙ ap (λ y. front ++ y) n.1 ∙ sym (append_assoc front (c ∷ []) n.0) in
-      let q = checks_append (front ++ c ∷ []) n.0 in
-      let m = checks_more front c true 1 one e in
-      let t : checks_of cs ≡ 2 + checks_of n.0 = ap (λ y. checks_of y) p ∙ q ∙ ap (λ y. y + checks_of n.0) m in
-      absurd (omega arith)
+  module _ (front : List Statement) (at mid : ℕ) (c : Statement) (checks : Bool) where
+    twice : StatementsSoFar front at → IsStatement text ts c at mid → checks_of front ≡ count_of checks → not (checks && is_check_deadlock c) ≡ false
+        → (cs : List Statement) (to : ℕ) → StatementsUpTo text ts cs 0 to → Stops to → checks_of cs ≤ 1 → ⊥
+    twice so st h second cs to x s once =
+        let two = both_hold checks (is_check_deadlock c) second in
+        let e : is_check_deadlock c ≡ true = two.1 in
+        let one : checks_of front ≡ 1 = h ∙ ap (λ y. count_of y) two.0 in
+        let r = so.rest cs to x s in
+        let n = next_rest c r.0 at mid to st r.2 s in
+        let p : cs ≡ (front ++ c ∷ []) ++ n.0 = r.1 ∙ ap (λ y. front ++ y) n.1 ∙ sym (append_assoc front (c ∷ []) n.0) in
+        let q = checks_append (front ++ c ∷ []) n.0 in
+        let m = checks_more front c true 1 one e in
+        let t : checks_of cs ≡ 2 + checks_of n.0 = ap (λ y. checks_of y) p ∙ q ∙ ap (λ y. y + checks_of n.0) m in
+        absurd (omega arith)
+
+    -- CHECK_DEADLOCK for a second time
+    pub so_far_twice : StatementsSoFar front at → IsStatement text ts c at mid → checks_of front ≡ count_of checks → not (checks && is_check_deadlock c) ≡ false → NoStatements text ts
+    so_far_twice so st h second cs x once = twice so st h second cs (length ts) x stops_last once
+
+    pub so_far_twice_no_word : StatementsSoFar front at → IsStatement text ts c at mid → checks_of front ≡ count_of checks → not (checks && is_check_deadlock c) ≡ false → NoLeftOutWord text ts
+    so_far_twice_no_word so st h second begin f w = twice so st h second f.statements begin f.spelled (stops_word begin w) f.once
+
+  -- they are followed by this token
+  pub so_far_follows : (front : List Statement) (at : ℕ) → checks_of front ≤ 1 → StatementsSoFar front at → FollowsStatements text ts at
+  so_far_follows front at once so = record {
+    statements = front;
+    spelled = subst (λ cs. StatementsUpTo text ts cs 0 at) (append-nil front) (so.whole [] at refl);
+    once = once;
+  }
+
+  no_word_rest : (ds : List Statement) (at begin : ℕ) → NoStatement text ts at → (IsLeftOutWord text ts at → ⊥) → IsLeftOutWord text ts begin → StatementsUpTo text ts ds at begin → ⊥
+  no_word_rest [] at begin fails none w x = none (subst (λ m. IsLeftOutWord text ts m) (sym x) w)
+  no_word_rest (d ∷ ds) at begin fails none w x = fails d x.0 x.1 (ends_of ds x.0 begin x.2 (stops_word begin w).ends)
+
+  pub so_far_no_word : (front : List Statement) (at : ℕ) → StatementsSoFar front at → NoStatement text ts at → (IsLeftOutWord text ts at → ⊥) → NoLeftOutWord text ts
+  so_far_no_word front at so fails none begin f w =
+      let r = so.rest f.statements begin f.spelled (stops_word begin w) in
+      no_word_rest r.0 at begin fails none w r.2
+
+  -- all tokens are read
+  pub so_far_all_no_word : (front : List Statement) (at : ℕ) → length ts ≤ at → StatementsSoFar front at → NoLeftOutWord text ts
+  so_far_all_no_word front at h so =
+      so_far_no_word front at so (λ c to x e. begins_within c at to x h) (λ w. let n = slice_get_within ts at w.0 w.1 in absurd (omega arith))
+
+  -- a statement is refused
+  pub so_far_because : (r : Refusal) (front : List Statement) (at : ℕ) → checks_of front ≤ 1 → StatementsSoFar front at → Fails text ts r (NoStatement text ts at)
+      → Because r (LeftOutIn text ts at) (TooLargeIn text ts at) (IsLeftOutWord text ts at → ⊥) → Because r (LeftOutAt text ts) (TooLargeAt text ts) (NoLeftOutWord text ts)
+  so_far_because (refusal.Unexpected n) front at once so fails x = so_far_no_word front at so fails x
+  so_far_because (refusal.LeftOut n) front at once so fails x = (at, so_far_follows front at once so, x)
+  so_far_because (refusal.TooLarge n) front at once so fails x = (at, so_far_follows front at once so, x)
+  so_far_because refusal.NoMemory front at once so fails x = tt

@@ -1,8 +1,11 @@
 -- What a word begins, by the table.
-use Rattle.std.proofs.Common.{◌≡◌, Bool, true, false, ◌&&◌, ◌||◌, if◌then◌else◌, map, List, [], ◌∷◌, Option, Some, None, ◌⊎◌, inl, inr, codes, refl}
+use Rattle.std.proofs.Common.{◌≡◌, ℕ, suc, leb, arith, Bool, true, false, ◌&&◌, ◌||◌, if◌then◌else◌, map, List, [], ◌∷◌, Option, Some, None, ◌⊎◌, inl, inr, codes, refl, sym, subst}
 use Rattle.std.specs.List.{list_any}
-use Rattle.std.specs.Str.{bytes_eq}
+use Rattle.std.specs.Str.{bytes_eq, IsUtf8, IsAscii}
+use Rattle.std.proofs.lemmas.Bool.{leb-true, and_parts}
 use Rattle.std.proofs.lemmas.Slice.Eq.{bytes_eq-Decides}
+use Rattle.std.proofs.lemmas.Str.{IsUtf8-from_ascii}
+use Rattle.std.proofs.lemmas.Str.Ascii.{IsAscii-nil, IsAscii-cons}
 use Rattle.tla_config.specs.declared.keyword.Keyword.{Keyword}
 use Rattle.tla_config.specs.declared.keyword.Keyword.TheVariants as word
 use Rattle.tla_config.specs.Keywords.{keywords, lookup}
@@ -90,6 +93,36 @@ constraints_word w h = elim (either (bytes_eq w (codes "CONSTRAINT")) (bytes_eq 
 
 pub left_out_word : (w : Name) → lookup keywords w ≡ Some word.LeftOut → is_among w left_out_words ≡ true
 left_out_word w h = spells_found keywords w word.LeftOut h
+
+abbrev Hold : (Name → Type 0) → List Name → Type 0
+Hold P [] = Unit {0}
+Hold P (x ∷ xs) = P x × Hold P xs
+
+among_step : (P : Name → Type 0) (w x : Name) (xs : List Name) (b : Bool) → bytes_eq w x ≡ b → P x → (is_among w xs ≡ true → P w) → (b || is_among w xs) ≡ true → P w
+among_step P w x xs true e p go h = subst P (sym (same_bytes w x e)) p
+among_step P w x xs false e p go h = go h
+
+-- what is right of each of some words is right of one among them
+among : (P : Name → Type 0) (w : Name) (xs : List Name) → Hold P xs → is_among w xs ≡ true → P w
+among P w [] p h = (let z : ⊥ = cc in absurd z)
+among P w (x ∷ xs) p h = among_step P w x xs (bytes_eq w x) refl p.0 (λ g. among P w xs p.1 g) h
+
+pub left_out_is : (w : Name) → is_among w left_out_words ≡ true → lookup keywords w ≡ Some word.LeftOut
+left_out_is w h = among (λ x. lookup keywords x ≡ Some word.LeftOut) w left_out_words (refl, (refl, (refl, (refl, (refl, (refl, (refl, (refl, tt)))))))) h
+
+abbrev are_ascii : List ℕ → Bool
+are_ascii [] = true
+are_ascii (b ∷ bs) = leb (suc b) 128 && are_ascii bs
+
+ascii_bytes : (bs : List ℕ) → are_ascii bs ≡ true → IsAscii bs
+ascii_bytes [] h = IsAscii-nil
+ascii_bytes (b ∷ bs) h =
+    let k = and_parts (leb (suc b) 128) (are_ascii bs) h in
+    let l = leb-true (suc b) 128 k.0 in
+    IsAscii-cons b bs (omega (arith, l)) (ascii_bytes bs k.1)
+
+pub left_out_utf8 : (w : Name) → is_among w left_out_words ≡ true → IsUtf8 w
+left_out_utf8 w h = IsUtf8-from_ascii w (ascii_bytes w (among (λ x. are_ascii x ≡ true) w left_out_words (refl, (refl, (refl, (refl, (refl, (refl, (refl, (refl, tt)))))))) h))
 
 none_step : (es : Entries) (w : Name) (k : Keyword) (b : Bool) (o : Option Keyword) → (o ≡ None → list_any (bytes_eq w) (map (λ e. e.0) es) ≡ false)
     → (if b then Some k else o) ≡ None → (b || list_any (bytes_eq w) (map (λ e. e.0) es)) ≡ false

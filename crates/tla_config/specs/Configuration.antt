@@ -86,10 +86,14 @@ module _ (text : Bytes) (ts : List Token) where
   SpellsStatement (Constants p is) from to = Is k.Constant p from × Items is (from + 1) to
   SpellsStatement (CheckDeadlock p check) from to = Begins (codes "CHECK_DEADLOCK") p from × Has (kind_of check) (from + 1) × (to ≡ from + 2)
 
+  -- one statement after the other, from one token up to another
+  abbrev pub StatementsUpTo : List Statement → ℕ → ℕ → Type 0
+  StatementsUpTo [] from to = from ≡ to
+  StatementsUpTo (c ∷ cs) from to = (mid : ℕ) × SpellsStatement c from mid × StatementsUpTo cs mid to
+
   -- one statement after the other, up to the last token
   abbrev pub SpellsStatements : List Statement → ℕ → Type 0
-  SpellsStatements [] from = from ≡ length ts
-  SpellsStatements (c ∷ cs) from = (mid : ℕ) × SpellsStatement c from mid × SpellsStatements cs mid
+  SpellsStatements cs from = StatementsUpTo cs from (length ts)
 
 -- A text is a configuration of these statements, of which one at most is CHECK_DEADLOCK.
 pub record IsConfiguration (text : Bytes) (cs : List Statement) : Type 0 where

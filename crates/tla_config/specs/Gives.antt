@@ -9,9 +9,23 @@ use Rattle.tla_config.specs.declared.refusal.Refusal.{Refusal}
 use Rattle.tla_config.specs.declared.refusal.Refusal.TheVariants as refusal
 use Rattle.tla_config.specs.declared.statements.ParsedStatement.{ParsedStatement}
 use Rattle.tla_config.specs.Configuration.{Has, IsName, Names, SpellsStatement, SpellsStatements, is_check_deadlock}
-use Rattle.tla_config.specs.Refusals.{IsLeftOutHere}
-use Rattle.tla_config.specs.Statements.{Statement}
+use Rattle.tla_config.specs.Refusals.{Begins, IsLeftOutWord, IsLeftOutItem, IsTooLargeItem, ItemsUpTo, FollowsStatements}
+use Rattle.tla_config.specs.Statements.{Item, Statement}
 use Rattle.tla_config.specs.View.{statement_view}
+
+-- why a reader of tokens refuses: at the token of a refusal something is left out, or too large, or else there is no cause of these kinds
+abbrev pub Because : Refusal → (ℕ → Type 0) → (ℕ → Type 0) → Type 0 → Type 0
+Because (refusal.Unexpected at) left large plain = plain
+Because (refusal.LeftOut at) left large plain = left at
+Because (refusal.TooLarge at) left large plain = large at
+Because refusal.NoMemory left large plain = Unit {0}
+
+abbrev pub Nowhere : ℕ → Type 0
+Nowhere at = ⊥
+
+-- nothing is told
+abbrev pub Anything : Type 0
+Anything = Unit {0}
 
 module _ (text : Bytes) (ts : List Token) where
   -- a list of names does not go on here
@@ -27,7 +41,7 @@ module _ (text : Bytes) (ts : List Token) where
   -- a refusal says that something is not there; want of memory says nothing
   abbrev pub Fails : Refusal → Type 0 → Type 0
   Fails (refusal.Unexpected at) p = p
-  Fails (refusal.LeftOut at) p = p × IsLeftOutHere text ts at
+  Fails (refusal.LeftOut at) p = p
   Fails (refusal.TooLarge at) p = p
   Fails refusal.NoMemory p = Unit {0}
 
@@ -66,3 +80,32 @@ module _ (text : Bytes) (ts : List Token) where
 
   abbrev pub NoStatements : Type 0
   NoStatements = (cs : List Statement) → SpellsStatements text ts cs 0 → length (filter is_check_deadlock cs) ≤ 1 → ⊥
+
+  -- behind items a replacement is left out, whose bracket stands at a token; or an item is too large
+  abbrev pub LeftOutBehind : ℕ → ℕ → Type 0
+  LeftOutBehind from at = (item : ℕ) × ((is : List Item) × ItemsUpTo text ts is from item) × IsLeftOutItem text ts item × (at ≡ item + 2)
+
+  abbrev pub TooLargeBehind : ℕ → ℕ → Type 0
+  TooLargeBehind from at = ((is : List Item) × ItemsUpTo text ts is from at) × IsTooLargeItem text ts at
+
+  -- in the statement that begins at a token
+  abbrev pub LeftOutIn : ℕ → ℕ → Type 0
+  LeftOutIn begin at = (IsLeftOutWord text ts begin × (at ≡ begin)) ⊎ (Has text ts k.Constant begin × LeftOutBehind (begin + 1) at)
+
+  abbrev pub TooLargeIn : ℕ → ℕ → Type 0
+  TooLargeIn begin at = Has text ts k.Constant begin × TooLargeBehind (begin + 1) at
+
+  -- behind statements
+  abbrev pub LeftOutAt : ℕ → Type 0
+  LeftOutAt at = (begin : ℕ) × FollowsStatements text ts begin × LeftOutIn begin at
+
+  abbrev pub TooLargeAt : ℕ → Type 0
+  TooLargeAt at = (begin : ℕ) × FollowsStatements text ts begin × TooLargeIn begin at
+
+  -- behind statements stands no word of a statement that is left out
+  abbrev pub NoLeftOutWord : Type 0
+  NoLeftOutWord = (at : ℕ) → FollowsStatements text ts at → IsLeftOutWord text ts at → ⊥
+
+  -- the text begins with no other tokens
+  abbrev pub OnlyBegins : Type 0
+  OnlyBegins = (us : List Token) → Begins text us → us ≡ ts

@@ -11,11 +11,16 @@ use Rattle.tla_config.specs.declared.items.ParsedItem.{ParsedItem}
 use Rattle.tla_config.specs.declared.items.ParsedItems.{ParsedItems}
 use Rattle.tla_config.specs.declared.refusal.Refusal.{Refusal}
 use Rattle.tla_config.specs.declared.values.ParsedValue.{ParsedValue}
+use Rattle.tla_config.specs.Beyond.{IsBeyond}
 use Rattle.tla_config.specs.Configuration.{SpellsLiteral, SpellsItem, Items}
 use Rattle.tla_config.specs.Gives.{Ends, Fails}
 use Rattle.tla_config.specs.Literals.{Literal, value_of, atom_of}
 use Rattle.tla_config.specs.Statements.{Item}
 use Rattle.tla_config.specs.View.{item_view}
+
+-- the value that the token writes by itself is beyond the limits
+abbrev pub AtomBeyond : Bytes → Token → Type 0
+AtomBeyond text t = (v : Tree) × (atom_of text t ≡ Some v) × (IsValue v → ⊥)
 
 module _ (text : Bytes) (ts : List Token) where
   -- the answer of a set's members, or a refusal
@@ -61,3 +66,7 @@ module _ (text : Bytes) (ts : List Token) where
   abbrev pub GivesItems : ℕ → Result ParsedItems Refusal → Type 0
   GivesItems from (Ok x) = AreItems (map item_view x.items.items) from x.end
   GivesItems from (Err r) = Fails text ts r (NoItems from)
+
+  -- the value that begins here is beyond the limits, in the item of this number
+  abbrev pub BeyondIn : ℕ → ℕ → ℕ → ℕ → Type 0
+  BeyondIn item room from at = (at ≡ item) × IsBeyond text ts room from

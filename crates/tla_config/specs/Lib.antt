@@ -9,3 +9,4 @@ pub mod Keywords
 pub mod Fronts
 pub mod Gives
 pub mod GivesValues
+pub mod Beyond

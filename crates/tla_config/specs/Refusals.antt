@@ -1,5 +1,6 @@
 -- What a refusal of a configuration says (this project's own choice).
-use Rattle.std.specs.Prelude.{◌≡◌, ◌⊎◌, ℕ, Bool, true, false, IsTrue, is_some, List, [], ◌∷◌, Option, Some, None, slice_get, codes}
+use Rattle.std.specs.Prelude.{◌≡◌, ◌≤◌, ◌⊎◌, ℕ, ◌+◌, Bool, true, false, IsTrue, is_some, List, [], ◌∷◌, Option, Some, None, length, slice_get, filter, codes}
+use Rattle.std.specs.Str.{IsUtf8}
 use Rattle.tla_lex.specs.Bytes.{Bytes}
 use Rattle.tla_lex.specs.Reads.{Reads}
 use Rattle.tla_lex.specs.declared.lexeme.Source.TheVariants as source
@@ -8,9 +9,13 @@ use Rattle.tla_lex.specs.declared.token.Kind.TheVariants as k
 use Rattle.tla_lex.specs.declared.token.Place.{Place}
 use Rattle.tla_lex.specs.declared.token.Token.{Token}
 use Rattle.tla_tree.specs.Words.{word_of}
+use Rattle.tla_tree.specs.declared.word.Written.{Written}
 use Rattle.tla_config.specs.declared.error.DefsCode.{DefsCode}
 use Rattle.tla_config.specs.declared.error.DefsCode.TheVariants as code
+use Rattle.tla_config.specs.Beyond.{IsBeyond}
+use Rattle.tla_config.specs.Configuration.{Has, IsName, SpellsItem, StatementsUpTo, is_check_deadlock}
 use Rattle.tla_config.specs.Names.{Name, is_among}
+use Rattle.tla_config.specs.Statements.{Item, Statement}
 
 -- the words of the statements that are left out
 abbrev pub left_out_words : List Name
@@ -19,25 +24,74 @@ left_out_words =
     ∷ codes "VIEW" ∷ codes "ACTION_CONSTRAINT" ∷ codes "ACTION_CONSTRAINTS"
     ∷ codes "ALIAS" ∷ codes "POSTCONDITION" ∷ []
 
--- the token of this number is one of the words that begin statements left out, or a bracket (with which a replacement in another module begins)
-abbrev pub IsLeftOutAt : Bytes → List Token → ℕ → Place → Name → Type 0
-IsLeftOutAt text ts at p word = (t : Token) × (slice_get ts at ≡ Some t) × (t.place ≡ p) × (word_of text t ≡ word) × (IsTrue (is_among word left_out_words) ⊎ (t.kind ≡ k.LeftBracket))
+module _ (text : Bytes) (ts : List Token) where
+  -- such a word stands here
+  abbrev pub IsLeftOutWord : ℕ → Type 0
+  IsLeftOutWord at = (t : Token) × (slice_get ts at ≡ Some t) × (t.kind ≡ k.Name) × IsTrue (is_among (word_of text t) left_out_words)
 
--- the token of this number is such a word or bracket
-abbrev pub IsLeftOutHere : Bytes → List Token → ℕ → Type 0
-IsLeftOutHere text ts at = (t : Token) × (word : Name) × IsLeftOutAt text ts at t.place word
+  -- `c <- [` begins here, as a replacement in another module does, which is left out too
+  abbrev pub IsLeftOutItem : ℕ → Type 0
+  IsLeftOutItem at = ((c : Written) × IsName text ts c at) × Has text ts k.Substitute (at + 1) × Has text ts k.LeftBracket (at + 2)
+
+  -- `c = value` begins here, with a value beyond the limits
+  abbrev pub IsTooLargeItem : ℕ → Type 0
+  IsTooLargeItem at = ((c : Written) × IsName text ts c at) × Has text ts k.Equal (at + 1) × IsBeyond text ts 64 (at + 2)
+
+  -- items stand between two tokens, each with a comma behind it or none
+  abbrev pub ItemsUpTo : List Item → ℕ → ℕ → Type 0
+  ItemsUpTo [] from to = from ≡ to
+  ItemsUpTo (i ∷ is) from to = (mid : ℕ) × SpellsItem text ts i from mid × (at : ℕ) × ((at ≡ mid) ⊎ (Has text ts k.Comma mid × (at ≡ mid + 1))) × ItemsUpTo is at to
+
+  -- statements stand before this token, CHECK_DEADLOCK once at most among them
+  pub record FollowsStatements (at : ℕ) : Type 0 where
+    pub statements : List Statement
+    pub spelled : StatementsUpTo text ts statements 0 at
+    pub once : length (filter is_check_deadlock statements) ≤ 1
+
+  -- statements stand before this token, then CONSTANT and items
+  pub record FollowsItems (at : ℕ) : Type 0 where
+    pub begin : ℕ
+    pub statements : FollowsStatements begin
+    pub constant : Has text ts k.Constant begin
+    pub items : List Item
+    pub spelled : ItemsUpTo items (begin + 1) at
 
 -- the tokens are those of a configuration up to its end or first fault
-abbrev pub Begun : Bytes → List Token → Type 0
-Begun text ts = (stop : Stop) × Reads source.Configuration text 0 ts stop
-
--- the word of a statement that is left out, or such a bracket, at this place of the text
-pub record IsLeftOut (text : Bytes) (p : Place) (word : Name) : Type 0 where
-  pub tokens : List Token
+pub record Begins (text : Bytes) (ts : List Token) : Type 0 where
+  pub utf8 : IsUtf8 text
   pub stop : Stop
-  pub reads : Reads source.Configuration text 0 tokens stop
+  pub reads : Reads source.Configuration text 0 ts stop
+
+abbrev pub StandsAt : List Token → ℕ → Place → Type 0
+StandsAt ts at p = (t : Token) × (slice_get ts at ≡ Some t) × (t.place ≡ p)
+
+-- behind statements the text has the word of a statement that is left out
+pub record HasLeftOutWord (text : Bytes) (p : Place) (word : Name) : Type 0 where
+  pub tokens : List Token
+  pub begins : Begins text tokens
   pub at : ℕ
-  pub is : IsLeftOutAt text tokens at p word
+  pub follows : FollowsStatements text tokens at
+  pub is : IsLeftOutWord text tokens at
+  pub place : is.0.place ≡ p
+  pub name : word_of text is.0 ≡ word
+
+-- behind statements, CONSTANT and items it has `c <- [`, with the bracket at this place
+pub record HasLeftOutItem (text : Bytes) (p : Place) : Type 0 where
+  pub tokens : List Token
+  pub begins : Begins text tokens
+  pub at : ℕ
+  pub follows : FollowsItems text tokens at
+  pub is : IsLeftOutItem text tokens at
+  pub place : StandsAt tokens (at + 2) p
+
+-- behind them it has an item with a value beyond the limits, at this place
+pub record HasTooLargeItem (text : Bytes) (p : Place) : Type 0 where
+  pub tokens : List Token
+  pub begins : Begins text tokens
+  pub at : ℕ
+  pub follows : FollowsItems text tokens at
+  pub is : IsTooLargeItem text tokens at
+  pub place : StandsAt tokens at p
 
 -- the codes that print a name
 abbrev pub has_name : DefsCode → Bool
@@ -56,10 +110,12 @@ IsLocated code.Memory _ _ = ⊥
 IsLocated c None name = ⊥
 IsLocated c (Some p) name = is_some name ≡ has_name c
 
--- Of a configuration's text that is refused: the name of a statement left out is a word or a bracket that stands at the place. Which of the codes a text gets is not said here.
+-- Of a configuration's text that is refused. C10 is given where a statement or an item that is left out begins behind
+-- statements, and names its word or `[`; C11 where an item so placed has a value beyond the limits; C1 only where no word
+-- of a statement that is left out stands behind statements. Where C1 stands is not said here.
 abbrev pub Explains : Bytes → DefsCode → Option Place → Option Name → Type 0
-Explains text code.ConfigurationText p name = Unit {0}
-Explains text code.ExpansionTooLarge p name = Unit {0}
-Explains text code.StatementLeftOut (Some p) (Some word) = IsLeftOut text p word
+Explains text code.ConfigurationText p name = (q : Place) (word : Name) → HasLeftOutWord text q word → ⊥
+Explains text code.ExpansionTooLarge (Some p) name = HasTooLargeItem text p
+Explains text code.StatementLeftOut (Some p) (Some word) = HasLeftOutWord text p word ⊎ (HasLeftOutItem text p × (word ≡ codes "["))
 Explains text code.Memory p name = Unit {0}
 Explains text _ _ _ = ⊥

@@ -1,7 +1,9 @@
 //! Lists of items.
 
-ghost use Rattle.std.specs.Prelude.{◌≡◌, ◌≤◌, ◌<◌, ◌++◌, ◌∷◌, [], length, IfOk, IfErr, OnOk};
+ghost use Rattle.std.specs.Prelude.{◌≡◌, ◌≤◌, ◌<◌, ◌+◌, ◌++◌, ◌∷◌, [], length, IfOk, IfErr, OnOk};
+ghost use Rattle.tla_config.specs.Gives.{Because, Anything, LeftOutBehind, TooLargeBehind};
 ghost use Rattle.tla_config.specs.GivesValues as spec;
+ghost use Rattle.tla_config.specs.Refusals.{IsLeftOutItem, IsTooLargeItem};
 
 use crate::names::{name, next_name};
 use crate::refusal::Refusal;
@@ -28,6 +30,7 @@ pub struct ParsedItems {
 /// The item that begins here.
 fn item(alloc: Global, text: &[u8], tokens: &[Token], at: usize) -> Result<ParsedItem, Refusal>
     ensures gives { spec.GivesItem text.now tokens.now at result }
+    ensures because { IfErr result (λ e. Because e (λ n. IsLeftOutItem text.now tokens.now at × (n ≡ at + 2)) (λ n. IsTooLargeItem text.now tokens.now at × (n ≡ at)) Anything) }
     ensures within { IfOk result (λ x. (at < x.end) × (x.end ≤ length tokens.now)) }
 {
     let constant = name(alloc, text, tokens, at)?;
@@ -69,6 +72,7 @@ pub fn items(
     from: usize,
 ) -> Result<ParsedItems, Refusal>
     ensures gives { spec.GivesItems text.now tokens.now from result }
+    ensures because { IfErr result (λ e. Because e (LeftOutBehind text.now tokens.now from) (TooLargeBehind text.now tokens.now from) Anything) }
     ensures within { IfOk result (λ x. (from < x.end) × (x.end ≤ length tokens.now)) }
 {
     let mut items = Vec::new(alloc);

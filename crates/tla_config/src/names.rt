@@ -19,6 +19,7 @@ pub struct ParsedNames {
 /// The name that stands here.
 pub fn name(alloc: Global, text: &[u8], tokens: &[Token], at: usize) -> Result<Written, Refusal>
     ensures gives { spec.GivesName text.now tokens.now at result }
+    ensures because { IfErr result (λ e. spec.Because e spec.Nowhere spec.Nowhere spec.Anything) }
     ensures within { OnOk result (at < length tokens.now) }
 {
     match name_at(text, tokens, at) {
@@ -59,6 +60,7 @@ pub fn names(
     from: usize,
 ) -> Result<ParsedNames, Refusal>
     ensures gives { spec.GivesNames text.now tokens.now from result }
+    ensures because { IfErr result (λ e. spec.Because e spec.Nowhere spec.Nowhere spec.Anything) }
     ensures within { IfOk result (λ x. (from < x.end) × (x.end ≤ length tokens.now)) }
 {
     let mut names = Vec::new(alloc);

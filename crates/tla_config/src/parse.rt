@@ -1,47 +1,22 @@
 //! Reading a configuration.
 
-ghost use Rattle.std.specs.Prelude.{◌≡◌, ◌≢◌, ◌⊎◌, List, Some, None, length, IfOk, IfErr, IfSome};
+ghost use Rattle.std.specs.Prelude.{◌≡◌, ◌≢◌, ◌⊎◌, List, Some, None, length, IfOk, IfErr};
 ghost use Rattle.tla_lex.specs.Places.{place_at};
 ghost use Rattle.tla_lex.specs.Tokens.{no_memory};
-ghost use Rattle.tla_lex.specs.declared.lexeme.Source as lexed;
-ghost use Rattle.tla_lex.specs.declared.scan.Stop.{Stop};
+ghost use Rattle.tla_lex.specs.declared.token.Place as lexed_at;
 ghost use Rattle.tla_config.specs.Configuration.{IsConfiguration};
-ghost use Rattle.tla_config.specs.Gives.{Fails, NoStatements};
+ghost use Rattle.tla_config.specs.Gives.{Because, Fails, NoStatements, LeftOutAt, TooLargeAt, NoLeftOutWord, OnlyBegins};
 ghost use Rattle.tla_config.specs.Statements as spec;
-ghost use Rattle.tla_config.specs.Refusals.{IsLocated, Explains, Begun, IsLeftOutHere};
+ghost use Rattle.tla_config.specs.Refusals.{IsLocated, Explains, Begins, StandsAt};
 
 use crate::config::Config;
 use crate::error::{DefsCode, DefsError, Source};
 use crate::refusal::Refusal;
 use crate::statements::statements;
-use crate::tokens::slice_of;
+use crate::tokens::{slice_of, token_at};
 use std::alloc::Global;
-use tla_lex::{LexError, Place, Scan, Stop, Token, configuration_tokens};
+use tla_lex::{Kind, LexError, Place, Scan, Stop, Token, configuration_tokens};
 use tla_value::Text;
-
-const LEFT_OUT_WORDS: [&str; 9] = [
-    "PROPERTY",
-    "PROPERTIES",
-    "SYMMETRY",
-    "VIEW",
-    "ACTION_CONSTRAINT",
-    "ACTION_CONSTRAINTS",
-    "ALIAS",
-    "POSTCONDITION",
-    "[",
-];
-
-/// The word of a statement that is left out, as a text.
-fn left_out_word(word: &[u8]) -> Option<&'static str>
-    ensures { IfSome result (λ s. s.now ≡ word.now) }
-{
-    for left_out in LEFT_OUT_WORDS {
-        if left_out.as_bytes() == word {
-            return Some(left_out);
-        }
-    }
-    None
-}
 
 fn out_of_memory() -> DefsError
     ensures { result ≡ record { code = DefsCode.Memory; source = Source.Configuration; place = None; name = None } }
@@ -87,7 +62,9 @@ fn unread(error: LexError) -> DefsError
 }
 
 /// The place of a token, or the end of the text.
-fn place_of(tokens: &[Token], at: usize, end: Place) -> Place {
+fn place_of(tokens: &[Token], at: usize, end: Place) -> Place
+    ensures { (p : lexed_at.Place) → StandsAt tokens.now at p → p ≡ result }
+{
     match tokens.get(at) {
         Some(t) => t.place,
         None => end,
@@ -102,35 +79,49 @@ fn place_of_stop(stop: Stop) -> Place {
     }
 }
 
-/// The refusal of a statement that is left out, which begins at this token.
-fn left_out(alloc: Global, text: &[u8], tokens: &[Token], end: Place, at: usize) -> DefsError
-    requires read { Begun text.now tokens.now }
-    requires here { IsLeftOutHere text.now tokens.now at }
+/// The refusal of what is left out, at a place and by its word.
+fn left_out_at(alloc: Global, place: Place, word: &str) -> DefsError
     ensures source { result.source ≡ Source.Configuration }
     ensures located { IsLocated result.code result.place result.name }
-    ensures explains { Explains text.now result.code result.place result.name }
+    ensures is { (result.code ≡ DefsCode.Memory) ⊎ ((result.code ≡ DefsCode.StatementLeftOut) × (result.place ≡ Some place) × (result.name ≡ Some word.now)) }
 {
-    let Some(t) = tokens.get(at) else {
-        return refused(end);
-    };
-    let Some(word) = left_out_word(slice_of(text, *t)) else {
-        return refused(t.place);
-    };
     match String::from_str(alloc, word) {
         Ok(name) => DefsError {
             code: DefsCode::StatementLeftOut,
             source: Source::Configuration,
-            place: Some(t.place),
+            place: Some(place),
             name: Some(Text::new(name)),
         },
         Err(_) => out_of_memory(),
     }
 }
 
+/// The refusal of what is left out, whose word or bracket is this token.
+fn left_out(alloc: Global, text: &[u8], tokens: &[Token], at: usize) -> DefsError
+    requires begins { Begins text.now tokens.now }
+    requires here { LeftOutAt text.now tokens.now at }
+    ensures source { result.source ≡ Source.Configuration }
+    ensures located { IsLocated result.code result.place result.name }
+    ensures explains { Explains text.now result.code result.place result.name }
+{
+    let Some(t) = token_at(tokens, at) else {
+        unreachable!()
+    };
+    if let Kind::LeftBracket = t.kind {
+        return left_out_at(alloc, t.place, "[");
+    }
+    let Ok(word) = str::from_utf8(slice_of(text, t)) else {
+        unreachable!()
+    };
+    left_out_at(alloc, t.place, word)
+}
+
 /// A refusal of tokens as callers see it.
 fn error_of(alloc: Global, text: &[u8], tokens: &[Token], end: Place, refusal: Refusal) -> DefsError
-    requires read { Begun text.now tokens.now }
+    requires begins { Begins text.now tokens.now }
     requires fails { Fails text.now tokens.now refusal (NoStatements text.now tokens.now) }
+    requires because { Because refusal (LeftOutAt text.now tokens.now) (TooLargeAt text.now tokens.now) (NoLeftOutWord text.now tokens.now) }
+    requires only { OnlyBegins text.now tokens.now }
     ensures source { result.source ≡ Source.Configuration }
     ensures located { IsLocated result.code result.place result.name }
     ensures explains { Explains text.now result.code result.place result.name }
@@ -138,7 +129,7 @@ fn error_of(alloc: Global, text: &[u8], tokens: &[Token], end: Place, refusal: R
 {
     match refusal {
         Refusal::Unexpected(at) => refused(place_of(tokens, at, end)),
-        Refusal::LeftOut(at) => left_out(alloc, text, tokens, end, at),
+        Refusal::LeftOut(at) => left_out(alloc, text, tokens, at),
         Refusal::TooLarge(at) => {
             error_at(DefsCode::ExpansionTooLarge, place_of(tokens, at, end))
         }

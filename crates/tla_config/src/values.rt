@@ -11,6 +11,7 @@ ghost use Rattle.tla_value.specs.Tree as tree;
 ghost use Rattle.tla_value.specs.TreeOf.{tree_of};
 ghost use Rattle.tla_tree.specs.Words.{word_of};
 ghost use Rattle.tla_config.specs.Fronts.{kind_at};
+ghost use Rattle.tla_config.specs.Gives.{Because, Nowhere, Anything};
 ghost use Rattle.tla_config.specs.GivesValues as spec;
 ghost use Rattle.tla_config.specs.Literals.{number};
 
@@ -121,7 +122,8 @@ fn text_value(
 ) -> Result<Value, Refusal>
     requires kind { token.kind ≡ Kind.Text }
     requires bytes { bytes.now ≡ string_text (word_of text.now token) }
-    ensures { (ts : List lexed.Token) → spec.GivesAtom text.now ts token result }
+    ensures gives { (ts : List lexed.Token) → spec.GivesAtom text.now ts token result }
+    ensures because { IfErr result (λ e. Because e Nowhere (λ n. (n ≡ item) × spec.AtomBeyond text.now token) Anything) }
 {
     match text_of(alloc, bytes, item) {
         Ok(text) => Ok(Value::Text(text)),
@@ -132,7 +134,8 @@ fn text_value(
 /// The string that this token writes, in the item of this number.
 fn string(alloc: Global, text: &[u8], item: usize, token: Token) -> Result<Value, Refusal>
     requires { token.kind ≡ Kind.Text }
-    ensures { (ts : List lexed.Token) → spec.GivesAtom text.now ts token result }
+    ensures gives { (ts : List lexed.Token) → spec.GivesAtom text.now ts token result }
+    ensures because { IfErr result (λ e. Because e Nowhere (λ n. (n ≡ item) × spec.AtomBeyond text.now token) Anything) }
 {
     let bytes = bytes_of(alloc, slice_of(text, token))?;
     text_value(alloc, text, &bytes, item, token)
@@ -141,7 +144,8 @@ fn string(alloc: Global, text: &[u8], item: usize, token: Token) -> Result<Value
 /// The model value that this token names, in the item of this number.
 fn model(alloc: Global, text: &[u8], item: usize, at: usize, token: Token) -> Result<Value, Refusal>
     requires { token.kind ≡ Kind.Name }
-    ensures { (ts : List lexed.Token) → spec.GivesAtom text.now ts token result }
+    ensures gives { (ts : List lexed.Token) → spec.GivesAtom text.now ts token result }
+    ensures because { IfErr result (λ e. Because e Nowhere (λ n. (n ≡ item) × spec.AtomBeyond text.now token) Anything) }
 {
     let word = slice_of(text, token);
     match keyword_of(word) {
@@ -162,7 +166,8 @@ fn atom(
     at: usize,
     token: Token,
 ) -> Result<Value, Refusal>
-    ensures { spec.GivesAtom text.now tokens.now token result }
+    ensures gives { spec.GivesAtom text.now tokens.now token result }
+    ensures because { IfErr result (λ e. Because e Nowhere (λ n. (n ≡ item) × spec.AtomBeyond text.now token) Anything) }
 {
     let word = slice_of(text, token);
     match token.kind {
@@ -180,7 +185,8 @@ fn atom(
 
 /// The set of these values.
 fn set(values: Vec<Value>, item: usize) -> Result<Value, Refusal>
-    ensures { (text : List ℕ) (ts : List lexed.Token) → spec.GivesSet text ts (map tree_of values.items) result }
+    ensures gives { (text : List ℕ) (ts : List lexed.Token) → spec.GivesSet text ts (map tree_of values.items) result }
+    ensures because { IfErr result (λ e. Because e Nowhere (λ n. n ≡ item) Anything) }
 {
     match SetValue::from_values(values) {
         Ok(set) => Ok(Value::Set(set)),
@@ -204,6 +210,7 @@ fn push_value(values: &mut Vec<Value>, value: Value) -> Result<(), Refusal>
 fn negated(text: &[u8], tokens: &[Token], item: usize, at: usize) -> Result<ParsedValue, Refusal>
     requires { kind_at Kind.Minus (slice_get tokens.now at) ≡ true }
     ensures gives { (room : ℕ) → spec.GivesValue text.now tokens.now room at result }
+    ensures because { (room : ℕ) → IfErr result (λ e. Because e Nowhere (spec.BeyondIn text.now tokens.now item room at) Anything) }
     ensures within { IfOk result (λ x. (at < x.end) × (x.end ≤ length tokens.now)) }
 {
     let Some(t) = digits_at(tokens, at + 1) else {
@@ -229,6 +236,7 @@ pub fn value(
     at: usize,
 ) -> Result<ParsedValue, Refusal>
     ensures gives { spec.GivesValue text.now tokens.now room at result }
+    ensures because { IfErr result (λ e. Because e Nowhere (spec.BeyondIn text.now tokens.now item room at) Anything) }
     ensures within { IfOk result (λ x. (at < x.end) × (x.end ≤ length tokens.now)) }
 {
     let Some(t) = token_at(tokens, at) else {
@@ -260,6 +268,7 @@ fn members(
 ) -> Result<ParsedValue, Refusal>
     requires { kind_at Kind.LeftBrace (slice_get tokens.now from) ≡ true }
     ensures gives { spec.GivesValue text.now tokens.now (room + 1) from result }
+    ensures because { IfErr result (λ e. Because e Nowhere (spec.BeyondIn text.now tokens.now item (room + 1) from) Anything) }
     ensures within { IfOk result (λ x. (from < x.end) × (x.end ≤ length tokens.now)) }
 {
     let mut values = Vec::new(alloc);

@@ -1,10 +1,10 @@
-use Rattle.std.proofs.Common.{◌≡◌, ◌+◌, true, sym, ◌∙◌, slice_get}
+use Rattle.std.proofs.Common.{◌≡◌, ◌+◌, true, refl, sym, ◌∙◌, slice_get}
 use Rattle.std.proofs.lemmas.Result.{err_from_is_err_and}
 use Rattle.tla_lex.specs.declared.token.Kind.TheVariants as k
 use Rattle.tla_config.specs.Fronts.{kind_at}
 use Rattle.tla_config.specs.GivesValues.{NoValue, NoItem}
 use Rattle.tla_config.proofs.Arms.{fails_map}
-use Rattle.tla_config.proofs.ItemLists.{no_value_item, bracket_item}
+use Rattle.tla_config.proofs.ItemLists.{no_value_item, bracket_item, bracket_left_out, value_because}
 use Rattle.tla_config.proofs.items.item.Goals as goal
 
 pub returns-in_err-found-clause-gives : goal.returns-in_err-found-clause-gives
@@ -21,3 +21,18 @@ returns-then-is_kind-2-clause-gives c =
     let ts = c.args.tokens.now in
     let arrow : kind_at k.Substitute (slice_get ts (c.args.at + 1)) ≡ true = let f = c.is_kind-2.ensures.value in cc in
     bracket_item text ts c.args.at arrow (sym c.is_kind-3.ensures.value ∙ c.if-is_kind-2.true)
+
+pub returns-in_err-found-clause-because : goal.returns-in_err-found-clause-because
+returns-in_err-found-clause-because c =
+    let text = c.args.text.now in
+    let ts = c.args.tokens.now in
+    let e = err_from_is_err_and c.from_residual-in_err-found.result c.from_residual-in_err-found.ensures.1 in
+    rw (e.1, e.2) (value_because text ts c.in_err-found.field-0.0 c.args.at c.in_ok-constant.constant c.in_ok-constant.ensures.gives
+    (sym c.is_kind.ensures.value ∙ c.if-is_kind.true) c.in_err-found.ensures.because)
+
+pub returns-then-is_kind-2-clause-because : goal.returns-then-is_kind-2-clause-because
+returns-then-is_kind-2-clause-because c =
+    let text = c.args.text.now in
+    let ts = c.args.tokens.now in
+    let arrow : kind_at k.Substitute (slice_get ts (c.args.at + 1)) ≡ true = let f = c.is_kind-2.ensures.value in cc in
+    (bracket_left_out text ts c.args.at c.in_ok-constant.constant c.in_ok-constant.ensures.gives arrow (sym c.is_kind-3.ensures.value ∙ c.if-is_kind-2.true), refl)

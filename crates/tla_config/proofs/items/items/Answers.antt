@@ -4,7 +4,7 @@ use Rattle.std.proofs.lemmas.Result.{err_from_is_err_and}
 use Rattle.tla_config.specs.GivesValues.{NoItem, NoItems}
 use Rattle.tla_config.specs.View.{item_view}
 use Rattle.tla_config.proofs.Arms.{fails_map}
-use Rattle.tla_config.proofs.ItemLists.{items_none, items_more, items_last, items_fail}
+use Rattle.tla_config.proofs.ItemLists.{items_none, items_more, items_last, items_fail, items_because}
 use Rattle.tla_config.proofs.items.items.Goals as goal
 
 pub loop-items-init : goal.loop-items-init
@@ -38,3 +38,10 @@ returns-in-None-clause-gives c =
     ap (λ x. map item_view x) c.in_ok-push_item.ensures.ok ∙ map-append item_view c.loop-items.items.items (c.in_ok-found.found.item ∷ []) in
     rw more (items_last c.args.text.now c.args.tokens.now front c.args.from c.loop-items.at c.in_ok-found.found.end i
     c.loop-items.invariant.so_far c.in_ok-found.ensures.gives c.in-None.ensures.goes_on)
+
+pub returns-in_err-found-clause-because : goal.returns-in_err-found-clause-because
+returns-in_err-found-clause-because c =
+    let text = c.args.text.now in
+    let ts = c.args.tokens.now in
+    let e = err_from_is_err_and c.from_residual.result c.from_residual.ensures.1 in
+    rw (e.1, e.2) (items_because text ts c.in_err-found.field-0.0 (map item_view c.loop-items.items.items) c.args.from c.loop-items.at c.loop-items.invariant.so_far c.in_err-found.ensures.because)

@@ -28,3 +28,8 @@ loop-names-preserved c = record {
 pub returns-in-None-clause-gives : goal.returns-in-None-clause-gives
 returns-in-None-clause-gives c = rw c.in_ok-push_name.ensures.ok (so_far_last c.args.text.now c.args.tokens.now c.loop-names.names.items c.args.from c.loop-names.at
     c.in_ok-name.name c.loop-names.invariant.so_far c.in_ok-name.ensures.gives c.in-None.ensures.goes_on)
+
+pub returns-in_err-name-clause-because : goal.returns-in_err-name-clause-because
+returns-in_err-name-clause-because c =
+    let e = err_from_is_err_and c.from_residual.result c.from_residual.ensures.1 in
+    rw (e.1, e.2) c.in_err-name.ensures.because

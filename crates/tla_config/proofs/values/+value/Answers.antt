@@ -6,11 +6,12 @@ use Rattle.tla_value.specs.IsValue.{IsValue}
 use Rattle.tla_value.specs.Sets.{set_of}
 use Rattle.tla_value.specs.Tree.{set, trees}
 use Rattle.tla_value.specs.TreeOf.{tree_of}
+use Rattle.tla_config.specs.Beyond.{IsBeyond, nested}
 use Rattle.tla_config.specs.GivesValues.{IsValueAt, NoValue}
 use Rattle.tla_config.proofs.Arms.{fails_map}
-use Rattle.tla_config.proofs.Atoms.{NoAtom, atom_is, no_atom}
+use Rattle.tla_config.proofs.Atoms.{NoAtom, atom_is, no_atom, atom_because}
 use Rattle.tla_config.proofs.Fronts.{kind_found, kind_is}
-use Rattle.tla_config.proofs.Members.{so_far_none, so_far_more, so_far_last, so_far_refused, so_far_fails, so_far_open, empty_set, empty_refused}
+use Rattle.tla_config.proofs.Members.{so_far_none, so_far_more, so_far_last, so_far_refused, so_far_fails, so_far_open, empty_set, empty_refused, empty_beyond, set_beyond, set_because, members_before, member_because}
 use Rattle.tla_config.proofs.values.+value.Goals as goal
 
 pub members-loop-values-init : goal.members-loop-values-init
@@ -20,6 +21,7 @@ members-loop-values-init t c =
     record {
       so_far = rw c.new-values.ensures.items (so_far_none text ts c.args.from (kind_found k.LeftBrace (slice_get ts c.args.from) c.requires)
           (λ x. let e = kind_is text ts k.RightBrace (c.args.from + 1) refl x in let f = c.is_kind.ensures.value in (let z : ⊥ = cc in z)));
+      before = ([], refl);
       order = omega arith;
     }
 
@@ -39,13 +41,13 @@ members-returns-in_err-value-clause-gives t c =
     rw (e.1, e.2) (fails_map text ts c.in_err-value.field-0.0 (IsValue (set (trees (set_of (map tree_of c.new-values.result.items)))) → ⊥) (NoValue text ts (c.args.room + 1) c.args.from)
     (λ f. empty_refused text ts (c.args.room + 1) c.args.from (kind_found k.LeftBrace (slice_get ts c.args.from) c.requires)
     (kind_found k.RightBrace (slice_get ts (c.args.from + 1)) (sym c.is_kind.ensures.value ∙ c.if-is_kind.true))
-    (λ x. f (subst (λ vs. IsValue (set (trees (set_of (map tree_of vs))))) (sym c.new-values.ensures.items) x))) (c.in_err-value.ensures text ts))
+    (λ x. f (subst (λ vs. IsValue (set (trees (set_of (map tree_of vs))))) (sym c.new-values.ensures.items) x))) (c.in_err-value.ensures.gives text ts))
 
 pub members-returns-then-is_kind-clause-gives : goal.members-returns-then-is_kind-clause-gives
 members-returns-then-is_kind-clause-gives t c =
     let text = c.args.text.now in
     let ts = c.args.tokens.now in
-    let g = c.in_ok-value.ensures text ts in
+    let g = c.in_ok-value.ensures.gives text ts in
     let two : c.args.from + 2 ≡ c.args.from + 1 + 1 = omega arith in
     let s : tree_of c.in_ok-value.value ≡ set (trees (set_of [])) = g.0 ∙ ap (λ vs. set (trees (set_of (map tree_of vs)))) c.new-values.ensures.items in
     subst (λ n. IsValueAt text ts (tree_of c.in_ok-value.value) c.args.from n) two
@@ -64,7 +66,7 @@ members-returns-in_err-value-2-clause-gives t c =
     rw (e.1, e.2) (fails_map text ts c.in_err-value-2.field-0.0 (IsValue (set (trees (set_of (map tree_of c.push_value.new.values.items)))) → ⊥) (NoValue text ts (c.args.room + 1) c.args.from)
     (λ f. so_far_refused text ts front (c.args.room + 1) c.args.from c.loop-values.at c.in_ok-found.found.end v (kind_found k.LeftBrace (slice_get ts c.args.from) c.requires)
     c.loop-values.invariant.so_far c.in_ok-found.ensures.gives (kind_found k.RightBrace (slice_get ts c.in_ok-found.found.end) (sym c.is_kind-in-loop-values.ensures.value ∙ c.if-is_kind-2.true))
-    (λ x. f (subst (λ vs. IsValue (set (trees (set_of vs)))) (sym more) x))) (c.in_err-value-2.ensures text ts))
+    (λ x. f (subst (λ vs. IsValue (set (trees (set_of vs)))) (sym more) x))) (c.in_err-value-2.ensures.gives text ts))
 
 pub members-returns-then-is_kind-2-clause-gives : goal.members-returns-then-is_kind-2-clause-gives
 members-returns-then-is_kind-2-clause-gives t c =
@@ -72,7 +74,7 @@ members-returns-then-is_kind-2-clause-gives t c =
     let ts = c.args.tokens.now in
     let front = map tree_of c.loop-values.values.items in
     let v = tree_of c.in_ok-found.found.value in
-    let g = c.in_ok-value-2.ensures text ts in
+    let g = c.in_ok-value-2.ensures.gives text ts in
     let more : map tree_of c.push_value.new.values.items ≡ front ++ v ∷ [] =
     ap (λ x. map tree_of x) c.in_ok-push_value.ensures.ok ∙ map-append tree_of c.loop-values.values.items (c.in_ok-found.found.value ∷ []) in
     so_far_last text ts front c.args.from c.loop-values.at c.in_ok-found.found.end v (tree_of c.in_ok-value-2.value) c.loop-values.invariant.so_far c.in_ok-found.ensures.gives
@@ -99,6 +101,8 @@ members-loop-values-preserved t c =
     record {
       so_far = rw more (so_far_more text ts front c.args.from c.loop-values.at c.in_ok-found.found.end v c.loop-values.invariant.so_far c.in_ok-found.ensures.gives
           (kind_found k.Comma (slice_get ts c.in_ok-found.found.end) (let f = c.is_kind-in-loop-values-2.ensures.value in cc)));
+      before = members_before text ts c.args.from c.loop-values.at c.in_ok-found.found.end v c.loop-values.invariant.before c.in_ok-found.ensures.gives
+          (kind_found k.Comma (slice_get ts c.in_ok-found.found.end) (let f = c.is_kind-in-loop-values-2.ensures.value in cc));
       order = let a = c.in_ok-found.ensures.within in let b = c.loop-values.invariant.order in omega arith;
     }
 
@@ -107,7 +111,7 @@ value-returns-then-is_kind-2-clause-gives t c = c.negated.ensures.gives c.args.r
 
 pub value-returns-clause-gives : goal.value-returns-clause-gives
 value-returns-clause-gives t c =
-    atom_is c.args.text.now c.args.tokens.now c.args.at c.in-Some.t (tree_of c.in_ok-value.value) (sym c.token_at.ensures.value ∙ c.in-Some.is) c.in_ok-value.ensures.0 c.in_ok-value.ensures.1
+    atom_is c.args.text.now c.args.tokens.now c.args.at c.in-Some.t (tree_of c.in_ok-value.value) (sym c.token_at.ensures.value ∙ c.in-Some.is) c.in_ok-value.ensures.gives.0 c.in_ok-value.ensures.gives.1
 
 pub value-returns-in_err-value-clause-gives : goal.value-returns-in_err-value-clause-gives
 value-returns-in_err-value-clause-gives t c =
@@ -116,4 +120,50 @@ value-returns-in_err-value-clause-gives t c =
     let e = err_from_is_err_and c.from_residual.result c.from_residual.ensures.1 in
     rw (e.1, e.2) (fails_map text ts c.in_err-value.field-0.0 (NoAtom text ts c.in-Some.t) (NoValue text ts c.args.room c.args.at)
     (no_atom text ts c.args.room c.args.at c.in-Some.t (sym c.token_at.ensures.value ∙ c.in-Some.is)
-    (sym c.is_kind.ensures.value ∙ c.if-is_kind.false) (sym c.is_kind-2.ensures.value ∙ c.if-is_kind-2.false)) c.in_err-value.ensures)
+    (sym c.is_kind.ensures.value ∙ c.if-is_kind.false) (sym c.is_kind-2.ensures.value ∙ c.if-is_kind-2.false)) c.in_err-value.ensures.gives)
+
+pub value-returns-in_err-value-clause-because : goal.value-returns-in_err-value-clause-because
+value-returns-in_err-value-clause-because t c =
+    let e = err_from_is_err_and c.from_residual.result c.from_residual.ensures.1 in
+    rw (e.1, e.2) (atom_because c.args.text.now c.args.tokens.now c.in_err-value.field-0.0 c.args.item c.args.room c.args.at c.in-Some.t (sym c.token_at.ensures.value ∙ c.in-Some.is) c.in_err-value.ensures.because)
+
+pub members-returns-in_err-found-clause-because : goal.members-returns-in_err-found-clause-because
+members-returns-in_err-found-clause-because t c =
+    let text = c.args.text.now in
+    let ts = c.args.tokens.now in
+    let e = err_from_is_err_and c.from_residual-in_err-found.result c.from_residual-in_err-found.ensures.1 in
+    rw (e.1, e.2) (member_because text ts c.in_err-found.field-0.0 c.args.item c.args.room c.args.from c.loop-values.at (kind_found k.LeftBrace (slice_get ts c.args.from) c.requires)
+    c.loop-values.invariant.before c.in_err-found.ensures.because)
+
+pub members-returns-in_err-value-clause-because : goal.members-returns-in_err-value-clause-because
+members-returns-in_err-value-clause-because t c =
+    let text = c.args.text.now in
+    let ts = c.args.tokens.now in
+    let e = err_from_is_err_and c.from_residual.result c.from_residual.ensures.1 in
+    rw (e.1, e.2) (set_because text ts c.in_err-value.field-0.0 (map tree_of c.new-values.result.items) c.args.item (c.args.room + 1) c.args.from
+    (λ f. empty_beyond text ts (c.args.room + 1) c.args.from (kind_found k.LeftBrace (slice_get ts c.args.from) c.requires)
+    (kind_found k.RightBrace (slice_get ts (c.args.from + 1)) (sym c.is_kind.ensures.value ∙ c.if-is_kind.true))
+    (λ x. f (subst (λ vs. IsValue (set (trees (set_of (map tree_of vs))))) (sym c.new-values.ensures.items) x))) (c.in_err-value.ensures.gives text ts) c.in_err-value.ensures.because)
+
+pub members-returns-in_err-value-2-clause-because : goal.members-returns-in_err-value-2-clause-because
+members-returns-in_err-value-2-clause-because t c =
+    let text = c.args.text.now in
+    let ts = c.args.tokens.now in
+    let front = map tree_of c.loop-values.values.items in
+    let v = tree_of c.in_ok-found.found.value in
+    let e = err_from_is_err_and c.from_residual-in_err-value-2.result c.from_residual-in_err-value-2.ensures.1 in
+    let more : map tree_of c.push_value.new.values.items ≡ front ++ v ∷ [] =
+    ap (λ x. map tree_of x) c.in_ok-push_value.ensures.ok ∙ map-append tree_of c.loop-values.values.items (c.in_ok-found.found.value ∷ []) in
+    rw (e.1, e.2) (set_because text ts c.in_err-value-2.field-0.0 (map tree_of c.push_value.new.values.items) c.args.item (c.args.room + 1) c.args.from
+    (λ f. set_beyond text ts front (c.args.room + 1) c.args.from c.loop-values.at c.in_ok-found.found.end v c.loop-values.invariant.so_far c.in_ok-found.ensures.gives
+    (kind_found k.RightBrace (slice_get ts c.in_ok-found.found.end) (sym c.is_kind-in-loop-values.ensures.value ∙ c.if-is_kind-2.true))
+    (λ x. f (subst (λ vs. IsValue (set (trees (set_of vs)))) (sym more) x))) (c.in_err-value-2.ensures.gives text ts) c.in_err-value-2.ensures.because)
+
+pub value-returns-then-is_kind-2-clause-because : goal.value-returns-then-is_kind-2-clause-because
+value-returns-then-is_kind-2-clause-because t c = c.negated.ensures.because c.args.room
+
+pub value-returns-then-room-eq0-clause-because : goal.value-returns-then-room-eq0-clause-because
+value-returns-then-room-eq0-clause-because t c =
+    let text = c.args.text.now in
+    let ts = c.args.tokens.now in
+    (refl, subst (λ n. IsBeyond text ts n c.args.at) (sym c.if-room-eq0.true) (nested c.args.at (kind_found k.LeftBrace (slice_get ts c.args.at) (sym c.is_kind.ensures.value ∙ c.if-is_kind.true))))

@@ -1,11 +1,11 @@
-use Rattle.std.proofs.Common.{◌≡◌, FitsSigned, true, sym, ap, subst, ◌∙◌}
+use Rattle.std.proofs.Common.{◌≡◌, FitsSigned, true, refl, sym, ap, subst, ◌∙◌}
 use Rattle.std.specs.Int.{w64}
 use Rattle.std.proofs.Math.Facts.{to_z-of_z}
 use Rattle.tla_tree.specs.Words.{word_of}
 use Rattle.tla_value.specs.Tree.{int}
 use Rattle.tla_value.specs.TreeOf.{tree_of}
 use Rattle.tla_config.specs.Literals.{number}
-use Rattle.tla_config.proofs.Atoms.{negated_is, negated_none, negated_large}
+use Rattle.tla_config.proofs.Atoms.{negated_is, negated_none, negated_large, negated_beyond}
 use Rattle.tla_config.proofs.values.negated.Goals as goal
 
 pub returns-in_default-clause-gives : goal.returns-in_default-clause-gives
@@ -21,3 +21,11 @@ pub returns-in-None-clause-gives : goal.returns-in-None-clause-gives
 returns-in-None-clause-gives c =
     negated_large c.args.text.now c.args.tokens.now c.args.at c.in-Some.t c.requires (sym c.digits_at.ensures.value ∙ c.in-Some.is)
     (λ f. c.in-None.ensures.none (subst (λ w. FitsSigned w64 (number true w)) (sym c.slice_of.ensures) f))
+
+pub returns-in-None-clause-because : goal.returns-in-None-clause-because
+returns-in-None-clause-because c =
+    λ room. (
+      refl,
+      negated_beyond c.args.text.now c.args.tokens.now room c.args.at c.in-Some.t c.requires (sym c.digits_at.ensures.value ∙ c.in-Some.is)
+          (λ f. c.in-None.ensures.none (subst (λ w. FitsSigned w64 (number true w)) (sym c.slice_of.ensures) f)),
+    )
