@@ -1,0 +1,40 @@
+//! The configuration that lies beside a module.
+ghost use Rattle.std.specs.Prelude.{◌≡◌, ◌∷◌, ◌++◌, [], IfOk, IsTrue};
+ghost use Rattle.clap.specs.Walk.{texts};
+ghost use Rattle.tla_line.specs.CommandLine.{LiesBeside};
+
+use std::alloc::{AllocError, Global};
+
+/// NAME.cfg, where the first of the words that ends in `.tla` is NAME.tla.
+pub fn configuration_beside(alloc: Global, words: &[&str]) -> Result<Option<String>, AllocError> {
+    for word in words {
+        if let Some(name) = word.strip_suffix(".tla") {
+            return Ok(Some(format!(in alloc; "{name}.cfg")?));
+        }
+    }
+    Ok(None)
+}
+
+/// Whether the two are NAME.tla and NAME.cfg.
+pub fn lies_beside(module: &str, config: &str) -> bool
+    ensures { IsTrue result → LiesBeside «module».now config.now }
+{
+    match (module.strip_suffix(".tla"), config.strip_suffix(".cfg")) {
+        (Some(name), Some(other)) => name == other,
+        _ => false,
+    }
+}
+
+/// The words, and one more behind them.
+pub fn with_word<'a>(
+    alloc: Global,
+    words: &[&'a str],
+    word: &'a str,
+) -> Result<Vec<&'a str>, AllocError>
+    ensures { IfOk result (λ v. texts v.items ≡ texts words.now ++ word.entry.now ∷ []) }
+{
+    let mut longer = Vec::with_capacity(alloc, words.len())?;
+    longer.extend_from_slice(words)?;
+    longer.push(word)?;
+    Ok(longer)
+}
