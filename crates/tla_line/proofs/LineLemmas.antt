@@ -1,10 +1,11 @@
 -- What the functions of the command line cite.
-use Rattle.std.proofs.Common.{◌≡◌, ◌⊎◌, ◌∙◌, ap, ℕ, List, refl, false, true, codes, sym, subst, inl, inr, arith}
+use Rattle.std.proofs.Common.{◌≡◌, ◌⊎◌, ◌∙◌, ap, ℕ, List, [], refl, false, true, codes, sym, subst, inl, inr, arith}
 use Rattle.std.specs.Prelude.{Option, None, Some, IfNone, IsSome, ◌↔◌, Result, Ok, Err, IfErr, IsErrAnd}
 use Rattle.std.proofs.lemmas.Bool.{cases_lt}
-use Rattle.clap.specs.Words.{App, HasKind, IsAmong, Text, app_of, fault_of, is_simple_and_free, kind_of}
+use Rattle.clap.specs.Words.{App, HasKind, HasMatchesOf, IsAmong, Text, app_of, fault_of, found_of, is_simple, is_simple_and_free, kind_of, matches_of, rows_of}
 use Rattle.clap.proofs.OnLiterals.{clap_on_literals}
 use Rattle.clap.specs.declared.builder.command.Command.{Command}
+use Rattle.clap.specs.declared.parser.matches.ArgMatches.{ArgMatches}
 use Rattle.clap.specs.declared.error.Error.{Error}
 use Rattle.clap.specs.declared.error.kind.ErrorKind.{ErrorKind}
 use Rattle.clap.specs.declared.error.kind.ErrorKind.TheVariants.{OutOfMemory}
@@ -68,6 +69,20 @@ is_known = refl
 pub kind_fits : (words : List Text) (c : Command) (e : Error) → app_of c ≡ tlacheck
     → (is_simple_and_free (app_of c) ≡ true → HasKind (fault_of (app_of c) words) e) → HasKind (faults_of words) e
 kind_fits words c e app kinds = subst (λ (a : App). HasKind (fault_of a words) e) app (kinds (ap is_simple_and_free app ∙ is_known))
+
+pub is_read : is_simple tlacheck ≡ true
+unfolding clap_on_literals
+is_read = refl
+
+-- words that a parse of the command takes have no fault
+pub none_faulted : (words : List Text) (c : Command) → app_of c ≡ tlacheck
+    → (is_simple_and_free (app_of c) ≡ true → fault_of (app_of c) words ≡ []) → faults_of words ≡ []
+none_faulted words c app taken = subst (λ (a : App). fault_of a words ≡ []) app (taken (ap is_simple_and_free app ∙ is_known))
+
+-- the matches of a parse of the command are known
+pub rows_known : (words : List Text) (c : Command) (m : ArgMatches) → app_of c ≡ tlacheck → HasMatchesOf (app_of c) words m
+    → rows_of (found_of m) ≡ matches_of tlacheck words
+rows_known words c m app h = subst (λ (a : App). rows_of (found_of m) ≡ matches_of a words) app (h (ap is_simple app ∙ is_read)).0
 
 -- one of three texts that the words name is bad
 pub bad_named : (words : List Text) (workers cut limit : Text) → text_of words (codes "workers") ≡ Some workers
