@@ -1,5 +1,5 @@
 // What each run writes to its two writers, and its status. The reports were worked out by hand.
-use std::alloc::Global;
+use std::alloc::{AllocError, Global};
 use std::io;
 use std::io::{ErrorKind, Read, Write};
 use std::process::Abort;
@@ -9,7 +9,7 @@ use std::thread::Threads;
 use tla_run::{Checked, Host, Line, run};
 
 // A file of memory, one whose reading fails, and one without an end.
-#[derive(Clone, Copy, Drop)]
+#[derive(Clone, Copy)]
 enum Source<'a> {
     Text(&'a [u8]),
     Broken,
@@ -27,6 +27,7 @@ impl Read for Source<'_> {
 }
 
 // Files by their names, and what is told where it is explained.
+#[derive(Drop)]
 struct Memory<'a> {
     files: &'a [(&'a str, Source<'a>)],
 }
@@ -113,7 +114,7 @@ NEXT Next
 PROPERTY Live
 ";
 
-const FILES: [(&str, Source<'static>); 11] = [
+static FILES: [(&str, Source<'static>); 11] = [
     ("M.tla", Source::Text(COUNTER)),
     ("M.cfg", Source::Text(INVARIANT)),
     ("Chain.tla", Source::Text(CHAIN)),
@@ -127,6 +128,23 @@ const FILES: [(&str, Source<'static>); 11] = [
     ("Lonely.tla", Source::Text(COUNTER)),
 ];
 
+// What a run on these words does: its status, and what went to its two writers.
+fn outcome<R: Threads + Wait + Sync>(
+    rt: &R,
+    alloc: Global,
+    words: &[&str],
+) -> Result<(u8, Vec<u8>, Vec<u8>), AllocError> {
+    let mut list = Vec::new(alloc);
+    for word in words {
+        list.push(String::from_str(alloc, word)?)?;
+    }
+    let host = Memory { files: &FILES };
+    let mut out = Vec::new(alloc);
+    let mut err = Vec::new(alloc);
+    let status = run(rt, alloc, &list, &host, &mut out, &mut err);
+    Ok((status, out, err))
+}
+
 // Asserts what a run on these words does.
 fn assert_run<R: Abort + Threads + Wait + Sync>(
     rt: &R,
@@ -136,13 +154,13 @@ fn assert_run<R: Abort + Threads + Wait + Sync>(
     report: &str,
     told: &str,
 ) {
-    let host = Memory { files: &FILES };
-    let mut out = Vec::new(alloc);
-    let mut err = Vec::new(alloc);
-    let answer = run(rt, alloc, words, &host, &mut out, &mut err);
-    assert!(rt; answer == status, "{report}{told}");
-    assert_eq!(rt; out.as_slice(), report.as_bytes());
-    assert_eq!(rt; err.as_slice(), told.as_bytes());
+    let answer = outcome(rt, alloc, words);
+    assert!(rt; answer.is_ok());
+    if let Ok((ended, out, err)) = answer {
+        assert!(rt; ended == status, "{report}{told}");
+        assert_eq!(rt; out.as_slice(), report.as_bytes());
+        assert_eq!(rt; err.as_slice(), told.as_bytes());
+    }
 }
 
 #[test]
@@ -248,10 +266,13 @@ impl Write for Narrow {
 fn a_failed_write_ends_it(rt: HostRuntime) -> Result<(), Fail> {
     let alloc = rt.alloc();
     let host = Memory { files: &FILES };
+    let mut words = Vec::new(alloc);
+    for word in ["tlacheck", "M.tla", "M.cfg"] {
+        words.push(String::from_str(alloc, word)?)?;
+    }
     for room in [0, 9, 29, 30] {
         let mut out = Narrow { room, taken: 0 };
         let mut err = Vec::new(alloc);
-        let words = ["tlacheck", "M.tla", "M.cfg"];
         let status = run(&rt, alloc, &words, &host, &mut out, &mut err);
         assert!(rt;
             out.taken == room && (status == 0) == (room == 30),
@@ -263,41 +284,16 @@ fn a_failed_write_ends_it(rt: HostRuntime) -> Result<(), Fail> {
 }
 
 #[test]
-fn helps(rt: HostRuntime) {
+fn helps(rt: HostRuntime) -> Result<(), Fail> {
     let alloc = rt.alloc();
-    let host = Memory { files: &FILES };
-    assert_run(
-        &rt,
-        alloc,
-        &["tlacheck", "--version"],
-        0,
-        "tlacheck 0.1.0\n",
-        "",
-    );
-    let mut out = Vec::new(alloc);
-    let mut err = Vec::new(alloc);
-    let status = run(
-        &rt,
-        alloc,
-        &["tlacheck", "--help"],
-        &host,
-        &mut out,
-        &mut err,
-    );
+    let words = ["tlacheck", "--version"];
+    assert_run(&rt, alloc, &words, 0, "tlacheck 0.1.0\n", "");
+    let (status, out, err) = outcome(&rt, alloc, &["tlacheck", "--help"])?;
     assert!(rt; status == 0 && out.starts_with(b"Checks a TLA+ module") && err.is_empty());
-    let mut out = Vec::new(alloc);
-    let mut err = Vec::new(alloc);
     let words = ["tlacheck", "M.tla", "M.cfg", "--depth"];
-    let status = run(&rt, alloc, &words, &host, &mut out, &mut err);
+    let (status, out, err) = outcome(&rt, alloc, &words)?;
     assert!(rt; status == 21 && out.is_empty() && err.starts_with(b"error: unexpected argument"));
-    let mut full = Narrow { room: 10, taken: 0 };
-    let status = run(
-        &rt,
-        alloc,
-        &["tlacheck", "--help"],
-        &host,
-        &mut full,
-        &mut err,
-    );
-    assert!(rt; status == 21);
+    let (status, out, err) = outcome(&rt, alloc, &["tlacheck", "M", "--cut", "2"])?;
+    assert!(rt; status == 21 && out.is_empty() && err.starts_with(b"error: the following"));
+    Ok(())
 }

@@ -1,12 +1,12 @@
-//! The configuration that lies beside a module.
-ghost use Rattle.std.specs.Prelude.{◌≡◌, ◌∷◌, ◌++◌, [], IfOk, IsTrue};
+//! The words of a run, and the configuration that lies beside a module.
+ghost use Rattle.std.specs.Prelude.{◌≡◌, IfOk, IsTrue, map, string_bytes};
 ghost use Rattle.clap.specs.Walk.{texts};
 ghost use Rattle.tla_line.specs.CommandLine.{LiesBeside};
 
 use std::alloc::{AllocError, Global};
 
 /// NAME.cfg, where the first of the words that ends in `.tla` is NAME.tla.
-pub fn configuration_beside(alloc: Global, words: &[&str]) -> Result<Option<String>, AllocError> {
+pub fn configuration_beside(alloc: Global, words: &[String]) -> Result<Option<String>, AllocError> {
     for word in words {
         if let Some(name) = word.strip_suffix(".tla") {
             return Ok(Some(format!(in alloc; "{name}.cfg")?));
@@ -25,16 +25,13 @@ pub fn lies_beside(module: &str, config: &str) -> bool
     }
 }
 
-/// The words, and one more behind them.
-pub fn with_word<'a>(
-    alloc: Global,
-    words: &[&'a str],
-    word: &'a str,
-) -> Result<Vec<&'a str>, AllocError>
-    ensures { IfOk result (λ v. texts v.items ≡ texts words.now ++ word.entry.now ∷ []) }
+/// The words as texts.
+pub fn as_texts<'a>(alloc: Global, words: &'a [String]) -> Result<Vec<&'a str>, AllocError>
+    ensures { IfOk result (λ v. texts v.items ≡ map string_bytes words.entry.now) }
 {
-    let mut longer = Vec::with_capacity(alloc, words.len())?;
-    longer.extend_from_slice(words)?;
-    longer.push(word)?;
-    Ok(longer)
+    let mut list = Vec::with_capacity(alloc, words.len())?;
+    for word in words {
+        list.push(word.as_str())?;
+    }
+    Ok(list)
 }

@@ -4,9 +4,9 @@
 mod beside;
 mod host;
 mod process;
-mod run;
+mod running;
 
 pub use host::Host;
 pub use process::run_process;
-pub use run::run;
+pub use running::run;
 pub use tla_check::{Checked, Line, LineFault};

@@ -3,8 +3,7 @@ ghost use Rattle.std.specs.Prelude.{◌≡◌};
 ghost use Rattle.tla_run.specs.Runs.{IsSomeRun};
 
 use crate::host::Host;
-use crate::run::{NO_REPORT, run};
-use std::alloc::{AllocError, Global};
+use crate::running::{NO_REPORT, run};
 use std::io::{ErrorKind, Write};
 use std::rt::{Env, Files};
 use std::sync::Wait;
@@ -22,17 +21,14 @@ pub fn run_process<O: Write, E: Write, R: AllocGlobal + Env + Files + Threads + 
     ensures { IsSomeRun (record { old = O.contents out.old; new = O.contents out.new })
         (record { old = E.contents err.old; new = E.contents err.new }) result }
 {
-    let words = match words(rt) {
-        Ok(words) => words,
-        Err(error) => return tell_no_words(&error, err),
-    };
-    match texts(rt.alloc(), &words) {
-        Ok(texts) => run(rt, rt.alloc(), texts.as_slice(), &Process { rt }, out, err),
-        Err(error) => tell_no_words(&io::Error::from(error), err),
+    match words(rt) {
+        Ok(words) => run(rt, rt.alloc(), &words, &Process { rt }, out, err),
+        Err(error) => tell_no_words(&error, err),
     }
 }
 
 /// What the process has for a run.
+#[derive(Drop)]
 struct Process<'a, R> {
     rt: &'a R,
 }
@@ -61,14 +57,6 @@ fn words<R: AllocGlobal + Env>(rt: &R) -> io::Result<Vec<String>> {
         words.push(word)?;
     }
     Ok(words)
-}
-
-fn texts<'a>(alloc: Global, words: &'a [String]) -> Result<Vec<&'a str>, AllocError> {
-    let mut texts = Vec::with_capacity(alloc, words.len())?;
-    for word in words {
-        texts.push(word.as_str())?;
-    }
-    Ok(texts)
 }
 
 /// Tells why there are no words.

@@ -1,11 +1,11 @@
 //! The run.
-ghost use Rattle.std.specs.Prelude.{◌≡◌, List, IfSome};
+ghost use Rattle.std.specs.Prelude.{◌≡◌, List, IfSome, map, string_bytes};
 ghost use Rattle.counted_writer.specs.Puts.{Puts};
-ghost use Rattle.clap.specs.Walk.{Text, texts};
+ghost use Rattle.clap.specs.Walk.{Text};
 ghost use Rattle.tla_line.specs.LineFault.{IsFaultOf, LacksWord, text_of_fault};
 ghost use Rattle.tla_run.specs.Runs.{ComesTo, Files, GetsUpTo, Holds, IsRun, unread_text};
 
-use crate::beside::{configuration_beside, lies_beside, with_word};
+use crate::beside::{as_texts, configuration_beside, lies_beside};
 use crate::host::Host;
 use counted_writer::{ShortWrite, put};
 use std::alloc::Global;
@@ -25,19 +25,26 @@ pub const NO_REPORT: u8 = 21;
 pub fn run<H: Host, O: Write, E: Write, R: Threads + Wait + Sync>(
     rt: &R,
     alloc: Global,
-    words: &[&str],
+    words: &[String],
     host: &H,
     out: &mut O,
     err: &mut E,
 ) -> u8
-    ensures { IsRun (texts words.now) (H.files host.now)
+    ensures { IsRun (map string_bytes words.now) (H.files host.now)
         (record { old = O.contents out.old; new = O.contents out.new })
         (record { old = E.contents err.old; new = E.contents err.new }) result }
 {
-    match read_line(alloc, words) {
-        Ok(line) => run_line(rt, alloc, &line, host, out, err),
-        Err(fault) if fault.lacks_word() => run_beside(rt, alloc, words, &fault, host, out, err),
-        Err(fault) => refuse(&fault, out, err),
+    let Ok(texts) = as_texts(alloc, words) else {
+        return refuse(&LineFault::Memory, out, err);
+    };
+    let fault = match read_line(alloc, texts.as_slice()) {
+        Ok(line) => return run_line(rt, alloc, &line, host, out, err),
+        Err(fault) => fault,
+    };
+    if fault.lacks_word() {
+        run_beside(rt, alloc, words, &fault, host, out, err)
+    } else {
+        refuse(&fault, out, err)
     }
 }
 
@@ -45,15 +52,15 @@ pub fn run<H: Host, O: Write, E: Write, R: Threads + Wait + Sync>(
 fn run_beside<H: Host, O: Write, E: Write, R: Threads + Wait + Sync>(
     rt: &R,
     alloc: Global,
-    words: &[&str],
+    words: &[String],
     fault: &LineFault,
     host: &H,
     out: &mut O,
     err: &mut E,
 ) -> u8
-    requires fault { IsFaultOf (texts words.now) fault.now }
+    requires fault { IsFaultOf (map string_bytes words.now) fault.now }
     requires lacks { LacksWord fault.now }
-    ensures { IsRun (texts words.now) (H.files host.now)
+    ensures { IsRun (map string_bytes words.now) (H.files host.now)
         (record { old = O.contents out.old; new = O.contents out.new })
         (record { old = E.contents err.old; new = E.contents err.new }) result }
 {
@@ -63,15 +70,21 @@ fn run_beside<H: Host, O: Write, E: Write, R: Threads + Wait + Sync>(
     let Some(name) = name else {
         return refuse(fault, out, err);
     };
-    let Ok(longer) = with_word(alloc, words, name.as_str()) else {
+    let Ok(mut longer) = as_texts(alloc, words) else {
         return refuse(&LineFault::Memory, out, err);
     };
-    match read_line(alloc, longer.as_slice()) {
-        Ok(line) if line.config == name.as_str() && lies_beside(line.module, line.config) => {
-            run_line(rt, alloc, &line, host, out, err)
-        }
-        Err(LineFault::Memory) => refuse(&LineFault::Memory, out, err),
-        Ok(_) | Err(_) => refuse(fault, out, err),
+    if longer.push(name.as_str()).is_err() {
+        return refuse(&LineFault::Memory, out, err);
+    }
+    let line = match read_line(alloc, longer.as_slice()) {
+        Ok(line) => line,
+        Err(LineFault::Memory) => return refuse(&LineFault::Memory, out, err),
+        Err(_) => return refuse(fault, out, err),
+    };
+    if line.config == name.as_str() && lies_beside(line.module, line.config) {
+        run_line(rt, alloc, &line, host, out, err)
+    } else {
+        refuse(fault, out, err)
     }
 }
 
