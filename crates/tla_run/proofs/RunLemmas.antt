@@ -7,14 +7,14 @@ use Rattle.counted_writer.specs.declared.ShortWrite.{ShortWrite}
 use Rattle.counted_writer.specs.Puts.{Puts}
 use Rattle.clap.specs.Words.{IsAmong, Text}
 use Rattle.clap.specs.declared.error.kind.ErrorKind.TheVariants.{MissingRequiredArgument}
-use Rattle.tla_line.specs.CommandLine.{LiesBeside, MeanLine, NamesLine, beside, faults_of}
+use Rattle.tla_line.specs.CommandLine.{LiesBeside, MeanLine, NamesLine, beside, faults_of, named}
 use Rattle.tla_line.specs.declared.line.Line.{Line}
 use Rattle.tla_line.specs.declared.line.LineFault.{LineFault}
 use Rattle.tla_line.specs.declared.line.LineFault.TheVariants.{Refused, Number, Memory}
 use Rattle.tla_line.specs.LineFault.{IsFaultOf, LacksWord}
 use Rattle.tla_check.specs.declared.checked.Checked.{Checked}
 use Rattle.tla_check.specs.Checks.{IsChecked}
-use Rattle.tla_run.specs.Runs.{Files, GetsUpTo, Holds, IsCheckOf, Writing}
+use Rattle.tla_run.specs.Runs.{ComesTo, Files, GetsNothing, GetsUpTo, Holds, IsCheckOf, IsRun, IsSomeRun, Writing, no_words, on_line, on_words}
 
 -- what was put is the first bytes of it
 pub gets_put : (old new : Option (List ℕ)) (bytes : List ℕ) (r : Result ℕ ShortWrite) → Puts old new 0 bytes r
@@ -76,3 +76,26 @@ texts_more f t words list longer i word x before pushed same l is =
 pub texts_with : {B : Type 0} (t : B → List ℕ) (words : List (List ℕ)) (list longer : List B) (x : B) → map t list ≡ words → longer ≡ list ++ x ∷ []
     → map t longer ≡ words ++ t x ∷ []
 texts_with t words list longer x before pushed = ap (map t) pushed ∙ map_append t list x ∙ ap (λ ts. ts ++ t x ∷ []) before
+
+-- a fault of words is one of their texts
+pub fault_of_texts : (texts words : List Text) (fault : LineFault) → texts ≡ words → IsFaultOf texts fault → IsFaultOf words fault
+fault_of_texts texts words fault same fits = subst (λ ws. IsFaultOf ws fault) same fits
+
+-- the run on a line that the words name
+pub runs_line : (words texts : List Text) (files : Files) (line : Line) (out err : Writing) (status : ℕ) → texts ≡ words → NamesLine texts line
+    → ComesTo files line out err status → IsRun words files out err status
+runs_line words texts files line out err status same names comes = on_line line (named (subst (λ ws. NamesLine ws line) same names)) comes
+
+-- the run on a line that they name with CONFIG behind them
+pub runs_beside : (words longer : List Text) (fault : LineFault) (files : Files) (line : Line) (name : Text) (out err : Writing) (status : ℕ)
+    → IsFaultOf words fault → LacksWord fault → longer ≡ words ++ name ∷ [] → line.config.now ≡ name → LiesBeside line.module.now line.config.now
+    → NamesLine longer line → ComesTo files line out err status → IsRun words files out err status
+runs_beside words longer fault files line name out err status fits lacks same config lies names comes =
+    on_line line (means_beside words longer fault line name fits lacks same config lies names) comes
+
+-- the run of a process
+pub runs_some : (words : List Text) (files : Files) (out err : Writing) (status : ℕ) → IsRun words files out err status → IsSomeRun out err status
+runs_some words files out err status runs = on_words words files runs
+
+pub runs_none : (out err : Writing) (status : ℕ) → GetsNothing out → status ≡ 21 → IsSomeRun out err status
+runs_none out err status nothing ends = no_words nothing ends

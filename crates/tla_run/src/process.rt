@@ -13,6 +13,7 @@ use tla_check::{Checked, Line, LineFault};
 
 /// Runs the program on the process's own words and files, with these writers for its standard output
 /// and its standard error, and answers the status with which it ends.
+#[tactic(auto, using(crate::proofs::RunLemmas::runs_some, crate::proofs::RunLemmas::runs_none))]
 pub fn run_process<O: Write, E: Write, R: AllocGlobal + Env + Files + Threads + Wait + Sync>(
     rt: &R,
     out: &mut O,

@@ -5,7 +5,7 @@ ghost use Rattle.clap.specs.Walk.{Text};
 ghost use Rattle.tla_line.specs.LineFault.{IsFaultOf, LacksWord, text_of_fault};
 ghost use Rattle.tla_run.specs.Runs.{ComesTo, Files, GetsUpTo, Holds, IsRun, unread_text};
 
-use crate::beside::{as_texts, configuration_beside, lies_beside};
+use crate::beside::{as_texts, configuration_beside, is_beside, with_word};
 use crate::host::Host;
 use counted_writer::{ShortWrite, put};
 use std::alloc::Global;
@@ -22,6 +22,7 @@ pub const NO_REPORT: u8 = 21;
 ///
 /// Where the words leave CONFIG out and MODULE is NAME.tla, it is NAME.cfg. Each file is read whole, in
 /// at most 1,000,000 reads of up to 65,536 bytes. A failed write ends the run.
+#[tactic(auto, using(crate::proofs::RunLemmas::runs_line, crate::proofs::RunLemmas::fault_of_texts))]
 pub fn run<H: Host, O: Write, E: Write, R: Threads + Wait + Sync>(
     rt: &R,
     alloc: Global,
@@ -41,14 +42,14 @@ pub fn run<H: Host, O: Write, E: Write, R: Threads + Wait + Sync>(
         Ok(line) => return run_line(rt, alloc, &line, host, out, err),
         Err(fault) => fault,
     };
-    if fault.lacks_word() {
-        run_beside(rt, alloc, words, &fault, host, out, err)
-    } else {
-        refuse(&fault, out, err)
+    if !fault.lacks_word() {
+        return refuse(&fault, out, err);
     }
+    run_beside(rt, alloc, words, &fault, host, out, err)
 }
 
 /// The run on words that lack one. It may be CONFIG, which lies beside MODULE then.
+#[tactic(auto, using(crate::proofs::RunLemmas::runs_beside))]
 fn run_beside<H: Host, O: Write, E: Write, R: Threads + Wait + Sync>(
     rt: &R,
     alloc: Global,
@@ -70,22 +71,18 @@ fn run_beside<H: Host, O: Write, E: Write, R: Threads + Wait + Sync>(
     let Some(name) = name else {
         return refuse(fault, out, err);
     };
-    let Ok(mut longer) = as_texts(alloc, words) else {
+    let Ok(longer) = with_word(alloc, words, name.as_str()) else {
         return refuse(&LineFault::Memory, out, err);
     };
-    if longer.push(name.as_str()).is_err() {
-        return refuse(&LineFault::Memory, out, err);
-    }
     let line = match read_line(alloc, longer.as_slice()) {
         Ok(line) => line,
         Err(LineFault::Memory) => return refuse(&LineFault::Memory, out, err),
         Err(_) => return refuse(fault, out, err),
     };
-    if line.config == name.as_str() && lies_beside(line.module, line.config) {
-        run_line(rt, alloc, &line, host, out, err)
-    } else {
-        refuse(fault, out, err)
+    if !is_beside(&line, name.as_str()) {
+        return refuse(fault, out, err);
     }
+    run_line(rt, alloc, &line, host, out, err)
 }
 
 /// Tells why the words mean no line, or the help that they ask for.
