@@ -5,7 +5,9 @@ use Rattle.std.specs.Result.{is_err}
 use Rattle.std.proofs.lemmas.List.{take_more}
 use Rattle.counted_writer.specs.declared.ShortWrite.{ShortWrite}
 use Rattle.counted_writer.specs.Puts.{Puts}
+use Rattle.std.specs.Borrow.{Bor}
 use Rattle.clap.specs.Words.{IsAmong, Text}
+use Rattle.clap.specs.Walk.{texts}
 use Rattle.clap.specs.declared.error.kind.ErrorKind.TheVariants.{MissingRequiredArgument}
 use Rattle.tla_line.specs.CommandLine.{LiesBeside, MeanLine, NamesLine, beside, faults_of, named}
 use Rattle.tla_line.specs.declared.line.Line.{Line}
@@ -77,21 +79,24 @@ pub texts_with : {B : Type 0} (t : B → List ℕ) (words : List (List ℕ)) (li
     → map t longer ≡ words ++ t x ∷ []
 texts_with t words list longer x before pushed = ap (map t) pushed ∙ map_append t list x ∙ ap (λ ts. ts ++ t x ∷ []) before
 
--- a fault of words is one of their texts
-pub fault_of_texts : (texts words : List Text) (fault : LineFault) → texts ≡ words → IsFaultOf texts fault → IsFaultOf words fault
-fault_of_texts texts words fault same fits = subst (λ ws. IsFaultOf ws fault) same fits
+-- a fault of the texts of words is one of the words
+pub fault_of_texts : (words : List Text) (slice items : List (Bor Text)) (fault : LineFault) → slice ≡ items → texts items ≡ words
+    → IsFaultOf (texts slice) fault → IsFaultOf words fault
+fault_of_texts words slice items fault is same fits = subst (λ ws. IsFaultOf ws fault) (ap texts is ∙ same) fits
 
 -- the run on a line that the words name
-pub runs_line : (words texts : List Text) (files : Files) (line : Line) (out err : Writing) (status : ℕ) → texts ≡ words → NamesLine texts line
-    → ComesTo files line out err status → IsRun words files out err status
-runs_line words texts files line out err status same names comes = on_line line (named (subst (λ ws. NamesLine ws line) same names)) comes
+pub runs_line : (words : List Text) (slice items : List (Bor Text)) (files : Files) (line : Line) (out err : Writing) (status : ℕ) → slice ≡ items
+    → texts items ≡ words → NamesLine (texts slice) line → ComesTo files line out err status → IsRun words files out err status
+runs_line words slice items files line out err status is same names comes =
+    on_line line (named (subst (λ ws. NamesLine ws line) (ap texts is ∙ same) names)) comes
 
 -- the run on a line that they name with CONFIG behind them
-pub runs_beside : (words longer : List Text) (fault : LineFault) (files : Files) (line : Line) (name : Text) (out err : Writing) (status : ℕ)
-    → IsFaultOf words fault → LacksWord fault → longer ≡ words ++ name ∷ [] → line.config.now ≡ name → LiesBeside line.module.now line.config.now
-    → NamesLine longer line → ComesTo files line out err status → IsRun words files out err status
-runs_beside words longer fault files line name out err status fits lacks same config lies names comes =
-    on_line line (means_beside words longer fault line name fits lacks same config lies names) comes
+pub runs_beside : (words : List Text) (slice items : List (Bor Text)) (fault : LineFault) (files : Files) (line : Line) (name : Text)
+    (out err : Writing) (status : ℕ) → IsFaultOf words fault → LacksWord fault → slice ≡ items → texts items ≡ words ++ name ∷ []
+    → line.config.now ≡ name → LiesBeside line.module.now line.config.now → NamesLine (texts slice) line → ComesTo files line out err status
+    → IsRun words files out err status
+runs_beside words slice items fault files line name out err status fits lacks is same config lies names comes =
+    on_line line (means_beside words (texts slice) fault line name fits lacks (ap texts is ∙ same) config lies names) comes
 
 -- the run of a process
 pub runs_some : (words : List Text) (files : Files) (out err : Writing) (status : ℕ) → IsRun words files out err status → IsSomeRun out err status

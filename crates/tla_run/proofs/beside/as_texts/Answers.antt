@@ -7,7 +7,7 @@ use Rattle.tla_run.proofs.beside.as_texts.Goals as goal
 pub loop-word-preserved : goal.loop-word-preserved
 loop-word-preserved c =
     texts_more string_bytes (λ s. s.now) c.args.words.now c.loop-word.list.items _ c.loop-word.word-index c.word-item.result c.as_str.result
-    c.loop-word.invariant c.in_ok-push.ensures.items c.as_str.ensures (omega arith) c.word-item.is
+    c.loop-word.invariant c.in_ok-push.ensures.items c.as_str.ensures.value (omega arith) c.word-item.is
 
 pub returns : goal.returns
 returns c =
