@@ -35,6 +35,10 @@ fn names_files_and_numbers(rt: HostRuntime) -> Result<(), Fail> {
     let all = read_line(rt.alloc(), &words)?;
     assert!(rt; all.module == "-M" && all.config == "C");
     assert!(rt; numbers(&all) == (7, 2, 3));
+    let quiet = read_line(rt.alloc(), &["tlacheck", "M", "--quiet", "C"])?;
+    assert!(rt; quiet.quiet && quiet.config == "C" && !all.quiet);
+    let explained = read_line(rt.alloc(), &["tlacheck", "--explain", "M", "C"])?;
+    assert!(rt; !explained.quiet && explained.module == "M");
     Ok(())
 }
 
@@ -74,24 +78,41 @@ fn fault(alloc: Global, words: &[&str]) -> Result<(String, bool), Fail> {
 const MISSING: &str = "error: the following required arguments were not provided:
   <CONFIG>
 
-Usage: tlacheck <MODULE> <CONFIG>
+Usage: tlacheck [OPTIONS] <MODULE> [CONFIG]
 
 For more information, try '--help'.
 ";
 
 const HELP: &str = "Checks a TLA+ module under a configuration
 
-Usage: tlacheck [OPTIONS] <MODULE> <CONFIG>
+Usage: tlacheck [OPTIONS] <MODULE> [CONFIG]
 
 Arguments:
   <MODULE>  The file of the module
-  <CONFIG>  The file of the configuration
+  <CONFIG>  The file of the configuration; where it is left out, NAME.cfg for a MODULE NAME.tla
 
 Options:
       --workers <N>     How many threads search, 1 to 64 [default: 1]
       --cut <N>         How many states make a piece of work, 1 to 65536 [default: 1024]
       --max-states <N>  How many states may be found, 1 to 16777216 [default: 16777216]
+      --explain         Explain on standard error what was found, as is done unless --quiet is given
+      --quiet           Leave standard error to what keeps a report from being made
   -h, --help            Print help
+  -V, --version         Print version
+
+Exit statuses:
+   0  No error
+  10  An invariant is false
+  11  Deadlock
+  12  A fault of evaluation
+  13  An assumption is false
+  14  The limit on states was passed
+  20  The module or the configuration is refused
+  21  No report: the command line, a file or a write is at fault
+  22  Out of memory, or a worker could not be started
+
+Example:
+  tlacheck Jugs.tla Jugs.cfg --workers 4
 ";
 
 #[test]
@@ -100,6 +121,8 @@ fn tells_faults(rt: HostRuntime) -> Result<(), Fail> {
     assert!(rt; text.as_str() == MISSING && !is_help);
     let (text, is_help) = fault(rt.alloc(), &["bin/tlacheck", "--help"])?;
     assert!(rt; text.as_str() == HELP && is_help);
+    let (text, is_help) = fault(rt.alloc(), &["tlacheck", "M", "-V"])?;
+    assert!(rt; text.as_str() == "tlacheck 0.1.0\n" && is_help);
     let (text, is_help) = fault(rt.alloc(), &["tlacheck", "M", "C", "--cut", "0"])?;
     assert!(rt; text.as_str() == "tlacheck: bad number\n" && !is_help);
     let memory = format!(in rt.alloc(); "{}", LineFault::Memory)?;
@@ -109,7 +132,7 @@ fn tells_faults(rt: HostRuntime) -> Result<(), Fail> {
 
 #[test]
 fn refuses_words(rt: HostRuntime) {
-    let cases: [&[&str]; 7] = [
+    let cases: [&[&str]; 8] = [
         &[],
         &["tlacheck"],
         &["tlacheck", "M.tla"],
@@ -117,6 +140,7 @@ fn refuses_words(rt: HostRuntime) {
         &["tlacheck", "M.tla", "M.cfg", "--depth", "3"],
         &["tlacheck", "M.tla", "M.cfg", "--workers"],
         &["tlacheck", "M.tla", "M.cfg", "--cut", "1", "--cut", "1"],
+        &["tlacheck", "M.tla", "M.cfg", "--quiet=yes"],
     ];
     for words in cases {
         let refused = read_line(rt.alloc(), words);

@@ -1,6 +1,3 @@
-pub mod CommandLine
-pub mod LineFault
-pub mod Parsing
 pub mod Names
 pub mod Codes
 pub mod Status

@@ -1,4 +1,4 @@
-//! A check of a module and its configuration: the command line, the input files, the answer, and the report of it.
+//! A check of a module and its configuration: the input files, the answer, and the report of it.
 #![tactic(auto)]
 
 mod carried;
@@ -6,16 +6,15 @@ mod checked;
 mod checking;
 mod input;
 pub mod laws;
-mod line;
 mod report;
 mod status;
 
 pub use checked::{Answered, Checked, Names, Refusal, RefusalCode, RefusalName};
 pub use checking::{check, check_and_report};
 pub use input::{ReadFault, read_whole};
-pub use line::{Line, LineFault, read_line};
 pub use report::{WriteFault, write_report};
 pub use tla_config::Source;
+pub use tla_line::{Line, LineFault, read_line};
 pub use tla_search::{
     Answer, Counts, Gate, GatePlace, NoGate, Options, Part, Pass, SearchError, Trace,
 };

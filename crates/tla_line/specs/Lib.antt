@@ -1,0 +1,3 @@
+pub mod CommandLine
+pub mod LineFault
+pub mod Parsing

@@ -1,0 +1,42 @@
+-- What a parse of the command gives its five arguments that have a value. Only private functions cite this page.
+use Rattle.std.specs.Prelude.{◌≡◌, ◌≤◌, ◌⊎◌, ℕ, None, Some, true, false, codes, is_some}
+use Rattle.clap.specs.Words.{IsParsedFrom, IsPlainArg, Text, first_value, found_of}
+use Rattle.clap.specs.Facts.{WantsDefault, least_values}
+use Rattle.clap.specs.declared.builder.action.ArgAction.TheVariants.{Set}
+use Rattle.clap.specs.declared.builder.arg.Arg.{Arg}
+use Rattle.clap.specs.declared.builder.command.Command.{Command}
+use Rattle.clap.specs.declared.parser.matches.ArgMatches.{ArgMatches}
+use Rattle.tla_line.specs.CommandLine.{Writes}
+
+-- the matches have a value of this name
+abbrev pub HasValue : ArgMatches → Text → Type 0
+HasValue m name = is_some (first_value (found_of m) name) ≡ true
+
+-- the matches have a value of each argument but the flags
+pub record HasEach (m : ArgMatches) : Type 0 where
+  pub module_file : HasValue m (codes "MODULE")
+  pub config_file : HasValue m (codes "CONFIG")
+  pub workers : HasValue m (codes "workers")
+  pub cut : HasValue m (codes "cut")
+  pub limit : HasValue m (codes "max-states")
+
+-- each parse of the command that succeeds has a value of each of them
+abbrev pub GivesEach : Command → Type 0
+GivesEach c = (m : ArgMatches) → IsParsedFrom c m → HasEach m
+
+-- the argument takes one value in each use, and is required or has a value where it isn't used
+pub record AlwaysHasValue (a : Arg) : Type 0 where
+  pub used : (a.required ≡ true) ⊎ WantsDefault a
+  pub action : a.action ≡ Some Set
+  pub delimiter : a.val_delim ≡ None
+  pub least : 1 ≤ least_values a
+
+-- the argument has this id, and nothing excludes it
+pub record IsArgument (id : Text) (a : Arg) : Type 0 where
+  pub name : a.id.now ≡ id
+  pub plain : IsPlainArg a
+  pub local : a.global ≡ false
+
+-- the text writes no number
+abbrev pub WritesNoNumber : Text → Type 0
+WritesNoNumber text = (n : ℕ) → Writes text n → ⊥

@@ -1,0 +1,12 @@
+use Rattle.counted_writer.specs.PutsLaws.{puts_exit, puts_short, puts_then}
+use Rattle.tla_run.proofs.running.put_unread.Goals as goal
+
+pub returns : goal.returns
+returns g c = rw (← c.as_bytes.ensures.value) (puts_then c.in_ok-written.ensures (puts_then c.in_ok-written-2.ensures c.put-3.ensures))
+
+pub returns-in_err-written : goal.returns-in_err-written
+returns-in_err-written g c = puts_exit _ _ c.from_residual.ensures.1 (puts_short _ c.in_err-written.ensures)
+
+pub returns-in_err-written-2 : goal.returns-in_err-written-2
+returns-in_err-written-2 g c = rw (← c.as_bytes.ensures.value)
+    (puts_exit _ _ c.from_residual-in_err-written-2.ensures.1 (puts_then c.in_ok-written.ensures (puts_short _ c.in_err-written-2.ensures)))

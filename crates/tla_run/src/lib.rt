@@ -1,0 +1,12 @@
+//! A run of the program: from the words of the command line and two files to what is written and the exit status.
+#![tactic(auto)]
+
+mod beside;
+mod host;
+mod process;
+mod running;
+
+pub use host::Host;
+pub use process::run_process;
+pub use running::run;
+pub use tla_check::{Checked, Line, LineFault};

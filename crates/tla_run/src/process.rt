@@ -1,0 +1,72 @@
+//! A run of the process.
+ghost use Rattle.std.specs.Prelude.{◌≡◌};
+ghost use Rattle.tla_run.specs.Runs.{IsSomeRun};
+
+use crate::host::Host;
+use crate::running::{NO_REPORT, run};
+use std::io::{ErrorKind, Write};
+use std::rt::{Env, Files};
+use std::sync::Wait;
+use std::thread::Threads;
+use std::{env, fs, io};
+use tla_check::{Checked, Line, LineFault};
+
+/// Runs the program on the process's own words and files, with these writers for its standard output
+/// and its standard error, and answers the status with which it ends.
+#[tactic(auto, using(crate::proofs::RunLemmas::runs_some, crate::proofs::RunLemmas::runs_none))]
+pub fn run_process<O: Write, E: Write, R: AllocGlobal + Env + Files + Threads + Wait + Sync>(
+    rt: &R,
+    out: &mut O,
+    err: &mut E,
+) -> u8
+    ensures { IsSomeRun (record { old = O.contents out.old; new = O.contents out.new })
+        (record { old = E.contents err.old; new = E.contents err.new }) result }
+{
+    match words(rt) {
+        Ok(words) => run(rt, rt.alloc(), &words, &Process { rt }, out, err),
+        Err(error) => tell_no_words(&error, err),
+    }
+}
+
+/// What the process has for a run.
+#[derive(Drop)]
+struct Process<'a, R> {
+    rt: &'a R,
+}
+
+impl<R: Files> Host for Process<'_, R> {
+    type File = R::File;
+
+    fn open(&self, name: &str) -> io::Result<R::File> {
+        fs::open(self.rt, name)
+    }
+
+    fn explain<E: Write>(
+        &self,
+        _err: &mut E,
+        _line: &Line<'_>,
+        _module: &[u8],
+        _config: &[u8],
+        _checked: &Checked,
+    ) {}
+}
+
+/// The words of the command line, the program's name first.
+fn words<R: AllocGlobal + Env>(rt: &R) -> io::Result<Vec<String>> {
+    let mut words = Vec::new(rt.alloc());
+    for word in env::args(rt)? {
+        words.push(word)?;
+    }
+    Ok(words)
+}
+
+/// Tells why there are no words.
+fn tell_no_words<E: Write>(error: &io::Error, err: &mut E) -> u8
+    ensures { result ≡ 21 }
+{
+    let _ = match error.kind() {
+        ErrorKind::OutOfMemory => write!(err, "{}", LineFault::Memory),
+        _ => err.write_all(b"tlacheck: the command line is not UTF-8\n"),
+    };
+    NO_REPORT
+}
