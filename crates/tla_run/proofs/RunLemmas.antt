@@ -25,12 +25,12 @@ gets_put old new bytes r h = (h.taken, h.added)
 
 -- a write that failed has its fault, and one that didn't went through
 pub write_failed : {T E : Type 0} (P : E → Type 0) (r : Result T E) (failed : Bool) → failed ≡ is_err r → failed ≡ true → IfErr r P → (e : E) × P e
-write_failed P (Ok x) failed same yes h = let bad : false ≡ true = sym same ∙ yes in cc
-write_failed P (Err e) failed same yes h = (e, h)
+write_failed P (Ok x) failed same is h = let bad : false ≡ true = sym same ∙ is in cc
+write_failed P (Err e) failed same is h = (e, h)
 
 pub write_done : {T E : Type 0} (P : Type 0) (r : Result T E) (failed : Bool) → failed ≡ is_err r → failed ≡ false → OnOk r P → P
-write_done P (Ok x) failed same no h = h
-write_done P (Err e) failed same no h = let bad : true ≡ false = sym same ∙ no in cc
+write_done P (Ok x) failed same is h = h
+write_done P (Err e) failed same is h = let bad : true ≡ false = sym same ∙ is in cc
 
 -- what is right of the bytes that were read is right of the files
 pub check_of : (files : Files) (line : Line) (checked : Checked) (text config text2 config2 : List ℕ) → Holds files line.module.now text
