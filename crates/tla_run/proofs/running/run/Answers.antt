@@ -12,3 +12,7 @@ returns-in-Ok-read_line g c =
 pub returns-then-not-lacks_word : goal.returns-then-not-lacks_word
 returns-then-not-lacks_word g c = c.refuse-then-not-lacks_word.ensures _ _
     (fault_of_texts _ c.as_slice.result.now c.in-Ok.texts.items _ c.as_slice.ensures.value c.in-Ok.ensures c.in-Err.ensures.fault)
+
+pub run_beside-requires-clause-fault : goal.run_beside-requires-clause-fault
+run_beside-requires-clause-fault g c κs within =
+    fault_of_texts _ c.as_slice.result.now c.in-Ok.texts.items _ c.as_slice.ensures.value c.in-Ok.ensures c.in-Err.ensures.fault
