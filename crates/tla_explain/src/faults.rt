@@ -116,7 +116,8 @@ fn tell_lacking(
         let definition = definition_at(telling.starts, token_place(place));
         let line = place.line;
         let text = format!(in page.alloc(); "{definition} (line {line})")?;
-        page.line(&["no value for ", name, " in ", text.as_str()])?;
+        page.put(&["no value for ", name, " in "])?;
+        page.line(&[text.as_str()])?;
     }
     Ok(())
 }

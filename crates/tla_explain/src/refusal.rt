@@ -73,15 +73,9 @@ fn hint_name(
     name: &str,
 ) -> Result<(), AllocError> {
     if let Some(module) = module_with(name.as_bytes()) {
-        return page.hint(&[
-            "'",
-            name,
-            "' is of ",
-            module,
-            ": write ",
-            module,
-            " under EXTENDS",
-        ]);
+        page.put(&["hint: '", name, "' is of "])?;
+        page.put(&[module, ": write "])?;
+        return page.line(&[module, " under EXTENDS"]);
     }
     let tokens = tokens_of(page.alloc(), sources.module, Source::Module);
     let before = match refusal.source {
@@ -124,15 +118,9 @@ fn hint_open(
     let line = open.place.line;
     let column = open.place.column;
     let at = format!(in page.alloc(); "line {line}, column {column}")?;
-    let closing = closing_of(open.kind).unwrap_or("");
-    page.hint(&[
-        "'",
-        word(text, &open),
-        "' at ",
-        at.as_str(),
-        " is open here, and wants ",
-        closing,
-    ])
+    page.put(&["hint: '", word(text, &open), "' at "])?;
+    page.put(&[at.as_str(), " is open here, and wants "])?;
+    page.line(&[closing_of(open.kind).unwrap_or("")])
 }
 
 /// Where the name was brought in first.
