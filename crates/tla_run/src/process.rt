@@ -10,6 +10,7 @@ use std::sync::Wait;
 use std::thread::Threads;
 use std::{env, fs, io};
 use tla_check::{Checked, Line, LineFault};
+use tla_explain::{FileNames, explain};
 
 /// Runs the program on the process's own words and files, with these writers for its standard output
 /// and its standard error, and answers the status with which it ends.
@@ -34,7 +35,7 @@ struct Process<'a, R> {
     rt: &'a R,
 }
 
-impl<R: Files> Host for Process<'_, R> {
+impl<R: AllocGlobal + Files> Host for Process<'_, R> {
     type File = R::File;
 
     fn open(&self, name: &str) -> io::Result<R::File> {
@@ -43,12 +44,19 @@ impl<R: Files> Host for Process<'_, R> {
 
     fn explain<E: Write>(
         &self,
-        _err: &mut E,
-        _line: &Line<'_>,
-        _module: &[u8],
-        _config: &[u8],
-        _checked: &Checked,
-    ) {}
+        err: &mut E,
+        line: &Line<'_>,
+        module: &[u8],
+        config: &[u8],
+        checked: &Checked,
+    ) {
+        let names = FileNames {
+            module: line.module,
+            configuration: line.config,
+        };
+        // What fails here is told to nobody: the report is out.
+        let _ = explain(err, &names, module, config, checked, self.rt.alloc());
+    }
 }
 
 /// The words of the command line, the program's name first.

@@ -1,0 +1,97 @@
+//! The two texts, their names, and places in them.
+
+use std::alloc::Global;
+use tla_check::Source;
+use tla_lex::{Kind, Place, Scan, Token, configuration_tokens, tokens};
+
+/// The names of the two files, as they are told.
+#[derive(Clone, Copy, Debug)]
+pub struct FileNames<'a> {
+    pub module: &'a str,
+    pub configuration: &'a str,
+}
+
+/// The two texts, and the names of their files.
+#[derive(Clone, Copy)]
+pub(crate) struct Sources<'a> {
+    pub(crate) names: FileNames<'a>,
+    pub(crate) module: &'a [u8],
+    pub(crate) configuration: &'a [u8],
+}
+
+/// The name of a file.
+pub(crate) fn source_name<'a>(sources: &Sources<'a>, source: Source) -> &'a str {
+    match source {
+        Source::Module => sources.names.module,
+        Source::Configuration => sources.names.configuration,
+    }
+}
+
+/// A text.
+pub(crate) fn source_text<'a>(sources: &Sources<'a>, source: Source) -> &'a [u8] {
+    match source {
+        Source::Module => sources.module,
+        Source::Configuration => sources.configuration,
+    }
+}
+
+/// The tokens of a text; none where it has none.
+pub(crate) fn tokens_of(alloc: Global, text: &[u8], source: Source) -> Vec<Token> {
+    match source {
+        Source::Module => match tokens(alloc, text) {
+            Ok(tokens) => tokens,
+            Err(_) => Vec::new(alloc),
+        },
+        Source::Configuration => match configuration_tokens(alloc, text) {
+            Ok(Scan { tokens, stop: _ }) => tokens,
+            Err(_) => Vec::new(alloc),
+        },
+    }
+}
+
+/// A place of an expression as a place of a token.
+pub(crate) fn token_place(place: tla_core::Place) -> Place {
+    Place {
+        line: place.line,
+        column: place.column,
+    }
+}
+
+/// A place of a token as a place of an expression.
+pub(crate) fn core_place(place: Place) -> tla_core::Place {
+    tla_core::Place {
+        line: place.line,
+        column: place.column,
+    }
+}
+
+/// Whether a place comes before another.
+pub(crate) fn is_before(place: Place, other: Place) -> bool {
+    place.line < other.line || (place.line == other.line && place.column < other.column)
+}
+
+/// The text of a token.
+pub(crate) fn word<'a>(text: &'a [u8], token: &Token) -> &'a str {
+    let bytes = text.get(token.start..token.end).unwrap_or(&[]);
+    str::from_utf8(bytes).unwrap_or("")
+}
+
+/// Where a name is defined without parameters, or first stands.
+pub(crate) fn defined_at(text: &[u8], tokens: &[Token], name: &str) -> Option<Place> {
+    for pair in tokens.windows(2) {
+        if let [first, second] = pair {
+            if second.kind == Kind::Define && word(text, first) == name {
+                return Some(first.place);
+            }
+        }
+    }
+    first_place(text, tokens, name)
+}
+
+/// Where a name first stands.
+pub(crate) fn first_place(text: &[u8], tokens: &[Token], name: &str) -> Option<Place> {
+    tokens
+        .iter()
+        .find(|token| token.kind == Kind::Name && word(text, token) == name)
+        .map(|token| token.place)
+}

@@ -1,0 +1,31 @@
+//! Names that are near to one another.
+ghost use Rattle.std.specs.Prelude.{◌≡◌, ◌≤◌, ◌<◌, ℕ, length, List, IfOk, MatchOption, slice_index_or};
+ghost use Rattle.std.specs.Borrow.{Bor};
+ghost use Rattle.tla_hints.specs.Names.{distance};
+
+use std::alloc::{AllocError, Global};
+use strsim::levenshtein;
+
+/// A name of a list, by its index, and how many edits lead to it.
+#[derive(Clone, Copy, Debug, PartialEq, Eq)]
+pub struct Near {
+    pub index: usize,
+    pub distance: usize,
+}
+
+/// The first of the names of a list to which the fewest edits lead, or none where the list is empty. The only error is
+/// want of memory.
+pub fn nearest(alloc: Global, name: &str, known: &[&str]) -> Result<Option<Near>, AllocError>
+    ensures one { IfOk result (λ o. MatchOption o (length known.now ≡ 0) (λ near. near.index < length known.now)) }
+    ensures distance { IfOk result (λ o. MatchOption o (length known.now ≡ 0) (λ near. (d : Bor (List ℕ)) → near.distance ≡ distance name.now (slice_index_or known.now near.index d).now)) }
+    ensures none_nearer { IfOk result (λ o. MatchOption o (length known.now ≡ 0) (λ near. (k : ℕ) (d : Bor (List ℕ)) → k < length known.now → near.distance ≤ distance name.now (slice_index_or known.now k d).now)) }
+{
+    let mut best: Option<Near> = None;
+    for (index, other) in known.iter().enumerate() {
+        let distance = levenshtein(alloc, name, other)?;
+        if best.is_none_or(|near| distance < near.distance) {
+            best = Some(Near { index, distance });
+        }
+    }
+    Ok(best)
+}

@@ -1,0 +1,10 @@
+//! The words of a line.
+
+/// The letters, digits and `_` with which bytes begin.
+pub fn word_of(bytes: &[u8]) -> &[u8] {
+    let len = bytes
+        .iter()
+        .take_while(|b| b.is_ascii_alphanumeric() || **b == b'_')
+        .count();
+    bytes.get(..len).unwrap_or(bytes)
+}
