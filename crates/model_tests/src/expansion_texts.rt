@@ -116,6 +116,8 @@ fn name_of(core: &Core) -> &'static str {
         Core::ForSome(_, _, _) => "\\E",
         Core::Choose(_, _, _) => "CHOOSE",
         Core::Filter(_, _, _) => "filter",
+        Core::Opened(_, _, _) => "opened",
+        Core::Tried(_, _, _) => "tried",
         Core::Member(_, _, _) => "\\in",
         Core::NotMember(_, _, _) => "\\notin",
         Core::Subset(_, _, _) => "\\subseteq",
@@ -216,6 +218,18 @@ fn push_several(format: Format, core: &Core, out: &mut String) -> Result<(), All
         | Core::Conjunction(_, parts)
         | Core::Disjunction(_, parts)
         | Core::Product(_, parts) => push_parts(format, parts.as_slice(), out),
+        Core::Opened(_, openings, body) => {
+            for opening in openings {
+                let opened = format!(in format.alloc; " #{} {}", opening.name, opening.items)?;
+                out.push_str(opened.as_str())?;
+            }
+            out.push_str(" : ")?;
+            push_core(format, body, out)
+        }
+        Core::Tried(_, count, set) => {
+            out.push_str(format!(in format.alloc; " {count} ")?.as_str())?;
+            push_core(format, set, out)
+        }
         Core::Image(_, sets, body) | Core::Function(_, sets, body) => {
             push_parts(format, sets.as_slice(), out)?;
             out.push_str(" : ")?;

@@ -6,7 +6,7 @@ use tla_lex::{Kind, Place, Token};
 use tla_parse::{ParseError, parse_module};
 use tla_tree::{
     Binder, Brackets, Bullet, Constant, Definition, Expr, Fairness, Field, Infix, Key, Module,
-    Prefix, Quantifier, Step, Unit, Update, Word, Written,
+    Pattern, Prefix, Quantifier, Step, Unit, Update, Word, Written,
 };
 
 fn kind_of(word: &str) -> Kind {
@@ -124,13 +124,26 @@ fn show_all(items: &[Expr], out: &mut String) -> Result<(), AllocError> {
     Ok(())
 }
 
+/// Each name with a blank behind it; those of a tuple stand in `<<` and `>>`.
+fn show_pattern(pattern: &Pattern, out: &mut String) -> Result<(), AllocError> {
+    let is_tuple = matches!(pattern, Pattern::Tuple(_));
+    if is_tuple {
+        out.push_str("<< ")?;
+    }
+    for name in pattern.names() {
+        push_word(&name.word, out)?;
+        out.push(' ')?;
+    }
+    if is_tuple {
+        out.push_str(">> ")?;
+    }
+    Ok(())
+}
+
 #[cycle(show)]
 fn show_binders(binders: &[Binder], out: &mut String) -> Result<(), AllocError> {
     for binder in binders {
-        for name in binder.names.as_slice() {
-            push_word(&name.word, out)?;
-            out.push(' ')?;
-        }
+        show_pattern(&binder.pattern, out)?;
         show(&binder.set, out)?;
         out.push(':')?;
     }
@@ -181,10 +194,9 @@ fn show_updates(updates: &[Update], out: &mut String) -> Result<(), AllocError> 
 #[cycle(show)]
 fn show_bracketed(e: &Expr, out: &mut String) -> Result<(), AllocError> {
     match e {
-        Expr::Filter(_, name, set, test) => {
+        Expr::Filter(_, pattern, set, test) => {
             out.push_str("filter ")?;
-            push_word(&name.word, out)?;
-            out.push(' ')?;
+            show_pattern(pattern, out)?;
             show(set, out)?;
             out.push(':')?;
             show(test, out)
@@ -244,10 +256,9 @@ fn show_definition(definition: &Definition, out: &mut String) -> Result<(), Allo
 #[cycle(show)]
 fn show_worded(e: &Expr, out: &mut String) -> Result<(), AllocError> {
     match e {
-        Expr::Choose(_, name, s, e) => {
+        Expr::Choose(_, pattern, s, e) => {
             out.push_str("{C ")?;
-            push_word(&name.word, out)?;
-            out.push(' ')?;
+            show_pattern(pattern, out)?;
             show(s, out)?;
             out.push(':')?;
             show(e, out)?;

@@ -58,10 +58,6 @@ module _ (text : List ℕ) (ts : List Token) (inner : Scope → ℕ → ℕ → 
   names_refused (suc n) column at h = rw h refl
 
   -- a group of a binder list begins with a name
-  pub group_none : (s : Scope) (at : ℕ) → kind_at k.Name (seen ts s.column at) ≡ false → group text ts inner s at ≡ Err Refused
-  unfolding group
-  group_none s at h = rw (names_refused (length ts) s.column at (name_none (seen ts s.column at) h)) refl
-
   pub climb_done : (n most : ℕ) (s : Scope) (floor : ℕ) (t : Tree) (at : ℕ) → above floor (infix_at (seen ts s.column at)) ≡ None
       → climb text ts inner n most s floor t at ≡ Ok (t, at)
   unfolding climb

@@ -18,6 +18,11 @@ pub data Pattern : Type 0 where
   -- <<x, y>>: the names are the items of an element
   Tuple : List Written → Pattern
 
+-- its names, in the order of the text
+abbrev pub names_of : Pattern → List Written
+names_of (Each ws) = ws
+names_of (Tuple ws) = ws
+
 mutual
   -- an expression (book, chapter 15); each node has the place of its first token
   pub data Tree : Type 0 where

@@ -138,6 +138,22 @@ pub enum Pattern {
     Tuple(Vec<Written>),
 }
 
+impl Pattern {
+    ghost use Rattle.std.specs.Prelude.{◌≡◌};
+    ghost use Rattle.tla_tree.specs.View.{pattern_view};
+    ghost use Rattle.tla_tree.specs.Tree.{names_of};
+
+    /// The names, in the order of the text.
+    pub fn names(&self) -> &[Written]
+        ensures { result.now ≡ names_of (pattern_view self.now) }
+    {
+        match self {
+            Pattern::Each(names) => names.as_slice(),
+            Pattern::Tuple(names) => names.as_slice(),
+        }
+    }
+}
+
 /// An entry of a binder: `x, y \in S` or `<<x, y>> \in S`.
 #[cycle(tree)]
 #[derive(Drop)]
