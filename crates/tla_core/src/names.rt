@@ -44,10 +44,12 @@ fn has_name(names: Option<usize>, index: usize) -> bool
 fn are_bound(openings: &[Opening], names: Option<usize>) -> bool
     ensures { (n : ℕ) → Counts names n → result ≡ list_all (λ (o : Opening). nat_lt o.name n) openings.now }
 {
-    for opening in openings {
-        if !has_name(names, opening.name) {
+    let mut left = openings;
+    while let [first, rest @ ..] = left {
+        if !has_name(names, first.name) {
             return false;
         }
+        left = rest;
     }
     true
 }
@@ -57,8 +59,10 @@ fn with_items(openings: &[Opening], names: Option<usize>) -> Option<usize>
     ensures { (n : ℕ) → Counts names n → Counts result (n + items_in openings.now) }
 {
     let mut count = names;
-    for opening in openings {
-        count = with_more(count, opening.items);
+    let mut left = openings;
+    while let [first, rest @ ..] = left {
+        count = with_more(count, first.items);
+        left = rest;
     }
     count
 }
@@ -125,11 +129,6 @@ fn fits_within(core: &Core, names: Option<usize>, variables: usize, now: bool) -
             fits_within(function, names, variables, now)
                 && updates_fit(updates, names, variables, now)
         }
-        Core::Opened(_, openings, body) => {
-            are_bound(openings, names)
-                && fits_within(body, with_items(openings, names), variables, now)
-        }
-        Core::Tried(_, _, set) => fits_within(set, names, variables, now),
         Core::Enumerated(_, parts) => all_fit(parts, names, variables, now),
         Core::Tuple(_, parts) => all_fit(parts, names, variables, now),
         Core::Record(_, fields) => fields_fit(fields, names, variables, now),
@@ -137,6 +136,11 @@ fn fits_within(core: &Core, names: Option<usize>, variables: usize, now: bool) -
         Core::Records(_, fields) => fields_fit(fields, names, variables, now),
         Core::Product(_, parts) => all_fit(parts, names, variables, now),
         Core::Disjunction(_, parts) => all_fit(parts, names, variables, now),
+        Core::Opened(_, openings, body) => {
+            are_bound(openings, names)
+                && fits_within(body, with_items(openings, names), variables, now)
+        }
+        Core::Tried(_, _, set) => fits_within(set, names, variables, now),
     }
 }
 

@@ -34,8 +34,6 @@ fn has_next(core: &Core) -> bool
         Core::Field(_, _, base) => has_next(base),
         Core::Sequences(_, set) => has_next(set),
         Core::Power(_, set) => has_next(set),
-        Core::Tried(_, _, set) => has_next(set),
-        Core::Opened(_, _, body) => has_next(body),
         Core::Binary(_, _, left, right)
         | Core::Apply(_, left, right)
         | Core::Equal(_, left, right)
@@ -70,6 +68,8 @@ fn has_next(core: &Core) -> bool
         Core::Records(_, fields) => fields_have_next(fields),
         Core::Product(_, parts) => some_has_next(parts),
         Core::Disjunction(_, parts) => some_has_next(parts),
+        Core::Opened(_, _, body) => has_next(body),
+        Core::Tried(_, _, set) => has_next(set),
     }
 }
 

@@ -1,6 +1,6 @@
 -- Nodes, depth, and what a failure of a part says of the whole.
 use Rattle.std.proofs.Common.{◌≡◌, ◌≤◌, ◌<◌, ℕ, ◌+◌, ◌-◌, refl, ap, arith, Option, Some, None}
-use Rattle.tla_core.specs.Expr.{Expr, constant, bound, now, next, unary, binary, equal, sub_seq, enumerated, tuple, record_of, conjunction, disjunction, implies, conditional, cases, assert, for_all, for_some, choose, image, function, except, member, not_member, subset, kind_set, booleans, sequences, power, functions, records, product, cup, cap, minus, filtered}
+use Rattle.tla_core.specs.Expr.{Expr, constant, bound, now, next, unary, binary, equal, sub_seq, enumerated, tuple, record_of, conjunction, disjunction, implies, conditional, cases, assert, for_all, for_some, choose, image, function, except, member, not_member, subset, kind_set, booleans, sequences, power, functions, records, product, cup, cap, minus, filtered, opened, tried}
 use Rattle.tla_expand.specs.declared.failure.Failure.{Failure}
 use Rattle.tla_expand.specs.declared.failure.Failure.TheVariants.{NoExpansion, TooLarge, Memory}
 use Rattle.tla_expand.specs.Maybe.{◌>>=◌}
@@ -45,6 +45,8 @@ some_node (cup p a b) = omega arith
 some_node (cap p a b) = omega arith
 some_node (minus p a b) = omega arith
 some_node (filtered p a b) = omega arith
+some_node (opened p os a) = let h = some_node a in omega (arith, h)
+some_node (tried p k a) = some_node a
 
 pub some_depth : (e : Expr) → 0 < depth e
 some_depth (constant p a) = omega arith
@@ -84,6 +86,8 @@ some_depth (cup p a b) = omega arith
 some_depth (cap p a b) = omega arith
 some_depth (minus p a b) = omega arith
 some_depth (filtered p a b) = omega arith
+some_depth (opened p os a) = some_depth a
+some_depth (tried p k a) = some_depth a
 
 pub no_room : (o : Option Expr) (room left : ℕ) → room ≡ 0 → (e : Expr) → o ≡ Some e → nodes e ≤ left → depth e ≤ room → ⊥
 no_room o room left z e h n d = omega (arith, some_depth e)
