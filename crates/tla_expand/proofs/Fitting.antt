@@ -194,18 +194,30 @@ each_named v (w ∷ ws) d σ g =
     let z : d + suc (length ws) ≡ d + 1 + length ws = omega arith in
     rw z (each_named v ws (d + 1) (with_name w.word (bound_name d) σ) (under_name v d w.word σ g))
 
-one_opening : (p : Place) (d v : ℕ) (ws : List Written) (y : Expr) → fits y (d + 1 + length ws) v true ≡ true → fits (opened p (opening d ws ∷ []) y) (d + 1) v true ≡ true
-one_opening p d v ws y h =
-    let is : nat_lt d (d + 1) ≡ true = lt-ltb d (d + 1) (omega arith) in
-    let z : length ws + 0 ≡ length ws = omega arith in
-    rw (is, z, h) refl
+-- the elements that are opened are bound
+openings_bound : (bs : List Bind) (d n : ℕ) → d + length bs ≤ n → list_all (λ (o : Opening). nat_lt o.name n) (openings bs d) ≡ true
+openings_bound [] d n l = refl
+openings_bound ((named x, s) ∷ bs) d n l = openings_bound bs (d + 1) n (omega (arith, l))
+openings_bound ((tupled ws, s) ∷ bs) d n l =
+    let is : nat_lt d n ≡ true = lt-ltb d n (omega (arith, l)) in
+    rw (is, openings_bound bs (d + 1) n (omega (arith, l))) refl
 
-under_fits : (p : Place) (n : Names) (body : Scope → Argument) (v : ℕ) → BodyFits v body → (σ : Scope) (d : ℕ) → FitsScope v d σ → (e : Expr) → under p n body σ d ≡ Some e → fits e (d + 1) v true ≡ true
-under_fits p (named x) body v k σ d g e q = k (with_name x (bound_name d) σ) (d + 1) (under_name v d x σ g) e q
-under_fits p (tupled ws) body v k σ d g e q =
+openings_fit : (p : Place) (os : List Opening) (o : Option Expr) (n v : ℕ) → list_all (λ (x : Opening). nat_lt x.name n) os ≡ true → ((e : Expr) → o ≡ Some e → fits e (n + items_in os) v true ≡ true)
+    → (e : Expr) → under_openings p os o ≡ Some e → fits e n v true ≡ true
+openings_fit p [] o n v h k e q = let z : n + 0 ≡ n = omega arith in rw z at (k e q)
+openings_fit p (x ∷ os) o n v h k e q =
+    let i = inv o (λ y. Some (opened p (x ∷ os) y)) e q in
+    some n v (opened p (x ∷ os) i.0) e i.2 (rw (h, k i.0 i.1) refl)
+
+under_fits : (p : Place) (n : Names) (body : Scope → Argument) (v : ℕ) (σ : Scope) (d : ℕ) → FitsScope v d σ → ((τ : Scope) (c : ℕ) → d + 1 ≤ c → FitsScope v c τ → (e : Expr) → body τ c ≡ Some e → fits e c v true ≡ true)
+    → (e : Expr) → under p n body σ d ≡ Some e → fits e (d + 1) v true ≡ true
+under_fits p (named x) body v σ d g k e q = k (with_name x (bound_name d) σ) (d + 1) (omega arith) (under_name v d x σ g) e q
+under_fits p (tupled ws) body v σ d g k e q =
+    let is : nat_lt d (d + 1) ≡ true = lt-ltb d (d + 1) (omega arith) in
+    let z : d + 1 + (length ws + 0) ≡ d + 1 + length ws = omega arith in
     let τ = with_each ws (d + 1) σ in
-    let j = inv (body τ (d + 1 + length ws)) (λ y. Some (opened p (opening d ws ∷ []) y)) e q in
-    some (d + 1) v (opened p (opening d ws ∷ []) j.0) e j.2 (one_opening p d v ws j.0 (k τ (d + 1 + length ws) (each_named v ws (d + 1) σ (later v d (d + 1) σ (omega arith) g)) j.0 j.1))
+    let fit = each_named v ws (d + 1) σ (later v d (d + 1) σ (omega arith) g) in
+    openings_fit p (opening d ws ∷ []) (body τ (d + 1 + length ws)) (d + 1) v (rw is refl) (λ y h. rw z (k τ (d + 1 + length ws) (omega arith) fit y h)) e q
 
 nested_fits : (f : Binding) (p : Place) (bs : List Bind) (body : Scope → Argument) (v : ℕ) → BodyFits v body → (b : ℕ) → FitBinds v b bs → (σ : Scope) (d : ℕ) → FitsScope v d σ → b ≤ d
     → (e : Expr) → nested f p bs body σ d ≡ Some e → fits e d v true ≡ true
@@ -213,18 +225,12 @@ nested_fits f p [] body v k b r σ d g l e q = cc
 nested_fits f p (n ∷ []) body v k b r σ d g l e q =
     let i = inv (n.1 d) (λ x. under p n.0 body σ d >>= λ y. Some (binding f p x y)) e q in
     let j = inv (under p n.0 body σ d) (λ y. Some (binding f p i.0 y)) e i.2 in
-    some d v (binding f p i.0 j.0) e j.2 (binding_fits f p i.0 j.0 d v (r.0 d l i.0 i.1) (under_fits p n.0 body v k σ d g j.0 j.1))
+    some d v (binding f p i.0 j.0) e j.2 (binding_fits f p i.0 j.0 d v (r.0 d l i.0 i.1) (under_fits p n.0 body v σ d g (λ τ c m h y w. k τ c h y w) j.0 j.1))
 nested_fits f p (n ∷ m ∷ bs) body v k b r σ d g l e q =
     let i = inv (n.1 d) (λ x. under p n.0 (nested f p (m ∷ bs) body) σ d >>= λ y. Some (binding f p x y)) e q in
     let j = inv (under p n.0 (nested f p (m ∷ bs) body) σ d) (λ y. Some (binding f p i.0 y)) e i.2 in
-    some d v (binding f p i.0 j.0) e j.2 (binding_fits f p i.0 j.0 d v (r.0 d l i.0 i.1) (inside n.0 j.0 j.1))
-  where
-    inside : (y : Names) (z : Expr) → under p y (nested f p (m ∷ bs) body) σ d ≡ Some z → fits z (d + 1) v true ≡ true
-    inside (named x) z h = nested_fits f p (m ∷ bs) body v k b r.1 (with_name x (bound_name d) σ) (d + 1) (under_name v d x σ g) (omega (arith, l)) z h
-    inside (tupled ws) z h =
-        let τ = with_each ws (d + 1) σ in
-        let u = inv (nested f p (m ∷ bs) body τ (d + 1 + length ws)) (λ y. Some (opened p (opening d ws ∷ []) y)) z h in
-        some (d + 1) v (opened p (opening d ws ∷ []) u.0) z u.2 (one_opening p d v ws u.0 (nested_fits f p (m ∷ bs) body v k b r.1 τ (d + 1 + length ws) (each_named v ws (d + 1) σ (later v d (d + 1) σ (omega arith) g)) (omega (arith, l)) u.0 u.1))
+    let inner = under_fits p n.0 (nested f p (m ∷ bs) body) v σ d g (λ τ c u h y w. nested_fits f p (m ∷ bs) body v k b r.1 τ c h (omega (arith, l, u)) y w) j.0 j.1 in
+    some d v (binding f p i.0 j.0) e j.2 (binding_fits f p i.0 j.0 d v (r.0 d l i.0 i.1) inner)
 
 number_fits : (p : Place) (n d v : ℕ) (small : Bool) (e : Expr) → (if small then Some (constant p (value.int (pos n))) else None) ≡ Some e → fits e d v true ≡ true
 number_fits p n d v true e q = some d v (constant p (value.int (pos n))) e q refl
@@ -285,18 +291,6 @@ items_fit v ((tupled ws, s) ∷ bs) c d σ g =
     let z : d + (length ws + n) ≡ d + length ws + n = omega arith in
     rw z (items_fit v bs (c + 1) (d + length ws) (with_each ws d σ) (each_named v ws d σ g))
 
--- the elements that are opened are bound
-openings_bound : (bs : List Bind) (d n : ℕ) → d + length bs ≤ n → list_all (λ (o : Opening). nat_lt o.name n) (openings bs d) ≡ true
-openings_bound [] d n l = refl
-openings_bound ((named x, s) ∷ bs) d n l = openings_bound bs (d + 1) n (omega (arith, l))
-openings_bound ((tupled ws, s) ∷ bs) d n l =
-    let is : nat_lt d n ≡ true = lt-ltb d n (omega (arith, l)) in
-    rw (is, openings_bound bs (d + 1) n (omega (arith, l))) refl
-
-openings_fit : (p : Place) (os : List Opening) (y : Expr) (n v : ℕ) → list_all (λ (o : Opening). nat_lt o.name n) os ≡ true → fits y (n + items_in os) v true ≡ true → fits (under_openings p os y) n v true ≡ true
-openings_fit p [] y n v h k = let z : n + 0 ≡ n = omega arith in rw z at k
-openings_fit p (o ∷ os) y n v h k = rw (h, k) refl
-
 set_fits : (p : Place) (n : Names) (o : Option Expr) (d v : ℕ) → ((e : Expr) → o ≡ Some e → fits e d v true ≡ true) → (e : Expr) → set_for p n o ≡ Some e → fits e d v true ≡ true
 set_fits p (named x) o d v h e q = h e q
 set_fits p (tupled ws) o d v h e q =
@@ -322,12 +316,12 @@ gathered_fits f p bs body v k σ d g r e q =
     let os = openings bs d in
     let τ = with_items bs (d + length bs) (with_elements bs d σ) in
     let c = d + length bs + items_in os in
-    let i = inv (each_of (λ (b : Bind). set_for p b.0 (b.1 d)) bs) (λ xs. body τ c >>= λ y. Some (gather f p (exprs xs) (under_openings p os y))) e q in
-    let j = inv (body τ c) (λ y. Some (gather f p (exprs i.0) (under_openings p os y))) e i.2 in
+    let i = inv (each_of (λ (b : Bind). set_for p b.0 (b.1 d)) bs) (λ xs. under_openings p os (body τ c) >>= λ y. Some (gather f p (exprs xs) y)) e q in
+    let j = inv (under_openings p os (body τ c)) (λ y. Some (gather f p (exprs i.0) y)) e i.2 in
     let s = sets_fit p v d bs r i.0 i.1 in
     let fit = items_fit v bs d (d + length bs) (with_elements bs d σ) (elements_fit v bs d σ g) in
-    let inner = openings_fit p os j.0 (d + length bs) v (openings_bound bs d (d + length bs) (omega arith)) (k τ c fit j.0 j.1) in
-    some d v (gather f p (exprs i.0) (under_openings p os j.0)) e j.2 (gather_fits f p (exprs i.0) (under_openings p os j.0) d v (length bs) s.1 s.0 inner)
+    let inner = openings_fit p os (body τ c) (d + length bs) v (openings_bound bs d (d + length bs) (omega arith)) (λ y h. k τ c fit y h) j.0 j.1 in
+    some d v (gather f p (exprs i.0) j.0) e j.2 (gather_fits f p (exprs i.0) j.0 d v (length bs) s.1 s.0 inner)
 
 -- the arms that end a CASE
 abbrev FitLast : ℕ → ℕ → Option x.Arms → Type 0

@@ -46,10 +46,15 @@ with_each (w ∷ ws) d σ = with_each ws (d + 1) (with_name w.word (bound_name d
 abbrev pub opening : ℕ → List Written → Opening
 opening d ws = record { name = d; items = length ws }
 
+-- a body under these elements, if any
+abbrev pub under_openings : Place → List Opening → Option Expr → Option Expr
+under_openings p [] o = o
+under_openings p (n ∷ os) o = o >>= λ y. Some (opened p (n ∷ os) y)
+
 -- a body under an element, which is the next bound name
 abbrev pub under : Place → Names → (Scope → Argument) → Scope → Argument
 under p (named x) body σ d = body (with_name x (bound_name d) σ) (d + 1)
-under p (tupled ws) body σ d = body (with_each ws (d + 1) σ) (d + 1 + length ws) >>= λ y. Some (opened p (opening d ws ∷ []) y)
+under p (tupled ws) body σ d = under_openings p (opening d ws ∷ []) (body (with_each ws (d + 1) σ) (d + 1 + length ws))
 
 -- one node for each element, one in another. Its set sees none of the names.
 abbrev pub nested : Binding → Place → List Bind → (Scope → Argument) → Scope → Argument
@@ -75,10 +80,6 @@ openings [] d = []
 openings ((named x, s) ∷ bs) d = openings bs (d + 1)
 openings ((tupled ws, s) ∷ bs) d = opening d ws ∷ openings bs (d + 1)
 
-abbrev pub under_openings : Place → List Opening → Expr → Expr
-under_openings p [] y = y
-under_openings p (o ∷ os) y = opened p (o ∷ os) y
-
 -- the set of an element: one that is opened is tried
 abbrev pub set_for : Place → Names → Option Expr → Option Expr
 set_for p (named x) o = o
@@ -87,4 +88,4 @@ set_for p (tupled ws) o = o >>= λ x. Some (tried p (length ws) x)
 -- One node for all elements. Their sets see none of the names.
 abbrev pub gathered : Gather → Place → List Bind → (Scope → Argument) → Scope → Argument
 gathered f p bs body σ d = each_of (λ (b : Bind). set_for p b.0 (b.1 d)) bs >>= λ xs.
-    body (with_items bs (d + length bs) (with_elements bs d σ)) (d + length bs + items_in (openings bs d)) >>= λ y. Some (gather f p (exprs xs) (under_openings p (openings bs d) y))
+    under_openings p (openings bs d) (body (with_items bs (d + length bs) (with_elements bs d σ)) (d + length bs + items_in (openings bs d))) >>= λ y. Some (gather f p (exprs xs) y)

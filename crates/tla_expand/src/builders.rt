@@ -1,6 +1,6 @@
 //! The nodes of an expression, made of their parts.
 
-ghost use Rattle.std.specs.Prelude.{◌≡◌, ◌∷◌, IfOk, IfErr, map};
+ghost use Rattle.std.specs.Prelude.{◌≡◌, ◌∷◌, IfOk, IfErr, Some, map};
 ghost use Rattle.tla_core.specs.ExprOf.{expr_of, exprs_of_arm};
 ghost use Rattle.tla_core.specs.Expr as expr;
 ghost use Rattle.tla_expand.specs.Lists.{exprs, arms_with, fields_of, updates_of, named_part, changed_part};
@@ -241,7 +241,7 @@ pub(crate) fn opened_core(
     openings: Vec<Opening>,
     body: Core,
 ) -> Result<Core, Failure>
-    ensures ok { IfOk result (λ c. expr_of c ≡ under_openings place openings.items (expr_of body)) }
+    ensures ok { IfOk result (λ c. under_openings place openings.items (Some (expr_of body)) ≡ Some (expr_of c)) }
     ensures err { IfErr result (λ e. e ≡ Failure.Memory) }
 {
     if openings.is_empty() {

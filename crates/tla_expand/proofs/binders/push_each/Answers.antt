@@ -2,7 +2,7 @@ use Rattle.std.proofs.Common.{refl, arith}
 use Rattle.tla_tree.specs.View.{view}
 use Rattle.tla_expand.specs.Expand.{expand}
 use Rattle.tla_expand.proofs.Groups.{one_name}
-use Rattle.tla_expand.proofs.binders.push_group.Goals as goal
+use Rattle.tla_expand.proofs.binders.push_each.Goals as goal
 
 pub loop-i-preserved : goal.loop-i-preserved
 loop-i-preserved c = record {
