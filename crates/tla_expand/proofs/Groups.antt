@@ -1,5 +1,5 @@
 -- The names of binder lists, one after the other.
-use Rattle.std.proofs.Common.{◌≡◌, ◌<◌, ℕ, suc, ◌+◌, List, [], ◌∷◌, ◌++◌, map, length, get_or, drop, refl, ap, sym, ◌∙◌, arith, add-one, drop-cons, append_assoc}
+use Rattle.std.proofs.Common.{◌≡◌, ◌<◌, ◌≤◌, ℕ, suc, ◌+◌, List, [], ◌∷◌, ◌++◌, map, length, get_or, drop, refl, ap, sym, ◌∙◌, arith, add-one, drop-cons, append_assoc}
 use Rattle.std.proofs.lemmas.List.{map-append, length-map}
 use Rattle.tla_tree.specs.declared.word.Written.{Written}
 use Rattle.tla_tree.specs.declared.tree.Binder.{Binder}
@@ -8,7 +8,9 @@ use Rattle.tla_tree.specs.View.{view, pattern_view, group_view}
 use Rattle.tla_expand.specs.declared.binders.Bind.{Bind}
 use Rattle.tla_expand.specs.Bound as x
 use Rattle.tla_expand.specs.Meanings.{Scope, Argument}
-use Rattle.tla_expand.specs.Bound.{bind_each, bind_entry, with_each, with_elements, with_items}
+use Rattle.tla_core.specs.declared.expression.Opening.{Opening}
+use Rattle.tla_core.specs.Patterns.{items_in}
+use Rattle.tla_expand.specs.Bound.{bind_each, bind_entry, with_each, with_elements, with_items, openings}
 use Rattle.tla_expand.specs.Expand.{binds_of, expand}
 use Rattle.tla_expand.specs.Binders.{names_of, binds_in}
 use Rattle.tla_expand.specs.Places.{Name}
@@ -83,3 +85,50 @@ items_more bs i d b ws σ old new h g m e =
 
 pub binds_length : (bs : List Bind) (σ : Scope) → length (binds_in bs σ) ≡ length bs
 binds_length bs σ = length-map bs (λ (y : Bind). (names_of y.names, expand (view y.set.now) σ))
+
+pub items_passed : (bs : List Bind) (i d : ℕ) (b : Bind) (y : Name) (σ old : Scope) → i < length bs → b ≡ get_or bs i b → names_of b.names ≡ x.named y
+    → with_items (binds_in (drop i bs) σ) d old ≡ with_items (binds_in (drop (i + 1) bs) σ) d old
+items_passed bs i d b y σ old h g m =
+    let p : drop i bs ≡ b ∷ drop (suc i) bs = drop-cons bs i b h ∙ ap (λ (z : Bind). z ∷ drop (suc i) bs) (sym g) in
+    let q : i + 1 ≡ suc i = add-one i in
+    rw (p, q, m) refl
+
+-- how many items are left: the same for every number of the first element
+pub items_same : (bs : List x.Bind) (c d : ℕ) → items_in (openings bs c) ≡ items_in (openings bs d)
+items_same [] c d = refl
+items_same ((x.named y, s) ∷ bs) c d = items_same bs (c + 1) (d + 1)
+items_same ((x.tupled ws, s) ∷ bs) c d = ap (λ (n : ℕ). length ws + n) (items_same bs (c + 1) (d + 1))
+
+pub items_left : (bs : List Bind) (i n : ℕ) (b : Bind) (ws : List Written) (σ : Scope) (d : ℕ) → i < length bs → b ≡ get_or bs i b → names_of b.names ≡ x.tupled ws
+    → n + items_in (openings (binds_in (drop i bs) σ) d) ≤ 1000000 → n + length ws + items_in (openings (binds_in (drop (i + 1) bs) σ) d) ≤ 1000000
+items_left bs i n b ws σ d h g m k =
+    let p : drop i bs ≡ b ∷ drop (suc i) bs = drop-cons bs i b h ∙ ap (λ (z : Bind). z ∷ drop (suc i) bs) (sym g) in
+    let q : i + 1 ≡ suc i = add-one i in
+    let l = rw (p, m) at k in
+    rw q (omega (arith, l, items_same (binds_in (drop (suc i) bs) σ) d (d + 1)))
+
+pub items_left_passed : (bs : List Bind) (i n : ℕ) (b : Bind) (y : Name) (σ : Scope) (d : ℕ) → i < length bs → b ≡ get_or bs i b → names_of b.names ≡ x.named y
+    → n + items_in (openings (binds_in (drop i bs) σ) d) ≤ 1000000 → n + items_in (openings (binds_in (drop (i + 1) bs) σ) d) ≤ 1000000
+items_left_passed bs i n b y σ d h g m k =
+    let p : drop i bs ≡ b ∷ drop (suc i) bs = drop-cons bs i b h ∙ ap (λ (z : Bind). z ∷ drop (suc i) bs) (sym g) in
+    let q : i + 1 ≡ suc i = add-one i in
+    let l = rw (p, m) at k in
+    rw q (omega (arith, l, items_same (binds_in (drop (suc i) bs) σ) d (d + 1)))
+
+-- the next of the elements that are opened
+pub openings_more : (os new : List Opening) (bs : List Bind) (i d : ℕ) (b : Bind) (ws : List Written) (σ : Scope) (whole : List Opening) → i < length bs → b ≡ get_or bs i b → names_of b.names ≡ x.tupled ws
+    → new ≡ os ++ x.opening (d + i) ws ∷ [] → os ++ openings (binds_in (drop i bs) σ) (d + i) ≡ whole → new ++ openings (binds_in (drop (i + 1) bs) σ) (d + (i + 1)) ≡ whole
+openings_more os new bs i d b ws σ whole h g m n e =
+    let p : drop i bs ≡ b ∷ drop (suc i) bs = drop-cons bs i b h ∙ ap (λ (z : Bind). z ∷ drop (suc i) bs) (sym g) in
+    let q : i + 1 ≡ suc i = add-one i in
+    let r : d + i + 1 ≡ d + suc i = omega arith in
+    let e2 : os ++ x.opening (d + i) ws ∷ openings (binds_in (drop (suc i) bs) σ) (d + suc i) ≡ whole = (rw (p, m, r) at e) in
+    rw (n, q) (append_assoc os (x.opening (d + i) ws ∷ []) (openings (binds_in (drop (suc i) bs) σ) (d + suc i)) ∙ e2)
+
+pub openings_passed : (os : List Opening) (bs : List Bind) (i d : ℕ) (b : Bind) (y : Name) (σ : Scope) (whole : List Opening) → i < length bs → b ≡ get_or bs i b → names_of b.names ≡ x.named y
+    → os ++ openings (binds_in (drop i bs) σ) (d + i) ≡ whole → os ++ openings (binds_in (drop (i + 1) bs) σ) (d + (i + 1)) ≡ whole
+openings_passed os bs i d b y σ whole h g m e =
+    let p : drop i bs ≡ b ∷ drop (suc i) bs = drop-cons bs i b h ∙ ap (λ (z : Bind). z ∷ drop (suc i) bs) (sym g) in
+    let q : i + 1 ≡ suc i = add-one i in
+    let r : d + i + 1 ≡ d + suc i = omega arith in
+    rw q (rw (p, m, r) at e)

@@ -3,6 +3,9 @@ use Rattle.std.proofs.Common.{◌≡◌, ◌≤◌, ◌<◌, ℕ, ◌+◌, ◌-�
 use Rattle.tla_core.specs.declared.expression.Opening.{Opening}
 use Rattle.tla_core.specs.Patterns.{items_in}
 use Rattle.tla_expand.specs.Bound.{under_openings}
+use Rattle.tla_expand.specs.declared.primes.Primes.{Primes}
+use Rattle.tla_expand.specs.Primes.{primes, with_primes}
+use Rattle.tla_expand.proofs.Primed.{one}
 use Rattle.tla_core.specs.Expr.{Expr, constant, bound, now, next, unary, binary, equal, sub_seq, enumerated, tuple, record_of, conjunction, disjunction, implies, conditional, cases, assert, for_all, for_some, choose, image, function, except, member, not_member, subset, kind_set, booleans, sequences, power, functions, records, product, cup, cap, minus, filtered, opened, tried}
 use Rattle.tla_expand.specs.declared.failure.Failure.{Failure}
 use Rattle.tla_expand.specs.declared.failure.Failure.TheVariants.{NoExpansion, TooLarge, Memory}
@@ -160,6 +163,10 @@ opened_fails p (n ∷ os) (NoExpansion q) o room left less l h = rw h refl
 opened_fails p (n ∷ os) TooLarge None room left less l h = λ x q m d. cc
 opened_fails p (n ∷ os) TooLarge (Some u) room left less l h = λ x q m d. let w : opened p (n ∷ os) u ≡ x = cc in let w0 = ap nodes w in let w1 = ap depth w in h u refl (omega arith) (omega arith)
 opened_fails p (n ∷ os) Memory o room left less l h = tt
+
+pub openings_primed : (k : Primes) (p : Place) (os : List Opening) (o : Option Expr) → with_primes k (under_openings p os o) ≡ under_openings p os (with_primes k o)
+openings_primed k p [] o = refl
+openings_primed k p (n ∷ os) o = one (λ x. opened p (n ∷ os) x) (primes k) (primes k) (λ x. refl) o
 
 -- too many items
 pub opened_full : (p : Place) (os : List Opening) (o : Option Expr) (room left : ℕ) → left < items_in os → (e : Expr) → under_openings p os o ≡ Some e → nodes e ≤ left → depth e ≤ room → ⊥

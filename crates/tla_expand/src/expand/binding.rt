@@ -6,10 +6,10 @@ ghost use Rattle.tla_tree.specs.View.{view, pattern_view, group_view};
 ghost use Rattle.tla_tree.specs.Tree.{binders};
 ghost use Rattle.tla_expand.specs.Primes.{with_primes};
 ghost use Rattle.tla_expand.specs.Expand as expansion;
-ghost use Rattle.tla_expand.specs.Bound as names;
+ghost use Rattle.tla_expand.specs.Bound as bounds;
 ghost use Rattle.tla_expand.specs.Bound.{bind_entry, last_or, with_each};
 ghost use Rattle.tla_expand.specs.Scopes.{AreLinked, Extends, scope_at};
-ghost use Rattle.tla_expand.specs.Binders.{binds_in};
+ghost use Rattle.tla_expand.specs.Binders.{names_of, binds_in};
 ghost use Rattle.tla_expand.specs.Maybe.{each_of};
 ghost use Rattle.tla_expand.specs.Meanings.{Scope};
 ghost use Rattle.tla_expand.specs.Gives.{Gives, GivesMany, set_in};
@@ -50,7 +50,7 @@ pub(super) fn bound_several<'a>(
     requires scope { at.scope ≤ length entries.old.items }
     requires small { at.bound + at.left < 1000000 }
     ensures kept { OnOk result (entries.new.items ≡ entries.old.items) }
-    ensures same { Gives (at.room + 1) (at.left + 1) result (with_primes at.primes (names.nested node place (expansion.binds_of (binders (map group_view groups.now)) (scope_at entries.old.items at.scope)) (expansion.expand (view body.now)) (scope_at entries.old.items at.scope) at.bound)) }
+    ensures same { Gives (at.room + 1) (at.left + 1) result (with_primes at.primes (bounds.nested node place (expansion.binds_of (binders (map group_view groups.now)) (scope_at entries.old.items at.scope)) (expansion.expand (view body.now)) (scope_at entries.old.items at.scope) at.bound)) }
 {
     let binds = bind_list(alloc, groups)?;
     let [first, rest @ ..] = binds.as_slice() else {
@@ -81,7 +81,7 @@ pub(super) fn bound_one<'a>(
     requires scope { at.scope ≤ length entries.old.items }
     requires small { at.bound + at.left < 1000000 }
     ensures kept { OnOk result (entries.new.items ≡ entries.old.items) }
-    ensures same { Gives (at.room + 1) (at.left + 1) result (with_primes at.primes (names.nested node place (bind_entry (pattern_view pattern.now) (expansion.expand (view set.now) (scope_at entries.old.items at.scope)) []) (expansion.expand (view body.now)) (scope_at entries.old.items at.scope) at.bound)) }
+    ensures same { Gives (at.room + 1) (at.left + 1) result (with_primes at.primes (bounds.nested node place (bind_entry (pattern_view pattern.now) (expansion.expand (view set.now) (scope_at entries.old.items at.scope)) []) (expansion.expand (view body.now)) (scope_at entries.old.items at.scope) at.bound)) }
 {
     let binds = bind_one(alloc, pattern, set)?;
     let [first, rest @ ..] = binds.as_slice() else {
@@ -111,7 +111,7 @@ fn nested<'a>(
     requires scope { at.scope ≤ length entries.old.items }
     requires small { at.bound + at.left < 1000000 }
     ensures kept { OnOk result (entries.new.items ≡ entries.old.items) }
-    ensures same { Gives (at.room + 1) (at.left + 1) result (with_primes at.primes (names.nested under.entry.node under.entry.place (binds_in (first.entry ∷ rest.now) (scope_at entries.old.items under.entry.home)) (expansion.expand (view under.entry.body.now)) (scope_at entries.old.items at.scope) at.bound)) }
+    ensures same { Gives (at.room + 1) (at.left + 1) result (with_primes at.primes (bounds.nested under.entry.node under.entry.place (binds_in (first.entry ∷ rest.now) (scope_at entries.old.items under.entry.home)) (expansion.expand (view under.entry.body.now)) (scope_at entries.old.items at.scope) at.bound)) }
 {
     let home = Setting {
         scope: under.home,
@@ -122,15 +122,35 @@ fn nested<'a>(
         left: set.left,
         ..at
     };
-    let inner = match first.names {
-        Names::Name(name) => under_name(alloc, entries, under, name, rest, inside)?,
-        Names::Tuple(names) => under_tuple(alloc, entries, under, names, rest, inside)?,
-    };
+    let inner = under_element(alloc, entries, under, first.names, rest, inside)?;
     let core = binding_core(alloc, under.place, under.node, set.core, inner.core)?;
     Ok(Expanded {
         core,
         left: inner.left,
     })
+}
+
+/// The nodes behind an element, or the body.
+#[cycle(expand)]
+fn under_element<'a>(
+    alloc: Global,
+    entries: &mut Vec<Entry<'a>>,
+    under: Under<'a>,
+    names: Names<'a>,
+    rest: &[Bind<'a>],
+    at: Setting,
+) -> Result<Expanded, Failure>
+    requires linked { AreLinked entries.old.items }
+    requires home { under.home ≤ length entries.old.items }
+    requires scope { at.scope ≤ length entries.old.items }
+    requires small { at.bound + at.left < 1000000 }
+    ensures kept { OnOk result (entries.new.items ≡ entries.old.items) }
+    ensures same { Gives at.room at.left result (with_primes at.primes (bounds.under under.entry.place (names_of names.entry) (last_or (binds_in rest.now (scope_at entries.old.items under.entry.home)) (expansion.expand (view under.entry.body.now)) (bounds.nested under.entry.node under.entry.place (binds_in rest.now (scope_at entries.old.items under.entry.home)) (expansion.expand (view under.entry.body.now)))) (scope_at entries.old.items at.scope) at.bound)) }
+{
+    match names {
+        Names::Name(name) => under_name(alloc, entries, under, name, rest, at),
+        Names::Tuple(names) => under_tuple(alloc, entries, under, names, rest, at),
+    }
 }
 
 /// The nodes behind an element with a name, or the body.
@@ -148,7 +168,7 @@ fn under_name<'a>(
     requires scope { at.scope ≤ length entries.old.items }
     requires small { at.bound + at.left < 1000000 }
     ensures kept { OnOk result (entries.new.items ≡ entries.old.items) }
-    ensures same { Gives at.room at.left result (with_primes at.primes (names.under under.entry.place (names.named name.now.word) (last_or (binds_in rest.now (scope_at entries.old.items under.entry.home)) (expansion.expand (view under.entry.body.now)) (names.nested under.entry.node under.entry.place (binds_in rest.now (scope_at entries.old.items under.entry.home)) (expansion.expand (view under.entry.body.now)))) (scope_at entries.old.items at.scope) at.bound)) }
+    ensures same { Gives at.room at.left result (with_primes at.primes (bounds.under under.entry.place (bounds.named name.now.word) (last_or (binds_in rest.now (scope_at entries.old.items under.entry.home)) (expansion.expand (view under.entry.body.now)) (bounds.nested under.entry.node under.entry.place (binds_in rest.now (scope_at entries.old.items under.entry.home)) (expansion.expand (view under.entry.body.now)))) (scope_at entries.old.items at.scope) at.bound)) }
 {
     let mark = entries.len();
     let entry = Entry {
@@ -182,7 +202,7 @@ fn under_tuple<'a>(
     requires scope { at.scope ≤ length entries.old.items }
     requires small { at.bound + at.left < 1000000 }
     ensures kept { OnOk result (entries.new.items ≡ entries.old.items) }
-    ensures same { Gives at.room at.left result (with_primes at.primes (names.under under.entry.place (names.tupled names.now) (last_or (binds_in rest.now (scope_at entries.old.items under.entry.home)) (expansion.expand (view under.entry.body.now)) (names.nested under.entry.node under.entry.place (binds_in rest.now (scope_at entries.old.items under.entry.home)) (expansion.expand (view under.entry.body.now)))) (scope_at entries.old.items at.scope) at.bound)) }
+    ensures same { Gives at.room at.left result (with_primes at.primes (bounds.under under.entry.place (bounds.tupled names.now) (last_or (binds_in rest.now (scope_at entries.old.items under.entry.home)) (expansion.expand (view under.entry.body.now)) (bounds.nested under.entry.node under.entry.place (binds_in rest.now (scope_at entries.old.items under.entry.home)) (expansion.expand (view under.entry.body.now)))) (scope_at entries.old.items at.scope) at.bound)) }
 {
     if names.len() > at.left {
         return Err(Failure::TooLarge);
@@ -225,7 +245,7 @@ fn within<'a>(
     requires scope { at.scope ≤ length entries.old.items }
     requires small { at.bound + at.left ≤ 1000000 }
     ensures kept { OnOk result (entries.new.items ≡ entries.old.items) }
-    ensures same { Gives at.room at.left result (with_primes at.primes (last_or (binds_in binds.now (scope_at entries.old.items under.entry.home)) (expansion.expand (view under.entry.body.now)) (names.nested under.entry.node under.entry.place (binds_in binds.now (scope_at entries.old.items under.entry.home)) (expansion.expand (view under.entry.body.now))) (scope_at entries.old.items at.scope) at.bound)) }
+    ensures same { Gives at.room at.left result (with_primes at.primes (last_or (binds_in binds.now (scope_at entries.old.items under.entry.home)) (expansion.expand (view under.entry.body.now)) (bounds.nested under.entry.node under.entry.place (binds_in binds.now (scope_at entries.old.items under.entry.home)) (expansion.expand (view under.entry.body.now))) (scope_at entries.old.items at.scope) at.bound)) }
 {
     let [first, rest @ ..] = binds else {
         return expand(alloc, entries, under.body, at);
@@ -259,7 +279,7 @@ pub(super) fn gather_node<'a>(
     requires scope { at.scope ≤ length entries.old.items }
     requires small { at.bound + at.left ≤ 1000000 }
     ensures kept { OnOk result (entries.new.items ≡ entries.old.items) }
-    ensures same { Gives (at.room + 1) (at.left + 1) result (with_primes at.primes (names.gathered node place (expansion.binds_of (binders (map group_view groups.now)) (scope_at entries.old.items at.scope)) (expansion.expand (view body.now)) (scope_at entries.old.items at.scope) at.bound)) }
+    ensures same { Gives (at.room + 1) (at.left + 1) result (with_primes at.primes (bounds.gathered node place (expansion.binds_of (binders (map group_view groups.now)) (scope_at entries.old.items at.scope)) (expansion.expand (view body.now)) (scope_at entries.old.items at.scope) at.bound)) }
 {
     let binds = bind_list(alloc, groups)?;
     let binds = binds.as_slice();
@@ -342,7 +362,7 @@ fn sets_of<'a>(
 /// The elements that are opened, of those with numbers from `bound` on. The only error is want of memory.
 fn openings_of(alloc: Global, binds: &[Bind<'_>], bound: usize) -> Result<Vec<Opening>, Failure>
     requires { bound + length binds.now ≤ 1000000 }
-    ensures ok { IfOk result (λ os. (σ : Scope) → os.items ≡ names.openings (binds_in binds.now σ) bound) }
+    ensures ok { IfOk result (λ os. (σ : Scope) → os.items ≡ bounds.openings (binds_in binds.now σ) bound) }
     ensures err { IfErr result (λ e. e ≡ Failure.Memory) }
 {
     let mut openings = Vec::new(alloc);
@@ -414,7 +434,7 @@ fn name_elements<'a>(
     ensures linked { OnOk result (AreLinked entries.new.items) }
     ensures extends { OnOk result (Extends entries.new.items entries.old.items) }
     ensures within { IfOk result (λ s. s ≤ length entries.new.items) }
-    ensures same { IfOk result (λ s. (σ : Scope) → names.with_elements (binds_in binds.now σ) bound (scope_at entries.old.items scope) ≡ scope_at entries.new.items s) }
+    ensures same { IfOk result (λ s. (σ : Scope) → bounds.with_elements (binds_in binds.now σ) bound (scope_at entries.old.items scope) ≡ scope_at entries.new.items s) }
     ensures err { IfErr result (λ e. e ≡ Failure.Memory) }
 {
     let mut at = scope;
@@ -440,11 +460,11 @@ fn name_items<'a>(
 ) -> Result<usize, Failure>
     requires linked { AreLinked entries.old.items }
     requires scope { scope ≤ length entries.old.items }
-    requires small { (σ : Scope) (d : ℕ) → bound + items_in (names.openings (binds_in binds.now σ) d) ≤ 1000000 }
+    requires small { (σ : Scope) (d : ℕ) → bound + items_in (bounds.openings (binds_in binds.now σ) d) ≤ 1000000 }
     ensures linked { OnOk result (AreLinked entries.new.items) }
     ensures extends { OnOk result (Extends entries.new.items entries.old.items) }
     ensures within { IfOk result (λ s. s ≤ length entries.new.items) }
-    ensures same { IfOk result (λ s. (σ : Scope) → names.with_items (binds_in binds.now σ) bound (scope_at entries.old.items scope) ≡ scope_at entries.new.items s) }
+    ensures same { IfOk result (λ s. (σ : Scope) → bounds.with_items (binds_in binds.now σ) bound (scope_at entries.old.items scope) ≡ scope_at entries.new.items s) }
     ensures err { IfErr result (λ e. e ≡ Failure.Memory) }
 {
     let mut at = scope;
