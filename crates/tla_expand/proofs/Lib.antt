@@ -1,7 +1,10 @@
 pub mod Primed
+pub mod PrimesSize
+pub mod Forbids
 pub mod Levels
 pub mod Vectors
 pub mod Links
+pub mod Cuts
 pub mod Binds
 pub mod Steps
 pub mod Shorter

@@ -28,6 +28,9 @@ decreases-levels::unchanged_node l = 12 * l.at.room + 4
 abbrev pub decreases-levels::kept_parts : goal.decreases-levels::kept_parts
 decreases-levels::kept_parts l = 12 * l.at.room + 2
 
+abbrev pub decreases-levels::told_part : goal.decreases-levels::told_part
+decreases-levels::told_part l = 12 * l.at.room + 1
+
 abbrev pub decreases-levels::kept_subscript : goal.decreases-levels::kept_subscript
 decreases-levels::kept_subscript l = 12 * l.at.room
 
