@@ -16,6 +16,7 @@ pub mod Keeps
 pub mod Kept
 pub mod Groups
 pub mod Arms
+pub mod Larger
 pub mod Plain
 pub mod Nested
 pub mod Gathered

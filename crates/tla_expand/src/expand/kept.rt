@@ -10,7 +10,7 @@ ghost use Rattle.tla_expand.specs.Gives.{kept_part, changed_in, part_in, both, m
 
 use crate::arena::Entry;
 use crate::builders::{kept_core, two_core};
-use crate::expand::levels::{changed_subscript, kept_parts, kept_subscript};
+use crate::expand::levels::{changed_subscript, kept_parts, kept_subscript, look_at_each};
 use crate::expand::{Setting, expand};
 use crate::expanded::{Expanded, Many as Parts};
 use crate::failure::Failure;
@@ -42,7 +42,8 @@ fn tuple_items<'a>(form: Form<'a>) -> Option<&'a [Expr]>
     }
 }
 
-/// UNCHANGED of an expression under so many primes. Its node is above the limits that are set for its parts.
+/// UNCHANGED of an expression under so many primes. Its node is above the limits that are set for its parts. What the parts
+/// of a tuple have that is too high is told before what UNCHANGED makes of them.
 #[cycle(expand)]
 pub(super) fn kept<'a>(
     alloc: Global,
@@ -66,6 +67,7 @@ pub(super) fn kept<'a>(
                 primes: found.primes,
                 ..at
             };
+            look_at_each(alloc, entries, items, inside)?;
             let many = kept_each(alloc, entries, place, items, inside)?;
             entries.truncate(mark);
             Ok(Expanded {

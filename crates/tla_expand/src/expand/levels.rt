@@ -5,10 +5,13 @@ ghost use Rattle.std.specs.Prelude.{◌≡◌, ◌≤◌, ◌<◌, ◌+◌, leng
 ghost use Rattle.tla_expand.specs.Primes.{settled_primes, with_primes};
 ghost use Rattle.tla_expand.specs.Scopes.{AreLinked, scope_at};
 ghost use Rattle.tla_expand.specs.Forms.{form_in};
-ghost use Rattle.tla_expand.specs.Gives.{kept_part, changed_in, part_in, both, Fails, Gives, GivesTwo, SaysNone};
+ghost use Rattle.tla_expand.specs.Gives.{kept_part, changed_in, part_in, both, total, highest, Fails, FailsBy, Gives, GivesTwo, SaysNone};
+ghost use Rattle.tla_expand.specs.Maybe.{each_of};
+ghost use Rattle.tla_model.specs.Size.{nodes, depth};
 
 use crate::arena::Entry;
 use crate::expand::kept::{changed, kept, settled};
+use crate::expand::lists::each;
 use crate::expand::{Setting, expand, node_of};
 use crate::expanded::{Expanded, Two as Pair};
 use crate::failure::Failure;
@@ -45,6 +48,26 @@ fn look_at_form<'a>(
     ensures fails { IfErr result (λ f. Fails (at.room + 1) (at.left + 1) f (with_primes at.primes (form_in form.entry (scope_at entries.old.items at.scope) at.bound))) }
 {
     match node_of(alloc, entries, form, at) {
+        Ok(_) => Ok(()),
+        Err(failure) => Err(failure),
+    }
+}
+
+/// Looks at expressions as they stand.
+#[cycle(expand)]
+pub(super) fn look_at_each<'a>(
+    alloc: Global,
+    entries: &mut Vec<Entry<'a>>,
+    trees: &'a [Expr],
+    at: Setting,
+) -> Result<(), Failure>
+    requires linked { AreLinked entries.old.items }
+    requires scope { at.scope ≤ length entries.old.items }
+    requires small { at.bound + at.left ≤ 1000000 }
+    ensures kept { OnOk result (entries.new.items ≡ entries.old.items) }
+    ensures fails { IfErr result (λ f. FailsBy (total nodes) (highest depth) at.room at.left f (each_of (part_in at.primes (scope_at entries.old.items at.scope) at.bound) trees.now)) }
+{
+    match each(alloc, entries, trees, at) {
         Ok(_) => Ok(()),
         Err(failure) => Err(failure),
     }

@@ -27,6 +27,7 @@ use Rattle.tla_expand.proofs.Sizes.{no_room, none_left, first_fails, second_fail
 use Rattle.tla_expand.proofs.Lists.{part_done, part_fails, all_done, total_more, highest_more}
 use Rattle.tla_expand.proofs.Made.{two_larger, three_larger, many_larger, cases_larger, cases_or_larger, fielded_larger, product_larger, except_larger, Triple}
 use Rattle.tla_expand.proofs.Links.{cut_back, home_keep, bind_scope}
+use Rattle.tla_expand.proofs.Larger.{kept_later}
 use Rattle.tla_expand.proofs.Plain.{plain_head, tuple_fails, tuple_gives, equal_fails, equal_gives}
 use Rattle.tla_expand.proofs.Nested.{inner_fails, nested_gives}
 use Rattle.tla_expand.proofs.NamedParts.{field_some, field_fails}
@@ -328,13 +329,22 @@ kept::kept-returns-in_err-many-in-Some-clause-same t c =
     let r = err_from_is_err_and c.from_residual-in_err-many-in-Some.result c.from_residual-in_err-many-in-Some.ensures.1 in
     rw (r.1, r.2) (tuple_fails (part_in c.args.at.primes (scope_at c.args.entries.now.items c.args.at.scope) c.args.at.bound c.args.tree.now) c.in_ok-found.found.form c.in-Some.items
     (scope_at c.find_head.new.entries.items c.in_ok-found.found.scope) c.args.at.bound c.in_ok-found.found.primes c.args.place c.in_err-many-in-Some.field-0.0 c.args.at.room c.args.at.left
-    (c.in_ok-found.ensures.same c.args.at.bound) (sym c.tuple_items.ensures ∙ c.in-Some.is) c.in_err-many-in-Some.ensures.same)
+    (c.in_ok-found.ensures.same c.args.at.bound) (sym c.tuple_items.ensures ∙ c.in-Some.is) (rw c.in_ok-look_at_each-in-Some.ensures.kept at c.in_err-many-in-Some.ensures.same))
+
+pub kept::kept-returns-in_err-look_at_each-in-Some-clause-same : goal.kept::kept-returns-in_err-look_at_each-in-Some-clause-same
+kept::kept-returns-in_err-look_at_each-in-Some-clause-same t c =
+    let r = err_from_is_err_and c.from_residual-in_err-look_at_each-in-Some.result c.from_residual-in_err-look_at_each-in-Some.ensures.1 in
+    let σ = scope_at c.find_head.new.entries.items c.in_ok-found.found.scope in
+    let f = kept_later c.in_ok-found.found.primes c.args.place σ c.args.at.bound c.in_err-look_at_each-in-Some.field-0.0 c.in-Some.items.now c.args.at.room c.args.at.left c.in_err-look_at_each-in-Some.ensures.fails in
+    rw (r.1, r.2) (tuple_fails (part_in c.args.at.primes (scope_at c.args.entries.now.items c.args.at.scope) c.args.at.bound c.args.tree.now) c.in_ok-found.found.form c.in-Some.items
+    σ c.args.at.bound c.in_ok-found.found.primes c.args.place c.in_err-look_at_each-in-Some.field-0.0 c.args.at.room c.args.at.left
+    (c.in_ok-found.ensures.same c.args.at.bound) (sym c.tuple_items.ensures ∙ c.in-Some.is) f)
 
 pub kept::kept-returns-in_ok-many-in-Some-clause-same : goal.kept::kept-returns-in_ok-many-in-Some-clause-same
 kept::kept-returns-in_ok-many-in-Some-clause-same t c =
     tuple_gives (part_in c.args.at.primes (scope_at c.args.entries.now.items c.args.at.scope) c.args.at.bound c.args.tree.now) c.in_ok-found.found.form c.in-Some.items
     (scope_at c.find_head.new.entries.items c.in_ok-found.found.scope) c.args.at.bound c.in_ok-found.found.primes c.args.place (map expr_of c.in_ok-many-in-Some.many.parts.items) (expr_of c.kept_core.result) c.in_ok-many-in-Some.many.left c.args.at.room c.args.at.left
-    (c.in_ok-found.ensures.same c.args.at.bound) (sym c.tuple_items.ensures ∙ c.in-Some.is) c.in_ok-many-in-Some.ensures.same c.kept_core.ensures
+    (c.in_ok-found.ensures.same c.args.at.bound) (sym c.tuple_items.ensures ∙ c.in-Some.is) (rw c.in_ok-look_at_each-in-Some.ensures.kept at c.in_ok-many-in-Some.ensures.same) c.kept_core.ensures
 
 pub binding::nested-returns-in_err-inner-clause-same : goal.binding::nested-returns-in_err-inner-clause-same
 binding::nested-returns-in_err-inner-clause-same t c =
