@@ -138,7 +138,7 @@ counts_within =
       };
       next = record { meaning = refl; limits = within _ 5 3 refl refl (omega arith) (omega arith) };
       invariants = (refl, record { meaning = refl; level = refl; limits = within _ 3 2 refl refl (omega arith) (omega arith) }, tt);
-      constraints = (refl, record { meaning = refl; level = refl; limits = within _ 3 2 refl refl (omega arith) (omega arith) }, refl, record { meaning = refl; level = refl; limits = within _ 3 2 refl refl (omega arith) (omega arith) }, refl, record { meaning = refl; level = refl; limits = within _ 3 2 refl refl (omega arith) (omega arith) }, tt);
+      constraints = (refl, record { meaning = refl; level = refl; limits = within _ 3 2 refl refl (omega arith) (omega arith) }, (refl, record { meaning = refl; level = refl; limits = within _ 3 2 refl refl (omega arith) (omega arith) }, (refl, record { meaning = refl; level = refl; limits = within _ 3 2 refl refl (omega arith) (omega arith) }, tt)));
       check_deadlock = refl;
     }
 
