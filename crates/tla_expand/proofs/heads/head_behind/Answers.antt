@@ -30,8 +30,11 @@ loop-turn-preserved c =
       same = λ d. c.loop-turn.invariant.same d ∙ (rw c.in-Goes.is at (same d)) ∙ ap (λ (σ : Scope). with_primes c.in-Goes.more (expand (view c.in-Goes.next.now) σ d)) (sym g.same);
     }
 
-pub give_back-requires : goal.give_back-requires
-give_back-requires c =
+pub give_back-requires-clause-kept : goal.give_back-requires-clause-kept
+give_back-requires-clause-kept c =
     let e = c.in_ok-head.ensures in
     let n = extends_length c.args.entries.now.items c.next_step.new.entries.items (extends_trans c.args.entries.now.items c.loop-turn.entries.items c.next_step.new.entries.items c.loop-turn.invariant.extends e.extends) in
-    (e.linked, (omega (arith, c.requires.mark, n), rw c.in-Goes.is at e.within))
+    omega (arith, c.requires.mark, n)
+
+pub give_back-requires-clause-scope : goal.give_back-requires-clause-scope
+give_back-requires-clause-scope c = let e = c.in_ok-head.ensures in rw c.in-Goes.is at e.within
