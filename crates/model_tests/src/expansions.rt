@@ -453,6 +453,29 @@ fn primed(rt: HostRuntime) -> Result<(), Fail> {
     Ok(())
 }
 
+/// Where no variable may have a prime, and where none may stand.
+#[test]
+fn levels(rt: HostRuntime) -> Result<(), Fail> {
+    let format = Format {
+        alloc: rt.alloc(),
+        places: false,
+    };
+    let rows = [
+        ("A == x = 1", Primes::Forbidden, "(= x 1)"),
+        ("A == 1 = x'", Primes::Forbidden, "none"),
+        ("A == UNCHANGED x", Primes::Forbidden, "none"),
+        ("A == UNCHANGED c", Primes::Forbidden, "(= 7 7)"),
+        ("A == (c + 1)'", Primes::Forbidden, "(+ 7 1)"),
+        ("A == c = 1", Primes::Twice, "(= 7 1)"),
+        ("A == c = x", Primes::Twice, "none"),
+    ];
+    for (text, primes, wanted) in rows {
+        let got = answer(format, text, Way::Body, primes)?;
+        assert_eq!(rt; got.as_str(), wanted);
+    }
+    Ok(())
+}
+
 /// What the name of the last operator means, primed.
 #[test]
 fn names(rt: HostRuntime) -> Result<(), Fail> {
