@@ -19,7 +19,7 @@ use Rattle.tla_names.specs.Constants.{unvalued}
 use Rattle.tla_names.specs.Items.{definitions_of, replaceable_of, nameable_of, replaced_names, items_misused}
 use Rattle.tla_names.specs.Named.{names_misused}
 use Rattle.tla_names.specs.Misuses.{misuse}
-use Rattle.tla_defs.specs.Refused.{Behaviour, Named, Specified, behaviour, behaviour_refused, form_refused, refused, IsLast, IsRefusal, refusal_is, IsOfFormula, is_of_formula}
+use Rattle.tla_defs.specs.Refused.{Behaviour, Named, Specified, behaviour, behaviour_refused, refused, IsLast, IsRefusal, refusal_is, IsOfFormula, is_of_formula}
 use Rattle.tla_names.specs.Refusal.{items_refused, constant_refused, refusal_for}
 
 -- the refusal, if there is one
@@ -84,21 +84,18 @@ placed c.Memory (Some p) x a b d = let z : ⊥ = cc in absurd z
 of_formula : (e : DefsError) → IsOfFormula e → IsLocated e.code e.place e.name
 of_formula e r = placed e.code e.place e.name r.code r.place r.name
 
-of_form : (b : Result Behaviour Place) → Located (form_refused b)
-of_form (Ok (Specified p w)) = one _ refl
-of_form (Ok (Named i n)) = none
-of_form (Err p) = none
+of_last : (us : List UnitTree) (is : List Item) (b : Result Behaviour Place) (e : DefsError) → IsLast us is b e → IsLocated e.code e.place e.name
+of_last us is b e (inr r) = of_formula e r
+of_last us is (Ok (Specified p w)) e (inl r) = rw (sym r.0) refl
+of_last us is (Ok (Named i n)) e (inl r) = absurd r
+of_last us is (Err p) e (inl r) = absurd r
 
-of_last : (form : Option DefsError) → Located form → (e : DefsError) → IsLast form e → IsLocated e.code e.place e.name
-of_last form g e (inl r) = g e r
-of_last form g e (inr r) = of_formula e r
-
-of_refusal : (us : List UnitTree) (is : List Item) (o form : Option DefsError) → Located o → Located form → (e : DefsError) → refusal_is us is o form e → IsLocated e.code e.place e.name
-of_refusal us is (Some d) form h g e r = h e (ap (λ x. Some x) r)
-of_refusal us is None form h g e (inl r) = rw (sym r.refused) refl
-of_refusal us is None form h g e (inr r) = of_last form g e r.1
+of_refusal : (us : List UnitTree) (is : List Item) (o : Option DefsError) (b : Result Behaviour Place) → Located o → (e : DefsError) → refusal_is us is o b e → IsLocated e.code e.place e.name
+of_refusal us is (Some d) b h e r = h e (ap (λ x. Some x) r)
+of_refusal us is None b h e (inl r) = rw (sym r.refused) refl
+of_refusal us is None b h e (inr r) = of_last us is b e r.1
 
 pub refused_located : (us : List UnitTree) (config : ConfigTree) (e : DefsError) → IsRefusal us config e → IsLocated e.code e.place e.name
 refused_located us config e r =
     let named = behaviour config.statements config.end None None in
-    of_refusal us (items_of config.statements) (refused us config) (form_refused named) (of_step us config) (of_form named) e r
+    of_refusal us (items_of config.statements) (refused us config) named (of_step us config) e r

@@ -1,7 +1,9 @@
 -- Why a module and a configuration name no model: the first step that refuses them, and where (this project's own choice).
-use Rattle.std.specs.Prelude.{◌≡◌, ◌⊎◌, Bool, true, false, is_some, List, [], ◌∷◌, Option, Some, None, Result, Ok, Err}
+use Rattle.std.specs.Prelude.{◌≡◌, ◌⊎◌, ℕ, Bool, true, false, is_some, length, List, [], ◌∷◌, Option, Some, None, Result, Ok, Err}
+use Rattle.tla_core.specs.Expr.{Expr}
 use Rattle.tla_lex.specs.declared.token.Place.{Place}
 use Rattle.tla_tree.specs.declared.word.Written.{Written}
+use Rattle.tla_tree.specs.Tree.{Tree}
 use Rattle.tla_tree.specs.Units.{UnitTree}
 use Rattle.tla_config.specs.declared.error.DefsCode.{DefsCode}
 use Rattle.tla_config.specs.declared.error.DefsCode.TheVariants as c
@@ -9,13 +11,17 @@ use Rattle.tla_config.specs.declared.error.DefsError.{DefsError}
 use Rattle.tla_config.specs.declared.error.Source.TheVariants as source
 use Rattle.tla_config.specs.Statements.{Statement, Specification, Init, Next, Invariants, Constraints, Constants, CheckDeadlock, Item, items_of}
 use Rattle.tla_config.specs.View.{ConfigTree}
+use Rattle.tla_expand.specs.Meanings.{Scope}
 use Rattle.tla_names.specs.Maybe.{or_else}
 use Rattle.tla_names.specs.Items.{definitions_of}
-use Rattle.tla_names.specs.Misuses.{misuse}
+use Rattle.tla_names.specs.Misuses.{misuse, variables_of}
 use Rattle.tla_names.specs.Leads.{leads}
 use Rattle.tla_names.specs.Circles.{AreStraight}
 use Rattle.tla_names.specs.Named.{names_misused}
 use Rattle.tla_names.specs.Refusal.{refusal_at, refusal_for, items_refused, IsOfCircle}
+use Rattle.tla_defs.specs.Global.{global}
+use Rattle.tla_defs.specs.Model.{IsInitial}
+use Rattle.tla_defs.specs.Specification.{IsSpecification}
 
 -- What names the behaviour: INIT and NEXT, or SPECIFICATION, at its place.
 pub data Behaviour : Type 0 where
@@ -72,20 +78,24 @@ pub record IsOfFormula (e : DefsError) : Type 0 where
   pub place : is_some e.place ≡ true
   pub name : e.name ≡ None
 
--- the formula that SPECIFICATION names is not of the form
-abbrev pub form_refused : Result Behaviour Place → Option DefsError
-form_refused (Ok (Specified p w)) = Some (refusal_at c.SpecificationForm source.Configuration p)
-form_refused _ = None
+-- No initial predicate of state level and action, within the limits, make up the formula that SPECIFICATION names.
+abbrev pub NoForm : List UnitTree → List Item → Scope → ℕ → Written → Type 0
+NoForm us is σ n w = (i a : Tree) → IsSpecification us is σ n w i a → (x : Expr) → IsInitial σ i x → ⊥
+
+-- SPECIFICATION stands alone, and the formula that it names is not of the form
+abbrev pub IsFormRefused : List UnitTree → List Item → Result Behaviour Place → DefsError → Type 0
+IsFormRefused us is (Ok (Specified p w)) e = (refusal_at c.SpecificationForm source.Configuration p ≡ e) × NoForm us is (global us is) (length (variables_of us)) w
+IsFormRefused us is _ e = ⊥
 
 -- behind all other steps: the form of the specification, or a formula
-abbrev pub IsLast : Option DefsError → DefsError → Type 0
-IsLast form e = (form ≡ Some e) ⊎ IsOfFormula e
+abbrev pub IsLast : List UnitTree → List Item → Result Behaviour Place → DefsError → Type 0
+IsLast us is b e = IsFormRefused us is b e ⊎ IsOfFormula e
 
 -- behind the steps that look at names: an item that leads back to its name, or the last steps
-abbrev pub refusal_is : List UnitTree → List Item → Option DefsError → Option DefsError → DefsError → Type 0
-refusal_is us is (Some r) form e = r ≡ e
-refusal_is us is None form e = IsOfCircle (leads us is) is e ⊎ (AreStraight (leads us is) is × IsLast form e)
+abbrev pub refusal_is : List UnitTree → List Item → Option DefsError → Result Behaviour Place → DefsError → Type 0
+refusal_is us is (Some r) b e = r ≡ e
+refusal_is us is None b e = IsOfCircle (leads us is) is e ⊎ (AreStraight (leads us is) is × IsLast us is b e)
 
 -- The first step that refuses a module and a configuration, or, where none does, the first item that leads back to its name, or else the specification or a formula.
 abbrev pub IsRefusal : List UnitTree → ConfigTree → DefsError → Type 0
-IsRefusal us config e = refusal_is us (items_of config.statements) (refused us config) (form_refused (behaviour config.statements config.end None None)) e
+IsRefusal us config e = refusal_is us (items_of config.statements) (refused us config) (behaviour config.statements config.end None None) e

@@ -254,7 +254,7 @@ fn model<'a>(
     requires variables { variables.now ≡ known.variables_of (map unit_view units.now) }
     requires only { IsOnly (map statement_view statements.now) (behaviour_of behaviour) }
     ensures found { IfOk result (λ m. model.IsModel (map unit_view units.now) (map statement_view statements.now) (model_of m)) }
-    ensures refused { IfErr result (λ e. e.code ≢ Memory → refused.IsLast (refused.form_refused (Ok (behaviour_of behaviour.entry))) e) }
+    ensures refused { IfErr result (λ e. e.code ≢ Memory → refused.IsLast (map unit_view units.now) items.now (Ok (behaviour_of behaviour.entry)) e) }
     ensures none { IfErr result (λ e. e.code ≢ Memory → (m : ModelTree) → model.IsModel (map unit_view units.now) (map statement_view statements.now) m → ⊥) }
 {
     let scopes = global_scope(alloc, units, items)?;

@@ -1,6 +1,6 @@
 //! The initial predicate and the action that a configuration names.
 
-ghost use Rattle.std.specs.Prelude.{◌≡◌, ◌≢◌, Some, Ok, map, IfOk, IfErr};
+ghost use Rattle.std.specs.Prelude.{◌≡◌, ◌≢◌, Some, map, IfOk, IfErr};
 ghost use Rattle.tla_config.specs.declared.error.DefsCode.TheVariants.{Memory};
 ghost use Rattle.tla_core.specs.Expr as expr;
 ghost use Rattle.tla_core.specs.ExprOf.{expr_of};
@@ -13,7 +13,7 @@ ghost use Rattle.tla_tree.specs.View.{view};
 ghost use Rattle.tla_defs.specs.Mentions.{behaviour_of};
 ghost use Rattle.tla_defs.specs.Model as model;
 ghost use Rattle.tla_defs.specs.Refused as refused;
-ghost use Rattle.tla_defs.specs.Specified.{initial_in, initial_tree, action_tree, IsMeant, NoneMeant};
+ghost use Rattle.tla_defs.specs.Specified.{initial_in, initial_tree, action_tree, IsMeant, NoneMeant, form_refused, MayBeLast};
 
 use crate::behaviour::Behaviour;
 use crate::formula::{action, initial, refusal};
@@ -44,7 +44,7 @@ pub(crate) fn meaning<'a>(
     behaviour: Behaviour<'a>,
 ) -> Result<Meant<'a>, DefsError>
     ensures found { IfOk result (λ m. IsMeant (map unit_view units.now) items.now (scope_of scopes.now) variables (behaviour_of behaviour.entry) m) }
-    ensures refused { IfErr result (λ e. e.code ≢ Memory → refused.IsLast (refused.form_refused (Ok (behaviour_of behaviour.entry))) e) }
+    ensures refused { IfErr result (λ e. e.code ≢ Memory → MayBeLast (form_refused (behaviour_of behaviour.entry)) e) }
     ensures none { IfErr result (λ e. e.code ≢ Memory → NoneMeant (map unit_view units.now) items.now (scope_of scopes.now) variables (behaviour_of behaviour.entry)) }
 {
     match behaviour {

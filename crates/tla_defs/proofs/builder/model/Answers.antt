@@ -10,7 +10,7 @@ use Rattle.tla_defs.specs.Mentions.{behaviour_of}
 use Rattle.tla_defs.specs.Specified.{action_tree}
 use Rattle.tla_defs.proofs.Found.{parts_model}
 use Rattle.tla_defs.proofs.Means.{meaning_behaviour, no_meaning}
-use Rattle.tla_defs.proofs.Nones.{no_init, no_next, no_invariants, no_constraints, no_assumptions}
+use Rattle.tla_defs.proofs.Nones.{no_init, no_next, no_invariants, no_constraints, no_assumptions, meaning_refused}
 use Rattle.tla_defs.proofs.Sound.{sound}
 use Rattle.tla_defs.proofs.builder.model.Goals as goal
 
@@ -93,3 +93,12 @@ pub returns-in_err-names-clause-none : goal.returns-in_err-names-clause-none
 returns-in_err-names-clause-none c =
     let e = err_from_is_err_and c.from_residual-in_err-names.result c.from_residual-in_err-names.ensures.1 in
     rw (e.1, e.2) (λ h. absurd (h c.in_err-names.ensures.err))
+
+pub returns-in_err-meant-clause-refused : goal.returns-in_err-meant-clause-refused
+returns-in_err-meant-clause-refused c =
+    let us = map unit_view c.args.units.now in
+    let is = c.args.items.now in
+    let counted = sym (length-map c.words-count.result.now (λ (w : Bor (List ℕ)). w.now)) ∙ ap (λ (xs : List (List ℕ)). length xs) c.words-count.ensures ∙ ap (λ (xs : List (List ℕ)). length xs) c.requires.variables in
+    let e = err_from_is_err_and c.from_residual-in_err-meant.result c.from_residual-in_err-meant.ensures.1 in
+    rw (e.1, e.2) (λ h. meaning_refused us is (scope_of c.in_ok-scopes.scopes) (length c.words-count.result.now) (behaviour_of c.args.behaviour) c.in_err-meant.field-0.0
+    c.in_ok-scopes.ensures.ok counted (c.in_err-meant.ensures.refused h) (c.in_err-meant.ensures.none h))
