@@ -1,18 +1,10 @@
 // Checks of small modules. The reports were worked out by hand.
+use crate::texts::{COUNTER, COUNTER_REPORT, WITH_INVARIANT};
 use std::alloc::Global;
 use std::process::Abort;
 use std::sync::Wait;
 use std::thread::Threads;
 use tla_check::{NoGate, Options, check_and_report};
-
-const COUNTER: &str = "---- MODULE M ----
-EXTENDS Integers
-VARIABLE x
-Init == x = 0
-Next == x' = (x + 1) % 3
-Inv == x < 3
-====
-";
 
 const LINE: &str = "---- MODULE M ----
 EXTENDS Integers
@@ -24,11 +16,6 @@ Next == x < 2 /\\ x' = x + 1
 
 const PLAIN: &str = "INIT Init
 NEXT Next
-";
-
-const WITH_INVARIANT: &str = "INIT Init
-NEXT Next
-INVARIANT Inv
 ";
 
 const WITHOUT_DEADLOCK: &str = "INIT Init
@@ -65,15 +52,20 @@ fn assert_check<R: Abort + Threads + Wait + Sync>(
 #[test]
 fn answers(rt: HostRuntime) {
     let alloc = rt.alloc();
-    let report = "No error.\nLevels 3, states 3.\n";
-    assert_check(&rt, alloc, (COUNTER, WITH_INVARIANT), 100, 0, report);
+    assert_check(
+        &rt,
+        alloc,
+        (COUNTER, WITH_INVARIANT),
+        100,
+        0,
+        COUNTER_REPORT,
+    );
     let report = "State limit 2 passed.\nLevels 2, states 2.\n";
     assert_check(&rt, alloc, (COUNTER, WITH_INVARIANT), 2, 14, report);
     let report =
         "Deadlock.\nState 1:\n/\\ x = 0\nState 2:\n/\\ x = 1\nState 3:\n/\\ x = 2\nLevels 3, states 3.\n";
     assert_check(&rt, alloc, (LINE, PLAIN), 100, 11, report);
-    let report = "No error.\nLevels 3, states 3.\n";
-    assert_check(&rt, alloc, (LINE, WITHOUT_DEADLOCK), 100, 0, report);
+    assert_check(&rt, alloc, (LINE, WITHOUT_DEADLOCK), 100, 0, COUNTER_REPORT);
 }
 
 #[test]

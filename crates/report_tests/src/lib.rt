@@ -15,3 +15,5 @@ mod line;
 mod report;
 #[cfg(test)]
 mod search_options;
+#[cfg(test)]
+mod texts;

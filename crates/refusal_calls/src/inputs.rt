@@ -1,0 +1,69 @@
+//! What calls are made on.
+
+use crate::refusal::Refusal;
+use crate::subject::Pieces;
+use std::alloc::{AllocError, Global};
+use tla_core::Core;
+use tla_defs::{build, parse_config};
+use tla_lex::tokens;
+use tla_model::Model;
+use tla_parse::parse_module;
+use tla_value::{SetValue, Value};
+
+/// How deep sets stand in one another, at most.
+const NESTING: u64 = 64;
+
+/// These numbers, in a list without room for more.
+pub fn numbers(alloc: Global, list: &[i64]) -> Result<Vec<Value>, AllocError> {
+    let mut values = Vec::with_capacity(alloc, list.len())?;
+    for number in list {
+        values.push(Value::Int(*number))?;
+    }
+    Ok(values)
+}
+
+/// The deepest value: 1 in a set, in a set, and so on.
+pub fn deepest(alloc: Global) -> Result<Value, Refusal> {
+    let mut value = Value::Int(1);
+    for _ in 0..NESTING {
+        let mut values = Vec::new(alloc);
+        values.push(value)?;
+        value = Value::Set(SetValue::from_values(values)?);
+    }
+    Ok(value)
+}
+
+fn push_pieces(text: &mut String, pieces: Pieces) -> Result<(), AllocError> {
+    for (piece, times) in pieces {
+        for _ in 0..*times {
+            text.push_str(piece)?;
+        }
+    }
+    Ok(())
+}
+
+/// A module of six states on three levels, of which the last two have no step. It assumes the formula of 7.
+fn module(alloc: Global, formula: Pieces) -> Result<String, AllocError> {
+    let mut text = String::new(alloc);
+    text.push_str("---- MODULE M ----\nEXTENDS Integers\nVARIABLE x\nASSUME \\A b \\in {7} : ")?;
+    push_pieces(&mut text, formula)?;
+    text.push_str("\nInit == x \\in {0, 1}\nNext == x < 4 /\\ x' \\in {x + 1, x + 2}\n====\n")?;
+    Ok(text)
+}
+
+/// The model of a module that assumes this formula.
+pub fn model(alloc: Global, formula: Pieces) -> Result<Model, Refusal> {
+    let text = module(alloc, formula)?;
+    let tokens = tokens(alloc, text.as_bytes())?;
+    let tree = parse_module(alloc, text.as_bytes(), &tokens)?;
+    let configuration = parse_config(alloc, b"INIT Init\nNEXT Next\n")?;
+    Ok(build(alloc, &tree, &configuration)?)
+}
+
+/// The formula that a model assumes of each number of a set; of another model its initial predicate.
+pub fn formula(model: &Model) -> &Core {
+    match model.assumptions().first() {
+        Some(Core::ForAll(_, _, body)) => body,
+        _ => model.init(),
+    }
+}

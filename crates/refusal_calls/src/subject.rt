@@ -1,0 +1,65 @@
+//! The calls by their names, and what each is made on.
+
+use crate::call::Call;
+
+/// Pieces of a text, each with how often it stands there.
+pub type Pieces = &'static [(&'static str, u64)];
+
+/// A call, and the formula that the module assumes of b, which is 7.
+#[derive(Clone, Copy)]
+pub struct Subject {
+    pub call: Call,
+    pub formula: Pieces,
+}
+
+const TRUE: Pieces = &[("TRUE", 1)];
+
+/// Each call by its name. One that is refused has the name of its code.
+const SUBJECTS: [(&str, Call, Pieces); 22] = [
+    ("insert", Call::Insert, TRUE),
+    ("V1", Call::Power, TRUE),
+    ("V2", Call::InsertDeep, TRUE),
+    ("eval", Call::Evaluate, &[("{b + i : i \\in 1..3}", 1)]),
+    (
+        "member",
+        Call::Member,
+        &[("{b} \\cup {i + 1 : i \\in 1..7}", 1)],
+    ),
+    ("E2", Call::Evaluate, &[("{b, b + 9223372036854775807}", 1)]),
+    ("E3", Call::Evaluate, &[("<<b, 1 \\div 0>>", 1)]),
+    ("E10", Call::Evaluate, &[("SUBSET (1..20)", 1)]),
+    ("E11", Call::Evaluate, &[("{", 65), ("b", 1), ("}", 65)]),
+    ("initials", Call::Initials, TRUE),
+    ("successors", Call::Successors, TRUE),
+    ("search", Call::Search(1), TRUE),
+    ("search_by_two", Call::Search(2), TRUE),
+    ("limit", Call::SearchOfTwo, TRUE),
+    ("build", Call::Build, TRUE),
+    ("L2", Call::Build, &[("b ? b", 1)]),
+    ("L5", Call::Build, &[("9223372036854775808", 1)]),
+    ("P1", Call::Build, &[("b +", 1)]),
+    ("P4", Call::Build, &[("(", 200), ("TRUE", 1), (")", 200)]),
+    ("C1", Call::Configure, TRUE),
+    ("C2", Call::Build, &[("b = d", 1)]),
+    (
+        "C11",
+        Call::Build,
+        &[
+            ("LET half == ", 1),
+            ("~ ", 150),
+            ("TRUE IN ", 1),
+            ("~ ", 150),
+            ("half", 1),
+        ],
+    ),
+];
+
+/// The subject of this name.
+pub fn subject_of(name: &str) -> Option<Subject> {
+    for (known, call, formula) in SUBJECTS {
+        if known == name {
+            return Some(Subject { call, formula });
+        }
+    }
+    None
+}
