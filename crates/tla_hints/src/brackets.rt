@@ -1,5 +1,6 @@
 //! Brackets that are open.
 
+use crate::places::is_before;
 use std::alloc::{AllocError, Global};
 use tla_lex::{Kind, Place, Token};
 
@@ -42,11 +43,6 @@ pub fn closing_of(kind: Kind) -> Option<&'static str> {
         Kind::Let => Some("IN"),
         _ => None,
     }
-}
-
-/// Whether a place comes before another.
-fn is_before(place: Place, other: Place) -> bool {
-    place.line < other.line || (place.line == other.line && place.column < other.column)
 }
 
 /// The last of the tokens before a place that opens what none of the tokens before that place closes. The only error is want

@@ -7,6 +7,7 @@ mod columns;
 mod lines;
 mod modules;
 mod names;
+mod places;
 mod statements;
 mod words;
 
@@ -15,6 +16,7 @@ pub use columns::{blanks, front};
 pub use lines::line_of;
 pub use modules::module_with;
 pub use names::{Near, nearest};
+pub use places::is_before;
 pub use statements::STATEMENTS;
 pub use words::word_of;
 
