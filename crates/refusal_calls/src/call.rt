@@ -1,9 +1,10 @@
 //! The calls.
+ghost use Rattle.std.specs.Prelude.{◌≡◌, length, IfOk};
 
 use crate::inputs::{deepest, formula, model, numbers};
 use crate::refusal::Refusal;
-use crate::subject::Subject;
-use std::alloc::Global;
+use crate::subject::{Pieces, Subject};
+use std::alloc::{AllocError, Global};
 use std::sync::Wait;
 use std::thread::Threads;
 use tla_defs::parse_config;
@@ -40,6 +41,8 @@ pub enum Answer {
     Configuration,
     Model,
     Found(tla_search::Answer),
+    /// None, since no call was made.
+    Nothing,
 }
 
 /// A call that was made: what it was lent to change, before and after, and its answer.
@@ -87,6 +90,11 @@ fn configured(alloc: Global) -> Made {
     unlent(alloc, answer.map(|_| Answer::Configuration))
 }
 
+/// The model of a module that assumes this formula.
+fn built(alloc: Global, formula: Pieces) -> Made {
+    unlent(alloc, model(alloc, formula).map(|_| Answer::Model))
+}
+
 /// The value of the formula where b is 7.
 fn evaluated(alloc: Global, model: &Model) -> Result<Made, Refusal> {
     let nothing = Partial::unset(alloc, 0)?;
@@ -119,14 +127,23 @@ fn begun(alloc: Global, model: &Model) -> Made {
     unlent(alloc, initials(alloc, model).map(Answer::States))
 }
 
-/// The successors of the state in which each variable is 0.
-fn followed(alloc: Global, model: &Model) -> Result<Made, Refusal> {
+/// The state of one variable in which it is 0.
+fn zero(alloc: Global) -> Result<State, AllocError>
+    ensures { IfOk result (λ s. length s ≡ 1) }
+{
     let mut values = Vec::new(alloc);
-    for _variable in model.variables() {
-        values.push(Value::Int(0))?;
+    values.push(Value::Int(0))?;
+    Ok(State::new(values))
+}
+
+/// The successors of the state in which the one variable is 0.
+fn followed(alloc: Global, model: &Model) -> Result<Made, Refusal> {
+    let state = zero(alloc)?;
+    if model.variables().len() != 1 {
+        return Ok(unlent(alloc, Ok::<Answer, Refusal>(Answer::Nothing)));
     }
-    let state = State::new(values);
-    Ok(unlent(alloc, successors(alloc, model, &state).map(Answer::States)))
+    let answer = successors(alloc, model, &state);
+    Ok(unlent(alloc, answer.map(Answer::States)))
 }
 
 /// The answer of a search in pieces of one state.
@@ -138,7 +155,7 @@ fn searched<R: Threads + Wait + Sync>(
     limit: u64,
 ) -> Made {
     let Some(options) = Options::new(workers, 1, limit) else {
-        return unlent(alloc, Ok::<Answer, Refusal>(Answer::Model));
+        return unlent(alloc, Ok::<Answer, Refusal>(Answer::Nothing));
     };
     let answer = search(rt, alloc, model, &options, &NoGate);
     unlent(alloc, answer.map(Answer::Found))
@@ -150,18 +167,23 @@ pub fn make<R: AllocGlobal + Threads + Wait + Sync>(
     subject: Subject,
 ) -> Result<Made, Refusal> {
     let alloc = rt.alloc();
-    let model = || model(alloc, subject.formula);
     match subject.call {
         Call::Insert => inserted(alloc, Value::Int(2)),
         Call::InsertDeep => inserted(alloc, deepest(alloc)?),
         Call::Power => power(alloc),
         Call::Configure => Ok(configured(alloc)),
-        Call::Build => Ok(unlent(alloc, model().map(|_| Answer::Model))),
-        Call::Evaluate => evaluated(alloc, &model()?),
-        Call::Member => tested(alloc, &model()?),
-        Call::Initials => Ok(begun(alloc, &model()?)),
-        Call::Successors => followed(alloc, &model()?),
-        Call::Search(workers) => Ok(searched(rt, alloc, &model()?, workers, 100)),
-        Call::SearchOfTwo => Ok(searched(rt, alloc, &model()?, 2, 2)),
+        Call::Build => Ok(built(alloc, subject.formula)),
+        Call::Evaluate => evaluated(alloc, &model(alloc, subject.formula)?),
+        Call::Member => tested(alloc, &model(alloc, subject.formula)?),
+        Call::Initials => Ok(begun(alloc, &model(alloc, subject.formula)?)),
+        Call::Successors => followed(alloc, &model(alloc, subject.formula)?),
+        Call::Search(workers) => Ok(searched(
+            rt,
+            alloc,
+            &model(alloc, subject.formula)?,
+            workers,
+            100,
+        )),
+        Call::SearchOfTwo => Ok(searched(rt, alloc, &model(alloc, subject.formula)?, 2, 2)),
     }
 }

@@ -59,6 +59,7 @@ fn put_answer<W: Write>(out: &mut W, answer: &Answer) -> io::Result<()> {
         Answer::States(states) => put_states(out, states),
         Answer::Configuration => out.write_all(b" a configuration"),
         Answer::Model => out.write_all(b" a model"),
+        Answer::Nothing => out.write_all(b" nothing"),
         Answer::Found(answer) => put_found(out, answer),
     }
 }
