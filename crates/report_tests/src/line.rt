@@ -115,6 +115,10 @@ Example:
   tlacheck Jugs.tla Jugs.cfg --workers 4
 ";
 
+const BAD_NUMBER: &str = "tlacheck: bad number
+hint: --workers takes 1 to 64, --cut 1 to 65536, --max-states 1 to 16777216
+";
+
 #[test]
 fn tells_faults(rt: HostRuntime) -> Result<(), Fail> {
     let (text, is_help) = fault(rt.alloc(), &["tlacheck", "M.tla"])?;
@@ -124,7 +128,7 @@ fn tells_faults(rt: HostRuntime) -> Result<(), Fail> {
     let (text, is_help) = fault(rt.alloc(), &["tlacheck", "M", "-V"])?;
     assert!(rt; text.as_str() == "tlacheck 0.1.0\n" && is_help);
     let (text, is_help) = fault(rt.alloc(), &["tlacheck", "M", "C", "--cut", "0"])?;
-    assert!(rt; text.as_str() == "tlacheck: bad number\n" && !is_help);
+    assert!(rt; text.as_str() == BAD_NUMBER && !is_help);
     let memory = format!(in rt.alloc(); "{}", LineFault::Memory)?;
     assert!(rt; memory.as_str() == "tlacheck: out of memory\n");
     Ok(())

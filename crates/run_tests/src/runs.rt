@@ -6,21 +6,22 @@ use std::process::Abort;
 use std::sync::Wait;
 use std::test::Fail;
 use std::thread::Threads;
-use tla_run::{Checked, Host, Line, run};
+use tla_run::{Checked, Host, Line, NoGate, run};
 
-// A file of memory, one whose reading fails, and one without an end.
+// A file of memory, one whose reading fails, one without an end, and one that is a folder.
 #[derive(Clone, Copy)]
 enum Source<'a> {
     Text(&'a [u8]),
     Broken,
     Endless,
+    Folder,
 }
 
 impl Read for Source<'_> {
     fn read(&mut self, buf: &mut [u8]) -> io::Result<usize> {
         match self {
             Source::Text(rest) => rest.read(buf),
-            Source::Broken => Err(io::Error::from(ErrorKind::Other)),
+            Source::Broken | Source::Folder => Err(io::Error::from(ErrorKind::Other)),
             Source::Endless => Ok(buf.len().min(1)),
         }
     }
@@ -35,13 +36,18 @@ struct Memory<'a> {
 impl<'a> Host for Memory<'a> {
     type File = Source<'a>;
 
+    type Gate = NoGate;
+
     fn open(&self, name: &str) -> io::Result<Source<'a>> {
-        for (known, source) in self.files {
-            if *known == name {
-                return Ok(*source);
-            }
+        match self.files.iter().find(|file| file.0 == name) {
+            Some((_, Source::Folder)) => Err(io::Error::from(ErrorKind::IsADirectory)),
+            Some((_, source)) => Ok(*source),
+            None => Err(io::Error::from(ErrorKind::NotFound)),
         }
-        Err(io::Error::from(ErrorKind::NotFound))
+    }
+
+    fn gate(&self, _line: &Line<'_>) -> NoGate {
+        NoGate
     }
 
     fn explain<E: Write>(
@@ -114,7 +120,7 @@ NEXT Next
 PROPERTY Live
 ";
 
-static FILES: [(&str, Source<'static>); 11] = [
+static FILES: [(&str, Source<'static>); 12] = [
     ("M.tla", Source::Text(COUNTER)),
     ("M.cfg", Source::Text(INVARIANT)),
     ("Chain.tla", Source::Text(CHAIN)),
@@ -126,6 +132,7 @@ static FILES: [(&str, Source<'static>); 11] = [
     ("Broken.tla", Source::Broken),
     ("Endless.cfg", Source::Endless),
     ("Lonely.tla", Source::Text(COUNTER)),
+    ("Folder.tla", Source::Folder),
 ];
 
 // What a run on these words does: its status, and what went to its two writers.
@@ -207,39 +214,49 @@ fn finds_the_configuration(rt: HostRuntime) {
     assert_run(&rt, alloc, &["tlacheck", "M.tla"], 0, report, told);
     let words = ["tlacheck", "--workers", "2", "--", "M.tla"];
     assert_run(&rt, alloc, &words, 0, report, told);
-    let told = "tlacheck: cannot read Lonely.cfg\n";
+    let told = "tlacheck: cannot read Lonely.cfg\ncause: there is no such file\n";
     assert_run(&rt, alloc, &["tlacheck", "Lonely.tla"], 21, "", told);
 }
 
 #[test]
 fn tells_what_keeps_it(rt: HostRuntime) {
     let alloc = rt.alloc();
-    let told = "tlacheck: cannot read N.tla\n";
+    let told = "tlacheck: cannot read N.tla\ncause: there is no such file\n";
     assert_run(&rt, alloc, &["tlacheck", "N.tla", "N.cfg"], 21, "", told);
-    let told = "tlacheck: cannot read N.cfg\n";
+    let told = "tlacheck: cannot read N.cfg\ncause: there is no such file\n";
     let words = ["tlacheck", "M.tla", "N.cfg", "--quiet"];
     assert_run(&rt, alloc, &words, 21, "", told);
-    let told = "tlacheck: cannot read Broken.tla\n";
-    assert_run(
-        &rt,
-        alloc,
-        &["tlacheck", "Broken.tla", "M.cfg"],
-        21,
-        "",
-        told,
-    );
-    let told = "tlacheck: cannot read Endless.cfg\n";
-    assert_run(
-        &rt,
-        alloc,
-        &["tlacheck", "M.tla", "Endless.cfg"],
-        21,
-        "",
-        told,
-    );
-    let told = "tlacheck: bad number\n";
-    let words = ["tlacheck", "M.tla", "M.cfg", "--workers", "0"];
+    let told = "tlacheck: cannot read Folder.tla\ncause: it is a folder\n";
+    let words = ["tlacheck", "Folder.tla", "M.cfg"];
     assert_run(&rt, alloc, &words, 21, "", told);
+    let told = "tlacheck: cannot read Broken.tla\ncause: it can't be opened, or a read failed\n";
+    let words = ["tlacheck", "Broken.tla", "M.cfg"];
+    assert_run(&rt, alloc, &words, 21, "", told);
+    let told = "tlacheck: cannot read Endless.cfg\ncause: no end within 1000000 reads\n";
+    let words = ["tlacheck", "M.tla", "Endless.cfg"];
+    assert_run(&rt, alloc, &words, 21, "", told);
+}
+
+const UNKNOWN_OPTION: &str = "error: unexpected argument '--depth' found
+
+  tip: to pass '--depth' as a value, use '-- --depth'
+
+Usage: tlacheck [OPTIONS] <MODULE> [CONFIG]
+
+For more information, try '--help'.
+";
+
+const BAD_NUMBER: &str = "tlacheck: bad number
+hint: --workers takes 1 to 64, --cut 1 to 65536, --max-states 1 to 16777216
+";
+
+#[test]
+fn tells_wrong_options(rt: HostRuntime) {
+    let alloc = rt.alloc();
+    let words = ["tlacheck", "M.tla", "M.cfg", "--depth"];
+    assert_run(&rt, alloc, &words, 21, "", UNKNOWN_OPTION);
+    let words = ["tlacheck", "M.tla", "M.cfg", "--workers", "0"];
+    assert_run(&rt, alloc, &words, 21, "", BAD_NUMBER);
 }
 
 // A writer with room for so many bytes.
@@ -290,9 +307,7 @@ fn helps(rt: HostRuntime) -> Result<(), Fail> {
     assert_run(&rt, alloc, &words, 0, "tlacheck 0.1.0\n", "");
     let (status, out, err) = outcome(&rt, alloc, &["tlacheck", "--help"])?;
     assert!(rt; status == 0 && out.starts_with(b"Checks a TLA+ module") && err.is_empty());
-    let words = ["tlacheck", "M.tla", "M.cfg", "--depth"];
-    let (status, out, err) = outcome(&rt, alloc, &words)?;
-    assert!(rt; status == 21 && out.is_empty() && err.starts_with(b"error: unexpected argument"));
+    assert!(rt; out.ends_with(b" --workers 4\n"));
     let (status, out, err) = outcome(&rt, alloc, &["tlacheck", "M", "--cut", "2"])?;
     assert!(rt; status == 21 && out.is_empty() && err.starts_with(b"error: the following"));
     Ok(())

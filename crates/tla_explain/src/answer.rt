@@ -23,7 +23,8 @@ pub(crate) fn tell(
             let text = format!(in page.alloc();
                 "more than {limit} states: --max-states takes 1 to 16777216"
             )?;
-            page.line(&[text.as_str()])
+            page.line(&[text.as_str()])?;
+            page.hint(&["where a variable grows without end, bound it by a CONSTRAINT"])
         }
         _ => match rebuild(page.alloc(), sources) {
             Some(rebuilt) => {

@@ -255,9 +255,9 @@ pub static CODES: [CodeText; 42] = [
     },
     CodeText {
         code: "E15",
-        rule: "A variable is left without a next value.",
+        rule: "A variable is left without a value.",
         example: "`VARIABLES x, y`, `Init == x = 0 /\\ y = 0`, `Next == x' = x` → `Fault E15 for variable y in the next-state action.`",
-        cure: "Add `UNCHANGED y`.",
+        cure: "In Next add `UNCHANGED y`, in Init `y = ..` or `y \\in ..`.",
     },
     CodeText {
         code: "E16",

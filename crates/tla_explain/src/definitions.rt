@@ -1,7 +1,8 @@
 //! The definitions of a module.
 
-use crate::places::{is_before, word};
+use crate::places::word;
 use std::alloc::{AllocError, Global};
+use tla_hints::is_before;
 use tla_lex::{Kind, Place, Token};
 use tla_tree::{Definition, Unit, Written};
 

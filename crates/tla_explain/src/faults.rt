@@ -90,7 +90,7 @@ fn code_title(code: FaultCode) -> &'static str {
         FaultCode::EmptySequence => "Head or Tail of the empty sequence",
         FaultCode::NotSet => "a next value is used before it is set",
         FaultCode::AssertFalse => "Assert is FALSE",
-        FaultCode::Lacking => "a variable is left without a next value",
+        FaultCode::Lacking => "a variable is left without a value",
         FaultCode::Memory => "out of memory",
     }
 }

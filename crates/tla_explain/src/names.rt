@@ -1,8 +1,8 @@
 //! The name that was probably meant.
 
-use crate::places::{is_before, word};
+use crate::places::word;
 use std::alloc::{AllocError, Global};
-use tla_hints::nearest;
+use tla_hints::{is_before, nearest};
 use tla_lex::{Kind, Place, Token};
 
 /// The longest name to which a nearest one is looked for.

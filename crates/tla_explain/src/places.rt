@@ -65,11 +65,6 @@ pub(crate) fn core_place(place: Place) -> tla_core::Place {
     }
 }
 
-/// Whether a place comes before another.
-pub(crate) fn is_before(place: Place, other: Place) -> bool {
-    place.line < other.line || (place.line == other.line && place.column < other.column)
-}
-
 /// The text of a token.
 pub(crate) fn word<'a>(text: &'a [u8], token: &Token) -> &'a str {
     let bytes = text.get(token.start..token.end).unwrap_or(&[]);

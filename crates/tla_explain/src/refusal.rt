@@ -2,11 +2,11 @@
 
 use crate::names::{meant, names_before};
 use crate::page::Page;
-use crate::places::{Sources, first_place, is_before, source_text, token_place, tokens_of, word};
+use crate::places::{Sources, first_place, source_text, token_place, tokens_of, word};
 use crate::refusal_text::{code_of, title_of};
 use std::alloc::AllocError;
 use tla_check::{Refusal, RefusalCode, Source};
-use tla_hints::{STATEMENTS, closing_of, innermost_open, module_with};
+use tla_hints::{STATEMENTS, closing_of, innermost_open, is_before, module_with};
 use tla_lex::{Place, Token};
 
 /// Tells a refusal.

@@ -46,7 +46,7 @@ pub(crate) fn title_of(code: RefusalCode) -> &'static str {
         RefusalCode::LeftOfJunction => "left of its bullet, where the item must go on",
         RefusalCode::NestedTooDeep => "an expression is nested too deep",
         RefusalCode::FormLeftOut => "a form that is left out of the language:",
-        RefusalCode::ConfigurationText => "no statement of a configuration",
+        RefusalCode::ConfigurationText => "this can't stand here in a configuration",
         RefusalCode::UnknownName => "unknown name",
         RefusalCode::DefinedTwice => "this name is brought in already:",
         RefusalCode::ArgumentCount => "wrong number of arguments of",

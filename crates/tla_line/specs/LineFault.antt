@@ -33,8 +33,8 @@ abbrev pub IsHelp : LineFault → Type 0
 IsHelp (Refused e) = (kind_of e ≡ DisplayHelp) ⊎ (kind_of e ≡ DisplayVersion)
 IsHelp _ = ⊥
 
--- the text that the user sees, a line; of the texts of `clap` nothing is said
+-- the text that the user sees, with its line feeds; of the texts of `clap` nothing is said
 abbrev pub text_of_fault : LineFault → Option Text
 text_of_fault (Refused e) = None
-text_of_fault Number = Some (codes "tlacheck: bad number" ++ 10 ∷ [])
+text_of_fault Number = Some (codes "tlacheck: bad number\n" ++ codes "hint: --workers takes 1 to 64, --cut 1 to 65536, --max-states 1 to 16777216\n")
 text_of_fault Memory = Some (codes "tlacheck: out of memory" ++ 10 ∷ [])

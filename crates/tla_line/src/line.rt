@@ -31,6 +31,11 @@ const STATUSES: &str = "Exit statuses:
 Example:
   tlacheck Jugs.tla Jugs.cfg --workers 4";
 
+/// What is told of a number that is none, or outside its limits.
+const BAD_NUMBER: &str = "tlacheck: bad number
+hint: --workers takes 1 to 64, --cut 1 to 65536, --max-states 1 to 16777216
+";
+
 /// What the words of a call name.
 #[derive(Clone, Copy, Debug, PartialEq, Eq)]
 pub struct Line<'a> {
@@ -72,7 +77,7 @@ impl LineFault {
     {
         match self {
             LineFault::Refused(_) => None,
-            LineFault::Number => Some("tlacheck: bad number\n"),
+            LineFault::Number => Some(BAD_NUMBER),
             LineFault::Memory => Some("tlacheck: out of memory\n"),
         }
     }
@@ -97,8 +102,7 @@ impl fmt::Display for LineFault {
     fn fmt<W: fmt::Write>(&self, f: &mut fmt::Formatter<W>) -> fmt::Result {
         match self {
             LineFault::Refused(error) => write!(f, "{error}"),
-            LineFault::Number => f.write_str("tlacheck: bad number\n"),
-            LineFault::Memory => f.write_str("tlacheck: out of memory\n"),
+            LineFault::Number | LineFault::Memory => f.write_str(self.own_text().unwrap_or("")),
         }
     }
 }

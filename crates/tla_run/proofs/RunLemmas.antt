@@ -1,8 +1,8 @@
 -- What the functions of a run cite.
-use Rattle.std.proofs.Common.{◌≡◌, ◌∙◌, ◌+◌, ◌<◌, ◌++◌, ap, sym, subst, refl, ℕ, Bool, true, false, List, [], ◌∷◌, Option, length, map, take, get_or}
+use Rattle.std.proofs.Common.{◌≡◌, ◌∙◌, ◌+◌, ◌<◌, ◌++◌, ap, sym, subst, ℕ, Bool, true, false, List, [], ◌∷◌, Option, length, map, take, get_or}
 use Rattle.std.specs.Prelude.{Result, Ok, Err, IfErr, OnOk}
 use Rattle.std.specs.Result.{is_err}
-use Rattle.std.proofs.lemmas.List.{take_more}
+use Rattle.std.proofs.lemmas.List.{map-append, take_more}
 use Rattle.counted_writer.specs.declared.ShortWrite.{ShortWrite}
 use Rattle.counted_writer.specs.Puts.{Puts}
 use Rattle.std.specs.Borrow.{Bor}
@@ -57,27 +57,23 @@ pub means_beside : (words longer : List Text) (fault : LineFault) (line : Line) 
 means_beside words longer fault line name fits lacks same config lies names =
     beside (word_missing words fault fits lacks) lies (subst (λ ws. NamesLine ws line) (same ∙ ap (λ n. words ++ n ∷ []) (sym config)) names)
 
-map_append : {A : Type 0} (f : A → List ℕ) (xs : List A) (x : A) → map f (xs ++ x ∷ []) ≡ map f xs ++ f x ∷ []
-map_append f [] x = refl
-map_append f (y ∷ xs) x = ap (λ ns. f y ∷ ns) (map_append f xs x)
-
 map_more : {A : Type 0} (f : A → List ℕ) (xs : List A) (i : ℕ) (x : A) → i < length xs → x ≡ get_or xs i x
     → map f (take (i + 1) xs) ≡ map f (take i xs) ++ f x ∷ []
 map_more f xs i x l is =
-    ap (map f) (take_more xs i x l) ∙ map_append f (take i xs) (get_or xs i x) ∙ ap (λ y. map f (take i xs) ++ f y ∷ []) (sym is)
+    ap (map f) (take_more xs i x l) ∙ map-append f (take i xs) (get_or xs i x ∷ []) ∙ ap (λ y. map f (take i xs) ++ f y ∷ []) (sym is)
 
 -- the texts of one word more
 pub texts_more : {A B : Type 0} (f : A → List ℕ) (t : B → List ℕ) (words : List A) (list longer : List B) (i : ℕ) (word : A) (x : B)
     → map t list ≡ map f (take i words) → longer ≡ list ++ x ∷ [] → t x ≡ f word → i < length words → word ≡ get_or words i word
     → map t longer ≡ map f (take (i + 1) words)
 texts_more f t words list longer i word x before pushed same l is =
-    ap (map t) pushed ∙ map_append t list x ∙ ap (λ ts. ts ++ t x ∷ []) before ∙ ap (λ y. map f (take i words) ++ y ∷ []) same
+    ap (map t) pushed ∙ map-append t list (x ∷ []) ∙ ap (λ ts. ts ++ t x ∷ []) before ∙ ap (λ y. map f (take i words) ++ y ∷ []) same
     ∙ sym (map_more f words i word l is)
 
 -- the texts with one more behind them
 pub texts_with : {B : Type 0} (t : B → List ℕ) (words : List (List ℕ)) (list longer : List B) (x : B) → map t list ≡ words → longer ≡ list ++ x ∷ []
     → map t longer ≡ words ++ t x ∷ []
-texts_with t words list longer x before pushed = ap (map t) pushed ∙ map_append t list x ∙ ap (λ ts. ts ++ t x ∷ []) before
+texts_with t words list longer x before pushed = ap (map t) pushed ∙ map-append t list (x ∷ []) ∙ ap (λ ts. ts ++ t x ∷ []) before
 
 -- a fault of the texts of words is one of the words
 pub fault_of_texts : (words : List Text) (slice items : List (Bor Text)) (fault : LineFault) → slice ≡ items → texts items ≡ words

@@ -1,5 +1,5 @@
 -- What a run of the program does: what it writes, and the status with which it ends. (This project's own choice.)
-use Rattle.std.specs.Prelude.{◌≡◌, ◌⊎◌, ℕ, List, ◌++◌, Option, codes, take, IfSome}
+use Rattle.std.specs.Prelude.{◌≡◌, ◌⊎◌, ℕ, List, Option, take, IfSome}
 use Rattle.std.specs.Io.KnownBytes.{Appends}
 use Rattle.counted_writer.specs.Puts.{AddsFirst}
 use Rattle.clap.specs.Words.{Text}
@@ -11,6 +11,8 @@ use Rattle.tla_check.specs.declared.checked.Checked.{Checked}
 use Rattle.tla_check.specs.Checks.{IsChecked}
 use Rattle.tla_check.specs.Report.{report}
 use Rattle.tla_check.specs.Status.{status_of}
+use Rattle.tla_run.specs.declared.unread.Unread.{Unread}
+use Rattle.tla_run.specs.Unread.{unread_text}
 
 -- the bytes that a writer has before and after a run, where they are known
 pub record Writing : Type 0 where
@@ -37,9 +39,6 @@ Files = Text → Option (List ℕ)
 abbrev pub Holds : Files → Text → List ℕ → Type 0
 Holds files name bytes = IfSome (files name) (λ known. bytes ≡ known)
 
-abbrev pub unread_text : Text → List ℕ
-unread_text name = codes "tlacheck: cannot read " ++ name ++ codes "\n"
-
 -- what is right of the two files of a line
 pub record IsCheckOf (files : Files) (line : Line) (checked : Checked) : Type 0 where
   pub text : List ℕ
@@ -56,8 +55,8 @@ pub data ComesTo (files : Files) (line : Line) (out err : Writing) (status : ℕ
   cut_short : (checked : Checked) (written : ℕ) → IsCheckOf files line checked → AddsFirst out.old out.new (report checked) written
       → GetsNothing err → status ≡ 21 → ComesTo files line out err status
   -- one of the two files could not be read
-  unread : (name : Text) → (name ≡ line.module.now) ⊎ (name ≡ line.config.now) → GetsNothing out → GetsUpTo err (unread_text name)
-      → status ≡ 21 → ComesTo files line out err status
+  unread : (name : Text) (cause : Unread) → (name ≡ line.module.now) ⊎ (name ≡ line.config.now) → GetsNothing out
+      → GetsUpTo err (unread_text name cause) → status ≡ 21 → ComesTo files line out err status
 
 -- what a run on these words comes to
 pub data IsRun (words : List Text) (files : Files) (out err : Writing) (status : ℕ) : Type 0 where

@@ -25,10 +25,13 @@ pub fn is_beside(line: &Line<'_>, name: &str) -> bool
 }
 
 /// Whether the two are NAME.tla and NAME.cfg.
-fn lies_beside(module: &str, config: &str) -> bool
-    ensures { IsTrue result → LiesBeside «module».now config.now }
+fn lies_beside(module_file: &str, config_file: &str) -> bool
+    ensures { IsTrue result → LiesBeside module_file.now config_file.now }
 {
-    match (module.strip_suffix(".tla"), config.strip_suffix(".cfg")) {
+    match (
+        module_file.strip_suffix(".tla"),
+        config_file.strip_suffix(".cfg"),
+    ) {
         (Some(name), Some(other)) => name == other,
         _ => false,
     }

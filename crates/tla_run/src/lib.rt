@@ -5,8 +5,10 @@ mod beside;
 mod host;
 mod process;
 mod running;
+mod unread;
 
 pub use host::Host;
 pub use process::run_process;
 pub use running::run;
-pub use tla_check::{Checked, Line, LineFault};
+pub use tla_check::{Checked, Gate, Line, LineFault, NoGate};
+pub use unread::Unread;

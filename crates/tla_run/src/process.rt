@@ -4,27 +4,31 @@ ghost use Rattle.tla_run.specs.Runs.{IsSomeRun};
 
 use crate::host::Host;
 use crate::running::{NO_REPORT, run};
-use std::io::{ErrorKind, Write};
+use std::fs::OpenFile;
+use std::io::{Eprint, ErrorKind, Write};
 use std::rt::{Env, Files};
 use std::sync::Wait;
 use std::thread::Threads;
+use std::time::{Clock, Instant};
 use std::{env, fs, io};
 use tla_check::{Checked, Line, LineFault};
 use tla_explain::{FileNames, explain};
+use tla_progress::{Progress, Took};
 
 /// Runs the program on the process's own words and files, with these writers for its standard output
 /// and its standard error, and answers the status with which it ends.
 #[tactic(auto, using(crate::proofs::RunLemmas::runs_some, crate::proofs::RunLemmas::runs_none))]
-pub fn run_process<O: Write, E: Write, R: AllocGlobal + Env + Files + Threads + Wait + Sync>(
-    rt: &R,
-    out: &mut O,
-    err: &mut E,
-) -> u8
+pub fn run_process<
+    O: Write,
+    E: Write,
+    R: AllocGlobal + Clock + Env + Eprint + Files + Threads + Wait + Sync,
+>(rt: &R, out: &mut O, err: &mut E) -> u8
     ensures { IsSomeRun (record { old = O.contents out.old; new = O.contents out.new })
         (record { old = E.contents err.old; new = E.contents err.new }) result }
 {
+    let began = Instant::now(rt).ok();
     match words(rt) {
-        Ok(words) => run(rt, rt.alloc(), &words, &Process { rt }, out, err),
+        Ok(words) => run(rt, rt.alloc(), &words, &Process { rt, began }, out, err),
         Err(error) => tell_no_words(&error, err),
     }
 }
@@ -33,13 +37,26 @@ pub fn run_process<O: Write, E: Write, R: AllocGlobal + Env + Files + Threads + 
 #[derive(Drop)]
 struct Process<'a, R> {
     rt: &'a R,
+    /// When it began, if there is a clock.
+    began: Option<Instant>,
 }
 
-impl<R: AllocGlobal + Files> Host for Process<'_, R> {
+impl<'a, R: AllocGlobal + Clock + Eprint + Files + Sync> Host for Process<'a, R> {
     type File = R::File;
 
+    type Gate = Progress<'a, R>;
+
     fn open(&self, name: &str) -> io::Result<R::File> {
-        fs::open(self.rt, name)
+        let file = fs::open(self.rt, name)?;
+        match file.metadata() {
+            Ok(metadata) if metadata.is_dir() => Err(io::Error::from(ErrorKind::IsADirectory)),
+            Ok(_) | Err(_) => Ok(file),
+        }
+    }
+
+    fn gate(&self, line: &Line<'_>) -> Progress<'a, R> {
+        let began = if line.quiet { None } else { self.began };
+        Progress::new(self.rt, began, line.options.cut())
     }
 
     fn explain<E: Write>(
@@ -54,8 +71,12 @@ impl<R: AllocGlobal + Files> Host for Process<'_, R> {
             module: line.module,
             configuration: line.config,
         };
+        let took = Took::since(self.rt, self.began);
         // What fails here is told to nobody: the report is out.
         let _ = explain(err, &names, module, config, checked, self.rt.alloc());
+        if let Some(took) = took {
+            let _ = writeln!(err, "{took}");
+        }
     }
 }
 

@@ -1,18 +1,20 @@
 //! The run.
-ghost use Rattle.std.specs.Prelude.{◌≡◌, List, IfSome, map, string_bytes};
+ghost use Rattle.std.specs.Prelude.{◌≡◌, List, IfOk, IfSome, map, string_bytes};
 ghost use Rattle.counted_writer.specs.Puts.{Puts};
 ghost use Rattle.clap.specs.Walk.{Text};
 ghost use Rattle.tla_line.specs.LineFault.{IsFaultOf, LacksWord, text_of_fault};
-ghost use Rattle.tla_run.specs.Runs.{ComesTo, Files, GetsUpTo, Holds, IsRun, unread_text};
+ghost use Rattle.tla_run.specs.Runs.{ComesTo, Files, GetsUpTo, Holds, IsRun};
+ghost use Rattle.tla_run.specs.Unread.{unread_text};
 
 use crate::beside::{as_texts, configuration_beside, is_beside, with_word};
 use crate::host::Host;
+use crate::unread::Unread;
 use counted_writer::{ShortWrite, put};
 use std::alloc::Global;
 use std::io::Write;
 use std::sync::Wait;
 use std::thread::Threads;
-use tla_check::{Line, LineFault, NoGate, check, read_line, read_whole, write_report};
+use tla_check::{Line, LineFault, check, read_line, read_whole, write_report};
 
 /// The status of a run that gives no whole report: for its command line, a file or a failed write.
 pub const NO_REPORT: u8 = 21;
@@ -129,13 +131,16 @@ fn run_line<H: Host, O: Write, E: Write, R: Threads + Wait + Sync>(
         (record { old = O.contents out.old; new = O.contents out.new })
         (record { old = E.contents err.old; new = E.contents err.new }) result }
 {
-    let Some(module) = read(alloc, host, line.module) else {
-        return tell_unread(line.module, err);
+    let module = match read(alloc, host, line.module) {
+        Ok(bytes) => bytes,
+        Err(cause) => return tell_unread(line.module, cause, err),
     };
-    let Some(config) = read(alloc, host, line.config) else {
-        return tell_unread(line.config, err);
+    let config = match read(alloc, host, line.config) {
+        Ok(bytes) => bytes,
+        Err(cause) => return tell_unread(line.config, cause, err),
     };
-    let checked = check(rt, alloc, &module, &config, &line.options, &NoGate);
+    let gate = host.gate(line);
+    let checked = check(rt, alloc, &module, &config, &line.options, &gate);
     if write_report(&checked, out).is_err() {
         return NO_REPORT;
     }
@@ -146,26 +151,33 @@ fn run_line<H: Host, O: Write, E: Write, R: Threads + Wait + Sync>(
 }
 
 /// The bytes of the file of a name, if it can be read.
-fn read<H: Host>(alloc: Global, host: &H, name: &str) -> Option<Vec<u8>>
-    ensures { IfSome result (λ v. Holds (H.files host.now) name.now v.items) }
+fn read<H: Host>(alloc: Global, host: &H, name: &str) -> Result<Vec<u8>, Unread>
+    ensures { IfOk result (λ v. Holds (H.files host.now) name.now v.items) }
 {
-    let mut file = host.open(name).ok()?;
-    read_whole(alloc, &mut file).ok()
+    let mut file = match host.open(name) {
+        Ok(file) => file,
+        Err(error) => return Err(Unread::by_kind(error.kind())),
+    };
+    match read_whole(alloc, &mut file) {
+        Ok(bytes) => Ok(bytes),
+        Err(fault) => Err(Unread::by_fault(fault)),
+    }
 }
 
-/// Tells which file can't be read.
-fn tell_unread<E: Write>(name: &str, err: &mut E) -> u8
-    ensures text { GetsUpTo (record { old = E.contents err.old; new = E.contents err.new }) (unread_text name.now) }
+/// Tells which file can't be read, and why.
+fn tell_unread<E: Write>(name: &str, cause: Unread, err: &mut E) -> u8
+    ensures text { GetsUpTo (record { old = E.contents err.old; new = E.contents err.new }) (unread_text name.now cause) }
     ensures status { result ≡ 21 }
 {
-    let _ = put_unread(name, err);
+    let _ = put_unread(name, cause, err);
     NO_REPORT
 }
 
-fn put_unread<E: Write>(name: &str, err: &mut E) -> Result<u64, ShortWrite>
-    ensures { Puts (E.contents err.old) (E.contents err.new) 0 (unread_text name.now) result }
+fn put_unread<E: Write>(name: &str, cause: Unread, err: &mut E) -> Result<u64, ShortWrite>
+    ensures { Puts (E.contents err.old) (E.contents err.new) 0 (unread_text name.now cause) result }
 {
     let written = put(err, 0, b"tlacheck: cannot read ")?;
     let written = put(err, written, name.as_bytes())?;
-    put(err, written, b"\n")
+    let written = put(err, written, b"\n")?;
+    put(err, written, cause.text().as_bytes())
 }
