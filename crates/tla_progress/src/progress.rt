@@ -32,6 +32,8 @@ pub struct Progress<'a, R> {
     asked: AtomicU64,
     /// The pieces of all levels whose steps were read.
     read: AtomicU64,
+    /// The pieces of all levels whose new states were put together.
+    merged: AtomicU64,
     /// When the clock was looked at last, in milliseconds from the beginning.
     looked: AtomicU64,
     /// How many pieces pass without a look at the clock.
@@ -48,6 +50,7 @@ impl<'a, R: Clock + Eprint> Progress<'a, R> {
             due: AtomicU64::new(FIRST),
             asked: AtomicU64::new(0),
             read: AtomicU64::new(0),
+            merged: AtomicU64::new(0),
             looked: AtomicU64::new(0),
             skipped: AtomicU64::new(0),
         }
@@ -58,7 +61,7 @@ impl<'a, R: Clock + Eprint> Progress<'a, R> {
         let number = match pass {
             Pass::Invariants => self.asked.fetch_add(1, Ordering::SeqCst),
             Pass::Steps => self.read.fetch_add(1, Ordering::SeqCst),
-            Pass::Merge => 0,
+            Pass::Merge => self.merged.fetch_add(1, Ordering::SeqCst),
         };
         number & self.skipped.load(Ordering::SeqCst) == 0
     }
