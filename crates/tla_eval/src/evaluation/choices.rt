@@ -125,7 +125,7 @@ fn for_choices<'l, 'a>(
 
 /// The value of a body with more bound values.
 #[cycle(evaluate)]
-fn value_with_all<'a>(
+pub(super) fn value_with_all<'a>(
     alloc: Global,
     body: &'a Core,
     choice: &'a [Value],

@@ -45,6 +45,12 @@ decreases-binding::some_holds l = 2 ^ 66 * size-Core l.body.now + 3
 abbrev pub decreases-binding::first_passing : goal.decreases-binding::first_passing
 decreases-binding::first_passing l = 2 ^ 66 * size-Core l.body.now + 3
 
+abbrev pub decreases-patterns::opened : goal.decreases-patterns::opened
+decreases-patterns::opened l = 2 ^ 66 * size-Core l.body.now + 4
+
+abbrev pub decreases-patterns::tried : goal.decreases-patterns::tried
+decreases-patterns::tried l = 2 ^ 66 * size-Core l.set.now + 4
+
 abbrev pub decreases-operands::on_one : goal.decreases-operands::on_one
 decreases-operands::on_one l = 2 ^ 66 * size-Core l.operand.now + 4
 
