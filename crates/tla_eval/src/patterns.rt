@@ -34,13 +34,13 @@ fn fitting<'a>(
 }
 
 /// Copies of the items of the elements that bound names have, one after the other.
-pub(crate) fn open_items(
+pub(crate) fn open_items<'a>(
     alloc: Global,
     place: Place,
     openings: &[Opening],
-    scope: &Scope<'_>,
+    scope: &'a Scope<'a>,
 ) -> Result<Vec<Value>, Fault>
-    ensures { GivesBy (λ v. map tree_of v.items) result (opened_items place openings.now (bound_of scope.now)) }
+    ensures { GivesBy (λ v. map tree_of v.items) result (opened_items place openings.now (bound_of scope.entry.now)) }
 {
     let mut items = Vec::new(alloc);
     for opening in openings {
@@ -61,7 +61,7 @@ pub fn opened(
 ) -> Result<Vec<Value>, Fault>
     ensures { GivesBy (λ v. map tree_of v.items) result (opened_items place openings.now (map tree_of bound.now)) }
 {
-    let scope = Scope::Outer(bound);
+    let scope = Scope::Outer(&*bound);
     open_items(alloc, place, openings, &scope)
 }
 
