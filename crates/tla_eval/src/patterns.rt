@@ -34,13 +34,13 @@ fn fitting<'a>(
 }
 
 /// Copies of the items of the elements that bound names have, one after the other.
-pub(crate) fn open_items(
+pub(crate) fn open_items<'a>(
     alloc: Global,
     place: Place,
     openings: &[Opening],
-    scope: &Scope<'_>,
+    scope: &'a Scope<'a>,
 ) -> Result<Vec<Value>, Fault>
-    ensures { GivesBy (λ v. map tree_of v.items) result (opened_items place openings.now (bound_of scope.now)) }
+    ensures { GivesBy (λ v. map tree_of v.items) result (opened_items place openings.now (bound_of scope.entry.now)) }
 {
     let mut items = Vec::new(alloc);
     for opening in openings {
@@ -61,7 +61,7 @@ pub fn opened(
 ) -> Result<Vec<Value>, Fault>
     ensures { GivesBy (λ v. map tree_of v.items) result (opened_items place openings.now (map tree_of bound.now)) }
 {
-    let scope = Scope::Outer(bound);
+    let scope = Scope::Outer(&*bound);
     open_items(alloc, place, openings, &scope)
 }
 
@@ -77,7 +77,7 @@ fn try_all(place: Place, count: usize, elements: &[Value]) -> Result<(), Fault>
 
 /// Tries each element of a value that is a set.
 pub(crate) fn try_set(place: Place, count: usize, value: &Value) -> Result<(), Fault>
-    ensures { GivesBy (λ u. u) result (nothing_of (tried_set place count (tree_of value.now))) }
+    ensures { GivesBy (λ u. tree_of value.now) result (tried_set place count (tree_of value.now)) }
 {
     match value {
         Value::Set(set) => try_all(place, count, set.items()),
