@@ -132,7 +132,7 @@ module _ (text : List ℕ) (ts : List Token) where
       let c = not_closing br.Set f.0.kind f.2 in
       let re = before_plain text ts e he n s (from + 1) x.0 k.Colon x.4 x.5 refl (omega (arith, d)) in
       let rb = bound_complete text ts bs hs n s (x.0 + 1) x.1 k.RightBrace brace_ends x.7 x.6 (omega (arith, d)) in
-      rw (x.2.1, x.2.2, x.2.3, none, f.1, c, re.0, x.5.1, x.5.2, rb, x.7.1, x.7.2, binders_list bs, x.8) refl
+      rw (x.2.1, x.2.2, x.2.3, none, f.1, c, re.0, x.5.1, x.5.2, none, rb, x.7.1, x.7.2, binders_list bs, x.8) refl
 
   set_no_filter : (e : Tree) (es : Trees) (s : Scope) (from mid to : ℕ) → Spells text ts s e from mid → Others text ts s k.RightBrace es mid to → filters ts s.column from ≡ false
   set_no_filter e none s from mid to x y = no_filter text ts e s from mid k.RightBrace x y.0 refl refl

@@ -121,9 +121,9 @@ module _ (text : List ℕ) (ts : List Token) where
       let n = z.1.0 in
       let m : Has ts s.column k.Member (from + 1) = rw (← z.1.1) z.2 in
       let y = maps_here (Each (w ∷ [])) e bs s from to refl x h in
-      rw (n.1, n.2, m.1, m.2, y) refl
+      rw (y, n.1, n.2, m.1, m.2) refl
   opens_binders (bound (Each (w ∷ v ∷ ws)) e bs) s from to x h = let n = x.1.1 in rw (n.0.1, n.0.2, n.1.1, n.1.2) refl
   opens_binders (bound (Tuple ws) e bs) s from to x h =
       let n = x.1.1.1 in
       let y = maps_here (Tuple ws) e bs s from to refl x h in
-      rw (n.1, n.2, y) refl
+      rw (y, n.1, n.2) refl

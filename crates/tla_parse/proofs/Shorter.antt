@@ -30,14 +30,9 @@ cut_beyond (suc m) [] i h = refl
 cut_beyond (suc m) (x ∷ xs) zero h = absurd (omega (arith, h))
 cut_beyond (suc m) (x ∷ xs) (suc i) h = cut_beyond m xs i (omega (arith, h))
 
-cut_past : {X : Type 0} (m : ℕ) (xs : List X) → slice_get (take m xs) m ≡ None
-cut_past zero [] = refl
-cut_past zero (x ∷ xs) = refl
-cut_past (suc m) [] = refl
-cut_past (suc m) (x ∷ xs) = cut_past m xs
-
-pub seen_past : (ts : List Token) (m column : ℕ) → seen (take m ts) column m ≡ None
-seen_past ts m column = rw (cut_past m ts) refl
+-- behind the cut no token is left
+pub seen_past : (ts : List Token) (m column at : ℕ) → m ≤ at → seen (take m ts) column at ≡ None
+seen_past ts m column at l = rw (cut_beyond m ts at l) refl
 
 module _ (text : List ℕ) (ts : List Token) (m : ℕ) where
   seen_cut : (column at : ℕ) → at < m → seen (take m ts) column at ≡ seen ts column at
@@ -59,10 +54,6 @@ module _ (text : List ℕ) (ts : List Token) (m : ℕ) where
       let h = names_fit text ts (v ∷ ws) column (from + 2) to x.2 in
       (writes_cut column k.Name w from (omega (arith, h, l)) x.0, has_cut column k.Comma (from + 1) (omega (arith, h, l)) x.1, names_cut (v ∷ ws) column (from + 2) to l x.2)
 
-  -- behind the cut no token is left
-  gone : (column at : ℕ) → m ≤ at → seen (take m ts) column at ≡ None
-  gone column at l = ap (λ o. right_of column o) (cut_beyond m ts at l)
-
   bullet_cut : (column : ℕ) (b : Bullet) (at : ℕ) → at < m → IsTrue (is_bullet_at column b (slice_get ts at)) → IsTrue (is_bullet_at column b (slice_get (take m ts) at))
   bullet_cut column b at l x = rw (cut_within m ts at l) x
 
@@ -78,7 +69,7 @@ module _ (text : List ℕ) (ts : List Token) (m : ℕ) where
     where
       by : (b : Bool) → nat_lt at m ≡ b → seen ts column at ≡ Some t
       by true e = sym (seen_cut column at (ltb-true at m e)) ∙ h
-      by false e = absurd (let n = gone column at (ltb-false at m e) in let z : ⊥ = cc in z)
+      by false e = absurd (let n = seen_past ts m column at (ltb-false at m e) in let z : ⊥ = cc in z)
 
   has_back : (column : ℕ) (kind : Kind) (at : ℕ) → Has (take m ts) column kind at → Has ts column kind at
   has_back column kind at x = (x.0, seen_back column at x.0 x.1, x.2)
@@ -99,11 +90,11 @@ module _ (text : List ℕ) (ts : List Token) (m : ℕ) where
   follow_by : (column : ℕ) (b : Bullet) (to : ℕ) (t : Bool) → nat_lt to m ≡ t → to ≤ m
       → IsTrue (not (is_bullet_at column b (slice_get ts to)) && may_follow column (slice_get ts to)) → IsTrue (not (is_bullet_at column b (slice_get (take m ts) to)) && may_follow column (slice_get (take m ts) to))
   follow_by column b to true e l x = rw (cut_within m ts to (ltb-true to m e)) x
-  follow_by column b to false e l x = let g = ltb-false to m e in let same : to ≡ m = omega (arith, g, l) in rw (same, cut_past m ts) refl
+  follow_by column b to false e l x = rw (cut_beyond m ts to (ltb-false to m e)) refl
 
   last_by : (column to : ℕ) (t : Bool) → nat_lt to m ≡ t → to ≤ m → IsTrue (not (kind_at k.Box (seen ts column to))) → IsTrue (not (kind_at k.Box (seen (take m ts) column to)))
   last_by column to true e l x = rw (cut_within m ts to (ltb-true to m e)) x
-  last_by column to false e l x = let g = ltb-false to m e in let same : to ≡ m = omega (arith, g, l) in rw (same, cut_past m ts) refl
+  last_by column to false e l x = rw (cut_beyond m ts to (ltb-false to m e)) refl
 
   mutual
     pub shorter : (t : Tree) (s : Scope) (from to : ℕ) → to ≤ m → Spells text ts s t from to → Spells text (take m ts) s t from to

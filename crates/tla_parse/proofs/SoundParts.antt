@@ -16,7 +16,7 @@ use Rattle.tla_parse.specs.declared.tokens.Between.TheVariants as between
 use Rattle.tla_parse.specs.declared.tokens.Postfix.{Postfix}
 use Rattle.tla_parse.specs.declared.tokens.Postfix.TheVariants as form
 use Rattle.tla_tree.specs.declared.tree.Quantifier.{Quantifier}
-use Rattle.tla_tree.specs.Tree.{Tree, Trees, Group, none, trees, binders, Name, Number, Text, Word, At, Paren, Listing, Call, Prime, Index, Field, Unary, Binary, Quantified, Choose, If, Junction, Product}
+use Rattle.tla_tree.specs.Tree.{Tree, Pattern, Trees, Group, none, trees, binders, Name, Number, Text, Word, At, Paren, Listing, Call, Prime, Index, Field, Unary, Binary, Quantified, Choose, If, Junction, Product}
 use Rattle.tla_parse.specs.Operators.{low, high, prefix_high, infix_of, prefix_of, bullet_of, quantifier_of, constant_of}
 use Rattle.tla_tree.specs.Places.{place}
 use Rattle.tla_parse.specs.Edges.{edge_allows, top_above, is_closed, depth}

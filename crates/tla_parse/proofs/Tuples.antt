@@ -14,7 +14,7 @@ use Rattle.tla_parse.specs.Outcome.{Refused, at_op}
 use Rattle.tla_parse.specs.ReadingLists.{name_at, names, tuple_of_names, pattern, single}
 use Rattle.tla_parse.specs.Ahead.{tuple_end, single_end, if_member, binds}
 use Rattle.tla_parse.proofs.Inversion.{ok_to, bind_ok, need_ok, at_op_ok, choice_ok, has_kind, has_name}
-use Rattle.tla_parse.proofs.NameLists.{names_fit, names_within, names_sound, names_complete}
+use Rattle.tla_parse.proofs.NameLists.{names_cons, names_fit, names_within, names_sound, names_complete}
 
 module _ (ts : List Token) where
   pub tuple_more : (n m : ℕ) (column at : ℕ) → n ≡ m + 1 → kind_at k.Name (seen ts column at) ≡ true → kind_at k.Comma (seen ts column (at + 1)) ≡ true
@@ -154,7 +154,7 @@ module _ (text : List ℕ) (ts : List Token) where
         elim (choice_ok (kind_at k.Comma (seen ts column (at + 1))) (tuple_end ts column n (at + 2)) _ (Some e) w.1) [
           | inl c ↦
               let r = end_sound n column (at + 2) e c.1 in
-              (v ∷ r.0, r.1, more_names r.0 column at r.1 name (has_kind ts column (at + 1) k.Comma c.0) r.2, r.3, r.4)
+              (v ∷ r.0, r.1, names_cons text ts column v r.0 at r.1 (name.0, name.1, name.2, refl) (has_kind ts column (at + 1) k.Comma c.0) r.2, r.3, r.4)
           | inr c ↦ (elim (choice_ok (kind_at k.RightTuple (seen ts column (at + 1))) (Some (at + 2)) None (Some e) c.1) [
             | inl r ↦
                 let same : at + 2 ≡ e = cc in
@@ -164,10 +164,6 @@ module _ (text : List ℕ) (ts : List Token) where
         ]
     | inr w ↦ absurd (let z : ⊥ = cc in z)
   ]
-    where
-      more_names : (ws : List Written) (column at to : ℕ) → (t : Has ts column k.Name at) → Has ts column k.Comma (at + 1) → Names ts text column ws (at + 2) to → Names ts text column (written text t.0 ∷ ws) at to
-      more_names [] column at to t c x = absurd x
-      more_names (w ∷ ws) column at to t c x = ((t.0, t.1, t.2, refl), c, x)
 
   member_is : (o : Option ℕ) (column m : ℕ) → if_member ts column o ≡ Some m → (o ≡ Some m) × Has ts column k.Member m
   member_is None column m h = absurd (let z : ⊥ = cc in z)
@@ -196,7 +192,7 @@ module _ (text : List ℕ) (ts : List Token) where
 
   -- no entry begins where there is no `\in` behind one
   pub no_entry : (column at : ℕ) → is_none (binds ts column at) ≡ true → BeginsEntry text ts column at → ⊥
-  no_entry column at h x = let e = binds_complete x.0 column at x.1 x.2 x.3 x.4 in let z : ⊥ = cc in z
+  no_entry column at h x = let e = rw (binds_complete x.0 column at x.1 x.2 x.3 x.4) at h in let z : ⊥ = cc in z
 
   pub no_binds : (column at : ℕ) → (BeginsEntry text ts column at → ⊥) → binds ts column at ≡ None
   no_binds column at f = by (binds ts column at) refl
