@@ -1,5 +1,5 @@
 -- Tuple patterns: an element of a set stands for its items, where it is a sequence of the pattern's length. (Book, chapter 16; the faults are this project's own choice.)
-use Rattle.std.specs.Prelude.{◌≡◌, ℕ, ◌+◌, nat_eq, if◌then◌else◌, List, [], ◌∷◌, ◌++◌, length, get_or, Option, Some, None, Ok}
+use Rattle.std.specs.Prelude.{ℕ, ◌+◌, false, nat_eq, if◌then◌else◌, List, [], ◌∷◌, ◌++◌, length, get_or, Option, Some, None, Ok}
 use Rattle.tla_value.specs.Tree.{Tree, truth, int, text, model, set, fun, members}
 use Rattle.tla_core.specs.Fault.{Place, WrongKind, Outcome, ◌>>=◌}
 use Rattle.tla_core.specs.Kinds.{or_fault, items}

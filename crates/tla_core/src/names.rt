@@ -44,12 +44,10 @@ fn has_name(names: Option<usize>, index: usize) -> bool
 fn are_bound(openings: &[Opening], names: Option<usize>) -> bool
     ensures { (n : ℕ) → Counts names n → result ≡ list_all (λ (o : Opening). nat_lt o.name n) openings.now }
 {
-    let mut left = openings;
-    while let [first, rest @ ..] = left {
-        if !has_name(names, first.name) {
+    for opening in openings {
+        if !has_name(names, opening.name) {
             return false;
         }
-        left = rest;
     }
     true
 }
@@ -59,10 +57,8 @@ fn with_items(openings: &[Opening], names: Option<usize>) -> Option<usize>
     ensures { (n : ℕ) → Counts names n → Counts result (n + items_in openings.now) }
 {
     let mut count = names;
-    let mut left = openings;
-    while let [first, rest @ ..] = left {
-        count = with_more(count, first.items);
-        left = rest;
+    for opening in openings {
+        count = with_more(count, opening.items);
     }
     count
 }

@@ -14,6 +14,7 @@ use tla_core::{Fault, FaultCode, Opening, Place};
 use tla_value::Value;
 
 /// The pairs of an element that is a sequence of so many items. Another element is a fault of the form at the place.
+#[tactic(auto, using(crate::proofs::Patterns::fits_pattern, crate::proofs::Patterns::fits_no_pattern, crate::proofs::Patterns::has_no_items))]
 fn fitting<'a>(
     place: Place,
     count: usize,
@@ -77,7 +78,7 @@ fn try_all(place: Place, count: usize, elements: &[Value]) -> Result<(), Fault>
 
 /// Tries each element of a value that is a set.
 pub(crate) fn try_set(place: Place, count: usize, value: &Value) -> Result<(), Fault>
-    ensures { GivesBy (λ u. u) result (nothing_of (tried_set place count (tree_of value.now))) }
+    ensures { GivesBy (λ u. tree_of value.now) result (tried_set place count (tree_of value.now)) }
 {
     match value {
         Value::Set(set) => try_all(place, count, set.items()),

@@ -1,32 +1,24 @@
-use Rattle.std.proofs.Common.{◌≡◌, ◌≤◌, ℕ, ◌+◌, ◌-◌, List, [], ◌∷◌, length, take, drop, get_or, absurd, refl, arith}
-use Rattle.std.proofs.lemmas.List.{take_all}
+use Rattle.std.proofs.Common.{◌≡◌, ◌<◌, ℕ, ◌+◌, List, [], ◌∷◌, ◌++◌, length, take, get_or, Option, refl, ap, subst, arith}
+use Rattle.std.proofs.lemmas.List.{take_all, take_more}
 use Rattle.tla_core.specs.declared.expression.Opening.{Opening}
+use Rattle.tla_core.specs.Fits.{Counts}
 use Rattle.tla_core.specs.Patterns.{items_in}
 use Rattle.tla_core.proofs.names.with_items.Goals as goal
 
-items_first : (os : List Opening) (o : Opening) → 1 ≤ length os → o ≡ get_or os 0 o → items_in os ≡ o.items + items_in (take (length os - 1) (drop 1 os))
-items_first [] o n e = absurd (omega (arith, n))
-items_first (p ∷ os) o n e =
-    let all : take (length os) os ≡ os = take_all (length os) os (omega arith) in
-    rw (e, all) refl
+items-append : (os us : List Opening) → items_in (os ++ us) ≡ items_in os + items_in us
+items-append [] us = refl
+items-append (o ∷ os) us = let rest = items-append os us in omega arith
 
-pub loop-left-init : goal.loop-left-init
-loop-left-init c = record {
-  within = omega arith;
-  counted = λ n k h e. let z : k ≡ n = omega (arith, e) in rw z h;
-}
+items_more : (os : List Opening) (i : ℕ) (o : Opening) → i < length os → items_in (take (i + 1) os) ≡ items_in (take i os) + (get_or os i o).items
+items_more os i o h =
+    let more = ap items_in (take_more os i o h) in let both = items-append (take i os) (get_or os i o ∷ []) in omega arith
 
-pub loop-left-preserved : goal.loop-left-preserved
-loop-left-preserved c =
-    let first = c.first-item.result in
-    let more = items_first c.loop-left.left.now first c.in-len1-up.len_at_least c.first-item.is in
-    record {
-      within = omega (arith, more, c.loop-left.invariant.within);
-      counted = λ n k h e.
-        let m = k - first.items in
-        let z : m + first.items ≡ k = omega (arith, e, more, c.loop-left.invariant.within) in
-        rw z at (c.with_more.ensures m (c.loop-left.invariant.counted n m h (omega (arith, e, more, z))));
-    }
+counted_more : (count : Option ℕ) (os : List Opening) (i n : ℕ) (o : Opening) → i < length os → Counts count ((n + items_in (take i os)) + (get_or os i o).items) → Counts count (n + items_in (take (i + 1) os))
+counted_more count os i n o h e = let more = items_more os i o h in subst (λ k. Counts count k) (omega arith) e
+
+pub loop-opening-preserved : goal.loop-opening-preserved
+loop-opening-preserved c = λ n h.
+    counted_more c.with_more-count.result c.args.openings.now c.loop-opening.opening-index n _ c.loop-opening-test.true (c.with_more-count.ensures _ (c.loop-opening.invariant n h))
 
 pub returns : goal.returns
-returns c = λ n h. c.loop-left.invariant.counted n (n + items_in c.args.openings.now) h (omega arith)
+returns c = λ n h. rw (take_all c.loop-opening.opening-index c.args.openings.now c.loop-opening-test.false) at (c.loop-opening.invariant n h)
