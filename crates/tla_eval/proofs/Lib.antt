@@ -16,4 +16,4 @@ pub mod Choices
 pub mod Chosen
 pub mod Domains
 pub mod Rows
-pub mod Patterns
+pub mod Fitting

@@ -14,7 +14,6 @@ use tla_core::{Fault, FaultCode, Opening, Place};
 use tla_value::Value;
 
 /// The pairs of an element that is a sequence of so many items. Another element is a fault of the form at the place.
-#[tactic(auto, using(crate::proofs::Patterns::fits_pattern, crate::proofs::Patterns::fits_no_pattern, crate::proofs::Patterns::has_no_items))]
 fn fitting<'a>(
     place: Place,
     count: usize,

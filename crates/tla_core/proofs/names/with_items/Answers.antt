@@ -1,4 +1,4 @@
-use Rattle.std.proofs.Common.{◌≡◌, ◌<◌, ℕ, ◌+◌, List, [], ◌∷◌, ◌++◌, length, take, get_or, Option, refl, ap, subst, arith}
+use Rattle.std.proofs.Common.{◌≡◌, ◌<◌, ℕ, ◌+◌, List, [], ◌∷◌, ◌++◌, length, take, get_or, Option, ap, subst, arith}
 use Rattle.std.proofs.lemmas.List.{take_all, take_more}
 use Rattle.tla_core.specs.declared.expression.Opening.{Opening}
 use Rattle.tla_core.specs.Fits.{Counts}
@@ -6,7 +6,7 @@ use Rattle.tla_core.specs.Patterns.{items_in}
 use Rattle.tla_core.proofs.names.with_items.Goals as goal
 
 items-append : (os us : List Opening) → items_in (os ++ us) ≡ items_in os + items_in us
-items-append [] us = refl
+items-append [] us = omega arith
 items-append (o ∷ os) us = let rest = items-append os us in omega arith
 
 items_more : (os : List Opening) (i : ℕ) (o : Opening) → i < length os → items_in (take (i + 1) os) ≡ items_in (take i os) + (get_or os i o).items

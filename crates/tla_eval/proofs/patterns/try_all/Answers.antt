@@ -5,7 +5,7 @@ use Rattle.tla_core.specs.Fault.{Outcome, ◌>>=◌}
 use Rattle.tla_core.specs.Lists.{each}
 use Rattle.tla_core.specs.Patterns.{fitting}
 use Rattle.tla_eval.specs.Gives.{GivesBy, nothing_of}
-use Rattle.tla_eval.proofs.Patterns.{each_first}
+use Rattle.tla_eval.proofs.Fitting.{each_first}
 use Rattle.tla_eval.proofs.patterns.try_all.Goals as goal
 
 pub loop-element-preserved : goal.loop-element-preserved
@@ -18,4 +18,4 @@ pub returns-in_err-fitting : goal.returns-in_err-fitting
 returns-in_err-fitting c =
     let e = c.loop-element.invariant
     ∙ each_first c.args.place c.args.count c.args.elements.now c.loop-element.element-index c.element-item.result c.element-item.is c.loop-element-test.true in
-    subst (λ o. GivesBy (λ u. u) c.from_residual.result o) (sym e) (search rules)
+    subst (λ o. GivesBy (λ (u : Unit {0}). u) c.from_residual.result o) (sym e) (search rules)

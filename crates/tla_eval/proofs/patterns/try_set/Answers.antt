@@ -3,7 +3,7 @@ use Rattle.tla_value.specs.TreeOf.{tree_of}
 use Rattle.tla_core.specs.Lists.{each}
 use Rattle.tla_core.specs.Patterns.{fitting}
 use Rattle.tla_eval.specs.Gives.{GivesBy, nothing_of}
-use Rattle.tla_eval.proofs.Patterns.{set_tried}
+use Rattle.tla_eval.proofs.Fitting.{set_tried}
 use Rattle.tla_eval.proofs.patterns.try_set.Goals as goal
 
 pub returns-in-Set : goal.returns-in-Set
