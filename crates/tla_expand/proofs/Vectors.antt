@@ -6,9 +6,7 @@ use Rattle.tla_core.specs.declared.fault.Place.{Place}
 use Rattle.tla_core.specs.declared.expression.Core.{Core, Row_of-Core, end_of-Core, more_of-Core, items-the_row-Core, Row_of-Core-Cases-1-2, end_of-Core-Cases-1-2, more_of-Core-Cases-1-2, items-the_row-Core-Cases-1-2, Row_of-Core-Record-1-2, end_of-Core-Record-1-2, more_of-Core-Record-1-2, items-the_row-Core-Record-1-2, Row_of-Core-Except-2-3, end_of-Core-Except-2-3, more_of-Core-Except-2-3, items-the_row-Core-Except-2-3, items_shown-the_row-Core-0}
 use Rattle.tla_core.specs.declared.expression.Core.TheViews as views
 use Rattle.tla_core.specs.declared.expression.Core.TheViews.{the_lemmas}
-use Rattle.tla_core.specs.declared.expression.Opening.{Opening}
-use Rattle.tla_expand.specs.Bound.{under_openings}
-use Rattle.tla_core.specs.Expr.{Expr, Arms, opened, constant, conjunction, disjunction, enumerated, tuple, product, image, function, record_of, records, except, cases, more_exprs, more_fields, more_updates, no_arms, other, more_arms}
+use Rattle.tla_core.specs.Expr.{Arms, constant, conjunction, disjunction, enumerated, tuple, product, image, function, record_of, records, except, cases, more_exprs, more_fields, more_updates, no_arms, other, more_arms}
 use Rattle.tla_core.specs.ExprOf.{expr_of, exprs_of, arms_of, exprs_of_arm}
 use Rattle.tla_core.specs.ExprOf.{fields_of as core_fields, updates_of as core_updates}
 use Rattle.tla_expand.specs.Lists.{exprs, arms_with, fields_of, updates_of, named_part, changed_part}
@@ -38,11 +36,6 @@ kept_some at (c ∷ cs) h = refl
 pub kept_none : (at : Place) (cs : List Core) → length cs ≡ 0 → constant at (truth true) ≡ kept at (exprs (map expr_of cs))
 kept_none at [] h = refl
 kept_none at (c ∷ cs) h = absurd (omega arith)
-
--- a body under elements that are opened
-pub opened_some : (at : Place) (os : List Opening) (e : Expr) → 0 < length os → under_openings at os (Some e) ≡ Some (opened at os e)
-opened_some at [] e h = absurd (omega arith)
-opened_some at (o ∷ os) e h = refl
 
 arms_row : (n : Count) (row : Row_of-Core-Cases-1-2 n) (last : Arms) → arms_of row last ≡ arms_with (map exprs_of_arm (items-the_row-Core-Cases-1-2 n row)) last
 arms_row n end_of-Core-Cases-1-2 last = refl

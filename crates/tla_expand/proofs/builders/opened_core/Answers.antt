@@ -2,7 +2,7 @@ use Rattle.std.proofs.Common.{◌∙◌, ap, sym, arith, Some}
 use Rattle.tla_core.specs.Expr.{Expr, opened}
 use Rattle.tla_core.specs.ExprOf.{expr_of}
 use Rattle.tla_core.specs.declared.expression.Core.{Core}
-use Rattle.tla_expand.proofs.Vectors.{opened_some}
+use Rattle.tla_expand.proofs.Sizes.{opened_some}
 use Rattle.tla_expand.proofs.builders.opened_core.Goals as goal
 
 pub returns-clause-ok : goal.returns-clause-ok
