@@ -376,7 +376,8 @@ fn openings_of(alloc: Global, binds: &[Bind<'_>], bound: usize) -> Result<Vec<Op
 {
     let mut openings = Vec::new(alloc);
     for i in 0..binds.len() {
-        if let Names::Tuple(names) = binds[i].names {
+        let bind = binds[i];
+        if let Names::Tuple(names) = bind.names {
             let opening = Opening {
                 name: bound + i,
                 items: names.len(),
@@ -468,7 +469,8 @@ fn name_elements<'a>(
 {
     let mut at = scope;
     for i in 0..binds.len() {
-        if let Names::Name(name) = binds[i].names {
+        let bind = binds[i];
+        if let Names::Name(name) = bind.names {
             let entry = Entry {
                 name: name.word.as_bytes(),
                 what: What::Bound(bound + i),
@@ -499,7 +501,8 @@ fn name_items<'a>(
     let mut at = scope;
     let mut next = bound;
     for i in 0..binds.len() {
-        if let Names::Tuple(names) = binds[i].names {
+        let bind = binds[i];
+        if let Names::Tuple(names) = bind.names {
             at = name_each(entries, names, next, at)?;
             next += names.len();
         }
