@@ -377,12 +377,15 @@ fn openings_of(alloc: Global, binds: &[Bind<'_>], bound: usize) -> Result<Vec<Op
     let mut openings = Vec::new(alloc);
     for i in 0..binds.len() {
         let bind = binds[i];
-        if let Names::Tuple(names) = bind.names {
-            let opening = Opening {
-                name: bound + i,
-                items: names.len(),
-            };
-            push(&mut openings, opening)?;
+        match bind.names {
+            Names::Name(_) => {}
+            Names::Tuple(names) => {
+                let opening = Opening {
+                    name: bound + i,
+                    items: names.len(),
+                };
+                push(&mut openings, opening)?;
+            }
         }
     }
     Ok(openings)
@@ -470,13 +473,16 @@ fn name_elements<'a>(
     let mut at = scope;
     for i in 0..binds.len() {
         let bind = binds[i];
-        if let Names::Name(name) = bind.names {
-            let entry = Entry {
-                name: name.word.as_bytes(),
-                what: What::Bound(bound + i),
-                rest: at,
-            };
-            at = enter(entries, entry)?;
+        match bind.names {
+            Names::Name(name) => {
+                let entry = Entry {
+                    name: name.word.as_bytes(),
+                    what: What::Bound(bound + i),
+                    rest: at,
+                };
+                at = enter(entries, entry)?;
+            }
+            Names::Tuple(_) => {}
         }
     }
     Ok(at)
@@ -502,9 +508,12 @@ fn name_items<'a>(
     let mut next = bound;
     for i in 0..binds.len() {
         let bind = binds[i];
-        if let Names::Tuple(names) = bind.names {
-            at = name_each(entries, names, next, at)?;
-            next += names.len();
+        match bind.names {
+            Names::Name(_) => {}
+            Names::Tuple(names) => {
+                at = name_each(entries, names, next, at)?;
+                next += names.len();
+            }
         }
     }
     Ok(at)

@@ -10,6 +10,9 @@ use Rattle.tla_expand.proofs.expand.binding.name_all.Goals as goal
 pub name_elements-requires-clause-small : goal.name_elements-requires-clause-small
 name_elements-requires-clause-small c = omega (arith, c.requires.small standard 0)
 
+pub overflow_add-bound : goal.overflow_add-bound
+overflow_add-bound c = omega (arith, c.requires.small standard 0)
+
 pub returns-clause-extends : goal.returns-clause-extends
 returns-clause-extends c =
     on_ok_weaker c.name_items.result (λ h. extends_trans c.args.entries.now.items c.name_elements.new.entries.items c.name_items.new.entries.items c.in_ok-scope.ensures.extends h) c.name_items.ensures.extends
