@@ -131,4 +131,5 @@ openings_passed os bs i d b y σ whole h g m e =
     let p : drop i bs ≡ b ∷ drop (suc i) bs = drop-cons bs i b h ∙ ap (λ (z : Bind). z ∷ drop (suc i) bs) (sym g) in
     let q : i + 1 ≡ suc i = add-one i in
     let r : d + i + 1 ≡ d + suc i = omega arith in
-    rw q (rw (p, m, r) at e)
+    let e2 : os ++ openings (binds_in (drop (suc i) bs) σ) (d + i + 1) ≡ whole = (rw (p, m) at e) in
+    rw q (rw r at e2)

@@ -1,5 +1,6 @@
 -- Nodes, depth, and what a failure of a part says of the whole.
-use Rattle.std.proofs.Common.{◌≡◌, ◌≤◌, ◌<◌, ℕ, ◌+◌, ◌-◌, refl, ap, arith, Option, Some, None}
+use Rattle.std.proofs.Common.{◌≡◌, ◌≤◌, ◌<◌, ℕ, ◌+◌, ◌-◌, List, [], ◌∷◌, length, refl, ap, arith, Option, Some, None}
+use Rattle.tla_core.specs.declared.fault.Place.{Place}
 use Rattle.tla_core.specs.declared.expression.Opening.{Opening}
 use Rattle.tla_core.specs.Patterns.{items_in}
 use Rattle.tla_expand.specs.Bound.{under_openings}
@@ -167,6 +168,10 @@ opened_fails p (n ∷ os) Memory o room left less l h = tt
 pub openings_primed : (k : Primes) (p : Place) (os : List Opening) (o : Option Expr) → with_primes k (under_openings p os o) ≡ under_openings p os (with_primes k o)
 openings_primed k p [] o = refl
 openings_primed k p (n ∷ os) o = one (λ x. opened p (n ∷ os) x) (primes k) (primes k) (λ x. refl) o
+
+pub opened_some : (p : Place) (os : List Opening) (e : Expr) → 0 < length os → under_openings p os (Some e) ≡ Some (opened p os e)
+opened_some p [] e h = absurd (omega arith)
+opened_some p (n ∷ os) e h = refl
 
 -- too many items
 pub opened_full : (p : Place) (os : List Opening) (o : Option Expr) (room left : ℕ) → left < items_in os → (e : Expr) → under_openings p os o ≡ Some e → nodes e ≤ left → depth e ≤ room → ⊥

@@ -244,7 +244,7 @@ pub(crate) fn opened_core(
     ensures ok { IfOk result (λ c. under_openings place openings.items (Some (expr_of body)) ≡ Some (expr_of c)) }
     ensures err { IfErr result (λ e. e ≡ Failure.Memory) }
 {
-    if openings.is_empty() {
+    if openings.len() == 0 {
         return Ok(body);
     }
     let body = boxed(alloc, body)?;

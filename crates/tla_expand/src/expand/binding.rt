@@ -204,21 +204,17 @@ fn under_tuple<'a>(
     ensures kept { OnOk result (entries.new.items ≡ entries.old.items) }
     ensures same { Gives at.room at.left result (with_primes at.primes (bounds.under under.entry.place (bounds.tupled names.now) (last_or (binds_in rest.now (scope_at entries.old.items under.entry.home)) (expansion.expand (view under.entry.body.now)) (bounds.nested under.entry.node under.entry.place (binds_in rest.now (scope_at entries.old.items under.entry.home)) (expansion.expand (view under.entry.body.now)))) (scope_at entries.old.items at.scope) at.bound)) }
 {
-    if names.len() > at.left {
+    let count = names.len();
+    if count > at.left {
         return Err(Failure::TooLarge);
     }
-    let mut openings = Vec::new(alloc);
-    let opening = Opening {
-        name: at.bound,
-        items: names.len(),
-    };
-    push(&mut openings, opening)?;
+    let openings = opening_of(alloc, names, at.bound)?;
     let mark = entries.len();
     let scope = name_each(entries, names, at.bound + 1, at.scope)?;
     let inside = Setting {
         scope,
-        bound: at.bound + 1 + names.len(),
-        left: at.left - names.len(),
+        bound: at.bound + 1 + count,
+        left: at.left - count,
         ..at
     };
     let inner = within(alloc, entries, under, rest, inside)?;
@@ -285,14 +281,13 @@ pub(super) fn gather_node<'a>(
     let binds = binds.as_slice();
     let sets = sets_of(alloc, entries, place, binds, at)?;
     let openings = openings_of(alloc, binds, at.bound)?;
-    let items = count_items(openings.as_slice(), sets.left)?;
+    let opened = openings.as_slice();
+    let items = count_items(opened, sets.left)?;
     let mark = entries.len();
-    let elements = at.bound + binds.len();
-    let scope = name_elements(entries, binds, at.bound, at.scope)?;
-    let scope = name_items(entries, binds, elements, scope)?;
+    let scope = name_all(entries, binds, at.bound, at.scope)?;
     let inside = Setting {
         scope,
-        bound: elements + items,
+        bound: at.bound + binds.len() + items,
         left: sets.left - items,
         ..at
     };
@@ -359,6 +354,20 @@ fn sets_of<'a>(
     Ok(Many { parts, left })
 }
 
+/// One element that is opened: the bound name of this number, and the names for its items. The only error is want of memory.
+fn opening_of(alloc: Global, names: &[Written], bound: usize) -> Result<Vec<Opening>, Failure>
+    ensures ok { IfOk result (λ os. os.items ≡ bounds.opening bound names.now ∷ []) }
+    ensures err { IfErr result (λ e. e ≡ Failure.Memory) }
+{
+    let mut openings = Vec::new(alloc);
+    let opening = Opening {
+        name: bound,
+        items: names.len(),
+    };
+    push(&mut openings, opening)?;
+    Ok(openings)
+}
+
 /// The elements that are opened, of those with numbers from `bound` on. The only error is want of memory.
 fn openings_of(alloc: Global, binds: &[Bind<'_>], bound: usize) -> Result<Vec<Opening>, Failure>
     requires { bound + length binds.now ≤ 1000000 }
@@ -367,12 +376,16 @@ fn openings_of(alloc: Global, binds: &[Bind<'_>], bound: usize) -> Result<Vec<Op
 {
     let mut openings = Vec::new(alloc);
     for i in 0..binds.len() {
-        if let Names::Tuple(names) = binds[i].names {
-            let opening = Opening {
-                name: bound + i,
-                items: names.len(),
-            };
-            push(&mut openings, opening)?;
+        let bind = binds[i];
+        match bind.names {
+            Names::Name(_) => {}
+            Names::Tuple(names) => {
+                let opening = Opening {
+                    name: bound + i,
+                    items: names.len(),
+                };
+                push(&mut openings, opening)?;
+            }
         }
     }
     Ok(openings)
@@ -421,6 +434,26 @@ fn name_each<'a>(
     Ok(at)
 }
 
+/// The scope with all names: those of elements, and then those of items. The only error is want of memory.
+fn name_all<'a>(
+    entries: &mut Vec<Entry<'a>>,
+    binds: &[Bind<'a>],
+    bound: usize,
+    scope: usize,
+) -> Result<usize, Failure>
+    requires linked { AreLinked entries.old.items }
+    requires scope { scope ≤ length entries.old.items }
+    requires small { (σ : Scope) (d : ℕ) → bound + length binds.now + items_in (bounds.openings (binds_in binds.now σ) d) ≤ 1000000 }
+    ensures linked { OnOk result (AreLinked entries.new.items) }
+    ensures extends { OnOk result (Extends entries.new.items entries.old.items) }
+    ensures within { IfOk result (λ s. s ≤ length entries.new.items) }
+    ensures same { IfOk result (λ s. (σ : Scope) → bounds.with_items (binds_in binds.now σ) (bound + length binds.now) (bounds.with_elements (binds_in binds.now σ) bound (scope_at entries.old.items scope)) ≡ scope_at entries.new.items s) }
+    ensures err { IfErr result (λ e. e ≡ Failure.Memory) }
+{
+    let scope = name_elements(entries, binds, bound, scope)?;
+    name_items(entries, binds, bound + binds.len(), scope)
+}
+
 /// The scope with the names of elements. The only error is want of memory.
 fn name_elements<'a>(
     entries: &mut Vec<Entry<'a>>,
@@ -439,13 +472,17 @@ fn name_elements<'a>(
 {
     let mut at = scope;
     for i in 0..binds.len() {
-        if let Names::Name(name) = binds[i].names {
-            let entry = Entry {
-                name: name.word.as_bytes(),
-                what: What::Bound(bound + i),
-                rest: at,
-            };
-            at = enter(entries, entry)?;
+        let bind = binds[i];
+        match bind.names {
+            Names::Name(name) => {
+                let entry = Entry {
+                    name: name.word.as_bytes(),
+                    what: What::Bound(bound + i),
+                    rest: at,
+                };
+                at = enter(entries, entry)?;
+            }
+            Names::Tuple(_) => {}
         }
     }
     Ok(at)
@@ -470,9 +507,13 @@ fn name_items<'a>(
     let mut at = scope;
     let mut next = bound;
     for i in 0..binds.len() {
-        if let Names::Tuple(names) = binds[i].names {
-            at = name_each(entries, names, next, at)?;
-            next += names.len();
+        let bind = binds[i];
+        match bind.names {
+            Names::Name(_) => {}
+            Names::Tuple(names) => {
+                at = name_each(entries, names, next, at)?;
+                next += names.len();
+            }
         }
     }
     Ok(at)

@@ -29,7 +29,7 @@ use Rattle.tla_expand.proofs.Sizes.{no_room, none_left, first_fails, second_fail
 use Rattle.tla_expand.proofs.Lists.{part_done, part_fails, all_done, total_more, highest_more}
 use Rattle.tla_expand.proofs.Made.{two_larger, three_larger, many_larger, cases_larger, cases_or_larger, fielded_larger, product_larger, except_larger, Triple}
 use Rattle.tla_expand.proofs.Links.{cut_back, home_keep, bind_scope}
-use Rattle.tla_expand.proofs.Binds.{scope_extends}
+use Rattle.tla_expand.proofs.Binds.{scope_extends, extends_length}
 use Rattle.tla_expand.proofs.Groups.{items_same}
 use Rattle.tla_expand.proofs.Plain.{plain_head, tuple_fails, tuple_gives, equal_fails, equal_gives}
 use Rattle.tla_expand.proofs.Nested.{inner_fails, nested_gives}
@@ -352,9 +352,15 @@ binding::under_name-returns-clause-same t c =
     let s = bind_scope old old (scope_at new c.in_ok-scope.scope) c.args.at.scope c.as_bytes.result.now c.args.name.now.word c.args.at.bound c.in_ok-scope.ensures.scope refl c.as_bytes.ensures in
     rw (h, s) at c.in_ok-inner.ensures.same
 
+pub binding::under_tuple-within-requires : goal.binding::under_tuple-within-requires
+binding::under_tuple-within-requires t c =
+    let e = c.in_ok-scope.ensures in
+    let longer = extends_length c.args.entries.now.items c.name_each.new.entries.items e.extends in
+    (omega arith, (e.linked, (omega (arith, longer, c.requires.home), (e.within, omega arith))))
+
 -- more names than nodes that are left
-pub binding::under_tuple-returns-then-len-names-gt-left-clause-same : goal.binding::under_tuple-returns-then-len-names-gt-left-clause-same
-binding::under_tuple-returns-then-len-names-gt-left-clause-same t c =
+pub binding::under_tuple-returns-then-count-gt-left-clause-same : goal.binding::under_tuple-returns-then-count-gt-left-clause-same
+binding::under_tuple-returns-then-count-gt-left-clause-same t c =
     let u = c.args.under in
     let ws = c.args.names.now in
     let σ = scope_at c.args.entries.now.items c.args.at.scope in
@@ -390,11 +396,13 @@ binding::under_tuple-returns-clause-same t c =
     let os = opening c.args.at.bound ws ∷ [] in
     let o = last_or bs (expand (view u.body.now)) (nested u.node u.place bs (expand (view u.body.now))) (with_each ws (c.args.at.bound + 1) (scope_at old c.args.at.scope)) (c.args.at.bound + 1 + length ws) in
     let g = rw (h, ← c.in_ok-scope.ensures.same) at c.in_ok-inner.ensures.same in
-    rw (openings_primed c.args.at.primes u.place os o) (opened_gives u.place os (with_primes c.args.at.primes o) (expr_of c.in_ok-inner.inner.core) (expr_of c.in_ok-core.core) c.args.at.room c.args.at.left (c.args.at.left - length ws) c.in_ok-inner.inner.left (omega arith) g (rw c.in_ok-push.ensures.ok at (sym c.in_ok-core.ensures.ok)))
+    rw (openings_primed c.args.at.primes u.place os o) (opened_gives u.place os (with_primes c.args.at.primes o) (expr_of c.in_ok-inner.inner.core) (expr_of c.in_ok-core.core) c.args.at.room c.args.at.left (c.args.at.left - length ws) c.in_ok-inner.inner.left (omega arith) g (rw c.in_ok-openings.ensures.ok at (sym c.in_ok-core.ensures.ok)))
+
+pub binding::set_for-returns-in-Name-clause-same : goal.binding::set_for-returns-in-Name-clause-same
+binding::set_for-returns-in-Name-clause-same t c = rw c.in-Name.is c.in_ok-set.ensures.same
 
 pub binding::set_for-returns-in-Tuple-clause-same : goal.binding::set_for-returns-in-Tuple-clause-same
 binding::set_for-returns-in-Tuple-clause-same t c =
-    let x = expr_of c.in_ok-set.set.core in
     let s = c.in_ok-set.ensures.same in
     rw (c.in-Tuple.is, s.0, c.in_ok-core.ensures.ok) (refl, s.1, s.2)
 
@@ -666,7 +674,7 @@ binding::gather_node-returns-in_err-items-clause-same t c =
     let opened : c.in_ok-openings.openings.items ≡ os = rw (← is) (c.in_ok-openings.ensures.ok σ) in
     let τ = with_items bs (d + length binds) (with_elements bs d σ) in
     let o = body τ (d + length binds + items_in os) in
-    let full = rw opened at c.in_err-items.ensures.err.1 in
+    let full = rw (c.as_slice-opened.ensures.value, opened) at c.in_err-items.ensures.err.1 in
     let none = rw (openings_primed c.args.at.primes c.args.place os o) (opened_full c.args.place os (with_primes c.args.at.primes o) c.args.at.room c.in_ok-sets.sets.left full) in
     rw (r.1, r.2, c.in_err-items.ensures.err.0) (body_fails c.args.node c.args.place bs binds body σ τ d c.args.at.primes is refl
     TooLarge c.args.at.room c.args.at.left c.in_ok-sets.sets.left (map expr_of c.in_ok-sets.sets.parts.items) c.in_ok-sets.ensures.same none)
@@ -682,12 +690,9 @@ binding::gather_node-returns-in_err-body-clause-same t c =
     let os = openings bs d in
     let body = expand (view c.args.body.now) in
     let opened : c.in_ok-openings.openings.items ≡ os = rw (← is) (c.in_ok-openings.ensures.ok σ) in
-    let count : items_in os ≡ c.in_ok-items.items = rw (← opened) (sym c.in_ok-items.ensures.ok.0) in
-    let new = c.name_items.new.entries.items in
-    let τ = scope_at new c.in_ok-scope-2.scope in
-    let first = rw c.in_ok-sets.ensures.kept at (c.in_ok-scope.ensures.same σ) in
-    let second = c.in_ok-scope-2.ensures.same σ in
-    let named : with_items bs (d + length binds) (with_elements bs d σ) ≡ τ = rw (← is, first) second in
+    let count : items_in os ≡ c.in_ok-items.items = rw (← opened, ← c.as_slice-opened.ensures.value) (sym c.in_ok-items.ensures.ok.0) in
+    let τ = scope_at c.name_all.new.entries.items c.in_ok-scope.scope in
+    let named : with_items bs (d + length binds) (with_elements bs d σ) ≡ τ = rw (← is) (rw c.in_ok-sets.ensures.kept at (c.in_ok-scope.ensures.same σ)) in
     let o = body τ (d + length binds + items_in os) in
     let f = rw (← count) at c.in_err-body.ensures.same in
     let inner = rw (openings_primed c.args.at.primes c.args.place os o) (opened_fails c.args.place os c.in_err-body.field-0.0 (with_primes c.args.at.primes o) c.args.at.room c.in_ok-sets.sets.left (c.in_ok-sets.sets.left - items_in os) (omega arith) f) in
@@ -704,12 +709,9 @@ binding::gather_node-returns-clause-same t c =
     let os = openings bs d in
     let body = expand (view c.args.body.now) in
     let opened : c.in_ok-openings.openings.items ≡ os = rw (← is) (c.in_ok-openings.ensures.ok σ) in
-    let count : items_in os ≡ c.in_ok-items.items = rw (← opened) (sym c.in_ok-items.ensures.ok.0) in
-    let new = c.name_items.new.entries.items in
-    let τ = scope_at new c.in_ok-scope-2.scope in
-    let first = rw c.in_ok-sets.ensures.kept at (c.in_ok-scope.ensures.same σ) in
-    let second = c.in_ok-scope-2.ensures.same σ in
-    let named : with_items bs (d + length binds) (with_elements bs d σ) ≡ τ = rw (← is, first) second in
+    let count : items_in os ≡ c.in_ok-items.items = rw (← opened, ← c.as_slice-opened.ensures.value) (sym c.in_ok-items.ensures.ok.0) in
+    let τ = scope_at c.name_all.new.entries.items c.in_ok-scope.scope in
+    let named : with_items bs (d + length binds) (with_elements bs d σ) ≡ τ = rw (← is) (rw c.in_ok-sets.ensures.kept at (c.in_ok-scope.ensures.same σ)) in
     let o = body τ (d + length binds + items_in os) in
     let g = rw (← count) at c.in_ok-body.ensures.same in
     let y = expr_of c.in_ok-inner.inner in
@@ -783,22 +785,16 @@ binding::gather_node-openings_of-requires t c =
     let n = names_small (set_in c.args.place c.args.at.primes (scope_at c.args.entries.now.items c.args.at.scope) c.args.at.bound) c.as_slice-binds.result.now (map expr_of c.in_ok-sets.sets.parts.items) c.in_ok-sets.sets.left c.args.at.left s.0 s.1 in
     omega (arith, n)
 
-pub binding::gather_node-name_elements-requires-clause-small : goal.binding::gather_node-name_elements-requires-clause-small
-binding::gather_node-name_elements-requires-clause-small t c =
-    let s = c.in_ok-sets.ensures.same in
-    let n = names_small (set_in c.args.place c.args.at.primes (scope_at c.args.entries.now.items c.args.at.scope) c.args.at.bound) c.as_slice-binds.result.now (map expr_of c.in_ok-sets.sets.parts.items) c.in_ok-sets.sets.left c.args.at.left s.0 s.1 in
-    omega (arith, n)
-
 -- as many items as are left, for every number of the first element
-pub binding::gather_node-name_items-requires-clause-small : goal.binding::gather_node-name_items-requires-clause-small
-binding::gather_node-name_items-requires-clause-small t c =
+pub binding::gather_node-name_all-requires-clause-small : goal.binding::gather_node-name_all-requires-clause-small
+binding::gather_node-name_all-requires-clause-small t c =
     let s = c.in_ok-sets.ensures.same in
     let n = names_small (set_in c.args.place c.args.at.primes (scope_at c.args.entries.now.items c.args.at.scope) c.args.at.bound) c.as_slice-binds.result.now (map expr_of c.in_ok-sets.sets.parts.items) c.in_ok-sets.sets.left c.args.at.left s.0 s.1 in
     let count = c.in_ok-items.ensures.ok in
-    λ σ d. omega (arith, n, count.0, count.1, ap items_in (c.in_ok-openings.ensures.ok σ), items_same (binds_in c.as_slice-binds.result.now σ) d c.args.at.bound)
+    λ σ d. omega (arith, n, count.0, count.1, ap items_in (c.as_slice-opened.ensures.value ∙ c.in_ok-openings.ensures.ok σ), items_same (binds_in c.as_slice-binds.result.now σ) d c.args.at.bound)
 
 pub binding::gather_node-expand-requires : goal.binding::gather_node-expand-requires
 binding::gather_node-expand-requires t c =
     let s = c.in_ok-sets.ensures.same in
     let n = names_small (set_in c.args.place c.args.at.primes (scope_at c.args.entries.now.items c.args.at.scope) c.args.at.bound) c.as_slice-binds.result.now (map expr_of c.in_ok-sets.sets.parts.items) c.in_ok-sets.sets.left c.args.at.left s.0 s.1 in
-    (omega arith, (c.in_ok-scope-2.ensures.linked, (c.in_ok-scope-2.ensures.within, omega (arith, n, c.in_ok-items.ensures.ok.1))))
+    (omega arith, (c.in_ok-scope.ensures.linked, (c.in_ok-scope.ensures.within, omega (arith, n, c.in_ok-items.ensures.ok.1))))

@@ -1,10 +1,23 @@
 use Rattle.std.proofs.Common.{◌≡◌, ◌∙◌, refl, arith}
+use Rattle.tla_expand.specs.Meanings.{standard}
 use Rattle.tla_expand.specs.Bound.{named, tupled}
 use Rattle.tla_expand.specs.Binders.{names_of}
 use Rattle.tla_expand.specs.Scopes.{scope_at}
 use Rattle.tla_expand.proofs.Binds.{extends_trans}
 use Rattle.tla_expand.proofs.Groups.{items_more, items_passed, items_left, items_left_passed}
 use Rattle.tla_expand.proofs.expand.binding.name_items.Goals as goal
+
+pub name_each-requires-clause-small : goal.name_each-requires-clause-small
+name_each-requires-clause-small c =
+    let b = c.index-binds-i.result in
+    let is : names_of b.names ≡ tupled c.in-Tuple.names.now = rw c.in-Tuple.is refl in
+    omega (arith, items_left c.args.binds.now c.loop-i.i c.loop-i.next b c.in-Tuple.names.now standard 0 (omega arith) c.index-binds-i.is is (c.loop-i.invariant.small standard 0))
+
+pub overflow_add-next : goal.overflow_add-next
+overflow_add-next c =
+    let b = c.index-binds-i.result in
+    let is : names_of b.names ≡ tupled c.in-Tuple.names.now = rw c.in-Tuple.is refl in
+    omega (arith, items_left c.args.binds.now c.loop-i.i c.loop-i.next b c.in-Tuple.names.now standard 0 (omega arith) c.index-binds-i.is is (c.loop-i.invariant.small standard 0))
 
 pub loop-i-preserved-in-Tuple : goal.loop-i-preserved-in-Tuple
 loop-i-preserved-in-Tuple c =
