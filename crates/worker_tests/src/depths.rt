@@ -41,7 +41,7 @@ const FORMULAS: [Round; 6] = [
 /// A value of one element.
 const VALUES: [Round; 3] = [("{", "}"), ("<<", ">>"), ("[a |-> ", "]")];
 
-/// Definitions: D0 is this formula, and each of D1, D2, .. is one level deeper than the one before.
+/// Definitions: Nested0 is this formula, and each of Nested1, Nested2, .. is one level deeper than the one before.
 fn definitions(
     alloc: Global,
     innermost: &str,
