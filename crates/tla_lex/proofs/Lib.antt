@@ -15,3 +15,9 @@ pub mod Plain
 pub mod GapInCode
 pub mod InCode
 pub mod ClosingFirst
+pub mod CommentRuns
+pub mod CommentLeads
+pub mod GapFound
+pub mod Firsts
+pub mod ClosingLeads
+pub mod ClosingFound

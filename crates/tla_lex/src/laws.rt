@@ -3,6 +3,7 @@
 ghost use Rattle.tla_lex.specs.InCode.{ClosingIsFirst, TokensInCode};
 ghost use Rattle.tla_lex.specs.Longest.{LongestSymbol};
 ghost use Rattle.tla_lex.specs.LongestToken.{LongestTokens};
+ghost use Rattle.tla_lex.specs.ScannerLaws.{ClosingIsFound, GapIsFound};
 
 /// A symbol is the longest at its place.
 pub fn longest_symbol()
@@ -22,4 +23,14 @@ pub fn tokens_in_code()
 /// The closing line begins at the first `====` outside comments and strings.
 pub fn closing_is_first()
     ensures { ClosingIsFirst }
+{}
+
+/// The loop over blanks and comments ends where they end, and finds the comment that stays open.
+pub fn gap_is_found()
+    ensures { GapIsFound }
+{}
+
+/// The loop that looks for the closing line finds it.
+pub fn closing_is_found()
+    ensures { ClosingIsFound }
 {}
