@@ -21,3 +21,4 @@ pub mod GapFound
 pub mod Firsts
 pub mod ClosingLeads
 pub mod ClosingFound
+pub mod HeaderFound

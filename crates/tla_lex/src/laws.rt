@@ -3,7 +3,7 @@
 ghost use Rattle.tla_lex.specs.InCode.{ClosingIsFirst, TokensInCode};
 ghost use Rattle.tla_lex.specs.Longest.{LongestSymbol};
 ghost use Rattle.tla_lex.specs.LongestToken.{LongestTokens};
-ghost use Rattle.tla_lex.specs.ScannerLaws.{ClosingIsFound, GapIsFound};
+ghost use Rattle.tla_lex.specs.ScannerLaws.{ClosingIsFound, GapIsFound, HeaderIsFound};
 
 /// A symbol is the longest at its place.
 pub fn longest_symbol()
@@ -33,4 +33,9 @@ pub fn gap_is_found()
 /// The loop that looks for the closing line finds it.
 pub fn closing_is_found()
     ensures { ClosingIsFound }
+{}
+
+/// The loop that looks for the header finds it.
+pub fn header_is_found()
+    ensures { HeaderIsFound }
 {}
