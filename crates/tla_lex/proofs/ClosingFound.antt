@@ -192,9 +192,9 @@ module _ (text : Bytes) (from : ℕ) where
 
 pub closing_is_found : ClosingIsFound
 closing_is_found text from = (
-    λ to. (
-        λ h. record { closes = closes text from to h; first = found_first (ClosesAt text from) (closing text from) (least_at text from) to h },
-        λ h. first_found (ClosesAt text from) (closing text from) (closes text from) (least_at text from) to h.closes h.first,
-    ),
-    (none_found (ClosesAt text from) (closing text from) (least_at text from), found_none (ClosesAt text from) (closing text from) (closes text from)),
+  λ to. (
+    λ h. record { closes = closes text from to h; first = found_first (ClosesAt text from) (closing text from) (least_at text from) to h },
+    λ h. first_found (ClosesAt text from) (closing text from) (closes text from) (least_at text from) to h.closes h.first,
+  ),
+  (none_found (ClosesAt text from) (closing text from) (least_at text from), found_none (ClosesAt text from) (closing text from) (closes text from)),
 )

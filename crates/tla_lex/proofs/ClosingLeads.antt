@@ -18,6 +18,7 @@ use Rattle.tla_lex.proofs.ClosingFirst.{code_is}
 use Rattle.tla_lex.proofs.CommentLeads as leads
 use Rattle.tla_lex.proofs.GapInCode.{outside}
 use Rattle.tla_lex.proofs.Plain.{apart}
+use Rattle.tla_lex.proofs.QuotedFound.{literal_byte}
 use Rattle.tla_lex.proofs.Runs.{clash, both}
 
 -- a blank begins nothing
@@ -73,8 +74,7 @@ text_step b next w rest l = by (is_line_feed b) (is_quote b) (is_backslash b) re
     by false false true f g h (inr (c, v, e, inline, text)) =
         subst (λ x. InString (x ∷ w) rest) (sym ((Decides-eqb b 92).0 h)) (subst (λ x. InString (92 ∷ x) rest) (sym e) (with_escape c v rest inline text))
     by false false false f g h k =
-        let plain : IsTrue (is_literal b) = subst (λ x. IsTrue (not (x || is_quote b || is_backslash b))) (sym f) (subst (λ x. IsTrue (not (false || x || is_backslash b))) (sym g) (subst (λ x. IsTrue (not (false || false || x))) (sym h) refl)) in
-        with_literal b w rest plain k
+        with_literal b w rest (literal_byte b f g h) k
 
 escape_step : (b next : ℕ) (w rest : Bytes) → Leads (region_after Escape b next) w rest → Leads Escape (b ∷ w) rest
 escape_step b next w rest l = by (is_line_feed b) refl l

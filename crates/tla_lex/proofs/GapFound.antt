@@ -209,7 +209,7 @@ module _ (text : Bytes) (n : ℕ) where
           none u r e k =
               let front : drop n text ≡ (40 ∷ 42 ∷ u) ++ r = (cut w rest whole size).2 ∙ mark ∙ ap (λ x. 40 ∷ 42 ∷ x) e in
               let on : gap text ≡ skip (Depth 0) 0 (n + suc (suc (length u))) r =
-                  behind_gap (cut w rest whole size).0 (cut_gap w rest whole size g) ∙ ap (λ x. skip (Depth 0) 0 n x) front ∙ comment_run (40 ∷ 42 ∷ u) r (block u r k) n in
+              behind_gap (cut w rest whole size).0 (cut_gap w rest whole size g) ∙ ap (λ x. skip (Depth 0) 0 n x) front ∙ comment_run (40 ∷ 42 ∷ u) r (block u r k) n in
               let late : n + suc (suc (length u)) ≤ n = open_after (n + suc (suc (length u))) n r (sym on ∙ h) in
               omega (arith, late)
 
@@ -235,6 +235,6 @@ module _ (text : Bytes) (n : ℕ) where
 
 pub gap_is_found : GapIsFound
 gap_is_found text n = (
-    (λ h. ends text n h, λ h. behind_gap text n h.within h.gap ∙ stops n (drop n text) h.longest),
-    (λ h. stays_open text n h, λ h. opens_here text n h),
+  (λ h. ends text n h, λ h. behind_gap text n h.within h.gap ∙ stops n (drop n text) h.longest),
+  (λ h. stays_open text n h, λ h. opens_here text n h),
 )

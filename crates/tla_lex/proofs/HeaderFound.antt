@@ -250,9 +250,9 @@ module _ (text : Bytes) where
 
 pub header_is_found : HeaderIsFound
 header_is_found text = (
-    λ end. (
-        λ h. record { ends = ends text end h; first = found_first (EndsHeader text) (header_end text) (least_end text) end h },
-        λ h. first_found (EndsHeader text) (header_end text) (ends text) (least_end text) end h.ends h.first,
-    ),
-    (none_found (EndsHeader text) (header_end text) (least_end text), found_none (EndsHeader text) (header_end text) (ends text)),
+  λ end. (
+    λ h. record { ends = ends text end h; first = found_first (EndsHeader text) (header_end text) (least_end text) end h },
+    λ h. first_found (EndsHeader text) (header_end text) (ends text) (least_end text) end h.ends h.first,
+  ),
+  (none_found (EndsHeader text) (header_end text) (least_end text), found_none (EndsHeader text) (header_end text) (ends text)),
 )

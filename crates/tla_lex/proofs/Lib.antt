@@ -6,6 +6,8 @@ pub mod Spans
 pub mod Module
 pub mod LongestLemmas
 pub mod Runs
+pub mod QuotedFound
+pub mod Numbers
 pub mod Shapes
 pub mod LongestWord
 pub mod LongestOther
@@ -22,3 +24,4 @@ pub mod Firsts
 pub mod ClosingLeads
 pub mod ClosingFound
 pub mod HeaderFound
+pub mod FrontFound

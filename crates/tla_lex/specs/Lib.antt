@@ -21,4 +21,5 @@ pub mod Module
 pub mod RegionSize
 pub mod Tokens
 pub mod InCode
+pub mod Fronts
 pub mod ScannerLaws

@@ -3,7 +3,7 @@
 ghost use Rattle.tla_lex.specs.InCode.{ClosingIsFirst, TokensInCode};
 ghost use Rattle.tla_lex.specs.Longest.{LongestSymbol};
 ghost use Rattle.tla_lex.specs.LongestToken.{LongestTokens};
-ghost use Rattle.tla_lex.specs.ScannerLaws.{ClosingIsFound, GapIsFound, HeaderIsFound};
+ghost use Rattle.tla_lex.specs.ScannerLaws.{ClosingIsFound, FrontIsFound, GapIsFound, HeaderIsFound, NumberIsFound, StringIsFound};
 
 /// A symbol is the longest at its place.
 pub fn longest_symbol()
@@ -38,4 +38,19 @@ pub fn closing_is_found()
 /// The loop that looks for the header finds it.
 pub fn header_is_found()
     ensures { HeaderIsFound }
+{}
+
+/// What comes next in a text is what stands behind its blanks and comments.
+pub fn front_is_found()
+    ensures { FrontIsFound }
+{}
+
+/// What is read as a string is one, and a string is read.
+pub fn string_is_found()
+    ensures { StringIsFound }
+{}
+
+/// Digits are read as the number that they say.
+pub fn number_is_found()
+    ensures { NumberIsFound }
 {}
