@@ -11,6 +11,9 @@ pub struct Crew {
     pub cut: u64,
 }
 
+/// How many states a check may find.
+const LIMIT: u64 = 100_000;
+
 /// The report of a module and a configuration.
 pub fn report_of<G: Gate, R: AllocGlobal + Abort + Threads + Wait + Sync>(
     rt: &R,
@@ -20,7 +23,7 @@ pub fn report_of<G: Gate, R: AllocGlobal + Abort + Threads + Wait + Sync>(
     gate: &G,
 ) -> Vec<u8> {
     let mut out = Vec::new(rt.alloc());
-    let options = Options::new(crew.workers, crew.cut, 1000);
+    let options = Options::new(crew.workers, crew.cut, LIMIT);
     assert!(rt; options.is_some());
     if let Some(options) = options {
         let answer = check_and_report(

@@ -41,16 +41,16 @@ const FORMULAS: [Round; 6] = [
 /// A value of one element.
 const VALUES: [Round; 3] = [("{", "}"), ("<<", ">>"), ("[a |-> ", "]")];
 
-/// Definitions: D0 is this formula, and each of D1, D2, .. is one level deeper than the one before.
+/// Definitions: Nested0 is this formula, and each of Nested1, Nested2, .. is one level deeper than the one before.
 fn definitions(
     alloc: Global,
     innermost: &str,
     round: Round,
     levels: u64,
 ) -> Result<String, AllocError> {
-    let mut text = format!(in alloc; "D0 == {innermost}\n")?;
+    let mut text = format!(in alloc; "Nested0 == {innermost}\n")?;
     for (inner, level) in (0..levels).zip(1..) {
-        let line = format!(in alloc; "D{level} == {}D{inner}{}\n", round.0, round.1)?;
+        let line = format!(in alloc; "Nested{level} == {}Nested{inner}{}\n", round.0, round.1)?;
         text.push_str(&line)?;
     }
     Ok(text)
@@ -80,7 +80,7 @@ fn deep_action(alloc: Global, round: Round, depth: u64) -> Result<String, AllocE
     // The innermost has four nodes on its longest path.
     let levels = depth.saturating_sub(4);
     let text = definitions(alloc, "x' = (x + 1) % 3", round, levels)?;
-    let next = format!(in alloc; "D{levels}")?;
+    let next = format!(in alloc; "Nested{levels}")?;
     counter(alloc, &text, &next, "x < 3")
 }
 
@@ -89,7 +89,7 @@ fn deep_invariant(alloc: Global, round: Round, depth: u64) -> Result<String, All
     // The innermost has two nodes on its longest path.
     let levels = depth.saturating_sub(2);
     let text = definitions(alloc, "x < 3", round, levels)?;
-    let invariant = format!(in alloc; "D{levels}")?;
+    let invariant = format!(in alloc; "Nested{levels}")?;
     counter(alloc, &text, "x' = (x + 1) % 3", &invariant)
 }
 

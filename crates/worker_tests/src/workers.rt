@@ -89,3 +89,10 @@ fn pieces_above_a_bad_state_are_dropped(rt: HostRuntime) {
     assert_eq!(rt; gate.held_dropped(), 7);
     assert_eq!(rt; gate.others_dropped(), 0);
 }
+
+#[test]
+fn shards_are_merged_side_by_side(rt: HostRuntime) {
+    let held = Held::Pieces { from: 0, to: 1 };
+    let gate = Holds::new(Pass::Merge, held, Until::Entered(2));
+    assert_report(&rt, NONE_BAD, 2, &gate, NO_ERROR);
+}
