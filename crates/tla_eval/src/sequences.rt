@@ -52,7 +52,11 @@ pub(crate) fn sequence_pairs<'a>(value: &'a Value) -> Option<&'a [(Value, Value)
 }
 
 /// Adds copies of the values of some pairs at the end.
-fn add_items(alloc: Global, items: &mut Vec<Value>, pairs: &[(Value, Value)]) -> Result<(), Fault>
+pub(crate) fn add_items(
+    alloc: Global,
+    items: &mut Vec<Value>,
+    pairs: &[(Value, Value)],
+) -> Result<(), Fault>
     ensures ok { OnOk result (map tree_of items.new.items ≡ map tree_of items.old.items ++ values_of (map pair_of pairs.now)) }
     ensures err { IfErr result (λ f. f ≡ out_of_memory) }
 {

@@ -1,5 +1,5 @@
 -- What a form with its parts means, under a scope. Private contracts alone cite this.
-use Rattle.std.specs.Prelude.{◌≡◌, ℕ, ◌+◌, List, map, Option, Some, None}
+use Rattle.std.specs.Prelude.{◌≡◌, ℕ, ◌+◌, List, [], map, Option, Some, None}
 use Rattle.std.specs.Borrow.{Bor}
 use Rattle.tla_core.specs.Expr.{Arms, now, cases, product, except, more_exprs, no_arms, other}
 use Rattle.tla_core.specs.declared.fault.Place.{Place}
@@ -12,7 +12,7 @@ use Rattle.tla_tree.specs.declared.tree.Brackets.TheVariants as brackets
 use Rattle.tla_expand.specs.declared.nodes.Many.{Many}
 use Rattle.tla_expand.specs.declared.nodes.Many.TheVariants as manies
 use Rattle.tla_tree.specs.Tree.{Tree, trees, binders, arms, fields, updates}
-use Rattle.tla_tree.specs.View.{view, group_view, choice_view, field_view, update_view}
+use Rattle.tla_tree.specs.View.{view, pattern_view, group_view, choice_view, field_view, update_view}
 use Rattle.tla_expand.specs.declared.nodes.Two.TheVariants as twos
 use Rattle.tla_expand.specs.declared.nodes.Headed.TheVariants as headed
 use Rattle.tla_expand.specs.declared.nodes.Binders.TheVariants as under
@@ -22,10 +22,10 @@ use Rattle.tla_expand.specs.declared.nodes.Form.TheVariants as form
 use Rattle.tla_expand.specs.declared.nodes.Shape.{Shape}
 use Rattle.tla_expand.specs.declared.nodes.Shape.TheVariants as shape
 use Rattle.tla_expand.specs.Maybe.{◌>>=◌}
-use Rattle.tla_expand.specs.Nodes.{leaf, one, two, three, many, binding, fielded}
+use Rattle.tla_expand.specs.Nodes.{leaf, one, two, three, many, fielded}
 use Rattle.tla_expand.specs.Unchanged.{unchanged, changed}
-use Rattle.tla_expand.specs.Meanings.{Scope, Argument, with_name, bound_name}
-use Rattle.tla_expand.specs.Bound.{nested, gathered}
+use Rattle.tla_expand.specs.Meanings.{Scope, Argument}
+use Rattle.tla_expand.specs.Bound.{bind_entry, nested, gathered}
 use Rattle.tla_expand.specs.Expand.{prefixed, expand, expand_each, expand_key, expand_arms, expand_fields, expand_updates, binds_of}
 
 -- the value of OTHER, where there is one
@@ -50,7 +50,7 @@ form_in (form.Action p steps.Angle t q v) σ d = expand (view t.now) σ d >>= λ
 form_in (form.Unchanged p t) σ d = expand (view t.now) σ d >>= unchanged p
 form_in (form.Binders p (under.Nested f) bs t) σ d = nested f p (binds_of (binders (map group_view bs.now)) σ) (expand (view t.now)) σ d
 form_in (form.Binders p (under.Gathered f) bs t) σ d = gathered f p (binds_of (binders (map group_view bs.now)) σ) (expand (view t.now)) σ d
-form_in (form.Binds p f w s t) σ d = expand (view s.now) σ d >>= λ x. expand (view t.now) (with_name w.now.word (bound_name d) σ) (d + 1) >>= λ y. Some (binding f p x y)
+form_in (form.Binds p f w s t) σ d = nested f p (bind_entry (pattern_view w.now) (expand (view s.now) σ) []) (expand (view t.now)) σ d
 
 abbrev pub GivesForm : Shape → Tree → Type 0
 GivesForm (shape.Form f) t = (σ : Scope) (d : ℕ) → expand t σ d ≡ form_in f σ d

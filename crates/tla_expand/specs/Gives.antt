@@ -38,6 +38,8 @@ use Rattle.tla_expand.specs.Expand.{expand, expand_key, expand_step}
 use Rattle.tla_expand.specs.Places.{at_name}
 use Rattle.tla_expand.specs.Lists.{named_part, changed_part}
 use Rattle.tla_expand.specs.Nodes.{two}
+use Rattle.tla_expand.specs.Bound.{set_for}
+use Rattle.tla_expand.specs.Binders.{names_of}
 use Rattle.tla_expand.specs.Forms.{form_in}
 use Rattle.tla_expand.specs.Scopes.{scope_at}
 
@@ -161,8 +163,8 @@ key_in k σ d ts = with_primes k (expand_key (trees (map view ts)) σ d)
 abbrev pub arm_in : Primes → Scope → ℕ → Arm → Option (Expr × Expr)
 arm_in k σ d a = both (part_in k σ d a.guard) (part_in k σ d a.value)
 
-abbrev pub set_in : Primes → Scope → ℕ → Bind → Option Expr
-set_in k σ d b = part_in k σ d b.set.now
+abbrev pub set_in : Place → Primes → Scope → ℕ → Bind → Option Expr
+set_in p k σ d b = set_for p (names_of b.names) (part_in k σ d b.set.now)
 
 abbrev pub field_in : Primes → Scope → ℕ → Field → Option (List ℕ × Expr)
 field_in k σ d f = part_in k σ d f.value >>= λ x. Some (f.name.word, x)

@@ -168,8 +168,8 @@ pub(crate) fn node_of<'a>(
         Form::Binders(place, Binders::Gathered(node), groups, body) => {
             gather_node(alloc, entries, place, node, groups, body, at)
         }
-        Form::Binds(place, node, name, set, body) => {
-            bound_one(alloc, entries, place, node, name, set, body, at)
+        Form::Binds(place, node, pattern, set, body) => {
+            bound_one(alloc, entries, place, node, pattern, set, body, at)
         }
     }
 }

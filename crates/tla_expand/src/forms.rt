@@ -100,11 +100,11 @@ fn other_form<'a>(tree: &'a Expr) -> Shape<'a>
             let node = Binders::Nested(of_quantifier(*quantifier));
             Shape::Form(Form::Binders(place_of(*at), node, groups.as_slice(), body))
         }
-        Expr::Choose(at, name, set, body) => {
-            Shape::Form(Form::Binds(place_of(*at), Binding::Choose, name, set, body))
+        Expr::Choose(at, pattern, set, body) => {
+            Shape::Form(Form::Binds(place_of(*at), Binding::Choose, pattern, set, body))
         }
-        Expr::Filter(at, name, set, body) => {
-            Shape::Form(Form::Binds(place_of(*at), Binding::Filter, name, set, body))
+        Expr::Filter(at, pattern, set, body) => {
+            Shape::Form(Form::Binds(place_of(*at), Binding::Filter, pattern, set, body))
         }
         Expr::Image(at, body, groups) => {
             let node = Binders::Gathered(Gather::Image);

@@ -16,7 +16,7 @@ use Rattle.tla_tree.specs.declared.tree.Brackets.{Brackets}
 use Rattle.tla_tree.specs.declared.tree.Brackets.TheVariants as br
 use Rattle.tla_tree.specs.declared.tree.Quantifier.{Quantifier}
 use Rattle.tla_tree.specs.declared.tree.Constant.{Constant}
-use Rattle.tla_tree.specs.Tree.{Tree, Trees, Binders, Arms, Other, Definition, Definitions, none, more, unbound, bound, no_arms, arm, no_other, other, DefinesOperator, DefinesFunction, undefined, defined, Case, Let, Name, Number, Text, Word, At, Paren, Listing, Call, Prime, Index, Field, Unary, Binary, Quantified, Choose, If, Junction, Filter, Image, Function, FunctionSet, Record, RecordSet, Except, Action, Fair, Product, Fields, Key, Keys, Updates, no_fields, field, AtIndex, AtField, no_keys, key, no_updates, update}
+use Rattle.tla_tree.specs.Tree.{Tree, Trees, Pattern, Binders, Arms, Other, Definition, Definitions, none, more, unbound, bound, no_arms, arm, no_other, other, DefinesOperator, DefinesFunction, undefined, defined, Case, Let, Name, Number, Text, Word, At, Paren, Listing, Call, Prime, Index, Field, Unary, Binary, Quantified, Choose, If, Junction, Filter, Image, Function, FunctionSet, Record, RecordSet, Except, Action, Fair, Product, Fields, Key, Keys, Updates, no_fields, field, AtIndex, AtField, no_keys, key, no_updates, update}
 use Rattle.tla_parse.specs.Operators.{low, high, prefix_low, prefix_high, prefix_of, bullet_of, quantifier_of, constant_of, is_product}
 use Rattle.tla_tree.specs.Places.{place}
 use Rattle.tla_parse.specs.Edges.{yields, edge_allows, top_above, is_closed, depth, definition_depth}
@@ -36,7 +36,7 @@ use Rattle.tla_parse.proofs.CompleteBrackets.{PartsCome, listing_opens, fair_ope
 use Rattle.tla_parse.proofs.Comes.{AllFields, KeyComes, AllKeys, AllUpdates, Fits, Stops, NoCall, Comes, Stands, Opens, Both, AllCome, AllBound, AllArms, OtherComes, DefinitionComes, AllDefined, finish, by_operand, closed_both, opens_both, behind_stands}
 use Rattle.tla_parse.proofs.CompleteCase.{AnyEnds, chosen_complete, definition_read, defined_complete}
 use Rattle.tla_parse.proofs.CompleteProduct.{product_comes}
-use Rattle.tla_parse.proofs.CompleteLists.{paren_ends, bracket_ends, colon_ends, some_complete, listing_complete, bound_complete, items_complete}
+use Rattle.tla_parse.proofs.CompleteLists.{paren_ends, bracket_ends, colon_ends, some_complete, listing_complete, one_group_read, bound_complete, items_complete}
 
 module _ (text : List ℕ) (ts : List Token) where
   -- ---- closed forms
@@ -142,17 +142,16 @@ module _ (text : List ℕ) (ts : List Token) where
       by_operand text ts (Quantified p q bs b) n s floor from to refl
       (rw (x.2.1, w.0, w.1, w.2, is_q, ra, x.5.1, x.5.2, rb, binders_list bs, x.2.3) refl)
 
-  chosen_comes : (p : Place) (v : Written) (a b : Tree) → Comes text ts a → Comes text ts b → Comes text ts (Choose p v a b)
+  chosen_comes : (p : Place) (v : Pattern) (a b : Tree) → Comes text ts a → Comes text ts b → Comes text ts (Choose p v a b)
   unfolding operand chosen
   chosen_comes p v a b ha hb n s floor from to x f _ d =
       let o = seen ts s.column to in
-      let fits_a = end_plain a ts s.column x.0 k.Colon x.5 refl in
-      let ra = finish text ts a ha n s 0 (from + 3) x.0 x.4 fits_a (top_zero a) (omega (arith, d)) (stops_plain ts s.column 0 x.0 k.Colon x.5 refl) in
+      let ra = one_group_read text ts v a ha n s (from + 1) x.0 k.Colon x.2 x.3 x.4 refl (omega (arith, d)) in
       let fits_b = end_mono (Choose p v a b) b o (λ y w. absurd (let z : ⊥ = cc in z)) f in
       let stops_b = stop_by (Choose p v a b) 0 o (λ y w. absurd (let z : ⊥ = cc in z)) f in
-      let rb = finish text ts b hb n s 0 (x.0 + 1) to x.6 fits_b (top_zero b) (omega (arith, d)) stops_b in
+      let rb = finish text ts b hb n s 0 (x.0 + 1) to x.5 fits_b (top_zero b) (omega (arith, d)) stops_b in
       by_operand text ts (Choose p v a b) n s floor from to refl
-      (rw (x.1.1, x.1.2, x.2.1, x.2.2, x.3.1, x.3.2, ra, x.5.1, x.5.2, rb, x.2.3, x.1.3) refl)
+      (rw (x.1.1, x.1.2, ra, x.4.1, x.4.2, rb, x.1.3) refl)
 
   choice_comes : (p : Place) (a b e : Tree) → Comes text ts a → Comes text ts b → Comes text ts e → Comes text ts (If p a b e)
   unfolding operand choice

@@ -48,20 +48,6 @@ module _ (text : List ℕ) (ts : List Token) (inner : Scope → ℕ → ℕ → 
       let P : Outcome Tree → Type 0 = λ x. Fails text ts e x in
       subst P (sym (postfix_is n m most s t at u h p)) (fails_bind text ts e (behind text ts inner most s t u at) (postfix text ts inner m most s) f)
 
-  name_none : (o : Option Token) → kind_at k.Name o ≡ false → name_at o ≡ None
-  name_none None h = refl
-  name_none (Some t) h = rw h refl
-
-  names_refused : (n : ℕ) (column at : ℕ) → name_at (seen ts column at) ≡ None → names text ts n [] column at ≡ Err Refused
-  unfolding names
-  names_refused zero column at h = refl
-  names_refused (suc n) column at h = rw h refl
-
-  -- a group of a binder list begins with a name
-  pub group_none : (s : Scope) (at : ℕ) → kind_at k.Name (seen ts s.column at) ≡ false → group text ts inner s at ≡ Err Refused
-  unfolding group
-  group_none s at h = rw (names_refused (length ts) s.column at (name_none (seen ts s.column at) h)) refl
-
   pub climb_done : (n most : ℕ) (s : Scope) (floor : ℕ) (t : Tree) (at : ℕ) → above floor (infix_at (seen ts s.column at)) ≡ None
       → climb text ts inner n most s floor t at ≡ Ok (t, at)
   unfolding climb

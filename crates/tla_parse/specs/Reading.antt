@@ -27,7 +27,7 @@ use Rattle.tla_parse.specs.Tokens.{seen, is_bullet_at, may_follow}
 use Rattle.tla_parse.specs.Kinds.{same_kind, kind_at, closing}
 use Rattle.tla_parse.specs.Ending.{above, infix_at}
 use Rattle.tla_parse.specs.Grammar.{within}
-use Rattle.tla_parse.specs.ReadingLists.{name_at, following, names, exprs, some, listing, call, group, groups, paren}
+use Rattle.tla_parse.specs.ReadingLists.{name_at, following, names, exprs, some, listing, call, one_group, groups, paren}
 use Rattle.tla_parse.specs.ReadingBrackets.{fair, brace, tuple, bracket}
 use Rattle.tla_tree.specs.declared.tree.Fairness.TheVariants as fa
 use Rattle.tla_parse.specs.Outcome.{Fault, Refused, Nested, Outcome, ◌>>=◌, need, room, at_op, sequence}
@@ -94,9 +94,7 @@ module _ (text : List ℕ) (ts : List Token) where
     quantified s p q at = groups text ts inner (length ts) [] s (at + 1) >>= λ gs after. need (kind_at k.Colon (seen ts s.column after)) (inner s 0 (after + 1) >>= λ e end. Ok (Quantified p q (binders gs) e, end))
 
     unfoldable pub chosen : Scope → Place → ℕ → Outcome Tree
-    chosen s p at = at_op (name_at (seen ts s.column (at + 1))) (Err Refused) (λ name.
-        need (kind_at k.Member (seen ts s.column (at + 2))) (inner s 0 (at + 3) >>= λ b after.
-        need (kind_at k.Colon (seen ts s.column after)) (inner s 0 (after + 1) >>= λ e end. Ok (Choose p (written text name) b e, end))))
+    chosen s p at = one_group text ts inner s (at + 1) >>= λ g after. need (kind_at k.Colon (seen ts s.column after)) (inner s 0 (after + 1) >>= λ e end. Ok (Choose p g.0 g.1 e, end))
 
     unfoldable pub choice : Scope → Place → ℕ → Outcome Tree
     choice s p at = inner s 0 (at + 1) >>= λ a after. need (kind_at k.Then (seen ts s.column after))

@@ -12,6 +12,7 @@ use crate::domain::{choice_at, function_on, lists_of};
 use crate::environment::{Environment, Evaluated, Scope};
 use crate::evaluation::binding::value_with;
 use crate::evaluation::evaluate;
+use crate::evaluation::patterns::body_value;
 use crate::sets::made_set;
 use std::alloc::Global;
 use tla_core::{Core, Fault, Place, memory};
@@ -125,7 +126,7 @@ fn for_choices<'l, 'a>(
 
 /// The value of a body with more bound values.
 #[cycle(evaluate)]
-fn value_with_all<'a>(
+pub(super) fn value_with_all<'a>(
     alloc: Global,
     body: &'a Core,
     choice: &'a [Value],
@@ -139,5 +140,5 @@ fn value_with_all<'a>(
         now: env.now,
         next: env.next,
     };
-    evaluate(alloc, body, inner)?.into_value(alloc)
+    body_value(alloc, body, inner)?.into_value(alloc)
 }
