@@ -369,11 +369,7 @@ fn opening_of(alloc: Global, names: &[Written], bound: usize) -> Result<Vec<Open
 }
 
 /// Adds this element, if it is opened. The only error is want of memory.
-fn push_opening(
-    openings: &mut Vec<Opening>,
-    names: Names<'_>,
-    bound: usize,
-) -> Result<(), Failure>
+fn push_opening(openings: &mut Vec<Opening>, names: Names<'_>, bound: usize) -> Result<(), Failure>
     ensures ok { OnOk result (openings.new.items ≡ openings.old.items ++ opened_at (names_of names.entry) bound) }
     ensures err { IfErr result (λ e. e ≡ Failure.Memory) }
 {
