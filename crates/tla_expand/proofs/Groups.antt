@@ -12,7 +12,7 @@ use Rattle.tla_core.specs.declared.expression.Opening.{Opening}
 use Rattle.tla_core.specs.Patterns.{items_in}
 use Rattle.tla_expand.specs.Bound.{bind_each, bind_entry, with_each, with_elements, with_items, openings}
 use Rattle.tla_expand.specs.Expand.{binds_of, expand}
-use Rattle.tla_expand.specs.Binders.{names_of, binds_in}
+use Rattle.tla_expand.specs.Binders.{names_of, binds_in, opened_at, with_element, item_names}
 use Rattle.tla_expand.specs.Places.{Name}
 use Rattle.tla_expand.specs.Meanings.{with_name, bound_name}
 
@@ -58,40 +58,36 @@ each_more ws i d w y old new h g n e =
     let r : d + i + 1 ≡ d + suc i = omega arith in
     rw (p, q, e, n, ← r) refl
 
--- the next of elements that are bound one after the other: with a name, and without
-pub element_more : (bs : List Bind) (i d : ℕ) (b : Bind) (w : Written) (y : Name) (σ old new : Scope) → i < length bs → b ≡ get_or bs i b → names_of b.names ≡ x.named w.word → y ≡ w.word → new ≡ with_name y (bound_name (d + i)) old
-    → with_elements (binds_in (drop i bs) σ) (d + i) old ≡ with_elements (binds_in (drop (i + 1) bs) σ) (d + (i + 1)) new
-element_more bs i d b w y σ old new h g m n e =
-    let p : drop i bs ≡ b ∷ drop (suc i) bs = drop-cons bs i b h ∙ ap (λ (z : Bind). z ∷ drop (suc i) bs) (sym g) in
-    let q : i + 1 ≡ suc i = add-one i in
-    let r : d + i + 1 ≡ d + suc i = omega arith in
-    rw (p, q, e, n, m, ← r) refl
+-- the next of elements that are bound one after the other
+elements_next : (n : x.Names) (s : Argument) (bs : List x.Bind) (d c : ℕ) (σ : Scope) → d + 1 ≡ c → with_elements ((n, s) ∷ bs) d σ ≡ with_elements bs c (with_element n d σ)
+elements_next (x.named y) s bs d c σ h = ap (λ (k : ℕ). with_elements bs k (with_name y (bound_name d) σ)) h
+elements_next (x.tupled ws) s bs d c σ h = ap (λ (k : ℕ). with_elements bs k σ) h
 
-pub element_passed : (bs : List Bind) (i d : ℕ) (b : Bind) (ws : List Written) (σ old : Scope) → i < length bs → b ≡ get_or bs i b → names_of b.names ≡ x.tupled ws
-    → with_elements (binds_in (drop i bs) σ) (d + i) old ≡ with_elements (binds_in (drop (i + 1) bs) σ) (d + (i + 1)) old
-element_passed bs i d b ws σ old h g m =
+pub element_step : (bs : List Bind) (i d : ℕ) (b : Bind) (σ old new : Scope) → i < length bs → b ≡ get_or bs i b → new ≡ with_element (names_of b.names) (d + i) old
+    → with_elements (binds_in (drop i bs) σ) (d + i) old ≡ with_elements (binds_in (drop (i + 1) bs) σ) (d + (i + 1)) new
+element_step bs i d b σ old new h g n =
     let p : drop i bs ≡ b ∷ drop (suc i) bs = drop-cons bs i b h ∙ ap (λ (z : Bind). z ∷ drop (suc i) bs) (sym g) in
     let q : i + 1 ≡ suc i = add-one i in
     let r : d + i + 1 ≡ d + suc i = omega arith in
-    rw (p, q, m, ← r) refl
+    rw (p, q, n) (elements_next (names_of b.names) (expand (view b.set.now) σ) (binds_in (drop (suc i) bs) σ) (d + i) (d + suc i) old r)
 
 -- the next of the names of items
-pub items_more : (bs : List Bind) (i d : ℕ) (b : Bind) (ws : List Written) (σ old new : Scope) → i < length bs → b ≡ get_or bs i b → names_of b.names ≡ x.tupled ws → with_each ws d old ≡ new
+items_next : (n : x.Names) (ws : List Written) (s : Argument) (bs : List x.Bind) (d : ℕ) (σ : Scope) → ws ≡ item_names n → with_items ((n, s) ∷ bs) d σ ≡ with_items bs (d + length ws) (with_each ws d σ)
+items_next (x.named y) ws s bs d σ w =
+    let l : length ws ≡ 0 = rw w refl in
+    let z : d + length ws ≡ d = omega (arith, l) in
+    rw (z, w) refl
+items_next (x.tupled us) ws s bs d σ w = rw w refl
+
+pub item_step : (bs : List Bind) (i d : ℕ) (b : Bind) (ws : List Written) (σ old new : Scope) → i < length bs → b ≡ get_or bs i b → ws ≡ item_names (names_of b.names) → with_each ws d old ≡ new
     → with_items (binds_in (drop i bs) σ) d old ≡ with_items (binds_in (drop (i + 1) bs) σ) (d + length ws) new
-items_more bs i d b ws σ old new h g m e =
+item_step bs i d b ws σ old new h g w e =
     let p : drop i bs ≡ b ∷ drop (suc i) bs = drop-cons bs i b h ∙ ap (λ (z : Bind). z ∷ drop (suc i) bs) (sym g) in
     let q : i + 1 ≡ suc i = add-one i in
-    rw (p, q, m, ← e) refl
+    rw (p, q, ← e) (items_next (names_of b.names) ws (expand (view b.set.now) σ) (binds_in (drop (suc i) bs) σ) d old w)
 
 pub binds_length : (bs : List Bind) (σ : Scope) → length (binds_in bs σ) ≡ length bs
 binds_length bs σ = length-map bs (λ (y : Bind). (names_of y.names, expand (view y.set.now) σ))
-
-pub items_passed : (bs : List Bind) (i d : ℕ) (b : Bind) (y : Name) (σ old : Scope) → i < length bs → b ≡ get_or bs i b → names_of b.names ≡ x.named y
-    → with_items (binds_in (drop i bs) σ) d old ≡ with_items (binds_in (drop (i + 1) bs) σ) d old
-items_passed bs i d b y σ old h g m =
-    let p : drop i bs ≡ b ∷ drop (suc i) bs = drop-cons bs i b h ∙ ap (λ (z : Bind). z ∷ drop (suc i) bs) (sym g) in
-    let q : i + 1 ≡ suc i = add-one i in
-    rw (p, q, m) refl
 
 -- how many items are left: the same for every number of the first element
 pub items_same : (bs : List x.Bind) (c d : ℕ) → items_in (openings bs c) ≡ items_in (openings bs d)
@@ -99,37 +95,33 @@ items_same [] c d = refl
 items_same ((x.named y, s) ∷ bs) c d = items_same bs (c + 1) (d + 1)
 items_same ((x.tupled ws, s) ∷ bs) c d = ap (λ (n : ℕ). length ws + n) (items_same bs (c + 1) (d + 1))
 
-pub items_left : (bs : List Bind) (i n : ℕ) (b : Bind) (ws : List Written) (σ : Scope) (d : ℕ) → i < length bs → b ≡ get_or bs i b → names_of b.names ≡ x.tupled ws
-    → n + items_in (openings (binds_in (drop i bs) σ) d) ≤ 1000000 → n + length ws + items_in (openings (binds_in (drop (i + 1) bs) σ) d) ≤ 1000000
-items_left bs i n b ws σ d h g m k =
-    let p : drop i bs ≡ b ∷ drop (suc i) bs = drop-cons bs i b h ∙ ap (λ (z : Bind). z ∷ drop (suc i) bs) (sym g) in
-    let q : i + 1 ≡ suc i = add-one i in
-    let l = rw (p, m) at k in
-    rw q (omega (arith, l, items_same (binds_in (drop (suc i) bs) σ) d (d + 1)))
+left_next : (n : x.Names) (ws : List Written) (s : Argument) (bs : List x.Bind) (d : ℕ) → ws ≡ item_names n → items_in (openings ((n, s) ∷ bs) d) ≡ length ws + items_in (openings bs (d + 1))
+left_next (x.named y) ws s bs d w =
+    let l : length ws ≡ 0 = rw w refl in
+    omega (arith, l)
+left_next (x.tupled us) ws s bs d w = rw w refl
 
-pub items_left_passed : (bs : List Bind) (i n : ℕ) (b : Bind) (y : Name) (σ : Scope) (d : ℕ) → i < length bs → b ≡ get_or bs i b → names_of b.names ≡ x.named y
-    → n + items_in (openings (binds_in (drop i bs) σ) d) ≤ 1000000 → n + items_in (openings (binds_in (drop (i + 1) bs) σ) d) ≤ 1000000
-items_left_passed bs i n b y σ d h g m k =
+pub left_step : (bs : List Bind) (i n : ℕ) (b : Bind) (ws : List Written) (σ : Scope) (d : ℕ) → i < length bs → b ≡ get_or bs i b → ws ≡ item_names (names_of b.names)
+    → n + items_in (openings (binds_in (drop i bs) σ) d) ≤ 1000000 → n + length ws + items_in (openings (binds_in (drop (i + 1) bs) σ) d) ≤ 1000000
+left_step bs i n b ws σ d h g w k =
     let p : drop i bs ≡ b ∷ drop (suc i) bs = drop-cons bs i b h ∙ ap (λ (z : Bind). z ∷ drop (suc i) bs) (sym g) in
     let q : i + 1 ≡ suc i = add-one i in
-    let l = rw (p, m) at k in
-    rw q (omega (arith, l, items_same (binds_in (drop (suc i) bs) σ) d (d + 1)))
+    let rest = binds_in (drop (suc i) bs) σ in
+    let l : n + items_in (openings ((names_of b.names, expand (view b.set.now) σ) ∷ rest) d) ≤ 1000000 = (rw p at k) in
+    rw q (omega (arith, l, left_next (names_of b.names) ws (expand (view b.set.now) σ) rest d w, items_same rest d (d + 1)))
 
 -- the next of the elements that are opened
-pub openings_more : (os new : List Opening) (bs : List Bind) (i d : ℕ) (b : Bind) (ws : List Written) (σ : Scope) (whole : List Opening) → i < length bs → b ≡ get_or bs i b → names_of b.names ≡ x.tupled ws
-    → new ≡ os ++ x.opening (d + i) ws ∷ [] → os ++ openings (binds_in (drop i bs) σ) (d + i) ≡ whole → new ++ openings (binds_in (drop (i + 1) bs) σ) (d + (i + 1)) ≡ whole
-openings_more os new bs i d b ws σ whole h g m n e =
-    let p : drop i bs ≡ b ∷ drop (suc i) bs = drop-cons bs i b h ∙ ap (λ (z : Bind). z ∷ drop (suc i) bs) (sym g) in
-    let q : i + 1 ≡ suc i = add-one i in
-    let r : d + i + 1 ≡ d + suc i = omega arith in
-    let e2 : os ++ x.opening (d + i) ws ∷ openings (binds_in (drop (suc i) bs) σ) (d + suc i) ≡ whole = (rw (p, m, r) at e) in
-    rw (n, q) (append_assoc os (x.opening (d + i) ws ∷ []) (openings (binds_in (drop (suc i) bs) σ) (d + suc i)) ∙ e2)
+openings_next : (n : x.Names) (s : Argument) (bs : List x.Bind) (d c : ℕ) → d + 1 ≡ c → openings ((n, s) ∷ bs) d ≡ opened_at n d ++ openings bs c
+openings_next (x.named y) s bs d c h = ap (λ (k : ℕ). openings bs k) h
+openings_next (x.tupled ws) s bs d c h = ap (λ (k : ℕ). x.opening d ws ∷ openings bs k) h
 
-pub openings_passed : (os : List Opening) (bs : List Bind) (i d : ℕ) (b : Bind) (y : Name) (σ : Scope) (whole : List Opening) → i < length bs → b ≡ get_or bs i b → names_of b.names ≡ x.named y
-    → os ++ openings (binds_in (drop i bs) σ) (d + i) ≡ whole → os ++ openings (binds_in (drop (i + 1) bs) σ) (d + (i + 1)) ≡ whole
-openings_passed os bs i d b y σ whole h g m e =
+pub opening_step : (os new : List Opening) (bs : List Bind) (i d : ℕ) (b : Bind) (σ : Scope) (whole : List Opening) → i < length bs → b ≡ get_or bs i b → new ≡ os ++ opened_at (names_of b.names) (d + i)
+    → os ++ openings (binds_in (drop i bs) σ) (d + i) ≡ whole → new ++ openings (binds_in (drop (i + 1) bs) σ) (d + (i + 1)) ≡ whole
+opening_step os new bs i d b σ whole h g n e =
     let p : drop i bs ≡ b ∷ drop (suc i) bs = drop-cons bs i b h ∙ ap (λ (z : Bind). z ∷ drop (suc i) bs) (sym g) in
     let q : i + 1 ≡ suc i = add-one i in
     let r : d + i + 1 ≡ d + suc i = omega arith in
-    let e2 : os ++ openings (binds_in (drop (suc i) bs) σ) (d + i + 1) ≡ whole = (rw (p, m) at e) in
-    rw q (rw r at e2)
+    let here = opened_at (names_of b.names) (d + i) in
+    let rest = binds_in (drop (suc i) bs) σ in
+    let e2 : os ++ openings ((names_of b.names, expand (view b.set.now) σ) ∷ rest) (d + i) ≡ whole = (rw p at e) in
+    rw (n, q) (append_assoc os here (openings rest (d + suc i)) ∙ ap (λ (y : List Opening). os ++ y) (sym (openings_next (names_of b.names) (expand (view b.set.now) σ) rest (d + i) (d + suc i) r)) ∙ e2)

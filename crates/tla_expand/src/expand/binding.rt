@@ -1,6 +1,6 @@
 //! Forms that bind names.
 
-ghost use Rattle.std.specs.Prelude.{◌≡◌, ◌≤◌, ◌<◌, ◌+◌, ◌∷◌, [], ℕ, length, map, IfOk, IfErr, OnOk};
+ghost use Rattle.std.specs.Prelude.{◌≡◌, ◌≤◌, ◌<◌, ◌+◌, ◌∷◌, ◌++◌, [], ℕ, length, map, IfOk, IfErr, OnOk};
 ghost use Rattle.tla_core.specs.Patterns.{items_in};
 ghost use Rattle.tla_tree.specs.View.{view, pattern_view, group_view};
 ghost use Rattle.tla_tree.specs.Tree.{binders};
@@ -9,7 +9,7 @@ ghost use Rattle.tla_expand.specs.Expand as expansion;
 ghost use Rattle.tla_expand.specs.Bound as bounds;
 ghost use Rattle.tla_expand.specs.Bound.{bind_entry, last_or, with_each};
 ghost use Rattle.tla_expand.specs.Scopes.{AreLinked, Extends, scope_at};
-ghost use Rattle.tla_expand.specs.Binders.{names_of, binds_in};
+ghost use Rattle.tla_expand.specs.Binders.{names_of, binds_in, opened_at, with_element, item_names};
 ghost use Rattle.tla_expand.specs.Maybe.{each_of};
 ghost use Rattle.tla_expand.specs.Meanings.{Scope};
 ghost use Rattle.tla_expand.specs.Gives.{Gives, GivesMany, set_in};
@@ -368,6 +368,23 @@ fn opening_of(alloc: Global, names: &[Written], bound: usize) -> Result<Vec<Open
     Ok(openings)
 }
 
+/// Adds this element, if it is opened. The only error is want of memory.
+fn push_opening(openings: &mut Vec<Opening>, names: Names<'_>, bound: usize) -> Result<(), Failure>
+    ensures ok { OnOk result (openings.new.items ≡ openings.old.items ++ opened_at (names_of names.entry) bound) }
+    ensures err { IfErr result (λ e. e ≡ Failure.Memory) }
+{
+    match names {
+        Names::Name(_) => Ok(()),
+        Names::Tuple(names) => {
+            let opening = Opening {
+                name: bound,
+                items: names.len(),
+            };
+            push(openings, opening)
+        }
+    }
+}
+
 /// The elements that are opened, of those with numbers from `bound` on. The only error is want of memory.
 fn openings_of(alloc: Global, binds: &[Bind<'_>], bound: usize) -> Result<Vec<Opening>, Failure>
     requires { bound + length binds.now ≤ 1000000 }
@@ -377,16 +394,7 @@ fn openings_of(alloc: Global, binds: &[Bind<'_>], bound: usize) -> Result<Vec<Op
     let mut openings = Vec::new(alloc);
     for i in 0..binds.len() {
         let bind = binds[i];
-        match bind.names {
-            Names::Name(_) => {}
-            Names::Tuple(names) => {
-                let opening = Opening {
-                    name: bound + i,
-                    items: names.len(),
-                };
-                push(&mut openings, opening)?;
-            }
-        }
+        push_opening(&mut openings, bind.names, bound + i)?;
     }
     Ok(openings)
 }
@@ -454,6 +462,34 @@ fn name_all<'a>(
     name_items(entries, binds, bound + binds.len(), scope)
 }
 
+/// The scope with the name of an element, if it has one. The only error is want of memory.
+fn name_element<'a>(
+    entries: &mut Vec<Entry<'a>>,
+    names: Names<'a>,
+    bound: usize,
+    scope: usize,
+) -> Result<usize, Failure>
+    requires linked { AreLinked entries.old.items }
+    requires scope { scope ≤ length entries.old.items }
+    ensures linked { OnOk result (AreLinked entries.new.items) }
+    ensures extends { OnOk result (Extends entries.new.items entries.old.items) }
+    ensures within { IfOk result (λ s. s ≤ length entries.new.items) }
+    ensures same { IfOk result (λ s. scope_at entries.new.items s ≡ with_element (names_of names.entry) bound (scope_at entries.old.items scope)) }
+    ensures err { IfErr result (λ e. e ≡ Failure.Memory) }
+{
+    match names {
+        Names::Name(name) => {
+            let entry = Entry {
+                name: name.word.as_bytes(),
+                what: What::Bound(bound),
+                rest: scope,
+            };
+            enter(entries, entry)
+        }
+        Names::Tuple(_) => Ok(scope),
+    }
+}
+
 /// The scope with the names of elements. The only error is want of memory.
 fn name_elements<'a>(
     entries: &mut Vec<Entry<'a>>,
@@ -473,19 +509,19 @@ fn name_elements<'a>(
     let mut at = scope;
     for i in 0..binds.len() {
         let bind = binds[i];
-        match bind.names {
-            Names::Name(name) => {
-                let entry = Entry {
-                    name: name.word.as_bytes(),
-                    what: What::Bound(bound + i),
-                    rest: at,
-                };
-                at = enter(entries, entry)?;
-            }
-            Names::Tuple(_) => {}
-        }
+        at = name_element(entries, bind.names, bound + i, at)?;
     }
     Ok(at)
+}
+
+/// The names for the items of an element.
+fn names_for_items<'a>(names: Names<'a>) -> &'a [Written]
+    ensures { result.now ≡ item_names (names_of names.entry) }
+{
+    match names {
+        Names::Name(_) => &[],
+        Names::Tuple(names) => names,
+    }
 }
 
 /// The scope with the names of items. The only error is want of memory.
@@ -507,14 +543,9 @@ fn name_items<'a>(
     let mut at = scope;
     let mut next = bound;
     for i in 0..binds.len() {
-        let bind = binds[i];
-        match bind.names {
-            Names::Name(_) => {}
-            Names::Tuple(names) => {
-                at = name_each(entries, names, next, at)?;
-                next += names.len();
-            }
-        }
+        let names = names_for_items(binds[i].names);
+        at = name_each(entries, names, next, at)?;
+        next += names.len();
     }
     Ok(at)
 }
