@@ -64,6 +64,14 @@ impl Holds {
         self.late.load(Ordering::SeqCst)
     }
 
+    pub fn held_entered(&self) -> u64 {
+        self.held_entered.load(Ordering::SeqCst)
+    }
+
+    pub fn left(&self) -> u64 {
+        self.left.load(Ordering::SeqCst)
+    }
+
     pub fn held_dropped(&self) -> u64 {
         self.held_dropped.load(Ordering::SeqCst)
     }
