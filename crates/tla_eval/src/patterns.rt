@@ -3,7 +3,7 @@ ghost use Rattle.std.specs.Prelude.{map};
 ghost use Rattle.tla_value.specs.TreeOf.{tree_of, pair_of};
 ghost use Rattle.tla_core.specs.Lists.{each};
 ghost use Rattle.tla_core.specs.Patterns.{fitting, opened_items, tried_set};
-ghost use Rattle.tla_eval.specs.Environment.{bound_of};
+ghost use Rattle.tla_eval.specs.Private.Environment.{bound_of};
 ghost use Rattle.tla_eval.specs.Gives.{GivesBy, nothing_of, values_of};
 
 use crate::environment::{Scope, bound_value};

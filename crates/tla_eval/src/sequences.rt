@@ -7,7 +7,7 @@ ghost use Rattle.tla_core.specs.Fault.{out_of_memory};
 ghost use Rattle.tla_core.specs.Expr.{Len, Head, Tail, Concat, Append};
 ghost use Rattle.tla_core.specs.Kinds.{as_sequence, items, make_sequence};
 ghost use Rattle.tla_core.specs.Operators.{unary_rule, binary_rule, sub_seq_rule, part_of};
-ghost use Rattle.tla_eval.specs.Environment.{Evaluates, tree_of_evaluated};
+ghost use Rattle.tla_eval.specs.Private.Environment.{Evaluates, tree_of_evaluated};
 ghost use Rattle.tla_eval.specs.Gives.{Gives, GivesBy, GivesBorrowed, values_of};
 
 use crate::environment::Evaluated;

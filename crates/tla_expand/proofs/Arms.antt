@@ -33,8 +33,8 @@ use Rattle.tla_expand.specs.Unchanged.{unchanged, changed}
 use Rattle.tla_expand.specs.Meanings.{Scope}
 use Rattle.tla_expand.specs.Bound.{nested, gathered}
 use Rattle.tla_expand.specs.Expand.{expand, expand_each, expand_key, expand_arms, expand_fields, expand_updates, binds_of}
-use Rattle.tla_expand.specs.Forms.{form_in}
-use Rattle.tla_expand.specs.Gives.{both, part_in, key_in, arm_in, field_in, update_in, kept_part, changed_in}
+use Rattle.tla_expand.specs.Private.Forms.{form_in}
+use Rattle.tla_expand.specs.Private.Gives.{both, part_in, key_in, arm_in, field_in, update_in, kept_part, changed_in}
 use Rattle.tla_expand.proofs.Made.{one_shown, two_shown, three_shown, many_shown, cases_shown, fielded_shown, product_shown, except_shown}
 use Rattle.tla_expand.proofs.Lists.{each_in, arms_in, arms_or_in}
 use Rattle.tla_expand.proofs.NamedParts.{fields_in, updates_in}

@@ -12,7 +12,7 @@ use Rattle.tla_core.specs.declared.expression.Opening.{Opening}
 use Rattle.tla_core.specs.Patterns.{items_in}
 use Rattle.tla_expand.specs.Bound.{bind_each, bind_entry, with_each, with_elements, with_items, openings}
 use Rattle.tla_expand.specs.Expand.{binds_of, expand}
-use Rattle.tla_expand.specs.Binders.{names_of, binds_in, opened_at, with_element, item_names}
+use Rattle.tla_expand.specs.Private.Binders.{names_of, binds_in, opened_at, with_element, item_names}
 use Rattle.tla_expand.specs.Places.{Name}
 use Rattle.tla_expand.specs.Meanings.{with_name, bound_name}
 

@@ -10,7 +10,7 @@ use Rattle.tla_expand.specs.Maybe.{◌>>=◌}
 use Rattle.tla_expand.specs.Nodes.{binding}
 use Rattle.tla_expand.specs.Meanings.{Scope, Argument}
 use Rattle.tla_expand.specs.Bound.{Bind, under, nested, last_or}
-use Rattle.tla_expand.specs.Gives.{both, sum_of, larger_of, FailsBy, Fails}
+use Rattle.tla_expand.specs.Private.Gives.{both, sum_of, larger_of, FailsBy, Fails}
 use Rattle.tla_expand.specs.Primes.{with_primes}
 use Rattle.tla_expand.proofs.Sizes.{Given, first_fails, second_fails, two_give, node_fails, node_gives}
 use Rattle.tla_expand.proofs.Made.{binding_larger, binding_shown}

@@ -12,7 +12,7 @@ use Rattle.tla_expand.specs.declared.failure.Failure.{Failure}
 use Rattle.tla_expand.specs.declared.failure.Failure.TheVariants.{NoExpansion, TooLarge, Memory}
 use Rattle.tla_expand.specs.Maybe.{◌>>=◌}
 use Rattle.tla_model.specs.Size.{nodes, depth}
-use Rattle.tla_expand.specs.Gives.{FailsBy, Fails, Makes, both, sum_of, larger_of}
+use Rattle.tla_expand.specs.Private.Gives.{FailsBy, Fails, Makes, both, sum_of, larger_of}
 
 pub some_node : (e : Expr) → 0 < nodes e
 some_node (constant p a) = omega arith

@@ -6,7 +6,7 @@ ghost use Rattle.tla_tree.specs.Tree.{binders};
 ghost use Rattle.tla_expand.specs.Meanings.{Scope};
 ghost use Rattle.tla_expand.specs.Bound.{bind_each, bind_entry};
 ghost use Rattle.tla_expand.specs.Expand.{binds_of, expand};
-ghost use Rattle.tla_expand.specs.Binders.{binds_in};
+ghost use Rattle.tla_expand.specs.Private.Binders.{binds_in};
 
 use crate::failure::Failure;
 use std::alloc::Global;

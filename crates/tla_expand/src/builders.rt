@@ -7,7 +7,7 @@ ghost use Rattle.tla_expand.specs.Lists.{exprs, arms_with, fields_of, updates_of
 ghost use Rattle.tla_expand.specs.Places as places;
 ghost use Rattle.tla_expand.specs.Nodes as nodes;
 ghost use Rattle.tla_expand.specs.Bound.{under_openings};
-ghost use Rattle.tla_expand.specs.Gives.{MakesLeaf};
+ghost use Rattle.tla_expand.specs.Private.Gives.{MakesLeaf};
 
 use crate::failure::Failure;
 use crate::nodes::{Binding, Fielded, Gather, Leaf, Many, One, Three, Two};

@@ -4,8 +4,8 @@ ghost use Rattle.std.specs.Prelude.{◌≡◌, IfSome, IfNone, ℕ, None};
 ghost use Rattle.tla_tree.specs.View.{view};
 ghost use Rattle.tla_expand.specs.Meanings.{Scope, builtin_meaning};
 ghost use Rattle.tla_expand.specs.Expand.{of_quantifier};
-ghost use Rattle.tla_expand.specs.Forms.{GivesForm, GivesPrefix, form_in};
-ghost use Rattle.tla_expand.specs.Forms as spec;
+ghost use Rattle.tla_expand.specs.Private.Forms.{GivesForm, GivesPrefix, form_in};
+ghost use Rattle.tla_expand.specs.Private.Forms as spec;
 ghost use Rattle.tla_expand.specs.Scopes.{arguments_in};
 
 use crate::builders::place_of;

@@ -4,7 +4,7 @@ use Rattle.std.proofs.lemmas.List.{take_all}
 use Rattle.std.specs.Str.{IsUtf8}
 use Rattle.tla_lex.specs.Bytes.{Bytes}
 use Rattle.tla_lex.specs.Module.{header_end, closing, body, end_or}
-use Rattle.tla_lex.specs.FrontSize.{IsEndPlace}
+use Rattle.tla_lex.specs.Private.FrontSize.{IsEndPlace}
 use Rattle.tla_lex.specs.Gap.{gap}
 use Rattle.tla_lex.specs.Lexeme.{lexeme}
 use Rattle.tla_lex.specs.Places.{place_at, advance_all, first_place}

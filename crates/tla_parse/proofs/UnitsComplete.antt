@@ -17,7 +17,7 @@ use Rattle.tla_parse.specs.Units.{Blanks, Declares, MoreDeclared, AllDeclared, C
 use Rattle.tla_parse.specs.Outcome.{◌>>=◌}
 use Rattle.tla_parse.specs.ReadingLists.{name_at, following, names}
 use Rattle.tla_parse.specs.Reading.{definition, expr}
-use Rattle.tla_parse.specs.UnitsReading.{modules, blanks, declared, constants, claim_name, claim, unit_of, unit_by, unit, units, whole}
+use Rattle.tla_parse.specs.Private.UnitsReading.{modules, blanks, declared, constants, claim_name, claim, unit_of, unit_by, unit, units, whole}
 use Rattle.tla_parse.proofs.Inversion.{and_true, seen_is}
 use Rattle.tla_parse.proofs.Follow.{end_plain, stops_plain}
 use Rattle.tla_parse.proofs.Shapes.{top_zero, advances, defines_advance}

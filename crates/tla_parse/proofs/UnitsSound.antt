@@ -17,7 +17,7 @@ use Rattle.tla_parse.specs.Units.{Blanks, Declares, MoreDeclared, AllDeclared, C
 use Rattle.tla_parse.specs.Outcome.{Outcome, Refused, ◌>>=◌, at_op, need}
 use Rattle.tla_parse.specs.ReadingLists.{name_at, following, names}
 use Rattle.tla_parse.specs.Reading.{definition, expr}
-use Rattle.tla_parse.specs.UnitsReading.{Claim, modules, blanks, declared, constants, claim_name, claim, unit_of, unit_by, unit, units, whole}
+use Rattle.tla_parse.specs.Private.UnitsReading.{Claim, modules, blanks, declared, constants, claim_name, claim, unit_of, unit_by, unit, units, whole}
 use Rattle.tla_parse.proofs.Inversion.{ok_to, bind_ok, need_ok, at_op_ok, choice_ok, and_true, has_kind, has_name, seen_is}
 use Rattle.tla_parse.proofs.NameLists.{names_cons, names_sound}
 use Rattle.tla_parse.proofs.Sequence.{Behind, Follows, sequence_sound}

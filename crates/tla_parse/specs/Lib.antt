@@ -16,7 +16,5 @@ pub mod ReadingLists
 pub mod ReadingBrackets
 pub mod Reading
 pub mod Gives
-pub mod GivesRecords
 pub mod Nests
-pub mod UnitsReading
-pub mod UnitsGive
+pub mod Private

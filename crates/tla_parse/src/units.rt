@@ -3,14 +3,14 @@
 ghost use Rattle.std.specs.Prelude.{◌≡◌, ◌+◌, ◌<◌, ◌≤◌, ◌++◌, ◌∷◌, ◌&&◌, ◌||◌, [], length, true, not, IfErr, OnOk, OnSome, IsTrue};
 ghost use Rattle.tla_parse.specs.Units as units;
 ghost use Rattle.tla_tree.specs.UnitsView.{unit_view};
-ghost use Rattle.tla_parse.specs.UnitsReading as reading;
+ghost use Rattle.tla_parse.specs.Private.UnitsReading as reading;
 ghost use Rattle.tla_parse.specs.LeftOut.{IsExtended, OnlySeparators};
 ghost use Rattle.tla_parse.specs.Kinds.{kind_at};
 ghost use Rattle.tla_parse.specs.Tokens.{seen};
 ghost use Rattle.tla_lex.specs.declared.token.Kind.TheVariants as k;
 ghost use Rattle.tla_parse.specs.Gives.{GivesNames};
 ghost use Rattle.tla_tree.specs.View.{definition_view};
-ghost use Rattle.tla_parse.specs.UnitsGive.{GivesDeclared, GivesConstants, GivesClaim, GivesUnit, GivesUnits};
+ghost use Rattle.tla_parse.specs.Private.UnitsGive.{GivesDeclared, GivesConstants, GivesClaim, GivesUnit, GivesUnits};
 
 use crate::grammar::{definition, expr};
 use crate::list::push;

@@ -8,7 +8,7 @@ ghost use Rattle.tla_core.specs.SetForms.{means-filtered};
 ghost use Rattle.tla_core.specs.Value.{means};
 ghost use Rattle.tla_core.specs.ExprOf.{expr_of};
 ghost use Rattle.tla_eval.specs.Gives.{Gives, GivesBy, GivesTruth, GivesBorrowed};
-ghost use Rattle.tla_eval.specs.Environment.{Evaluates, bound_in, present_in, next_in};
+ghost use Rattle.tla_eval.specs.Private.Environment.{Evaluates, bound_in, present_in, next_in};
 
 use crate::environment::{Environment, Evaluated, Scope};
 use crate::evaluation::patterns::body_value;

@@ -6,7 +6,7 @@ ghost use Rattle.tla_core.specs.Meaning.{Meaning};
 ghost use Rattle.tla_core.specs.Value.{means};
 ghost use Rattle.tla_core.specs.ExprOf.{expr_of, parts_of_cores};
 ghost use Rattle.tla_eval.specs.Gives.{Gives, GivesBy, image_rule, chosen_function_rule, chosen_rule, values_for};
-ghost use Rattle.tla_eval.specs.Environment.{Evaluates, tree_of_evaluated, bound_in, present_in, next_in};
+ghost use Rattle.tla_eval.specs.Private.Environment.{Evaluates, tree_of_evaluated, bound_in, present_in, next_in};
 
 use crate::domain::{choice_at, function_on, lists_of};
 use crate::environment::{Environment, Evaluated, Scope};

@@ -2,7 +2,7 @@
 ghost use Rattle.tla_core.specs.Patterns.{means-opened, means-tried};
 ghost use Rattle.tla_core.specs.Value.{means, val};
 ghost use Rattle.tla_core.specs.ExprOf.{expr_of};
-ghost use Rattle.tla_eval.specs.Environment.{Evaluates, bound_in, present_in, next_in};
+ghost use Rattle.tla_eval.specs.Private.Environment.{Evaluates, bound_in, present_in, next_in};
 
 use crate::environment::{Environment, Evaluated};
 use crate::evaluation::choices::value_with_all;

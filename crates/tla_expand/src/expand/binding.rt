@@ -9,10 +9,10 @@ ghost use Rattle.tla_expand.specs.Expand as expansion;
 ghost use Rattle.tla_expand.specs.Bound as bounds;
 ghost use Rattle.tla_expand.specs.Bound.{bind_entry, last_or, with_each};
 ghost use Rattle.tla_expand.specs.Scopes.{AreLinked, Extends, scope_at};
-ghost use Rattle.tla_expand.specs.Binders.{names_of, binds_in, opened_at, with_element, item_names};
+ghost use Rattle.tla_expand.specs.Private.Binders.{names_of, binds_in, opened_at, with_element, item_names};
 ghost use Rattle.tla_expand.specs.Maybe.{each_of};
 ghost use Rattle.tla_expand.specs.Meanings.{Scope};
-ghost use Rattle.tla_expand.specs.Gives.{Gives, GivesMany, set_in};
+ghost use Rattle.tla_expand.specs.Private.Gives.{Gives, GivesMany, set_in};
 
 use crate::arena::{Entry, What, enter};
 use crate::binders::{Bind, Names, bind_list, bind_one};

@@ -12,7 +12,7 @@ use Rattle.tla_value.specs.Tree.{Tree}
 use Rattle.tla_value.specs.declared.value.Value.{Value}
 use Rattle.tla_core.specs.Value.{means, mem}
 use Rattle.tla_core.specs.ExprOf.{expr_of, parts_of_cores, fields_of_cores, arms_of_cores, updates_of_cores}
-use Rattle.tla_eval.specs.Environment.{tree_of_evaluated, bound_in, present_in, next_in}
+use Rattle.tla_eval.specs.Private.Environment.{tree_of_evaluated, bound_in, present_in, next_in}
 use Rattle.tla_core.specs.declared.expression.Core.{Core, size-Core}
 use Rattle.tla_eval.proofs.evaluation.+evaluate.Given as goal
 

@@ -1,6 +1,6 @@
 use Rattle.std.proofs.Common.{refl, arith}
 use Rattle.tla_tree.specs.View.{pattern_view}
-use Rattle.tla_expand.specs.Binders.{binds_in}
+use Rattle.tla_expand.specs.Private.Binders.{binds_in}
 use Rattle.tla_expand.proofs.Groups.{one_group}
 use Rattle.tla_expand.proofs.binders.bind_list.Goals as goal
 

@@ -3,7 +3,7 @@ use Rattle.tla_tree.specs.View.{view}
 use Rattle.tla_expand.specs.Meanings.{Scope}
 use Rattle.tla_expand.specs.Bound.{bind_each}
 use Rattle.tla_expand.specs.Expand.{expand}
-use Rattle.tla_expand.specs.Binders.{binds_in}
+use Rattle.tla_expand.specs.Private.Binders.{binds_in}
 use Rattle.tla_expand.proofs.binders.push_each.Given as goal
 
 abbrev pub invariant-loop-i : goal.invariant-loop-i

@@ -19,11 +19,11 @@ use Rattle.tla_expand.specs.Expand.{expand, expand_step, binds_of}
 use Rattle.tla_expand.specs.Scopes.{scope_at}
 use Rattle.tla_core.specs.Patterns.{items_in}
 use Rattle.tla_expand.specs.declared.failure.Failure.TheVariants.{TooLarge}
-use Rattle.tla_expand.specs.Binders.{names_of, binds_in}
+use Rattle.tla_expand.specs.Private.Binders.{names_of, binds_in}
 use Rattle.tla_expand.specs.Bound.{last_or, nested, with_each, opening, openings, with_elements, with_items}
 use Rattle.tla_expand.specs.Places.{place_of}
-use Rattle.tla_expand.specs.Gives.{Gives, part_in, arm_in, field_in, set_in, step_in, value_in, update_in, kept_part, changed_in, both, total, highest, sum_of, larger_of, field_nodes, field_depth, update_nodes, update_depth, parts_of}
-use Rattle.tla_expand.specs.Forms.{form_in}
+use Rattle.tla_expand.specs.Private.Gives.{Gives, part_in, arm_in, field_in, set_in, step_in, value_in, update_in, kept_part, changed_in, both, total, highest, sum_of, larger_of, field_nodes, field_depth, update_nodes, update_depth, parts_of}
+use Rattle.tla_expand.specs.Private.Forms.{form_in}
 use Rattle.tla_expand.proofs.Levels.{look_fails, unchanged_fails}
 use Rattle.tla_expand.proofs.Sizes.{no_room, none_left, first_fails, second_fails, two_give, node_fails, node_gives, same_limits, limits_are, openings_primed, opened_gives, opened_fails, opened_full}
 use Rattle.tla_expand.proofs.Lists.{part_done, part_fails, all_done, total_more, highest_more}

@@ -6,7 +6,7 @@ use Rattle.tla_parse.specs.Tokens.{seen}
 use Rattle.tla_parse.specs.Kinds.{kind_at}
 use Rattle.tla_parse.specs.Units.{is_separator, unit_depth, units_depth}
 use Rattle.tla_tree.specs.UnitsView.{unit_view}
-use Rattle.tla_parse.specs.UnitsReading.{unit}
+use Rattle.tla_parse.specs.Private.UnitsReading.{unit}
 use Rattle.tla_parse.proofs.Fails.{refuses_fails}
 use Rattle.tla_parse.proofs.UnitsSteps.{units_done, units_more, units_late, units_fails, units_full, units_depth_snoc, map_snoc}
 use Rattle.tla_parse.proofs.UnitsSound.{separators_more}

@@ -39,8 +39,8 @@ use Rattle.tla_expand.specs.Places.{at_name}
 use Rattle.tla_expand.specs.Lists.{named_part, changed_part}
 use Rattle.tla_expand.specs.Nodes.{two}
 use Rattle.tla_expand.specs.Bound.{set_for}
-use Rattle.tla_expand.specs.Binders.{names_of}
-use Rattle.tla_expand.specs.Forms.{form_in}
+use Rattle.tla_expand.specs.Private.Binders.{names_of}
+use Rattle.tla_expand.specs.Private.Forms.{form_in}
 use Rattle.tla_expand.specs.Scopes.{scope_at}
 
 abbrev pub head_gives : List Entry → Head → Argument

@@ -3,7 +3,7 @@ use Rattle.std.specs.Prelude.{◌≤◌, ◌<◌, ◌⊎◌, List, map, length}
 use Rattle.tla_tree.specs.Tree.{Tree}
 use Rattle.tla_defs.specs.declared.parts.Boxed.{Boxed}
 use Rattle.tla_defs.specs.declared.parts.Parts.{Parts}
-use Rattle.tla_defs.specs.Seen.{tree_at}
+use Rattle.tla_defs.specs.Private.Seen.{tree_at}
 use Rattle.tla_defs.specs.Specification.{Step}
 
 abbrev pub step_of : Boxed → Step

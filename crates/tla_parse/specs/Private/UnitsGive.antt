@@ -12,7 +12,7 @@ use Rattle.tla_parse.specs.Edges.{depth}
 use Rattle.tla_tree.specs.View.{view}
 use Rattle.tla_tree.specs.Units.{UnitTree, Declared}
 use Rattle.tla_parse.specs.Units.{unit_depth, units_depth}
-use Rattle.tla_parse.specs.UnitsReading.{Claim}
+use Rattle.tla_parse.specs.Private.UnitsReading.{Claim}
 use Rattle.tla_tree.specs.UnitsView.{unit_view, declared}
 use Rattle.tla_parse.specs.Outcome.{Outcome}
 use Rattle.tla_parse.specs.Gives.{Fails}

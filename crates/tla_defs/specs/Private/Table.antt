@@ -14,7 +14,7 @@ use Rattle.tla_defs.specs.declared.table.Class.{Class}
 use Rattle.tla_defs.specs.declared.table.Class.TheVariants as class
 use Rattle.tla_defs.specs.Bodies.{Bodies, Property, body_if, names_with}
 use Rattle.tla_defs.specs.Fairness.{fairness}
-use Rattle.tla_defs.specs.Seen.{tree_at}
+use Rattle.tla_defs.specs.Private.Seen.{tree_at}
 use Rattle.tla_defs.specs.Temporal.{temporal}
 
 -- a name and its definition

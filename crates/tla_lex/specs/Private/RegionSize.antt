@@ -1,6 +1,6 @@
 -- Bounds on regions, for contracts inside this crate alone.
 use Rattle.std.specs.Prelude.{ℕ}
-use Rattle.tla_lex.specs.GapSize.{depth}
+use Rattle.tla_lex.specs.Private.GapSize.{depth}
 use Rattle.tla_lex.specs.declared.closing.Region.{Region}
 use Rattle.tla_lex.specs.declared.closing.Region.TheVariants.{Code, Text, Escape}
 

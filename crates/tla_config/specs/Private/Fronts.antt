@@ -8,7 +8,7 @@ use Rattle.tla_lex.specs.declared.token.Token.{Token}
 use Rattle.tla_tree.specs.Words.{word_of}
 use Rattle.tla_config.specs.declared.keyword.Keyword.{Keyword}
 use Rattle.tla_config.specs.declared.keyword.Keyword.TheVariants as word
-use Rattle.tla_config.specs.Keywords.{keywords, lookup}
+use Rattle.tla_config.specs.Private.Keywords.{keywords, lookup}
 
 abbrev pub unless_keyword : Option Keyword → Token → Option Token
 unless_keyword None t = Some t

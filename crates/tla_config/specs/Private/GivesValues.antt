@@ -13,7 +13,7 @@ use Rattle.tla_config.specs.declared.refusal.Refusal.{Refusal}
 use Rattle.tla_config.specs.declared.values.ParsedValue.{ParsedValue}
 use Rattle.tla_config.specs.Beyond.{IsBeyond}
 use Rattle.tla_config.specs.Configuration.{SpellsLiteral, SpellsItem, Items}
-use Rattle.tla_config.specs.Gives.{Ends, Fails}
+use Rattle.tla_config.specs.Private.Gives.{Ends, Fails}
 use Rattle.tla_config.specs.Literals.{Literal, value_of, atom_of}
 use Rattle.tla_config.specs.Statements.{Item}
 use Rattle.tla_config.specs.View.{item_view}
