@@ -7,7 +7,7 @@ ghost use Rattle.tla_core.specs.Fault.{code_text};
 ghost use Rattle.tla_search.specs.Answers.{trace_of};
 ghost use Rattle.tla_search.specs.IsNamed.{AreWhole, IsAboutOne, IsNamedPart};
 ghost use Rattle.tla_check.specs.Codes.{refusal_code};
-ghost use Rattle.tla_check.specs.Pieces.{piece_text, pieces_text};
+ghost use Rattle.tla_check.specs.Private.Pieces.{piece_text, pieces_text};
 ghost use Rattle.tla_check.specs.Report.{report, line, first_line, fault_line, site_text, part_line, place_text, trace_lines, state_lines, value_line, value_lines, counts_line, answer_report, refusal_line, ending, source_text};
 
 use crate::checked::{Answered, Checked, Names, Refusal, RefusalCode};

@@ -9,8 +9,8 @@ use Rattle.tla_config.specs.declared.keyword.Keyword.TheVariants as word
 use Rattle.tla_config.specs.declared.refusal.Refusal.{Refusal}
 use Rattle.tla_config.specs.declared.refusal.Refusal.TheVariants as refusal
 use Rattle.tla_config.specs.Configuration.{Has, SpellsStatement}
-use Rattle.tla_config.specs.Fronts.{keyword_of}
-use Rattle.tla_config.specs.Gives.{Because, Nowhere, Anything, Fails, NoStatement, LeftOutBehind, TooLargeBehind, LeftOutIn, TooLargeIn}
+use Rattle.tla_config.specs.Private.Fronts.{keyword_of}
+use Rattle.tla_config.specs.Private.Gives.{Because, Nowhere, Anything, Fails, NoStatement, LeftOutBehind, TooLargeBehind, LeftOutIn, TooLargeIn}
 use Rattle.tla_config.specs.Refusals.{IsLeftOutWord}
 use Rattle.tla_config.specs.Statements.{Statement, Specification, Init, Next, Invariants, Constraints, Constants, CheckDeadlock}
 use Rattle.tla_config.proofs.Fronts.{Opens, same_pair, keyword_found, begins_is, constants_is, constants_found}

@@ -14,12 +14,12 @@ use Rattle.tla_config.specs.declared.keyword.Keyword.{Keyword}
 use Rattle.tla_config.specs.declared.refusal.Refusal.{Refusal}
 use Rattle.tla_config.specs.declared.refusal.Refusal.TheVariants as refusal
 use Rattle.tla_config.specs.Configuration.{Has, SpellsLiteral}
-use Rattle.tla_config.specs.Fronts.{kind_at, digits_of}
+use Rattle.tla_config.specs.Private.Fronts.{kind_at, digits_of}
 use Rattle.tla_config.specs.Beyond.{IsBeyond, itself}
-use Rattle.tla_config.specs.Gives.{Because, Nowhere, Anything, Fails}
-use Rattle.tla_config.specs.GivesValues.{IsValueAt, NoValue, AtomBeyond, BeyondIn}
+use Rattle.tla_config.specs.Private.Gives.{Because, Nowhere, Anything, Fails}
+use Rattle.tla_config.specs.Private.GivesValues.{IsValueAt, NoValue, AtomBeyond, BeyondIn}
 use Rattle.tla_config.proofs.Arms.{because_map}
-use Rattle.tla_config.specs.Keywords.{keywords, lookup}
+use Rattle.tla_config.specs.Private.Keywords.{keywords, lookup}
 use Rattle.tla_config.specs.Names.{is_among, statement_words}
 use Rattle.tla_config.specs.Literals.{Literal, model_value, atom, braces, value_of, number, atom_by, atom_of}
 use Rattle.tla_config.proofs.Fronts.{one_token, kind_found, digits_found, digits_is}

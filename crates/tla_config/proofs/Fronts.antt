@@ -10,8 +10,8 @@ use Rattle.tla_tree.specs.declared.word.Written.{Written}
 use Rattle.tla_config.specs.declared.keyword.Keyword.{Keyword}
 use Rattle.tla_config.specs.declared.keyword.Keyword.TheVariants as word
 use Rattle.tla_config.specs.Configuration.{kind_of, Has, Is, Begins, IsName}
-use Rattle.tla_config.specs.Fronts.{unless_keyword, name_by, name_of, with_place, keyword_by, keyword_of, same_kind, kind_at, truth_by, truth_of, digits_by, digits_of}
-use Rattle.tla_config.specs.Keywords.{keywords, lookup}
+use Rattle.tla_config.specs.Private.Fronts.{unless_keyword, name_by, name_of, with_place, keyword_by, keyword_of, same_kind, kind_at, truth_by, truth_of, digits_by, digits_of}
+use Rattle.tla_config.specs.Private.Keywords.{keywords, lookup}
 use Rattle.tla_config.specs.Names.{Name, is_among, statement_words}
 use Rattle.tla_config.proofs.Words.{spells_found, name_word, name_is_none}
 

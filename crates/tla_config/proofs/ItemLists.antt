@@ -7,10 +7,10 @@ use Rattle.tla_value.specs.IsValue.{IsValue}
 use Rattle.tla_value.specs.Tree.{Tree, Trees, Pairs, truth, int, text, model, set, fun, no_trees, more_trees, no_pairs, more_pairs, trees, pairs, members, entries, depth, deepest, deepest_pair}
 use Rattle.tla_config.specs.declared.refusal.Refusal.{Refusal}
 use Rattle.tla_config.specs.Configuration.{Has, IsName, SpellsItem, Items}
-use Rattle.tla_config.specs.Fronts.{kind_at}
-use Rattle.tla_config.specs.Gives.{Because, Nowhere, Anything, Ends, GoesOn, LeftOutBehind, TooLargeBehind}
+use Rattle.tla_config.specs.Private.Fronts.{kind_at}
+use Rattle.tla_config.specs.Private.Gives.{Because, Nowhere, Anything, Ends, GoesOn, LeftOutBehind, TooLargeBehind}
 use Rattle.tla_config.specs.Refusals.{IsLeftOutItem, IsTooLargeItem, ItemsUpTo}
-use Rattle.tla_config.specs.GivesValues.{IsValueAt, NoValue, NoItem, AreItems, NoItems, BeyondIn}
+use Rattle.tla_config.specs.Private.GivesValues.{IsValueAt, NoValue, NoItem, AreItems, NoItems, BeyondIn}
 use Rattle.tla_config.specs.Literals.{value_of}
 use Rattle.tla_config.specs.Statements.{Item, Value, Replaces}
 use Rattle.tla_config.proofs.Arms.{because_map}

@@ -9,8 +9,8 @@ use Rattle.tla_config.specs.Configuration.{Has, SpellsLiteral, SpellsMembers}
 use Rattle.tla_config.specs.declared.refusal.Refusal.{Refusal}
 use Rattle.tla_config.specs.declared.refusal.Refusal.TheVariants as refusal
 use Rattle.tla_config.specs.Beyond.{MembersUpTo, IsBeyond, itself, member}
-use Rattle.tla_config.specs.Gives.{Because, Nowhere, Anything, Fails}
-use Rattle.tla_config.specs.GivesValues.{IsValueAt, NoValue, BeyondIn}
+use Rattle.tla_config.specs.Private.Gives.{Because, Nowhere, Anything, Fails}
+use Rattle.tla_config.specs.Private.GivesValues.{IsValueAt, NoValue, BeyondIn}
 use Rattle.tla_config.proofs.Arms.{because_map}
 use Rattle.tla_config.specs.Literals.{Literal, Literals, atom, braces, no_literals, more_literals, value_of, values_of}
 use Rattle.tla_config.proofs.Limits.{member_value, member_depth}

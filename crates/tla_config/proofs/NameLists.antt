@@ -4,7 +4,7 @@ use Rattle.tla_lex.specs.declared.token.Kind.TheVariants as k
 use Rattle.tla_lex.specs.declared.token.Token.{Token}
 use Rattle.tla_tree.specs.declared.word.Written.{Written}
 use Rattle.tla_config.specs.Configuration.{Has, IsName, Names}
-use Rattle.tla_config.specs.Gives.{Ends, GoesOn, AreNames, NoNames}
+use Rattle.tla_config.specs.Private.Gives.{Ends, GoesOn, AreNames, NoNames}
 use Rattle.tla_config.proofs.Fronts.{one_name, comma_no_name}
 
 module _ (text : List ℕ) (ts : List Token) where

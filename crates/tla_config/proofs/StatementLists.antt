@@ -7,8 +7,8 @@ use Rattle.tla_lex.specs.declared.token.Token.{Token}
 use Rattle.tla_config.specs.declared.refusal.Refusal.{Refusal}
 use Rattle.tla_config.specs.declared.refusal.Refusal.TheVariants as refusal
 use Rattle.tla_config.specs.Configuration.{SpellsStatement, StatementsUpTo, SpellsStatements, is_check_deadlock}
-use Rattle.tla_config.specs.Fronts.{keyword_of}
-use Rattle.tla_config.specs.Gives.{Because, Fails, Ends, IsStatement, NoStatement, AreStatements, NoStatements, LeftOutIn, TooLargeIn, LeftOutAt, TooLargeAt, NoLeftOutWord}
+use Rattle.tla_config.specs.Private.Fronts.{keyword_of}
+use Rattle.tla_config.specs.Private.Gives.{Because, Fails, Ends, IsStatement, NoStatement, AreStatements, NoStatements, LeftOutIn, TooLargeIn, LeftOutAt, TooLargeAt, NoLeftOutWord}
 use Rattle.tla_config.specs.Refusals.{IsLeftOutWord, FollowsStatements}
 use Rattle.tla_config.specs.Statements.{Statement}
 use Rattle.tla_config.proofs.Arms.{spelled_front, left_out_front, left_out_none}

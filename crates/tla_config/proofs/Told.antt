@@ -7,7 +7,7 @@ use Rattle.tla_lex.specs.declared.token.Token.{Token}
 use Rattle.tla_tree.specs.Words.{word_of}
 use Rattle.tla_config.specs.declared.error.DefsCode.{DefsCode}
 use Rattle.tla_config.specs.declared.error.DefsCode.TheVariants.{StatementLeftOut, Memory}
-use Rattle.tla_config.specs.Gives.{LeftOutIn, LeftOutAt, TooLargeAt, NoLeftOutWord, OnlyBegins}
+use Rattle.tla_config.specs.Private.Gives.{LeftOutIn, LeftOutAt, TooLargeAt, NoLeftOutWord, OnlyBegins}
 use Rattle.tla_config.specs.Names.{Name, is_among}
 use Rattle.tla_config.specs.Refusals.{Begins, Explains, FollowsStatements, HasLeftOutWord, HasLeftOutItem, HasTooLargeItem, IsLeftOutWord, StandsAt, left_out_words}
 use Rattle.tla_config.proofs.Fronts.{one_token}

@@ -8,7 +8,7 @@ use Rattle.std.proofs.lemmas.Str.{IsUtf8-from_ascii}
 use Rattle.std.proofs.lemmas.Str.Ascii.{IsAscii-nil, IsAscii-cons}
 use Rattle.tla_config.specs.declared.keyword.Keyword.{Keyword}
 use Rattle.tla_config.specs.declared.keyword.Keyword.TheVariants as word
-use Rattle.tla_config.specs.Keywords.{keywords, lookup}
+use Rattle.tla_config.specs.Private.Keywords.{keywords, lookup}
 use Rattle.tla_config.specs.Names.{Name, is_among, statement_words}
 use Rattle.tla_config.specs.Refusals.{left_out_words}
 

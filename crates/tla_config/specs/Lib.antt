@@ -5,8 +5,5 @@ pub mod Configuration
 pub mod View
 pub mod Codes
 pub mod Refusals
-pub mod Keywords
-pub mod Fronts
-pub mod Gives
-pub mod GivesValues
 pub mod Beyond
+pub mod Private

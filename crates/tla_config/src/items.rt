@@ -1,8 +1,8 @@
 //! Lists of items.
 
 ghost use Rattle.std.specs.Prelude.{◌≡◌, ◌≤◌, ◌<◌, ◌+◌, ◌++◌, ◌∷◌, [], length, IfOk, IfErr, OnOk};
-ghost use Rattle.tla_config.specs.Gives.{Because, Anything, LeftOutBehind, TooLargeBehind};
-ghost use Rattle.tla_config.specs.GivesValues as spec;
+ghost use Rattle.tla_config.specs.Private.Gives.{Because, Anything, LeftOutBehind, TooLargeBehind};
+ghost use Rattle.tla_config.specs.Private.GivesValues as spec;
 ghost use Rattle.tla_config.specs.Refusals.{IsLeftOutItem, IsTooLargeItem};
 
 use crate::names::{name, next_name};

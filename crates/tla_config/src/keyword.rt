@@ -1,7 +1,7 @@
 //! The words that begin statements.
 
 ghost use Rattle.std.specs.Prelude.{◌≡◌, map};
-ghost use Rattle.tla_config.specs.Keywords as spec;
+ghost use Rattle.tla_config.specs.Private.Keywords as spec;
 
 /// What a word begins.
 #[derive(Clone, Copy, Debug, PartialEq, Eq)]

@@ -1,7 +1,7 @@
 //! Lists of names.
 
 ghost use Rattle.std.specs.Prelude.{◌≡◌, ◌≤◌, ◌<◌, ◌++◌, ◌∷◌, [], length, IfSome, IfOk, IfErr, OnOk};
-ghost use Rattle.tla_config.specs.Gives as spec;
+ghost use Rattle.tla_config.specs.Private.Gives as spec;
 
 use crate::refusal::Refusal;
 use crate::tokens::{is_kind, name_at, written};

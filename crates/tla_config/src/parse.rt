@@ -5,7 +5,7 @@ ghost use Rattle.tla_lex.specs.Places.{place_at};
 ghost use Rattle.tla_lex.specs.Tokens.{no_memory};
 ghost use Rattle.tla_lex.specs.declared.token.Place as lexed_at;
 ghost use Rattle.tla_config.specs.Configuration.{IsConfiguration};
-ghost use Rattle.tla_config.specs.Gives.{Because, Fails, NoStatements, LeftOutAt, TooLargeAt, NoLeftOutWord, OnlyBegins};
+ghost use Rattle.tla_config.specs.Private.Gives.{Because, Fails, NoStatements, LeftOutAt, TooLargeAt, NoLeftOutWord, OnlyBegins};
 ghost use Rattle.tla_config.specs.Statements as spec;
 ghost use Rattle.tla_config.specs.Refusals.{IsLocated, Explains, Begins, StandsAt};
 

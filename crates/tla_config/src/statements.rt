@@ -1,7 +1,7 @@
 //! The statements of a configuration.
 
 ghost use Rattle.std.specs.Prelude.{◌≡◌, ◌≤◌, ◌<◌, ◌++◌, ◌∷◌, [], length, map, IfErr, IfOk, OnOk};
-ghost use Rattle.tla_config.specs.Gives as spec;
+ghost use Rattle.tla_config.specs.Private.Gives as spec;
 ghost use Rattle.tla_config.specs.Refusals.{IsLeftOutWord};
 ghost use Rattle.tla_config.specs.View.{statement_view};
 

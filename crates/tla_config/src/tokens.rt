@@ -2,7 +2,7 @@
 
 ghost use Rattle.std.specs.Prelude.{◌≡◌, ◌<◌, length, slice_get, IfOk, IfErr, OnSome, IsTrue};
 ghost use Rattle.tla_tree.specs.Words as words;
-ghost use Rattle.tla_config.specs.Fronts as spec;
+ghost use Rattle.tla_config.specs.Private.Fronts as spec;
 
 use crate::keyword::{Keyword, keyword_of};
 use crate::refusal::Refusal;

@@ -10,9 +10,9 @@ ghost use Rattle.tla_value.specs.IsValue.{IsValue};
 ghost use Rattle.tla_value.specs.Tree as tree;
 ghost use Rattle.tla_value.specs.TreeOf.{tree_of};
 ghost use Rattle.tla_tree.specs.Words.{word_of};
-ghost use Rattle.tla_config.specs.Fronts.{kind_at};
-ghost use Rattle.tla_config.specs.Gives.{Because, Nowhere, Anything};
-ghost use Rattle.tla_config.specs.GivesValues as spec;
+ghost use Rattle.tla_config.specs.Private.Fronts.{kind_at};
+ghost use Rattle.tla_config.specs.Private.Gives.{Because, Nowhere, Anything};
+ghost use Rattle.tla_config.specs.Private.GivesValues as spec;
 ghost use Rattle.tla_config.specs.Literals.{number};
 
 use crate::keyword::keyword_of;

@@ -2,6 +2,7 @@
 use Rattle.std.specs.Prelude.{ℕ, List}
 use Rattle.tla_value.specs.Tree.{Tree}
 use Rattle.tla_core.specs.Fault.{Place}
+use Rattle.tla_core.specs.declared.expression.Opening.{Opening}
 
 -- operators on one value
 pub data Unary : Type 0 where
@@ -89,6 +90,9 @@ mutual
     cap : Place → Expr → Expr → Expr
     minus : Place → Expr → Expr → Expr
     filtered : Place → Expr → Expr → Expr
+    -- tuple patterns: a body under the items of elements, and a set whose elements fit
+    opened : Place → List Opening → Expr → Expr
+    tried : Place → ℕ → Expr → Expr
 
   pub data Exprs : Type 0 where
     no_exprs : Exprs

@@ -1,6 +1,9 @@
 -- Whether the names of an expression exist: its bound names, where b are bound outside, its variables, where there are n, and those with a present value, where there is a present state. (This project's own choice: the condition of whoever evaluates it.)
 use Rattle.std.specs.Prelude.{◌≡◌, ℕ, ◌+◌, ◌≤◌, ◌^◌, nat_lt, Bool, true, ◌&&◌, Option, Some, None}
-use Rattle.tla_core.specs.Expr.{Expr, Exprs, Fields, Arms, Updates, constant, bound, now, next, unary, binary, equal, sub_seq, enumerated, tuple, record_of, conjunction, disjunction, implies, conditional, cases, assert, for_all, for_some, choose, image, function, except, member, not_member, subset, kind_set, booleans, sequences, power, functions, records, product, cup, cap, minus, filtered, no_exprs, more_exprs, no_fields, more_fields, no_arms, other, more_arms, no_updates, more_updates}
+use Rattle.std.specs.List.{list_all}
+use Rattle.tla_core.specs.declared.expression.Opening.{Opening}
+use Rattle.tla_core.specs.Patterns.{items_in}
+use Rattle.tla_core.specs.Expr.{Expr, Exprs, Fields, Arms, Updates, constant, bound, now, next, unary, binary, equal, sub_seq, enumerated, tuple, record_of, conjunction, disjunction, implies, conditional, cases, assert, for_all, for_some, choose, image, function, except, member, not_member, subset, kind_set, booleans, sequences, power, functions, records, product, cup, cap, minus, filtered, opened, tried, no_exprs, more_exprs, no_fields, more_fields, no_arms, other, more_arms, no_updates, more_updates}
 
 abbrev pub count : Exprs → ℕ
 count no_exprs = 0
@@ -46,6 +49,9 @@ abbrev mutual
   fits (cap p a c) b n s = fits a b n s && fits c b n s
   fits (minus p a c) b n s = fits a b n s && fits c b n s
   fits (filtered p a e) b n s = fits a b n s && fits e (b + 1) n s
+  -- an opened name is bound outside, and each item is a name more
+  fits (opened p os e) b n s = list_all (λ (o : Opening). nat_lt o.name b) os && fits e (b + items_in os) n s
+  fits (tried p k a) b n s = fits a b n s
 
   pub fits_all : Exprs → ℕ → ℕ → Bool → Bool
   fits_all no_exprs b n s = true

@@ -26,7 +26,7 @@ abbrev pub argument_of : List Tree → Tree
 argument_of (v ∷ []) = v
 argument_of vs = sequence vs
 
--- how long the arguments are: as many items as there are names
+-- how long the arguments are: as many items as there are names and elements of patterns
 abbrev pub names_in : List (List Tree) → ℕ
 names_in [] = 0
 names_in (c ∷ cs) = length c

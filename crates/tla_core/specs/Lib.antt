@@ -5,6 +5,7 @@ pub mod Operators
 pub mod Lists
 pub mod Meaning
 pub mod Logic
+pub mod Patterns
 pub mod Functions
 pub mod Membership
 pub mod SetForms

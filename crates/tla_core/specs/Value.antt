@@ -2,9 +2,10 @@
 use Rattle.std.specs.Prelude.{ℕ, List, [], ◌∷◌, Option, Some, None, Bool}
 use Rattle.tla_value.specs.Tree.{Tree}
 use Rattle.tla_core.specs.Fault.{Outcome}
-use Rattle.tla_core.specs.Expr.{Expr, Exprs, Fields, Arms, Updates, constant, bound, now, next, unary, binary, equal, sub_seq, enumerated, tuple, record_of, conjunction, disjunction, implies, conditional, cases, assert, for_all, for_some, choose, image, function, except, member, not_member, subset, kind_set, booleans, sequences, power, functions, records, product, cup, cap, minus, filtered, no_exprs, more_exprs, no_fields, more_fields, no_arms, other, more_arms, no_updates, more_updates}
+use Rattle.tla_core.specs.Expr.{Expr, Exprs, Fields, Arms, Updates, constant, bound, now, next, unary, binary, equal, sub_seq, enumerated, tuple, record_of, conjunction, disjunction, implies, conditional, cases, assert, for_all, for_some, choose, image, function, except, member, not_member, subset, kind_set, booleans, sequences, power, functions, records, product, cup, cap, minus, filtered, opened, tried, no_exprs, more_exprs, no_fields, more_fields, no_arms, other, more_arms, no_updates, more_updates}
 use Rattle.tla_core.specs.Meaning.{Meaning, Bound, Present, Next, means-constant, means-bound, means-now, means-next, means-unary, means-binary, means-equal, means-sub_seq, means-enumerated, means-tuple, means-record_of}
 use Rattle.tla_core.specs.Logic.{means-conjunction, means-disjunction, means-implies, means-cases, means-assert, means-for_all, means-for_some, means-choose}
+use Rattle.tla_core.specs.Patterns.{means-opened, means-tried}
 use Rattle.tla_core.specs.Functions.{means-image, means-function, means-except}
 use Rattle.tla_core.specs.Membership.{means-member, means-not_member, means-subset, means-kind_set, means-booleans, means-sequences}
 use Rattle.tla_core.specs.SetForms.{means-power, means-functions, means-records, means-product, means-cup, means-cap, means-minus, means-filtered}
@@ -48,6 +49,8 @@ abbrev mutual
   means (cap p a c) = means-cap p (means a) (means c)
   means (minus p a c) = means-minus p (means a) (means c)
   means (filtered p a e) = means-filtered p (means a) (means e)
+  means (opened p os e) = means-opened p os (means e)
+  means (tried p k a) = means-tried p k (means a)
 
   pub mean_all : Exprs → List Meaning
   mean_all no_exprs = []

@@ -66,6 +66,13 @@ pub enum Kind {
     Strings,
 }
 
+/// A bound name whose element is a sequence of so many items.
+#[derive(Clone, Copy, Debug, PartialEq, Eq)]
+pub struct Opening {
+    pub name: usize,
+    pub items: usize,
+}
+
 /// An expression in which definitions are expanded and primes are pushed down to the variables.
 /// Each node has the place of the first token of the expression that it stands for.
 #[derive(Drop)]
@@ -140,6 +147,10 @@ pub enum Core {
     Minus(Place, Box<Core>, Box<Core>),
     /// `{x \in S : p}`: the set, and the body.
     Filter(Place, Box<Core>, Box<Core>),
+    /// Elements that are opened, and the body, in which their items are the next bound names.
+    Opened(Place, Vec<Opening>, Box<Core>),
+    /// A set of sequences of so many items.
+    Tried(Place, usize, Box<Core>),
 }
 
 impl Core {
@@ -190,6 +201,8 @@ impl Core {
             Core::Cap(place, _, _) => *place,
             Core::Minus(place, _, _) => *place,
             Core::Filter(place, _, _) => *place,
+            Core::Opened(place, _, _) => *place,
+            Core::Tried(place, _, _) => *place,
         }
     }
 }

@@ -6,5 +6,5 @@ mod fault;
 mod names;
 mod primed;
 
-pub use expression::{Binary, Core, Kind, Unary};
+pub use expression::{Binary, Core, Kind, Opening, Unary};
 pub use fault::{Fault, FaultCode, Place, memory};

@@ -5,8 +5,9 @@ ghost use Rattle.tla_core.specs.Expr.{Expr};
 ghost use Rattle.tla_core.specs.ExprOf.{expr_of, exprs_of_arm, update_fits};
 ghost use Rattle.tla_core.specs.declared.expression.Core.{Core};
 ghost use Rattle.tla_core.specs.Fits.{fits, Counts};
+ghost use Rattle.tla_core.specs.Patterns.{items_in};
 
-use crate::expression::Core;
+use crate::expression::{Core, Opening};
 use tla_value::Text;
 
 impl Core {
@@ -37,6 +38,29 @@ fn has_name(names: Option<usize>, index: usize) -> bool
         Some(count) => index < count,
         None => true,
     }
+}
+
+/// Whether each name that is opened is there.
+fn are_bound(openings: &[Opening], names: Option<usize>) -> bool
+    ensures { (n : ℕ) → Counts names n → result ≡ list_all (λ (o : Opening). nat_lt o.name n) openings.now }
+{
+    for opening in openings {
+        if !has_name(names, opening.name) {
+            return false;
+        }
+    }
+    true
+}
+
+/// As many names and the items of these.
+fn with_items(openings: &[Opening], names: Option<usize>) -> Option<usize>
+    ensures { (n : ℕ) → Counts names n → Counts result (n + items_in openings.now) }
+{
+    let mut count = names;
+    for opening in openings {
+        count = with_more(count, opening.items);
+    }
+    count
 }
 
 #[cycle(fits)]
@@ -108,6 +132,11 @@ fn fits_within(core: &Core, names: Option<usize>, variables: usize, now: bool) -
         Core::Records(_, fields) => fields_fit(fields, names, variables, now),
         Core::Product(_, parts) => all_fit(parts, names, variables, now),
         Core::Disjunction(_, parts) => all_fit(parts, names, variables, now),
+        Core::Opened(_, openings, body) => {
+            are_bound(openings, names)
+                && fits_within(body, with_items(openings, names), variables, now)
+        }
+        Core::Tried(_, _, set) => fits_within(set, names, variables, now),
     }
 }
 

@@ -68,6 +68,8 @@ fn has_next(core: &Core) -> bool
         Core::Records(_, fields) => fields_have_next(fields),
         Core::Product(_, parts) => some_has_next(parts),
         Core::Disjunction(_, parts) => some_has_next(parts),
+        Core::Opened(_, _, body) => has_next(body),
+        Core::Tried(_, _, set) => has_next(set),
     }
 }
 

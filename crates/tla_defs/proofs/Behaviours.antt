@@ -7,7 +7,7 @@ use Rattle.tla_tree.specs.Units.{UnitTree}
 use Rattle.tla_config.specs.Statements.{Statement, Specification, Init, Next, Invariants, Constraints, Constants, CheckDeadlock}
 use Rattle.tla_defs.specs.Model.{IsBehaviour, initials_named, nexts_named, specifications_named}
 use Rattle.tla_defs.specs.Refused.{Behaviour, Named, Specified, alone, behaviour}
-use Rattle.tla_defs.specs.Specified.{IsOnly, init_names, next_names, specification_names}
+use Rattle.tla_defs.specs.Private.Specified.{IsOnly, init_names, next_names, specification_names}
 
 -- a name that was found before
 abbrev pub before : Option Written → List Written

@@ -14,7 +14,7 @@ use Rattle.tla_config.specs.Names.{Name}
 use Rattle.tla_names.specs.Scope.{Scope, arity, plain, bound_names}
 use Rattle.tla_expand.specs.Maybe.{◌>>=◌}
 use Rattle.tla_defs.specs.Bodies.{Bodies, body_has}
-use Rattle.tla_defs.specs.Conjuncts.{initials_by, is_initial_by, AreMadeOfFairness}
+use Rattle.tla_defs.specs.Private.Conjuncts.{initials_by, is_initial_by, AreMadeOfFairness}
 use Rattle.tla_defs.specs.Fairness.{fair_in, fair_each, fairness, fair_of, is_and}
 use Rattle.tla_defs.specs.Specification.{always, steps_of, conjuncts_in, conjuncts_each, conjuncts_of, conjuncts}
 use Rattle.tla_defs.proofs.Properties.{Grows, deeper}

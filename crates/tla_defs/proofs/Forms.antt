@@ -10,15 +10,15 @@ use Rattle.tla_tree.specs.Units.{UnitTree}
 use Rattle.tla_config.specs.Names.{Name}
 use Rattle.tla_config.specs.Statements.{Item}
 use Rattle.tla_expand.specs.Meanings.{Scope}
-use Rattle.tla_defs.specs.Seen.{tree_at, seen}
+use Rattle.tla_defs.specs.Private.Seen.{tree_at, seen}
 use Rattle.tla_defs.specs.Bodies.{Bodies, body_of}
 use Rattle.tla_defs.specs.Subscripts.{IsCover}
 use Rattle.tla_defs.specs.Specification.{Step, IsSpecification, is_conjunction, replaced, replaced_by, conjuncts, conjunction_of, initials_of, steps_of}
-use Rattle.tla_defs.specs.Specified.{LacksState, NoForm}
-use Rattle.tla_defs.specs.Conjuncts.{AreMadeOfFairness, initials_by}
+use Rattle.tla_defs.specs.Private.Specified.{LacksState, NoForm}
+use Rattle.tla_defs.specs.Private.Conjuncts.{AreMadeOfFairness, initials_by}
 use Rattle.tla_defs.specs.Fairness.{fair_in, fair_of}
 use Rattle.tla_defs.specs.Temporal.{temporal_of}
-use Rattle.tla_defs.specs.Parts.{AreMany}
+use Rattle.tla_defs.specs.Private.Parts.{AreMany}
 use Rattle.tla_defs.proofs.Fairs.{made_of_fairness}
 use Rattle.tla_defs.proofs.States.{lacks_state, too_long}
 use Rattle.tla_defs.proofs.Unique.{same_some}

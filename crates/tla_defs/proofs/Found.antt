@@ -24,7 +24,7 @@ use Rattle.tla_expand.proofs.PrimesFit.{inv}
 use Rattle.tla_model.specs.ModelOf.{predicate_of, tree_of_parts}
 use Rattle.tla_model.specs.declared.state_predicate.StatePredicate.{StatePredicate}
 use Rattle.tla_model.specs.Size.{IsWithinLimits}
-use Rattle.tla_defs.specs.Formulas.{Follow, mentions}
+use Rattle.tla_defs.specs.Private.Formulas.{Follow, mentions}
 use Rattle.tla_defs.specs.Global.{global}
 use Rattle.tla_names.specs.Constants.{unvalued}
 use Rattle.tla_names.specs.Misuses.{misuse, variables_of}

@@ -11,10 +11,10 @@ use Rattle.tla_config.specs.Names.{Name}
 use Rattle.tla_defs.specs.declared.conjuncts.Formula.{Formula}
 use Rattle.tla_defs.specs.declared.parts.Parts.{Parts}
 use Rattle.tla_defs.specs.Bodies.{Bodies}
-use Rattle.tla_defs.specs.Conjuncts.{conjuncts_from, conjuncts_left, initials_by, is_initial_by, AreMadeOfFairness, AreFoundOrLeft}
+use Rattle.tla_defs.specs.Private.Conjuncts.{conjuncts_from, conjuncts_left, initials_by, is_initial_by, AreMadeOfFairness, AreFoundOrLeft}
 use Rattle.tla_defs.specs.Fairness.{fair_in}
-use Rattle.tla_defs.specs.Parts.{steps_in, step_of, AreFew, AreMany}
-use Rattle.tla_defs.specs.Seen.{tree_at, seen}
+use Rattle.tla_defs.specs.Private.Parts.{steps_in, step_of, AreFew, AreMany}
+use Rattle.tla_defs.specs.Private.Seen.{tree_at, seen}
 use Rattle.tla_defs.specs.Specification.{Step, always, steps_of, conjuncts_in, conjuncts_each}
 use Rattle.tla_defs.proofs.Fairs.{SaysNothing, fair_says_nothing}
 

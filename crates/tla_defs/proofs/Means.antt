@@ -13,7 +13,7 @@ use Rattle.tla_defs.specs.Global.{global}
 use Rattle.tla_names.specs.Misuses.{variables_of}
 use Rattle.tla_defs.specs.Model.{IsModel, IsBehaviour, IsInitial, specifications_named}
 use Rattle.tla_defs.specs.Refused.{Behaviour, Named, Specified}
-use Rattle.tla_defs.specs.Specified.{IsOnly, IsMeant, NoneMeant, initial_tree, action_tree}
+use Rattle.tla_defs.specs.Private.Specified.{IsOnly, IsMeant, NoneMeant, initial_tree, action_tree}
 use Rattle.tla_defs.proofs.Unique.{same_one}
 
 -- they are those of the configuration

@@ -12,7 +12,7 @@ use Rattle.tla_config.specs.Statements.{Statement, Item, items_of}
 use Rattle.tla_config.specs.View.{ConfigTree}
 use Rattle.tla_expand.specs.Meanings.{Scope}
 use Rattle.tla_model.specs.ModelTree.{ModelTree}
-use Rattle.tla_defs.specs.Formulas.{LacksPredicate, LacksAssumption}
+use Rattle.tla_defs.specs.Private.Formulas.{LacksPredicate, LacksAssumption}
 use Rattle.tla_defs.specs.Global.{global}
 use Rattle.std.specs.Prelude.{IfErr}
 use Rattle.tla_names.specs.Constants.{unvalued}

@@ -15,10 +15,10 @@ use Rattle.tla_expand.specs.Places.{place_of}
 use Rattle.tla_expand.specs.Primes.{primes, primes_each}
 use Rattle.tla_expand.proofs.PrimesFit.{inv}
 use Rattle.tla_expand.proofs.Sizes.{some_node}
-use Rattle.tla_defs.specs.Seen.{tree_at, seen}
+use Rattle.tla_defs.specs.Private.Seen.{tree_at, seen}
 use Rattle.tla_defs.specs.Model.{IsInitial}
 use Rattle.tla_defs.specs.Specification.{conjunction_of}
-use Rattle.tla_defs.specs.Specified.{LacksState}
+use Rattle.tla_defs.specs.Private.Specified.{LacksState}
 
 -- the first of several, and the others
 record IsSplit (σ : Scope) (t : Tree) (ts : List Tree) (ys : Exprs) : Type 0 where

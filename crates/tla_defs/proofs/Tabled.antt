@@ -15,8 +15,8 @@ use Rattle.tla_expand.specs.Maybe.{◌>>=◌}
 use Rattle.tla_names.specs.Maybe.{or_else}
 use Rattle.tla_defs.specs.declared.table.Body.{Body}
 use Rattle.tla_defs.specs.Bodies.{Bodies, Property, body_if, body_in, body_of, body_has, names_with}
-use Rattle.tla_defs.specs.Seen.{tree_at}
-use Rattle.tla_defs.specs.Table.{Row, definition_at, body_at, found_at, bodies_by, found_by, found_count, AreRight, IsFound, SameDefinitions}
+use Rattle.tla_defs.specs.Private.Seen.{tree_at}
+use Rattle.tla_defs.specs.Private.Table.{Row, definition_at, body_at, found_at, bodies_by, found_by, found_count, AreRight, IsFound, SameDefinitions}
 use Rattle.tla_defs.proofs.Properties.{Grows, deeper, deeper_within, all_names, same_answer}
 
 -- a new name at the end

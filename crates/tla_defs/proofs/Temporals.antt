@@ -7,7 +7,7 @@ use Rattle.tla_config.specs.Names.{Name}
 use Rattle.tla_names.specs.Scope.{Scope, plain, bound_names}
 use Rattle.tla_defs.specs.declared.table.Class.{Class}
 use Rattle.tla_defs.specs.declared.table.Class.TheVariants as class
-use Rattle.tla_defs.specs.Table.{property}
+use Rattle.tla_defs.specs.Private.Table.{property}
 use Rattle.tla_defs.specs.Temporal.{temporal, temporal_in, some_temporal, is_temporal, leads_to}
 use Rattle.tla_defs.proofs.Fairs.{fairness_grows}
 use Rattle.tla_defs.proofs.Properties.{Grows}

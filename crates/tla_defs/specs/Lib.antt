@@ -12,11 +12,4 @@ pub mod Rows
 pub mod NamedRows
 pub mod GivenRows
 pub mod SpecificationRows
-pub mod Mentions
-pub mod Formulas
-pub mod Seen
-pub mod Parts
-pub mod Table
-pub mod Conjuncts
-pub mod Shapes
-pub mod Specified
+pub mod Private

@@ -5,7 +5,7 @@ use Rattle.tla_core.specs.Expr as e
 use Rattle.tla_tree.specs.declared.tree.Brackets.TheVariants as brackets
 use Rattle.tla_tree.specs.declared.tree.Infix.TheVariants as op
 use Rattle.tla_tree.specs.declared.tree.Quantifier.TheVariants as q
-use Rattle.tla_tree.specs.Tree.{Tree, Name, Prime, Binary, Call, Let, Listing, Quantified, DefinesOperator, defined, undefined, more, none, unbound}
+use Rattle.tla_tree.specs.Tree.{Tree, Each, Name, Prime, Binary, Call, Let, Listing, Quantified, DefinesOperator, defined, undefined, more, none, unbound}
 use Rattle.tla_tree.specs.Tree as t
 use Rattle.tla_tree.specs.Units.{UnitTree, Extends, Variables, Operator, Defines}
 use Rattle.tla_expand.specs.Places.{place_of}
@@ -50,12 +50,12 @@ WithLet = IsModel (behind plus_one let_tree) (statements []) (model 0 let_step [
 -- F(y) == \E z \in {y} : z = y
 abbrev pub some_unit : UnitTree
 some_unit = Defines (DefinesOperator (word 3 12 (codes "F")) (word 3 14 (codes "y") ∷ [])
-    (Quantified (place 3 20) q.Exists (t.bound (word 3 23 (codes "z") ∷ []) (Listing (place 3 29) brackets.Set (more (name_at 3 30 (codes "y")) none)) unbound)
+    (Quantified (place 3 20) q.Exists (t.bound (Each (word 3 23 (codes "z") ∷ [])) (Listing (place 3 29) brackets.Set (more (name_at 3 30 (codes "y")) none)) unbound)
     (Binary (place 3 35) op.Equal (word 3 37 (codes "=")) (name_at 3 35 (codes "z")) (name_at 3 39 (codes "y")))))
 
 -- \E z \in {1} : F(z) /\ x' = z: the z of F is another one
 abbrev pub meeting_tree : Tree
-meeting_tree = Quantified (place 5 9) q.Exists (t.bound (word 5 12 (codes "z") ∷ []) (Listing (place 5 18) brackets.Set (more (number_at 5 19 1) none)) unbound)
+meeting_tree = Quantified (place 5 9) q.Exists (t.bound (Each (word 5 12 (codes "z") ∷ [])) (Listing (place 5 18) brackets.Set (more (number_at 5 19 1) none)) unbound)
     (Binary (place 5 24) op.And (word 5 29 (codes "/\\")) (Call (word 5 24 (codes "F")) (more (name_at 5 26 (codes "z")) none))
     (Binary (place 5 32) op.Equal (word 5 35 (codes "=")) (Prime (place 5 32) (x_at 5 32)) (name_at 5 37 (codes "z"))))
 

@@ -9,7 +9,7 @@ use Rattle.tla_tree.specs.declared.tree.Infix.TheVariants as op
 use Rattle.tla_tree.specs.declared.tree.Prefix.TheVariants as prefix
 use Rattle.tla_tree.specs.declared.tree.Quantifier.TheVariants as quantifier
 use Rattle.tla_tree.specs.declared.tree.Step.TheVariants as step
-use Rattle.tla_tree.specs.Tree.{Tree, Action, Binary, Fair, Junction, Listing, Quantified, Unary, more, none, bound, unbound}
+use Rattle.tla_tree.specs.Tree.{Tree, Each, Action, Binary, Fair, Junction, Listing, Quantified, Unary, more, none, bound, unbound}
 use Rattle.tla_tree.specs.Units.{Operator}
 use Rattle.tla_expand.specs.Places.{place_of}
 use Rattle.tla_config.specs.Statements.{Statement}
@@ -36,7 +36,7 @@ below_tree = Binary (place 7 12) op.Less (word 7 14 (codes "<")) (x_at 7 12) (nu
 
 -- \A i \in {1} : WF_x(Next) in line 8
 abbrev pub fair_tree : Tree
-fair_tree = Quantified (place 8 9) quantifier.ForAll (bound (word 8 12 (codes "i") ∷ []) (Listing (place 8 18) brackets.Set (more (number_at 8 19 1) none)) unbound)
+fair_tree = Quantified (place 8 9) quantifier.ForAll (bound (Each (word 8 12 (codes "i") ∷ [])) (Listing (place 8 18) brackets.Set (more (number_at 8 19 1) none)) unbound)
     (Fair (place 8 24) fairness.Weak (x_at 8 27) (name_at 8 29 (codes "Next")))
 
 -- Safe in line 6; Spec == /\ Safe /\ x < 1, and fairness

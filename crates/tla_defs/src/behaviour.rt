@@ -2,7 +2,7 @@
 
 ghost use Rattle.std.specs.Prelude.{◌≡◌, None, map};
 ghost use Rattle.tla_config.specs.View.{statement_view};
-ghost use Rattle.tla_defs.specs.Mentions.{GivesBehaviour};
+ghost use Rattle.tla_defs.specs.Private.Mentions.{GivesBehaviour};
 ghost use Rattle.tla_defs.specs.Refused as refused;
 
 use tla_config::{Config, Statement};

@@ -15,15 +15,15 @@ ghost use Rattle.tla_tree.specs.declared.word.Written as written;
 ghost use Rattle.tla_tree.specs.UnitsView.{unit_view};
 ghost use Rattle.tla_names.specs.Circles.{AreStraight};
 ghost use Rattle.tla_names.specs.Constants.{unvalued};
-ghost use Rattle.tla_defs.specs.Formulas.{LacksPredicate, LacksAssumption, Follow, mentions};
+ghost use Rattle.tla_defs.specs.Private.Formulas.{LacksPredicate, LacksAssumption, Follow, mentions};
 ghost use Rattle.tla_names.specs.Items as given;
 ghost use Rattle.tla_names.specs.Leads.{leads};
-ghost use Rattle.tla_defs.specs.Mentions.{behaviour_of};
+ghost use Rattle.tla_defs.specs.Private.Mentions.{behaviour_of};
 ghost use Rattle.tla_names.specs.Misuses as known;
 ghost use Rattle.tla_defs.specs.Model as model;
 ghost use Rattle.tla_names.specs.Named as named;
 ghost use Rattle.tla_defs.specs.Refused as refused;
-ghost use Rattle.tla_defs.specs.Specified.{IsOnly};
+ghost use Rattle.tla_defs.specs.Private.Specified.{IsOnly};
 
 use crate::behaviour::{Behaviour, named_behaviour};
 use crate::formula::{assumption, state_predicate};

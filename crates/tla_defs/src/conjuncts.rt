@@ -6,11 +6,11 @@ ghost use Rattle.tla_tree.specs.Tree.{Tree, trees as trees_of};
 ghost use Rattle.tla_tree.specs.View.{view};
 ghost use Rattle.tla_names.specs.Refusal as refusal;
 ghost use Rattle.tla_defs.specs.Bodies as bodies;
-ghost use Rattle.tla_defs.specs.Conjuncts.{replaced_in, fair_names, conjuncts_from, conjuncts_left, initials_by, AreMadeOfFairness, AreFoundOrLeft};
-ghost use Rattle.tla_defs.specs.Parts.{steps_in, AreMany};
+ghost use Rattle.tla_defs.specs.Private.Conjuncts.{replaced_in, fair_names, conjuncts_from, conjuncts_left, initials_by, AreMadeOfFairness, AreFoundOrLeft};
+ghost use Rattle.tla_defs.specs.Private.Parts.{steps_in, AreMany};
 ghost use Rattle.tla_defs.specs.Refused.{IsLast};
-ghost use Rattle.tla_defs.specs.Seen.{tree_at, seen};
-ghost use Rattle.tla_defs.specs.Shapes.{conjuncts_by};
+ghost use Rattle.tla_defs.specs.Private.Seen.{tree_at, seen};
+ghost use Rattle.tla_defs.specs.Private.Shapes.{conjuncts_by};
 ghost use Rattle.tla_defs.specs.Specification as spec;
 
 use crate::fairness::is_fair;

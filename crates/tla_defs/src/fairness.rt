@@ -6,7 +6,7 @@ ghost use Rattle.tla_tree.specs.Tree.{trees as trees_of, binders};
 ghost use Rattle.tla_tree.specs.View.{view, group_view};
 ghost use Rattle.tla_names.specs.Scope.{plain, bound_names};
 ghost use Rattle.tla_defs.specs.Fairness as spec;
-ghost use Rattle.tla_defs.specs.Conjuncts.{found_names};
+ghost use Rattle.tla_defs.specs.Private.Conjuncts.{found_names};
 
 use crate::table::Definitions;
 use std::alloc::Global;

@@ -7,13 +7,13 @@ ghost use Rattle.tla_core.specs.ExprOf.{expr_of};
 ghost use Rattle.tla_expand.specs.Names.{scope_of};
 ghost use Rattle.tla_tree.specs.declared.tree.Bullet.TheVariants as bullet;
 ghost use Rattle.tla_tree.specs.Tree.{Tree, Junction, trees as trees_of};
-ghost use Rattle.tla_defs.specs.Seen.{seen};
+ghost use Rattle.tla_defs.specs.Private.Seen.{seen};
 ghost use Rattle.tla_tree.specs.UnitsView.{unit_view};
 ghost use Rattle.tla_tree.specs.View.{view};
-ghost use Rattle.tla_defs.specs.Mentions.{behaviour_of};
+ghost use Rattle.tla_defs.specs.Private.Mentions.{behaviour_of};
 ghost use Rattle.tla_defs.specs.Model as model;
 ghost use Rattle.tla_defs.specs.Refused as refused;
-ghost use Rattle.tla_defs.specs.Specified.{initial_in, initial_tree, action_tree, IsMeant, NoneMeant};
+ghost use Rattle.tla_defs.specs.Private.Specified.{initial_in, initial_tree, action_tree, IsMeant, NoneMeant};
 
 use crate::behaviour::Behaviour;
 use crate::formula::{action, initial, refusal};

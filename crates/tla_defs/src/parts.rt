@@ -4,10 +4,10 @@ ghost use Rattle.std.specs.Prelude.{◌≡◌, ◌≢◌, ◌++◌, ◌∷◌, [
 ghost use Rattle.tla_config.specs.declared.error.DefsCode.TheVariants.{Memory};
 ghost use Rattle.tla_tree.specs.View.{view};
 ghost use Rattle.tla_names.specs.Refusal as refusal;
-ghost use Rattle.tla_defs.specs.Conjuncts.{found_names, initials_by};
-ghost use Rattle.tla_defs.specs.Parts.{step_of, steps_in, AreFew};
+ghost use Rattle.tla_defs.specs.Private.Conjuncts.{found_names, initials_by};
+ghost use Rattle.tla_defs.specs.Private.Parts.{step_of, steps_in, AreFew};
 ghost use Rattle.tla_defs.specs.Refused.{IsLast};
-ghost use Rattle.tla_defs.specs.Seen.{tree_at, seen};
+ghost use Rattle.tla_defs.specs.Private.Seen.{tree_at, seen};
 ghost use Rattle.tla_defs.specs.Specification as spec;
 
 use crate::fairness::is_fair;

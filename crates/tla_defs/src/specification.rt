@@ -6,12 +6,12 @@ ghost use Rattle.tla_core.specs.Expr as expr;
 ghost use Rattle.tla_expand.specs.Names.{scope_of};
 ghost use Rattle.tla_tree.specs.UnitsView.{unit_view};
 ghost use Rattle.tla_tree.specs.View.{view};
-ghost use Rattle.tla_defs.specs.Seen.{seen};
+ghost use Rattle.tla_defs.specs.Private.Seen.{seen};
 ghost use Rattle.tla_defs.specs.Model as model;
 ghost use Rattle.tla_defs.specs.Refused as refused;
 ghost use Rattle.tla_names.specs.Refusal as refusal;
 ghost use Rattle.tla_defs.specs.Subscripts as subscripts;
-ghost use Rattle.tla_defs.specs.Specified.{IsForm, LacksState, NoForm};
+ghost use Rattle.tla_defs.specs.Private.Specified.{IsForm, LacksState, NoForm};
 
 use crate::conjuncts::{Classes, parts_of};
 use crate::cover::covers;

@@ -9,9 +9,9 @@ ghost use Rattle.tla_tree.specs.Units.{UnitTree};
 ghost use Rattle.tla_tree.specs.UnitsView.{unit_view};
 ghost use Rattle.tla_names.specs.Maybe.{or_else};
 ghost use Rattle.tla_defs.specs.Bodies.{body_if, body_in, body_of, names_with};
-ghost use Rattle.tla_defs.specs.Conjuncts.{bodies_of, found_names};
-ghost use Rattle.tla_defs.specs.Seen.{tree_at};
-ghost use Rattle.tla_defs.specs.Table as spec;
+ghost use Rattle.tla_defs.specs.Private.Conjuncts.{bodies_of, found_names};
+ghost use Rattle.tla_defs.specs.Private.Seen.{tree_at};
+ghost use Rattle.tla_defs.specs.Private.Table as spec;
 
 use crate::fairness::is_fair;
 use crate::temporal::is_temporal;

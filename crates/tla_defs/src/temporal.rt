@@ -5,7 +5,7 @@ ghost use Rattle.tla_config.specs.declared.error.DefsCode.TheVariants.{Memory};
 ghost use Rattle.tla_tree.specs.Tree.{trees as trees_of, binders};
 ghost use Rattle.tla_tree.specs.View.{view, group_view};
 ghost use Rattle.tla_names.specs.Scope.{plain, bound_names};
-ghost use Rattle.tla_defs.specs.Conjuncts.{found_names};
+ghost use Rattle.tla_defs.specs.Private.Conjuncts.{found_names};
 ghost use Rattle.tla_defs.specs.Temporal as spec;
 
 use crate::table::Definitions;

@@ -16,3 +16,4 @@ pub mod Choices
 pub mod Chosen
 pub mod Domains
 pub mod Rows
+pub mod Fitting

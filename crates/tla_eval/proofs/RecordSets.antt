@@ -21,7 +21,7 @@ use Rattle.tla_core.specs.Meaning.{Meaning, Bound, Present, Next}
 use Rattle.tla_core.specs.SetForms.{means-records, means-product, names_of, parts_have}
 use Rattle.tla_core.specs.Membership.{if_some}
 use Rattle.tla_eval.specs.Gives.{product_rule, record_set_rule, records_rule, named_sets, values_of}
-use Rattle.tla_eval.specs.Environment.{tree_of_evaluated}
+use Rattle.tla_eval.specs.Private.Environment.{tree_of_evaluated}
 use Rattle.tla_core.specs.ExprOf.{expr_of, fields_of_cores, parts_of_cores}
 use Rattle.tla_core.specs.Value.{means}
 use Rattle.tla_core.specs.declared.expression.Core.{Core}

@@ -4,7 +4,7 @@ use Rattle.tla_value.specs.Tree.{Tree, truth, int, text, set, fun, trees, pairs}
 use Rattle.tla_core.specs.declared.fault.Place.{Place}
 use Rattle.tla_core.specs.declared.fault.FaultCode.TheVariants.{WrongKind, Overflow, OutsideDomain, NoChoice, NoArm, Endless, NotSet, SmallDivisor, EmptySequence, NoField}
 use Rattle.tla_core.specs.Fault.{Outcome, fault}
-use Rattle.tla_core.specs.Expr.{Not, Negate, Union, Field, Head, Cardinality, Unequal, Add, Subtract, Divide, Modulo, Power, GreaterThan, Range, Apply, Naturals, Integers, Expr, constant, bound, next, unary, binary, equal, sub_seq, enumerated, tuple, record_of, conjunction, disjunction, conditional, cases, assert, for_all, for_some, choose, image, function, except, member, subset, kind_set, sequences, power, functions, records, product, cup, filtered, no_exprs, more_exprs, no_fields, more_fields, no_arms, more_arms, no_updates, more_updates}
+use Rattle.tla_core.specs.Expr.{Not, Negate, Union, Field, Head, Cardinality, Unequal, Add, Subtract, Divide, Modulo, Power, GreaterThan, Range, Apply, Naturals, Integers, Expr, constant, bound, next, unary, binary, equal, sub_seq, enumerated, tuple, record_of, conjunction, disjunction, conditional, cases, assert, for_all, for_some, choose, image, function, except, member, subset, kind_set, sequences, power, functions, records, product, cup, filtered, opened, tried, no_exprs, more_exprs, no_fields, more_fields, no_arms, more_arms, no_updates, more_updates}
 use Rattle.tla_value.specs.Choices.{sequence}
 use Rattle.tla_core.specs.Value.{val}
 
@@ -253,3 +253,55 @@ assert-true = refl
 -- x' where it is not set
 next-unset : val (next p 0) [] None (None ∷ []) ≡ fault NotSet p
 next-unset = refl
+
+-- ---- tuple patterns: <<1, 2>> and <<1, 2, 3>>, each alone in a set, and a pattern of two names for the element that is bound name 0
+abbrev two : Expr
+two = tuple (at 97) (more_exprs (n 1) (more_exprs (n 2) no_exprs))
+
+abbrev three : Expr
+three = tuple (at 97) (more_exprs (n 1) (more_exprs (n 2) (more_exprs (n 3) no_exprs)))
+
+abbrev alone : Expr → Expr
+alone e = enumerated (at 98) (more_exprs e no_exprs)
+
+abbrev under_two_names : Expr → Expr
+under_two_names e = opened p (record { name = 0; items = 2 } ∷ []) e
+
+abbrev yes : Expr
+yes = constant (at 3) (truth true)
+
+-- \A <<a, b>> \in {<<1, 2>>} : b > a
+pattern-fits : run (for_all p (alone two) (under_two_names (binary p GreaterThan (bound p 2) (bound p 1)))) ≡ Ok (truth true)
+pattern-fits = refl
+
+-- \A <<a, b>> \in {<<1, 2, 3>>} : TRUE: a longer sequence doesn't fit
+pattern-longer : run (for_all p (alone three) (under_two_names yes)) ≡ fault WrongKind p
+pattern-longer = refl
+
+-- \A <<a, b>> \in {<<1>>} : TRUE: nor does a shorter one
+pattern-shorter : run (for_all p (alone (tuple (at 97) (more_exprs (n 1) no_exprs))) (under_two_names yes)) ≡ fault WrongKind p
+pattern-shorter = refl
+
+-- CHOOSE <<a, b>> \in {<<1, 2>>} : TRUE is the element
+pattern-chosen : run (choose p (alone two) (under_two_names yes)) ≡ Ok (sequence (int (pos 1) ∷ int (pos 2) ∷ []))
+pattern-chosen = refl
+
+-- {b : <<a, b>> \in {<<1, 2>>}}
+pattern-image : run (image p (more_exprs (tried p 2 (alone two)) no_exprs) (under_two_names (bound p 2))) ≡ Ok (set (trees (int (pos 2) ∷ [])))
+pattern-image = refl
+
+-- {1 : <<a, b>> \in {<<1, 2, 3>>}, y \in 1 \div 0}: a longer sequence is met before the next set
+pattern-image_longer : run (image p (more_exprs (tried p 2 (alone three)) (more_exprs one_by_zero no_exprs)) (under_two_names (n 1))) ≡ fault WrongKind p
+pattern-image_longer = refl
+
+-- {1 : <<a, b>> \in 5, y \in 1 \div 0}: that 5 is no set is told after all sets
+pattern-image_sets : run (image p (more_exprs (tried p 2 (n 5)) (more_exprs one_by_zero no_exprs)) (under_two_names (n 1))) ≡ fault SmallDivisor (at 7)
+pattern-image_sets = refl
+
+-- <<1, 2, 3>> \in {<<a, b>> \in {<<1, 2, 3>>} : TRUE}
+pattern-member_longer : run (member p three (filtered p (alone three) (under_two_names yes))) ≡ fault WrongKind p
+pattern-member_longer = refl
+
+-- <<1, 2, 3>> \in {<<a, b>> \in {<<1, 2>>} : TRUE}: no member of the set is tried
+pattern-no_member : run (member p three (filtered p (alone two) (under_two_names yes))) ≡ Ok (truth false)
+pattern-no_member = refl

@@ -7,12 +7,14 @@ use Rattle.tla_core.specs.Meaning.{Meaning, asks, means-constant, means-bound, m
 use Rattle.tla_core.specs.Lists.{taken}
 use Rattle.tla_core.specs.Functions.{means-image, means-function, means-except}
 use Rattle.tla_core.specs.Membership.{is_truth, means-member, means-not_member, means-subset, means-kind_set, means-booleans, means-sequences}
+use Rattle.tla_core.specs.declared.expression.Opening.{Opening}
+use Rattle.tla_core.specs.Patterns.{means-opened, means-tried}
 use Rattle.tla_core.specs.Logic.{means-conjunction, means-disjunction, means-implies, means-cases, means-assert, means-for_all, means-for_some, means-choose}
 use Rattle.tla_core.specs.Value.{means, mean_all, mean_fields, mean_arms, means_other, mean_updates}
 use Rattle.tla_core.specs.Laws.{KnowsItsMembers}
 use Rattle.tla_core.specs.declared.fault.Place.{Place}
 use Rattle.tla_core.specs.Fault.{Outcome}
-use Rattle.tla_core.specs.Expr.{Unary, Binary, Kind, Expr, Exprs, Fields, Arms, constant, bound, now, next, unary, binary, equal, sub_seq, enumerated, tuple, record_of, conjunction, disjunction, implies, conditional, cases, assert, for_all, for_some, choose, image, function, except, member, not_member, subset, kind_set, booleans, sequences, power, functions, records, product, cup, cap, minus, filtered, no_exprs, more_exprs, no_fields, more_fields, no_arms, other, more_arms}
+use Rattle.tla_core.specs.Expr.{Unary, Binary, Kind, Expr, Exprs, Fields, Arms, constant, bound, now, next, unary, binary, equal, sub_seq, enumerated, tuple, record_of, conjunction, disjunction, implies, conditional, cases, assert, for_all, for_some, choose, image, function, except, member, not_member, subset, kind_set, booleans, sequences, power, functions, records, product, cup, cap, minus, filtered, opened, tried, no_exprs, more_exprs, no_fields, more_fields, no_arms, other, more_arms}
 use Rattle.tla_eval.proofs.Members.{bind-ok, set-same}
 use Rattle.tla_eval.proofs.TwoSets.{then-ok, knows-by_value, knows-cup, knows-cap, knows-minus, knows-filtered, knows-power, knows-functions}
 use Rattle.tla_eval.proofs.Products.{AllKnow, knows-product}
@@ -144,6 +146,12 @@ module _ (at : Place) where
   knows-subset : (a c : Meaning) → KnowsItsMembers (means-subset at a c)
   knows-subset a c = knows-by_value at _ _
 
+  knows-opened : (os : List Opening) (a : Meaning) → KnowsItsMembers (means-opened at os a)
+  knows-opened os a = knows-by_value at _ _
+
+  knows-tried : (k : ℕ) (a : Meaning) → KnowsItsMembers (means-tried at k a)
+  knows-tried k a = knows-by_value at _ _
+
 -- ---- the law
 mutual
   pub knows : (e : Expr) → KnowsItsMembers (means e)
@@ -184,6 +192,8 @@ mutual
   knows (cap p a c) = knows-cap p (knows a) (knows c)
   knows (minus p a c) = knows-minus p (knows a) (knows c)
   knows (filtered p a e) = knows-filtered p (knows a) (knows e)
+  knows (opened p os e) = knows-opened p os (means e)
+  knows (tried p k a) = knows-tried p k (means a)
 
   knows_all : (es : Exprs) → AllKnow (mean_all es)
   knows_all no_exprs = tt

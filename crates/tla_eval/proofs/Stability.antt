@@ -7,6 +7,8 @@ use Rattle.tla_core.specs.Kinds.{items, members_of, pairs_of}
 use Rattle.tla_value.specs.Funs.{value_at, arguments}
 use Rattle.tla_core.specs.Meaning.{Meaning, Bound, Present, Next, asks, elements, as_tree, by_value, of_two, of_each, if_set, means-constant, means-bound, means-now, means-next, means-unary, means-binary, means-equal, means-sub_seq, means-enumerated, means-tuple, means-record_of}
 use Rattle.tla_core.specs.Lists.{each, taken}
+use Rattle.tla_core.specs.declared.expression.Opening.{Opening}
+use Rattle.tla_core.specs.Patterns.{means-opened, means-tried}
 use Rattle.tla_core.specs.Functions.{sets_of, update, update_all, replaced, means-image, means-function, means-except}
 use Rattle.tla_core.specs.Membership.{if_some, means-member, means-not_member, means-subset, means-kind_set, means-booleans, means-sequences}
 use Rattle.tla_core.specs.SetForms.{parts_have, of_two_sets, means-power, means-functions, means-records, means-product, means-cup, means-cap, means-minus, means-filtered}
@@ -17,7 +19,7 @@ use Rattle.tla_core.specs.Laws.{Extends, Stays, IsStable}
 use Rattle.tla_core.specs.declared.fault.Place.{Place}
 use Rattle.tla_core.specs.Fault.{Outcome}
 use Rattle.tla_value.specs.Sets.{is_member, set_of}
-use Rattle.tla_core.specs.Expr.{Unary, Binary, Kind, Expr, Exprs, Fields, Arms, Updates, constant, bound, now, next, unary, binary, equal, sub_seq, enumerated, tuple, record_of, conjunction, disjunction, implies, conditional, cases, assert, for_all, for_some, choose, image, function, except, member, not_member, subset, kind_set, booleans, sequences, power, functions, records, product, cup, cap, minus, filtered, no_exprs, more_exprs, no_fields, more_fields, no_arms, other, more_arms, no_updates, more_updates}
+use Rattle.tla_core.specs.Expr.{Unary, Binary, Kind, Expr, Exprs, Fields, Arms, Updates, constant, bound, now, next, unary, binary, equal, sub_seq, enumerated, tuple, record_of, conjunction, disjunction, implies, conditional, cases, assert, for_all, for_some, choose, image, function, except, member, not_member, subset, kind_set, booleans, sequences, power, functions, records, product, cup, cap, minus, filtered, opened, tried, no_exprs, more_exprs, no_fields, more_fields, no_arms, other, more_arms, no_updates, more_updates}
 use Rattle.tla_eval.proofs.Stays.{same, stays-bind, stays-cond, stays-each, stays-all_hold, stays-some_hold, stays-passing, stays-first_passing}
 
 abbrev AllStable : List Meaning → Type 0
@@ -103,6 +105,12 @@ module _ (at : Place) {a : Meaning} (ha : IsStable a) where
     value = λ b s p q e. stays-bind (stays-elements ha b s p q e at) λ xs. same;
     has = λ v b s p q e. stays-if_some (members_of v) λ xs. stays-all_hold (λ x _. ha.has x b s p q e) xs (any xs);
   }
+
+  stable-opened : (os : List Opening) → IsStable (means-opened at os a)
+  stable-opened os = stable-by_value at _ λ b s p q e. stays-bind same λ xs. ha.value (b ++ xs) s p q e
+
+  stable-tried : (k : ℕ) → IsStable (means-tried at k a)
+  stable-tried k = stable-by_value at _ λ b s p q e. stays-bind (ha.value b s p q e) λ v. same
 
 -- ---- forms of two parts
 module _ (at : Place) {a c : Meaning} (ha : IsStable a) (hc : IsStable c) where
@@ -304,6 +312,8 @@ mutual
   stable (cap p a c) = stable-cap p (stable a) (stable c)
   stable (minus p a c) = stable-minus p (stable a) (stable c)
   stable (filtered p a e) = stable-filtered p (stable a) (stable e)
+  stable (opened p os e) = stable-opened p (stable e) os
+  stable (tried p k a) = stable-tried p (stable a) k
 
   stable_all : (es : Exprs) → AllStable (mean_all es)
   stable_all no_exprs = tt

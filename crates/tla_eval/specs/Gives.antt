@@ -34,6 +34,12 @@ GivesTruth r o = GivesBy (λ (b : Bool). b) r o
 abbrev pub GivesBorrowed : Result (Bor Value) Fault → Outcome Tree → Type 0
 GivesBorrowed r o = GivesBy (λ (v : Bor Value). tree_of v.now) r o
 
+-- whether there is an answer or a fault, and nothing more
+abbrev pub nothing_of : {A : Type 0} → Outcome A → Outcome (Unit {0})
+nothing_of o = do
+  x ← o
+  Ok tt
+
 -- two values that are numbers
 abbrev pub two_ints : Place → Tree → Tree → Outcome (ℤ × ℤ)
 two_ints p x y = do

@@ -9,7 +9,7 @@ ghost use Rattle.tla_value.specs.Choices.{choices};
 ghost use Rattle.tla_core.specs.Fault.{out_of_memory};
 ghost use Rattle.tla_core.specs.Kinds.{as_set};
 ghost use Rattle.tla_core.specs.Lists.{each};
-ghost use Rattle.tla_eval.specs.Environment.{tree_of_evaluated};
+ghost use Rattle.tla_eval.specs.Private.Environment.{tree_of_evaluated};
 ghost use Rattle.tla_eval.specs.Gives.{Gives, GivesBy, function_rule};
 
 use crate::environment::Evaluated;

@@ -3,7 +3,7 @@ ghost use Rattle.std.specs.Prelude.{◌≡◌, ◌≤◌, length, IfOk, IfErr, O
 ghost use Rattle.tla_value.specs.Tree.{truth};
 ghost use Rattle.tla_value.specs.TreeOf.{tree_of};
 ghost use Rattle.tla_core.specs.Meaning.{if_set, variable_of};
-ghost use Rattle.tla_eval.specs.Environment.{bound_of, tree_of_evaluated, Evaluates};
+ghost use Rattle.tla_eval.specs.Private.Environment.{bound_of, tree_of_evaluated, Evaluates};
 
 use crate::partial::Partial;
 use crate::rules::{copied, fault_at};

@@ -8,7 +8,7 @@ ghost use Rattle.tla_value.specs.Funs.{arguments, value_at};
 ghost use Rattle.tla_value.specs.Sets.{is_member, set_of};
 ghost use Rattle.tla_value.specs.Choices.{keys_of, is_each_once};
 ghost use Rattle.tla_core.specs.ExprOf.{fields_of_cores};
-ghost use Rattle.tla_eval.specs.Environment.{tree_of_evaluated};
+ghost use Rattle.tla_eval.specs.Private.Environment.{tree_of_evaluated};
 ghost use Rattle.tla_eval.specs.Gives.{Gives, GivesBy, named_sets, records_rule};
 
 use crate::environment::Evaluated;

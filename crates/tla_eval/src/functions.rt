@@ -6,7 +6,7 @@ ghost use Rattle.tla_value.specs.Funs.{MakesFun};
 ghost use Rattle.tla_core.specs.Expr.{Apply, Domain, Field, Single, Override};
 ghost use Rattle.tla_core.specs.Kinds.{as_fun, pairs_of, rising_fun};
 ghost use Rattle.tla_core.specs.Operators.{unary_rule, binary_rule};
-ghost use Rattle.tla_eval.specs.Environment.{Evaluates, tree_of_evaluated};
+ghost use Rattle.tla_eval.specs.Private.Environment.{Evaluates, tree_of_evaluated};
 ghost use Rattle.tla_eval.specs.Gives.{Gives, GivesBy, GivesBorrowed};
 
 use crate::environment::Evaluated;

@@ -10,9 +10,11 @@ mod functions;
 pub mod laws;
 mod operators;
 mod partial;
+mod patterns;
 mod rules;
 mod sequences;
 mod sets;
 
 pub use evaluation::{eval, member};
 pub use partial::Partial;
+pub use patterns::opened;

@@ -5,7 +5,7 @@ ghost use Rattle.tla_core.specs.Expr.{IsFinite, Cardinality, Iff};
 ghost use Rattle.tla_core.specs.Kinds.{as_int};
 ghost use Rattle.tla_core.specs.Operators.{unary_rule, binary_rule};
 ghost use Rattle.tla_core.specs.ExprOf.{unary_of, binary_of, kind_of};
-ghost use Rattle.tla_eval.specs.Environment.{Evaluates, tree_of_evaluated};
+ghost use Rattle.tla_eval.specs.Private.Environment.{Evaluates, tree_of_evaluated};
 ghost use Rattle.tla_core.specs.Membership.{is_of_kind, is_truth};
 ghost use Rattle.tla_eval.specs.Gives.{Gives, GivesBy, two_ints};
 

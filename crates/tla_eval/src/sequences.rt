@@ -7,7 +7,7 @@ ghost use Rattle.tla_core.specs.Fault.{out_of_memory};
 ghost use Rattle.tla_core.specs.Expr.{Len, Head, Tail, Concat, Append};
 ghost use Rattle.tla_core.specs.Kinds.{as_sequence, items, make_sequence};
 ghost use Rattle.tla_core.specs.Operators.{unary_rule, binary_rule, sub_seq_rule, part_of};
-ghost use Rattle.tla_eval.specs.Environment.{Evaluates, tree_of_evaluated};
+ghost use Rattle.tla_eval.specs.Private.Environment.{Evaluates, tree_of_evaluated};
 ghost use Rattle.tla_eval.specs.Gives.{Gives, GivesBy, GivesBorrowed, values_of};
 
 use crate::environment::Evaluated;
@@ -52,7 +52,11 @@ pub(crate) fn sequence_pairs<'a>(value: &'a Value) -> Option<&'a [(Value, Value)
 }
 
 /// Adds copies of the values of some pairs at the end.
-fn add_items(alloc: Global, items: &mut Vec<Value>, pairs: &[(Value, Value)]) -> Result<(), Fault>
+pub(crate) fn add_items(
+    alloc: Global,
+    items: &mut Vec<Value>,
+    pairs: &[(Value, Value)],
+) -> Result<(), Fault>
     ensures ok { OnOk result (map tree_of items.new.items ≡ map tree_of items.old.items ++ values_of (map pair_of pairs.now)) }
     ensures err { IfErr result (λ f. f ≡ out_of_memory) }
 {

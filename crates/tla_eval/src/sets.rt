@@ -13,7 +13,7 @@ ghost use Rattle.tla_core.specs.Operators.{joined_sets, unary_rule};
 ghost use Rattle.tla_core.specs.Lists.{each};
 ghost use Rattle.tla_core.specs.SetForms.{on_sets};
 ghost use Rattle.tla_eval.specs.Gives.{Gives, GivesBy, GivesTruth, IsRefusal, contains_rule, subsets_rule, tuples_rule};
-ghost use Rattle.tla_eval.specs.Environment.{Evaluates, tree_of_evaluated};
+ghost use Rattle.tla_eval.specs.Private.Environment.{Evaluates, tree_of_evaluated};
 
 use crate::environment::Evaluated;
 use crate::rules::{copied, fault_at};

@@ -15,7 +15,7 @@ use Rattle.tla_expand.specs.declared.primes.Primes.{Primes}
 use Rattle.tla_expand.specs.Lists.{exprs}
 use Rattle.tla_expand.specs.Meanings.{Scope}
 use Rattle.tla_expand.specs.Expand.{expand_each}
-use Rattle.tla_expand.specs.Gives.{part_in, pointed, total, highest, FailsBy, Fails, Makes}
+use Rattle.tla_expand.specs.Private.Gives.{part_in, pointed, total, highest, FailsBy, Fails, Makes}
 use Rattle.tla_expand.specs.Maybe.{◌>>=◌, each_of}
 use Rattle.tla_expand.specs.Primes.{with_primes}
 use Rattle.tla_expand.proofs.Lists.{each_in}

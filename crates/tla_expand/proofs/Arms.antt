@@ -8,7 +8,6 @@ use Rattle.tla_tree.specs.declared.tree.Arm.{Arm}
 use Rattle.tla_tree.specs.declared.tree.Field.{Field}
 use Rattle.tla_tree.specs.declared.tree.Update.{Update}
 use Rattle.tla_tree.specs.declared.tree.Binder as bound_names
-use Rattle.tla_tree.specs.declared.word.Written.{Written}
 use Rattle.tla_tree.specs.Tree.{trees, binders, arms, fields, updates}
 use Rattle.tla_tree.specs.View.{view, group_view, choice_view, field_view, update_view}
 use Rattle.tla_expand.specs.declared.primes.Primes.{Primes}
@@ -33,8 +32,8 @@ use Rattle.tla_expand.specs.Unchanged.{unchanged, changed}
 use Rattle.tla_expand.specs.Meanings.{Scope}
 use Rattle.tla_expand.specs.Bound.{nested, gathered}
 use Rattle.tla_expand.specs.Expand.{expand, expand_each, expand_key, expand_arms, expand_fields, expand_updates, binds_of}
-use Rattle.tla_expand.specs.Forms.{form_in}
-use Rattle.tla_expand.specs.Gives.{both, part_in, key_in, arm_in, field_in, update_in, kept_part, changed_in}
+use Rattle.tla_expand.specs.Private.Forms.{form_in}
+use Rattle.tla_expand.specs.Private.Gives.{both, part_in, key_in, arm_in, field_in, update_in, kept_part, changed_in}
 use Rattle.tla_expand.proofs.Made.{one_shown, two_shown, three_shown, many_shown, cases_shown, fielded_shown, product_shown, except_shown}
 use Rattle.tla_expand.proofs.Lists.{each_in, arms_in, arms_or_in}
 use Rattle.tla_expand.proofs.NamedParts.{fields_in, updates_in}
@@ -77,10 +76,6 @@ module _ (fm : Form) (σ : Scope) (d : ℕ) (k : Primes) where
   pub binders_form : (p : Place) (f : Binding) (bs : Bor (List bound_names.Binder)) (t : Bor syntax.Expr) → fm ≡ form.Binders p (under.Nested f) bs t
       → with_primes k (form_in fm σ d) ≡ with_primes k (nested f p (binds_of (binders (map group_view bs.now)) σ) (expand (view t.now)) σ d)
   binders_form p f bs t q = rw q refl
-
-  pub binds_form : (p : Place) (f : Binding) (w : Bor Written) (s t : Bor syntax.Expr) → fm ≡ form.Binds p f w s t
-      → with_primes k (form_in fm σ d) ≡ with_primes k (nested f p ((w.now.word, expand (view s.now) σ) ∷ []) (expand (view t.now)) σ d)
-  binds_form p f w s t q = rw q refl
 
   pub gather_form : (p : Place) (f : Gather) (bs : Bor (List bound_names.Binder)) (t : Bor syntax.Expr) → fm ≡ form.Binders p (under.Gathered f) bs t
       → with_primes k (form_in fm σ d) ≡ with_primes k (gathered f p (binds_of (binders (map group_view bs.now)) σ) (expand (view t.now)) σ d)

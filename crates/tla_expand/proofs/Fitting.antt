@@ -3,13 +3,14 @@ use Rattle.std.proofs.Common.{◌≡◌, ℕ, suc, pos, ◌+◌, ◌≤◌, Bool
 use Rattle.std.proofs.lemmas.Bool.{lt-ltb}
 use Rattle.std.specs.Prelude.{nat_le, nat_lt}
 use Rattle.std.specs.Str.{bytes_eq}
+use Rattle.std.specs.List.{list_all}
 use Rattle.tla_value.specs.Tree as value
 use Rattle.tla_value.specs.declared.value.Value.{Value}
 use Rattle.tla_value.specs.TreeOf.{tree_of}
 use Rattle.tla_core.specs.declared.fault.Place.{Place}
 use Rattle.tla_core.specs.ExprOf.{unary_of, kind_of}
 use Rattle.tla_core.specs.Expr as x
-use Rattle.tla_core.specs.Expr.{Expr, Exprs, constant, bound, now, unary, binary, enumerated, tuple, conjunction, disjunction, conditional, cases, choose, filtered, functions, record_of, records, product, except, kind_set, sequences, no_exprs, more_exprs}
+use Rattle.tla_core.specs.Expr.{Expr, Exprs, constant, bound, now, unary, binary, enumerated, tuple, conjunction, disjunction, conditional, cases, opened, tried, functions, record_of, records, product, except, kind_set, sequences, no_exprs, more_exprs}
 use Rattle.tla_core.specs.Fits.{fits, fits_all, fits_fields, fits_arms, fits_updates, count}
 use Rattle.tla_tree.specs.declared.word.Written.{Written}
 use Rattle.tla_tree.specs.declared.tree.Constant.{Constant}
@@ -19,7 +20,7 @@ use Rattle.tla_tree.specs.declared.tree.Prefix.TheVariants as prefix
 use Rattle.tla_tree.specs.declared.tree.Bullet.TheVariants as bullet
 use Rattle.tla_tree.specs.declared.tree.Brackets.TheVariants as brackets
 use Rattle.tla_tree.specs.declared.tree.Step.TheVariants as steps
-use Rattle.tla_tree.specs.Tree.{Tree, Trees, Binders, Definition, Definitions, none, more, unbound, undefined, defined, DefinesOperator, DefinesFunction, Name, Number, Text, Word, At, Paren, Listing, Call, Prime, Index, Field, Unary, Binary, Quantified, Choose, If, Case, Let, Junction, Filter, Image, Function, FunctionSet, Record, RecordSet, Except, Action, Fair, Product}
+use Rattle.tla_tree.specs.Tree.{Tree, Trees, Pattern, Each, Tuple, Binders, Definition, Definitions, none, more, unbound, undefined, defined, DefinesOperator, DefinesFunction, Name, Number, Text, Word, At, Paren, Listing, Call, Prime, Index, Field, Unary, Binary, Quantified, Choose, If, Case, Let, Junction, Filter, Image, Function, FunctionSet, Record, RecordSet, Except, Action, Fair, Product}
 use Rattle.tla_tree.specs.Places.{place}
 use Rattle.tla_tree.specs.Tree as t
 use Rattle.tla_expand.specs.declared.nodes.Builtin.{Builtin}
@@ -45,7 +46,9 @@ use Rattle.tla_expand.specs.Nodes.{constant_of, largest, one, two, three, bindin
 use Rattle.tla_expand.specs.Operators.{prefix_for, infix_for}
 use Rattle.tla_expand.specs.Library.{library}
 use Rattle.tla_expand.specs.Meanings.{Argument, Meaning, Scope, with_name, unknown, alone, of_one, of_two, of_three, bound_name, variable, value_name, parameter, builtin_meaning, meaning_or, standard, with_parameters, operator}
-use Rattle.tla_expand.specs.Bound.{Bind, bind_each, nested, with_names, gathered}
+use Rattle.tla_core.specs.declared.expression.Opening.{Opening}
+use Rattle.tla_core.specs.Patterns.{items_in}
+use Rattle.tla_expand.specs.Bound.{Names, named, tupled, Bind, bind_each, bind_entry, under, with_each, opening, nested, with_elements, with_items, openings, under_openings, set_for, gathered}
 use Rattle.tla_expand.specs.Expand.{of_quantifier, applied, prefixed, expand, expand_each, expand_key, expand_arms, expand_other, expand_fields, expand_step, expand_path, expand_updates, arguments, binds_of, definitions_in, definition_in}
 use Rattle.tla_expand.specs.Fits.{FitsArgument, FitArguments, FitsMeaning, FitsScope}
 use Rattle.tla_expand.proofs.PrimesFit.{inv, primes_fit}
@@ -184,20 +187,50 @@ later_binds v b c (n ∷ bs) k g = ((λ d l. g.0 d (omega arith)), later_binds v
 under_name : (v d : ℕ) (x : names.Name) (σ : Scope) → FitsScope v d σ → FitsScope v (d + 1) (with_name x (bound_name d) σ)
 under_name v d x σ g = name_fits v (d + 1) x (bound_name d) σ (bound_fits v (d + 1) d (omega arith)) (later v d (d + 1) σ (omega arith) g)
 
-nested_fits : (f : Binding) (p : Place) (bs : List Bind) (body : Scope → Argument) (v : ℕ) → BodyFits v body → (σ : Scope) (d : ℕ) → FitsScope v d σ → FitBinds v d bs
+-- names that are numbered from one on
+each_named : (v : ℕ) (ws : List Written) (d : ℕ) (σ : Scope) → FitsScope v d σ → FitsScope v (d + length ws) (with_each ws d σ)
+each_named v [] d σ g = let z : d + 0 ≡ d = omega arith in rw z g
+each_named v (w ∷ ws) d σ g =
+    let z : d + suc (length ws) ≡ d + 1 + length ws = omega arith in
+    rw z (each_named v ws (d + 1) (with_name w.word (bound_name d) σ) (under_name v d w.word σ g))
+
+-- the elements that are opened are bound
+openings_bound : (bs : List Bind) (d n : ℕ) → d + length bs ≤ n → list_all (λ (o : Opening). nat_lt o.name n) (openings bs d) ≡ true
+openings_bound [] d n l = refl
+openings_bound ((named x, s) ∷ bs) d n l = openings_bound bs (d + 1) n (omega (arith, l))
+openings_bound ((tupled ws, s) ∷ bs) d n l =
+    let is : nat_lt d n ≡ true = lt-ltb d n (omega (arith, l)) in
+    rw (is, openings_bound bs (d + 1) n (omega (arith, l))) refl
+
+openings_fit : (p : Place) (os : List Opening) (o : Option Expr) (n v : ℕ) → list_all (λ (x : Opening). nat_lt x.name n) os ≡ true → ((e : Expr) → o ≡ Some e → fits e (n + items_in os) v true ≡ true)
+    → (e : Expr) → under_openings p os o ≡ Some e → fits e n v true ≡ true
+openings_fit p [] o n v h k e q = let z : n + 0 ≡ n = omega arith in rw z at (k e q)
+openings_fit p (x ∷ os) o n v h k e q =
+    let i = inv o (λ y. Some (opened p (x ∷ os) y)) e q in
+    some n v (opened p (x ∷ os) i.0) e i.2 (rw (h, k i.0 i.1) refl)
+
+under_fits : (p : Place) (n : Names) (body : Scope → Argument) (v : ℕ) (σ : Scope) (d : ℕ) → FitsScope v d σ → ((τ : Scope) (c : ℕ) → d + 1 ≤ c → FitsScope v c τ → (e : Expr) → body τ c ≡ Some e → fits e c v true ≡ true)
+    → (e : Expr) → under p n body σ d ≡ Some e → fits e (d + 1) v true ≡ true
+under_fits p (named x) body v σ d g k e q = k (with_name x (bound_name d) σ) (d + 1) (omega arith) (under_name v d x σ g) e q
+under_fits p (tupled ws) body v σ d g k e q =
+    let is : nat_lt d (d + 1) ≡ true = lt-ltb d (d + 1) (omega arith) in
+    let z : d + 1 + (length ws + 0) ≡ d + 1 + length ws = omega arith in
+    let τ = with_each ws (d + 1) σ in
+    let fit = each_named v ws (d + 1) σ (later v d (d + 1) σ (omega arith) g) in
+    openings_fit p (opening d ws ∷ []) (body τ (d + 1 + length ws)) (d + 1) v (rw is refl) (λ y h. rw z (k τ (d + 1 + length ws) (omega arith) fit y h)) e q
+
+nested_fits : (f : Binding) (p : Place) (bs : List Bind) (body : Scope → Argument) (v : ℕ) → BodyFits v body → (b : ℕ) → FitBinds v b bs → (σ : Scope) (d : ℕ) → FitsScope v d σ → b ≤ d
     → (e : Expr) → nested f p bs body σ d ≡ Some e → fits e d v true ≡ true
-nested_fits f p [] body v k σ d g r e q = cc
-nested_fits f p (n ∷ []) body v k σ d g r e q =
-    let τ = with_name n.0 (bound_name d) σ in
-    let i = inv (n.1 d) (λ x. body τ (d + 1) >>= λ y. Some (binding f p x y)) e q in
-    let j = inv (body τ (d + 1)) (λ y. Some (binding f p i.0 y)) e i.2 in
-    some d v (binding f p i.0 j.0) e j.2 (binding_fits f p i.0 j.0 d v (r.0 d (omega arith) i.0 i.1) (k τ (d + 1) (under_name v d n.0 σ g) j.0 j.1))
-nested_fits f p (n ∷ m ∷ bs) body v k σ d g r e q =
-    let τ = with_name n.0 (bound_name d) σ in
-    let i = inv (n.1 d) (λ x. nested f p (m ∷ bs) body τ (d + 1) >>= λ y. Some (binding f p x y)) e q in
-    let j = inv (nested f p (m ∷ bs) body τ (d + 1)) (λ y. Some (binding f p i.0 y)) e i.2 in
-    let inner = nested_fits f p (m ∷ bs) body v k τ (d + 1) (under_name v d n.0 σ g) (later_binds v d (d + 1) (m ∷ bs) (omega arith) r.1) j.0 j.1 in
-    some d v (binding f p i.0 j.0) e j.2 (binding_fits f p i.0 j.0 d v (r.0 d (omega arith) i.0 i.1) inner)
+nested_fits f p [] body v k b r σ d g l e q = cc
+nested_fits f p (n ∷ []) body v k b r σ d g l e q =
+    let i = inv (n.1 d) (λ x. under p n.0 body σ d >>= λ y. Some (binding f p x y)) e q in
+    let j = inv (under p n.0 body σ d) (λ y. Some (binding f p i.0 y)) e i.2 in
+    some d v (binding f p i.0 j.0) e j.2 (binding_fits f p i.0 j.0 d v (r.0 d l i.0 i.1) (under_fits p n.0 body v σ d g (λ τ c m h y w. k τ c h y w) j.0 j.1))
+nested_fits f p (n ∷ m ∷ bs) body v k b r σ d g l e q =
+    let i = inv (n.1 d) (λ x. under p n.0 (nested f p (m ∷ bs) body) σ d >>= λ y. Some (binding f p x y)) e q in
+    let j = inv (under p n.0 (nested f p (m ∷ bs) body) σ d) (λ y. Some (binding f p i.0 y)) e i.2 in
+    let inner = under_fits p n.0 (nested f p (m ∷ bs) body) v σ d g (λ τ c u h y w. nested_fits f p (m ∷ bs) body v k b r.1 τ c h (omega (arith, l, u)) y w) j.0 j.1 in
+    some d v (binding f p i.0 j.0) e j.2 (binding_fits f p i.0 j.0 d v (r.0 d l i.0 i.1) inner)
 
 number_fits : (p : Place) (n d v : ℕ) (small : Bool) (e : Expr) → (if small then Some (constant p (value.int (pos n))) else None) ≡ Some e → fits e d v true ≡ true
 number_fits p n d v true e q = some d v (constant p (value.int (pos n))) e q refl
@@ -240,21 +273,38 @@ changed_fits p u d v i e q =
     let j = inv (primes Once u) (λ y. Some (binary p x.Unequal y u)) e q in
     some d v (binary p x.Unequal j.0 u) e j.2 (rw (primes_fit Once v v true refl u d j.0 j.1, i) refl)
 
--- names that are bound one after the other
-names_fit : (v : ℕ) (bs : List Bind) (d : ℕ) (σ : Scope) → FitsScope v d σ → FitsScope v (d + length bs) (with_names bs d σ)
-names_fit v [] d σ g = let z : d + 0 ≡ d = omega arith in rw z g
-names_fit v (b ∷ bs) d σ g =
+-- elements that have names, and then the names of items
+elements_fit : (v : ℕ) (bs : List Bind) (d : ℕ) (σ : Scope) → FitsScope v d σ → FitsScope v (d + length bs) (with_elements bs d σ)
+elements_fit v [] d σ g = let z : d + 0 ≡ d = omega arith in rw z g
+elements_fit v ((named x, s) ∷ bs) d σ g =
     let z : d + suc (length bs) ≡ d + 1 + length bs = omega arith in
-    rw z (names_fit v bs (d + 1) (with_name b.0 (bound_name d) σ) (under_name v d b.0 σ g))
+    rw z (elements_fit v bs (d + 1) (with_name x (bound_name d) σ) (under_name v d x σ g))
+elements_fit v ((tupled ws, s) ∷ bs) d σ g =
+    let z : d + suc (length bs) ≡ d + 1 + length bs = omega arith in
+    rw z (elements_fit v bs (d + 1) σ (later v d (d + 1) σ (omega arith) g))
 
-sets_fit : (v d : ℕ) (bs : List Bind) → FitBinds v d bs → (xs : List Expr) → each_of (λ (b : Bind). b.1 d) bs ≡ Some xs → (fits_all (exprs xs) d v true ≡ true) × (count (exprs xs) ≡ length bs)
-sets_fit v d [] r xs q = let same : [] ≡ xs = cc in rw (← same) (refl, refl)
-sets_fit v d (b ∷ bs) r xs q =
-    let i = inv (b.1 d) (λ x. each_of (λ (b : Bind). b.1 d) bs >>= λ ys. Some (x ∷ ys)) xs q in
-    let j = inv (each_of (λ (b : Bind). b.1 d) bs) (λ ys. Some (i.0 ∷ ys)) xs i.2 in
+items_fit : (v : ℕ) (bs : List Bind) (c d : ℕ) (σ : Scope) → FitsScope v d σ → FitsScope v (d + items_in (openings bs c)) (with_items bs d σ)
+items_fit v [] c d σ g = let z : d + 0 ≡ d = omega arith in rw z g
+items_fit v ((named x, s) ∷ bs) c d σ g = items_fit v bs (c + 1) d σ g
+items_fit v ((tupled ws, s) ∷ bs) c d σ g =
+    let n = items_in (openings bs (c + 1)) in
+    let z : d + (length ws + n) ≡ d + length ws + n = omega arith in
+    rw z (items_fit v bs (c + 1) (d + length ws) (with_each ws d σ) (each_named v ws d σ g))
+
+set_fits : (p : Place) (n : Names) (o : Option Expr) (d v : ℕ) → ((e : Expr) → o ≡ Some e → fits e d v true ≡ true) → (e : Expr) → set_for p n o ≡ Some e → fits e d v true ≡ true
+set_fits p (named x) o d v h e q = h e q
+set_fits p (tupled ws) o d v h e q =
+    let i = inv o (λ x. Some (tried p (length ws) x)) e q in
+    some d v (tried p (length ws) i.0) e i.2 (h i.0 i.1)
+
+sets_fit : (p : Place) (v d : ℕ) (bs : List Bind) → FitBinds v d bs → (xs : List Expr) → each_of (λ (b : Bind). set_for p b.0 (b.1 d)) bs ≡ Some xs → (fits_all (exprs xs) d v true ≡ true) × (count (exprs xs) ≡ length bs)
+sets_fit p v d [] r xs q = let same : [] ≡ xs = cc in rw (← same) (refl, refl)
+sets_fit p v d (b ∷ bs) r xs q =
+    let i = inv (set_for p b.0 (b.1 d)) (λ x. each_of (λ (b : Bind). set_for p b.0 (b.1 d)) bs >>= λ ys. Some (x ∷ ys)) xs q in
+    let j = inv (each_of (λ (b : Bind). set_for p b.0 (b.1 d)) bs) (λ ys. Some (i.0 ∷ ys)) xs i.2 in
     let same : i.0 ∷ j.0 ≡ xs = cc in
-    let rest = sets_fit v d bs r.1 j.0 j.1 in
-    rw (← same) (rw (r.0 d (omega arith) i.0 i.1) rest.0, omega (arith, rest.1))
+    let rest = sets_fit p v d bs r.1 j.0 j.1 in
+    rw (← same) (rw (set_fits p b.0 (b.1 d) d v (λ e h. r.0 d (omega arith) e h) i.0 i.1) rest.0, omega (arith, rest.1))
 
 gather_fits : (f : Gather) (p : Place) (xs : Exprs) (y : Expr) (d v n : ℕ) → count xs ≡ n → fits_all xs d v true ≡ true → fits y (d + n) v true ≡ true → fits (gather f p xs y) d v true ≡ true
 gather_fits gathers.Image p xs y d v n c i j = rw (c, i, j) refl
@@ -263,10 +313,15 @@ gather_fits gathers.Function p xs y d v n c i j = rw (c, i, j) refl
 gathered_fits : (f : Gather) (p : Place) (bs : List Bind) (body : Scope → Argument) (v : ℕ) → BodyFits v body → (σ : Scope) (d : ℕ) → FitsScope v d σ → FitBinds v d bs
     → (e : Expr) → gathered f p bs body σ d ≡ Some e → fits e d v true ≡ true
 gathered_fits f p bs body v k σ d g r e q =
-    let i = inv (each_of (λ (b : Bind). b.1 d) bs) (λ xs. body (with_names bs d σ) (d + length bs) >>= λ y. Some (gather f p (exprs xs) y)) e q in
-    let j = inv (body (with_names bs d σ) (d + length bs)) (λ y. Some (gather f p (exprs i.0) y)) e i.2 in
-    let s = sets_fit v d bs r i.0 i.1 in
-    some d v (gather f p (exprs i.0) j.0) e j.2 (gather_fits f p (exprs i.0) j.0 d v (length bs) s.1 s.0 (k (with_names bs d σ) (d + length bs) (names_fit v bs d σ g) j.0 j.1))
+    let os = openings bs d in
+    let τ = with_items bs (d + length bs) (with_elements bs d σ) in
+    let c = d + length bs + items_in os in
+    let i = inv (each_of (λ (b : Bind). set_for p b.0 (b.1 d)) bs) (λ xs. under_openings p os (body τ c) >>= λ y. Some (gather f p (exprs xs) y)) e q in
+    let j = inv (under_openings p os (body τ c)) (λ y. Some (gather f p (exprs i.0) y)) e i.2 in
+    let s = sets_fit p v d bs r i.0 i.1 in
+    let fit = items_fit v bs d (d + length bs) (with_elements bs d σ) (elements_fit v bs d σ g) in
+    let inner = openings_fit p os (body τ c) (d + length bs) v (openings_bound bs d (d + length bs) (omega arith)) (λ y h. k τ c fit y h) j.0 j.1 in
+    some d v (gather f p (exprs i.0) j.0) e j.2 (gather_fits f p (exprs i.0) j.0 d v (length bs) s.1 s.0 inner)
 
 -- the arms that end a CASE
 abbrev FitLast : ℕ → ℕ → Option x.Arms → Type 0
@@ -278,6 +333,10 @@ some_arms d v x e q k = let same : x ≡ e = cc in rw (sym same) k
 bind_each_fits : (ws : List Written) (s : Argument) (rest : List Bind) (v d : ℕ) → FitsArgument v d s → FitBinds v d rest → FitBinds v d (bind_each ws s rest)
 bind_each_fits [] s rest v d i j = j
 bind_each_fits (w ∷ ws) s rest v d i j = (i, bind_each_fits ws s rest v d i j)
+
+entry_fits : (w : Pattern) (s : Argument) (rest : List Bind) (v d : ℕ) → FitsArgument v d s → FitBinds v d rest → FitBinds v d (bind_entry w s rest)
+entry_fits (Each ws) s rest v d i j = bind_each_fits ws s rest v d i j
+entry_fits (Tuple ws) s rest v d i j = (i, j)
 
 mutual
   pub expand_fits : (t : Tree) (σ : Scope) (v d : ℕ) → FitsScope v d σ → (e : Expr) → expand t σ d ≡ Some e → fits e d v true ≡ true
@@ -311,17 +370,9 @@ mutual
       let j = inv (expand b σ d) (λ y. Some (two f.0 (place_of p) i.0 y)) e i.2 in
       some d v (two f.0 (place_of p) i.0 j.0) e j.2 (two_fits f.0 (place_of p) i.0 j.0 d v (expand_fits a σ v d g i.0 i.1) (expand_fits b σ v d g j.0 j.1))
   expand_fits (Quantified p q bs a) σ v d g e r =
-      nested_fits (of_quantifier q) (place_of p) (binds_of bs σ) (expand a) v (λ τ c. expand_fits a τ v c) σ d g (binds_fit bs σ v d g) e r
-  expand_fits (Choose p w s a) σ v d g e q =
-      let i = inv (expand s σ d) (λ x. expand a (with_name w.word (bound_name d) σ) (d + 1) >>= λ y. Some (choose (place_of p) x y)) e q in
-      let j = inv (expand a (with_name w.word (bound_name d) σ) (d + 1)) (λ y. Some (choose (place_of p) i.0 y)) e i.2 in
-      let inner = expand_fits a (with_name w.word (bound_name d) σ) v (d + 1) (under_name v d w.word σ g) j.0 j.1 in
-      some d v (choose (place_of p) i.0 j.0) e j.2 (binding_fits binds.Choose (place_of p) i.0 j.0 d v (expand_fits s σ v d g i.0 i.1) inner)
-  expand_fits (Filter p w s a) σ v d g e q =
-      let i = inv (expand s σ d) (λ x. expand a (with_name w.word (bound_name d) σ) (d + 1) >>= λ y. Some (filtered (place_of p) x y)) e q in
-      let j = inv (expand a (with_name w.word (bound_name d) σ) (d + 1)) (λ y. Some (filtered (place_of p) i.0 y)) e i.2 in
-      let inner = expand_fits a (with_name w.word (bound_name d) σ) v (d + 1) (under_name v d w.word σ g) j.0 j.1 in
-      some d v (filtered (place_of p) i.0 j.0) e j.2 (binding_fits binds.Filter (place_of p) i.0 j.0 d v (expand_fits s σ v d g i.0 i.1) inner)
+      nested_fits (of_quantifier q) (place_of p) (binds_of bs σ) (expand a) v (λ τ c. expand_fits a τ v c) d (binds_fit bs σ v d g) σ d g (omega arith) e r
+  expand_fits (Choose p w s a) σ v d g e q = nested_fits binds.Choose (place_of p) (bind_entry w (expand s σ) []) (expand a) v (λ τ c. expand_fits a τ v c) d (entry_fits w (expand s σ) [] v d (λ c l. expand_fits s σ v c (later v d c σ l g)) tt) σ d g (omega arith) e q
+  expand_fits (Filter p w s a) σ v d g e q = nested_fits binds.Filter (place_of p) (bind_entry w (expand s σ) []) (expand a) v (λ τ c. expand_fits a τ v c) d (entry_fits w (expand s σ) [] v d (λ c l. expand_fits s σ v c (later v d c σ l g)) tt) σ d g (omega arith) e q
   expand_fits (Image p a bs) σ v d g e q = gathered_fits gathers.Image (place_of p) (binds_of bs σ) (expand a) v (λ τ c. expand_fits a τ v c) σ d g (binds_fit bs σ v d g) e q
   expand_fits (Function p bs a) σ v d g e q = gathered_fits gathers.Function (place_of p) (binds_of bs σ) (expand a) v (λ τ c. expand_fits a τ v c) σ d g (binds_fit bs σ v d g) e q
   expand_fits (FunctionSet p a b) σ v d g e q =
@@ -436,7 +487,7 @@ mutual
 
   pub binds_fit : (bs : Binders) (σ : Scope) (v d : ℕ) → FitsScope v d σ → FitBinds v d (binds_of bs σ)
   binds_fit unbound σ v d g = tt
-  binds_fit (t.bound ws s bs) σ v d g = bind_each_fits ws (expand s σ) (binds_of bs σ) v d (λ c k. expand_fits s σ v c (later v d c σ k g)) (binds_fit bs σ v d g)
+  binds_fit (t.bound w s bs) σ v d g = entry_fits w (expand s σ) (binds_of bs σ) v d (λ c k. expand_fits s σ v c (later v d c σ k g)) (binds_fit bs σ v d g)
 
   pub definitions_fit : (ds : Definitions) (σ : Scope) (v d : ℕ) → FitsScope v d σ → FitsScope v d (definitions_in ds σ)
   definitions_fit undefined σ v d g = g

@@ -13,18 +13,30 @@ use Rattle.tla_expand.specs.Primes.{primes, with_primes}
 use Rattle.tla_expand.specs.Nodes.{gather}
 use Rattle.tla_expand.specs.Meanings.{Scope, Argument}
 use Rattle.tla_expand.specs.Bound as x
-use Rattle.tla_expand.specs.Bound.{with_names, gathered}
-use Rattle.tla_expand.specs.Binders.{binds_in}
-use Rattle.tla_expand.specs.Gives.{both, total, highest, sum_of, larger_of, set_in, Makes, FailsBy, Fails}
+use Rattle.tla_core.specs.Expr.{tried}
+use Rattle.tla_core.specs.Patterns.{items_in}
+use Rattle.tla_tree.specs.View.{view}
+use Rattle.tla_expand.specs.Expand.{expand}
+use Rattle.tla_expand.specs.Bound.{with_elements, with_items, openings, under_openings, gathered}
+use Rattle.tla_expand.specs.Private.Binders.{names_of, binds_in}
+use Rattle.tla_expand.specs.Private.Gives.{both, total, highest, sum_of, larger_of, set_in, Makes, FailsBy, Fails}
 use Rattle.tla_expand.proofs.Keeps.{inv}
+use Rattle.tla_expand.proofs.Primed.{one}
 use Rattle.tla_expand.proofs.Groups.{binds_length}
 use Rattle.tla_expand.proofs.Lists.{each_then}
 use Rattle.tla_expand.proofs.Made.{gather_larger, gather_shown}
 use Rattle.tla_expand.proofs.Sizes.{Given, some_node, first_fails, second_fails, two_give, node_fails, node_gives}
 
-sets_in : (k : Primes) (σ : Scope) (d : ℕ) (binds : List Bind) → each_of (λ (b : x.Bind). b.1 d >>= primes k) (binds_in binds σ) ≡ each_of (set_in k σ d) binds
-sets_in k σ d [] = refl
-sets_in k σ d (b ∷ binds) = ap (λ (o : Option (List Expr)). set_in k σ d b >>= λ y. o >>= λ ys. Some (y ∷ ys)) (sets_in k σ d binds)
+-- a set that is tried, under primes
+set_primed : (p : Place) (k : Primes) (n : x.Names) (o : Option Expr) → (x.set_for p n o >>= primes k) ≡ x.set_for p n (o >>= primes k)
+set_primed p k (x.named y) o = refl
+set_primed p k (x.tupled ws) o = one (λ s. tried p (length ws) s) (primes k) (primes k) (λ s. refl) o
+
+sets_in : (p : Place) (k : Primes) (σ : Scope) (d : ℕ) (binds : List Bind) → each_of (λ (b : x.Bind). x.set_for p b.0 (b.1 d) >>= primes k) (binds_in binds σ) ≡ each_of (set_in p k σ d) binds
+sets_in p k σ d [] = refl
+sets_in p k σ d (b ∷ binds) =
+    (λ i. set_primed p k (names_of b.names) (expand (view b.set.now) σ d) i >>= λ y. each_of (λ (b : x.Bind). x.set_for p b.0 (b.1 d) >>= primes k) (binds_in binds σ) >>= λ ys. Some (y ∷ ys))
+    ∙ ap (λ (o : Option (List Expr)). set_in p k σ d b >>= λ y. o >>= λ ys. Some (y ∷ ys)) (sets_in p k σ d binds)
 
 -- there are as many sets as names, and each has a node
 each_length : {A B : Type 0} (f : A → Option B) (ts : List A) (xs : List B) → each_of f ts ≡ Some xs → length xs ≡ length ts
@@ -46,20 +58,20 @@ abbrev Pair : Type 0
 Pair = List Expr × Expr
 
 module _ (f : Gather) (p : Place) (bs : List x.Bind) (binds : List Bind) (body : Scope → Argument) (σ τ : Scope) (d : ℕ) (k : Primes)
-    (is : binds_in binds σ ≡ bs) (named : with_names (binds_in binds σ) d σ ≡ τ) where
+    (is : binds_in binds σ ≡ bs) (named : with_items bs (d + length binds) (with_elements bs d σ) ≡ τ) where
   -- the sets, and the body under the names
   abbrev sets : Option (List Expr)
-  sets = each_of (set_in k σ d) binds
+  sets = each_of (set_in p k σ d) binds
 
   abbrev inner : Option Expr
-  inner = with_primes k (body τ (d + length binds))
+  inner = with_primes k (under_openings p (openings bs d) (body τ (d + length binds + items_in (openings bs d))))
 
   whole : with_primes k (gathered f p bs body σ d) ≡ (both sets inner >>= λ (xy : Pair). Some (gather f p (exprs xy.0) xy.1))
   whole =
-      rw (← is)
-      (gather_shown f k p (each_of (λ (b : x.Bind). b.1 d) (binds_in binds σ)) (body (with_names (binds_in binds σ) d σ) (d + length (binds_in binds σ))) sets
-      (each_then (λ (b : x.Bind). b.1 d) (primes k) (binds_in binds σ) ∙ sets_in k σ d binds)
-      ∙ rw (named, binds_length binds σ) refl)
+      let long : length bs ≡ length binds = rw (← is) (binds_length binds σ) in
+      rw (long, named)
+      (gather_shown f k p (each_of (λ (b : x.Bind). x.set_for p b.0 (b.1 d)) bs) (under_openings p (openings bs d) (body τ (d + length binds + items_in (openings bs d)))) sets
+      (each_then (λ (b : x.Bind). x.set_for p b.0 (b.1 d)) (primes k) bs ∙ rw (← is) (sets_in p k σ d binds)))
 
   pub sets_fail : (s : Failure) (room left : ℕ) → FailsBy (total nodes) (highest depth) room left s sets → Fails (room + 1) (left + 1) s (with_primes k (gathered f p bs body σ d))
   sets_fail s room left h =

@@ -1,7 +1,7 @@
 -- One prime more, and what has no variable.
 use Rattle.std.proofs.Common.{◌≡◌, ℕ, refl, ◌∙◌, Option, Some, None}
 use Rattle.tla_core.specs.declared.fault.Place.{Place}
-use Rattle.tla_core.specs.Expr.{Expr, Exprs, Fields, Arms, Updates, constant, bound, now, next, unary, binary, equal, sub_seq, enumerated, tuple, record_of, conjunction, disjunction, implies, conditional, cases, assert, for_all, for_some, choose, image, function, except, member, not_member, subset, kind_set, booleans, sequences, power, functions, records, product, cup, cap, minus, filtered, no_exprs, more_exprs, no_fields, more_fields, no_arms, other, more_arms, no_updates, more_updates}
+use Rattle.tla_core.specs.Expr.{Expr, Exprs, Fields, Arms, Updates, constant, bound, now, next, unary, binary, equal, sub_seq, enumerated, tuple, record_of, conjunction, disjunction, implies, conditional, cases, assert, for_all, for_some, choose, image, function, except, member, not_member, subset, kind_set, booleans, sequences, power, functions, records, product, cup, cap, minus, filtered, opened, tried, no_exprs, more_exprs, no_fields, more_fields, no_arms, other, more_arms, no_updates, more_updates}
 use Rattle.tla_expand.specs.declared.primes.Primes.{Primes}
 use Rattle.tla_expand.specs.declared.primes.Primes.TheVariants.{Never, Once, Twice}
 use Rattle.tla_expand.specs.Maybe.{◌>>=◌}
@@ -58,6 +58,8 @@ mutual
   then_once k (cap p a b) = two (λ x y. cap p x y) (primes Once) (primes Once) (primes Once) (λ x y. refl) (primes k a) (primes k b) ∙ rw (then_once k a, then_once k b) refl
   then_once k (minus p a b) = two (λ x y. minus p x y) (primes Once) (primes Once) (primes Once) (λ x y. refl) (primes k a) (primes k b) ∙ rw (then_once k a, then_once k b) refl
   then_once k (filtered p a b) = two (λ x y. filtered p x y) (primes Once) (primes Once) (primes Once) (λ x y. refl) (primes k a) (primes k b) ∙ rw (then_once k a, then_once k b) refl
+  then_once k (opened p os a) = one (λ x. opened p os x) (primes Once) (primes Once) (λ x. refl) (primes k a) ∙ rw (then_once k a) refl
+  then_once k (tried p n a) = one (λ x. tried p n x) (primes Once) (primes Once) (λ x. refl) (primes k a) ∙ rw (then_once k a) refl
 
   pub then_once_each : (k : Primes) (es : Exprs) → (primes_each k es >>= primes_each Once) ≡ primes_each (one_more k) es
   then_once_each k no_exprs = refl
@@ -205,6 +207,12 @@ mutual
       let u = inv (primes Twice a) (λ x. primes Twice b >>= λ z. Some (filtered p x z)) y h in
       let v = inv (primes Twice b) (λ z. Some (filtered p u.0 z)) y u.2 in
       rw (stays a u.0 u.1 j, stays b v.0 v.1 j) refl
+  stays (opened p os a) y h j =
+      let u = inv (primes Twice a) (λ x. Some (opened p os x)) y h in
+      rw (stays a u.0 u.1 j) refl
+  stays (tried p n a) y h j =
+      let u = inv (primes Twice a) (λ x. Some (tried p n x)) y h in
+      rw (stays a u.0 u.1 j) refl
 
   pub stays_each : (e y : Exprs) → primes_each Twice e ≡ Some y → (j : Primes) → primes_each j e ≡ Some e
   stays_each no_exprs y h j = refl

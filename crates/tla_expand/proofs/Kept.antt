@@ -1,7 +1,7 @@
 -- UNCHANGED of what is no tuple, and UNCHANGED under primes.
 use Rattle.std.proofs.Common.{◌≡◌, false, refl, ap, sym, ◌∙◌, Option, Some, None}
 use Rattle.tla_core.specs.declared.fault.Place.{Place}
-use Rattle.tla_core.specs.Expr.{Unequal, Expr, Exprs, constant, bound, now, next, unary, binary, equal, sub_seq, enumerated, tuple, record_of, conjunction, disjunction, implies, conditional, cases, assert, for_all, for_some, choose, image, function, except, member, not_member, subset, kind_set, booleans, sequences, power, functions, records, product, cup, cap, minus, filtered, no_exprs, more_exprs}
+use Rattle.tla_core.specs.Expr.{Unequal, Expr, Exprs, constant, bound, now, next, unary, binary, equal, sub_seq, enumerated, tuple, record_of, conjunction, disjunction, implies, conditional, cases, assert, for_all, for_some, choose, image, function, except, member, not_member, subset, kind_set, booleans, sequences, power, functions, records, product, cup, cap, minus, filtered, opened, tried, no_exprs, more_exprs}
 use Rattle.tla_expand.specs.declared.primes.Primes.{Primes}
 use Rattle.tla_expand.specs.declared.primes.Primes.TheVariants.{Never, Once, Twice}
 use Rattle.tla_expand.specs.Maybe.{◌>>=◌}
@@ -9,7 +9,7 @@ use Rattle.tla_expand.specs.Primes.{primes, primes_each, primes_fields, primes_a
 use Rattle.tla_expand.specs.Primes.{settled_primes}
 use Rattle.tla_expand.specs.Nodes.{kept}
 use Rattle.tla_expand.specs.Unchanged.{unchanged, unchanged_each, changed}
-use Rattle.tla_expand.specs.Gives.{both, is_tuple, Plain}
+use Rattle.tla_expand.specs.Private.Gives.{both, is_tuple, Plain}
 use Rattle.tla_expand.specs.Primes.{with_primes}
 use Rattle.tla_expand.proofs.Primed.{once, one, two, unprimed}
 use Rattle.tla_expand.proofs.Keeps.{inv, then_once, stays}
@@ -50,6 +50,8 @@ unchanged_plain p (cup q a b) h = refl
 unchanged_plain p (cap q a b) h = refl
 unchanged_plain p (minus q a b) h = refl
 unchanged_plain p (filtered q a b) h = refl
+unchanged_plain p (opened q os a) h = refl
+unchanged_plain p (tried q n a) h = refl
 unchanged_plain p (now q i) h = refl
 unchanged_plain p (next q i) h = refl
 
@@ -141,6 +143,8 @@ mutual
   unchanged_twice k p (cap q a b) t = plain_twice k p (cap q a b) (primes Twice (cap q a b)) t refl refl
   unchanged_twice k p (minus q a b) t = plain_twice k p (minus q a b) (primes Twice (minus q a b)) t refl refl
   unchanged_twice k p (filtered q a b) t = plain_twice k p (filtered q a b) (primes Twice (filtered q a b)) t refl refl
+  unchanged_twice k p (opened q os a) t = plain_twice k p (opened q os a) (primes Twice (opened q os a)) t refl refl
+  unchanged_twice k p (tried q n a) t = plain_twice k p (tried q n a) (primes Twice (tried q n a)) t refl refl
   unchanged_twice k p (now q i) t = plain_twice k p (now q i) (primes Twice (now q i)) t refl refl
   unchanged_twice k p (next q i) t = plain_twice k p (next q i) (primes Twice (next q i)) t refl refl
 
@@ -304,3 +308,9 @@ primes_plain k (filtered p a b) x t h =
     let u = inv (primes k a) (λ x1. primes k b >>= λ z1. Some (filtered p x1 z1)) x h in
     let v = inv (primes k b) (λ z1. Some (filtered p u.0 z1)) x u.2 in
     some_plain _ x refl v.2
+primes_plain k (opened p os a) x t h =
+    let u = inv (primes k a) (λ x1. Some (opened p os x1)) x h in
+    some_plain _ x refl u.2
+primes_plain k (tried p n a) x t h =
+    let u = inv (primes k a) (λ x1. Some (tried p n x1)) x h in
+    some_plain _ x refl u.2

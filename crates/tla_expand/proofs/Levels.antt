@@ -9,7 +9,7 @@ use Rattle.tla_expand.specs.declared.primes.Primes.TheVariants.{Never, Once, Twi
 use Rattle.tla_expand.specs.Maybe.{◌>>=◌}
 use Rattle.tla_expand.specs.Primes.{primes, with_primes, settled_primes, are_fewer}
 use Rattle.tla_expand.specs.Unchanged.{unchanged}
-use Rattle.tla_expand.specs.Gives.{SaysNone, Fails}
+use Rattle.tla_expand.specs.Private.Gives.{SaysNone, Fails}
 use Rattle.tla_expand.proofs.Primed.{once, unprimed}
 
 none_bare : (k : Primes) (e : Expr) → primes Never e ≡ None → primes k e ≡ None

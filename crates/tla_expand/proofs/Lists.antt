@@ -21,7 +21,7 @@ use Rattle.tla_expand.specs.Primes.{primes, primes_each, primes_arms, with_prime
 use Rattle.tla_expand.specs.Unchanged.{unchanged, unchanged_each}
 use Rattle.tla_expand.specs.Meanings.{Scope}
 use Rattle.tla_expand.specs.Expand.{expand, expand_each, expand_arms}
-use Rattle.tla_expand.specs.Gives.{both, sum_of, larger_of, total, highest, part_in, key_in, arm_in, kept_part, FailsBy}
+use Rattle.tla_expand.specs.Private.Gives.{both, sum_of, larger_of, total, highest, part_in, key_in, arm_in, kept_part, FailsBy}
 use Rattle.tla_expand.proofs.Primed as primed
 use Rattle.tla_expand.proofs.Primed.{two, two_of}
 

@@ -28,7 +28,7 @@ use Rattle.tla_expand.specs.Maybe.{◌>>=◌, each_of}
 use Rattle.tla_expand.specs.Lists.{exprs, arms_with, fields_of, updates_of}
 use Rattle.tla_expand.specs.Primes.{primes, primes_each, primes_fields, primes_arms, primes_updates}
 use Rattle.tla_expand.specs.Nodes.{leaf, constant_of, one, two, three, many, binding, gather, fielded, kept}
-use Rattle.tla_expand.specs.Gives.{both, sum_of, larger_of, total, highest, field_nodes, field_depth, update_nodes, update_depth}
+use Rattle.tla_expand.specs.Private.Gives.{both, sum_of, larger_of, total, highest, field_nodes, field_depth, update_nodes, update_depth}
 use Rattle.tla_expand.specs.Primes.{with_primes}
 use Rattle.tla_expand.proofs.Primed as primed
 use Rattle.tla_expand.proofs.Sizes.{IsLarger}

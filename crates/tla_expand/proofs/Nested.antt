@@ -1,5 +1,5 @@
 -- Nodes for names, one in another: what they give, from what the first set and the rest give.
-use Rattle.std.proofs.Common.{◌≡◌, ℕ, ◌+◌, List, ◌∷◌, sym, Option, Some}
+use Rattle.std.proofs.Common.{◌≡◌, ℕ, ◌+◌, List, ◌∷◌, Option, Some}
 use Rattle.tla_core.specs.declared.fault.Place.{Place}
 use Rattle.tla_core.specs.Expr.{Expr}
 use Rattle.tla_model.specs.Size.{nodes, depth}
@@ -8,9 +8,9 @@ use Rattle.tla_expand.specs.declared.primes.Primes.{Primes}
 use Rattle.tla_expand.specs.declared.nodes.Binding.{Binding}
 use Rattle.tla_expand.specs.Maybe.{◌>>=◌}
 use Rattle.tla_expand.specs.Nodes.{binding}
-use Rattle.tla_expand.specs.Meanings.{Scope, Argument, with_name, bound_name}
-use Rattle.tla_expand.specs.Bound.{Bind, nested, last_or}
-use Rattle.tla_expand.specs.Gives.{both, sum_of, larger_of, FailsBy, Fails}
+use Rattle.tla_expand.specs.Meanings.{Scope, Argument}
+use Rattle.tla_expand.specs.Bound.{Bind, under, nested, last_or}
+use Rattle.tla_expand.specs.Private.Gives.{both, sum_of, larger_of, FailsBy, Fails}
 use Rattle.tla_expand.specs.Primes.{with_primes}
 use Rattle.tla_expand.proofs.Sizes.{Given, first_fails, second_fails, two_give, node_fails, node_gives}
 use Rattle.tla_expand.proofs.Made.{binding_larger, binding_shown}
@@ -18,14 +18,14 @@ use Rattle.tla_expand.proofs.Made.{binding_larger, binding_shown}
 abbrev Pair : Type 0
 Pair = Expr × Expr
 
-module _ (f : Binding) (p : Place) (bs : List Bind) (b : Bind) (rest : List Bind) (body : Scope → Argument) (σ τ : Scope) (d : ℕ) (k : Primes)
-    (is : bs ≡ b ∷ rest) (named : τ ≡ with_name b.0 (bound_name d) σ) where
-  -- the expression under the name
+module _ (f : Binding) (p : Place) (bs : List Bind) (b : Bind) (rest : List Bind) (body : Scope → Argument) (σ : Scope) (d : ℕ) (k : Primes)
+    (is : bs ≡ b ∷ rest) where
+  -- the expression under the names of the element
   abbrev pub inner : Option Expr
-  inner = last_or rest body (nested f p rest body) τ (d + 1)
+  inner = under p b.0 (last_or rest body (nested f p rest body)) σ d
 
   whole : with_primes k (nested f p bs body σ d) ≡ (both (with_primes k (b.1 d)) (with_primes k inner) >>= λ (xy : Pair). Some (binding f p xy.0 xy.1))
-  whole = rw (is, sym named) (binding_shown f k p (b.1 d) inner)
+  whole = rw is (binding_shown f k p (b.1 d) inner)
 
   fails : (s : Failure) (room left : ℕ) → FailsBy (sum_of nodes nodes) (larger_of depth depth) room left s (both (with_primes k (b.1 d)) (with_primes k inner)) → Fails (room + 1) (left + 1) s (with_primes k (nested f p bs body σ d))
   fails s room left h =

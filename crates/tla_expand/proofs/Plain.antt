@@ -10,7 +10,7 @@ use Rattle.tla_tree.specs.declared.tree.Constant.{Constant}
 use Rattle.tla_tree.specs.declared.tree.Constant.TheVariants.{True, False, Boolean, String}
 use Rattle.tla_tree.specs.Tree as t
 use Rattle.tla_tree.specs.Tree.{trees, binders}
-use Rattle.tla_tree.specs.View.{view, group_view, choice_view, field_view, update_view}
+use Rattle.tla_tree.specs.View.{view, pattern_view, group_view, choice_view, field_view, update_view}
 use Rattle.tla_expand.specs.declared.failure.Failure.{Failure}
 use Rattle.tla_expand.specs.declared.primes.Primes.{Primes}
 use Rattle.tla_expand.specs.declared.primes.Primes.TheVariants.{Never, Once, Twice}
@@ -41,10 +41,11 @@ use Rattle.tla_expand.specs.Lists.{exprs, arms_with, fields_of, updates_of}
 use Rattle.tla_expand.specs.Nodes.{leaf, constant_of, one, two, three, many, binding, gather, fielded, kept}
 use Rattle.tla_expand.specs.Unchanged.{unchanged, unchanged_each, changed}
 use Rattle.tla_expand.specs.Meanings.{Scope, Argument, with_name, bound_name}
-use Rattle.tla_expand.specs.Bound.{Bind, nested, last_or, with_names}
+use Rattle.tla_core.specs.Patterns.{items_in}
+use Rattle.tla_expand.specs.Bound.{Bind, bind_entry, under as under_element, nested, last_or, set_for, openings, with_elements, with_items, under_openings}
 use Rattle.tla_expand.specs.Expand.{expand, expand_each, expand_key, expand_arms, expand_fields, expand_updates, binds_of}
-use Rattle.tla_expand.specs.Forms.{form_in, tuple_of, tuple_parts}
-use Rattle.tla_expand.specs.Gives.{is_tuple, Plain, both, total, highest, part_in, key_in, arm_in, field_in, update_in, kept_part, sum_of, larger_of, Makes, FailsBy, Fails}
+use Rattle.tla_expand.specs.Private.Forms.{form_in, tuple_of, tuple_parts}
+use Rattle.tla_expand.specs.Private.Gives.{is_tuple, Plain, both, total, highest, part_in, key_in, arm_in, field_in, update_in, kept_part, sum_of, larger_of, Makes, FailsBy, Fails}
 use Rattle.tla_expand.specs.Primes.{with_primes}
 use Rattle.tla_expand.proofs.Kept.{some_plain, unchanged_plain, kept_settled, kept_equal}
 use Rattle.tla_expand.proofs.Made.{leaf_shown, one_shown, two_shown, three_shown, many_shown, cases_shown, gather_shown, fielded_shown, product_shown, except_shown, binding_shown, kept_larger, two_larger, Triple}
@@ -145,8 +146,8 @@ after_plain p (Some x) = unchanged_none p x (is_tuple x) refl
 nested_plain : (f : Binding) (k : Primes) (p : Place) (bs : List Bind) (body : Scope → Argument) (σ : Scope) (d : ℕ) → Plain (with_primes k (nested f p bs body σ d))
 nested_plain f k p [] body σ d = λ e q. cc
 nested_plain f k p (b ∷ bs) body σ d =
-    rw (binding_shown f k p (b.1 d) (last_or bs body (nested f p bs body) (with_name b.0 (bound_name d) σ) (d + 1)))
-    (made_plain (both (with_primes k (b.1 d)) (with_primes k (last_or bs body (nested f p bs body) (with_name b.0 (bound_name d) σ) (d + 1)))) (λ (xy : Expr × Expr). binding f p xy.0 xy.1) (λ xy. binding_plain f p xy.0 xy.1))
+    rw (binding_shown f k p (b.1 d) (under_element p b.0 (last_or bs body (nested f p bs body)) σ d))
+    (made_plain (both (with_primes k (b.1 d)) (with_primes k (under_element p b.0 (last_or bs body (nested f p bs body)) σ d))) (λ (xy : Expr × Expr). binding f p xy.0 xy.1) (λ xy. binding_plain f p xy.0 xy.1))
 
 form_plain : (fm : Form) (σ : Scope) (d : ℕ) (k : Primes) → tuple_parts fm ≡ None → Plain (with_primes k (form_in fm σ d))
 form_plain (form.Leaf p l) σ d k h = rw (leaf_shown k l p) (leaf_plain l p)
@@ -171,8 +172,11 @@ form_plain (form.Cases p as' (Some z)) σ d k h =
     (made_plain (both (each_of (arm_in k σ d) as'.now) (part_in k σ d z.now)) (λ xs. cases p (arms_with xs.0 (other xs.1))) (λ xs. refl))
 form_plain (form.Binders p (under.Gathered f) bs t) σ d k h =
     let b = binds_of (binders (map group_view bs.now)) σ in
-    rw (gather_shown f k p (each_of (λ (n : Bind). n.1 d) b) (expand (view t.now) (with_names b d σ) (d + length b)) (each_of (λ (n : Bind). n.1 d) b >>= each_of (primes k)) refl)
-    (made_plain (both (each_of (λ (n : Bind). n.1 d) b >>= each_of (primes k)) (with_primes k (expand (view t.now) (with_names b d σ) (d + length b)))) (λ (xy : List Expr × Expr). gather f p (exprs xy.0) xy.1) (λ xy. gather_plain f p (exprs xy.0) xy.1))
+    let sets = each_of (λ (n : Bind). set_for p n.0 (n.1 d)) b in
+    let os = openings b d in
+    let inner = under_openings p os (expand (view t.now) (with_items b (d + length b) (with_elements b d σ)) (d + length b + items_in os)) in
+    rw (gather_shown f k p sets inner (sets >>= each_of (primes k)) refl)
+    (made_plain (both (sets >>= each_of (primes k)) (with_primes k inner)) (λ (xy : List Expr × Expr). gather f p (exprs xy.0) xy.1) (λ xy. gather_plain f p (exprs xy.0) xy.1))
 form_plain (form.Fields p f fs) σ d k h =
     rw (fielded_shown f k p (expand_fields (t.fields (map field_view fs.now)) σ d) (each_of (field_in k σ d) fs.now) (fields_in k fs.now σ d))
     (made_plain (each_of (field_in k σ d) fs.now) (λ xs. fielded f p (fields_of xs)) (λ xs. fielded_plain f p (fields_of xs)))
@@ -190,9 +194,7 @@ form_plain (form.Action p steps.Angle z q v) σ d k h =
     (made_plain (both (part_in k σ d z.now) (with_primes k (expand (view v.now) σ d >>= changed q))) (λ (xy : Expr × Expr). two twos.And p xy.0 xy.1) (λ xy. refl))
 form_plain (form.Unchanged p t) σ d k h = rw (kept_settled k p (expand (view t.now) σ d)) (after_plain p (with_primes (settled_primes k) (expand (view t.now) σ d)))
 form_plain (form.Binders p (under.Nested f) bs t) σ d k h = nested_plain f k p (binds_of (binders (map group_view bs.now)) σ) (expand (view t.now)) σ d
-form_plain (form.Binds p f w s t) σ d k h =
-    rw (binding_shown f k p (expand (view s.now) σ d) (expand (view t.now) (with_name w.now.word (bound_name d) σ) (d + 1)))
-    (made_plain (both (with_primes k (expand (view s.now) σ d)) (with_primes k (expand (view t.now) (with_name w.now.word (bound_name d) σ) (d + 1)))) (λ (xy : Expr × Expr). binding f p xy.0 xy.1) (λ xy. binding_plain f p xy.0 xy.1))
+form_plain (form.Binds p f w s t) σ d k h = nested_plain f k p (bind_entry (pattern_view w.now) (expand (view s.now) σ) []) (expand (view t.now)) σ d
 
 pub plain_head : (o : Option Expr) (fm : Form) (σ : Scope) (d : ℕ) (k : Primes) → o ≡ with_primes k (form_in fm σ d) → tuple_parts fm ≡ None → Plain o
 plain_head o fm σ d k h t = rw h (form_plain fm σ d k t)

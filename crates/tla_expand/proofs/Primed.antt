@@ -1,7 +1,7 @@
 -- Primes, form by form.
 use Rattle.std.proofs.Common.{◌≡◌, ℕ, refl, ◌∙◌, Option, Some, None}
 use Rattle.tla_core.specs.declared.fault.Place.{Place}
-use Rattle.tla_core.specs.Expr.{Expr, Exprs, Fields, Arms, Updates, constant, bound, now, next, unary, binary, equal, sub_seq, enumerated, tuple, record_of, conjunction, disjunction, implies, conditional, cases, assert, for_all, for_some, choose, image, function, except, member, not_member, subset, kind_set, booleans, sequences, power, functions, records, product, cup, cap, minus, filtered, no_exprs, more_exprs, no_fields, more_fields, no_arms, other, more_arms, no_updates, more_updates}
+use Rattle.tla_core.specs.Expr.{Expr, Exprs, Fields, Arms, Updates, constant, bound, now, next, unary, binary, equal, sub_seq, enumerated, tuple, record_of, conjunction, disjunction, implies, conditional, cases, assert, for_all, for_some, choose, image, function, except, member, not_member, subset, kind_set, booleans, sequences, power, functions, records, product, cup, cap, minus, filtered, opened, tried, no_exprs, more_exprs, no_fields, more_fields, no_arms, other, more_arms, no_updates, more_updates}
 use Rattle.tla_expand.specs.declared.primes.Primes.{Primes}
 use Rattle.tla_expand.specs.declared.primes.Primes.TheVariants.{Never, Once, Twice}
 use Rattle.tla_expand.specs.Maybe.{◌>>=◌}
@@ -89,6 +89,8 @@ mutual
   once k (cap p a b) = two (λ x y. cap p x y) (primes k) (primes k) (primes k) (λ x y. refl) (primes Once a) (primes Once b) ∙ rw (once k a, once k b) refl
   once k (minus p a b) = two (λ x y. minus p x y) (primes k) (primes k) (primes k) (λ x y. refl) (primes Once a) (primes Once b) ∙ rw (once k a, once k b) refl
   once k (filtered p a b) = two (λ x y. filtered p x y) (primes k) (primes k) (primes k) (λ x y. refl) (primes Once a) (primes Once b) ∙ rw (once k a, once k b) refl
+  once k (opened p os a) = one (λ x. opened p os x) (primes k) (primes k) (λ x. refl) (primes Once a) ∙ rw (once k a) refl
+  once k (tried p n a) = one (λ x. tried p n x) (primes k) (primes k) (λ x. refl) (primes Once a) ∙ rw (once k a) refl
 
   pub once_each : (k : Primes) (es : Exprs) → (primes_each Once es >>= primes_each k) ≡ primes_each (one_more k) es
   once_each k no_exprs = refl
@@ -147,6 +149,8 @@ mutual
   unprimed (cap p a b) = rw (unprimed a, unprimed b) refl
   unprimed (minus p a b) = rw (unprimed a, unprimed b) refl
   unprimed (filtered p a b) = rw (unprimed a, unprimed b) refl
+  unprimed (opened p os a) = rw (unprimed a) refl
+  unprimed (tried p n a) = rw (unprimed a) refl
 
   pub unprimed_each : (es : Exprs) → primes_each Never es ≡ Some es
   unprimed_each no_exprs = refl

@@ -2,7 +2,8 @@
 use Rattle.std.proofs.Common.{◌≡◌, ℕ, ◌+◌, Bool, true, refl, sym, Option, Some, None}
 use Rattle.std.specs.Prelude.{nat_lt}
 use Rattle.tla_core.specs.declared.fault.Place.{Place}
-use Rattle.tla_core.specs.Expr.{Expr, Exprs, Fields, Arms, Updates, constant, bound, now, next, unary, binary, equal, sub_seq, enumerated, tuple, record_of, conjunction, disjunction, implies, conditional, cases, assert, for_all, for_some, choose, image, function, except, member, not_member, subset, kind_set, booleans, sequences, power, functions, records, product, cup, cap, minus, filtered, no_exprs, more_exprs, no_fields, more_fields, no_arms, other, more_arms, no_updates, more_updates}
+use Rattle.tla_core.specs.Patterns.{items_in}
+use Rattle.tla_core.specs.Expr.{Expr, Exprs, Fields, Arms, Updates, constant, bound, now, next, unary, binary, equal, sub_seq, enumerated, tuple, record_of, conjunction, disjunction, implies, conditional, cases, assert, for_all, for_some, choose, image, function, except, member, not_member, subset, kind_set, booleans, sequences, power, functions, records, product, cup, cap, minus, filtered, opened, tried, no_exprs, more_exprs, no_fields, more_fields, no_arms, other, more_arms, no_updates, more_updates}
 use Rattle.tla_core.specs.Fits.{fits, fits_all, fits_fields, fits_arms, fits_updates, count}
 use Rattle.tla_expand.specs.declared.primes.Primes.{Primes}
 use Rattle.tla_expand.specs.declared.primes.Primes.TheVariants.{Never, Once, Twice}
@@ -143,6 +144,14 @@ mutual
       let j = inv (primes k c) (λ y. Some (filtered p i.0 y)) e i.2 in
       let same : filtered p i.0 j.0 ≡ e = cc in
       rw (sym same, primes_fit k v n s h a b i.0 i.1, primes_fit k v n s h c (b + 1) j.0 j.1) refl
+  primes_fit k v n s h (opened p os a) b e q =
+      let i = inv (primes k a) (λ x. Some (opened p os x)) e q in
+      let same : opened p os i.0 ≡ e = cc in
+      rw (sym same, primes_fit k v n s h a (b + items_in os) i.0 i.1) refl
+  primes_fit k v n s h (tried p m a) b e q =
+      let i = inv (primes k a) (λ x. Some (tried p m x)) e q in
+      let same : tried p m i.0 ≡ e = cc in
+      rw (sym same, primes_fit k v n s h a b i.0 i.1) refl
   primes_fit k v n s h (enumerated p es) b e q =
       let i = inv (primes_each k es) (λ x. Some (enumerated p x)) e q in
       let same : enumerated p i.0 ≡ e = cc in

@@ -32,7 +32,7 @@ abbrev equals : Tree → Tree → Tree
 equals a b = Binary at infixes.Equal (named (codes "=")) a b
 
 abbrev all : names.Name → ℕ → Tree → Tree
-all x s e = Quantified at quantifier.ForAll (t.bound (named x ∷ []) (Number at s) unbound) e
+all x s e = Quantified at quantifier.ForAll (t.bound (t.Each (named x ∷ [])) (Number at s) unbound) e
 
 -- LET f(a) == body IN e
 abbrev let_f : Tree → Tree → Tree

@@ -13,7 +13,7 @@ use Rattle.tla_expand.specs.Maybe.{◌>>=◌}
 use Rattle.tla_expand.specs.Places.{Name, place_of}
 use Rattle.tla_expand.specs.Meanings.{Scope, Argument, Meaning, with_name, parameter, with_parameters, operator}
 use Rattle.tla_expand.specs.Expand.{expand}
-use Rattle.tla_expand.specs.Parameters.{IsAbsent, IsLast}
+use Rattle.tla_expand.specs.Private.Parameters.{IsAbsent, IsLast}
 use Rattle.tla_expand.specs.Scopes.{meaning_of, arguments_in}
 use Rattle.tla_expand.proofs.Steps.{expand_call}
 

@@ -1,11 +1,18 @@
 -- Nodes, depth, and what a failure of a part says of the whole.
-use Rattle.std.proofs.Common.{◌≡◌, ◌≤◌, ◌<◌, ℕ, ◌+◌, ◌-◌, refl, ap, arith, Option, Some, None}
-use Rattle.tla_core.specs.Expr.{Expr, constant, bound, now, next, unary, binary, equal, sub_seq, enumerated, tuple, record_of, conjunction, disjunction, implies, conditional, cases, assert, for_all, for_some, choose, image, function, except, member, not_member, subset, kind_set, booleans, sequences, power, functions, records, product, cup, cap, minus, filtered}
+use Rattle.std.proofs.Common.{◌≡◌, ◌≤◌, ◌<◌, ℕ, ◌+◌, ◌-◌, List, [], ◌∷◌, length, refl, ap, arith, Option, Some, None}
+use Rattle.tla_core.specs.declared.fault.Place.{Place}
+use Rattle.tla_core.specs.declared.expression.Opening.{Opening}
+use Rattle.tla_core.specs.Patterns.{items_in}
+use Rattle.tla_expand.specs.Bound.{under_openings}
+use Rattle.tla_expand.specs.declared.primes.Primes.{Primes}
+use Rattle.tla_expand.specs.Primes.{primes, with_primes}
+use Rattle.tla_expand.proofs.Primed.{one}
+use Rattle.tla_core.specs.Expr.{Expr, constant, bound, now, next, unary, binary, equal, sub_seq, enumerated, tuple, record_of, conjunction, disjunction, implies, conditional, cases, assert, for_all, for_some, choose, image, function, except, member, not_member, subset, kind_set, booleans, sequences, power, functions, records, product, cup, cap, minus, filtered, opened, tried}
 use Rattle.tla_expand.specs.declared.failure.Failure.{Failure}
 use Rattle.tla_expand.specs.declared.failure.Failure.TheVariants.{NoExpansion, TooLarge, Memory}
 use Rattle.tla_expand.specs.Maybe.{◌>>=◌}
 use Rattle.tla_model.specs.Size.{nodes, depth}
-use Rattle.tla_expand.specs.Gives.{FailsBy, Fails, Makes, both, sum_of, larger_of}
+use Rattle.tla_expand.specs.Private.Gives.{FailsBy, Fails, Makes, both, sum_of, larger_of}
 
 pub some_node : (e : Expr) → 0 < nodes e
 some_node (constant p a) = omega arith
@@ -45,6 +52,8 @@ some_node (cup p a b) = omega arith
 some_node (cap p a b) = omega arith
 some_node (minus p a b) = omega arith
 some_node (filtered p a b) = omega arith
+some_node (opened p os a) = let h = some_node a in omega (arith, h)
+some_node (tried p k a) = some_node a
 
 pub some_depth : (e : Expr) → 0 < depth e
 some_depth (constant p a) = omega arith
@@ -84,6 +93,8 @@ some_depth (cup p a b) = omega arith
 some_depth (cap p a b) = omega arith
 some_depth (minus p a b) = omega arith
 some_depth (filtered p a b) = omega arith
+some_depth (opened p os a) = some_depth a
+some_depth (tried p k a) = some_depth a
 
 pub no_room : (o : Option Expr) (room left : ℕ) → room ≡ 0 → (e : Expr) → o ≡ Some e → nodes e ≤ left → depth e ≤ room → ⊥
 no_room o room left z e h n d = omega (arith, some_depth e)
@@ -141,6 +152,32 @@ node_gives size deep f o x c room left rest i (p, n, d) e =
     let n2 = ap nodes e in
     let d2 = ap depth e in
     (rw (p, e) refl, omega arith, omega arith)
+
+-- a body under elements that are opened, and a set that is tried: a node more for each item, and none on a path
+pub opened_gives : (p : Place) (os : List Opening) (o : Option Expr) (y c : Expr) (room left less rest : ℕ) → less + items_in os ≡ left → Given o y rest less room → Some c ≡ under_openings p os (Some y) → Given (under_openings p os o) c rest left room
+opened_gives p [] o y c room left less rest l g e = let same : c ≡ y = cc in rw same (g.0, omega (arith, l, g.1), g.2)
+opened_gives p (n ∷ os) o y c room left less rest l g e = let same : c ≡ opened p (n ∷ os) y = cc in rw (same, g.0) (refl, omega (arith, l, g.1), g.2)
+
+pub opened_fails : (p : Place) (os : List Opening) (s : Failure) (o : Option Expr) (room left less : ℕ) → less + items_in os ≡ left → Fails room less s o → Fails room left s (under_openings p os o)
+opened_fails p [] s o room left less l h = let z : less ≡ left = omega (arith, l) in rw z at h
+opened_fails p (n ∷ os) (NoExpansion q) o room left less l h = rw h refl
+opened_fails p (n ∷ os) TooLarge None room left less l h = λ x q m d. cc
+opened_fails p (n ∷ os) TooLarge (Some u) room left less l h = λ x q m d. let w : opened p (n ∷ os) u ≡ x = cc in let w0 = ap nodes w in let w1 = ap depth w in h u refl (omega arith) (omega arith)
+opened_fails p (n ∷ os) Memory o room left less l h = tt
+
+pub openings_primed : (k : Primes) (p : Place) (os : List Opening) (o : Option Expr) → with_primes k (under_openings p os o) ≡ under_openings p os (with_primes k o)
+openings_primed k p [] o = refl
+openings_primed k p (n ∷ os) o = one (λ x. opened p (n ∷ os) x) (primes k) (primes k) (λ x. refl) o
+
+pub opened_some : (p : Place) (os : List Opening) (e : Expr) → 0 < length os → under_openings p os (Some e) ≡ Some (opened p os e)
+opened_some p [] e h = absurd (omega arith)
+opened_some p (n ∷ os) e h = refl
+
+-- too many items
+pub opened_full : (p : Place) (os : List Opening) (o : Option Expr) (room left : ℕ) → left < items_in os → (e : Expr) → under_openings p os o ≡ Some e → nodes e ≤ left → depth e ≤ room → ⊥
+opened_full p [] o room left l e q n d = absurd (omega (arith, l))
+opened_full p (m ∷ os) None room left l e q n d = cc
+opened_full p (m ∷ os) (Some u) room left l e q n d = let w : opened p (m ∷ os) u ≡ e = cc in let w0 = ap nodes w in omega arith
 
 -- limits that are not passed
 pub limits_are : (room left : ℕ) → (room ≡ 0 → ⊥) → (left ≡ 0 → ⊥) → (room - 1 + 1 ≡ room) × (left - 1 + 1 ≡ left)

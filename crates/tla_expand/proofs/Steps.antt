@@ -16,7 +16,7 @@ use Rattle.tla_expand.specs.declared.failure.Failure.TheVariants.{NoExpansion, T
 use Rattle.tla_core.specs.Expr.{Expr}
 use Rattle.tla_expand.specs.Places.{place_of}
 use Rattle.tla_expand.specs.Nodes.{many}
-use Rattle.tla_expand.specs.Forms.{of_brackets, of_bullet}
+use Rattle.tla_expand.specs.Private.Forms.{of_brackets, of_bullet}
 use Rattle.tla_tree.specs.declared.word.Written.{Written}
 use Rattle.tla_expand.specs.Maybe.{◌>>=◌}
 use Rattle.tla_expand.specs.Primes.{primes, one_more}
@@ -24,7 +24,7 @@ use Rattle.tla_expand.specs.declared.primes.Primes.TheVariants.{Once}
 use Rattle.tla_expand.specs.Meanings.{Scope, Argument}
 use Rattle.tla_expand.specs.Expand.{expand, expand_each, arguments, definition_in, definitions_in}
 use Rattle.tla_expand.specs.Scopes.{arguments_in}
-use Rattle.tla_expand.specs.Gives.{Explains}
+use Rattle.tla_expand.specs.Private.Gives.{Explains}
 use Rattle.tla_expand.specs.Primes.{with_primes}
 use Rattle.tla_expand.proofs.Primed.{once}
 

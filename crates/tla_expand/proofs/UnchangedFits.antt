@@ -1,7 +1,7 @@
 -- UNCHANGED names what its expression names.
 use Rattle.std.proofs.Common.{◌≡◌, ℕ, ◌&&◌, Bool, true, false, refl, sym, Some}
 use Rattle.tla_core.specs.declared.fault.Place.{Place}
-use Rattle.tla_core.specs.Expr.{Expr, Exprs, constant, bound, now, next, unary, binary, equal, sub_seq, enumerated, tuple, record_of, conjunction, disjunction, implies, conditional, cases, assert, for_all, for_some, choose, image, function, except, member, not_member, subset, kind_set, booleans, sequences, power, functions, records, product, cup, cap, minus, filtered, no_exprs, more_exprs}
+use Rattle.tla_core.specs.Expr.{Expr, Exprs, constant, bound, now, next, unary, binary, equal, sub_seq, enumerated, tuple, record_of, conjunction, disjunction, implies, conditional, cases, assert, for_all, for_some, choose, image, function, except, member, not_member, subset, kind_set, booleans, sequences, power, functions, records, product, cup, cap, minus, filtered, opened, tried, no_exprs, more_exprs}
 use Rattle.tla_core.specs.Fits.{fits, fits_all}
 use Rattle.tla_expand.specs.declared.primes.Primes.TheVariants.{Once}
 use Rattle.tla_expand.specs.Maybe.{◌>>=◌}
@@ -62,6 +62,8 @@ mutual
   unchanged_fits p (cap r a c) b v e q = plain p (cap r a c) b v e q
   unchanged_fits p (minus r a c) b v e q = plain p (minus r a c) b v e q
   unchanged_fits p (filtered r a c) b v e q = plain p (filtered r a c) b v e q
+  unchanged_fits p (opened r os a) b v e q = plain p (opened r os a) b v e q
+  unchanged_fits p (tried r n a) b v e q = plain p (tried r n a) b v e q
   unchanged_fits p (tuple r es) b v e q =
       let i = inv (unchanged_each p es) (λ xs. Some (kept p xs)) e q in
       let same : kept p i.0 ≡ e = cc in

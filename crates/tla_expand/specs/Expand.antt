@@ -3,7 +3,7 @@ use Rattle.std.specs.Prelude.{ℕ, ◌+◌, List, [], ◌∷◌, Option, Some, N
 use Rattle.tla_value.specs.Tree as value
 use Rattle.tla_core.specs.declared.fault.Place.{Place}
 use Rattle.tla_core.specs.Expr as e
-use Rattle.tla_core.specs.Expr.{Expr, Exprs, constant, unary, binary, enumerated, tuple, conjunction, disjunction, conditional, cases, choose, filtered, functions, record_of, records, product, except, no_exprs, more_exprs}
+use Rattle.tla_core.specs.Expr.{Expr, Exprs, constant, unary, binary, enumerated, tuple, conjunction, disjunction, conditional, cases, functions, record_of, records, product, except, no_exprs, more_exprs}
 use Rattle.tla_tree.specs.declared.tree.Prefix.{Prefix}
 use Rattle.tla_tree.specs.declared.tree.Prefix.TheVariants as prefix
 use Rattle.tla_tree.specs.declared.tree.Bullet.TheVariants as bullet
@@ -27,7 +27,7 @@ use Rattle.tla_expand.specs.Unchanged.{unchanged, changed}
 use Rattle.tla_expand.specs.Nodes.{constant_of, number_of, one, two}
 use Rattle.tla_expand.specs.Operators.{prefix_for, infix_for}
 use Rattle.tla_expand.specs.Meanings.{Argument, Scope, with_name, bound_name, parameter, operator}
-use Rattle.tla_expand.specs.Bound.{Bind, bind_each, nested, gathered}
+use Rattle.tla_expand.specs.Bound.{Bind, bind_entry, nested, gathered}
 
 abbrev pub of_quantifier : Quantifier → Binding
 of_quantifier quantifier.ForAll = binds.ForAll
@@ -62,8 +62,8 @@ abbrev mutual
   expand (Unary p op a) σ d = expand a σ d >>= prefixed op (place_of p)
   expand (Binary p op w a b) σ d = infix_for op >>= λ f. expand a σ d >>= λ x. expand b σ d >>= λ y. Some (two f (place_of p) x y)
   expand (Quantified p q bs a) σ d = nested (of_quantifier q) (place_of p) (binds_of bs σ) (expand a) σ d
-  expand (Choose p w s a) σ d = expand s σ d >>= λ x. expand a (with_name w.word (bound_name d) σ) (d + 1) >>= λ y. Some (choose (place_of p) x y)
-  expand (Filter p w s a) σ d = expand s σ d >>= λ x. expand a (with_name w.word (bound_name d) σ) (d + 1) >>= λ y. Some (filtered (place_of p) x y)
+  expand (Choose p w s a) σ d = nested binds.Choose (place_of p) (bind_entry w (expand s σ) []) (expand a) σ d
+  expand (Filter p w s a) σ d = nested binds.Filter (place_of p) (bind_entry w (expand s σ) []) (expand a) σ d
   expand (Image p a bs) σ d = gathered gathers.Image (place_of p) (binds_of bs σ) (expand a) σ d
   expand (Function p bs a) σ d = gathered gathers.Function (place_of p) (binds_of bs σ) (expand a) σ d
   expand (FunctionSet p s a) σ d = expand s σ d >>= λ x. expand a σ d >>= λ y. Some (functions (place_of p) x y)
@@ -122,10 +122,10 @@ abbrev mutual
   arguments none σ = []
   arguments (more a es) σ = expand a σ ∷ arguments es σ
 
-  -- the names of a binder list in order, each with its set
+  -- the elements of a binder list in order, each with its set
   pub binds_of : Binders → Scope → List Bind
   binds_of unbound σ = []
-  binds_of (t.bound ws s bs) σ = bind_each ws (expand s σ) (binds_of bs σ)
+  binds_of (t.bound w s bs) σ = bind_entry w (expand s σ) (binds_of bs σ)
 
   -- each definition is known to those after it
   pub definitions_in : Definitions → Scope → Scope

@@ -9,12 +9,9 @@ pub mod Library
 pub mod Meanings
 pub mod Bound
 pub mod Expand
-pub mod Forms
 pub mod Scopes
-pub mod Parameters
-pub mod Binders
 pub mod Linked
 pub mod Names
 pub mod Fits
-pub mod Gives
 pub mod Laws
+pub mod Private

@@ -1,7 +1,7 @@
 -- Primes on expressions (book, chapter 16): a prime turns each variable now into the variable next.
 use Rattle.std.specs.Prelude.{ℕ, Bool, true, false, Option, Some, None}
 use Rattle.tla_core.specs.declared.fault.Place.{Place}
-use Rattle.tla_core.specs.Expr.{Expr, Exprs, Fields, Arms, Updates, constant, bound, now, next, unary, binary, equal, sub_seq, enumerated, tuple, record_of, conjunction, disjunction, implies, conditional, cases, assert, for_all, for_some, choose, image, function, except, member, not_member, subset, kind_set, booleans, sequences, power, functions, records, product, cup, cap, minus, filtered, no_exprs, more_exprs, no_fields, more_fields, no_arms, other, more_arms, no_updates, more_updates}
+use Rattle.tla_core.specs.Expr.{Expr, Exprs, Fields, Arms, Updates, constant, bound, now, next, unary, binary, equal, sub_seq, enumerated, tuple, record_of, conjunction, disjunction, implies, conditional, cases, assert, for_all, for_some, choose, image, function, except, member, not_member, subset, kind_set, booleans, sequences, power, functions, records, product, cup, cap, minus, filtered, opened, tried, no_exprs, more_exprs, no_fields, more_fields, no_arms, other, more_arms, no_updates, more_updates}
 use Rattle.tla_expand.specs.declared.primes.Primes.{Primes}
 use Rattle.tla_expand.specs.declared.primes.Primes.TheVariants.{Never, Once, Twice}
 use Rattle.tla_expand.specs.Maybe.{◌>>=◌}
@@ -78,6 +78,8 @@ abbrev mutual
   primes k (cap p a b) = primes k a >>= λ x. primes k b >>= λ y. Some (cap p x y)
   primes k (minus p a b) = primes k a >>= λ x. primes k b >>= λ y. Some (minus p x y)
   primes k (filtered p a b) = primes k a >>= λ x. primes k b >>= λ y. Some (filtered p x y)
+  primes k (opened p os a) = primes k a >>= λ x. Some (opened p os x)
+  primes k (tried p n a) = primes k a >>= λ x. Some (tried p n x)
 
   pub primes_each : Primes → Exprs → Option Exprs
   primes_each k no_exprs = Some no_exprs

@@ -1,21 +1,29 @@
-//! The names of binder lists.
+//! The elements that binder lists bind.
 
 ghost use Rattle.std.specs.Prelude.{◌≡◌, ◌++◌, ◌∷◌, [], map, IfOk, OnOk, IfErr};
-ghost use Rattle.tla_tree.specs.View.{view, group_view};
+ghost use Rattle.tla_tree.specs.View.{view, pattern_view, group_view};
 ghost use Rattle.tla_tree.specs.Tree.{binders};
 ghost use Rattle.tla_expand.specs.Meanings.{Scope};
-ghost use Rattle.tla_expand.specs.Bound.{bind_each};
+ghost use Rattle.tla_expand.specs.Bound.{bind_each, bind_entry};
 ghost use Rattle.tla_expand.specs.Expand.{binds_of, expand};
-ghost use Rattle.tla_expand.specs.Binders.{binds_in};
+ghost use Rattle.tla_expand.specs.Private.Binders.{binds_in};
 
 use crate::failure::Failure;
 use std::alloc::Global;
-use tla_tree::{Binder, Expr, Written};
+use tla_tree::{Binder, Expr, Pattern, Written};
 
-/// A name that is bound, with its set.
+/// What an element is bound to.
+#[derive(Clone, Copy)]
+pub(crate) enum Names<'a> {
+    Name(&'a Written),
+    /// Names for its items.
+    Tuple(&'a [Written]),
+}
+
+/// An element that is bound, with its set.
 #[derive(Clone, Copy)]
 pub(crate) struct Bind<'a> {
-    pub(crate) name: &'a Written,
+    pub(crate) names: Names<'a>,
     pub(crate) set: &'a Expr,
 }
 
@@ -29,8 +37,8 @@ fn push_bind<'a>(binds: &mut Vec<Bind<'a>>, bind: Bind<'a>) -> Result<(), Failur
     }
 }
 
-/// Adds the names of one group.
-fn push_group<'a>(
+/// Adds elements with these names.
+fn push_each<'a>(
     binds: &mut Vec<Bind<'a>>,
     names: &'a [Written],
     set: &'a Expr,
@@ -40,7 +48,7 @@ fn push_group<'a>(
 {
     for i in 0..names.len() {
         let bind = Bind {
-            name: &names[i],
+            names: Names::Name(&names[i]),
             set,
         };
         push_bind(binds, bind)?;
@@ -48,7 +56,39 @@ fn push_group<'a>(
     Ok(())
 }
 
-/// The names of a binder list in order, each with its set. The only error is want of memory.
+/// Adds the elements of one entry.
+fn push_entry<'a>(
+    binds: &mut Vec<Bind<'a>>,
+    pattern: &'a Pattern,
+    set: &'a Expr,
+) -> Result<(), Failure>
+    ensures ok { OnOk result ((σ : Scope) → binds_in binds.new.items σ ≡ binds_in binds.old.items σ ++ bind_entry (pattern_view pattern.now) (expand (view set.now) σ) []) }
+    ensures err { IfErr result (λ e. e ≡ Failure.Memory) }
+{
+    match pattern {
+        Pattern::Each(names) => push_each(binds, names.as_slice(), set),
+        Pattern::Tuple(names) => {
+            let names = Names::Tuple(names.as_slice());
+            push_bind(binds, Bind { names, set })
+        }
+    }
+}
+
+/// The elements of one entry, each with its set. The only error is want of memory.
+pub(crate) fn bind_one<'a>(
+    alloc: Global,
+    pattern: &'a Pattern,
+    set: &'a Expr,
+) -> Result<Vec<Bind<'a>>, Failure>
+    ensures ok { IfOk result (λ bs. (σ : Scope) → binds_in bs.items σ ≡ bind_entry (pattern_view pattern.now) (expand (view set.now) σ) []) }
+    ensures err { IfErr result (λ e. e ≡ Failure.Memory) }
+{
+    let mut binds = Vec::new(alloc);
+    push_entry(&mut binds, pattern, set)?;
+    Ok(binds)
+}
+
+/// The elements of a binder list in order, each with its set. The only error is want of memory.
 pub(crate) fn bind_list<'a>(alloc: Global, groups: &'a [Binder]) -> Result<Vec<Bind<'a>>, Failure>
     ensures ok { IfOk result (λ bs. (σ : Scope) → binds_in bs.items σ ≡ binds_of (binders (map group_view groups.now)) σ) }
     ensures err { IfErr result (λ e. e ≡ Failure.Memory) }
@@ -56,7 +96,7 @@ pub(crate) fn bind_list<'a>(alloc: Global, groups: &'a [Binder]) -> Result<Vec<B
     let mut binds = Vec::new(alloc);
     for i in 0..groups.len() {
         let group = &groups[i];
-        push_group(&mut binds, group.names.as_slice(), &group.set)?;
+        push_entry(&mut binds, &group.pattern, &group.set)?;
     }
     Ok(binds)
 }

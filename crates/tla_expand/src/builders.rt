@@ -1,18 +1,19 @@
 //! The nodes of an expression, made of their parts.
 
-ghost use Rattle.std.specs.Prelude.{◌≡◌, ◌∷◌, IfOk, IfErr, map};
+ghost use Rattle.std.specs.Prelude.{◌≡◌, ◌∷◌, IfOk, IfErr, Some, map};
 ghost use Rattle.tla_core.specs.ExprOf.{expr_of, exprs_of_arm};
 ghost use Rattle.tla_core.specs.Expr as expr;
 ghost use Rattle.tla_expand.specs.Lists.{exprs, arms_with, fields_of, updates_of, named_part, changed_part};
 ghost use Rattle.tla_expand.specs.Places as places;
 ghost use Rattle.tla_expand.specs.Nodes as nodes;
-ghost use Rattle.tla_expand.specs.Gives.{MakesLeaf};
+ghost use Rattle.tla_expand.specs.Bound.{under_openings};
+ghost use Rattle.tla_expand.specs.Private.Gives.{MakesLeaf};
 
 use crate::failure::Failure;
 use crate::nodes::{Binding, Fielded, Gather, Leaf, Many, One, Three, Two};
 use crate::parts::{box_beside, box_three, box_two, boxed, list_of_two, with_first};
 use std::alloc::Global;
-use tla_core::{Core, Kind, Place};
+use tla_core::{Core, Kind, Opening, Place};
 use tla_tree::{Constant, Word};
 use tla_value::{Text, Value};
 
@@ -231,6 +232,43 @@ pub(crate) fn binding_core(
         Binding::Choose => Ok(Core::Choose(place, set, body)),
         Binding::Filter => Ok(Core::Filter(place, set, body)),
     }
+}
+
+/// A body under elements that are opened, if any. The only error is want of memory.
+pub(crate) fn opened_core(
+    alloc: Global,
+    place: Place,
+    openings: Vec<Opening>,
+    body: Core,
+) -> Result<Core, Failure>
+    ensures ok { IfOk result (λ c. under_openings place openings.items (Some (expr_of body)) ≡ Some (expr_of c)) }
+    ensures err { IfErr result (λ e. e ≡ Failure.Memory) }
+{
+    if openings.len() == 0 {
+        return Ok(body);
+    }
+    let body = boxed(alloc, body)?;
+    Ok(opened(place, openings, body))
+}
+
+fn opened(place: Place, openings: Vec<Opening>, body: Box<Core>) -> Core
+    ensures { expr_of result ≡ expr.opened place openings.items (expr_of body.value) }
+{
+    Core::Opened(place, openings, body)
+}
+
+/// A set of sequences of so many items. The only error is want of memory.
+pub(crate) fn tried_core(
+    alloc: Global,
+    place: Place,
+    count: usize,
+    set: Core,
+) -> Result<Core, Failure>
+    ensures ok { IfOk result (λ c. expr_of c ≡ expr.tried place count (expr_of set)) }
+    ensures err { IfErr result (λ e. e ≡ Failure.Memory) }
+{
+    let set = boxed(alloc, set)?;
+    Ok(Core::Tried(place, count, set))
 }
 
 /// A product of a first operand and others. The only error is want of memory.

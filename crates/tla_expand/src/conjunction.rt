@@ -10,7 +10,7 @@ ghost use Rattle.tla_tree.specs.declared.tree.Expr as syntax;
 ghost use Rattle.tla_tree.specs.Tree.{Junction, trees as trees_of};
 ghost use Rattle.tla_tree.specs.View.{view};
 ghost use Rattle.tla_expand.specs.Expand as expansion;
-ghost use Rattle.tla_expand.specs.Gives.{part_in, pointed, GivesMany};
+ghost use Rattle.tla_expand.specs.Private.Gives.{part_in, pointed, GivesMany};
 ghost use Rattle.tla_expand.specs.Maybe.{each_of};
 ghost use Rattle.tla_expand.specs.Primes.{with_primes};
 ghost use Rattle.tla_expand.specs.Scopes.{AreLinked, scope_at};

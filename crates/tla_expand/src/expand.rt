@@ -11,9 +11,9 @@ ghost use Rattle.tla_expand.specs.Primes.{primed_now, with_primes};
 ghost use Rattle.tla_expand.specs.Nodes as nodes;
 ghost use Rattle.tla_expand.specs.Expand as expansion;
 ghost use Rattle.tla_expand.specs.Scopes.{AreLinked, scope_at};
-ghost use Rattle.tla_expand.specs.Forms.{form_in};
+ghost use Rattle.tla_expand.specs.Private.Forms.{form_in};
 ghost use Rattle.tla_model.specs.Size.{IsWithinLimits};
-ghost use Rattle.tla_expand.specs.Gives.{part_in, key_in, arm_in, field_in, both, made, Gives, GivesTwo};
+ghost use Rattle.tla_expand.specs.Private.Gives.{part_in, key_in, arm_in, field_in, both, made, Gives, GivesTwo};
 
 mod binding;
 mod kept;
@@ -168,8 +168,8 @@ pub(crate) fn node_of<'a>(
         Form::Binders(place, Binders::Gathered(node), groups, body) => {
             gather_node(alloc, entries, place, node, groups, body, at)
         }
-        Form::Binds(place, node, name, set, body) => {
-            bound_one(alloc, entries, place, node, name, set, body, at)
+        Form::Binds(place, node, pattern, set, body) => {
+            bound_one(alloc, entries, place, node, pattern, set, body, at)
         }
     }
 }

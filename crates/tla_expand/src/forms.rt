@@ -4,8 +4,8 @@ ghost use Rattle.std.specs.Prelude.{◌≡◌, IfSome, IfNone, ℕ, None};
 ghost use Rattle.tla_tree.specs.View.{view};
 ghost use Rattle.tla_expand.specs.Meanings.{Scope, builtin_meaning};
 ghost use Rattle.tla_expand.specs.Expand.{of_quantifier};
-ghost use Rattle.tla_expand.specs.Forms.{GivesForm, GivesPrefix, form_in};
-ghost use Rattle.tla_expand.specs.Forms as spec;
+ghost use Rattle.tla_expand.specs.Private.Forms.{GivesForm, GivesPrefix, form_in};
+ghost use Rattle.tla_expand.specs.Private.Forms as spec;
 ghost use Rattle.tla_expand.specs.Scopes.{arguments_in};
 
 use crate::builders::place_of;
@@ -100,11 +100,11 @@ fn other_form<'a>(tree: &'a Expr) -> Shape<'a>
             let node = Binders::Nested(of_quantifier(*quantifier));
             Shape::Form(Form::Binders(place_of(*at), node, groups.as_slice(), body))
         }
-        Expr::Choose(at, name, set, body) => {
-            Shape::Form(Form::Binds(place_of(*at), Binding::Choose, name, set, body))
+        Expr::Choose(at, pattern, set, body) => {
+            Shape::Form(Form::Binds(place_of(*at), Binding::Choose, pattern, set, body))
         }
-        Expr::Filter(at, name, set, body) => {
-            Shape::Form(Form::Binds(place_of(*at), Binding::Filter, name, set, body))
+        Expr::Filter(at, pattern, set, body) => {
+            Shape::Form(Form::Binds(place_of(*at), Binding::Filter, pattern, set, body))
         }
         Expr::Image(at, body, groups) => {
             let node = Binders::Gathered(Gather::Image);

@@ -7,7 +7,7 @@ ghost use Rattle.tla_expand.specs.declared.arena.Entry as arena_entry;
 ghost use Rattle.tla_expand.specs.Meanings.{Scope, standard, builtin_meaning};
 ghost use Rattle.tla_expand.specs.Expand.{expand, definitions_in, definition_in};
 ghost use Rattle.tla_expand.specs.Scopes.{AreLinked, IsBelow, Extends, scope_at, entry_scope, arguments_in};
-ghost use Rattle.tla_expand.specs.Gives.{step_gives, head_gives, IsWithin, Explains};
+ghost use Rattle.tla_expand.specs.Private.Gives.{step_gives, head_gives, IsWithin, Explains};
 ghost use Rattle.tla_expand.specs.Primes.{with_primes};
 
 use crate::arena::{Entry, What, bind, enter, find};

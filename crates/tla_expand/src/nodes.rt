@@ -1,7 +1,7 @@
 //! The nodes that forms make of their parts, and forms with their parts.
 
 use tla_core::{Binary, Kind, Place, Unary};
-use tla_tree::{Arm, Binder, Constant, Expr, Field, Step, Update, Word, Written};
+use tla_tree::{Arm, Binder, Constant, Expr, Field, Pattern, Step, Update, Word};
 use tla_value::Value;
 
 /// A node without parts.
@@ -144,8 +144,8 @@ pub(crate) enum Form<'a> {
     Except(Place, &'a Expr, &'a [Update]),
     /// `[A]_v` or `<<A>>_v`, with the place of v.
     Action(Place, Step, &'a Expr, Place, &'a Expr),
-    /// A set, and a body under one name.
-    Binds(Place, Binding, &'a Written, &'a Expr, &'a Expr),
+    /// A set, and a body under one entry.
+    Binds(Place, Binding, &'a Pattern, &'a Expr, &'a Expr),
 }
 
 impl<'a> Form<'a> {

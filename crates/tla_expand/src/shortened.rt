@@ -6,7 +6,7 @@ ghost use Rattle.tla_core.specs.declared.fault.Place.{Place};
 ghost use Rattle.tla_tree.specs.View.{view};
 ghost use Rattle.tla_expand.specs.Meanings.{Scope, Argument, with_parameters, operator};
 ghost use Rattle.tla_expand.specs.Expand.{expand};
-ghost use Rattle.tla_expand.specs.Parameters.{IsAbsent, IsLast};
+ghost use Rattle.tla_expand.specs.Private.Parameters.{IsAbsent, IsLast};
 ghost use Rattle.tla_expand.specs.Scopes.{AreLinked, scope_at, arguments_in};
 
 use crate::arena::{Entry, What, find};

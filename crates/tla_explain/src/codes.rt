@@ -171,7 +171,7 @@ pub static CODES: [CodeText; 42] = [
     },
     CodeText {
         code: "E1",
-        rule: "A value of the wrong kind; also an assumption, Init, Next, an invariant or a constraint that is no truth value.",
+        rule: "A value of the wrong kind, or an element that doesn't fit its tuple pattern; also an assumption, Init, Next, an invariant or a constraint that is no truth value.",
         example: "`Init == x = 1 + \"a\"` → `Fault E1 at line 4, column 13 in the initial predicate.`; `Inv == x + 1` → `Fault E1 at line 6, column 8 in invariant Inv.`",
         cure: "Read the trace: its last state has the value that was met.",
     },

@@ -11,7 +11,7 @@ use Rattle.tla_lex.specs.declared.closing.Region.TheVariants.{Code, Text, Escape
 use Rattle.tla_lex.specs.declared.gap.Mode.TheVariants.{Line, Depth, Second}
 use Rattle.tla_lex.proofs.Runs.{clash, both}
 
-code_is : (region : Region) → IsTrue (is_code region) → region ≡ code
+pub code_is : (region : Region) → IsTrue (is_code region) → region ≡ code
 code_is (Code (Depth n)) h = ap (λ k. Code (Depth k)) ((Decides-eqb n 0).0 h)
 code_is (Code Line) h = clash h refl
 code_is (Code (Second n)) h = clash h refl

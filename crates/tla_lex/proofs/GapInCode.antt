@@ -3,6 +3,7 @@ use Rattle.std.proofs.Common.{◌≡◌, ◌≤◌, ◌<◌, ◌+◌, ℕ, zero,
 use Rattle.tla_lex.specs.Bytes.{Bytes, first, is_line_feed}
 use Rattle.tla_lex.specs.Gap.{turn, skip, is_open, is_outside, gap}
 use Rattle.tla_lex.specs.Gap as gap_spec
+use Rattle.tla_lex.specs.Comments.{opens, closes}
 use Rattle.tla_lex.specs.InCode.{region_behind}
 use Rattle.tla_lex.specs.Module.{on_turn, region_of_code}
 use Rattle.tla_lex.specs.declared.closing.Region.TheVariants.{Code}
@@ -11,7 +12,7 @@ use Rattle.tla_lex.specs.declared.gap.Mode.{Mode}
 use Rattle.tla_lex.specs.declared.gap.Mode.TheVariants.{Line, Depth, Second}
 
 -- only outside comments a token begins
-outside : (mode : Mode) (b next : ℕ) → turn mode b next ≡ None → mode ≡ Depth 0
+pub outside : (mode : Mode) (b next : ℕ) → turn mode b next ≡ None → mode ≡ Depth 0
 outside Line b next h = by (is_line_feed b) h
   where
     by : (c : Bool) → (if c then Some (Depth 0) else Some Line) ≡ None → Line ≡ Depth 0
@@ -19,7 +20,7 @@ outside Line b next h = by (is_line_feed b) h
     by false e = absurd (let z : ⊥ = cc in z)
 outside (Second n) b next h = absurd (let z : ⊥ = cc in z)
 outside (Depth zero) b next h = refl
-outside (Depth (suc n)) b next h = by (gap_spec.opens b next) (gap_spec.closes b next) h
+outside (Depth (suc n)) b next h = by (opens b next) (closes b next) h
   where
     by : (c d : Bool) → (if c then Some (Second (n + 2)) else if d then Some (Second n) else Some (Depth (n + 1))) ≡ None → Depth (suc n) ≡ Depth 0
     by true d e = absurd (let z : ⊥ = cc in z)

@@ -30,7 +30,8 @@ use Rattle.tla_lex.specs.declared.scan.Stop.TheVariants as stops
 use Rattle.tla_lex.specs.declared.token.Kind.{Kind}
 use Rattle.tla_lex.specs.declared.token.Kind.TheVariants as kinds
 use Rattle.tla_lex.specs.declared.token.Token.{Token}
-use Rattle.tla_lex.proofs.LongestOther.{string_found, end_longer}
+use Rattle.tla_lex.proofs.LongestOther.{end_longer}
+use Rattle.tla_lex.proofs.QuotedFound.{string_found}
 use Rattle.tla_lex.proofs.LongestTokens.{longest_tokens}
 use Rattle.tla_lex.proofs.Plain.{IsPlain, apart, plain_run, behind_cut, in_string, string_run}
 use Rattle.tla_lex.proofs.Runs.{clash, both, listed_meets, lookup_listed}

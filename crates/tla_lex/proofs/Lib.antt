@@ -6,6 +6,8 @@ pub mod Spans
 pub mod Module
 pub mod LongestLemmas
 pub mod Runs
+pub mod QuotedFound
+pub mod Numbers
 pub mod Shapes
 pub mod LongestWord
 pub mod LongestOther
@@ -15,3 +17,11 @@ pub mod Plain
 pub mod GapInCode
 pub mod InCode
 pub mod ClosingFirst
+pub mod CommentRuns
+pub mod CommentLeads
+pub mod GapFound
+pub mod Firsts
+pub mod ClosingLeads
+pub mod ClosingFound
+pub mod HeaderFound
+pub mod FrontFound

@@ -1,14 +1,14 @@
 -- The string, separator, operator or symbol at the front of a text is the longest token there.
-use Rattle.std.proofs.Common.{◌≡◌, ◌≤◌, ◌<◌, ◌+◌, ◌-◌, ℕ, zero, suc, Bool, true, false, not, ◌&&◌, if◌then◌else◌, Option, Some, None, [], ◌∷◌, take, drop, length, length-take, length-drop, refl, sym, ap, ◌∙◌, subst, arith}
+use Rattle.std.proofs.Common.{◌≡◌, ◌≤◌, ◌<◌, ◌+◌, ◌-◌, ℕ, zero, suc, Bool, true, false, not, ◌&&◌, if◌then◌else◌, Some, None, [], ◌∷◌, take, drop, length, length-take, refl, sym, ap, ◌∙◌, subst, arith}
 use Rattle.std.specs.Prelude.{IsTrue}
 use Rattle.std.specs.List.{list_all, prefix_len}
-use Rattle.std.proofs.lemmas.List.{take-take}
 use Rattle.tla_lex.specs.Bytes.{Bytes, first, is_dash, is_quote, is_backslash, is_line_feed}
 use Rattle.tla_lex.specs.LongestToken.{quoted, BeginsWith}
-use Rattle.tla_lex.specs.Strings.{string, end_from, unknown_escape, closed, on_end}
+use Rattle.tla_lex.specs.Strings.{string, end_from}
 use Rattle.tla_lex.specs.declared.lexeme.Lexeme.TheVariants.{Found}
 use Rattle.tla_lex.specs.declared.lexeme.Source.{Source}
 use Rattle.tla_lex.specs.declared.token.Kind.{Kind}
+use Rattle.tla_lex.proofs.QuotedFound.{StringFound, string_found, string_is}
 use Rattle.tla_lex.proofs.Runs.{clash, run_covers, first_passes, first_taken}
 use Rattle.tla_lex.proofs.Shapes.{Marked, quote, dashes, letters, other, symbol_no_quote, symbol_short, operator_backslash, dash_no_quote, backslash_no_quote, backslash_no_dash, quote_no_dash}
 
@@ -22,16 +22,6 @@ end_above escaped at n (b ∷ rest) h = by (λ g. end_above (is_backslash b && n
     by later true d g = absurd (let z : ⊥ = cc in z)
     by later false true g = let same : at + 1 ≡ n = cc in omega (arith, same)
     by later false false g = let more : at + 1 < n = later g in omega (arith, more)
-
-end_within : (escaped : Bool) (at n : ℕ) (bs : Bytes) → end_from escaped at bs ≡ Some n → n ≤ at + length bs
-unfolding end_from
-end_within escaped at n [] h = absurd (let z : ⊥ = cc in z)
-end_within escaped at n (b ∷ rest) h = by (λ g. end_within (is_backslash b && not escaped) (at + 1) n rest g) (is_line_feed b) (is_quote b && not escaped) h
-  where
-    by : (end_from (is_backslash b && not escaped) (at + 1) rest ≡ Some n → n ≤ at + 1 + length rest) → (c d : Bool) → (if c then None else if d then Some (at + 1) else end_from (is_backslash b && not escaped) (at + 1) rest) ≡ Some n → n ≤ at + length (b ∷ rest)
-    by later true d g = absurd (let z : ⊥ = cc in z)
-    by later false true g = let same : at + 1 ≡ n = cc in omega (arith, same)
-    by later false false g = let more : n ≤ at + 1 + length rest = later g in omega (arith, more)
 
 -- it ends there too where the text is cut behind it
 end_cut : (escaped : Bool) (at n j : ℕ) (bs : Bytes) → end_from escaped at bs ≡ Some n → n ≤ at + j → end_from escaped at (take j bs) ≡ Some n
@@ -70,46 +60,12 @@ drop_one zero text l = absurd (omega arith)
 drop_one (suc m) [] l = nothing (suc m - 1) [] refl
 drop_one (suc m) (b ∷ rest) l = let same : m ≡ suc m - 1 = omega arith in ap (λ k. take k rest) same
 
--- what a string is that is read
-abbrev pub StringFound : Bytes → Kind → ℕ → Type 0
-StringFound text kind n = (end_from false 1 (drop 1 text) ≡ Some n) × (closed n (unknown_escape false 1 (drop 1 (take n text))) ≡ Found kind n)
-
-pub string_found : (text : Bytes) (kind : Kind) (n : ℕ) → string text ≡ Found kind n → StringFound text kind n
-unfolding string
-string_found text kind n h = by (end_from false 1 (drop 1 text)) refl h
-  where
-    none_found : (k : ℕ) (o : Option ℕ) → closed k o ≡ Found kind n → k ≡ n
-    none_found k None g = cc
-    none_found k (Some at) g = absurd (let z : ⊥ = cc in z)
-
-    by : (o : Option ℕ) → end_from false 1 (drop 1 text) ≡ o → on_end text o ≡ Found kind n → StringFound text kind n
-    by None e g = absurd (let z : ⊥ = cc in z)
-    by (Some k) e g =
-        let same : k ≡ n = none_found k (unknown_escape false 1 (drop 1 (take k text))) g in
-        (e ∙ ap Some same, subst (λ i. closed i (unknown_escape false 1 (drop 1 (take i text))) ≡ Found kind n) same g)
-
 string_end : (text : Bytes) (n m : ℕ) → end_from false 1 (drop 1 text) ≡ Some n → n ≤ m → 0 < m → end_from false 1 (drop 1 (take m text)) ≡ Some n
 string_end text n m h l some = subst (λ bs. end_from false 1 bs ≡ Some n) (sym (drop_one m text some)) (end_cut false 1 n (m - 1) (drop 1 text) h (omega arith))
 
 module _ (source : Source) (text : Bytes) (kind : Kind) (n : ℕ) where
-  -- the bytes of a string are a string
-  string_alone : string text ≡ Found kind n → string (take n text) ≡ Found kind n
-  unfolding string
-  string_alone h =
-      let f : StringFound text kind n = string_found text kind n h in
-      let more : 1 < n = end_above false 1 n (drop 1 text) f.0 in
-      subst (λ o. on_end (take n text) o ≡ Found kind n) (sym (string_end text n n f.0 (omega arith) (omega (arith, more))))
-      (subst (λ bs. closed n (unknown_escape false 1 (drop 1 bs)) ≡ Found kind n) (sym (take-take n n text (omega arith))) f.1)
-
   pub string_begins : IsTrue (is_quote (first text)) → string text ≡ Found kind n → BeginsWith source text kind n
-  string_begins starts h =
-      let f : StringFound text kind n = string_found text kind n h in
-      let more : 1 < n = end_above false 1 n (drop 1 text) f.0 in
-      let within : n ≤ 1 + length (drop 1 text) = end_within false 1 n (drop 1 text) f.0 in
-      let all = length-drop 1 text in
-      let l = length-take n text in
-      let len : n ≡ length (take n text) = omega (arith, l, within, all, more) in
-      quoted (subst (λ b. IsTrue (is_quote b)) (sym (first_taken n text (omega (arith, more)))) starts) (string_alone h ∙ ap (Found kind) len)
+  string_begins starts h = let s = string_is text kind n starts h in quoted s.1 s.0
 
   module _ (m : ℕ) (k : Kind) (less : n < m) (within : m ≤ length text) where
     len : length (take m text) ≡ m

@@ -16,6 +16,7 @@ use Rattle.tla_lex.specs.declared.lexeme.Source.{Source}
 use Rattle.tla_lex.specs.declared.lexeme.Source.TheVariants.{Module, Configuration}
 use Rattle.tla_lex.specs.declared.token.Kind.{Kind}
 use Rattle.tla_lex.specs.declared.token.Kind.TheVariants as kinds
+use Rattle.tla_lex.proofs.Numbers.{number_is}
 use Rattle.tla_lex.proofs.Runs.{clash, run_covers, run_passes, first_taken, starts_is}
 use Rattle.tla_lex.proofs.Shapes.{Marked, shape, marked_no_word, mark_alone, mark_length}
 
@@ -49,7 +50,7 @@ word_chosen source w kind n all false false true d e ha hb hc hd he h =
     inr (cc, λ next. name all hc none same)
 word_chosen source w kind n all false false false true e ha hb hc hd he h =
     let same : n ≡ length w = number_len source w kind n h in
-    inr (same, λ next. digits hd (h ∙ ap (Found kind) same))
+    inr (same, λ next. digits hd (number_is source w kind n h))
 word_chosen source w kind n all false false false false true ha hb hc hd he h =
     let is : w ≡ codes "_" = (bytes_eq-Decides w (codes "_")).0 he in
     let one : n ≡ 1 = cc in

@@ -4,7 +4,7 @@ use Rattle.std.proofs.lemmas.List.{take_all}
 use Rattle.std.specs.Str.{IsUtf8}
 use Rattle.tla_lex.specs.Bytes.{Bytes}
 use Rattle.tla_lex.specs.Module.{header_end, closing, body, end_or}
-use Rattle.tla_lex.specs.FrontSize.{IsEndPlace}
+use Rattle.tla_lex.specs.Private.FrontSize.{IsEndPlace}
 use Rattle.tla_lex.specs.Gap.{gap}
 use Rattle.tla_lex.specs.Lexeme.{lexeme}
 use Rattle.tla_lex.specs.Places.{place_at, advance_all, first_place}
@@ -24,23 +24,39 @@ use Rattle.tla_lex.specs.declared.scan.Stop.{Stop}
 use Rattle.tla_lex.specs.declared.scan.Stop.TheVariants.{End, Fault}
 use Rattle.tla_lex.specs.declared.token.Place.{Place}
 use Rattle.tla_lex.specs.declared.token.Token.{Token}
+use Rattle.tla_lex.proofs.ClosingFound.{closing_is_found}
+use Rattle.tla_lex.proofs.HeaderFound.{header_is_found}
 use Rattle.tla_lex.proofs.SoFar.{reads_once}
 use Rattle.tla_lex.proofs.Spans.{in_order_more}
 
 same_some : (o : Option ℕ) (m n : ℕ) → o ≡ Some m → o ≡ Some n → m ≡ n
 same_some o m n a b = cc
 
+-- the body before a closing line
+pub body_some : (text : Bytes) (from to : ℕ) → closing text from ≡ Some to → body text from ≡ take to text
+body_some text from to h = ap (λ o. take (end_or o (length text)) text) h
+
+-- what the loops find in a module
+header_of : (text : Bytes) (ts : List Token) (a : AreTokens text ts) → header_end text ≡ Some a.from
+header_of text ts a = ((header_is_found text).0 a.from).1 a.header
+
+line_of : (text : Bytes) (ts : List Token) (a : AreTokens text ts) → closing text a.from ≡ Some a.to
+line_of text ts a = ((closing_is_found text a.from).0 a.to).1 a.line
+
+reads_of : (text : Bytes) (ts : List Token) (a : AreTokens text ts) → Reads Module (body text a.from) a.from a.inner (End a.end)
+reads_of text ts a = subst (λ b. Reads Module b a.from a.inner (End a.end)) (sym (body_some text a.from a.to (line_of text ts a))) a.reads
+
 module _ (text : Bytes) (ts us : List Token) (a : AreTokens text ts) (b : AreTokens text us) where
   same_from : a.from ≡ b.from
-  same_from = same_some (header_end text) a.from b.from a.header b.header
+  same_from = same_some (header_end text) a.from b.from (header_of text ts a) (header_of text us b)
 
   same_to : a.to ≡ b.to
-  same_to = same_some (closing text b.from) a.to b.to (ap (λ n. closing text n) (sym same_from) ∙ a.line) b.line
+  same_to = same_some (closing text b.from) a.to b.to (ap (λ n. closing text n) (sym same_from) ∙ line_of text ts a) (line_of text us b)
 
   same_inner : a.inner ≡ b.inner
   same_inner =
-      let r : Reads Module (body text b.from) b.from a.inner (End a.end) = rw (← same_from) a.reads in
-      (reads_once Module (body text b.from) b.from a.inner b.inner (End a.end) (End b.end) r b.reads).0
+      let r : Reads Module (body text b.from) b.from a.inner (End a.end) = rw (← same_from) (reads_of text ts a) in
+      (reads_once Module (body text b.from) b.from a.inner b.inner (End a.end) (End b.end) r (reads_of text us b)).0
 
   pub tokens_once : ts ≡ us
   tokens_once = a.all ∙ ap (λ xs. xs ++ closing_line text a.to ∷ []) same_inner ∙ ap (λ n. b.inner ++ closing_line text n ∷ []) same_to ∙ sym b.all
@@ -49,20 +65,20 @@ module _ (text : Bytes) (ts us : List Token) (a : AreTokens text ts) (b : AreTok
 no_stop : (text : Bytes) (from : ℕ) (ts : List Token) (e : LexError) (us : List Token) (a : AreTokens text us)
     → header_end text ≡ Some from → Reads Module (body text from) from ts (Fault e) → ⊥
 no_stop text from ts e us a h r =
-    let s : from ≡ a.from = same_some (header_end text) from a.from h a.header in
+    let s : from ≡ a.from = same_some (header_end text) from a.from h (header_of text us a) in
     let q : Reads Module (body text a.from) a.from ts (Fault e) = rw (← s) r in
-    let w = (reads_once Module (body text a.from) a.from ts a.inner (Fault e) (End a.end) q a.reads).1 in
+    let w = (reads_once Module (body text a.from) a.from ts a.inner (Fault e) (End a.end) q (reads_of text us a)).1 in
     (let z : ⊥ = cc in z)
 
 no_line : (text : Bytes) (from : ℕ) (us : List Token) (a : AreTokens text us) → header_end text ≡ Some from → closing text from ≡ None → ⊥
 no_line text from us a h n =
-    let s : from ≡ a.from = same_some (header_end text) from a.from h a.header in
+    let s : from ≡ a.from = same_some (header_end text) from a.from h (header_of text us a) in
     let q : closing text a.from ≡ None = ap (λ m. closing text m) (sym s) ∙ n in
-    let w = a.line in
+    let w = line_of text us a in
     (let z : ⊥ = cc in z)
 
 no_module : (text : Bytes) (us : List Token) (a : AreTokens text us) → header_end text ≡ None → ⊥
-no_module text us a n = let w = a.header in (let z : ⊥ = cc in z)
+no_module text us a n = let w = header_of text us a in (let z : ⊥ = cc in z)
 
 pub fault_means_none : (text : Bytes) (e : LexError) → IsFirstFault text e → NoTokens text
 fault_means_none text e (not_utf8 n) us a = n.0 a.utf8
@@ -92,10 +108,7 @@ pub fault_placed : (source : Source) (text : Bytes) (at : ℕ) (ts : List Token)
 fault_placed source text at [] e r = stop_placed source text at e r
 fault_placed source text at (t ∷ ts) e r = fault_placed source text t.end ts e r.1
 
--- the body before a closing line, and where there is none
-pub body_some : (text : Bytes) (from to : ℕ) → closing text from ≡ Some to → body text from ≡ take to text
-body_some text from to h = ap (λ o. take (end_or o (length text)) text) h
-
+-- the body where there is no closing line
 pub body_none : (text : Bytes) (from : ℕ) → closing text from ≡ None → body text from ≡ text
 body_none text from h = ap (λ o. take (end_or o (length text)) text) h ∙ take_all (length text) text (omega arith)
 
@@ -125,9 +138,9 @@ found_tokens text from to inner end u h l w a b r o =
       to = to;
       inner = inner;
       end = end;
-      header = h;
-      line = l;
-      reads = r;
+      header = ((header_is_found text).0 from).0 h;
+      line = ((closing_is_found text from).0 to).0 l;
+      reads = subst (λ b. Reads Module b from inner (End end)) (body_some text from to l) r;
       all = refl;
       in_order = in_order_more from (length (body text from)) (length text) inner (closing_line text to) o (omega (arith, n)) a b;
     }

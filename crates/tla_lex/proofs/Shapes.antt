@@ -10,6 +10,7 @@ use Rattle.tla_lex.specs.Symbols.{symbols, operators}
 use Rattle.tla_lex.specs.declared.lexeme.Lexeme.TheVariants.{Found}
 use Rattle.tla_lex.specs.declared.lexeme.Source.{Source}
 use Rattle.tla_lex.specs.declared.token.Kind.{Kind}
+use Rattle.tla_lex.proofs.QuotedFound.{string_of}
 use Rattle.tla_lex.proofs.Runs.{clash, first_passes, first_taken, all_pass, listed_meets, starts_is}
 
 pub negates : (b : Bool) → IsTrue (not b) → b ≡ false
@@ -71,7 +72,7 @@ shape source w next kind (name a b c d) = inl a
 shape source w next kind (digits a b) = inl (all_pass is_digit is_word digit_is_word w a)
 shape source w next kind (underscore a b) = inl (subst (λ v. IsTrue (list_all is_word v)) (sym a) refl)
 shape source w next kind (fairness a) = inl (mark_words w kind a)
-shape source w next kind (quoted a b) = inr (quote a b)
+shape source w next kind (quoted a b) = let s = string_of w a in inr (quote s.0 (s.1 ∙ ap (λ k. Found k (length w)) (sym b)))
 shape source w next kind (separator a b c) = inr (dashes a b)
 shape source w next kind (operator a b) = inr (letters a b)
 shape source w next kind (symbol a) = inr (other a)
@@ -107,7 +108,7 @@ mark_alone source w next kind (name a b c d) h l = clash h c
 mark_alone source w next kind (digits a b) h l = clash (first_passes is_digit w (omega arith) a) (mark_first is_digit refl refl w h)
 mark_alone source w next kind (underscore a b) h l = let one : length w ≡ 1 = ap length a in omega arith
 mark_alone source w next kind (fairness a) h l = let three : length w ≡ 3 = mark_length w kind a in omega arith
-mark_alone source w next kind (quoted a b) h l = clash a (mark_first is_quote refl refl w h)
+mark_alone source w next kind (quoted a b) h l = clash (string_of w a).0 (mark_first is_quote refl refl w h)
 mark_alone source w next kind (separator a b c) h l = clash (first_passes is_dash w (omega arith) a) (mark_first is_dash refl refl w h)
 mark_alone source w next kind (operator a b) h l = clash (operator_backslash w kind a) (mark_first is_backslash refl refl w h)
 mark_alone source w next kind (symbol a) h l = clash (ap not (symbol_no_word w kind a)) (mark_first (λ c. not (is_word c)) refl refl w h)

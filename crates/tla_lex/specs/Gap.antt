@@ -1,22 +1,11 @@
--- Blanks and comments (book, chapter 15): `\*` to the end of the line, and `(* .. *)`, in which only `(*` and `*)` count.
-use Rattle.std.specs.Prelude.{ℕ, zero, suc, ◌+◌, Bool, true, false, ◌&&◌, ◌==◌, nat_lt, if◌then◌else◌, [], ◌∷◌, Option, Some, None}
-use Rattle.tla_lex.specs.Bytes.{Bytes, first, is_blank, is_line_feed, is_backslash}
+-- The loop that passes over blanks and comments, byte by byte; `Comments` says what these are, and a law that the loop finds them.
+use Rattle.std.specs.Prelude.{ℕ, zero, suc, ◌+◌, Bool, true, false, nat_lt, if◌then◌else◌, [], ◌∷◌, Option, Some, None}
+use Rattle.tla_lex.specs.Bytes.{Bytes, first, is_blank, is_line_feed}
+use Rattle.tla_lex.specs.Comments.{opens_line, opens, closes}
 use Rattle.tla_lex.specs.declared.gap.Mode.{Mode}
 use Rattle.tla_lex.specs.declared.gap.Mode.TheVariants.{Line, Depth, Second}
 use Rattle.tla_lex.specs.declared.gap.Gap.{Gap}
 use Rattle.tla_lex.specs.declared.gap.Gap.TheVariants.{End, Open}
-
--- `\*`
-abbrev pub opens_line : ℕ → ℕ → Bool
-opens_line b next = is_backslash b && next == 42
-
--- `(*`
-abbrev pub opens : ℕ → ℕ → Bool
-opens b next = b == 40 && next == 42
-
--- `*)`
-abbrev pub closes : ℕ → ℕ → Bool
-closes b next = b == 42 && next == 41
 
 -- Where a byte leads, which `next` follows: in a comment to the end of the line, so many comments deep, or at the second byte of a mark that leads there. `None` where a token begins.
 abbrev pub turn : Mode → ℕ → ℕ → Option Mode

@@ -1,12 +1,12 @@
 -- The law that each token is the longest at its place (book, chapter 15).
 use Rattle.std.specs.Prelude.{◌≡◌, ◌<◌, ◌≤◌, ◌-◌, ◌⊎◌, ℕ, Bool, IsTrue, ◌||◌, false, List, [], ◌∷◌, nat_eq, take, drop, length, codes}
 use Rattle.std.specs.List.{list_all, list_any, starts_with}
-use Rattle.tla_lex.specs.Bytes.{Bytes, first, is_word, is_letter, is_digit, is_dash, is_quote}
+use Rattle.tla_lex.specs.Bytes.{Bytes, first, is_word, is_letter, is_digit, is_dash}
+use Rattle.tla_lex.specs.Decimal.{IsNumber}
+use Rattle.tla_lex.specs.Quoted.{IsString}
 use Rattle.tla_lex.specs.Reads.{Reads}
-use Rattle.tla_lex.specs.Strings.{string}
 use Rattle.tla_lex.specs.Symbols.{symbols, operators}
-use Rattle.tla_lex.specs.Words.{Spellings, lookup, name_kind, number, reserved_words}
-use Rattle.tla_lex.specs.declared.lexeme.Lexeme.TheVariants.{Found}
+use Rattle.tla_lex.specs.Words.{Spellings, lookup, name_kind, reserved_words}
 use Rattle.tla_lex.specs.declared.lexeme.Source.{Source}
 use Rattle.tla_lex.specs.declared.scan.Stop.{Stop}
 use Rattle.tla_lex.specs.declared.token.Kind.{Kind}
@@ -29,11 +29,10 @@ begins_fairness w = starts_with nat_eq w (codes "WF_") || starts_with nat_eq w (
 pub data IsToken (source : Source) (w : Bytes) (next : ℕ) (kind : Kind) : Type 0 where
   -- a name or a reserved word
   name : IsTrue (list_all is_word w) → IsTrue (list_any is_letter w) → begins_fairness w ≡ false → kind ≡ name_kind (lookup reserved_words w) → IsToken source w next kind
-  digits : IsTrue (list_all is_digit w) → number source w ≡ Found kind (length w) → IsToken source w next kind
+  digits : IsTrue (list_all is_digit w) → IsNumber source w kind → IsToken source w next kind
   underscore : w ≡ codes "_" → kind ≡ kinds.Underscore → IsToken source w next kind
   fairness : IsListed w kind fairness_marks → IsToken source w next kind
-  -- quotes, and nothing behind the closing one
-  quoted : IsTrue (is_quote (first w)) → string w ≡ Found kind (length w) → IsToken source w next kind
+  quoted : IsString w → kind ≡ kinds.Text → IsToken source w next kind
   separator : IsTrue (list_all is_dash w) → 4 ≤ length w → kind ≡ kinds.Separator → IsToken source w next kind
   -- a backslash and a whole run of letters
   operator : IsListed w kind operators → is_letter next ≡ false → IsToken source w next kind

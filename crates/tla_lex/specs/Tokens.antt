@@ -1,9 +1,11 @@
 -- The tokens of a module, and its first fault.
-use Rattle.std.specs.Prelude.{◌≡◌, ℕ, ◌+◌, List, [], ◌∷◌, ◌++◌, Some, None, drop, length}
+use Rattle.std.specs.Prelude.{◌≡◌, ℕ, ◌+◌, List, [], ◌∷◌, ◌++◌, Some, None, take, drop, length}
 use Rattle.std.specs.List.{prefix_len}
 use Rattle.std.specs.Str.{IsUtf8}
 use Rattle.std.specs.Str.Lossy.{utf8_valid_len}
 use Rattle.tla_lex.specs.Bytes.{Bytes, is_equal_sign}
+use Rattle.tla_lex.specs.Closing.{IsClosingLine}
+use Rattle.tla_lex.specs.Header.{IsHeader}
 use Rattle.tla_lex.specs.Module.{header_end, closing, body}
 use Rattle.tla_lex.specs.Reads.{Reads, InOrder, token_at, fault_at}
 use Rattle.tla_lex.specs.declared.error.LexCode.TheVariants.{NotUtf8, NoHeader, NoClosingLine, NoMemory}
@@ -25,9 +27,9 @@ pub record AreTokens (text : Bytes) (ts : List Token) : Type 0 where
   pub to : ℕ
   pub inner : List Token
   pub end : Place
-  pub header : header_end text ≡ Some from
-  pub line : closing text from ≡ Some to
-  pub reads : Reads Module (body text from) from inner (End end)
+  pub header : IsHeader text from
+  pub line : IsClosingLine text from to
+  pub reads : Reads Module (take to text) from inner (End end)
   pub all : ts ≡ inner ++ closing_line text to ∷ []
   pub in_order : InOrder from (length text) ts
 

@@ -4,7 +4,7 @@ ghost use Rattle.std.specs.Prelude.{◌≡◌, ◌≤◌, ◌<◌, ◌+◌, ◌^
 ghost use Rattle.std.specs.List.{prefix_len};
 ghost use Rattle.tla_lex.specs.Bytes as bytes;
 ghost use Rattle.tla_lex.specs.Module as spec;
-ghost use Rattle.tla_lex.specs.RegionSize.{region_depth};
+ghost use Rattle.tla_lex.specs.Private.RegionSize.{region_depth};
 
 use crate::bytes::{first, is_equal_sign};
 use crate::gap::{Mode, turn};

@@ -2,7 +2,7 @@
 
 ghost use Rattle.std.specs.Prelude.{◌≡◌, ◌≤◌, ◌<◌, ◌+◌, ◌^◌, length, IfSome, slice_index};
 ghost use Rattle.tla_lex.specs.Gap as spec;
-ghost use Rattle.tla_lex.specs.GapSize as size;
+ghost use Rattle.tla_lex.specs.Private.GapSize as size;
 
 use crate::bytes::{first, is_blank};
 

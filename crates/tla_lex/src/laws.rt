@@ -3,6 +3,7 @@
 ghost use Rattle.tla_lex.specs.InCode.{ClosingIsFirst, TokensInCode};
 ghost use Rattle.tla_lex.specs.Longest.{LongestSymbol};
 ghost use Rattle.tla_lex.specs.LongestToken.{LongestTokens};
+ghost use Rattle.tla_lex.specs.ScannerLaws.{ClosingIsFound, FrontIsFound, GapIsFound, HeaderIsFound, NumberIsFound, StringIsFound};
 
 /// A symbol is the longest at its place.
 pub fn longest_symbol()
@@ -22,4 +23,34 @@ pub fn tokens_in_code()
 /// The closing line begins at the first `====` outside comments and strings.
 pub fn closing_is_first()
     ensures { ClosingIsFirst }
+{}
+
+/// The loop over blanks and comments ends where they end, and finds the comment that stays open.
+pub fn gap_is_found()
+    ensures { GapIsFound }
+{}
+
+/// The loop that looks for the closing line finds it.
+pub fn closing_is_found()
+    ensures { ClosingIsFound }
+{}
+
+/// The loop that looks for the header finds it.
+pub fn header_is_found()
+    ensures { HeaderIsFound }
+{}
+
+/// What comes next in a text is what stands behind its blanks and comments.
+pub fn front_is_found()
+    ensures { FrontIsFound }
+{}
+
+/// What is read as a string is one, and a string is read.
+pub fn string_is_found()
+    ensures { StringIsFound }
+{}
+
+/// Digits are read as the number that they say.
+pub fn number_is_found()
+    ensures { NumberIsFound }
 {}

@@ -4,7 +4,7 @@ ghost use Rattle.std.specs.Prelude.{◌≡◌, ◌≤◌, ◌<◌, length};
 ghost use Rattle.std.specs.List.{prefix_len};
 ghost use Rattle.tla_lex.specs.Bytes.{is_word, is_dash};
 ghost use Rattle.tla_lex.specs.Lexeme as spec;
-ghost use Rattle.tla_lex.specs.LexemeSize.{Fits};
+ghost use Rattle.tla_lex.specs.Private.LexemeSize.{Fits};
 
 use crate::bytes::{first, is_dash, is_word};
 use crate::error::LexCode;

@@ -3,7 +3,7 @@
 ghost use Rattle.std.specs.Prelude.{◌≡◌, ◌≤◌, ◌<◌, [], ◌∷◌, ◌++◌, length, Some, OnOk, IfOk, IfErr};
 ghost use Rattle.tla_lex.specs.Places.{place_at};
 ghost use Rattle.tla_lex.specs.Reads as spec;
-ghost use Rattle.tla_lex.specs.FrontSize.{IsWithin, IsEndPlace};
+ghost use Rattle.tla_lex.specs.Private.FrontSize.{IsWithin, IsEndPlace};
 ghost use Rattle.tla_lex.specs.Tokens.{no_memory};
 
 use crate::error::{LexCode, LexError};

@@ -2,7 +2,7 @@
 
 ghost use Rattle.std.specs.Prelude.{◌≡◌, ◌≤◌, ◌<◌, ◌+◌, length, drop, false, IfSome, IfOk};
 ghost use Rattle.tla_lex.specs.Strings as spec;
-ghost use Rattle.tla_lex.specs.LexemeSize.{Fits};
+ghost use Rattle.tla_lex.specs.Private.LexemeSize.{Fits};
 
 use crate::bytes::first;
 use crate::error::LexCode;

@@ -5,7 +5,7 @@ ghost use Rattle.std.specs.List.{prefix_len};
 ghost use Rattle.tla_lex.specs.Bytes.{is_letter};
 ghost use Rattle.tla_lex.specs.Symbols as spec;
 ghost use Rattle.tla_lex.specs.Words.{lookup as lookup_in};
-ghost use Rattle.tla_lex.specs.LexemeSize.{Fits};
+ghost use Rattle.tla_lex.specs.Private.LexemeSize.{Fits};
 
 use crate::bytes::{first, is_letter};
 use crate::error::LexCode;

@@ -4,7 +4,7 @@ ghost use Rattle.std.specs.Prelude.{◌≡◌, ◌≤◌, ◌<◌, ◌^◌, leng
 ghost use Rattle.std.specs.List.{list_all, list_any};
 ghost use Rattle.tla_lex.specs.Bytes as bytes;
 ghost use Rattle.tla_lex.specs.Words as spec;
-ghost use Rattle.tla_lex.specs.LexemeSize.{Fits};
+ghost use Rattle.tla_lex.specs.Private.LexemeSize.{Fits};
 
 use crate::bytes::{is_digit, is_letter};
 use crate::error::LexCode;

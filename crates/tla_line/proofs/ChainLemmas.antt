@@ -13,7 +13,7 @@ use Rattle.clap.specs.declared.builder.arg.Arg.{Arg}
 use Rattle.clap.specs.declared.builder.command.Command.{Command}
 use Rattle.clap.specs.declared.builder.command.Command.TheViews.{out-Command}
 use Rattle.clap.specs.declared.parser.matches.ArgMatches.{ArgMatches}
-use Rattle.tla_line.specs.Parsing.{AlwaysHasValue, HasValue, IsArgument}
+use Rattle.tla_line.specs.Private.Parsing.{AlwaysHasValue, HasValue, IsArgument}
 use Rattle.tla_line.proofs.EntryLemmas.{IsOwn, own_has_value}
 
 -- two lists with the same rules, place by place, keep them with one more before them

@@ -15,7 +15,7 @@ use Rattle.clap.specs.declared.builder.arg.Arg.{Arg}
 use Rattle.clap.specs.declared.builder.command.Command.{Command}
 use Rattle.clap.specs.declared.builder.command.Command.TheViews.{out-Command}
 use Rattle.clap.specs.declared.parser.matches.ArgMatches.{ArgMatches}
-use Rattle.tla_line.specs.Parsing.{AlwaysHasValue, HasValue}
+use Rattle.tla_line.specs.Private.Parsing.{AlwaysHasValue, HasValue}
 
 -- an id that is there is found
 has_entry : (xs : List Entry) (id : List ℕ) → HasIn xs id → is_some (option_map (λ e. e.1) (find (λ e. bytes_eq e.0.now id) xs)) ≡ true

@@ -1,3 +1,3 @@
 pub mod CommandLine
 pub mod LineFault
-pub mod Parsing
+pub mod Private

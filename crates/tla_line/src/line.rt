@@ -7,8 +7,8 @@ ghost use Rattle.tla_search.specs.Options.{IsWithinLimits};
 ghost use Rattle.tla_line.specs.CommandLine.{IsSet, NamesLine, Writes, WritesNoCount, faults_of};
 ghost use Rattle.tla_line.specs.CommandLine.{flag, number_option, required_word, tlacheck};
 ghost use Rattle.tla_line.specs.LineFault.{IsFaultOf, IsHelp, LacksWord, fault_from, text_of_fault};
-ghost use Rattle.tla_line.specs.Parsing.{AlwaysHasValue, GivesEach, HasEach, HasValue, IsArgument};
-ghost use Rattle.tla_line.specs.Parsing.{WritesNoNumber};
+ghost use Rattle.tla_line.specs.Private.Parsing.{AlwaysHasValue, GivesEach, HasEach, HasValue, IsArgument};
+ghost use Rattle.tla_line.specs.Private.Parsing.{WritesNoNumber};
 
 use clap::error::ErrorKind;
 use clap::{Arg, ArgAction, ArgMatches, Command};

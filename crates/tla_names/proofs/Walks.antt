@@ -13,7 +13,7 @@ use Rattle.tla_names.specs.Circles.{AreStraight, IsFirstCircle}
 use Rattle.tla_names.specs.Items.{replaced_name}
 use Rattle.tla_names.specs.Mentions.{item_of}
 use Rattle.tla_names.specs.Leads.{Lead, next_names, LeadsBy, IsCircular}
-use Rattle.tla_names.specs.Reached.{AreAmong, AreLed, Covers, GoesOn}
+use Rattle.tla_names.specs.Private.Reached.{AreAmong, AreLed, Covers, GoesOn}
 
 either : (a b : Bool) → (a || b) ≡ true → (a ≡ true) ⊎ (b ≡ true)
 either true b h = inl refl

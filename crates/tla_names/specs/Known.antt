@@ -2,7 +2,7 @@
 use Rattle.std.specs.Prelude.{ℕ, ◌+◌, nat_eq, Bool, true, false, ◌||◌, List, [], ◌∷◌, ◌++◌, Option, Some, None, is_some, if◌then◌else◌}
 use Rattle.tla_lex.specs.declared.token.Place.{Place}
 use Rattle.tla_tree.specs.declared.word.Written.{Written}
-use Rattle.tla_tree.specs.Tree.{Tree, Trees, none, more, Binders, unbound, bound, Arms, no_arms, arm, Other, no_other, other, Definition, DefinesOperator, DefinesFunction, Definitions, undefined, defined, Fields, no_fields, field, Key, AtIndex, AtField, Keys, no_keys, key, Updates, no_updates, update}
+use Rattle.tla_tree.specs.Tree.{Tree, Trees, none, more, Binders, unbound, bound, Arms, no_arms, arm, Other, no_other, other, Definition, DefinesOperator, DefinesFunction, Definitions, undefined, defined, Fields, no_fields, field, Key, AtIndex, AtField, Keys, no_keys, key, Updates, no_updates, update, names_of}
 use Rattle.tla_tree.specs.Tree as t
 use Rattle.tla_config.specs.Names.{Name, words, is_among}
 use Rattle.tla_names.specs.Maybe.{or_else}
@@ -60,12 +60,12 @@ abbrev mutual
   misused ms σ (t.Unary at op e) = or_else (if_not (prefix_known ms op) at (prefix_word op)) (misused ms σ e)
   misused ms σ (t.Binary at op w a b) = or_else (misused ms σ a) (or_else (if_not (infix_known ms op) w.place w.word) (misused ms σ b))
   misused ms σ (t.Quantified at q bs e) = or_else (misused_sets ms σ [] bs) (misused ms (σ ++ plain (bound_names bs)) e)
-  misused ms σ (t.Choose at w s e) = or_else (new_name σ w) (or_else (misused ms σ s) (misused ms (σ ++ plain (w.word ∷ [])) e))
+  misused ms σ (t.Choose at w s e) = or_else (brought σ [] (names_of w)) (or_else (misused ms σ s) (misused ms (σ ++ plain (words (names_of w))) e))
   misused ms σ (t.If at a b c) = or_else (misused ms σ a) (or_else (misused ms σ b) (misused ms σ c))
   misused ms σ (t.Case at cs o) = or_else (misused_arms ms σ cs) (misused_other ms σ o)
   misused ms σ (t.Let at ds e) = or_else (misused_definitions ms σ ds) (misused ms (σ ++ signatures ds) e)
   misused ms σ (t.Junction at b es) = misused_each ms σ es
-  misused ms σ (t.Filter at w s e) = or_else (new_name σ w) (or_else (misused ms σ s) (misused ms (σ ++ plain (w.word ∷ [])) e))
+  misused ms σ (t.Filter at w s e) = or_else (brought σ [] (names_of w)) (or_else (misused ms σ s) (misused ms (σ ++ plain (words (names_of w))) e))
   -- the element stands before the names that it uses
   misused ms σ (t.Image at e bs) = or_else (misused ms (σ ++ plain (bound_names bs)) e) (misused_sets ms σ [] bs)
   misused ms σ (t.Function at bs e) = or_else (misused_sets ms σ [] bs) (misused ms (σ ++ plain (bound_names bs)) e)
@@ -84,7 +84,7 @@ abbrev mutual
   -- a binder list, behind these names of it: its sets see none of its names
   pub misused_sets : List Name → Scope → List Name → Binders → Option Misuse
   misused_sets ms σ new unbound = None
-  misused_sets ms σ new (bound ws s bs) = or_else (brought σ new ws) (or_else (misused ms σ s) (misused_sets ms σ (new ++ words ws) bs))
+  misused_sets ms σ new (bound w s bs) = or_else (brought σ new (names_of w)) (or_else (misused ms σ s) (misused_sets ms σ (new ++ words (names_of w)) bs))
 
   pub misused_arms : List Name → Scope → Arms → Option Misuse
   misused_arms ms σ no_arms = None

@@ -49,7 +49,7 @@ abbrev mutual
 
   pub names_sets : Binders → List Name
   names_sets unbound = []
-  names_sets (bound ws s bs) = names_in s ++ names_sets bs
+  names_sets (bound w s bs) = names_in s ++ names_sets bs
 
   pub names_arms : Arms → List Name
   names_arms no_arms = []

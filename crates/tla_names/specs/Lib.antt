@@ -12,4 +12,4 @@ pub mod Refusal
 pub mod Mentions
 pub mod Latest
 pub mod LatestProps
-pub mod Reached
+pub mod Private

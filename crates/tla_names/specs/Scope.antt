@@ -2,7 +2,7 @@
 use Rattle.std.specs.Prelude.{ℕ, List, [], ◌∷◌, ◌++◌, Option, Some, None, if◌then◌else◌, map, length, codes}
 use Rattle.std.specs.List.{flat_map}
 use Rattle.std.specs.Str.{bytes_eq}
-use Rattle.tla_tree.specs.Tree.{Definition, Definitions, DefinesOperator, DefinesFunction, undefined, defined, Binders, unbound, bound}
+use Rattle.tla_tree.specs.Tree.{Definition, Definitions, DefinesOperator, DefinesFunction, undefined, defined, Binders, unbound, bound, names_of}
 use Rattle.tla_config.specs.Names.{Name, words}
 use Rattle.tla_names.specs.Maybe.{or_else}
 
@@ -47,4 +47,4 @@ signatures (defined d ds) = signature d ∷ signatures ds
 -- the names of a binder list
 abbrev pub bound_names : Binders → List Name
 bound_names unbound = []
-bound_names (bound ws s bs) = words ws ++ bound_names bs
+bound_names (bound w s bs) = words (names_of w) ++ bound_names bs

@@ -5,7 +5,7 @@ ghost use Rattle.tla_config.specs.declared.error.DefsCode.TheVariants.{Memory};
 ghost use Rattle.tla_tree.specs.UnitsView.{unit_view};
 ghost use Rattle.tla_names.specs.Circles.{AreStraight};
 ghost use Rattle.tla_names.specs.Leads as spec;
-ghost use Rattle.tla_names.specs.Reached.{AreAmong, AreLed, Covers, GoesOn};
+ghost use Rattle.tla_names.specs.Private.Reached.{AreAmong, AreLed, Covers, GoesOn};
 ghost use Rattle.tla_names.specs.Refusal.{IsOfCircle};
 
 use crate::items::{Items, replaced_name};

@@ -2,8 +2,8 @@
 
 ghost use Rattle.std.specs.Prelude.{◌≡◌, ◌++◌, ◌∷◌, [], List, None, Some, true, OnOk, map, length};
 ghost use Rattle.tla_config.specs.Names.{Name, words};
-ghost use Rattle.tla_tree.specs.Tree.{trees, binders, arms, definitions, fields, keys, updates};
-ghost use Rattle.tla_tree.specs.View.{view, group_view, choice_view, definition_view, field_view, key_view, update_view};
+ghost use Rattle.tla_tree.specs.Tree.{trees, binders, arms, definitions, fields, keys, updates, names_of};
+ghost use Rattle.tla_tree.specs.View.{view, pattern_view, group_view, choice_view, definition_view, field_view, key_view, update_view};
 ghost use Rattle.tla_names.specs.Scope as scope_of;
 ghost use Rattle.tla_names.specs.Operators as operators;
 ghost use Rattle.tla_names.specs.Known as known;
@@ -17,7 +17,9 @@ use crate::scope::Scope;
 use std::alloc::Global;
 use tla_config::{DefsCode, DefsError, Source};
 use tla_lex::Place;
-use tla_tree::{Arm, Binder, Definition, Expr, Field, Infix, Key, Prefix, Update, Written};
+use tla_tree::{
+    Arm, Binder, Definition, Expr, Field, Infix, Key, Pattern, Prefix, Update, Written,
+};
 
 /// Whether an infix operator may be used where these modules are extended.
 fn infix_known(modules: &Names<'_>, operator: Infix) -> bool
@@ -206,7 +208,7 @@ pub(crate) fn expression<'a>(
             expression(alloc, modules, scope, second)
         }
         Expr::Quantified(_, _, groups, body) => bound(alloc, modules, scope, groups, body),
-        Expr::Choose(_, name, set, body) => chosen(alloc, modules, scope, name, set, body),
+        Expr::Choose(_, pattern, set, body) => chosen(alloc, modules, scope, pattern, set, body),
         Expr::If(_, condition, yes, no) => {
             expression(alloc, modules, scope, condition)?;
             expression(alloc, modules, scope, yes)?;
@@ -217,7 +219,7 @@ pub(crate) fn expression<'a>(
             Some(value) => case(alloc, modules, scope, arms, value),
         },
         Expr::Let(_, definitions, body) => within(alloc, modules, scope, definitions, body),
-        Expr::Filter(_, name, set, body) => chosen(alloc, modules, scope, name, set, body),
+        Expr::Filter(_, pattern, set, body) => chosen(alloc, modules, scope, pattern, set, body),
         Expr::Image(_, value, groups) => image(alloc, modules, scope, value, groups),
         Expr::Function(_, groups, body) => bound(alloc, modules, scope, groups, body),
         Expr::FunctionSet(_, first, second)
@@ -266,24 +268,25 @@ fn index<'a>(
     each(alloc, modules, scope, arguments)
 }
 
-/// A body behind one name, whose set doesn't see it.
+/// A body behind one entry, whose set sees none of its names.
 #[cycle(known)]
 #[tactic(auto, using(crate::proofs::Stacks::cut_back))]
 fn chosen<'a>(
     alloc: Global,
     modules: &Names<'_>,
     scope: &mut Scope<'a>,
-    name: &'a Written,
+    pattern: &'a Pattern,
     set: &'a Expr,
     body: &'a Expr,
 ) -> Result<(), DefsError>
     ensures same { OnOk result (scope.new ≡ scope.old) }
-    ensures first { Says Source.Module result (or_else (known.new_name scope.old name.now) (or_else (known.misused modules.now scope.old (view set.now)) (known.misused modules.now (scope.old ++ scope_of.plain (name.now.word ∷ [])) (view body.now)))) }
+    ensures first { Says Source.Module result (or_else (known.brought scope.old [] (names_of (pattern_view pattern.now))) (or_else (known.misused modules.now scope.old (view set.now)) (known.misused modules.now (scope.old ++ scope_of.plain (words (names_of (pattern_view pattern.now)))) (view body.now)))) }
 {
-    new_name(alloc, scope, name)?;
+    let names = pattern.names();
+    new_names(alloc, scope, names)?;
     expression(alloc, modules, scope, set)?;
     let mark = scope.len();
-    scope.push(name.word.as_bytes(), 0)?;
+    scope.push_all(names)?;
     expression(alloc, modules, scope, body)?;
     scope.truncate(mark);
     Ok(())
@@ -560,7 +563,7 @@ fn bind<'a>(
     let mut new = Names::new(alloc);
     let mut left = groups;
     while let [first, rest @ ..] = left {
-        bring(alloc, scope, &mut new, &first.names)?;
+        bring(alloc, scope, &mut new, first.pattern.names())?;
         expression(alloc, modules, scope, &first.set)?;
         left = rest;
     }

@@ -113,7 +113,7 @@ impl<'a> Scope<'a> {
     {
         let mut left = groups;
         while let [first, rest @ ..] = left {
-            self.push_all(&first.names)?;
+            self.push_all(first.pattern.names())?;
             left = rest;
         }
         Ok(())

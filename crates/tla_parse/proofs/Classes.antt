@@ -1,5 +1,5 @@
 -- Which forms begin with which kinds of token.
-use Rattle.std.proofs.Common.{◌≡◌, ℕ, ◌+◌, length, List, Option, Some, None, Ok, Err, refl}
+use Rattle.std.proofs.Common.{◌≡◌, ℕ, List, Some, None, refl}
 use Rattle.tla_lex.specs.declared.token.Token.{Token}
 use Rattle.tla_lex.specs.declared.token.Kind.{Kind}
 use Rattle.tla_lex.specs.declared.token.Kind.TheVariants as k

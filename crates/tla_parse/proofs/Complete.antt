@@ -1,22 +1,19 @@
 -- What is spelled is read, and so no two trees are spelled alike.
-use Rattle.std.proofs.Common.{◌≡◌, ℕ, zero, suc, ◌+◌, ◌-◌, ◌<◌, ◌≤◌, true, false, not, nat_lt, nat_le, slice_get, length, List, Some, None, Ok, refl, sym, ap, ◌∙◌, arith}
-use Rattle.std.proofs.lemmas.Bool.{ltb-true, lt-ltb, le-leb}
+use Rattle.std.proofs.Common.{◌≡◌, ℕ, ◌+◌, ◌-◌, ◌≤◌, true, false, not, nat_lt, nat_le, slice_get, List, Some, Ok, refl, sym, ◌∙◌, arith}
+use Rattle.std.proofs.lemmas.Bool.{ltb-true, le-leb}
 use Rattle.tla_lex.specs.declared.token.Place.{Place}
 use Rattle.tla_lex.specs.declared.token.Token.{Token}
 use Rattle.tla_lex.specs.declared.token.Kind.{Kind}
 use Rattle.tla_lex.specs.declared.token.Kind.TheVariants as k
 use Rattle.tla_parse.specs.declared.scope.Scope.{Scope}
-use Rattle.tla_parse.specs.declared.tokens.Between.TheVariants as between
 use Rattle.tla_parse.specs.declared.tokens.Postfix.TheVariants as form
 use Rattle.tla_tree.specs.declared.word.Written.{Written}
 use Rattle.tla_tree.specs.declared.tree.Infix.{Infix}
 use Rattle.tla_tree.specs.declared.tree.Prefix.{Prefix}
 use Rattle.tla_tree.specs.declared.tree.Bullet.{Bullet}
-use Rattle.tla_tree.specs.declared.tree.Brackets.{Brackets}
-use Rattle.tla_tree.specs.declared.tree.Brackets.TheVariants as br
 use Rattle.tla_tree.specs.declared.tree.Quantifier.{Quantifier}
 use Rattle.tla_tree.specs.declared.tree.Constant.{Constant}
-use Rattle.tla_tree.specs.Tree.{Tree, Trees, Binders, Arms, Other, Definition, Definitions, none, more, unbound, bound, no_arms, arm, no_other, other, DefinesOperator, DefinesFunction, undefined, defined, Case, Let, Name, Number, Text, Word, At, Paren, Listing, Call, Prime, Index, Field, Unary, Binary, Quantified, Choose, If, Junction, Filter, Image, Function, FunctionSet, Record, RecordSet, Except, Action, Fair, Product, Fields, Key, Keys, Updates, no_fields, field, AtIndex, AtField, no_keys, key, no_updates, update}
+use Rattle.tla_tree.specs.Tree.{Tree, Trees, Pattern, Binders, Arms, Other, Definition, Definitions, none, more, unbound, bound, no_arms, arm, no_other, other, DefinesOperator, DefinesFunction, undefined, defined, Case, Let, Name, Number, Text, Word, At, Paren, Listing, Call, Prime, Index, Field, Unary, Binary, Quantified, Choose, If, Junction, Filter, Image, Function, FunctionSet, Record, RecordSet, Except, Action, Fair, Product, Fields, Key, Keys, Updates, no_fields, field, AtIndex, AtField, no_keys, key, no_updates, update}
 use Rattle.tla_parse.specs.Operators.{low, high, prefix_low, prefix_high, prefix_of, bullet_of, quantifier_of, constant_of, is_product}
 use Rattle.tla_tree.specs.Places.{place}
 use Rattle.tla_parse.specs.Edges.{yields, edge_allows, top_above, is_closed, depth, definition_depth}
@@ -24,8 +21,8 @@ use Rattle.tla_tree.specs.Words.{written}
 use Rattle.tla_parse.specs.Tokens.{seen, goes_on, is_bullet_at, may_follow, Has}
 use Rattle.tla_parse.specs.Kinds.{kind_at}
 use Rattle.tla_parse.specs.Grammar.{Spells, Defines, within}
-use Rattle.tla_parse.specs.ReadingLists.{name_at, call, paren}
-use Rattle.tla_parse.specs.Reading.{postfix_at, named, indexed, behind, turn, junction, quantified, chosen, cases, lets, choice, prefix, by_class, operand, definition, expr}
+use Rattle.tla_parse.specs.ReadingLists.{call, paren}
+use Rattle.tla_parse.specs.Reading.{named, indexed, turn, junction, quantified, chosen, cases, lets, choice, prefix, by_class, operand, definition, expr}
 use Rattle.tla_parse.proofs.Inversion.{and_true, ok_to}
 use Rattle.tla_parse.proofs.Steps.{climb_more}
 use Rattle.tla_parse.proofs.Follow.{low_high, prefix_low_high, yields_low, end_mono, stop_by, end_plain, stops_plain, end_infix, sees_infix, not_true}
@@ -36,7 +33,7 @@ use Rattle.tla_parse.proofs.CompleteBrackets.{PartsCome, listing_opens, fair_ope
 use Rattle.tla_parse.proofs.Comes.{AllFields, KeyComes, AllKeys, AllUpdates, Fits, Stops, NoCall, Comes, Stands, Opens, Both, AllCome, AllBound, AllArms, OtherComes, DefinitionComes, AllDefined, finish, by_operand, closed_both, opens_both, behind_stands}
 use Rattle.tla_parse.proofs.CompleteCase.{AnyEnds, chosen_complete, definition_read, defined_complete}
 use Rattle.tla_parse.proofs.CompleteProduct.{product_comes}
-use Rattle.tla_parse.proofs.CompleteLists.{paren_ends, bracket_ends, colon_ends, some_complete, listing_complete, bound_complete, items_complete}
+use Rattle.tla_parse.proofs.CompleteLists.{paren_ends, bracket_ends, colon_ends, some_complete, one_group_read, bound_complete, items_complete}
 
 module _ (text : List ℕ) (ts : List Token) where
   -- ---- closed forms
@@ -142,17 +139,16 @@ module _ (text : List ℕ) (ts : List Token) where
       by_operand text ts (Quantified p q bs b) n s floor from to refl
       (rw (x.2.1, w.0, w.1, w.2, is_q, ra, x.5.1, x.5.2, rb, binders_list bs, x.2.3) refl)
 
-  chosen_comes : (p : Place) (v : Written) (a b : Tree) → Comes text ts a → Comes text ts b → Comes text ts (Choose p v a b)
+  chosen_comes : (p : Place) (v : Pattern) (a b : Tree) → Comes text ts a → Comes text ts b → Comes text ts (Choose p v a b)
   unfolding operand chosen
   chosen_comes p v a b ha hb n s floor from to x f _ d =
       let o = seen ts s.column to in
-      let fits_a = end_plain a ts s.column x.0 k.Colon x.5 refl in
-      let ra = finish text ts a ha n s 0 (from + 3) x.0 x.4 fits_a (top_zero a) (omega (arith, d)) (stops_plain ts s.column 0 x.0 k.Colon x.5 refl) in
+      let ra = one_group_read text ts v a ha n s (from + 1) x.0 k.Colon x.2 x.3 x.4 refl (omega (arith, d)) in
       let fits_b = end_mono (Choose p v a b) b o (λ y w. absurd (let z : ⊥ = cc in z)) f in
       let stops_b = stop_by (Choose p v a b) 0 o (λ y w. absurd (let z : ⊥ = cc in z)) f in
-      let rb = finish text ts b hb n s 0 (x.0 + 1) to x.6 fits_b (top_zero b) (omega (arith, d)) stops_b in
+      let rb = finish text ts b hb n s 0 (x.0 + 1) to x.5 fits_b (top_zero b) (omega (arith, d)) stops_b in
       by_operand text ts (Choose p v a b) n s floor from to refl
-      (rw (x.1.1, x.1.2, x.2.1, x.2.2, x.3.1, x.3.2, ra, x.5.1, x.5.2, rb, x.2.3, x.1.3) refl)
+      (rw (x.1.1, x.1.2, ra, x.4.1, x.4.2, rb, x.1.3) refl)
 
   choice_comes : (p : Place) (a b e : Tree) → Comes text ts a → Comes text ts b → Comes text ts e → Comes text ts (If p a b e)
   unfolding operand choice

@@ -1,5 +1,5 @@
 -- Brackets, braces and subscripts that are spelled are read.
-use Rattle.std.proofs.Common.{◌≡◌, ℕ, ◌+◌, ◌-◌, ◌<◌, ◌≤◌, true, false, not, nat_le, length, List, [], ◌∷◌, ◌++◌, Some, None, Ok, refl, sym, ◌∙◌, arith}
+use Rattle.std.proofs.Common.{◌≡◌, ℕ, ◌+◌, ◌≤◌, true, false, nat_le, length, List, [], ◌∷◌, Ok, refl, arith}
 use Rattle.std.proofs.lemmas.Bool.{le-leb}
 use Rattle.tla_lex.specs.declared.token.Place.{Place}
 use Rattle.tla_lex.specs.declared.token.Token.{Token}
@@ -7,32 +7,29 @@ use Rattle.tla_lex.specs.declared.token.Kind.{Kind}
 use Rattle.tla_lex.specs.declared.token.Kind.TheVariants as k
 use Rattle.tla_parse.specs.declared.scope.Scope.{Scope}
 use Rattle.tla_parse.specs.declared.tokens.Between.TheVariants as between
-use Rattle.tla_parse.specs.declared.ahead.Opened.{Opened}
-use Rattle.tla_parse.specs.declared.ahead.Opened.TheVariants as opened
-use Rattle.tla_tree.specs.declared.word.Written.{Written}
 use Rattle.tla_tree.specs.declared.tree.Brackets.TheVariants as br
 use Rattle.tla_tree.specs.declared.tree.Step.{Step}
 use Rattle.tla_tree.specs.declared.tree.Step.TheVariants as st
 use Rattle.tla_tree.specs.declared.tree.Fairness.{Fairness}
 use Rattle.tla_tree.specs.declared.tree.Fairness.TheVariants as fa
-use Rattle.tla_tree.specs.Tree.{Tree, Trees, Binders, Fields, Updates, none, more, unbound, bound, no_fields, field, Name, Paren, Listing, Filter, Image, Function, FunctionSet, Record, RecordSet, Except, Action, Fair}
+use Rattle.tla_tree.specs.Tree.{Tree, Trees, Pattern, Binders, Fields, Updates, none, more, no_fields, field, Name, Paren, Listing, Filter, Image, Function, FunctionSet, Record, RecordSet, Except, Action, Fair}
 use Rattle.tla_parse.specs.Edges.{depth, depths}
-use Rattle.tla_parse.specs.Tokens.{seen, goes_on, Has, Writes}
-use Rattle.tla_parse.specs.Kinds.{same_kind, kind_at, binds}
+use Rattle.tla_parse.specs.Tokens.{seen, Has}
+use Rattle.tla_parse.specs.Kinds.{same_kind, kind_at}
 use Rattle.tla_parse.specs.Grammar.{Spells, Listed, Others, is_subscript}
-use Rattle.tla_parse.specs.Outcome.{◌>>=◌, at_op}
+use Rattle.tla_parse.specs.Outcome.{at_op}
 use Rattle.tla_parse.specs.Ahead.{filters}
 use Rattle.tla_parse.specs.Reading.{expr, operand}
 use Rattle.tla_parse.specs.ReadingLists.{following, exprs, paren}
-use Rattle.tla_parse.specs.ReadingBrackets.{others, subscript, action, fair, filter, image, set_of, brace, tuple, mapping, function_set, behind_first, bracket, bracket_by, opened_by}
+use Rattle.tla_parse.specs.ReadingBrackets.{others, subscript, action, fair, filter, image, set_of, brace, tuple, mapping, function_set, behind_first, bracket}
 use Rattle.tla_parse.proofs.Sequence.{Behind, Follows, follows_fit, sequence_complete}
-use Rattle.tla_parse.proofs.NameLists.{seen_within, named}
+use Rattle.tla_parse.proofs.NameLists.{seen_within}
 use Rattle.tla_parse.proofs.Lists.{list, trees_list, binders_list, rises}
 use Rattle.tla_parse.proofs.First.{first_token, not_closing}
-use Rattle.tla_parse.proofs.Follow.{not_true}
+use Rattle.tla_parse.proofs.Tuples.{no_brace, no_binds}
 use Rattle.tla_parse.proofs.PartEnds.{no_filter, is_filter, stopped, arrow_stopped, opens_expression, opens_binders}
 use Rattle.tla_parse.proofs.Comes.{Comes, Opens, AllCome, AllBound, AllFields, AllUpdates, ReadAt, before_plain}
-use Rattle.tla_parse.proofs.CompleteLists.{Ends, paren_ends, bracket_ends, closing_ends, others_read, others_next, listing_complete, bound_complete}
+use Rattle.tla_parse.proofs.CompleteLists.{Ends, others_read, others_next, listing_complete, one_group_read, bound_complete}
 use Rattle.tla_parse.proofs.CompleteRecords.{record_complete, record_set_complete, except_complete}
 
 maps_ends : Ends k.MapsTo
@@ -115,22 +112,19 @@ module _ (text : List ℕ) (ts : List Token) where
       let room : nat_le (depth (Fair p fa.Strong v a)) (n + 1) ≡ true = le-leb _ _ d in
       rw (x.2.1, x.2.2, x.2.3, r, x.5.1, x.5.2, q.0, x.7.1, x.7.2, room, x.8) refl
 
-  pub filter_opens : (p : Place) (w : Written) (a e : Tree) → Comes text ts a → Comes text ts e → Opens text ts (Filter p w a e)
+  pub filter_opens : (p : Place) (w : Pattern) (a e : Tree) → Comes text ts a → Comes text ts e → Opens text ts (Filter p w a e)
   unfolding operand brace filter
   filter_opens p w a e ha he n s from to x d nc =
-      let q : from + 1 + 1 ≡ from + 2 = omega arith in
-      let u : from + 1 + 2 ≡ from + 3 = omega arith in
-      let m : Has ts s.column k.Member (from + 1 + 1) = rw q x.4 in
-      let y : Spells text ts s a (from + 1 + 2) x.0 = rw u x.5 in
-      let f = is_filter text ts w a s (from + 1) x.0 x.3 m y x.6 in
-      let ra = before_plain text ts a ha n s (from + 3) x.0 k.Colon x.5 x.6 refl (omega (arith, d)) in
-      let re = before_plain text ts e he n s (x.0 + 1) x.1 k.RightBrace x.7 x.8 refl (omega (arith, d)) in
-      rw (x.2.1, x.2.2, x.2.3, f, x.3.1, x.3.2, ra.0, x.6.1, x.6.2, re.0, x.8.1, x.8.2, x.3.3, x.9) refl
+      let f = is_filter text ts w a s (from + 1) x.0 x.3 x.4 x.5 in
+      let c = no_brace text ts w s.column (from + 1) x.4.0 x.4.1 in
+      let ra = one_group_read text ts w a ha n s (from + 1) x.0 k.Colon x.3 x.4 x.5 refl (omega (arith, d)) in
+      let re = before_plain text ts e he n s (x.0 + 1) x.1 k.RightBrace x.6 x.7 refl (omega (arith, d)) in
+      rw (x.2.1, x.2.2, x.2.3, c, f, ra, x.5.1, x.5.2, re.0, x.7.1, x.7.2, x.8) refl
 
   pub image_opens : (p : Place) (e : Tree) (bs : Binders) → Comes text ts e → AllBound text ts bs → Opens text ts (Image p e bs)
   unfolding operand brace set_of image
   image_opens p e bs he hs n s from to x d nc =
-      let none = not_true (binds ts s.column (from + 1)) x.3 in
+      let none = no_binds text ts s.column (from + 1) x.3 in
       let f = first_token text ts e s (from + 1) x.0 x.4 in
       let c = not_closing br.Set f.0.kind f.2 in
       let re = before_plain text ts e he n s (from + 1) x.0 k.Colon x.4 x.5 refl (omega (arith, d)) in

@@ -1,18 +1,15 @@
 -- CASE, LET and definitions that are spelled are read.
-use Rattle.std.proofs.Common.{◌≡◌, ℕ, ◌+◌, ◌-◌, ◌<◌, ◌≤◌, true, false, not, length, List, [], ◌∷◌, Some, None, Ok, refl, sym, ◌∙◌, arith}
-use Rattle.tla_lex.specs.declared.token.Place.{Place}
+use Rattle.std.proofs.Common.{◌≡◌, ℕ, ◌+◌, ◌<◌, ◌≤◌, true, false, length, List, [], ◌∷◌, None, Ok, refl, ◌∙◌, arith}
 use Rattle.tla_lex.specs.declared.token.Token.{Token}
 use Rattle.tla_lex.specs.declared.token.Kind.{Kind}
 use Rattle.tla_lex.specs.declared.token.Kind.TheVariants as k
 use Rattle.tla_parse.specs.declared.scope.Scope.{Scope}
-use Rattle.tla_tree.specs.declared.word.Written.{Written}
 use Rattle.tla_parse.specs.declared.tokens.Between.TheVariants as between
 use Rattle.tla_tree.specs.Tree.{Tree, Arms, Other, Definition, Definitions, Choice, no_arms, arm, no_other, other, DefinesOperator, DefinesFunction, undefined, defined}
 use Rattle.tla_parse.specs.Edges.{depth, arms_depth, definition_depth, definitions_depth}
-use Rattle.tla_parse.specs.Tokens.{seen, goes_on, Has, Writes, Names}
-use Rattle.tla_parse.specs.Kinds.{same_kind, kind_at}
+use Rattle.tla_parse.specs.Tokens.{seen, goes_on, Has}
+use Rattle.tla_parse.specs.Kinds.{kind_at}
 use Rattle.tla_parse.specs.Grammar.{Spells, Chosen, MoreChosen, Otherwise, Defines, Defined, is_defined}
-use Rattle.tla_parse.specs.Outcome.{◌>>=◌}
 use Rattle.tla_parse.specs.ReadingLists.{following}
 use Rattle.tla_parse.specs.Reading.{arm_at, arms_at, operator, function, defined as read_defined, definition, definitions_at, expr}
 use Rattle.tla_parse.proofs.Sequence.{Behind, Follows, follows_fit, sequence_complete}
@@ -21,7 +18,7 @@ use Rattle.tla_parse.proofs.Lists.{arm_list, definition_list, binders_list, rise
 use Rattle.tla_parse.proofs.Follow.{not_true, end_plain, stops_plain}
 use Rattle.tla_parse.proofs.Shapes.{top_zero, advances, defines_advance}
 use Rattle.tla_parse.proofs.First.{first_token, not_other}
-use Rattle.tla_parse.proofs.Comes.{Fits, Stops, Comes, AllArms, DefinitionComes, AllDefined, ReadAt, finish, before_plain}
+use Rattle.tla_parse.proofs.Comes.{Fits, Stops, Comes, AllArms, DefinitionComes, AllDefined, finish, before_plain}
 use Rattle.tla_parse.proofs.CompleteLists.{bracket_ends, bound_complete}
 
 module _ (text : List ℕ) (ts : List Token) where

@@ -1,30 +1,30 @@
 -- Lists that are spelled are read.
-use Rattle.std.proofs.Common.{◌≡◌, ℕ, zero, suc, ◌+◌, ◌-◌, ◌<◌, ◌≤◌, true, false, not, slice_get, length, List, [], ◌∷◌, ◌++◌, Some, None, Ok, refl, sym, ap, ◌∙◌, arith}
+use Rattle.std.proofs.Common.{◌≡◌, ℕ, ◌+◌, ◌<◌, ◌≤◌, true, false, slice_get, length, List, [], ◌∷◌, None, Ok, refl, arith}
 use Rattle.tla_lex.specs.declared.token.Place.{Place}
 use Rattle.tla_lex.specs.declared.token.Token.{Token}
 use Rattle.tla_lex.specs.declared.token.Kind.{Kind}
 use Rattle.tla_lex.specs.declared.token.Kind.TheVariants as k
 use Rattle.tla_parse.specs.declared.scope.Scope.{Scope}
 use Rattle.tla_parse.specs.declared.tokens.Between.TheVariants as between
-use Rattle.tla_tree.specs.declared.word.Written.{Written}
 use Rattle.tla_tree.specs.declared.tree.Bullet.{Bullet}
 use Rattle.tla_tree.specs.declared.tree.Brackets.{Brackets}
 use Rattle.tla_tree.specs.declared.tree.Brackets.TheVariants as br
-use Rattle.tla_tree.specs.Tree.{Tree, Trees, Binders, Group, trees, binders, none, more, unbound, bound, Listing, If}
+use Rattle.tla_tree.specs.Tree.{Tree, Trees, Pattern, Binders, Group, none, more, unbound, bound, Listing, If}
 use Rattle.tla_tree.specs.Places.{place}
 use Rattle.tla_parse.specs.Edges.{depth, depths, bound_depth}
-use Rattle.tla_parse.specs.Tokens.{seen, goes_on, is_bullet_at, may_follow, Has, Names}
+use Rattle.tla_parse.specs.Tokens.{seen, goes_on, is_bullet_at, may_follow, Has}
+use Rattle.tla_parse.specs.Entries.{is_single, Entry}
 use Rattle.tla_parse.specs.Kinds.{same_kind, kind_at, closing}
 use Rattle.tla_parse.specs.Grammar.{Spells, Items, Listed, Others, Bound, MoreBound, is_some}
-use Rattle.tla_parse.specs.Outcome.{◌>>=◌}
-use Rattle.tla_parse.specs.ReadingLists.{following, exprs, some, listing, group, groups}
+use Rattle.tla_parse.specs.ReadingLists.{following, exprs, some, listing, set_behind, group, one_group, groups}
 use Rattle.tla_parse.specs.Reading.{expr}
 use Rattle.tla_parse.proofs.Sequence.{Behind, Follows, follows_fit, sequence_complete}
-use Rattle.tla_parse.proofs.NameLists.{seen_within, names_fit, names_within, names_complete}
-use Rattle.tla_parse.proofs.Lists.{list, trees_list, group_list, binders_list, comma_here, rises}
+use Rattle.tla_parse.proofs.NameLists.{seen_within}
+use Rattle.tla_parse.proofs.Tuples.{pattern_rise, pattern_complete, single_complete}
+use Rattle.tla_parse.proofs.Lists.{list, trees_list, group_list, comma_here, rises}
 use Rattle.tla_parse.proofs.Follow.{stop_by, end_follow, hidden_bullet}
 use Rattle.tla_parse.proofs.Shapes.{top_zero, advances, count, items_fit}
-use Rattle.tla_parse.proofs.First.{never_begins, first_token, not_closing}
+use Rattle.tla_parse.proofs.First.{first_token, not_closing}
 use Rattle.tla_parse.proofs.Comes.{Fits, Stops, Comes, AllCome, AllBound, ReadAt, finish, before_plain}
 
 -- a kind that ends a list
@@ -105,39 +105,46 @@ module _ (text : List ℕ) (ts : List Token) where
   abbrev GroupRead : ℕ → Scope → Group → ℕ → ℕ → Type 0
   GroupRead n s g from to = (group text ts (expr text ts n) s from ≡ Ok (g, to)) × (from < to)
 
-  group_read : (ws : List Written) (e : Tree) → Comes text ts e → (n : ℕ) (s : Scope) (from mid to : ℕ) (kind : Kind) → Names ts text s.column ws from mid → Has ts s.column k.Member mid
-      → Spells text ts s e (mid + 1) to → Has ts s.column kind to → goes_on kind ≡ false → depth e ≤ n → GroupRead n s (ws, e) from to
-  unfolding group
-  group_read ws e h n s from mid to kind x m y has plain d =
-      let r = before_plain text ts e h n s (mid + 1) to kind y has plain d in
-      let no_comma : kind_at k.Comma (seen ts s.column mid) ≡ false = rw (m.1, m.2) refl in
-      let fit = names_fit text ts ws s.column from mid x in
-      let end = names_within text ts ws s.column from mid x in
-      let c = names_complete text ts ws [] s.column from mid (length ts) x no_comma (omega (arith, fit, end)) in
-      let w = r.1 in
-      (rw (c, m.1, m.2, r.0) refl, omega (arith, fit, w))
+  group_read : (w : Pattern) (e : Tree) → Comes text ts e → (n : ℕ) (s : Scope) (from to : ℕ) (kind : Kind) → Entry text ts s.column w (Spells text ts s e) from to → Has ts s.column kind to → goes_on kind ≡ false → depth e ≤ n → GroupRead n s (w, e) from to
+  unfolding group set_behind
+  group_read w e h n s from to kind x has plain d =
+      let r = before_plain text ts e h n s (x.0 + 1) to kind x.3 has plain d in
+      let no_comma : kind_at k.Comma (seen ts s.column x.0) ≡ false = rw (x.2.1, x.2.2) refl in
+      let c = pattern_complete text ts w s.column from x.0 x.1 no_comma in
+      let fit = pattern_rise text ts w s.column from x.0 x.1 in
+      let up = r.1 in
+      (rw (c, x.2.1, x.2.2, r.0) refl, omega (arith, fit, up))
+
+  -- an entry of one element
+  pub one_group_read : (w : Pattern) (e : Tree) → Comes text ts e → (n : ℕ) (s : Scope) (from to : ℕ) (kind : Kind) → is_single w ≡ true → Entry text ts s.column w (Spells text ts s e) from to → Has ts s.column kind to → goes_on kind ≡ false → depth e ≤ n
+      → one_group text ts (expr text ts n) s from ≡ Ok ((w, e), to)
+  unfolding one_group set_behind
+  one_group_read w e h n s from to kind i x has plain d =
+      let r = before_plain text ts e h n s (x.0 + 1) to kind x.3 has plain d in
+      let c = single_complete text ts w s.column from x.0 i x.1 in
+      rw (c, x.2.1, x.2.2, r.0) refl
 
   bound_next : (bs : Binders) (s : Scope) (from to : ℕ) (kind : Kind) → Ends kind → Has ts s.column kind to → MoreBound text ts s bs from to → (next : Kind) × Has ts s.column next from × (goes_on next ≡ false)
   bound_next unbound s from to kind p h x = (kind, rw (← x) h, p.plain)
-  bound_next (bound ws e bs) s from to kind p h x = (k.Comma, x.2, refl)
+  bound_next (bound w e bs) s from to kind p h x = (k.Comma, x.1, refl)
 
   more_bound_read : (bs : Binders) → AllBound text ts bs → (n : ℕ) (s : Scope) (from to : ℕ) (kind : Kind) → Ends kind → Has ts s.column kind to → MoreBound text ts s bs from to → bound_depth bs ≤ n
       → Behind (GroupRead n s) (following ts s.column between.Comma) (group_list bs) from to
   more_bound_read unbound h n s from to kind p has x d = (no_more s.column from kind (rw (← x) has) p, x)
-  more_bound_read (bound ws e bs) h n s from to kind p has x d =
-      let y = bound_next bs s x.1 to kind p has x.6 in
-      (from + 1, x.1, comma_here text ts s.column from x.2, group_read ws e h.0 n s (from + 1) x.0 x.1 y.0 x.3 x.4 x.5 y.1 y.2 (omega (arith, d)), more_bound_read bs h.1 n s x.1 to kind p has x.6 (omega (arith, d)))
+  more_bound_read (bound w e bs) h n s from to kind p has x d =
+      let y = bound_next bs s x.0 to kind p has x.3 in
+      (from + 1, x.0, comma_here text ts s.column from x.1, group_read w e h.0 n s (from + 1) x.0 y.0 x.2 y.1 y.2 (omega (arith, d)), more_bound_read bs h.1 n s x.0 to kind p has x.3 (omega (arith, d)))
 
   pub bound_complete : (bs : Binders) → AllBound text ts bs → (n : ℕ) (s : Scope) (from to : ℕ) (kind : Kind) → Ends kind → Has ts s.column kind to → Bound text ts s bs from to → bound_depth bs ≤ n
       → groups text ts (expr text ts n) (length ts) [] s from ≡ Ok (group_list bs, to)
   bound_complete unbound h n s from to kind p has x d = absurd x
-  bound_complete (bound ws e bs) h n s from to kind p has x d =
-      let y = bound_next bs s x.1 to kind p has x.5 in
-      let r = group_read ws e h.0 n s from x.0 x.1 y.0 x.2 x.3 x.4 y.1 y.2 (omega (arith, d)) in
-      let f : Follows (GroupRead n s) (following ts s.column between.Comma) ((ws, e) ∷ group_list bs) from to = (x.1, r, more_bound_read bs h.1 n s x.1 to kind p has x.5 (omega (arith, d))) in
-      let fit = follows_fit (GroupRead n s) (following ts s.column between.Comma) (λ u a b y. y.1) (rises text ts s.column between.Comma) ((ws, e) ∷ group_list bs) from to f in
-      let w = seen_within text ts s.column to has.0 has.1 in
-      sequence_complete (GroupRead n s) (following ts s.column between.Comma) (group text ts (expr text ts n) s) (λ u a b y. y.0) ((ws, e) ∷ group_list bs) (length ts) [] from to f (omega (arith, fit, w))
+  bound_complete (bound w e bs) h n s from to kind p has x d =
+      let y = bound_next bs s x.0 to kind p has x.2 in
+      let r = group_read w e h.0 n s from x.0 y.0 x.1 y.1 y.2 (omega (arith, d)) in
+      let f : Follows (GroupRead n s) (following ts s.column between.Comma) ((w, e) ∷ group_list bs) from to = (x.0, r, more_bound_read bs h.1 n s x.0 to kind p has x.2 (omega (arith, d))) in
+      let fit = follows_fit (GroupRead n s) (following ts s.column between.Comma) (λ u a b y. y.1) (rises text ts s.column between.Comma) ((w, e) ∷ group_list bs) from to f in
+      let up = seen_within text ts s.column to has.0 has.1 in
+      sequence_complete (GroupRead n s) (following ts s.column between.Comma) (group text ts (expr text ts n) s) (λ u a b y. y.0) ((w, e) ∷ group_list bs) (length ts) [] from to f (omega (arith, fit, up))
 
   -- ---- junction lists
 

@@ -1,5 +1,5 @@
 -- Products that are spelled are read.
-use Rattle.std.proofs.Common.{◌≡◌, ℕ, ◌+◌, ◌-◌, ◌<◌, ◌≤◌, Bool, true, false, not, ◌&&◌, ◌||◌, nat_le, length, List, [], ◌∷◌, Option, Some, None, Ok, refl, sym, ◌∙◌, arith}
+use Rattle.std.proofs.Common.{◌≡◌, ℕ, ◌+◌, ◌-◌, ◌<◌, ◌≤◌, true, false, not, ◌||◌, nat_le, length, List, [], ◌∷◌, Option, Some, None, Ok, refl, ◌∙◌, arith}
 use Rattle.std.proofs.lemmas.Bool.{ltb-true, le-leb}
 use Rattle.tla_lex.specs.declared.token.Place.{Place}
 use Rattle.tla_lex.specs.declared.token.Token.{Token}
@@ -7,25 +7,23 @@ use Rattle.tla_lex.specs.declared.token.Kind.{Kind}
 use Rattle.tla_lex.specs.declared.token.Kind.TheVariants as k
 use Rattle.tla_parse.specs.declared.scope.Scope.{Scope}
 use Rattle.tla_parse.specs.declared.tokens.Between.TheVariants as between
-use Rattle.tla_tree.specs.declared.tree.Infix.{Infix}
 use Rattle.tla_tree.specs.declared.tree.Infix.TheVariants as i
-use Rattle.tla_tree.specs.Tree.{Tree, Trees, trees, none, more, Product}
+use Rattle.tla_tree.specs.Tree.{Tree, Trees, none, more, Product}
 use Rattle.tla_parse.specs.Operators.{low, high, infix_of}
 use Rattle.tla_tree.specs.Places.{place}
-use Rattle.tla_parse.specs.Edges.{yields, edge_allows, last_allows, top_above, depth, depths}
+use Rattle.tla_parse.specs.Edges.{yields, edge_allows, top_above, depth, depths}
 use Rattle.tla_parse.specs.Tokens.{seen, is_suffix, Has}
 use Rattle.tla_parse.specs.Kinds.{same_kind, kind_at}
-use Rattle.tla_parse.specs.Ending.{above, infix_at, allows, may_end}
-use Rattle.tla_parse.specs.Grammar.{Spells, Factors, is_some}
-use Rattle.tla_parse.specs.Outcome.{◌>>=◌}
+use Rattle.tla_parse.specs.Ending.{allows, may_end}
+use Rattle.tla_parse.specs.Grammar.{Spells, Factors}
 use Rattle.tla_parse.specs.ReadingLists.{following}
 use Rattle.tla_parse.specs.Reading.{factor, factors, product, turn, expr}
 use Rattle.tla_parse.proofs.Inversion.{and_true}
-use Rattle.tla_parse.proofs.Sequence.{Behind, Follows, sequence_complete}
+use Rattle.tla_parse.proofs.Sequence.{Behind, sequence_complete}
 use Rattle.tla_parse.proofs.Steps.{climb_more}
 use Rattle.tla_parse.proofs.Lists.{list, trees_list}
 use Rattle.tla_parse.proofs.Follow.{yields_low, end_mono, stop_by, end_infix, sees_infix}
-use Rattle.tla_parse.proofs.Shapes.{spine, spine_depth, left_top, advances, count, factors_fit}
+use Rattle.tla_parse.proofs.Shapes.{spine, spine_depth, left_top, advances, factors_fit}
 use Rattle.tla_parse.proofs.Comes.{Fits, Stops, Comes, AllCome, finish}
 use Rattle.tla_parse.proofs.CompleteLists.{length_list}
 

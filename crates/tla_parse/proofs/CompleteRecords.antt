@@ -1,5 +1,5 @@
 -- Records and updates that are spelled are read.
-use Rattle.std.proofs.Common.{◌≡◌, ℕ, ◌+◌, ◌-◌, ◌<◌, ◌≤◌, true, false, length, List, [], ◌∷◌, ◌++◌, Some, None, Ok, refl, sym, ◌∙◌, arith}
+use Rattle.std.proofs.Common.{◌≡◌, ℕ, ◌+◌, ◌<◌, ◌≤◌, true, false, length, List, [], ◌∷◌, Some, Ok, refl, arith}
 use Rattle.tla_lex.specs.declared.token.Place.{Place}
 use Rattle.tla_lex.specs.declared.token.Token.{Token}
 use Rattle.tla_lex.specs.declared.token.Kind.{Kind}
@@ -7,12 +7,11 @@ use Rattle.tla_lex.specs.declared.token.Kind.TheVariants as k
 use Rattle.tla_parse.specs.declared.scope.Scope.{Scope}
 use Rattle.tla_parse.specs.declared.tokens.Between.TheVariants as between
 use Rattle.tla_tree.specs.declared.word.Written.{Written}
-use Rattle.tla_tree.specs.Tree.{Tree, Fields, Key, Keys, Updates, Entry, Change, fields, keys, updates, no_fields, field, AtIndex, AtField, no_keys, key, no_updates, update, Record, RecordSet, Except}
+use Rattle.tla_tree.specs.Tree.{Tree, Fields, Key, Keys, Updates, Entry, Change, no_fields, field, AtIndex, AtField, no_keys, key, no_updates, update, Record, RecordSet, Except}
 use Rattle.tla_parse.specs.Edges.{depth, fields_depth, key_depth, keys_depth, updates_depth}
-use Rattle.tla_parse.specs.Tokens.{seen, goes_on, Has, Writes}
-use Rattle.tla_parse.specs.Kinds.{same_kind, kind_at}
+use Rattle.tla_parse.specs.Tokens.{goes_on, Has, Writes}
+use Rattle.tla_parse.specs.Kinds.{same_kind}
 use Rattle.tla_parse.specs.Grammar.{Spells, Fielded, MoreFields, Leads, Selects, Updated, MoreUpdates, is_path, updating}
-use Rattle.tla_parse.specs.Outcome.{◌>>=◌}
 use Rattle.tla_parse.specs.Reading.{expr}
 use Rattle.tla_parse.specs.ReadingLists.{following}
 use Rattle.tla_parse.specs.ReadingBrackets.{entry, entries, record_of, records_of, key_at, path, change, changes, except}
@@ -22,7 +21,7 @@ use Rattle.tla_parse.proofs.Lists.{comma_here, rises}
 use Rattle.tla_parse.proofs.ListsRecords.{entry_list, key_list, change_list, fields_list, keys_list, updates_list}
 use Rattle.tla_parse.proofs.Shapes.{selects_advance, leads_rise}
 use Rattle.tla_parse.proofs.Comes.{Comes, AllFields, KeyComes, AllKeys, AllUpdates, before_plain}
-use Rattle.tla_parse.proofs.CompleteLists.{Ends, bracket_ends, no_more, some_complete}
+use Rattle.tla_parse.proofs.CompleteLists.{bracket_ends, no_more, some_complete}
 
 module _ (text : List ℕ) (ts : List Token) where
   -- ---- fields

@@ -1,6 +1,5 @@
 -- With more levels the same is read, or what was nested too deep.
-use Rattle.std.proofs.Common.{◌≡◌, ℕ, zero, suc, ◌+◌, ◌-◌, ◌≤◌, Bool, true, false, not, ◌⊎◌, inl, inr, nat_le, slice_get, length, List, [], ◌∷◌, ◌++◌, if◌then◌else◌, Option, Some, None, Ok, Err, refl, ap, sym, ◌∙◌, arith}
-use Rattle.std.proofs.lemmas.Bool.{leb-true, le-leb}
+use Rattle.std.proofs.Common.{◌≡◌, ℕ, zero, suc, ◌+◌, ◌≤◌, inl, inr, length, List, [], Ok, refl, arith}
 use Rattle.tla_lex.specs.declared.token.Place.{Place}
 use Rattle.tla_lex.specs.declared.token.Token.{Token}
 use Rattle.tla_lex.specs.declared.token.Kind.{Kind}
@@ -11,28 +10,25 @@ use Rattle.tla_tree.specs.declared.tree.Infix.{Infix}
 use Rattle.tla_tree.specs.declared.tree.Infix.TheVariants as i
 use Rattle.tla_tree.specs.declared.tree.Prefix.{Prefix}
 use Rattle.tla_tree.specs.declared.tree.Bullet.{Bullet}
-use Rattle.tla_tree.specs.declared.tree.Brackets.{Brackets}
-use Rattle.tla_tree.specs.declared.tree.Brackets.TheVariants as br
-use Rattle.tla_parse.specs.declared.tokens.Between.{Between}
 use Rattle.tla_parse.specs.declared.tokens.Between.TheVariants as between
 use Rattle.tla_parse.specs.declared.tokens.Postfix.{Postfix}
 use Rattle.tla_parse.specs.declared.tokens.Postfix.TheVariants as form
 use Rattle.tla_tree.specs.declared.tree.Quantifier.{Quantifier}
-use Rattle.tla_tree.specs.Tree.{Tree, Group, Choice, Definition, arms, definitions, no_other, Case, none, Name, Number, Text, Word, At, Listing, Prime, Index, Field, Binary, Product, trees}
+use Rattle.tla_tree.specs.Tree.{Tree, Number, Text, Word, At, Prime, Index, Field, Binary, Product, trees}
 use Rattle.tla_parse.specs.Operators.{high, is_product, prefix_high, prefix_of, bullet_of, quantifier_of, constant_of}
 use Rattle.tla_tree.specs.Places.{place}
 use Rattle.tla_parse.specs.Edges.{edge_allows, depth}
 use Rattle.tla_tree.specs.Words.{word_of, written}
 use Rattle.tla_parse.specs.Tokens.{seen}
-use Rattle.tla_parse.specs.Kinds.{kind_at, closing}
+use Rattle.tla_parse.specs.Kinds.{kind_at}
 use Rattle.tla_parse.specs.Grammar.{within}
 use Rattle.tla_parse.specs.Ending.{above, infix_at}
-use Rattle.tla_parse.specs.Outcome.{Outcome, Refused, Nested, ◌>>=◌, need, room, at_op, sequence}
-use Rattle.tla_parse.specs.ReadingLists.{name_at, following, names, exprs, some, listing, call, group, groups, paren}
+use Rattle.tla_parse.specs.Outcome.{Outcome}
+use Rattle.tla_parse.specs.ReadingLists.{name_at, following, names, exprs, some, group, one_group, groups, paren}
 use Rattle.tla_parse.specs.Reading.{postfix_at, indexed, behind, postfix, postfixes, turn, climb, junction, quantified, chosen, arm_at, arms_at, cases, operator, function, defined, definition, definitions_at, lets, choice, prefix, by_class, named, operand_by, operand, level, expr, factor, factors, product}
 use Rattle.tla_tree.specs.declared.tree.Fairness.TheVariants as fa
 use Rattle.tla_parse.specs.ReadingBrackets.{fair, brace, tuple, bracket}
-use Rattle.tla_parse.proofs.DeeperLists.{Refines, bind, needs, more_room, ops, choices, sequences, somes, nameds, group_deeper, parens}
+use Rattle.tla_parse.proofs.DeeperLists.{Refines, bind, needs, more_room, ops, choices, sequences, somes, nameds, group_deeper, one_group_deeper, parens}
 use Rattle.tla_parse.proofs.DeeperBrackets.{fairs, braces, tuples, brackets}
 
 module _ (text : List ℕ) (ts : List Token) where
@@ -97,9 +93,8 @@ module _ (text : List ℕ) (ts : List Token) where
 
     choosings : (s : Scope) (p : Place) (at : ℕ) → Refines (chosen text ts inner s p at) (chosen text ts outer s p at)
     unfolding chosen
-    choosings s p at = ops (name_at (seen ts s.column (at + 1))) _ _ _ _ (inr refl) (λ n. needs (kind_at k.Member (seen ts s.column (at + 2))) _ _
-        (bind (inner s 0 (at + 3)) (outer s 0 (at + 3)) _ _ (deeper s 0 (at + 3)) (λ a after. needs (kind_at k.Colon (seen ts s.column after)) _ _
-        (bind (inner s 0 (after + 1)) (outer s 0 (after + 1)) _ _ (deeper s 0 (after + 1)) (λ e end. inr refl)))))
+    choosings s p at = bind (one_group text ts inner s (at + 1)) (one_group text ts outer s (at + 1)) _ _ (one_group_deeper text ts inner outer deeper s (at + 1)) (λ g after. needs (kind_at k.Colon (seen ts s.column after)) _ _
+        (bind (inner s 0 (after + 1)) (outer s 0 (after + 1)) _ _ (deeper s 0 (after + 1)) (λ e end. inr refl)))
 
     arms_deeper : (s : Scope) (at : ℕ) → Refines (arm_at text ts inner s at) (arm_at text ts outer s at)
     unfolding arm_at

@@ -1,5 +1,6 @@
 -- With more levels brackets, braces and subscripts are read the same, or were nested too deep.
-use Rattle.std.proofs.Common.{◌≡◌, ℕ, ◌+◌, Bool, true, false, not, ◌⊎◌, inl, inr, length, List, [], ◌∷◌, Option, Some, None, Ok, Err, refl}
+use Rattle.std.proofs.Common.{ℕ, ◌+◌, inr, length, List, [], ◌∷◌, Ok, refl}
+use Rattle.std.specs.Prelude.{is_none}
 use Rattle.tla_lex.specs.declared.token.Place.{Place}
 use Rattle.tla_lex.specs.declared.token.Token.{Token}
 use Rattle.tla_lex.specs.declared.token.Kind.{Kind}
@@ -8,21 +9,20 @@ use Rattle.tla_parse.specs.declared.scope.Scope.{Scope}
 use Rattle.tla_parse.specs.declared.tokens.Between.TheVariants as between
 use Rattle.tla_parse.specs.declared.ahead.Opened.{Opened}
 use Rattle.tla_parse.specs.declared.ahead.Opened.TheVariants as opened
-use Rattle.tla_tree.specs.declared.tree.Brackets.{Brackets}
 use Rattle.tla_tree.specs.declared.tree.Brackets.TheVariants as br
 use Rattle.tla_tree.specs.declared.tree.Step.{Step}
 use Rattle.tla_tree.specs.declared.tree.Step.TheVariants as step
 use Rattle.tla_tree.specs.declared.tree.Fairness.{Fairness}
-use Rattle.tla_tree.specs.Tree.{Tree, Action, Fair, Key, Change, Entry}
+use Rattle.tla_tree.specs.Tree.{Tree, Action, Fair}
 use Rattle.tla_parse.specs.Edges.{depth}
 use Rattle.tla_parse.specs.Tokens.{seen}
-use Rattle.tla_parse.specs.Kinds.{kind_at, closing, binds}
+use Rattle.tla_parse.specs.Kinds.{kind_at}
 use Rattle.tla_parse.specs.Grammar.{updating}
-use Rattle.tla_parse.specs.Ahead.{filters, maps}
-use Rattle.tla_parse.specs.Outcome.{Outcome, ◌>>=◌, need, room, at_op, sequence}
-use Rattle.tla_parse.specs.ReadingLists.{name_at, following, names, exprs, some, listing, group, groups, paren}
+use Rattle.tla_parse.specs.Ahead.{binds, filters}
+use Rattle.tla_parse.specs.Outcome.{Outcome, at_op}
+use Rattle.tla_parse.specs.ReadingLists.{name_at, following, exprs, some, group, one_group, groups}
 use Rattle.tla_parse.specs.ReadingBrackets.{others, subscript_by, subscript, action, fair, filter, image, set_of, brace, tuple, mapping, function_set, entry, entries, record_of, records_of, key_at, path, change, changes, except, behind_first, bracket_by, bracket, opened_by}
-use Rattle.tla_parse.proofs.DeeperLists.{Refines, bind, needs, more_room, ops, choices, sequences, somes, listings, group_deeper, parens}
+use Rattle.tla_parse.proofs.DeeperLists.{Refines, bind, needs, more_room, ops, choices, sequences, somes, listings, group_deeper, one_group_deeper, parens}
 
 module _ (text : List ℕ) (ts : List Token) where
   module _ (inner outer : Scope → ℕ → ℕ → Outcome Tree) (deeper : (s : Scope) (floor at : ℕ) → Refines (inner s floor at) (outer s floor at)) where
@@ -53,9 +53,8 @@ module _ (text : List ℕ) (ts : List Token) where
 
     filters_deeper : (s : Scope) (p : Place) (at : ℕ) → Refines (filter text ts inner s p at) (filter text ts outer s p at)
     unfolding filter
-    filters_deeper s p at = ops (name_at (seen ts s.column (at + 1))) _ _ _ _ (inr refl) (λ w.
-        bind (inner s 0 (at + 3)) (outer s 0 (at + 3)) _ _ (deeper s 0 (at + 3)) (λ b after. needs (kind_at k.Colon (seen ts s.column after)) _ _
-        (bind (inner s 0 (after + 1)) (outer s 0 (after + 1)) _ _ (deeper s 0 (after + 1)) (λ e end. inr refl))))
+    filters_deeper s p at = bind (one_group text ts inner s (at + 1)) (one_group text ts outer s (at + 1)) _ _ (one_group_deeper text ts inner outer deeper s (at + 1)) (λ g after. needs (kind_at k.Colon (seen ts s.column after)) _ _
+        (bind (inner s 0 (after + 1)) (outer s 0 (after + 1)) _ _ (deeper s 0 (after + 1)) (λ e end. inr refl)))
 
     group_lists : (s : Scope) (at : ℕ) → Refines (groups text ts inner (length ts) [] s at) (groups text ts outer (length ts) [] s at)
     group_lists s at = sequences (group text ts inner s) (group text ts outer s) (following ts s.column between.Comma) (group_deeper text ts inner outer deeper s) (length ts) [] at
@@ -66,7 +65,7 @@ module _ (text : List ℕ) (ts : List Token) where
 
     sets_of : (s : Scope) (p : Place) (at : ℕ) (e : Tree) (after : ℕ) → Refines (set_of text ts inner s p at e after) (set_of text ts outer s p at e after)
     unfolding set_of
-    sets_of s p at e after = choices (kind_at k.Colon (seen ts s.column after)) _ _ _ _ (needs (not (binds ts s.column (at + 1))) _ _ (images s p e after))
+    sets_of s p at e after = choices (kind_at k.Colon (seen ts s.column after)) _ _ _ _ (needs (is_none (binds ts s.column (at + 1))) _ _ (images s p e after))
         (bind (others text ts inner s k.RightBrace e after) (others text ts outer s k.RightBrace e after) _ _ (others_deeper s k.RightBrace e after) (λ es end. inr refl))
 
     pub braces : (s : Scope) (p : Place) (at : ℕ) → Refines (brace text ts inner s p at) (brace text ts outer s p at)

@@ -1,34 +1,19 @@
 -- With more levels lists are read the same, or were nested too deep.
-use Rattle.std.proofs.Common.{◌≡◌, ℕ, zero, suc, ◌+◌, ◌-◌, ◌≤◌, Bool, true, false, not, ◌⊎◌, inl, inr, nat_le, slice_get, length, List, [], ◌∷◌, ◌++◌, if◌then◌else◌, Option, Some, None, Ok, Err, refl, ap, sym, ◌∙◌, arith}
+use Rattle.std.proofs.Common.{◌≡◌, ℕ, zero, suc, ◌+◌, Bool, true, false, ◌⊎◌, inl, inr, nat_le, length, List, [], ◌∷◌, ◌++◌, if◌then◌else◌, Option, Some, None, Ok, Err, refl, ap, arith}
 use Rattle.std.proofs.lemmas.Bool.{leb-true, le-leb}
 use Rattle.tla_lex.specs.declared.token.Place.{Place}
 use Rattle.tla_lex.specs.declared.token.Token.{Token}
 use Rattle.tla_lex.specs.declared.token.Kind.{Kind}
 use Rattle.tla_lex.specs.declared.token.Kind.TheVariants as k
-use Rattle.tla_lex.specs.Strings.{string_text}
 use Rattle.tla_parse.specs.declared.scope.Scope.{Scope}
-use Rattle.tla_tree.specs.declared.tree.Infix.{Infix}
-use Rattle.tla_tree.specs.declared.tree.Prefix.{Prefix}
-use Rattle.tla_tree.specs.declared.tree.Bullet.{Bullet}
 use Rattle.tla_tree.specs.declared.tree.Brackets.{Brackets}
-use Rattle.tla_tree.specs.declared.tree.Brackets.TheVariants as br
-use Rattle.tla_parse.specs.declared.tokens.Between.{Between}
 use Rattle.tla_parse.specs.declared.tokens.Between.TheVariants as between
-use Rattle.tla_parse.specs.declared.tokens.Postfix.{Postfix}
-use Rattle.tla_parse.specs.declared.tokens.Postfix.TheVariants as form
-use Rattle.tla_tree.specs.declared.tree.Quantifier.{Quantifier}
-use Rattle.tla_tree.specs.Tree.{Tree, Group, Choice, Definition, arms, definitions, no_other, Case, none, Name, Number, Text, Word, At, Listing, Prime, Index, Field, Binary}
-use Rattle.tla_parse.specs.Operators.{high, prefix_high, prefix_of, bullet_of, quantifier_of, constant_of}
-use Rattle.tla_tree.specs.Places.{place}
-use Rattle.tla_parse.specs.Edges.{edge_allows, depth}
-use Rattle.tla_tree.specs.Words.{word_of, written}
+use Rattle.tla_tree.specs.Tree.{Tree, Pattern}
 use Rattle.tla_parse.specs.Tokens.{seen}
 use Rattle.tla_parse.specs.Kinds.{kind_at, closing}
-use Rattle.tla_parse.specs.Grammar.{within}
-use Rattle.tla_parse.specs.Ending.{above, infix_at}
-use Rattle.tla_parse.specs.Outcome.{Outcome, Refused, Nested, ◌>>=◌, need, room, at_op, sequence}
-use Rattle.tla_parse.specs.ReadingLists.{name_at, following, names, exprs, some, listing, call, group, groups, paren}
-use Rattle.tla_parse.specs.Reading.{postfix_at, indexed, behind, postfix, postfixes, turn, climb, junction, quantified, chosen, arm_at, arms_at, cases, operator, function, defined, definition, definitions_at, lets, choice, prefix, by_class, named, operand_by, operand, level, expr}
+use Rattle.tla_parse.specs.Outcome.{Outcome, Nested, ◌>>=◌, need, room, at_op, sequence}
+use Rattle.tla_parse.specs.ReadingLists.{following, exprs, some, listing, call, pattern, single, set_behind, group, one_group, paren}
+use Rattle.tla_parse.specs.Reading.{named}
 
 -- the first was nested too deep, or the second is the same
 abbrev pub Refines : {A : Type 0} → Outcome A → Outcome A → Type 0
@@ -85,10 +70,17 @@ module _ (text : List ℕ) (ts : List Token) where
     unfolding named
     nameds s t at = choices (kind_at k.LeftParen (seen ts s.column (at + 1))) _ _ _ _ (calls s t at) (inr refl)
 
+    sets_behind : (s : Scope) (w : Pattern) (at : ℕ) → Refines (set_behind text ts inner s w at) (set_behind text ts outer s w at)
+    unfolding set_behind
+    sets_behind s w at = needs (kind_at k.Member (seen ts s.column at)) _ _ (bind (inner s 0 (at + 1)) (outer s 0 (at + 1)) _ _ (deeper s 0 (at + 1)) (λ e end. inr refl))
+
     pub group_deeper : (s : Scope) (at : ℕ) → Refines (group text ts inner s at) (group text ts outer s at)
     unfolding group
-    group_deeper s at = bind (names text ts (length ts) [] s.column at) (names text ts (length ts) [] s.column at) _ _ (inr refl) (λ ws after. needs (kind_at k.Member (seen ts s.column after)) _ _
-        (bind (inner s 0 (after + 1)) (outer s 0 (after + 1)) _ _ (deeper s 0 (after + 1)) (λ e end. inr refl)))
+    group_deeper s at = bind (pattern text ts s.column at) (pattern text ts s.column at) (set_behind text ts inner s) (set_behind text ts outer s) (inr refl) (λ w after. sets_behind s w after)
+
+    pub one_group_deeper : (s : Scope) (at : ℕ) → Refines (one_group text ts inner s at) (one_group text ts outer s at)
+    unfolding one_group
+    one_group_deeper s at = bind (single text ts s.column at) (single text ts s.column at) (set_behind text ts inner s) (set_behind text ts outer s) (inr refl) (λ w after. sets_behind s w after)
 
     pub parens : (s : Scope) (p : Place) (at : ℕ) → Refines (paren text ts inner s p at) (paren text ts outer s p at)
     unfolding paren

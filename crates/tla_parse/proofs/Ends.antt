@@ -1,5 +1,5 @@
 -- Where brackets and lists end, and what stands between two ends, whatever follows.
-use Rattle.std.proofs.Common.{◌≡◌, ℕ, zero, suc, ◌+◌, ◌-◌, ◌<◌, ◌≤◌, Bool, true, false, nat_le, ◌⊎◌, inl, inr, take, List, Some, None, Ok, Err, refl, sym, ap, ◌∙◌, arith}
+use Rattle.std.proofs.Common.{◌≡◌, ℕ, zero, suc, ◌+◌, ◌-◌, ◌<◌, Bool, true, false, nat_le, ◌⊎◌, inl, inr, take, List, None, Ok, refl, sym, ◌∙◌, arith}
 use Rattle.std.proofs.lemmas.Bool.{leb-true, leb-false}
 use Rattle.tla_lex.specs.declared.token.Token.{Token}
 use Rattle.tla_lex.specs.declared.token.Kind.TheVariants as k
@@ -12,9 +12,9 @@ use Rattle.tla_parse.specs.Edges.{is_delimited, is_closed, depth}
 use Rattle.tla_tree.specs.Words.{written}
 use Rattle.tla_parse.specs.Tokens.{seen}
 use Rattle.tla_parse.specs.Grammar.{Spells}
-use Rattle.tla_parse.specs.Outcome.{Outcome, ◌>>=◌}
+use Rattle.tla_parse.specs.Outcome.{Outcome}
 use Rattle.tla_parse.specs.ReadingLists.{name_at, some}
-use Rattle.tla_parse.specs.Reading.{postfix_at, indexed, behind, postfix, operand, expr}
+use Rattle.tla_parse.specs.Reading.{postfix_at, indexed, behind, postfix, expr}
 use Rattle.tla_parse.proofs.Inversion.{ok_to, bind_ok, room_ok, at_op_ok}
 use Rattle.tla_parse.proofs.Steps.{postfix_done}
 use Rattle.tla_parse.proofs.Shapes.{tails, top_zero}
@@ -93,10 +93,10 @@ module _ (text : List ℕ) (ts : List Token) where
 module _ (text : List ℕ) (ts : List Token) where
   end_by : (t u : Tree) (s : Scope) (from to end : ℕ) (b : Bool) → nat_le to end ≡ b → is_delimited t ≡ true → is_delimited u ≡ true → Spells text ts s t from to → Spells text ts s u from end → to ≡ end
   end_by t u s from to end true e dt du x y =
-      last_end text (take end ts) t u s from to end dt du (shorter text ts end t s from to (leb-true to end e) x) (shorter text ts end u s from end (omega arith) y) (seen_past ts end s.column)
+      last_end text (take end ts) t u s from to end dt du (shorter text ts end t s from to (leb-true to end e) x) (shorter text ts end u s from end (omega arith) y) (seen_past ts end s.column end (omega arith))
   end_by t u s from to end false e dt du x y =
       let l = leb-false to end e in
-      sym (last_end text (take to ts) u t s from end to du dt (shorter text ts to u s from end (omega (arith, l)) y) (shorter text ts to t s from to (omega arith) x) (seen_past ts to s.column))
+      sym (last_end text (take to ts) u t s from end to du dt (shorter text ts to u s from end (omega (arith, l)) y) (shorter text ts to t s from to (omega arith) x) (seen_past ts to s.column to (omega arith)))
 
   -- A bracket or a junction list has one end.
   pub delimited_end : (t u : Tree) (s : Scope) (from to end : ℕ) → is_delimited t ≡ true → is_delimited u ≡ true → Spells text ts s t from to → Spells text ts s u from end → to ≡ end
@@ -106,7 +106,7 @@ module _ (text : List ℕ) (ts : List Token) where
   pub same_ends : (t u : Tree) (s : Scope) (from to : ℕ) → Spells text ts s t from to → Spells text ts s u from to → t ≡ u
   same_ends t u s from to x y =
       let cut = take to ts in
-      let p = seen_past ts to s.column in
+      let p = seen_past ts to s.column to (omega arith) in
       let ft : Fits text cut s t to = rw p refl in
       let fu : Fits text cut s u to = rw p refl in
       let st : Stops text cut s 0 to = rw p refl in

@@ -1,5 +1,5 @@
 -- The last operand of a product.
-use Rattle.std.proofs.Common.{◌≡◌, ℕ, suc, ◌-◌, true, length, map, slice_get, List, [], ◌∷◌, Some, None, refl, arith}
+use Rattle.std.proofs.Common.{◌≡◌, suc, ◌-◌, true, length, map, slice_get, List, [], ◌∷◌, Some, None, refl, arith}
 use Rattle.tla_tree.specs.declared.tree.Infix.{Infix}
 use Rattle.tla_tree.specs.declared.tree.Expr.{Expr}
 use Rattle.tla_tree.specs.Tree.{trees}

@@ -1,9 +1,9 @@
 -- What a refusal says of a reading, carried on.
-use Rattle.std.proofs.Common.{◌≡◌, ℕ, List, Ok, Err, ap}
+use Rattle.std.proofs.Common.{◌≡◌, ℕ, List, Err, ap}
 use Rattle.tla_lex.specs.declared.token.Token.{Token}
 use Rattle.tla_parse.specs.declared.refusal.Refusal.{Refusal}
 use Rattle.tla_parse.specs.declared.refusal.Refusal.TheVariants as refusal
-use Rattle.tla_parse.specs.Outcome.{Outcome, Refused, Nested, ◌>>=◌}
+use Rattle.tla_parse.specs.Outcome.{Outcome, Refused, ◌>>=◌}
 use Rattle.tla_parse.specs.Gives.{Refuses, Fails}
 
 pub fails_bind : {A B : Type 0} (text : List ℕ) (ts : List Token) (e : Refusal) (r : Outcome A) (f : A → ℕ → Outcome B) → Fails text ts e r → Fails text ts e (r >>= f)

@@ -1,5 +1,5 @@
 -- The first token of an expression.
-use Rattle.std.proofs.Common.{◌≡◌, ℕ, ◌+◌, Bool, true, false, ◌⊎◌, inl, inr, List, Some, None, Option, refl}
+use Rattle.std.proofs.Common.{◌≡◌, ℕ, ◌+◌, Bool, true, false, ◌⊎◌, inl, inr, List, Some, refl}
 use Rattle.tla_lex.specs.declared.token.Token.{Token}
 use Rattle.tla_lex.specs.declared.token.Kind.{Kind}
 use Rattle.tla_lex.specs.declared.token.Kind.TheVariants as k
@@ -11,9 +11,9 @@ use Rattle.tla_tree.specs.declared.tree.Quantifier.{Quantifier}
 use Rattle.tla_tree.specs.declared.tree.Constant.{Constant}
 use Rattle.tla_tree.specs.declared.tree.Brackets.{Brackets}
 use Rattle.tla_tree.specs.declared.tree.Brackets.TheVariants as br
-use Rattle.tla_tree.specs.Tree.{Tree, Name, Number, Text, Word, At, Paren, Listing, Call, Prime, Index, Field, Unary, Binary, Quantified, Choose, If, Case, Let, Junction, Filter, Image, Function, FunctionSet, Record, RecordSet, Except, Action, Fair, Product, Fields, Key, Keys, Updates, no_fields, field, AtIndex, AtField, no_keys, key, no_updates, update, none, more}
+use Rattle.tla_tree.specs.Tree.{Tree, Name, Number, Text, Word, At, Paren, Listing, Call, Prime, Index, Field, Unary, Binary, Quantified, Choose, If, Case, Let, Junction, Filter, Image, Function, FunctionSet, Record, RecordSet, Except, Action, Fair, Product, none, more}
 use Rattle.tla_parse.specs.Operators.{infix_of, prefix_of, bullet_of, quantifier_of, constant_of}
-use Rattle.tla_parse.specs.Tokens.{seen, Has, is_suffix, is_some_infix, goes_on}
+use Rattle.tla_parse.specs.Tokens.{seen, Has, goes_on}
 use Rattle.tla_tree.specs.declared.tree.Step.{Step}
 use Rattle.tla_tree.specs.declared.tree.Step.TheVariants as st
 use Rattle.tla_tree.specs.declared.tree.Fairness.{Fairness}

@@ -1,6 +1,5 @@
 -- What an `Ok` says of the steps that gave it, and what the tests on tokens say.
-use Rattle.std.proofs.Common.{◌≡◌, ℕ, Bool, true, false, ◌&&◌, ◌⊎◌, inl, inr, IsTrue, nat_lt, if◌then◌else◌, slice_get, List, Option, Some, None, Ok, Err, refl, ap, ◌∙◌, sym, subst, eq-eqb, add-one, ◌+◌}
-use Rattle.tla_lex.specs.declared.token.Place.{Place}
+use Rattle.std.proofs.Common.{◌≡◌, ℕ, Bool, true, false, ◌&&◌, ◌⊎◌, inl, inr, IsTrue, nat_lt, if◌then◌else◌, slice_get, List, Option, Some, None, Ok, Err, refl, ap, ◌∙◌, subst, eq-eqb, add-one, ◌+◌}
 use Rattle.tla_lex.specs.declared.token.Token.{Token}
 use Rattle.tla_lex.specs.declared.token.Kind.{Kind}
 use Rattle.tla_lex.specs.declared.token.Kind.TheVariants as k
@@ -11,7 +10,7 @@ use Rattle.tla_tree.specs.declared.tree.Bullet.{Bullet}
 use Rattle.tla_tree.specs.declared.tree.Bullet.TheVariants as b
 use Rattle.tla_parse.specs.Operators.{low, infix_of, bullet_of, same_bullet}
 use Rattle.tla_tree.specs.Words.{written}
-use Rattle.tla_parse.specs.Tokens.{right_of, seen, is_bullet_at, Is, Has, Writes, KindAt, Commas}
+use Rattle.tla_parse.specs.Tokens.{right_of, seen, is_bullet_at, Has, Writes, KindAt, Commas}
 use Rattle.tla_parse.specs.Kinds.{same_kind, kind_at}
 use Rattle.tla_parse.specs.Ending.{above, infix_at}
 use Rattle.tla_parse.specs.Outcome.{Outcome, ◌>>=◌, need, room, at_op}

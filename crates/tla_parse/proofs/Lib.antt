@@ -10,7 +10,6 @@ pub mod Deeper
 pub mod DeeperBrackets
 pub mod DeeperLists
 pub mod Ends
-pub mod Entries
 pub mod Factors
 pub mod Fails
 pub mod First
@@ -21,7 +20,6 @@ pub mod ListsRecords
 pub mod NameLists
 pub mod PartEnds
 pub mod Passes
-pub mod Patterns
 pub mod Roles
 pub mod Sequence
 pub mod Shapes
@@ -35,6 +33,7 @@ pub mod SoundRecords
 pub mod SoundProduct
 pub mod Steps
 pub mod StepsRecords
+pub mod Tuples
 pub mod UnitsComplete
 pub mod UnitsSound
 pub mod UnitsSteps

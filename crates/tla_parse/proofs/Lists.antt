@@ -1,15 +1,15 @@
 -- The lists of the grammar, as sequences of what is read.
-use Rattle.std.proofs.Common.{◌≡◌, ℕ, ◌+◌, ◌-◌, ◌<◌, ◌≤◌, true, false, inl, inr, if◌then◌else◌, not, ◌&&◌, ◌||◌, slice_get, length, List, [], ◌∷◌, ◌++◌, Some, None, refl, ap, sym, ◌∙◌, arith}
+use Rattle.std.proofs.Common.{◌≡◌, ℕ, ◌+◌, ◌≤◌, true, false, inl, inr, not, ◌&&◌, ◌||◌, slice_get, length, List, [], ◌∷◌, Some, None, refl, ap, arith}
 use Rattle.tla_lex.specs.declared.token.Token.{Token}
 use Rattle.tla_lex.specs.declared.token.Kind.{Kind}
 use Rattle.tla_lex.specs.declared.token.Kind.TheVariants as k
 use Rattle.tla_parse.specs.declared.scope.Scope.{Scope}
 use Rattle.tla_parse.specs.declared.tokens.Between.{Between}
 use Rattle.tla_parse.specs.declared.tokens.Between.TheVariants as between
-use Rattle.tla_tree.specs.declared.word.Written.{Written}
 use Rattle.tla_tree.specs.declared.tree.Bullet.{Bullet}
-use Rattle.tla_tree.specs.Tree.{Tree, Trees, Binders, Arms, Other, Definition, Definitions, Group, Choice, trees, binders, arms, definitions, none, more, unbound, bound, no_arms, arm, undefined, defined}
-use Rattle.tla_parse.specs.Tokens.{seen, is_bullet_at, Has, Names}
+use Rattle.tla_tree.specs.Tree.{Tree, Trees, Binders, Arms, Definition, Definitions, Group, Choice, trees, binders, arms, definitions, none, more, unbound, bound, no_arms, arm, undefined, defined}
+use Rattle.tla_parse.specs.Tokens.{seen, is_bullet_at, Has}
+use Rattle.tla_parse.specs.Entries.{Entry}
 use Rattle.tla_parse.specs.Kinds.{kind_at}
 use Rattle.tla_parse.specs.Grammar.{Spells, Items, Listed, Others, Bound, MoreBound, Chosen, MoreChosen, Defines, Defined, is_some, is_defined}
 use Rattle.tla_parse.specs.ReadingLists.{following}
@@ -27,11 +27,11 @@ trees_list (more e es) = ap (λ x. more e x) (trees_list es)
 
 abbrev pub group_list : Binders → List Group
 group_list unbound = []
-group_list (bound ws e bs) = (ws, e) ∷ group_list bs
+group_list (bound w e bs) = (w, e) ∷ group_list bs
 
 pub binders_list : (bs : Binders) → binders (group_list bs) ≡ bs
 binders_list unbound = refl
-binders_list (bound ws e bs) = ap (λ x. bound ws e x) (binders_list bs)
+binders_list (bound w e bs) = ap (λ x. bound w e x) (binders_list bs)
 
 abbrev pub arm_list : Arms → List Choice
 arm_list no_arms = []
@@ -117,7 +117,7 @@ module _ (text : List ℕ) (ts : List Token) where
   Spelled s e from to = Spells text ts s e from to
 
   abbrev pub GroupAt : Scope → Group → ℕ → ℕ → Type 0
-  GroupAt s g from to = (m : ℕ) × Names ts text s.column g.0 from m × Has ts s.column k.Member m × Spells text ts s g.1 (m + 1) to
+  GroupAt s g from to = Entry text ts s.column g.0 (Spells text ts s g.1) from to
 
   pub others_of : (xs : List Tree) (s : Scope) (close : Kind) (from to : ℕ) → Behind (Spelled s) (following ts s.column between.Comma) xs from to → Has ts s.column close to
       → Others text ts s close (trees xs) from (to + 1)
@@ -135,11 +135,11 @@ module _ (text : List ℕ) (ts : List Token) where
   more_bound_of [] s from to x = x.1
   more_bound_of (g ∷ gs) s from to x =
       let c = comma_is s.column from x.0 x.2 in
-      (x.3.0, x.1, c.0, rw (← c.1) x.3.1, x.3.2, x.3.3, more_bound_of gs s x.1 to x.4)
+      (x.1, c.0, rw (← c.1) x.3, more_bound_of gs s x.1 to x.4)
 
   pub bound_of : (gs : List Group) (s : Scope) (from to : ℕ) → Follows (GroupAt s) (following ts s.column between.Comma) gs from to → Bound text ts s (binders gs) from to
   bound_of [] s from to x = absurd x
-  bound_of (g ∷ gs) s from to x = (x.1.0, x.0, x.1.1, x.1.2, x.1.3, more_bound_of gs s x.0 to x.2)
+  bound_of (g ∷ gs) s from to x = (x.0, x.1, more_bound_of gs s x.0 to x.2)
 
   items_behind : (xs : List Tree) (s : Scope) (b : Bullet) (from to : ℕ) → Behind (Spelled s) (following ts s.column (between.Bullet b)) xs from to
       → Items text ts s b (trees xs) from to × (is_bullet_at s.column b (slice_get ts to) ≡ false)

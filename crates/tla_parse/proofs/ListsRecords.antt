@@ -1,12 +1,12 @@
 -- Fields, paths and updates, as sequences of what is read.
-use Rattle.std.proofs.Common.{◌≡◌, ℕ, ◌+◌, ◌-◌, ◌<◌, ◌≤◌, true, false, length, List, [], ◌∷◌, ◌++◌, Some, None, refl, ap, sym, ◌∙◌, arith, IsTrue}
+use Rattle.std.proofs.Common.{◌≡◌, ℕ, ◌+◌, true, List, [], ◌∷◌, refl, ap, arith, IsTrue}
 use Rattle.tla_lex.specs.declared.token.Token.{Token}
 use Rattle.tla_lex.specs.declared.token.Kind.{Kind}
 use Rattle.tla_lex.specs.declared.token.Kind.TheVariants as k
 use Rattle.tla_parse.specs.declared.scope.Scope.{Scope}
 use Rattle.tla_parse.specs.declared.tokens.Between.TheVariants as between
-use Rattle.tla_tree.specs.Tree.{Tree, Fields, Key, Keys, Updates, Entry, Change, fields, keys, updates, no_fields, field, no_keys, key, no_updates, update}
-use Rattle.tla_parse.specs.Tokens.{seen, Has, Writes}
+use Rattle.tla_tree.specs.Tree.{Fields, Key, Keys, Updates, Entry, Change, fields, keys, updates, no_fields, field, no_keys, key, no_updates, update}
+use Rattle.tla_parse.specs.Tokens.{Has, Writes}
 use Rattle.tla_parse.specs.Grammar.{Spells, Fielded, MoreFields, Leads, Selects, Updated, MoreUpdates, is_path, updating}
 use Rattle.tla_parse.specs.ReadingLists.{following}
 use Rattle.tla_parse.proofs.Lists.{comma_is, key_here}

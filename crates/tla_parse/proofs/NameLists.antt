@@ -1,5 +1,5 @@
 -- Names with commas between them: how the reading goes on and stops, and what it says of them.
-use Rattle.std.proofs.Common.{◌≡◌, ℕ, zero, suc, ◌+◌, ◌-◌, ◌<◌, ◌≤◌, true, false, if◌then◌else◌, inl, inr, length, List, [], ◌∷◌, ◌++◌, Some, None, Ok, Err, refl, sym, ◌∙◌, append_assoc, arith, add-one}
+use Rattle.std.proofs.Common.{◌≡◌, ℕ, zero, suc, ◌+◌, ◌-◌, ◌<◌, ◌≤◌, true, false, inl, inr, length, List, [], ◌∷◌, ◌++◌, Some, None, Ok, Err, refl, ◌∙◌, append_assoc, arith, add-one}
 use Rattle.std.proofs.lemmas.Option.{slice_get_within}
 use Rattle.tla_lex.specs.declared.token.Token.{Token}
 use Rattle.tla_lex.specs.declared.token.Kind.TheVariants as k
@@ -7,7 +7,7 @@ use Rattle.tla_tree.specs.declared.word.Written.{Written}
 use Rattle.tla_tree.specs.Words.{written}
 use Rattle.tla_parse.specs.Tokens.{seen, Has, Writes, Names}
 use Rattle.tla_parse.specs.Kinds.{kind_at}
-use Rattle.tla_parse.specs.Outcome.{Outcome, Refused, at_op}
+use Rattle.tla_parse.specs.Outcome.{Refused}
 use Rattle.tla_parse.specs.ReadingLists.{name_at, names}
 use Rattle.tla_parse.proofs.Inversion.{ok_to, at_op_ok, choice_ok, has_kind, has_name, seen_is}
 

@@ -1,5 +1,5 @@
 -- A tree's tokens leave the search for the end of a part as it was.
-use Rattle.std.proofs.Common.{◌≡◌, ℕ, zero, suc, ◌+◌, Bool, true, false, List, [], ◌∷◌, Option, Some, None, drop, slice_get, refl, sym, ap, ◌∙◌, add-one, arith}
+use Rattle.std.proofs.Common.{◌≡◌, ℕ, zero, suc, ◌+◌, true, List, [], ◌∷◌, Some, drop, slice_get, refl, ◌∙◌, add-one, arith}
 use Rattle.tla_lex.specs.declared.token.Token.{Token}
 use Rattle.tla_lex.specs.declared.token.Kind.{Kind}
 use Rattle.tla_lex.specs.declared.token.Kind.TheVariants as k
@@ -7,25 +7,15 @@ use Rattle.tla_parse.specs.declared.scope.Scope.{Scope}
 use Rattle.tla_parse.specs.declared.ahead.Role.{Role}
 use Rattle.tla_parse.specs.declared.ahead.Role.TheVariants as role
 use Rattle.tla_tree.specs.declared.word.Written.{Written}
-use Rattle.tla_tree.specs.declared.tree.Infix.{Infix}
-use Rattle.tla_tree.specs.declared.tree.Prefix.{Prefix}
 use Rattle.tla_tree.specs.declared.tree.Bullet.{Bullet}
-use Rattle.tla_tree.specs.declared.tree.Quantifier.{Quantifier}
-use Rattle.tla_tree.specs.declared.tree.Constant.{Constant}
-use Rattle.tla_tree.specs.declared.tree.Brackets.{Brackets}
-use Rattle.tla_tree.specs.declared.tree.Brackets.TheVariants as br
-use Rattle.tla_tree.specs.declared.tree.Step.{Step}
-use Rattle.tla_tree.specs.declared.tree.Step.TheVariants as st
-use Rattle.tla_tree.specs.declared.tree.Fairness.{Fairness}
-use Rattle.tla_tree.specs.declared.tree.Fairness.TheVariants as fa
-use Rattle.tla_tree.specs.Tree.{Tree, Trees, Binders, Arms, Other, Definition, Definitions, none, more, unbound, bound, no_arms, arm, no_other, other, DefinesOperator, DefinesFunction, undefined, defined, Case, Let, Name, Number, Text, Word, At, Paren, Listing, Call, Prime, Index, Field, Unary, Binary, Quantified, Choose, If, Junction, Filter, Image, Function, FunctionSet, Record, RecordSet, Except, Action, Fair, Product, Fields, Key, Keys, Updates, no_fields, field, AtIndex, AtField, no_keys, key, no_updates, update}
-use Rattle.tla_parse.specs.Operators.{infix_of, prefix_of, bullet_of, quantifier_of, constant_of}
-use Rattle.tla_parse.specs.Tokens.{seen, Has, Writes, Names, is_bullet_at}
+use Rattle.tla_tree.specs.Tree.{Tree, Trees, Pattern, Each, Tuple, Binders, Arms, Other, Definition, Definitions, none, more, unbound, bound, no_arms, arm, no_other, other, DefinesOperator, DefinesFunction, undefined, defined, Case, Let, Name, Number, Text, Word, At, Paren, Listing, Call, Prime, Index, Field, Unary, Binary, Quantified, Choose, If, Junction, Filter, Image, Function, FunctionSet, Record, RecordSet, Except, Action, Fair, Product, Fields, Key, Keys, Updates, no_fields, field, AtIndex, AtField, no_keys, key, no_updates, update}
+use Rattle.tla_parse.specs.Tokens.{Has, Writes, Names}
+use Rattle.tla_parse.specs.Entries.{is_single, Binds}
 use Rattle.tla_parse.specs.Kinds.{opening, closing, step_opening, step_closing, fairness_word}
 use Rattle.tla_parse.specs.Grammar.{Spells, Items, Factors, Listed, Others, Bound, MoreBound, Chosen, MoreChosen, Otherwise, Defines, Defined, Fielded, MoreFields, Leads, Selects, Updated, MoreUpdates, within, updating}
-use Rattle.tla_parse.specs.Ahead.{role_of, behind, onward, ending}
+use Rattle.tla_parse.specs.Ahead.{role_of, behind, ending}
 use Rattle.tla_parse.proofs.Inversion.{seen_is}
-use Rattle.tla_parse.proofs.Roles.{infix_role, prefix_role, bullet_role, quantifier_role, constant_role, opening_role, closing_role, step_opens, step_closes, fairness_role, bullet_token, drop_get}
+use Rattle.tla_parse.proofs.Roles.{infix_role, prefix_role, quantifier_role, constant_role, opening_role, closing_role, step_opens, step_closes, fairness_role, bullet_token, drop_get}
 
 module _ (text : List ℕ) (ts : List Token) where
   -- ---- one token
@@ -69,6 +59,19 @@ module _ (text : List ℕ) (ts : List Token) where
       let p : from + 1 + 1 ≡ from + 2 = omega arith in
       name column from w x.0 d b ∙ separates column (from + 1) k.Comma x.1 refl d b o ∙ stay _ _ _ _ p ∙ (names (v ∷ ws) column (from + 2) to x.2 d b o)
 
+  pattern : (w : Pattern) (column from to : ℕ) → Binds text ts column w from to → (d b : ℕ) → Open d b → ending d b (drop from ts) ≡ ending d b (drop to ts)
+  pattern (Each ws) column from to x d b o = names ws column from to x d b o
+  pattern (Tuple ws) column from to x d b o =
+      rw x.4 (opens column from k.LeftTuple x.1 refl d b ∙ names ws column (from + 1) x.0 x.2 (suc d) b refl ∙ closes column x.0 k.RightTuple x.3 refl d b)
+
+  -- one name or a tuple of names holds no comma of its own part
+  pub single_passes : (w : Pattern) (column from to : ℕ) → is_single w ≡ true → Binds text ts column w from to → (d b : ℕ) → ending d b (drop from ts) ≡ ending d b (drop to ts)
+  single_passes (Each []) column from to h x d b = absurd x
+  single_passes (Each (w ∷ [])) column from to h x d b = rw x.1 (name column from w x.0 d b)
+  single_passes (Each (w ∷ v ∷ ws)) column from to h x d b = absurd (let z : ⊥ = cc in z)
+  single_passes (Tuple ws) column from to h x d b =
+      rw x.4 (opens column from k.LeftTuple x.1 refl d b ∙ names ws column (from + 1) x.0 x.2 (suc d) b refl ∙ closes column x.0 k.RightTuple x.3 refl d b)
+
   -- ---- trees
 
   mutual
@@ -100,17 +103,15 @@ module _ (text : List ℕ) (ts : List Token) where
         moves s.column from x.1 role.Binds (suc d) b (suc d) b (x.2.0, x.2.1, x.2.2) (quantifier_role x.1 q x.3) refl
         ∙ bound_passes bs s (from + 1) x.0 x.4 (suc d) b refl ∙ colon s.column x.0 x.5 d b ∙ passes e s (x.0 + 1) to x.6 (suc d) b
     passes (Choose p w a e) s from to x zero b =
-        let q : from + 1 + 1 ≡ from + 2 = omega arith in
-        let r : from + 2 + 1 ≡ from + 3 = omega arith in
+        let y = x.3 in
         moves s.column from k.Choose role.Binds 0 b 0 (suc b) (x.1.0, x.1.1, x.1.2) refl (rw add-one refl)
-        ∙ name s.column (from + 1) w x.2 0 (suc b) ∙ stay _ _ _ _ q ∙ (plain s.column (from + 2) k.Member x.3 refl 0 (suc b)) ∙ stay _ _ _ _ r ∙ (passes a s (from + 3) x.0 x.4 0 (suc b))
-        ∙ moves s.column x.0 k.Colon role.Colon 0 (suc b) 0 b x.5 refl refl ∙ passes e s (x.0 + 1) to x.6 0 b
+        ∙ pattern w s.column (from + 1) y.0 y.1 0 (suc b) refl ∙ plain s.column y.0 k.Member y.2 refl 0 (suc b) ∙ passes a s (y.0 + 1) x.0 y.3 0 (suc b)
+        ∙ moves s.column x.0 k.Colon role.Colon 0 (suc b) 0 b x.4 refl refl ∙ passes e s (x.0 + 1) to x.5 0 b
     passes (Choose p w a e) s from to x (suc d) b =
-        let q : from + 1 + 1 ≡ from + 2 = omega arith in
-        let r : from + 2 + 1 ≡ from + 3 = omega arith in
+        let y = x.3 in
         moves s.column from k.Choose role.Binds (suc d) b (suc d) b (x.1.0, x.1.1, x.1.2) refl refl
-        ∙ name s.column (from + 1) w x.2 (suc d) b ∙ stay _ _ _ _ q ∙ (plain s.column (from + 2) k.Member x.3 refl (suc d) b) ∙ stay _ _ _ _ r ∙ (passes a s (from + 3) x.0 x.4 (suc d) b)
-        ∙ colon s.column x.0 x.5 d b ∙ passes e s (x.0 + 1) to x.6 (suc d) b
+        ∙ pattern w s.column (from + 1) y.0 y.1 (suc d) b refl ∙ plain s.column y.0 k.Member y.2 refl (suc d) b ∙ passes a s (y.0 + 1) x.0 y.3 (suc d) b
+        ∙ colon s.column x.0 x.4 d b ∙ passes e s (x.0 + 1) to x.5 (suc d) b
     passes (If p a e f) s from to x d b =
         plain s.column from k.If (x.2.0, x.2.1, x.2.2) refl d b ∙ passes a s (from + 1) x.0 x.3 d b ∙ plain s.column x.0 k.Then x.4 refl d b ∙ passes e s (x.0 + 1) x.1 x.5 d b
         ∙ plain s.column x.1 k.Else x.6 refl d b ∙ passes f s (x.1 + 1) to x.7 d b
@@ -119,10 +120,9 @@ module _ (text : List ℕ) (ts : List Token) where
         plain s.column from k.Let (x.1.0, x.1.1, x.1.2) refl d b ∙ all_defined ds s (from + 1) x.0 x.2 d b ∙ plain s.column x.0 k.In x.3 refl d b ∙ passes e s (x.0 + 1) to x.4 d b
     passes (Junction p g es) s from to x d b = items es (within s p.column) g from to x.3 d b
     passes (Filter p w a e) s from to x d b =
-        let q : from + 1 + 1 ≡ from + 2 = omega arith in
-        let r : from + 2 + 1 ≡ from + 3 = omega arith in
-        rw x.9 (opens s.column from k.LeftBrace (x.2.0, x.2.1, x.2.2) refl d b ∙ name s.column (from + 1) w x.3 (suc d) b ∙ stay _ _ _ _ q ∙ (plain s.column (from + 2) k.Member x.4 refl (suc d) b)
-        ∙ stay _ _ _ _ r ∙ (passes a s (from + 3) x.0 x.5 (suc d) b) ∙ colon s.column x.0 x.6 d b ∙ passes e s (x.0 + 1) x.1 x.7 (suc d) b ∙ closes s.column x.1 k.RightBrace x.8 refl d b)
+        let y = x.4 in
+        rw x.8 (opens s.column from k.LeftBrace (x.2.0, x.2.1, x.2.2) refl d b ∙ pattern w s.column (from + 1) y.0 y.1 (suc d) b refl ∙ plain s.column y.0 k.Member y.2 refl (suc d) b
+        ∙ passes a s (y.0 + 1) x.0 y.3 (suc d) b ∙ colon s.column x.0 x.5 d b ∙ passes e s (x.0 + 1) x.1 x.6 (suc d) b ∙ closes s.column x.1 k.RightBrace x.7 refl d b)
     passes (Image p e bs) s from to x d b =
         rw x.8 (opens s.column from k.LeftBrace (x.2.0, x.2.1, x.2.2) refl d b ∙ passes e s (from + 1) x.0 x.4 (suc d) b ∙ colon s.column x.0 x.5 d b
         ∙ bound_passes bs s (x.0 + 1) x.1 x.6 (suc d) b refl ∙ closes s.column x.1 k.RightBrace x.7 refl d b)
@@ -163,13 +163,15 @@ module _ (text : List ℕ) (ts : List Token) where
 
     bound_passes : (bs : Binders) (s : Scope) (from to : ℕ) → Bound text ts s bs from to → (d b : ℕ) → Open d b → ending d b (drop from ts) ≡ ending d b (drop to ts)
     bound_passes unbound s from to x d b o = absurd x
-    bound_passes (bound ws e bs) s from to x d b o =
-        names ws s.column from x.0 x.2 d b o ∙ plain s.column x.0 k.Member x.3 refl d b ∙ passes e s (x.0 + 1) x.1 x.4 d b ∙ more_bound bs s x.1 to x.5 d b o
+    bound_passes (bound w e bs) s from to x d b o =
+        let y = x.1 in
+        pattern w s.column from y.0 y.1 d b o ∙ plain s.column y.0 k.Member y.2 refl d b ∙ passes e s (y.0 + 1) x.0 y.3 d b ∙ more_bound bs s x.0 to x.2 d b o
 
     more_bound : (bs : Binders) (s : Scope) (from to : ℕ) → MoreBound text ts s bs from to → (d b : ℕ) → Open d b → ending d b (drop from ts) ≡ ending d b (drop to ts)
     more_bound unbound s from to x d b o = rw x refl
-    more_bound (bound ws e bs) s from to x d b o =
-        separates s.column from k.Comma x.2 refl d b o ∙ names ws s.column (from + 1) x.0 x.3 d b o ∙ plain s.column x.0 k.Member x.4 refl d b ∙ passes e s (x.0 + 1) x.1 x.5 d b ∙ more_bound bs s x.1 to x.6 d b o
+    more_bound (bound w e bs) s from to x d b o =
+        let y = x.2 in
+        separates s.column from k.Comma x.1 refl d b o ∙ pattern w s.column (from + 1) y.0 y.1 d b o ∙ plain s.column y.0 k.Member y.2 refl d b ∙ passes e s (y.0 + 1) x.0 y.3 d b ∙ more_bound bs s x.0 to x.3 d b o
 
     chosen : (cs : Arms) (s : Scope) (from to : ℕ) → Chosen text ts s cs from to → (d b : ℕ) → ending d b (drop from ts) ≡ ending d b (drop to ts)
     chosen no_arms s from to x d b = absurd x

@@ -1,5 +1,5 @@
 -- The items of a list: how the reading goes on and stops, and what it says of them.
-use Rattle.std.proofs.Common.{◌≡◌, ℕ, zero, suc, ◌+◌, ◌-◌, ◌<◌, ◌≤◌, inl, inr, length, List, [], ◌∷◌, ◌++◌, Option, Some, None, Ok, Err, refl, ap, sym, ◌∙◌, append_assoc, arith, add-one, subst}
+use Rattle.std.proofs.Common.{◌≡◌, ℕ, zero, suc, ◌+◌, ◌-◌, ◌<◌, ◌≤◌, inl, inr, length, List, [], ◌∷◌, ◌++◌, Option, Some, None, Ok, Err, refl, sym, ◌∙◌, append_assoc, arith, add-one, subst}
 use Rattle.tla_lex.specs.declared.token.Token.{Token}
 use Rattle.tla_parse.specs.declared.refusal.Refusal.{Refusal}
 use Rattle.tla_parse.specs.Outcome.{Outcome, Refused, ◌>>=◌, at_op, sequence}

@@ -1,6 +1,6 @@
 -- The left edge of a tree, and that what a tree spells goes forward.
-use Rattle.std.proofs.Common.{◌≡◌, ℕ, ◌+◌, ◌-◌, ◌<◌, ◌≤◌, true, false, not, slice_get, length, List, [], ◌∷◌, arith, refl}
-use Rattle.std.proofs.lemmas.Bool.{ltb-true, lt-ltb}
+use Rattle.std.proofs.Common.{◌≡◌, ℕ, ◌+◌, ◌-◌, ◌<◌, ◌≤◌, true, not, slice_get, length, List, [], ◌∷◌, arith, refl}
+use Rattle.std.proofs.lemmas.Bool.{lt-ltb}
 use Rattle.tla_lex.specs.declared.token.Token.{Token}
 use Rattle.tla_lex.specs.declared.token.Kind.{Kind}
 use Rattle.tla_lex.specs.declared.token.Kind.TheVariants as k
@@ -17,6 +17,7 @@ use Rattle.tla_parse.specs.Grammar.{Fielded, MoreFields, Leads, Selects, Updated
 use Rattle.tla_parse.proofs.Inversion.{and_true, first_bullet}
 use Rattle.tla_parse.proofs.Steps.{bullet_within}
 use Rattle.tla_parse.proofs.NameLists.{names_fit, seen_within}
+use Rattle.tla_parse.proofs.Tuples.{pattern_rise}
 use Rattle.tla_parse.proofs.Follow.{low_some, yields_low, not_true}
 
 -- how many infix forms lie on the left edge
@@ -89,7 +90,11 @@ module _ (text : List ℕ) (ts : List Token) where
     advances (Unary p op e) s from to x = let h = advances e s (from + 1) to x.3 in omega (arith, h)
     advances (Binary p op w l r) s from to x = let h = advances l s from x.0 x.2 in let g = advances r s (x.0 + 1) to x.5 in omega (arith, h, g)
     advances (Quantified p q bs b) s from to x = let h = bound_advance bs s (from + 1) x.0 x.4 in let g = advances b s (x.0 + 1) to x.6 in omega (arith, h, g)
-    advances (Choose p w a b) s from to x = let h = advances a s (from + 3) x.0 x.4 in let g = advances b s (x.0 + 1) to x.6 in omega (arith, h, g)
+    advances (Choose p w a b) s from to x =
+        let y = x.3 in
+        let f = pattern_rise text ts w s.column (from + 1) y.0 y.1 in
+        let h = advances a s (y.0 + 1) x.0 y.3 in
+        let g = advances b s (x.0 + 1) to x.5 in omega (arith, f, h, g)
     advances (If p a b e) s from to x = let h = advances a s (from + 1) x.0 x.3 in let g = advances b s (x.0 + 1) x.1 x.5 in let f = advances e s (x.1 + 1) to x.7 in omega (arith, h, g, f)
     advances (Case p cs o) s from to x = let h = chosen_advance cs s (from + 1) x.0 x.2 in let g = otherwise_rise o s x.0 to x.3 in omega (arith, h, g)
     advances (Let p ds e) s from to x = let h = defined_rise ds s (from + 1) x.0 x.2 in let g = advances e s (x.0 + 1) to x.4 in omega (arith, h, g)
@@ -98,7 +103,11 @@ module _ (text : List ℕ) (ts : List Token) where
         let f = first_bullet ts s.column from t b x.1.1 (rw x.1.2 x.2) in
         let g : is_bullet_at p.column b (slice_get ts from) ≡ true = rw (← x.1.3) f in
         items_advance es (within s p.column) b from to x.3 (starts es (within s p.column) b from to x.3 g (and_true (not (is_bullet_at p.column b (slice_get ts to))) (may_follow p.column (slice_get ts to)) x.4).0)
-    advances (Filter p w b e) s from to x = let h = advances b s (from + 3) x.0 x.5 in let g = advances e s (x.0 + 1) x.1 x.7 in omega (arith, h, g, x.9)
+    advances (Filter p w b e) s from to x =
+        let y = x.4 in
+        let f = pattern_rise text ts w s.column (from + 1) y.0 y.1 in
+        let h = advances b s (y.0 + 1) x.0 y.3 in
+        let g = advances e s (x.0 + 1) x.1 x.6 in omega (arith, f, h, g, x.8)
     advances (Image p e bs) s from to x = let h = advances e s (from + 1) x.0 x.4 in let g = bound_advance bs s (x.0 + 1) x.1 x.6 in omega (arith, h, g, x.8)
     advances (Function p bs e) s from to x = let h = bound_advance bs s (from + 1) x.0 x.3 in let g = advances e s (x.0 + 1) x.1 x.5 in omega (arith, h, g, x.7)
     advances (FunctionSet p a b) s from to x = let h = advances a s (from + 1) x.0 x.3 in let g = advances b s (x.0 + 1) x.1 x.5 in omega (arith, h, g, x.7)
@@ -161,17 +170,19 @@ module _ (text : List ℕ) (ts : List Token) where
 
     pub bound_advance : (bs : Binders) (s : Scope) (from to : ℕ) → Bound text ts s bs from to → from < to
     bound_advance unbound s from to x = absurd x
-    bound_advance (bound ws e bs) s from to x =
-        let n = names_fit text ts ws s.column from x.0 x.2 in
-        let g = advances e s (x.0 + 1) x.1 x.4 in
-        let r = bound_rise bs s x.1 to x.5 in omega (arith, n, g, r)
+    bound_advance (bound w e bs) s from to x =
+        let y = x.1 in
+        let n = pattern_rise text ts w s.column from y.0 y.1 in
+        let g = advances e s (y.0 + 1) x.0 y.3 in
+        let r = bound_rise bs s x.0 to x.2 in omega (arith, n, g, r)
 
     pub bound_rise : (bs : Binders) (s : Scope) (from to : ℕ) → MoreBound text ts s bs from to → from ≤ to
     bound_rise unbound s from to x = omega (arith, x)
-    bound_rise (bound ws e bs) s from to x =
-        let n = names_fit text ts ws s.column (from + 1) x.0 x.3 in
-        let g = advances e s (x.0 + 1) x.1 x.5 in
-        let r = bound_rise bs s x.1 to x.6 in omega (arith, n, g, r)
+    bound_rise (bound w e bs) s from to x =
+        let y = x.2 in
+        let n = pattern_rise text ts w s.column (from + 1) y.0 y.1 in
+        let g = advances e s (y.0 + 1) x.0 y.3 in
+        let r = bound_rise bs s x.0 to x.3 in omega (arith, n, g, r)
 
     pub chosen_advance : (cs : Arms) (s : Scope) (from to : ℕ) → Chosen text ts s cs from to → from < to
     chosen_advance no_arms s from to x = absurd x

@@ -1,5 +1,5 @@
 -- What a tree spells it spells too where the tokens behind it are cut off.
-use Rattle.std.proofs.Common.{◌≡◌, ℕ, zero, suc, ◌+◌, ◌<◌, ◌≤◌, Bool, true, false, not, ◌&&◌, IsTrue, nat_lt, slice_get, take, List, [], ◌∷◌, None, refl, ap, ◌∙◌, arith}
+use Rattle.std.proofs.Common.{◌≡◌, ℕ, zero, suc, ◌+◌, ◌<◌, ◌≤◌, Bool, true, false, not, ◌&&◌, IsTrue, nat_lt, slice_get, take, List, [], ◌∷◌, Some, None, refl, ap, sym, ◌∙◌, arith}
 use Rattle.std.proofs.lemmas.Bool.{ltb-true, ltb-false}
 use Rattle.tla_lex.specs.declared.token.Place.{Place}
 use Rattle.tla_lex.specs.declared.token.Token.{Token}
@@ -8,12 +8,14 @@ use Rattle.tla_lex.specs.declared.token.Kind.TheVariants as k
 use Rattle.tla_parse.specs.declared.scope.Scope.{Scope}
 use Rattle.tla_tree.specs.declared.tree.Bullet.{Bullet}
 use Rattle.tla_tree.specs.declared.word.Written.{Written}
-use Rattle.tla_tree.specs.Tree.{Tree, Trees, Binders, Arms, Other, Definition, Definitions, none, more, unbound, bound, no_arms, arm, no_other, other, DefinesOperator, DefinesFunction, undefined, defined, Case, Let, Name, Number, Text, Word, At, Paren, Listing, Call, Prime, Index, Field, Unary, Binary, Quantified, Choose, If, Junction, Filter, Image, Function, FunctionSet, Record, RecordSet, Except, Action, Fair, Product, Fields, Key, Keys, Updates, no_fields, field, AtIndex, AtField, no_keys, key, no_updates, update}
-use Rattle.tla_parse.specs.Kinds.{kind_at, closing, binds, step_opening, step_closing, fairness_word}
+use Rattle.tla_tree.specs.Tree.{Tree, Trees, Pattern, Each, Tuple, Binders, Arms, Other, Definition, Definitions, none, more, unbound, bound, no_arms, arm, no_other, other, DefinesOperator, DefinesFunction, undefined, defined, Case, Let, Name, Number, Text, Word, At, Paren, Listing, Call, Prime, Index, Field, Unary, Binary, Quantified, Choose, If, Junction, Filter, Image, Function, FunctionSet, Record, RecordSet, Except, Action, Fair, Product, Fields, Key, Keys, Updates, no_fields, field, AtIndex, AtField, no_keys, key, no_updates, update}
+use Rattle.tla_parse.specs.Kinds.{kind_at, closing, step_opening, step_closing, fairness_word}
+use Rattle.tla_parse.specs.Entries.{Binds, BeginsEntry}
 use Rattle.tla_parse.specs.Tokens.{right_of, seen, is_bullet_at, may_follow, Has, Is, Writes, Names}
 use Rattle.tla_parse.specs.Grammar.{Spells, Items, Listed, Others, Bound, MoreBound, Chosen, MoreChosen, Otherwise, Defines, Defined, Fielded, MoreFields, Leads, Selects, Updated, MoreUpdates, within, updating, Factors}
 use Rattle.tla_parse.proofs.NameLists.{names_fit}
-use Rattle.tla_parse.proofs.Shapes.{advances, items_rise, listed_advance, others_advance, bound_advance, bound_rise, chosen_advance, chosen_rise, otherwise_rise, defines_advance, defined_rise, fielded_advance, more_fields_rise, selects_advance, leads_rise, updated_advance, more_updates_rise, factors_rise}
+use Rattle.tla_parse.proofs.Tuples.{pattern_rise}
+use Rattle.tla_parse.proofs.Shapes.{advances, items_rise, listed_advance, others_advance, bound_advance, bound_rise, chosen_advance, chosen_rise, otherwise_rise, defined_rise, fielded_advance, more_fields_rise, leads_rise, updated_advance, more_updates_rise, factors_rise}
 
 cut_within : {X : Type 0} (m : ℕ) (xs : List X) (i : ℕ) → i < m → slice_get (take m xs) i ≡ slice_get xs i
 cut_within zero xs i h = absurd (omega (arith, h))
@@ -21,14 +23,16 @@ cut_within (suc m) [] i h = refl
 cut_within (suc m) (x ∷ xs) zero h = refl
 cut_within (suc m) (x ∷ xs) (suc i) h = cut_within m xs i (omega (arith, h))
 
-cut_past : {X : Type 0} (m : ℕ) (xs : List X) → slice_get (take m xs) m ≡ None
-cut_past zero [] = refl
-cut_past zero (x ∷ xs) = refl
-cut_past (suc m) [] = refl
-cut_past (suc m) (x ∷ xs) = cut_past m xs
+cut_beyond : {X : Type 0} (m : ℕ) (xs : List X) (i : ℕ) → m ≤ i → slice_get (take m xs) i ≡ None
+cut_beyond zero [] i h = refl
+cut_beyond zero (x ∷ xs) i h = refl
+cut_beyond (suc m) [] i h = refl
+cut_beyond (suc m) (x ∷ xs) zero h = absurd (omega (arith, h))
+cut_beyond (suc m) (x ∷ xs) (suc i) h = cut_beyond m xs i (omega (arith, h))
 
-pub seen_past : (ts : List Token) (m column : ℕ) → seen (take m ts) column m ≡ None
-seen_past ts m column = rw (cut_past m ts) refl
+-- behind the cut no token is left
+pub seen_past : (ts : List Token) (m column at : ℕ) → m ≤ at → seen (take m ts) column at ≡ None
+seen_past ts m column at l = rw (cut_beyond m ts at l) refl
 
 module _ (text : List ℕ) (ts : List Token) (m : ℕ) where
   seen_cut : (column at : ℕ) → at < m → seen (take m ts) column at ≡ seen ts column at
@@ -53,18 +57,44 @@ module _ (text : List ℕ) (ts : List Token) (m : ℕ) where
   bullet_cut : (column : ℕ) (b : Bullet) (at : ℕ) → at < m → IsTrue (is_bullet_at column b (slice_get ts at)) → IsTrue (is_bullet_at column b (slice_get (take m ts) at))
   bullet_cut column b at l x = rw (cut_within m ts at l) x
 
-  unbound_cut : (column at : ℕ) → at + 1 < m → IsTrue (not (binds ts column at)) → IsTrue (not (binds (take m ts) column at))
-  unbound_cut column at l x = rw (seen_cut column at (omega (arith, l)), seen_cut column (at + 1) l) x
+  pattern_cut : (w : Pattern) (column from to : ℕ) → to ≤ m → Binds text ts column w from to → Binds text (take m ts) column w from to
+  pattern_cut (Each ws) column from to l x = names_cut ws column from to l x
+  pattern_cut (Tuple ws) column from to l x =
+      let h = names_fit text ts ws column (from + 1) x.0 x.2 in
+      (x.0, has_cut column k.LeftTuple from (omega (arith, l, h, x.4)) x.1, names_cut ws column (from + 1) x.0 (omega (arith, l, x.4)) x.2, has_cut column k.RightTuple x.0 (omega (arith, l, x.4)) x.3, x.4)
+
+  -- what the tokens that are left are, they are among all
+  seen_back : (column at : ℕ) (t : Token) → seen (take m ts) column at ≡ Some t → seen ts column at ≡ Some t
+  seen_back column at t h = by (nat_lt at m) refl
+    where
+      by : (b : Bool) → nat_lt at m ≡ b → seen ts column at ≡ Some t
+      by true e = sym (seen_cut column at (ltb-true at m e)) ∙ h
+      by false e = absurd (let n = seen_past ts m column at (ltb-false at m e) in let z : ⊥ = cc in z)
+
+  has_back : (column : ℕ) (kind : Kind) (at : ℕ) → Has (take m ts) column kind at → Has ts column kind at
+  has_back column kind at x = (x.0, seen_back column at x.0 x.1, x.2)
+
+  names_back : (ws : List Written) (column from to : ℕ) → Names (take m ts) text column ws from to → Names ts text column ws from to
+  names_back [] column from to x = x
+  names_back (w ∷ []) column from to x = ((x.0.0, seen_back column from x.0.0 x.0.1, x.0.2, x.0.3), x.1)
+  names_back (w ∷ v ∷ ws) column from to x = ((x.0.0, seen_back column from x.0.0 x.0.1, x.0.2, x.0.3), has_back column k.Comma (from + 1) x.1, names_back (v ∷ ws) column (from + 2) to x.2)
+
+  pattern_back : (w : Pattern) (column from to : ℕ) → Binds text (take m ts) column w from to → Binds text ts column w from to
+  pattern_back (Each ws) column from to x = names_back ws column from to x
+  pattern_back (Tuple ws) column from to x = (x.0, has_back column k.LeftTuple from x.1, names_back ws column (from + 1) x.0 x.2, has_back column k.RightTuple x.0 x.3, x.4)
+
+  no_entry_cut : (column at : ℕ) → (BeginsEntry text ts column at → ⊥) → BeginsEntry text (take m ts) column at → ⊥
+  no_entry_cut column at f x = f (x.0, x.1, x.2, pattern_back x.0 column at x.1 x.3, has_back column k.Member x.1 x.4)
 
   -- what stands behind a list, or an arm of CASE
   follow_by : (column : ℕ) (b : Bullet) (to : ℕ) (t : Bool) → nat_lt to m ≡ t → to ≤ m
       → IsTrue (not (is_bullet_at column b (slice_get ts to)) && may_follow column (slice_get ts to)) → IsTrue (not (is_bullet_at column b (slice_get (take m ts) to)) && may_follow column (slice_get (take m ts) to))
   follow_by column b to true e l x = rw (cut_within m ts to (ltb-true to m e)) x
-  follow_by column b to false e l x = let g = ltb-false to m e in let same : to ≡ m = omega (arith, g, l) in rw (same, cut_past m ts) refl
+  follow_by column b to false e l x = rw (cut_beyond m ts to (ltb-false to m e)) refl
 
   last_by : (column to : ℕ) (t : Bool) → nat_lt to m ≡ t → to ≤ m → IsTrue (not (kind_at k.Box (seen ts column to))) → IsTrue (not (kind_at k.Box (seen (take m ts) column to)))
   last_by column to true e l x = rw (cut_within m ts to (ltb-true to m e)) x
-  last_by column to false e l x = let g = ltb-false to m e in let same : to ≡ m = omega (arith, g, l) in rw (same, cut_past m ts) refl
+  last_by column to false e l x = rw (cut_beyond m ts to (ltb-false to m e)) refl
 
   mutual
     pub shorter : (t : Tree) (s : Scope) (from to : ℕ) → to ≤ m → Spells text ts s t from to → Spells text (take m ts) s t from to
@@ -99,15 +129,16 @@ module _ (text : List ℕ) (ts : List Token) (m : ℕ) where
         let h = advances text ts e s (x.0 + 1) to x.6 in
         (x.0, x.1, is_cut s.column x.1 p from (omega (arith, l, g, h)) x.2, x.3, bound_cut bs s (from + 1) x.0 (omega (arith, l, h)) x.4, has_cut s.column k.Colon x.0 (omega (arith, l, h)) x.5, shorter e s (x.0 + 1) to l x.6)
     shorter (Choose p w b e) s from to l x =
-        let g = advances text ts b s (from + 3) x.0 x.4 in
-        let h = advances text ts e s (x.0 + 1) to x.6 in (
+        let y = x.3 in
+        let f = pattern_rise text ts w s.column (from + 1) y.0 y.1 in
+        let g = advances text ts b s (y.0 + 1) x.0 y.3 in
+        let h = advances text ts e s (x.0 + 1) to x.5 in (
           x.0,
-          is_cut s.column k.Choose p from (omega (arith, l, g, h)) x.1,
-          writes_cut s.column k.Name w (from + 1) (omega (arith, l, g, h)) x.2,
-          has_cut s.column k.Member (from + 2) (omega (arith, l, g, h)) x.3,
-          shorter b s (from + 3) x.0 (omega (arith, l, h)) x.4,
-          has_cut s.column k.Colon x.0 (omega (arith, l, h)) x.5,
-          shorter e s (x.0 + 1) to l x.6,
+          is_cut s.column k.Choose p from (omega (arith, l, f, g, h)) x.1,
+          x.2,
+          (y.0, pattern_cut w s.column (from + 1) y.0 (omega (arith, l, g, h)) y.1, has_cut s.column k.Member y.0 (omega (arith, l, g, h)) y.2, shorter b s (y.0 + 1) x.0 (omega (arith, l, h)) y.3),
+          has_cut s.column k.Colon x.0 (omega (arith, l, h)) x.4,
+          shorter e s (x.0 + 1) to l x.5,
         )
     shorter (If p a b e) s from to l x =
         let f = advances text ts a s (from + 1) x.0 x.3 in
@@ -134,18 +165,19 @@ module _ (text : List ℕ) (ts : List Token) (m : ℕ) where
         let h = advances text ts (Junction p b es) s from to x in
         (x.0, is_cut s.column x.0 p from (omega (arith, l, h)) x.1, x.2, items_cut es (within s p.column) b from to l x.3, follow_by p.column b to (nat_lt to m) refl l x.4)
     shorter (Filter p w b e) s from to l x =
-        let g = advances text ts b s (from + 3) x.0 x.5 in
-        let h = advances text ts e s (x.0 + 1) x.1 x.7 in
-        let r = x.9 in (
+        let y = x.4 in
+        let f = pattern_rise text ts w s.column (from + 1) y.0 y.1 in
+        let g = advances text ts b s (y.0 + 1) x.0 y.3 in
+        let h = advances text ts e s (x.0 + 1) x.1 x.6 in
+        let r = x.8 in (
           x.0,
           x.1,
-          is_cut s.column k.LeftBrace p from (omega (arith, l, g, h, r)) x.2,
-          writes_cut s.column k.Name w (from + 1) (omega (arith, l, g, h, r)) x.3,
-          has_cut s.column k.Member (from + 2) (omega (arith, l, g, h, r)) x.4,
-          shorter b s (from + 3) x.0 (omega (arith, l, h, r)) x.5,
-          has_cut s.column k.Colon x.0 (omega (arith, l, h, r)) x.6,
-          shorter e s (x.0 + 1) x.1 (omega (arith, l, r)) x.7,
-          has_cut s.column k.RightBrace x.1 (omega (arith, l, r)) x.8,
+          is_cut s.column k.LeftBrace p from (omega (arith, l, f, g, h, r)) x.2,
+          x.3,
+          (y.0, pattern_cut w s.column (from + 1) y.0 (omega (arith, l, g, h, r)) y.1, has_cut s.column k.Member y.0 (omega (arith, l, g, h, r)) y.2, shorter b s (y.0 + 1) x.0 (omega (arith, l, h, r)) y.3),
+          has_cut s.column k.Colon x.0 (omega (arith, l, h, r)) x.5,
+          shorter e s (x.0 + 1) x.1 (omega (arith, l, r)) x.6,
+          has_cut s.column k.RightBrace x.1 (omega (arith, l, r)) x.7,
           r,
         )
     shorter (Image p e bs) s from to l x =
@@ -155,7 +187,7 @@ module _ (text : List ℕ) (ts : List Token) (m : ℕ) where
           x.0,
           x.1,
           is_cut s.column k.LeftBrace p from (omega (arith, l, g, h, r)) x.2,
-          unbound_cut s.column (from + 1) (omega (arith, l, g, h, r)) x.3,
+          no_entry_cut s.column (from + 1) x.3,
           shorter e s (from + 1) x.0 (omega (arith, l, h, r)) x.4,
           has_cut s.column k.Colon x.0 (omega (arith, l, h, r)) x.5,
           bound_cut bs s (x.0 + 1) x.1 (omega (arith, l, r)) x.6,
@@ -317,24 +349,23 @@ module _ (text : List ℕ) (ts : List Token) (m : ℕ) where
 
     pub bound_cut : (bs : Binders) (s : Scope) (from to : ℕ) → to ≤ m → Bound text ts s bs from to → Bound text (take m ts) s bs from to
     bound_cut unbound s from to l x = x
-    bound_cut (bound ws e bs) s from to l x =
-        let g = advances text ts e s (x.0 + 1) x.1 x.4 in
-        let h = bound_rise text ts bs s x.1 to x.5 in
-        (x.0, x.1, names_cut ws s.column from x.0 (omega (arith, l, g, h)) x.2, has_cut s.column k.Member x.0 (omega (arith, l, g, h)) x.3, shorter e s (x.0 + 1) x.1 (omega (arith, l, h)) x.4, more_bound_cut bs s x.1 to l x.5)
+    bound_cut (bound w e bs) s from to l x =
+        let y = x.1 in
+        let g = advances text ts e s (y.0 + 1) x.0 y.3 in
+        let h = bound_rise text ts bs s x.0 to x.2 in
+        (x.0, (y.0, pattern_cut w s.column from y.0 (omega (arith, l, g, h)) y.1, has_cut s.column k.Member y.0 (omega (arith, l, g, h)) y.2, shorter e s (y.0 + 1) x.0 (omega (arith, l, h)) y.3), more_bound_cut bs s x.0 to l x.2)
 
     more_bound_cut : (bs : Binders) (s : Scope) (from to : ℕ) → to ≤ m → MoreBound text ts s bs from to → MoreBound text (take m ts) s bs from to
     more_bound_cut unbound s from to l x = x
-    more_bound_cut (bound ws e bs) s from to l x =
-        let f = names_fit text ts ws s.column (from + 1) x.0 x.3 in
-        let g = advances text ts e s (x.0 + 1) x.1 x.5 in
-        let h = bound_rise text ts bs s x.1 to x.6 in (
+    more_bound_cut (bound w e bs) s from to l x =
+        let y = x.2 in
+        let f = pattern_rise text ts w s.column (from + 1) y.0 y.1 in
+        let g = advances text ts e s (y.0 + 1) x.0 y.3 in
+        let h = bound_rise text ts bs s x.0 to x.3 in (
           x.0,
-          x.1,
-          has_cut s.column k.Comma from (omega (arith, l, f, g, h)) x.2,
-          names_cut ws s.column (from + 1) x.0 (omega (arith, l, g, h)) x.3,
-          has_cut s.column k.Member x.0 (omega (arith, l, g, h)) x.4,
-          shorter e s (x.0 + 1) x.1 (omega (arith, l, h)) x.5,
-          more_bound_cut bs s x.1 to l x.6,
+          has_cut s.column k.Comma from (omega (arith, l, f, g, h)) x.1,
+          (y.0, pattern_cut w s.column (from + 1) y.0 (omega (arith, l, g, h)) y.1, has_cut s.column k.Member y.0 (omega (arith, l, g, h)) y.2, shorter e s (y.0 + 1) x.0 (omega (arith, l, h)) y.3),
+          more_bound_cut bs s x.0 to l x.3,
         )
 
     chosen_cut : (cs : Arms) (s : Scope) (from to : ℕ) → to ≤ m → Chosen text ts s cs from to → Chosen text (take m ts) s cs from to

@@ -1,5 +1,5 @@
 -- Slices that are cut where the text ends.
-use Rattle.std.proofs.Common.{◌≡◌, ℕ, ◌-◌, ◌<◌, ◌≤◌, min, inl, inr, List, [], length, take, drop, ap, sym, ◌∙◌, refl, arith}
+use Rattle.std.proofs.Common.{◌≡◌, ℕ, min, inl, inr, List, [], length, take, drop, ap, sym, ◌∙◌, refl, arith}
 use Rattle.tla_lex.specs.Strings.{string_text, unescaped}
 use Rattle.std.proofs.Math.ListN.{drop_of_length-le}
 use Rattle.std.proofs.lemmas.List.{take_all}

@@ -1,40 +1,33 @@
 -- What is read is spelled so.
-use Rattle.std.proofs.Common.{◌≡◌, ℕ, zero, suc, ◌+◌, ◌-◌, true, false, not, ◌&&◌, inl, inr, IsTrue, nat_lt, slice_get, length, List, [], ◌∷◌, ◌++◌, Some, Ok, Err, refl, ap, sym, ◌∙◌, subst, arith}
-use Rattle.tla_lex.specs.declared.token.Place.{Place}
+use Rattle.std.proofs.Common.{◌≡◌, ℕ, zero, suc, ◌+◌, true, not, ◌&&◌, inl, inr, IsTrue, nat_lt, slice_get, length, List, [], Some, Ok, Err, refl}
 use Rattle.tla_lex.specs.declared.token.Token.{Token}
 use Rattle.tla_lex.specs.declared.token.Kind.{Kind}
 use Rattle.tla_lex.specs.declared.token.Kind.TheVariants as k
 use Rattle.tla_lex.specs.Strings.{string_text}
 use Rattle.tla_parse.specs.declared.scope.Scope.{Scope}
-use Rattle.tla_tree.specs.declared.word.Written.{Written}
 use Rattle.tla_tree.specs.declared.tree.Infix.{Infix}
 use Rattle.tla_tree.specs.declared.tree.Prefix.{Prefix}
 use Rattle.tla_tree.specs.declared.tree.Bullet.{Bullet}
-use Rattle.tla_tree.specs.declared.tree.Brackets.{Brackets}
-use Rattle.tla_tree.specs.declared.tree.Brackets.TheVariants as b
 use Rattle.tla_parse.specs.declared.tokens.Between.TheVariants as between
-use Rattle.tla_parse.specs.declared.tokens.Postfix.{Postfix}
-use Rattle.tla_parse.specs.declared.tokens.Postfix.TheVariants as form
 use Rattle.tla_tree.specs.declared.tree.Quantifier.{Quantifier}
-use Rattle.tla_tree.specs.Tree.{Tree, Trees, Group, none, trees, binders, Name, Number, Text, Word, At, Paren, Listing, Call, Prime, Index, Field, Unary, Binary, Quantified, Choose, If, Junction}
+use Rattle.tla_tree.specs.Tree.{Tree, trees, binders, Number, Text, Word, At, Unary, Binary, Quantified, Choose, If, Junction}
 use Rattle.tla_parse.specs.Operators.{low, high, prefix_high, is_product, infix_of, prefix_of, bullet_of, quantifier_of, constant_of}
 use Rattle.tla_tree.specs.Places.{place}
-use Rattle.tla_parse.specs.Edges.{edge_allows, top_above, is_closed, depth}
+use Rattle.tla_parse.specs.Edges.{edge_allows}
 use Rattle.tla_tree.specs.Words.{word_of, written}
-use Rattle.tla_parse.specs.Tokens.{seen, is_bullet_at, may_follow, Is, Has, Writes}
-use Rattle.tla_parse.specs.Kinds.{kind_at, opening, closing}
-use Rattle.tla_parse.specs.Grammar.{Spells, Items, Listed, is_some, within}
+use Rattle.tla_parse.specs.Tokens.{seen, is_bullet_at, may_follow}
+use Rattle.tla_parse.specs.Kinds.{kind_at}
+use Rattle.tla_parse.specs.Grammar.{Spells, Items, within}
 use Rattle.tla_parse.specs.Ending.{above, infix_at}
-use Rattle.tla_parse.specs.Outcome.{Outcome, Refused, ◌>>=◌, need, room, at_op, sequence}
-use Rattle.tla_parse.specs.ReadingLists.{name_at, following, names, exprs, some, listing, call, group, groups, paren}
-use Rattle.tla_parse.specs.Reading.{postfix_at, indexed, behind, postfix, postfixes, turn, climb, junction, quantified, chosen, choice, prefix, by_class, named, operand_by, operand, level, expr, product}
-use Rattle.tla_parse.proofs.Inversion.{ok_to, bind_ok, need_ok, room_ok, at_op_ok, choice_ok, has_kind, has_name, has_infix, postfix_kind, has_postfix, first_bullet}
-use Rattle.tla_parse.proofs.NameLists.{names_sound}
+use Rattle.tla_parse.specs.Outcome.{Outcome, Refused}
+use Rattle.tla_parse.specs.ReadingLists.{following, exprs, group, one_group, groups, paren}
+use Rattle.tla_parse.specs.Reading.{postfixes, turn, climb, junction, quantified, chosen, choice, prefix, by_class, named, operand_by, operand, level, expr, product}
+use Rattle.tla_parse.proofs.Inversion.{ok_to, bind_ok, need_ok, room_ok, at_op_ok, choice_ok, has_kind, has_infix, first_bullet}
 use Rattle.tla_parse.proofs.Sequence.{sequence_sound}
-use Rattle.tla_parse.proofs.Lists.{Spelled, GroupAt, listed_of, bound_of, items_of}
+use Rattle.tla_parse.proofs.Lists.{Spelled, GroupAt, bound_of, items_of}
 use Rattle.tla_tree.specs.declared.tree.Fairness.TheVariants as fa
 use Rattle.tla_parse.specs.ReadingBrackets.{fair, brace, tuple, bracket}
-use Rattle.tla_parse.proofs.SoundParts.{Closed, Good, Whole, group_sound, paren_sound, named_sound, postfixes_sound}
+use Rattle.tla_parse.proofs.SoundParts.{Closed, Good, Whole, group_sound, one_group_sound, paren_sound, named_sound, postfixes_sound}
 use Rattle.tla_parse.proofs.SoundBrackets.{fair_sound, brace_sound, tuple_sound, bracket_sound}
 use Rattle.tla_parse.proofs.SoundProduct.{product_op, product_kind, product_sound}
 use Rattle.tla_parse.proofs.SoundCase.{cases_sound, lets_sound}
@@ -66,26 +59,13 @@ module _ (text : List ℕ) (ts : List Token) where
     chosen_sound : (s : Scope) (t : Token) (at : ℕ) (z : Tree × ℕ) → seen ts s.column at ≡ Some t → t.kind ≡ k.Choose
         → chosen text ts inner s t.place at ≡ Ok z → Whole text ts s at z
     unfolding chosen
-    chosen_sound s t at z i e h floor = elim (at_op_ok (name_at (seen ts s.column (at + 1))) (Err Refused) _ z h) [
-      | inl w ↦ absurd (let z : ⊥ = cc in z)
-      | inr w ↦
-          let a = need_ok _ _ z w.2 in
-          let x = bind_ok (inner s 0 (at + 3)) _ z a.1 in
-          let b = need_ok _ _ z x.3 in
-          let y = bind_ok (inner s 0 (x.1 + 1)) _ z b.1 in
-          ok_to (Choose t.place (written text w.0) x.0 y.0, y.1) z y.3 (Good text ts s floor at) (
-            (
-              x.1,
-              (t, i, e, refl),
-              has_name ts text s.column (at + 1) w.0 w.1,
-              has_kind ts s.column (at + 2) k.Member a.0,
-              (good s 0 (at + 3) (x.0, x.1) x.2).0,
-              has_kind ts s.column x.1 k.Colon b.0,
-              (good s 0 (x.1 + 1) (y.0, y.1) y.2).0,
-            ),
-            refl,
-          )
-    ]
+    chosen_sound s t at z i e h floor =
+        let x = bind_ok (one_group text ts inner s (at + 1)) _ z h in
+        let g = one_group_sound text ts inner good s (at + 1) x.0 x.1 x.2 in
+        let b = need_ok _ _ z x.3 in
+        let y = bind_ok (inner s 0 (x.1 + 1)) _ z b.1 in
+        ok_to (Choose t.place x.0.0 x.0.1 y.0, y.1) z y.3 (Good text ts s floor at)
+        ((x.1, (t, i, e, refl), g.0, g.1, has_kind ts s.column x.1 k.Colon b.0, (good s 0 (x.1 + 1) (y.0, y.1) y.2).0), refl)
 
     choice_sound : (s : Scope) (t : Token) (at : ℕ) (z : Tree × ℕ) → seen ts s.column at ≡ Some t → t.kind ≡ k.If → choice text ts inner s t.place at ≡ Ok z → Whole text ts s at z
     unfolding choice

@@ -1,5 +1,6 @@
 -- Brackets, braces and subscripts that are read are spelled so.
-use Rattle.std.proofs.Common.{◌≡◌, ℕ, ◌+◌, true, false, not, inl, inr, IsTrue, if◌then◌else◌, length, List, [], ◌∷◌, Some, None, Ok, Err, refl, sym, ◌∙◌, arith}
+use Rattle.std.proofs.Common.{◌≡◌, ℕ, ◌+◌, true, inl, inr, IsTrue, length, List, [], ◌∷◌, Some, Ok, Err, refl, arith}
+use Rattle.std.specs.Prelude.{is_none}
 use Rattle.tla_lex.specs.declared.token.Place.{Place}
 use Rattle.tla_lex.specs.declared.token.Token.{Token}
 use Rattle.tla_lex.specs.declared.token.Kind.{Kind}
@@ -14,18 +15,18 @@ use Rattle.tla_tree.specs.declared.tree.Step.TheVariants as st
 use Rattle.tla_tree.specs.declared.tree.Fairness.{Fairness}
 use Rattle.tla_tree.specs.Tree.{Tree, Trees, Group, none, trees, binders, Name, Paren, Listing, Filter, Image, Function, FunctionSet, Action, Fair}
 use Rattle.tla_tree.specs.Words.{written}
-use Rattle.tla_parse.specs.Tokens.{seen, Is, Has, Writes}
-use Rattle.tla_parse.specs.Kinds.{kind_at, closing, binds, step_opening, step_closing, fairness_word}
-use Rattle.tla_parse.specs.Ahead.{filters, maps}
+use Rattle.tla_parse.specs.Tokens.{seen, Is, Has}
+use Rattle.tla_parse.specs.Kinds.{kind_at, closing, step_opening, step_closing, fairness_word}
+use Rattle.tla_parse.specs.Ahead.{binds, filters}
 use Rattle.tla_parse.specs.Grammar.{Spells, Listed, Bound, is_subscript}
-use Rattle.tla_parse.specs.Outcome.{Outcome, Refused, ◌>>=◌, need, room, at_op, sequence}
-use Rattle.tla_parse.specs.ReadingLists.{name_at, following, exprs, some, listing, group, groups, paren}
-use Rattle.tla_parse.specs.ReadingBrackets.{others, subscript_by, subscript, action, fair, filter, image, set_of, brace, tuple, mapping, function_set, except, behind_first, bracket_by, bracket, opened_by}
-use Rattle.tla_parse.proofs.Inversion.{ok_to, bind_ok, need_ok, room_ok, at_op_ok, choice_ok, has_kind, has_name}
-use Rattle.tla_parse.proofs.PartEnds.{filters_member}
+use Rattle.tla_parse.specs.Outcome.{Outcome, Refused, at_op}
+use Rattle.tla_parse.specs.ReadingLists.{following, exprs, some, listing, group, one_group, groups, paren}
+use Rattle.tla_parse.specs.ReadingBrackets.{others, subscript_by, subscript, action, fair, filter, image, set_of, brace, tuple, mapping, function_set, behind_first, bracket_by, bracket, opened_by}
+use Rattle.tla_parse.proofs.Inversion.{ok_to, bind_ok, need_ok, room_ok, at_op_ok, choice_ok, has_kind}
+use Rattle.tla_parse.proofs.Tuples.{no_entry}
 use Rattle.tla_parse.proofs.Sequence.{Follows, behind_all, sequence_sound}
 use Rattle.tla_parse.proofs.Lists.{Spelled, GroupAt, listed_of, bound_of}
-use Rattle.tla_parse.proofs.SoundParts.{Closed, Good, group_sound, listing_sound, paren_sound}
+use Rattle.tla_parse.proofs.SoundParts.{Closed, Good, group_sound, one_group_sound, listing_sound, paren_sound}
 use Rattle.tla_parse.proofs.SoundRecords.{record_sound, record_set_sound, except_sound}
 
 module _ (text : List ℕ) (ts : List Token) where
@@ -112,41 +113,26 @@ module _ (text : List ℕ) (ts : List Token) where
 
     -- ---- braces and tuples
 
-    filter_sound : (s : Scope) (t : Token) (at : ℕ) (z : Tree × ℕ) → seen ts s.column at ≡ Some t → t.kind ≡ k.LeftBrace → Has ts s.column k.Member (at + 2) → filter text ts inner s t.place at ≡ Ok z → Closed text ts s at z
+    filter_sound : (s : Scope) (t : Token) (at : ℕ) (z : Tree × ℕ) → seen ts s.column at ≡ Some t → t.kind ≡ k.LeftBrace → filter text ts inner s t.place at ≡ Ok z → Closed text ts s at z
     unfolding filter
-    filter_sound s t at z i e member h = elim (at_op_ok (name_at (seen ts s.column (at + 1))) (Err Refused) _ z h) [
-      | inl w ↦ absurd (let z : ⊥ = cc in z)
-      | inr w ↦
-          let x = bind_ok (inner s 0 (at + 3)) _ z w.2 in
-          let n = need_ok (kind_at k.Colon (seen ts s.column x.1)) _ z x.3 in
-          let y = bind_ok (inner s 0 (x.1 + 1)) _ z n.1 in
-          let m = need_ok (kind_at k.RightBrace (seen ts s.column y.1)) _ z y.3 in
-          ok_to (Filter t.place (written text w.0) x.0 y.0, y.1 + 1) z m.1 (Closed text ts s at) (
-            (
-              x.1,
-              y.1,
-              (t, i, e, refl),
-              has_name ts text s.column (at + 1) w.0 w.1,
-              member,
-              (good s 0 (at + 3) (x.0, x.1) x.2).0,
-              has_kind ts s.column x.1 k.Colon n.0,
-              (good s 0 (x.1 + 1) (y.0, y.1) y.2).0,
-              has_kind ts s.column y.1 k.RightBrace m.0,
-              refl,
-            ),
-            refl,
-          )
-    ]
+    filter_sound s t at z i e h =
+        let x = bind_ok (one_group text ts inner s (at + 1)) _ z h in
+        let g = one_group_sound text ts inner good s (at + 1) x.0 x.1 x.2 in
+        let n = need_ok (kind_at k.Colon (seen ts s.column x.1)) _ z x.3 in
+        let y = bind_ok (inner s 0 (x.1 + 1)) _ z n.1 in
+        let m = need_ok (kind_at k.RightBrace (seen ts s.column y.1)) _ z y.3 in
+        ok_to (Filter t.place x.0.0 x.0.1 y.0, y.1 + 1) z m.1 (Closed text ts s at)
+        ((x.1, y.1, (t, i, e, refl), g.0, g.1, has_kind ts s.column x.1 k.Colon n.0, (good s 0 (x.1 + 1) (y.0, y.1) y.2).0, has_kind ts s.column y.1 k.RightBrace m.0, refl), refl)
 
     set_sound : (s : Scope) (t : Token) (at : ℕ) (e : Tree) (after : ℕ) (z : Tree × ℕ) → seen ts s.column at ≡ Some t → t.kind ≡ k.LeftBrace → Spells text ts s e (at + 1) after → set_of text ts inner s t.place at e after ≡ Ok z → Closed text ts s at z
     unfolding set_of image
     set_sound s t at e after z i b p h = elim (choice_ok (kind_at k.Colon (seen ts s.column after)) _ _ (Ok z) h) [
       | inl w ↦
-          let a = need_ok (not (binds ts s.column (at + 1))) _ z w.1 in
+          let a = need_ok (is_none (binds ts s.column (at + 1))) _ z w.1 in
           let x = bind_ok (groups text ts inner (length ts) [] s (after + 1)) _ z a.1 in
           let n = need_ok (kind_at k.RightBrace (seen ts s.column x.1)) _ z x.3 in
           ok_to (Image t.place e (binders x.0), x.1 + 1) z n.1 (Closed text ts s at)
-          ((after, x.1, (t, i, b, refl), a.0, p, has_kind ts s.column after k.Colon w.0, groups_sound s (after + 1) (x.0, x.1) x.2, has_kind ts s.column x.1 k.RightBrace n.0, refl), refl)
+          ((after, x.1, (t, i, b, refl), no_entry text ts s.column (at + 1) a.0, p, has_kind ts s.column after k.Colon w.0, groups_sound s (after + 1) (x.0, x.1) x.2, has_kind ts s.column x.1 k.RightBrace n.0, refl), refl)
       | inr w ↦
           let x = bind_ok (others text ts inner s k.RightBrace e after) _ z w.1 in
           ok_to (Listing t.place br.Set x.0, x.1) z x.3 (Closed text ts s at) (((t, i, b, refl), others_sound s k.RightBrace (at + 1) after e (x.0, x.1) p x.2), refl)
@@ -157,7 +143,7 @@ module _ (text : List ℕ) (ts : List Token) where
     brace_sound s t at z i e h = elim (choice_ok (kind_at k.RightBrace (seen ts s.column (at + 1))) (Ok (Listing t.place br.Set none, at + 2)) _ (Ok z) h) [
       | inl w ↦ ok_to (Listing t.place br.Set none, at + 2) z w.1 (Closed text ts s at) (((t, i, e, refl), (has_kind ts s.column (at + 1) k.RightBrace w.0, omega arith)), refl)
       | inr w ↦ (elim (choice_ok (filters ts s.column (at + 1)) _ _ (Ok z) w.1) [
-        | inl v ↦ (let q : at + 1 + 1 ≡ at + 2 = omega arith in let m : Has ts s.column k.Member (at + 2) = rw (← q) (filters_member ts s.column (at + 1) v.0) in filter_sound s t at z i e m v.1)
+        | inl v ↦ filter_sound s t at z i e v.1
         | inr v ↦ (let x = bind_ok (inner s 0 (at + 1)) _ z v.1 in set_sound s t at x.0 x.1 z i e (good s 0 (at + 1) (x.0, x.1) x.2).0 x.3)
       ])
     ]

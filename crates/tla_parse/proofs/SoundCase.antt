@@ -1,5 +1,5 @@
 -- CASE, LET and definitions that are read are spelled so.
-use Rattle.std.proofs.Common.{◌≡◌, ℕ, ◌+◌, true, false, not, inl, inr, IsTrue, if◌then◌else◌, length, List, [], ◌∷◌, Some, None, Ok, Err, refl, sym, ◌∙◌}
+use Rattle.std.proofs.Common.{◌≡◌, ℕ, ◌+◌, true, inl, inr, length, List, [], ◌∷◌, Some, Ok, Err, refl}
 use Rattle.tla_lex.specs.declared.token.Token.{Token}
 use Rattle.tla_lex.specs.declared.token.Kind.TheVariants as k
 use Rattle.tla_parse.specs.declared.scope.Scope.{Scope}
@@ -10,10 +10,10 @@ use Rattle.tla_tree.specs.Words.{written}
 use Rattle.tla_parse.specs.Tokens.{seen, Has, Writes, Names}
 use Rattle.tla_parse.specs.Kinds.{kind_at}
 use Rattle.tla_parse.specs.Grammar.{Spells, Defines, Defined, Chosen, is_defined}
-use Rattle.tla_parse.specs.Outcome.{Outcome, Refused, ◌>>=◌, need, at_op}
+use Rattle.tla_parse.specs.Outcome.{Outcome, Refused}
 use Rattle.tla_parse.specs.ReadingLists.{name_at, following, names, groups, group}
 use Rattle.tla_parse.specs.Reading.{arm_at, arms_at, cases, operator, function, defined, definition, definitions_at, lets}
-use Rattle.tla_parse.proofs.Inversion.{ok_to, bind_ok, need_ok, at_op_ok, choice_ok, has_kind, has_name, name_is}
+use Rattle.tla_parse.proofs.Inversion.{ok_to, bind_ok, need_ok, at_op_ok, choice_ok, has_kind, name_is}
 use Rattle.tla_parse.proofs.NameLists.{names_sound}
 use Rattle.tla_parse.proofs.Sequence.{sequence_sound}
 use Rattle.tla_parse.proofs.Lists.{GroupAt, ArmAt, DefinesAt, bound_of, chosen_of, defined_of}

@@ -1,37 +1,28 @@
 -- Lists and postfix forms that are read are spelled so.
-use Rattle.std.proofs.Common.{◌≡◌, ℕ, zero, suc, ◌+◌, ◌-◌, true, false, not, ◌&&◌, inl, inr, IsTrue, nat_lt, slice_get, length, List, [], ◌∷◌, ◌++◌, Some, Ok, Err, refl, ap, sym, ◌∙◌, subst, arith}
-use Rattle.tla_lex.specs.declared.token.Place.{Place}
+use Rattle.std.proofs.Common.{◌≡◌, ℕ, zero, suc, ◌+◌, true, inl, inr, IsTrue, length, List, [], Some, Ok, Err, refl, arith}
 use Rattle.tla_lex.specs.declared.token.Token.{Token}
 use Rattle.tla_lex.specs.declared.token.Kind.{Kind}
 use Rattle.tla_lex.specs.declared.token.Kind.TheVariants as k
-use Rattle.tla_lex.specs.Strings.{string_text}
 use Rattle.tla_parse.specs.declared.scope.Scope.{Scope}
-use Rattle.tla_tree.specs.declared.word.Written.{Written}
-use Rattle.tla_tree.specs.declared.tree.Infix.{Infix}
-use Rattle.tla_tree.specs.declared.tree.Prefix.{Prefix}
-use Rattle.tla_tree.specs.declared.tree.Bullet.{Bullet}
 use Rattle.tla_tree.specs.declared.tree.Brackets.{Brackets}
-use Rattle.tla_tree.specs.declared.tree.Brackets.TheVariants as b
 use Rattle.tla_parse.specs.declared.tokens.Between.TheVariants as between
 use Rattle.tla_parse.specs.declared.tokens.Postfix.{Postfix}
 use Rattle.tla_parse.specs.declared.tokens.Postfix.TheVariants as form
-use Rattle.tla_tree.specs.declared.tree.Quantifier.{Quantifier}
-use Rattle.tla_tree.specs.Tree.{Tree, Trees, Group, none, trees, binders, Name, Number, Text, Word, At, Paren, Listing, Call, Prime, Index, Field, Unary, Binary, Quantified, Choose, If, Junction, Product}
-use Rattle.tla_parse.specs.Operators.{low, high, prefix_high, infix_of, prefix_of, bullet_of, quantifier_of, constant_of}
+use Rattle.tla_tree.specs.Tree.{Tree, Pattern, Trees, Group, none, trees, Name, Paren, Listing, Call, Prime, Index, Field, Binary, Product}
 use Rattle.tla_tree.specs.Places.{place}
-use Rattle.tla_parse.specs.Edges.{edge_allows, top_above, is_closed, depth}
-use Rattle.tla_tree.specs.Words.{word_of, written}
-use Rattle.tla_parse.specs.Tokens.{seen, is_bullet_at, may_follow, Is, Has, Writes}
+use Rattle.tla_parse.specs.Edges.{top_above, is_closed}
+use Rattle.tla_tree.specs.Words.{written}
+use Rattle.tla_parse.specs.Tokens.{seen, Has}
 use Rattle.tla_parse.specs.Kinds.{kind_at, opening, closing}
-use Rattle.tla_parse.specs.Grammar.{Spells, Items, Listed, is_some, within}
-use Rattle.tla_parse.specs.Ending.{above, infix_at}
-use Rattle.tla_parse.specs.Outcome.{Outcome, Refused, ◌>>=◌, need, room, at_op, sequence}
-use Rattle.tla_parse.specs.ReadingLists.{name_at, following, names, exprs, some, listing, call, group, groups, paren}
-use Rattle.tla_parse.specs.Reading.{postfix_at, indexed, behind, postfix, postfixes, turn, climb, junction, quantified, chosen, choice, prefix, by_class, named, operand_by, operand, level, expr}
-use Rattle.tla_parse.proofs.Inversion.{ok_to, bind_ok, need_ok, room_ok, at_op_ok, choice_ok, has_kind, has_name, has_infix, postfix_kind, has_postfix, first_bullet}
-use Rattle.tla_parse.proofs.NameLists.{names_sound}
+use Rattle.tla_parse.specs.Grammar.{Spells, Listed, is_some}
+use Rattle.tla_parse.specs.Outcome.{Outcome, Refused}
+use Rattle.tla_parse.specs.ReadingLists.{name_at, following, exprs, some, listing, call, pattern, single, set_behind, group, one_group, paren}
+use Rattle.tla_parse.specs.Reading.{postfix_at, indexed, behind, postfix, postfixes, named}
+use Rattle.tla_parse.proofs.Inversion.{ok_to, bind_ok, need_ok, room_ok, at_op_ok, choice_ok, has_kind, has_name, postfix_kind, has_postfix}
+use Rattle.tla_parse.specs.Entries.{is_single, Binds}
+use Rattle.tla_parse.proofs.Tuples.{pattern_sound, single_sound}
 use Rattle.tla_parse.proofs.Sequence.{sequence_sound}
-use Rattle.tla_parse.proofs.Lists.{Spelled, GroupAt, listed_of, bound_of, items_of}
+use Rattle.tla_parse.proofs.Lists.{Spelled, GroupAt, listed_of}
 
 closed_top : (floor : ℕ) (t : Tree) → IsTrue (is_closed t) → IsTrue (top_above floor t)
 closed_top floor (Binary at op w l r) h = absurd (let z : ⊥ = cc in z)
@@ -85,14 +76,26 @@ module _ (text : List ℕ) (ts : List Token) where
       | inr w ↦ ok_to (Name (written text t), at + 1) z w.1 (Closed s at) (((t, i, e, refl), refl), refl)
     ]
 
+    set_sound : (s : Scope) (w : Pattern) (from at : ℕ) (g : Group) (to : ℕ) → Binds text ts s.column w from at → set_behind text ts inner s w at ≡ Ok (g, to) → (g.0 ≡ w) × GroupAt text ts s g from to
+    unfolding set_behind
+    set_sound s w from at g to b h =
+        let n = need_ok (kind_at k.Member (seen ts s.column at)) _ (g, to) h in
+        let y = bind_ok (inner s 0 (at + 1)) _ (g, to) n.1 in
+        ok_to ((w, y.0), y.1) (g, to) y.3 (λ v. (v.0.0 ≡ w) × GroupAt text ts s v.0 from v.1) (refl, (at, b, has_kind ts s.column at k.Member n.0, (good s 0 (at + 1) (y.0, y.1) y.2).0))
+
     pub group_sound : (s : Scope) (at : ℕ) (g : Group) (to : ℕ) → group text ts inner s at ≡ Ok (g, to) → GroupAt text ts s g at to
     unfolding group
     group_sound s at g to h =
-        let x = bind_ok (names text ts (length ts) [] s.column at) _ (g, to) h in
-        let n = need_ok (kind_at k.Member (seen ts s.column x.1)) _ (g, to) x.3 in
-        let y = bind_ok (inner s 0 (x.1 + 1)) _ (g, to) n.1 in
-        let r = names_sound text ts (length ts) [] s.column at (x.0, x.1) x.2 in
-        ok_to ((x.0, y.0), y.1) (g, to) y.3 (λ v. GroupAt text ts s v.0 at v.1) (x.1, rw r.1 r.2, has_kind ts s.column x.1 k.Member n.0, (good s 0 (x.1 + 1) (y.0, y.1) y.2).0)
+        let x = bind_ok (pattern text ts s.column at) (set_behind text ts inner s) (g, to) h in
+        (set_sound s x.0 at x.1 g to (pattern_sound text ts s.column at (x.0, x.1) x.2) x.3).1
+
+    pub one_group_sound : (s : Scope) (at : ℕ) (g : Group) (to : ℕ) → one_group text ts inner s at ≡ Ok (g, to) → (is_single g.0 ≡ true) × GroupAt text ts s g at to
+    unfolding one_group
+    one_group_sound s at g to h =
+        let x = bind_ok (single text ts s.column at) (set_behind text ts inner s) (g, to) h in
+        let y = single_sound text ts s.column at (x.0, x.1) x.2 in
+        let r = set_sound s x.0 at x.1 g to y.0 x.3 in
+        (rw r.0 y.1, r.1)
 
     pub paren_sound : (s : Scope) (t : Token) (at : ℕ) (z : Tree × ℕ) → seen ts s.column at ≡ Some t → t.kind ≡ k.LeftParen → paren text ts inner s t.place at ≡ Ok z → Closed s at z
     unfolding paren

@@ -1,5 +1,5 @@
 -- Products that are read are spelled so.
-use Rattle.std.proofs.Common.{◌≡◌, ℕ, ◌+◌, Bool, true, false, not, ◌||◌, IsTrue, nat_lt, nat_le, length, List, [], ◌∷◌, Some, None, Ok, refl}
+use Rattle.std.proofs.Common.{◌≡◌, ℕ, ◌+◌, true, not, ◌||◌, nat_lt, nat_le, length, List, [], ◌∷◌, Some, Ok, refl}
 use Rattle.tla_lex.specs.declared.token.Token.{Token}
 use Rattle.tla_lex.specs.declared.token.Kind.{Kind}
 use Rattle.tla_lex.specs.declared.token.Kind.TheVariants as k
@@ -14,7 +14,7 @@ use Rattle.tla_parse.specs.Edges.{edge_allows, top_above, depth}
 use Rattle.tla_parse.specs.Tokens.{seen, Has}
 use Rattle.tla_parse.specs.Kinds.{kind_at}
 use Rattle.tla_parse.specs.Grammar.{Spells, Factors, is_some}
-use Rattle.tla_parse.specs.Outcome.{Outcome, ◌>>=◌}
+use Rattle.tla_parse.specs.Outcome.{Outcome}
 use Rattle.tla_parse.specs.ReadingLists.{following}
 use Rattle.tla_parse.specs.Reading.{factor, factors, product}
 use Rattle.tla_parse.proofs.Inversion.{ok_to, bind_ok, need_ok, room_ok}

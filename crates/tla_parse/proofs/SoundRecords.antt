@@ -1,5 +1,5 @@
 -- Records and updates that are read are spelled so.
-use Rattle.std.proofs.Common.{◌≡◌, ℕ, ◌+◌, true, false, inl, inr, IsTrue, if◌then◌else◌, length, List, [], ◌∷◌, Some, None, Ok, Err, refl, sym, ◌∙◌, arith}
+use Rattle.std.proofs.Common.{◌≡◌, ℕ, ◌+◌, true, inl, inr, length, List, [], Some, Ok, Err, refl}
 use Rattle.tla_lex.specs.declared.token.Token.{Token}
 use Rattle.tla_lex.specs.declared.token.Kind.{Kind}
 use Rattle.tla_lex.specs.declared.token.Kind.TheVariants as k
@@ -7,10 +7,10 @@ use Rattle.tla_parse.specs.declared.scope.Scope.{Scope}
 use Rattle.tla_parse.specs.declared.tokens.Between.TheVariants as between
 use Rattle.tla_tree.specs.Tree.{Tree, Entry, Key, Change, fields, keys, updates, AtIndex, AtField, Record, RecordSet, Except}
 use Rattle.tla_tree.specs.Words.{written}
-use Rattle.tla_parse.specs.Tokens.{seen, Is, Has, Writes}
+use Rattle.tla_parse.specs.Tokens.{seen, Has}
 use Rattle.tla_parse.specs.Kinds.{kind_at}
 use Rattle.tla_parse.specs.Grammar.{Spells, Fielded, Leads, Selects, Updated, is_path, updating}
-use Rattle.tla_parse.specs.Outcome.{Outcome, Refused, ◌>>=◌, need, at_op}
+use Rattle.tla_parse.specs.Outcome.{Outcome, Refused}
 use Rattle.tla_parse.specs.ReadingLists.{name_at, following, some}
 use Rattle.tla_parse.specs.ReadingBrackets.{entry, entries, record_of, records_of, key_at, path, change, changes, except}
 use Rattle.tla_parse.proofs.Inversion.{ok_to, bind_ok, need_ok, at_op_ok, choice_ok, has_kind, has_name}

@@ -1,23 +1,17 @@
 -- How the readings of operators and postfix forms go on, and stop.
-use Rattle.std.proofs.Common.{◌≡◌, ℕ, zero, suc, ◌+◌, ◌<◌, max, true, false, if◌then◌else◌, slice_get, length, map, List, [], ◌∷◌, ◌++◌, Option, Some, None, Ok, Err, refl, ap, sym, ◌∙◌, arith, add-one, subst}
+use Rattle.std.proofs.Common.{◌≡◌, ℕ, zero, suc, ◌+◌, ◌<◌, max, true, slice_get, length, map, List, [], ◌∷◌, ◌++◌, Option, Some, None, Ok, Err, refl, ap, sym, ◌∙◌, arith, add-one, subst}
 use Rattle.std.proofs.lemmas.Option.{slice_get_within}
 use Rattle.tla_lex.specs.declared.token.Token.{Token}
-use Rattle.tla_lex.specs.declared.token.Kind.TheVariants as k
 use Rattle.tla_parse.specs.declared.scope.Scope.{Scope}
 use Rattle.tla_parse.specs.declared.tokens.Postfix.{Postfix}
 use Rattle.tla_parse.specs.declared.refusal.Refusal.{Refusal}
 use Rattle.tla_tree.specs.declared.tree.Infix.{Infix}
 use Rattle.tla_tree.specs.declared.tree.Bullet.{Bullet}
-use Rattle.tla_tree.specs.declared.tree.Expr.{Expr}
-use Rattle.tla_tree.specs.Tree.{Tree, Trees, Group, Choice, Definition, trees, binders, arms, definitions}
-use Rattle.tla_tree.specs.View.{view}
-use Rattle.tla_tree.specs.Places.{place}
+use Rattle.tla_tree.specs.Tree.{Tree, Group, Choice, Definition, trees, binders, arms, definitions}
 use Rattle.tla_parse.specs.Edges.{depth, depths, bound_depth, arms_depth, definition_depth, definitions_depth}
 use Rattle.tla_parse.specs.Tokens.{seen, is_bullet_at}
-use Rattle.tla_parse.specs.Kinds.{kind_at}
 use Rattle.tla_parse.specs.Ending.{above, infix_at}
-use Rattle.tla_parse.specs.Outcome.{Outcome, Refused, Nested, ◌>>=◌}
-use Rattle.tla_parse.specs.ReadingLists.{name_at, names, group}
+use Rattle.tla_parse.specs.Outcome.{Outcome, Nested, ◌>>=◌}
 use Rattle.tla_parse.specs.Reading.{postfix_at, behind, postfix, climb, turn}
 use Rattle.tla_parse.specs.Gives.{Fails}
 use Rattle.tla_parse.proofs.Fails.{fails_bind}
@@ -47,20 +41,6 @@ module _ (text : List ℕ) (ts : List Token) (inner : Scope → ℕ → ℕ → 
   postfix_fails e n m most s t at u h p f =
       let P : Outcome Tree → Type 0 = λ x. Fails text ts e x in
       subst P (sym (postfix_is n m most s t at u h p)) (fails_bind text ts e (behind text ts inner most s t u at) (postfix text ts inner m most s) f)
-
-  name_none : (o : Option Token) → kind_at k.Name o ≡ false → name_at o ≡ None
-  name_none None h = refl
-  name_none (Some t) h = rw h refl
-
-  names_refused : (n : ℕ) (column at : ℕ) → name_at (seen ts column at) ≡ None → names text ts n [] column at ≡ Err Refused
-  unfolding names
-  names_refused zero column at h = refl
-  names_refused (suc n) column at h = rw h refl
-
-  -- a group of a binder list begins with a name
-  pub group_none : (s : Scope) (at : ℕ) → kind_at k.Name (seen ts s.column at) ≡ false → group text ts inner s at ≡ Err Refused
-  unfolding group
-  group_none s at h = rw (names_refused (length ts) s.column at (name_none (seen ts s.column at) h)) refl
 
   pub climb_done : (n most : ℕ) (s : Scope) (floor : ℕ) (t : Tree) (at : ℕ) → above floor (infix_at (seen ts s.column at)) ≡ None
       → climb text ts inner n most s floor t at ≡ Ok (t, at)

@@ -1,8 +1,7 @@
 -- Units that are spelled are read.
-use Rattle.std.proofs.Common.{◌≡◌, ℕ, zero, suc, ◌+◌, ◌-◌, ◌<◌, ◌≤◌, max, true, false, not, ◌&&◌, ◌||◌, IsTrue, nat_eq, length, List, [], ◌∷◌, ◌++◌, Bool, if◌then◌else◌, inl, inr, Option, Some, None, Ok, Err, refl, ap, sym, ◌∙◌, append_assoc, arith, add-one, eq-eqb}
+use Rattle.std.proofs.Common.{◌≡◌, ℕ, zero, suc, ◌+◌, ◌-◌, ◌<◌, ◌≤◌, true, false, not, ◌&&◌, ◌||◌, nat_eq, length, List, [], ◌∷◌, ◌++◌, Bool, if◌then◌else◌, inl, inr, Option, Some, None, Ok, refl, ap, ◌∙◌, append_assoc, arith, eq-eqb}
 use Rattle.std.specs.List.{list_all}
 use Rattle.std.proofs.lemmas.List.{append-nil}
-use Rattle.std.proofs.lemmas.Option.{slice_get_within}
 use Rattle.tla_lex.specs.declared.token.Token.{Token}
 use Rattle.tla_lex.specs.declared.token.Kind.{Kind}
 use Rattle.tla_lex.specs.declared.token.Kind.TheVariants as k
@@ -10,15 +9,14 @@ use Rattle.tla_tree.specs.declared.word.Written.{Written}
 use Rattle.tla_parse.specs.Modules.{is_module}
 use Rattle.tla_parse.specs.Edges.{depth}
 use Rattle.tla_tree.specs.Words.{word_of, written}
-use Rattle.tla_parse.specs.Tokens.{seen, goes_on, Has, Is, Writes, Names}
+use Rattle.tla_parse.specs.Tokens.{seen, goes_on, Has, Names}
 use Rattle.tla_parse.specs.Kinds.{same_kind, kind_at}
 use Rattle.tla_tree.specs.Units.{UnitTree, Separator, Extends, Variables, Operator, Defines, Local, Constants, Assume, Theorem, Declared}
 use Rattle.tla_parse.specs.Units.{Blanks, Declares, MoreDeclared, AllDeclared, Claims, has_parameters, is_extends, is_separator, unit_depth, units_depth, outermost, SpellsUnit, Units, SpellsModule}
-use Rattle.tla_parse.specs.Outcome.{◌>>=◌}
-use Rattle.tla_parse.specs.ReadingLists.{name_at, following, names}
-use Rattle.tla_parse.specs.Reading.{definition, expr}
-use Rattle.tla_parse.specs.UnitsReading.{modules, blanks, declared, constants, claim_name, claim, unit_of, unit_by, unit, units, whole}
-use Rattle.tla_parse.proofs.Inversion.{and_true, seen_is}
+use Rattle.tla_parse.specs.ReadingLists.{name_at, following}
+use Rattle.tla_parse.specs.Reading.{expr}
+use Rattle.tla_parse.specs.Private.UnitsReading.{modules, blanks, declared, constants, claim_name, claim, unit_of, unit, units, whole}
+use Rattle.tla_parse.proofs.Inversion.{and_true}
 use Rattle.tla_parse.proofs.Follow.{end_plain, stops_plain}
 use Rattle.tla_parse.proofs.Shapes.{top_zero, advances, defines_advance}
 use Rattle.tla_parse.proofs.Complete.{definition_complete, expr_complete}

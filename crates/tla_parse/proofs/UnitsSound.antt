@@ -1,5 +1,5 @@
 -- Units that are read are spelled so.
-use Rattle.std.proofs.Common.{◌≡◌, ◌<◌, nat_lt, ℕ, zero, suc, ◌+◌, Bool, true, false, not, ◌&&◌, ◌||◌, inl, inr, IsTrue, nat_eq, length, List, [], ◌∷◌, ◌++◌, Some, None, Ok, Err, refl, ap, sym, ◌∙◌, subst, append_assoc, arith}
+use Rattle.std.proofs.Common.{◌≡◌, ◌<◌, nat_lt, ℕ, zero, suc, ◌+◌, Bool, true, false, not, ◌&&◌, ◌||◌, inl, inr, nat_eq, length, List, [], ◌∷◌, ◌++◌, Some, None, Ok, Err, refl, sym, ◌∙◌, subst, append_assoc, arith}
 use Rattle.std.specs.List.{list_all}
 use Rattle.std.proofs.lemmas.Bool.{eqb-true, ltb-true, ltb-false}
 use Rattle.std.proofs.lemmas.List.{append-nil}
@@ -12,12 +12,12 @@ use Rattle.tla_parse.specs.Modules.{is_module}
 use Rattle.tla_tree.specs.Words.{word_of, written}
 use Rattle.tla_parse.specs.Tokens.{seen, Has, Writes, Names, KindAt}
 use Rattle.tla_parse.specs.Kinds.{kind_at}
-use Rattle.tla_tree.specs.Units.{UnitTree, Separator, Extends, Variables, Operator, Defines, Local, Constants, Assume, Theorem, Declared}
+use Rattle.tla_tree.specs.Units.{UnitTree, Separator, Extends, Variables, Local, Constants, Assume, Theorem, Declared}
 use Rattle.tla_parse.specs.Units.{Blanks, Declares, MoreDeclared, AllDeclared, Claims, is_extends, is_separator, outermost, SpellsUnit, Units, SpellsModule}
-use Rattle.tla_parse.specs.Outcome.{Outcome, Refused, ◌>>=◌, at_op, need}
+use Rattle.tla_parse.specs.Outcome.{Refused}
 use Rattle.tla_parse.specs.ReadingLists.{name_at, following, names}
 use Rattle.tla_parse.specs.Reading.{definition, expr}
-use Rattle.tla_parse.specs.UnitsReading.{Claim, modules, blanks, declared, constants, claim_name, claim, unit_of, unit_by, unit, units, whole}
+use Rattle.tla_parse.specs.Private.UnitsReading.{Claim, modules, blanks, declared, constants, claim_name, claim, unit_of, unit_by, unit, units, whole}
 use Rattle.tla_parse.proofs.Inversion.{ok_to, bind_ok, need_ok, at_op_ok, choice_ok, and_true, has_kind, has_name, seen_is}
 use Rattle.tla_parse.proofs.NameLists.{names_cons, names_sound}
 use Rattle.tla_parse.proofs.Sequence.{Behind, Follows, sequence_sound}

@@ -1,5 +1,5 @@
 -- How the readings of units go on, and stop.
-use Rattle.std.proofs.Common.{◌≡◌, ℕ, ◌+◌, max, Bool, true, false, not, ◌&&◌, ◌||◌, if◌then◌else◌, length, map, List, [], ◌∷◌, ◌++◌, Some, None, Ok, Err, refl, ap, sym, subst, add-one, arith}
+use Rattle.std.proofs.Common.{◌≡◌, ℕ, ◌+◌, max, Bool, true, false, not, ◌&&◌, ◌||◌, map, List, [], ◌∷◌, ◌++◌, Some, None, Ok, Err, refl, ap, sym, subst, add-one, arith}
 use Rattle.tla_lex.specs.declared.token.Token.{Token}
 use Rattle.tla_lex.specs.declared.token.Kind.{Kind}
 use Rattle.tla_lex.specs.declared.token.Kind.TheVariants as k
@@ -18,7 +18,7 @@ use Rattle.tla_parse.specs.Outcome.{Outcome, Refused, ◌>>=◌, need}
 use Rattle.tla_parse.specs.ReadingLists.{name_at}
 use Rattle.tla_tree.specs.Units.{UnitTree}
 use Rattle.tla_parse.specs.Units.{is_separator, unit_depth, units_depth}
-use Rattle.tla_parse.specs.UnitsReading.{modules, blanks, unit_by, unit, units}
+use Rattle.tla_parse.specs.Private.UnitsReading.{modules, blanks, unit_by, unit, units}
 
 -- kinds of tokens that begin a unit
 abbrev Not : Kind → Kind → Type 0

@@ -1,5 +1,5 @@
 -- The laws of a whole list of tokens.
-use Rattle.std.proofs.Common.{◌≡◌, ℕ, zero, suc, ◌+◌, ◌≤◌, not, ◌&&◌, ◌||◌, nat_eq, Bool, List, [], ◌∷◌, ◌++◌, length, None, Result, Ok, Err, inl, inr, true, refl, sym, ◌∙◌, arith}
+use Rattle.std.proofs.Common.{◌≡◌, ℕ, zero, suc, ◌+◌, not, ◌&&◌, ◌||◌, Bool, List, [], ◌∷◌, ◌++◌, length, Ok, Err, inl, inr, true, refl, sym, ◌∙◌, arith}
 use Rattle.tla_lex.specs.declared.token.Token.{Token}
 use Rattle.tla_lex.specs.declared.token.Kind.{Kind}
 use Rattle.tla_lex.specs.declared.token.Kind.TheVariants as k
@@ -7,9 +7,9 @@ use Rattle.tla_parse.specs.Tokens.{seen}
 use Rattle.tla_parse.specs.Kinds.{kind_at}
 use Rattle.tla_tree.specs.Units.{UnitTree}
 use Rattle.tla_parse.specs.Units.{is_separator, units_depth, outermost, SpellsModule}
-use Rattle.tla_parse.specs.Outcome.{Outcome, Refused, Nested, ◌>>=◌}
+use Rattle.tla_parse.specs.Outcome.{Outcome, Refused, Nested}
 use Rattle.tla_parse.specs.Reading.{definition, expr}
-use Rattle.tla_parse.specs.UnitsReading.{claim_name, claim, unit_by, unit, units, whole}
+use Rattle.tla_parse.specs.Private.UnitsReading.{claim_name, claim, unit_by, unit, units, whole}
 use Rattle.tla_parse.specs.Parsing.{NoneSpells, NoneSpellsWithin}
 use Rattle.tla_parse.proofs.Inversion.{ok_to}
 use Rattle.tla_parse.proofs.DeeperLists.{Refines, bind, needs, ops, choices}

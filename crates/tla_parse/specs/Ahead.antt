@@ -1,11 +1,12 @@
--- What comes behind an identifier and `\in` after an opening bracket: the token that tells a binder from an operator.
-use Rattle.std.specs.Prelude.{ℕ, zero, suc, ◌+◌, Bool, ◌&&◌, ◌||◌, List, [], ◌∷◌, Option, Some, None, drop}
+-- What comes behind an opening bracket and an entry of a binder that begins there: the token that tells a binder from an operator.
+use Rattle.std.specs.Prelude.{ℕ, zero, suc, ◌+◌, Bool, false, ◌||◌, if◌then◌else◌, List, [], ◌∷◌, Option, Some, None, drop, length}
 use Rattle.tla_lex.specs.declared.token.Token.{Token}
 use Rattle.tla_lex.specs.declared.token.Kind.{Kind}
 use Rattle.tla_lex.specs.declared.token.Kind.TheVariants as k
 use Rattle.tla_parse.specs.declared.ahead.Role.{Role}
 use Rattle.tla_parse.specs.declared.ahead.Role.TheVariants as role
-use Rattle.tla_parse.specs.Kinds.{kind_at, binds}
+use Rattle.tla_parse.specs.Tokens.{seen}
+use Rattle.tla_parse.specs.Kinds.{kind_at}
 
 abbrev pub role_of : Kind → Role
 role_of k.LeftParen = role.Opens
@@ -51,10 +52,35 @@ unfoldable pub ending : ℕ → ℕ → List Token → Option Token
 ending deep bound [] = None
 ending deep bound (t ∷ ts) = onward (behind deep bound (role_of t.kind)) (Some t) (λ d b. ending d b ts)
 
--- `x \in`, and a colon ends the part
-abbrev pub filters : List Token → ℕ → ℕ → Bool
-filters ts column at = binds ts column at && kind_at k.Colon (ending 0 0 (drop (at + 2) ts))
+-- the token behind names with commas between them, of which so many may come, and `>>`
+unfoldable pub tuple_end : List Token → ℕ → ℕ → ℕ → Option ℕ
+tuple_end ts column zero at = None
+tuple_end ts column (suc n) at = if kind_at k.Name (seen ts column at)
+    then (if kind_at k.Comma (seen ts column (at + 1)) then tuple_end ts column n (at + 2) else if kind_at k.RightTuple (seen ts column (at + 1)) then Some (at + 2) else None)
+    else None
 
--- `x \in`, and `|->` or a comma ends the part
+-- the token behind one name, or behind a tuple of names
+abbrev pub single_end : List Token → ℕ → ℕ → Option ℕ
+single_end ts column at = if kind_at k.Name (seen ts column at) then Some (at + 1)
+    else if kind_at k.LeftTuple (seen ts column at) then tuple_end ts column (length ts) (at + 1) else None
+
+abbrev pub if_member : List Token → ℕ → Option ℕ → Option ℕ
+if_member ts column None = None
+if_member ts column (Some at) = if kind_at k.Member (seen ts column at) then Some at else None
+
+-- where `\in` stands behind one name or a tuple of names
+abbrev pub binds : List Token → ℕ → ℕ → Option ℕ
+binds ts column at = if_member ts column (single_end ts column at)
+
+-- such a token ends the part behind `\in`
+abbrev pub part_ends : List Token → Kind → Option ℕ → Bool
+part_ends ts kind None = false
+part_ends ts kind (Some at) = kind_at kind (ending 0 0 (drop (at + 1) ts))
+
+-- an entry of one element, and a colon ends the part
+abbrev pub filters : List Token → ℕ → ℕ → Bool
+filters ts column at = part_ends ts k.Colon (binds ts column at)
+
+-- an entry of one element, and `|->` or a comma ends the part
 abbrev pub maps : List Token → ℕ → ℕ → Bool
-maps ts column at = binds ts column at && (kind_at k.MapsTo (ending 0 0 (drop (at + 2) ts)) || kind_at k.Comma (ending 0 0 (drop (at + 2) ts)))
+maps ts column at = part_ends ts k.MapsTo (binds ts column at) || part_ends ts k.Comma (binds ts column at)

@@ -102,7 +102,7 @@ abbrev mutual
 
   pub bound_depth : Binders → ℕ
   bound_depth unbound = 0
-  bound_depth (bound ws s bs) = max (depth s) (bound_depth bs)
+  bound_depth (bound w s bs) = max (depth s) (bound_depth bs)
 
   pub arms_depth : Arms → ℕ
   arms_depth no_arms = 0

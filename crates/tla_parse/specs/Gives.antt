@@ -11,12 +11,13 @@ use Rattle.tla_parse.specs.declared.parts.ParsedArms.{ParsedArms}
 use Rattle.tla_parse.specs.declared.parts.ParsedDefinition.{ParsedDefinition}
 use Rattle.tla_parse.specs.declared.parts.ParsedDefinitions.{ParsedDefinitions}
 use Rattle.tla_parse.specs.declared.names.ParsedNames.{ParsedNames}
+use Rattle.tla_parse.specs.declared.names.ParsedPattern.{ParsedPattern}
 use Rattle.tla_tree.specs.declared.word.Written.{Written}
 use Rattle.tla_parse.specs.declared.refusal.Refusal.{Refusal}
 use Rattle.tla_parse.specs.declared.refusal.Refusal.TheVariants as refusal
 use Rattle.tla_parse.specs.LeftOut.{BeginsLeftOut, IsUnknownModule}
-use Rattle.tla_tree.specs.Tree.{Tree, Trees, Group, Choice, Definition, trees, binders, arms, definitions}
-use Rattle.tla_tree.specs.View.{view, group_view, choice_view, definition_view}
+use Rattle.tla_tree.specs.Tree.{Tree, Trees, Pattern, Group, Choice, Definition, trees, binders, arms, definitions}
+use Rattle.tla_tree.specs.View.{view, pattern_view, group_view, choice_view, definition_view}
 use Rattle.tla_parse.specs.Edges.{depth, depths, bound_depth, arms_depth, definition_depth, definitions_depth}
 use Rattle.tla_parse.specs.Outcome.{Outcome, Refused, Nested}
 
@@ -86,3 +87,7 @@ GivesDefinitions text ts most (Err e) read = Fails text ts e read
 abbrev pub GivesNames : List ℕ → List Token → Result ParsedNames Refusal → Outcome (List Written) → Type 0
 GivesNames text ts (Ok x) read = read ≡ Ok (x.names.items, x.end)
 GivesNames text ts (Err e) read = Fails text ts e read
+
+abbrev pub GivesPattern : List ℕ → List Token → Result ParsedPattern Refusal → Outcome Pattern → Type 0
+GivesPattern text ts (Ok x) read = read ≡ Ok (pattern_view x.pattern, x.end)
+GivesPattern text ts (Err e) read = Fails text ts e read

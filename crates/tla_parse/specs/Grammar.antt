@@ -10,10 +10,11 @@ use Rattle.tla_tree.specs.declared.tree.Infix.TheVariants as i
 use Rattle.tla_parse.specs.Operators.{high, prefix_high, is_product, infix_of, prefix_of, bullet_of, quantifier_of, constant_of}
 use Rattle.tla_tree.specs.Places.{place}
 use Rattle.tla_parse.specs.Edges.{edge_allows, top_above, is_closed}
-use Rattle.tla_parse.specs.Kinds.{kind_at, opening, closing, binds, step_opening, step_closing, fairness_word}
+use Rattle.tla_parse.specs.Kinds.{kind_at, opening, closing, step_opening, step_closing, fairness_word}
 use Rattle.tla_tree.specs.declared.tree.Brackets.TheVariants as b
 use Rattle.tla_tree.specs.Words.{word_of}
 use Rattle.tla_parse.specs.Tokens.{Has, Is, Writes, Names, seen, is_bullet_at, may_follow}
+use Rattle.tla_parse.specs.Entries.{Entry, BeginsEntry, is_single}
 use Rattle.tla_tree.specs.Tree.{Filter, Image, Function, FunctionSet, Record, RecordSet, Except, Action, Fair, Product, Fields, Key, Keys, Updates, no_fields, field, AtIndex, AtField, no_keys, key, no_updates, update, Tree, Trees, Binders, Arms, Other, Definition, Definitions, none, more, unbound, bound, no_arms, arm, no_other, other, DefinesOperator, DefinesFunction, undefined, defined, Case, Let, Name, Number, Text, Word, At, Paren, Listing, Call, Prime, Index, Field, Unary, Binary, Quantified, Choose, If, Junction}
 
 -- the scope of an item: every token stands right of the list's column
@@ -54,9 +55,9 @@ module _ (text : List ℕ) (ts : List Token) where
     Spells s (At p) from to = Is ts s.column k.At p from × IsTrue s.updating × (to ≡ from + 1)
     Spells s (Paren p e) from to = (mid : ℕ) × Is ts s.column k.LeftParen p from × Spells s e (from + 1) mid × Has ts s.column k.RightParen mid × (to ≡ mid + 1)
     Spells s (Listing p b es) from to = Is ts s.column (opening b) p from × Listed s (closing b) es (from + 1) to
-    Spells s (Filter p w b e) from to = (m n : ℕ) × Is ts s.column k.LeftBrace p from × Writes ts text s.column k.Name w (from + 1) × Has ts s.column k.Member (from + 2)
-        × Spells s b (from + 3) m × Has ts s.column k.Colon m × Spells s e (m + 1) n × Has ts s.column k.RightBrace n × (to ≡ n + 1)
-    Spells s (Image p e bs) from to = (m n : ℕ) × Is ts s.column k.LeftBrace p from × IsTrue (not (binds ts s.column (from + 1))) × Spells s e (from + 1) m × Has ts s.column k.Colon m
+    Spells s (Filter p w b e) from to = (m n : ℕ) × Is ts s.column k.LeftBrace p from × IsTrue (is_single w) × Entry text ts s.column w (Spells s b) (from + 1) m
+        × Has ts s.column k.Colon m × Spells s e (m + 1) n × Has ts s.column k.RightBrace n × (to ≡ n + 1)
+    Spells s (Image p e bs) from to = (m n : ℕ) × Is ts s.column k.LeftBrace p from × (BeginsEntry text ts s.column (from + 1) → ⊥) × Spells s e (from + 1) m × Has ts s.column k.Colon m
         × Bound s bs (m + 1) n × Has ts s.column k.RightBrace n × (to ≡ n + 1)
     Spells s (Function p bs e) from to = (m n : ℕ) × Is ts s.column k.LeftBracket p from × Bound s bs (from + 1) m × Has ts s.column k.MapsTo m × Spells s e (m + 1) n × Has ts s.column k.RightBracket n × (to ≡ n + 1)
     Spells s (FunctionSet p a b) from to = (m n : ℕ) × Is ts s.column k.LeftBracket p from × Spells s a (from + 1) m × Has ts s.column k.Arrow m × Spells s b (m + 1) n × Has ts s.column k.RightBracket n × (to ≡ n + 1)
@@ -75,8 +76,8 @@ module _ (text : List ℕ) (ts : List Token) where
         × IsTrue (edge_allows l op) × IsTrue (top_above (high op) r) × (p ≡ place l) × IsTrue (not (is_product op))
     Spells s (Quantified p q bs e) from to = (mid : ℕ) × (kind : Kind) × Is ts s.column kind p from × (quantifier_of kind ≡ Some q)
         × Bound s bs (from + 1) mid × Has ts s.column k.Colon mid × Spells s e (mid + 1) to
-    Spells s (Choose p w b e) from to = (mid : ℕ) × Is ts s.column k.Choose p from × Writes ts text s.column k.Name w (from + 1) × Has ts s.column k.Member (from + 2)
-        × Spells s b (from + 3) mid × Has ts s.column k.Colon mid × Spells s e (mid + 1) to
+    Spells s (Choose p w b e) from to = (mid : ℕ) × Is ts s.column k.Choose p from × IsTrue (is_single w) × Entry text ts s.column w (Spells s b) (from + 1) mid
+        × Has ts s.column k.Colon mid × Spells s e (mid + 1) to
     Spells s (If p a b e) from to = (m n : ℕ) × Is ts s.column k.If p from × Spells s a (from + 1) m × Has ts s.column k.Then m × Spells s b (m + 1) n × Has ts s.column k.Else n × Spells s e (n + 1) to
     Spells s (Case p cs o) from to = (mid : ℕ) × Is ts s.column k.Case p from × Chosen s cs (from + 1) mid × Otherwise s o mid to
     Spells s (Let p ds e) from to = (mid : ℕ) × Is ts s.column k.Let p from × Defined s ds (from + 1) mid × Has ts s.column k.In mid × Spells s e (mid + 1) to × IsTrue (is_defined ds)
@@ -104,14 +105,14 @@ module _ (text : List ℕ) (ts : List Token) where
     Others s close none from to = Has ts s.column close from × (to ≡ from + 1)
     Others s close (more e es) from to = (mid : ℕ) × Has ts s.column k.Comma from × Spells s e (from + 1) mid × Others s close es mid to
 
-    -- x, y \in S, z \in T
+    -- x, y \in S, <<z, w>> \in T
     pub Bound : Scope → Binders → ℕ → ℕ → Type 0
     Bound s unbound from to = ⊥
-    Bound s (bound ws e bs) from to = (m n : ℕ) × Names ts text s.column ws from m × Has ts s.column k.Member m × Spells s e (m + 1) n × MoreBound s bs n to
+    Bound s (bound w e bs) from to = (n : ℕ) × Entry text ts s.column w (Spells s e) from n × MoreBound s bs n to
 
     pub MoreBound : Scope → Binders → ℕ → ℕ → Type 0
     MoreBound s unbound from to = to ≡ from
-    MoreBound s (bound ws e bs) from to = (m n : ℕ) × Has ts s.column k.Comma from × Names ts text s.column ws (from + 1) m × Has ts s.column k.Member m × Spells s e (m + 1) n × MoreBound s bs n to
+    MoreBound s (bound w e bs) from to = (n : ℕ) × Has ts s.column k.Comma from × Entry text ts s.column w (Spells s e) (from + 1) n × MoreBound s bs n to
 
     -- a |-> e, b |-> e, or with colons
     pub Fielded : Scope → Kind → Fields → ℕ → ℕ → Type 0

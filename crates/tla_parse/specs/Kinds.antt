@@ -1,5 +1,5 @@
 -- Whether a token is of a kind that a reading asks for.
-use Rattle.std.specs.Prelude.{ℕ, ◌+◌, Bool, true, false, ◌&&◌, Option, Some, None, List}
+use Rattle.std.specs.Prelude.{Bool, true, false, Option, Some, None}
 use Rattle.tla_lex.specs.declared.token.Kind.{Kind}
 use Rattle.tla_lex.specs.declared.token.Kind.TheVariants as k
 use Rattle.tla_lex.specs.declared.token.Token.{Token}
@@ -9,7 +9,6 @@ use Rattle.tla_tree.specs.declared.tree.Step.{Step}
 use Rattle.tla_tree.specs.declared.tree.Step.TheVariants as step
 use Rattle.tla_tree.specs.declared.tree.Fairness.{Fairness}
 use Rattle.tla_tree.specs.declared.tree.Fairness.TheVariants as fair
-use Rattle.tla_parse.specs.Tokens.{seen}
 
 -- the same kind, of those that stand between the parts of forms and units
 abbrev pub same_kind : Kind → Kind → Bool
@@ -51,10 +50,6 @@ same_kind _ _ = false
 abbrev pub kind_at : Kind → Option Token → Bool
 kind_at kind None = false
 kind_at kind (Some t) = same_kind kind t.kind
-
--- a name and `\in`
-abbrev pub binds : List Token → ℕ → ℕ → Bool
-binds ts column at = kind_at k.Name (seen ts column at) && kind_at k.Member (seen ts column (at + 1))
 
 -- the tokens round an action with a subscript
 abbrev pub step_opening : Step → Kind

@@ -6,7 +6,11 @@ use Rattle.tla_lex.specs.declared.token.Kind.TheVariants as k
 use Rattle.tla_tree.specs.Words.{word_of}
 use Rattle.tla_parse.specs.Modules.{is_module}
 use Rattle.tla_parse.specs.Tokens.{KindAt, Commas}
-use Rattle.tla_parse.specs.Patterns.{is_quantifier, IsPattern}
+
+abbrev pub is_quantifier : Kind → Bool
+is_quantifier k.ForAll = true
+is_quantifier k.Exists = true
+is_quantifier _ = false
 
 -- refused wherever they stand
 abbrev pub is_left_out : Kind → Bool
@@ -48,6 +52,10 @@ module _ (ts : List Token) where
   abbrev pub IsUnboundedChoice : ℕ → Type 0
   IsUnboundedChoice at = KindAt ts at k.Choose × KindAt ts (at + 1) k.Name × KindAt ts (at + 2) k.Colon
 
+  -- CHOOSE <<x, y>> : p
+  abbrev pub IsUnboundedTuple : ℕ → Type 0
+  IsUnboundedTuple at = (n : ℕ) × (last : ℕ) × KindAt ts at k.Choose × KindAt ts (at + 1) k.LeftTuple × Commas ts n (at + 2) last × KindAt ts last k.Name × KindAt ts (last + 1) k.RightTuple × KindAt ts (last + 2) k.Colon
+
   -- a definition with an operator as parameter, Op(F(_), ..) ==
   abbrev pub HasOperatorParameter : ℕ → Type 0
   HasOperatorParameter at = (n : ℕ) × (last : ℕ) × KindAt ts at k.Name × KindAt ts (at + 1) k.LeftParen × Commas ts n (at + 2) last × KindAt ts last k.Name × KindAt ts (last + 1) k.LeftParen × KindAt ts (last + 2) k.Underscore
@@ -71,7 +79,7 @@ module _ (ts : List Token) where
     selector : IsSelector at → LeftOut at
     unbounded : IsUnbounded at → LeftOut at
     unbounded_choice : IsUnboundedChoice at → LeftOut at
-    pattern : IsPattern ts at → LeftOut at
+    unbounded_tuple : IsUnboundedTuple at → LeftOut at
     parameter : HasOperatorParameter at → LeftOut at
     second_header : IsSecondHeader at → LeftOut at
 

@@ -1,6 +1,7 @@
 pub mod Operators
 pub mod Edges
 pub mod Tokens
+pub mod Entries
 pub mod Grammar
 pub mod Ending
 pub mod Modules
@@ -8,7 +9,6 @@ pub mod Units
 pub mod Codes
 pub mod Parsing
 pub mod Kinds
-pub mod Patterns
 pub mod LeftOut
 pub mod Outcome
 pub mod Ahead
@@ -16,7 +16,5 @@ pub mod ReadingLists
 pub mod ReadingBrackets
 pub mod Reading
 pub mod Gives
-pub mod GivesRecords
 pub mod Nests
-pub mod UnitsReading
-pub mod UnitsGive
+pub mod Private

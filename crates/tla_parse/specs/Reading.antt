@@ -1,36 +1,32 @@
 -- The one tree that tokens can spell, found from the left. Private contracts alone cite this; what a tree spells is said in Grammar.
-use Rattle.std.specs.Prelude.{ℕ, zero, suc, ◌+◌, ◌-◌, Bool, true, false, not, ◌&&◌, ◌||◌, nat_lt, nat_le, if◌then◌else◌, List, [], ◌∷◌, ◌++◌, length, Option, Some, None, slice_get, Result, Ok, Err}
+use Rattle.std.specs.Prelude.{ℕ, zero, suc, ◌+◌, not, ◌||◌, nat_le, if◌then◌else◌, List, [], length, Option, Some, None, slice_get, Ok, Err}
 use Rattle.tla_lex.specs.declared.token.Place.{Place}
 use Rattle.tla_lex.specs.declared.token.Token.{Token}
 use Rattle.tla_lex.specs.declared.token.Kind.{Kind}
 use Rattle.tla_lex.specs.declared.token.Kind.TheVariants as k
 use Rattle.tla_lex.specs.Strings.{string_text}
 use Rattle.tla_parse.specs.declared.scope.Scope.{Scope}
-use Rattle.tla_parse.specs.declared.tokens.Between.{Between}
 use Rattle.tla_parse.specs.declared.tokens.Between.TheVariants as between
 use Rattle.tla_tree.specs.declared.tree.Infix.{Infix}
 use Rattle.tla_tree.specs.declared.tree.Infix.TheVariants as i
 use Rattle.tla_tree.specs.declared.tree.Prefix.{Prefix}
 use Rattle.tla_tree.specs.declared.tree.Bullet.{Bullet}
-use Rattle.tla_tree.specs.declared.tree.Brackets.{Brackets}
-use Rattle.tla_tree.specs.declared.tree.Brackets.TheVariants as b
 use Rattle.tla_tree.specs.declared.tree.Quantifier.{Quantifier}
 use Rattle.tla_parse.specs.declared.tokens.Postfix.{Postfix}
 use Rattle.tla_parse.specs.declared.tokens.Postfix.TheVariants as form
-use Rattle.tla_tree.specs.declared.word.Written.{Written}
-use Rattle.tla_tree.specs.Tree.{Tree, Trees, Group, Choice, Definition, trees, binders, arms, definitions, none, no_other, other, DefinesOperator, DefinesFunction, Case, Let, Name, Number, Text, Word, At, Paren, Listing, Call, Prime, Index, Field, Unary, Binary, Quantified, Choose, If, Junction, Product}
+use Rattle.tla_tree.specs.Tree.{Tree, Choice, Definition, trees, binders, arms, definitions, no_other, other, DefinesOperator, DefinesFunction, Case, Let, Name, Number, Text, Word, At, Prime, Index, Field, Unary, Binary, Quantified, Choose, If, Junction, Product}
 use Rattle.tla_parse.specs.Operators.{high, prefix_high, is_product, prefix_of, bullet_of, quantifier_of, constant_of}
 use Rattle.tla_tree.specs.Places.{place}
 use Rattle.tla_parse.specs.Edges.{edge_allows, depth}
 use Rattle.tla_tree.specs.Words.{word_of, written}
-use Rattle.tla_parse.specs.Tokens.{seen, is_bullet_at, may_follow}
-use Rattle.tla_parse.specs.Kinds.{same_kind, kind_at, closing}
+use Rattle.tla_parse.specs.Tokens.{seen, may_follow}
+use Rattle.tla_parse.specs.Kinds.{kind_at}
 use Rattle.tla_parse.specs.Ending.{above, infix_at}
 use Rattle.tla_parse.specs.Grammar.{within}
-use Rattle.tla_parse.specs.ReadingLists.{name_at, following, names, exprs, some, listing, call, group, groups, paren}
+use Rattle.tla_parse.specs.ReadingLists.{name_at, following, names, exprs, some, call, one_group, groups, paren}
 use Rattle.tla_parse.specs.ReadingBrackets.{fair, brace, tuple, bracket}
 use Rattle.tla_tree.specs.declared.tree.Fairness.TheVariants as fa
-use Rattle.tla_parse.specs.Outcome.{Fault, Refused, Nested, Outcome, ◌>>=◌, need, room, at_op, sequence}
+use Rattle.tla_parse.specs.Outcome.{Refused, Nested, Outcome, ◌>>=◌, need, room, at_op, sequence}
 
 abbrev pub postfix_of : Kind → Option Postfix
 postfix_of k.Prime = Some form.Prime
@@ -94,9 +90,7 @@ module _ (text : List ℕ) (ts : List Token) where
     quantified s p q at = groups text ts inner (length ts) [] s (at + 1) >>= λ gs after. need (kind_at k.Colon (seen ts s.column after)) (inner s 0 (after + 1) >>= λ e end. Ok (Quantified p q (binders gs) e, end))
 
     unfoldable pub chosen : Scope → Place → ℕ → Outcome Tree
-    chosen s p at = at_op (name_at (seen ts s.column (at + 1))) (Err Refused) (λ name.
-        need (kind_at k.Member (seen ts s.column (at + 2))) (inner s 0 (at + 3) >>= λ b after.
-        need (kind_at k.Colon (seen ts s.column after)) (inner s 0 (after + 1) >>= λ e end. Ok (Choose p (written text name) b e, end))))
+    chosen s p at = one_group text ts inner s (at + 1) >>= λ g after. need (kind_at k.Colon (seen ts s.column after)) (inner s 0 (after + 1) >>= λ e end. Ok (Choose p g.0 g.1 e, end))
 
     unfoldable pub choice : Scope → Place → ℕ → Outcome Tree
     choice s p at = inner s 0 (at + 1) >>= λ a after. need (kind_at k.Then (seen ts s.column after))

@@ -1,39 +1,26 @@
 -- The forms in brackets and braces, read from the left. Private contracts alone cite this.
-use Rattle.std.specs.Prelude.{ℕ, zero, suc, ◌+◌, ◌-◌, Bool, true, false, not, ◌&&◌, nat_lt, nat_le, if◌then◌else◌, List, [], ◌∷◌, ◌++◌, length, Option, Some, None, slice_get, Result, Ok, Err}
+use Rattle.std.specs.Prelude.{ℕ, ◌+◌, ◌&&◌, nat_le, if◌then◌else◌, List, [], ◌∷◌, length, is_none, Ok, Err}
 use Rattle.tla_lex.specs.declared.token.Place.{Place}
 use Rattle.tla_lex.specs.declared.token.Token.{Token}
 use Rattle.tla_lex.specs.declared.token.Kind.{Kind}
 use Rattle.tla_lex.specs.declared.token.Kind.TheVariants as k
-use Rattle.tla_lex.specs.Strings.{string_text}
 use Rattle.tla_parse.specs.declared.scope.Scope.{Scope}
-use Rattle.tla_parse.specs.declared.tokens.Between.{Between}
 use Rattle.tla_parse.specs.declared.tokens.Between.TheVariants as between
-use Rattle.tla_tree.specs.declared.tree.Infix.{Infix}
-use Rattle.tla_tree.specs.declared.tree.Prefix.{Prefix}
-use Rattle.tla_tree.specs.declared.tree.Bullet.{Bullet}
-use Rattle.tla_tree.specs.declared.tree.Brackets.{Brackets}
 use Rattle.tla_tree.specs.declared.tree.Brackets.TheVariants as b
-use Rattle.tla_tree.specs.declared.tree.Quantifier.{Quantifier}
-use Rattle.tla_parse.specs.declared.tokens.Postfix.{Postfix}
-use Rattle.tla_parse.specs.declared.tokens.Postfix.TheVariants as form
-use Rattle.tla_tree.specs.declared.word.Written.{Written}
 use Rattle.tla_tree.specs.Tree.{Tree, Trees, Entry, Key, Change, trees, binders, fields, keys, updates, none, Name, Listing, Filter, Image, Function, FunctionSet, Record, RecordSet, Except, Action, Fair, AtIndex, AtField}
-use Rattle.tla_parse.specs.Operators.{high, prefix_high, prefix_of, bullet_of, quantifier_of, constant_of}
-use Rattle.tla_tree.specs.Places.{place}
-use Rattle.tla_parse.specs.Edges.{edge_allows, depth}
-use Rattle.tla_tree.specs.Words.{word_of, written}
-use Rattle.tla_parse.specs.Tokens.{seen, is_bullet_at, may_follow}
-use Rattle.tla_parse.specs.Kinds.{kind_at, closing, binds}
-use Rattle.tla_parse.specs.Ending.{above, infix_at}
+use Rattle.tla_parse.specs.Edges.{depth}
+use Rattle.tla_tree.specs.Words.{written}
+use Rattle.tla_parse.specs.Tokens.{seen}
+use Rattle.tla_parse.specs.Kinds.{kind_at}
 use Rattle.tla_parse.specs.Grammar.{updating}
-use Rattle.tla_parse.specs.ReadingLists.{name_at, following, names, exprs, some, listing, call, group, groups, paren}
+use Rattle.tla_parse.specs.ReadingLists.{name_at, following, exprs, some, listing, one_group, groups, paren}
 use Rattle.tla_parse.specs.declared.ahead.Opened.{Opened}
 use Rattle.tla_parse.specs.declared.ahead.Opened.TheVariants as opened
 use Rattle.tla_tree.specs.declared.tree.Step.{Step}
 use Rattle.tla_tree.specs.declared.tree.Step.TheVariants as step
 use Rattle.tla_tree.specs.declared.tree.Fairness.{Fairness}
-use Rattle.tla_parse.specs.Ahead.{filters, maps}
-use Rattle.tla_parse.specs.Outcome.{Fault, Refused, Nested, Outcome, ◌>>=◌, need, room, at_op, sequence}
+use Rattle.tla_parse.specs.Ahead.{binds, filters, maps}
+use Rattle.tla_parse.specs.Outcome.{Refused, Outcome, ◌>>=◌, need, room, at_op, sequence}
 
 -- the forms that a bracket opens, by what stands behind it
 abbrev pub opened_by : List Token → ℕ → ℕ → Opened
@@ -72,15 +59,15 @@ module _ (text : List ℕ) (ts : List Token) where
     -- ---- braces and tuples
 
     unfoldable pub filter : Scope → Place → ℕ → Outcome Tree
-    filter s p at = at_op (name_at (seen ts s.column (at + 1))) (Err Refused) (λ w. inner s 0 (at + 3) >>= λ b after.
-        need (kind_at k.Colon (seen ts s.column after)) (inner s 0 (after + 1) >>= λ e end. need (kind_at k.RightBrace (seen ts s.column end)) (Ok (Filter p (written text w) b e, end + 1))))
+    filter s p at = one_group text ts inner s (at + 1) >>= λ g after. need (kind_at k.Colon (seen ts s.column after)) (inner s 0 (after + 1) >>= λ e end.
+        need (kind_at k.RightBrace (seen ts s.column end)) (Ok (Filter p g.0 g.1 e, end + 1)))
 
     unfoldable pub image : Scope → Place → Tree → ℕ → Outcome Tree
     image s p e at = groups text ts inner (length ts) [] s (at + 1) >>= λ gs after. need (kind_at k.RightBrace (seen ts s.column after)) (Ok (Image p e (binders gs), after + 1))
 
     -- behind the first expression
     unfoldable pub set_of : Scope → Place → ℕ → Tree → ℕ → Outcome Tree
-    set_of s p at e after = if kind_at k.Colon (seen ts s.column after) then need (not (binds ts s.column (at + 1))) (image s p e after)
+    set_of s p at e after = if kind_at k.Colon (seen ts s.column after) then need (is_none (binds ts s.column (at + 1))) (image s p e after)
         else (others s k.RightBrace e after >>= λ es end. Ok (Listing p b.Set es, end))
 
     unfoldable pub brace : Scope → Place → ℕ → Outcome Tree

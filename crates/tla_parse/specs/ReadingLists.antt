@@ -1,32 +1,19 @@
 -- Lists of expressions and of binders, read from the left. Private contracts alone cite this.
-use Rattle.std.specs.Prelude.{ℕ, zero, suc, ◌+◌, ◌-◌, Bool, true, false, not, ◌&&◌, ◌||◌, nat_lt, nat_le, if◌then◌else◌, List, [], ◌∷◌, ◌++◌, length, Option, Some, None, slice_get, Result, Ok, Err}
+use Rattle.std.specs.Prelude.{ℕ, zero, suc, ◌+◌, not, ◌&&◌, ◌||◌, if◌then◌else◌, List, [], ◌∷◌, ◌++◌, length, Option, Some, None, slice_get, Ok, Err}
 use Rattle.tla_lex.specs.declared.token.Place.{Place}
 use Rattle.tla_lex.specs.declared.token.Token.{Token}
 use Rattle.tla_lex.specs.declared.token.Kind.{Kind}
 use Rattle.tla_lex.specs.declared.token.Kind.TheVariants as k
-use Rattle.tla_lex.specs.Strings.{string_text}
 use Rattle.tla_parse.specs.declared.scope.Scope.{Scope}
 use Rattle.tla_parse.specs.declared.tokens.Between.{Between}
 use Rattle.tla_parse.specs.declared.tokens.Between.TheVariants as between
-use Rattle.tla_tree.specs.declared.tree.Infix.{Infix}
-use Rattle.tla_tree.specs.declared.tree.Prefix.{Prefix}
-use Rattle.tla_tree.specs.declared.tree.Bullet.{Bullet}
 use Rattle.tla_tree.specs.declared.tree.Brackets.{Brackets}
-use Rattle.tla_tree.specs.declared.tree.Brackets.TheVariants as b
-use Rattle.tla_tree.specs.declared.tree.Quantifier.{Quantifier}
-use Rattle.tla_parse.specs.declared.tokens.Postfix.{Postfix}
-use Rattle.tla_parse.specs.declared.tokens.Postfix.TheVariants as form
 use Rattle.tla_tree.specs.declared.word.Written.{Written}
-use Rattle.tla_tree.specs.Tree.{Tree, Trees, Group, Choice, Definition, trees, binders, arms, definitions, none, no_other, other, DefinesOperator, DefinesFunction, Case, Let, Name, Number, Text, Word, At, Paren, Listing, Call, Prime, Index, Field, Unary, Binary, Quantified, Choose, If, Junction}
-use Rattle.tla_parse.specs.Operators.{high, prefix_high, prefix_of, bullet_of, quantifier_of, constant_of}
-use Rattle.tla_tree.specs.Places.{place}
-use Rattle.tla_parse.specs.Edges.{edge_allows, depth}
-use Rattle.tla_tree.specs.Words.{word_of, written}
-use Rattle.tla_parse.specs.Tokens.{seen, is_bullet_at, may_follow}
+use Rattle.tla_tree.specs.Tree.{Tree, Trees, Pattern, Each, Tuple, Group, trees, none, Paren, Listing, Call}
+use Rattle.tla_tree.specs.Words.{written}
+use Rattle.tla_parse.specs.Tokens.{seen, is_bullet_at}
 use Rattle.tla_parse.specs.Kinds.{same_kind, kind_at, closing}
-use Rattle.tla_parse.specs.Ending.{above, infix_at}
-use Rattle.tla_parse.specs.Grammar.{within}
-use Rattle.tla_parse.specs.Outcome.{Fault, Refused, Nested, Outcome, ◌>>=◌, need, room, at_op, sequence}
+use Rattle.tla_parse.specs.Outcome.{Refused, Outcome, ◌>>=◌, need, at_op, sequence}
 
 -- the token, where it is a name
 abbrev pub name_at : Option Token → Option Token
@@ -49,6 +36,18 @@ module _ (text : List ℕ) (ts : List Token) where
   names (suc n) front column at = at_op (name_at (seen ts column at)) (Err Refused) (λ t.
       if kind_at k.Comma (seen ts column (at + 1)) then names n (front ++ written text t ∷ []) column (at + 2) else Ok (front ++ written text t ∷ [], at + 1))
 
+  -- a tuple of names, behind `<<`
+  unfoldable pub tuple_of_names : ℕ → ℕ → Outcome Pattern
+  tuple_of_names column at = names (length ts) [] column at >>= λ ws after. need (kind_at k.RightTuple (seen ts column after)) (Ok (Tuple ws, after + 1))
+
+  -- names, or a tuple of names
+  unfoldable pub pattern : ℕ → ℕ → Outcome Pattern
+  pattern column at = if kind_at k.LeftTuple (seen ts column at) then tuple_of_names column (at + 1) else (names (length ts) [] column at >>= λ ws after. Ok (Each ws, after))
+
+  -- one name, or a tuple of names
+  unfoldable pub single : ℕ → ℕ → Outcome Pattern
+  single column at = if kind_at k.LeftTuple (seen ts column at) then tuple_of_names column (at + 1) else at_op (name_at (seen ts column at)) (Err Refused) (λ t. Ok (Each (written text t ∷ []), at + 1))
+
   -- `inner` reads an expression in a scope, whose top is above a floor, one level deeper
   module _ (inner : Scope → ℕ → ℕ → Outcome Tree) where
     -- expressions with commas or bullets between them
@@ -65,9 +64,17 @@ module _ (text : List ℕ) (ts : List Token) where
     unfoldable pub call : Scope → Token → ℕ → Outcome Tree
     call s t at = some s k.RightParen (at + 2) >>= λ es end. Ok (Call (written text t) es, end)
 
-    -- a group of a binder list
+    -- the set of an entry, behind its names
+    unfoldable pub set_behind : Scope → Pattern → ℕ → Outcome Group
+    set_behind s w at = need (kind_at k.Member (seen ts s.column at)) (inner s 0 (at + 1) >>= λ e end. Ok ((w, e), end))
+
+    -- an entry of a binder list
     unfoldable pub group : Scope → ℕ → Outcome Group
-    group s at = names (length ts) [] s.column at >>= λ ws after. need (kind_at k.Member (seen ts s.column after)) (inner s 0 (after + 1) >>= λ e end. Ok ((ws, e), end))
+    group s at = pattern s.column at >>= set_behind s
+
+    -- an entry of one element
+    unfoldable pub one_group : Scope → ℕ → Outcome Group
+    one_group s at = single s.column at >>= set_behind s
 
     abbrev pub groups : ℕ → List Group → Scope → ℕ → Outcome (List Group)
     groups n front s at = sequence (group s) (following ts s.column between.Comma) n front at

@@ -1,7 +1,6 @@
-//! What comes behind an identifier and `\in` after an opening bracket.
+//! What comes behind an opening bracket and an entry of a binder that begins there.
 
 ghost use Rattle.std.specs.Prelude.{◌≡◌, ◌≤◌, ◌<◌, ◌+◌, ◌^◌, drop, length, IfSome};
-ghost use Rattle.tla_parse.specs.Kinds as kinds;
 ghost use Rattle.tla_parse.specs.ReadingBrackets as reading;
 ghost use Rattle.tla_parse.specs.Ahead as spec;
 
@@ -30,7 +29,7 @@ pub enum Opened {
     Record,
     /// `a :`
     RecordSet,
-    /// `x, ..`, or `x \in S` before `|->` or a comma
+    /// `x, ..`, or `x \in S` or `<<x, y>> \in S` before `|->` or a comma
     Binders,
     Expression,
 }
@@ -115,33 +114,81 @@ fn ending(tokens: &[Token], from: usize) -> Option<Token>
     None
 }
 
-/// Whether a name and `\in` stand here.
-pub fn binds(tokens: &[Token], column: u128, at: usize) -> bool
-    requires { at ≤ length tokens.now }
-    ensures { result ≡ kinds.binds tokens.now column at }
+/// The token behind names with commas between them and `>>`.
+#[tactic(auto, using(crate::proofs::Tuples::tuple_more, crate::proofs::Tuples::tuple_last, crate::proofs::Tuples::tuple_open, crate::proofs::Tuples::tuple_none, crate::proofs::Tuples::tuple_full))]
+fn tuple_end(tokens: &[Token], column: u128, from: usize) -> Option<usize>
+    requires { from ≤ length tokens.now }
+    ensures { result ≡ spec.tuple_end tokens.now column (length tokens.now) from }
 {
-    is_kind(Kind::Name, seen(tokens, column, at))
-        && is_kind(Kind::Member, seen(tokens, column, at + 1))
+    let mut at = from;
+    for _turn in 0..tokens.len() {
+        if !is_kind(Kind::Name, seen(tokens, column, at)) {
+            return None;
+        }
+        if !is_kind(Kind::Comma, seen(tokens, column, at + 1)) {
+            return if is_kind(Kind::RightTuple, seen(tokens, column, at + 1)) {
+                Some(at + 2)
+            } else {
+                None
+            };
+        }
+        at += 2;
+    }
+    None
 }
 
-/// Whether an identifier, `\in` and a set stand before a colon.
+/// The token behind one name, or behind a tuple of names.
+fn single_end(tokens: &[Token], column: u128, at: usize) -> Option<usize>
+    requires { at ≤ length tokens.now }
+    ensures { result ≡ spec.single_end tokens.now column at }
+{
+    if is_kind(Kind::Name, seen(tokens, column, at)) {
+        return Some(at + 1);
+    }
+    if is_kind(Kind::LeftTuple, seen(tokens, column, at)) {
+        tuple_end(tokens, column, at + 1)
+    } else {
+        None
+    }
+}
+
+/// Where `\in` stands behind one name or a tuple of names.
+pub fn binds(tokens: &[Token], column: u128, at: usize) -> Option<usize>
+    requires { at ≤ length tokens.now }
+    ensures value { result ≡ spec.binds tokens.now column at }
+    ensures within { IfSome result (λ m. m < length tokens.now) }
+{
+    let end = single_end(tokens, column, at)?;
+    if is_kind(Kind::Member, seen(tokens, column, end)) {
+        Some(end)
+    } else {
+        None
+    }
+}
+
+/// Whether an entry of one element stands before a colon.
 pub fn filters(tokens: &[Token], column: u128, at: usize) -> bool
     requires { at ≤ length tokens.now }
     ensures { result ≡ spec.filters tokens.now column at }
 {
-    binds(tokens, column, at) && is_kind(Kind::Colon, ending(tokens, at + 2))
+    match binds(tokens, column, at) {
+        None => false,
+        Some(member) => is_kind(Kind::Colon, ending(tokens, member + 1)),
+    }
 }
 
-/// Whether an identifier, `\in` and a set stand before `|->` or a comma.
+/// Whether an entry of one element stands before `|->` or a comma.
 pub fn maps(tokens: &[Token], column: u128, at: usize) -> bool
     requires { at ≤ length tokens.now }
     ensures { result ≡ spec.maps tokens.now column at }
 {
-    if !binds(tokens, column, at) {
-        return false;
+    match binds(tokens, column, at) {
+        None => false,
+        Some(member) => {
+            let end = ending(tokens, member + 1);
+            is_kind(Kind::MapsTo, end) || is_kind(Kind::Comma, end)
+        }
     }
-    let end = ending(tokens, at + 2);
-    is_kind(Kind::MapsTo, end) || is_kind(Kind::Comma, end)
 }
 
 /// What the bracket before this token opens.

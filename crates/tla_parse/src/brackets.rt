@@ -4,24 +4,21 @@ ghost use Rattle.std.specs.Prelude.{◌≡◌, ℕ, ◌+◌, ◌-◌, ◌≤◌,
 ghost use Rattle.tla_tree.specs.View.{view, group_view, field_view, key_view, update_view};
 ghost use Rattle.tla_tree.specs.Tree as tree;
 ghost use Rattle.tla_tree.specs.Tree.{trees, binders};
-ghost use Rattle.tla_lex.specs.declared.token.Kind.TheVariants as k;
 ghost use Rattle.tla_parse.specs.Edges as edges;
-ghost use Rattle.tla_parse.specs.Kinds.{kind_at};
-ghost use Rattle.tla_parse.specs.Patterns.{BeginsBinder, IsBehindElement, IsExpression};
-ghost use Rattle.tla_parse.specs.Tokens as spec;
 ghost use Rattle.tla_parse.specs.Reading.{expr};
 ghost use Rattle.tla_parse.specs.ReadingBrackets as reading;
 ghost use Rattle.tla_parse.specs.Gives.{Gives, GivesItems, GivesTrees};
 ghost use Rattle.tla_parse.specs.Nests.{Nests};
 
 use crate::ahead::{Opened, binds, filters, opened_by};
-use crate::binders::{is_outer_bracket, refused_bracket};
 use crate::grammar::Grammar;
 use crate::list::push;
-use crate::parts::{Parsed, ParsedItems, child_of, image_of, listing_of, mapping_of};
+use crate::parts::{
+    Parsed, ParsedItems, child_of, image_of, listing_of, mapping_of, set_of_binder,
+};
 use crate::refusal::Refusal;
 use crate::scope::Scope;
-use crate::tokens::{Between, following, is_kind, name_at, refused, seen, written};
+use crate::tokens::{Between, following, is_kind, refused, seen, written};
 use std::alloc::Global;
 use tla_lex::{Kind, Place, Token};
 use tla_tree::{Brackets, Expr, Fairness, Step};
@@ -180,11 +177,8 @@ impl<F: Fn(Global, &[u8], &[Token], usize, Scope, u8, usize) -> Result<Parsed, R
         requires small { self.now.depth < 900 }
         ensures { Gives text.now tokens.now (self.now.depth + 1) result (reading.filter text.now tokens.now (expr text.now tokens.now self.now.depth) scope at from) }
     {
-        let Some(name) = name_at(seen(tokens, scope.column, from + 1)) else {
-            return Err(refused(tokens, scope.column, from + 1));
-        };
-        let name = written(self.alloc, text, name)?;
-        let set = self.child(text, tokens, scope, 0, from + 3)?;
+        let found = self.one_group(text, tokens, scope, None, from + 1)?;
+        let set = set_of_binder(self.alloc, found)?;
         if !is_kind(Kind::Colon, seen(tokens, scope.column, set.end)) {
             return Err(refused(tokens, scope.column, set.end));
         }
@@ -193,13 +187,13 @@ impl<F: Fn(Global, &[u8], &[Token], usize, Scope, u8, usize) -> Result<Parsed, R
             return Err(refused(tokens, scope.column, test.end));
         }
         Ok(Parsed {
-            tree: Expr::Filter(at, name, set.tree, test.tree),
+            tree: Expr::Filter(at, set.pattern, set.set, test.tree),
             end: test.end + 1,
             depth: set.depth.max(test.depth) + 1,
         })
     }
 
-    /// `{e : x, y \in S}`, behind e; the form begins at a token of this number.
+    /// `{e : x, y \in S}`, behind e.
     #[tactic(auto, unfolding(crate::specs::ReadingBrackets::image))]
     fn image(
         &self,
@@ -207,20 +201,17 @@ impl<F: Fn(Global, &[u8], &[Token], usize, Scope, u8, usize) -> Result<Parsed, R
         tokens: &[Token],
         scope: Scope,
         at: Place,
-        start: usize,
         first: Parsed,
     ) -> Result<Parsed, Refusal>
         requires nests { Nests self.now.depth (F.pre self.now.expr) (F.post self.now.expr) }
         requires within { first.end < length tokens.now }
-        requires filter { BeginsBinder tokens.now (start + 1) }
-        requires element { IsBehindElement tokens.now (first.end + 1) }
         requires depth { first.depth ≡ edges.depth (view first.tree) }
         requires shallow { first.depth ≤ self.now.depth }
         requires small { self.now.depth < 900 }
         ensures { Gives text.now tokens.now (self.now.depth + 1) result (reading.image text.now tokens.now (expr text.now tokens.now self.now.depth) scope at (view first.tree) first.end) }
     {
         let element = child_of(self.alloc, first)?;
-        let found = self.groups(text, tokens, scope, Some(start), true, element.end + 1)?;
+        let found = self.groups(text, tokens, scope, None, element.end + 1)?;
         if !is_kind(Kind::RightBrace, seen(tokens, scope.column, found.end)) {
             return Err(refused(tokens, scope.column, found.end));
         }
@@ -244,18 +235,16 @@ impl<F: Fn(Global, &[u8], &[Token], usize, Scope, u8, usize) -> Result<Parsed, R
     ) -> Result<Parsed, Refusal>
         requires nests { Nests self.now.depth (F.pre self.now.expr) (F.post self.now.expr) }
         requires within { from < length tokens.now }
-        requires brace { spec.Has tokens.now scope.column k.LeftBrace from }
-        requires element { IsExpression tokens.now scope (from + 1) first.end }
         requires depth { first.depth ≡ edges.depth (view first.tree) }
         requires shallow { first.depth ≤ self.now.depth }
         requires small { self.now.depth < 900 }
         ensures { Gives text.now tokens.now (self.now.depth + 1) result (reading.set_of text.now tokens.now (expr text.now tokens.now self.now.depth) scope at from (view first.tree) first.end) }
     {
         if is_kind(Kind::Colon, seen(tokens, scope.column, first.end)) {
-            if binds(tokens, scope.column, from + 1) {
+            if binds(tokens, scope.column, from + 1).is_some() {
                 return Err(refused(tokens, scope.column, first.end));
             }
-            return self.image(text, tokens, scope, at, from, first);
+            return self.image(text, tokens, scope, at, first);
         }
         let found = self.others(text, tokens, scope, Kind::RightBrace, first)?;
         let end = found.end;
@@ -279,7 +268,6 @@ impl<F: Fn(Global, &[u8], &[Token], usize, Scope, u8, usize) -> Result<Parsed, R
     ) -> Result<Parsed, Refusal>
         requires nests { Nests self.now.depth (F.pre self.now.expr) (F.post self.now.expr) }
         requires within { from < length tokens.now }
-        requires brace { spec.Has tokens.now scope.column k.LeftBrace from }
         requires small { self.now.depth < 900 }
         ensures { Gives text.now tokens.now (self.now.depth + 1) result (reading.brace text.now tokens.now (expr text.now tokens.now self.now.depth) scope at from) }
     {
@@ -348,12 +336,10 @@ impl<F: Fn(Global, &[u8], &[Token], usize, Scope, u8, usize) -> Result<Parsed, R
     ) -> Result<Parsed, Refusal>
         requires nests { Nests self.now.depth (F.pre self.now.expr) (F.post self.now.expr) }
         requires within { from < length tokens.now }
-        requires name { IsTrue (kind_at k.Name (spec.seen tokens.now scope.column (from + 1))) }
         requires small { self.now.depth < 900 }
         ensures { Gives text.now tokens.now (self.now.depth + 1) result (reading.mapping text.now tokens.now (expr text.now tokens.now self.now.depth) scope at from) }
     {
-        let is_list = is_outer_bracket(tokens, from);
-        let found = self.groups(text, tokens, scope, None, is_list, from + 1)?;
+        let found = self.groups(text, tokens, scope, None, from + 1)?;
         if !is_kind(Kind::MapsTo, seen(tokens, scope.column, found.end)) {
             return Err(refused(tokens, scope.column, found.end));
         }
@@ -409,7 +395,6 @@ impl<F: Fn(Global, &[u8], &[Token], usize, Scope, u8, usize) -> Result<Parsed, R
         first: Parsed,
     ) -> Result<Parsed, Refusal>
         requires nests { Nests self.now.depth (F.pre self.now.expr) (F.post self.now.expr) }
-        requires first { IsExpression tokens.now scope (start + 1) first.end }
         requires depth { first.depth ≡ edges.depth (view first.tree) }
         requires shallow { first.depth ≤ self.now.depth }
         requires small { self.now.depth < 900 }
@@ -425,7 +410,7 @@ impl<F: Fn(Global, &[u8], &[Token], usize, Scope, u8, usize) -> Result<Parsed, R
             Kind::RightBracketSubscript,
             seen(tokens, scope.column, first.end),
         ) {
-            return Err(refused_bracket(tokens, scope, start, first.end));
+            return Err(refused(tokens, scope.column, first.end));
         }
         self.action(text, tokens, scope, start, at, Step::Box, first)
     }

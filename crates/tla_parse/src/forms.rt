@@ -1,18 +1,16 @@
 //! Forms that begin with a word or a quantifier, and definitions.
 
 ghost use Rattle.std.specs.Prelude.{◌+◌, ◌-◌, ◌≤◌, ◌<◌, length, []};
-ghost use Rattle.tla_parse.specs.Patterns.{BeginsBinder, IsQuantified};
 ghost use Rattle.tla_parse.specs.Reading as reading;
 ghost use Rattle.tla_parse.specs.Gives.{Gives, GivesArm, GivesArms, GivesDefinition, GivesDefinitions};
 ghost use Rattle.tla_parse.specs.Nests.{Nests};
 
-use crate::binders::{defines_function, refused_choice, refused_name};
 use crate::grammar::Grammar;
 use crate::list::push;
 use crate::names::names;
 use crate::parts::{
     Parsed, ParsedArm, ParsedArms, ParsedDefinition, ParsedDefinitions, arm_of, case_of,
-    case_with_other, function_of, let_of, quantified_of,
+    case_with_other, function_of, let_of, quantified_of, set_of_binder,
 };
 use crate::refusal::Refusal;
 use crate::scope::Scope;
@@ -39,11 +37,10 @@ impl<F: Fn(Global, &[u8], &[Token], usize, Scope, u8, usize) -> Result<Parsed, R
     ) -> Result<Parsed, Refusal>
         requires nests { Nests self.now.depth (F.pre self.now.expr) (F.post self.now.expr) }
         requires within { from < length tokens.now }
-        requires quantifier { IsQuantified tokens.now (from + 1) }
         requires small { self.now.depth < 900 }
         ensures { Gives text.now tokens.now (self.now.depth + 1) result (reading.quantified text.now tokens.now (reading.expr text.now tokens.now self.now.depth) scope at quantifier from) }
     {
-        let found = self.groups(text, tokens, scope, Some(from), true, from + 1)?;
+        let found = self.groups(text, tokens, scope, Some(from), from + 1)?;
         if !is_kind(Kind::Colon, seen(tokens, scope.column, found.end)) {
             return Err(refused(tokens, scope.column, found.end));
         }
@@ -67,24 +64,17 @@ impl<F: Fn(Global, &[u8], &[Token], usize, Scope, u8, usize) -> Result<Parsed, R
     ) -> Result<Parsed, Refusal>
         requires nests { Nests self.now.depth (F.pre self.now.expr) (F.post self.now.expr) }
         requires within { from < length tokens.now }
-        requires binder { BeginsBinder tokens.now (from + 1) }
         requires small { self.now.depth < 900 }
         ensures { Gives text.now tokens.now (self.now.depth + 1) result (reading.chosen text.now tokens.now (reading.expr text.now tokens.now self.now.depth) scope at from) }
     {
-        let Some(name) = name_at(seen(tokens, scope.column, from + 1)) else {
-            return Err(refused_name(tokens, scope.column, from + 1));
-        };
-        let name = written(self.alloc, text, name)?;
-        if !is_kind(Kind::Member, seen(tokens, scope.column, from + 2)) {
-            return Err(refused_choice(tokens, scope.column, from));
-        }
-        let set = self.child(text, tokens, scope, 0, from + 3)?;
+        let found = self.one_group(text, tokens, scope, Some(from), from + 1)?;
+        let set = set_of_binder(self.alloc, found)?;
         if !is_kind(Kind::Colon, seen(tokens, scope.column, set.end)) {
             return Err(refused(tokens, scope.column, set.end));
         }
         let body = self.child(text, tokens, scope, 0, set.end + 1)?;
         Ok(Parsed {
-            tree: Expr::Choose(at, name, set.tree, body.tree),
+            tree: Expr::Choose(at, set.pattern, set.set, body.tree),
             end: body.end,
             depth: set.depth.max(body.depth) + 1,
         })
@@ -254,8 +244,7 @@ impl<F: Fn(Global, &[u8], &[Token], usize, Scope, u8, usize) -> Result<Parsed, R
         requires within { form + 2 ≤ length tokens.now }
         ensures { GivesDefinition text.now tokens.now self.now.depth result (reading.function text.now tokens.now (reading.expr text.now tokens.now self.now.depth) scope t (form + 2)) }
     {
-        let is_list = defines_function(tokens, form);
-        let found = self.groups(text, tokens, scope, None, is_list, form + 2)?;
+        let found = self.groups(text, tokens, scope, None, form + 2)?;
         let end = found.end;
         if !is_kind(Kind::RightBracket, seen(tokens, scope.column, end)) {
             return Err(refused(tokens, scope.column, end));

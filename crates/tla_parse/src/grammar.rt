@@ -295,7 +295,7 @@ impl<F: Fn(Global, &[u8], &[Token], usize, Scope, u8, usize) -> Result<Parsed, R
     }
 
     /// A form that begins with a bullet, a prefix operator, a quantifier or a word for a value.
-    #[tactic(auto, unfolding(crate::specs::Reading::by_class), using(crate::proofs::Entries::quantified_here))]
+    #[tactic(auto, unfolding(crate::specs::Reading::by_class))]
     fn by_class(
         &self,
         text: &[u8],

@@ -1,23 +1,18 @@
 //! Lists of expressions, the forms that are lists, and binder lists.
 
-ghost use Rattle.std.specs.Prelude.{◌≡◌, ◌+◌, ◌-◌, ◌≤◌, ◌<◌, length, map, [], not, IsTrue};
-ghost use Rattle.std.specs.Option.{ForSome};
-ghost use Rattle.tla_tree.specs.View.{view};
+ghost use Rattle.std.specs.Prelude.{◌≡◌, ◌+◌, ◌-◌, ◌≤◌, ◌<◌, length, map, []};
+ghost use Rattle.tla_tree.specs.View.{view, pattern_view};
 ghost use Rattle.tla_tree.specs.Tree.{trees};
-ghost use Rattle.tla_lex.specs.declared.token.Kind.TheVariants as k;
 ghost use Rattle.tla_parse.specs.Edges as edges;
-ghost use Rattle.tla_parse.specs.Kinds.{kind_at};
-ghost use Rattle.tla_parse.specs.Patterns.{BeginsBinder, BeginsList};
-ghost use Rattle.tla_parse.specs.Tokens as spec;
 ghost use Rattle.tla_parse.specs.Reading as reading;
 ghost use Rattle.tla_parse.specs.ReadingLists as lists;
 ghost use Rattle.tla_parse.specs.Gives.{Gives, GivesItems, GivesTrees, GivesGroup, GivesGroups};
 ghost use Rattle.tla_parse.specs.Nests.{Nests};
 
-use crate::binders::{refused_binder, refused_names};
+use crate::binders::refused_binder;
 use crate::grammar::Grammar;
 use crate::list::push;
-use crate::names::{ParsedNames, names};
+use crate::names::{ParsedPattern, pattern, single};
 use crate::parts::{
     Parsed, ParsedBinder, ParsedBinders, ParsedItems, call_of, junction_of, listing_of,
 };
@@ -199,34 +194,26 @@ impl<F: Fn(Global, &[u8], &[Token], usize, Scope, u8, usize) -> Result<Parsed, R
         })
     }
 
-    /// A group of a binder list. The form that begins at `form` may be left out for its binders; `is_list` says that this is known to be a binder list.
-    #[tactic(auto, using(crate::proofs::Steps::group_none), unfolding(crate::specs::ReadingLists::group))]
-    pub fn group(
+    /// The set of an entry, behind its names. The form at `form` may be left out for its binders.
+    #[tactic(auto, unfolding(crate::specs::ReadingLists::set_behind))]
+    fn set_behind(
         &self,
         text: &[u8],
         tokens: &[Token],
         scope: Scope,
         form: Option<usize>,
-        is_list: bool,
-        from: usize,
+        front: ParsedPattern,
     ) -> Result<ParsedBinder, Refusal>
-        requires nests { Nests self.now.depth (F.pre self.now.expr) (F.post self.now.expr) }
-        requires within { from ≤ length tokens.now }
-        requires form { ForSome form (λ f. BeginsBinder tokens.now (f + 1)) }
-        requires binder { IsTrue is_list → IsTrue (not (kind_at k.Name (spec.seen tokens.now scope.column from))) → BeginsBinder tokens.now from }
-        ensures { GivesGroup text.now tokens.now self.now.depth result (lists.group text.now tokens.now (reading.expr text.now tokens.now self.now.depth) scope from) }
+        requires { Nests self.now.depth (F.pre self.now.expr) (F.post self.now.expr) }
+        ensures { GivesGroup text.now tokens.now self.now.depth result (lists.set_behind text.now tokens.now (reading.expr text.now tokens.now self.now.depth) scope (pattern_view front.pattern) front.end) }
     {
-        if !is_kind(Kind::Name, seen(tokens, scope.column, from)) {
-            return Err(refused_names(tokens, scope.column, form, is_list, from));
+        if !is_kind(Kind::Member, seen(tokens, scope.column, front.end)) {
+            return Err(refused_binder(tokens, scope.column, form, front.end));
         }
-        let ParsedNames { names, end } = names(self.alloc, text, tokens, scope.column, from)?;
-        if !is_kind(Kind::Member, seen(tokens, scope.column, end)) {
-            return Err(refused_binder(tokens, scope.column, form, end));
-        }
-        let set = self.inner(text, tokens, scope, 0, end + 1)?;
+        let set = self.inner(text, tokens, scope, 0, front.end + 1)?;
         Ok(ParsedBinder {
             binder: Binder {
-                names,
+                pattern: front.pattern,
                 set: set.tree,
             },
             end: set.end,
@@ -234,7 +221,43 @@ impl<F: Fn(Global, &[u8], &[Token], usize, Scope, u8, usize) -> Result<Parsed, R
         })
     }
 
-    /// A binder list, of which `form` and `is_list` say the same.
+    /// An entry of a binder list. The form at `form` may be left out for its binders.
+    #[tactic(auto, unfolding(crate::specs::ReadingLists::group))]
+    pub fn group(
+        &self,
+        text: &[u8],
+        tokens: &[Token],
+        scope: Scope,
+        form: Option<usize>,
+        from: usize,
+    ) -> Result<ParsedBinder, Refusal>
+        requires nests { Nests self.now.depth (F.pre self.now.expr) (F.post self.now.expr) }
+        requires within { from ≤ length tokens.now }
+        ensures { GivesGroup text.now tokens.now self.now.depth result (lists.group text.now tokens.now (reading.expr text.now tokens.now self.now.depth) scope from) }
+    {
+        let front = pattern(self.alloc, text, tokens, scope.column, from)?;
+        self.set_behind(text, tokens, scope, form, front)
+    }
+
+    /// An entry of one element. The form at `form` may be left out for it.
+    #[tactic(auto, unfolding(crate::specs::ReadingLists::one_group))]
+    pub fn one_group(
+        &self,
+        text: &[u8],
+        tokens: &[Token],
+        scope: Scope,
+        form: Option<usize>,
+        from: usize,
+    ) -> Result<ParsedBinder, Refusal>
+        requires nests { Nests self.now.depth (F.pre self.now.expr) (F.post self.now.expr) }
+        requires within { from ≤ length tokens.now }
+        ensures { GivesGroup text.now tokens.now self.now.depth result (lists.one_group text.now tokens.now (reading.expr text.now tokens.now self.now.depth) scope from) }
+    {
+        let front = single(self.alloc, text, tokens, scope.column, from)?;
+        self.set_behind(text, tokens, scope, form, front)
+    }
+
+    /// A binder list. The form at `form` may be left out for its binders.
     #[tactic(auto, using(crate::proofs::Steps::bound_depth_snoc))]
     pub fn groups(
         &self,
@@ -242,21 +265,17 @@ impl<F: Fn(Global, &[u8], &[Token], usize, Scope, u8, usize) -> Result<Parsed, R
         tokens: &[Token],
         scope: Scope,
         form: Option<usize>,
-        is_list: bool,
         from: usize,
     ) -> Result<ParsedBinders, Refusal>
         requires nests { Nests self.now.depth (F.pre self.now.expr) (F.post self.now.expr) }
         requires within { from ≤ length tokens.now }
-        requires form { ForSome form (λ f. BeginsBinder tokens.now (f + 1)) }
-        requires list { IsTrue is_list → BeginsList tokens.now from }
-        requires binder { IsTrue is_list → IsTrue (not (kind_at k.Name (spec.seen tokens.now scope.column from))) → BeginsBinder tokens.now from }
         ensures { GivesGroups text.now tokens.now self.now.depth result (lists.groups text.now tokens.now (reading.expr text.now tokens.now self.now.depth) (length tokens.now) [] scope from) }
     {
         let mut binders = Vec::new(self.alloc);
         let mut depth = 0;
         let mut at = from;
         for _turn in 0..tokens.len() {
-            let group = self.group(text, tokens, scope, form, is_list, at)?;
+            let group = self.group(text, tokens, scope, form, at)?;
             let end = group.end;
             depth = depth.max(group.depth);
             push(&mut binders, group.binder)?;

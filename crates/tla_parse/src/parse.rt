@@ -4,7 +4,7 @@ ghost use Rattle.std.specs.Prelude.{◌≡◌, ◌≤◌, ◌⊎◌, List, map, 
 ghost use Rattle.tla_tree.specs.Units.{UnitTree};
 ghost use Rattle.tla_parse.specs.Units.{units_depth, SpellsModule};
 ghost use Rattle.tla_tree.specs.UnitsView.{unit_view};
-ghost use Rattle.tla_parse.specs.UnitsReading.{whole};
+ghost use Rattle.tla_parse.specs.Private.UnitsReading.{whole};
 ghost use Rattle.tla_parse.specs.LeftOut.{BeginsLeftOut, IsUnknownModule};
 ghost use Rattle.tla_parse.specs.Parsing.{NoneSpells, Justified, IsLocated};
 ghost use Rattle.tla_parse.specs.Gives.{Fails};

@@ -8,7 +8,7 @@ ghost use Rattle.tla_tree.specs.Tree.{trees, binders};
 use crate::refusal::Refusal;
 use std::alloc::Global;
 use tla_lex::Place;
-use tla_tree::{Arm, Binder, Brackets, Bullet, Definition, Expr, Quantifier, Written};
+use tla_tree::{Arm, Binder, Brackets, Bullet, Definition, Expr, Pattern, Quantifier, Written};
 
 /// A tree, the number of the token after it, and its depth.
 #[derive(Drop)]
@@ -34,6 +34,15 @@ pub struct ParsedBinder {
     pub depth: usize,
 }
 
+/// The same, with its set for a place in another tree.
+#[derive(Drop)]
+pub struct ParsedSet {
+    pub pattern: Pattern,
+    pub set: Box<Expr>,
+    pub end: usize,
+    pub depth: usize,
+}
+
 /// A binder list, the number of the token after it, and the greatest depth of a set.
 #[derive(Drop)]
 pub struct ParsedBinders {
@@ -50,6 +59,25 @@ pub fn boxed(alloc: Global, tree: Expr) -> Result<Box<Expr>, Refusal>
         Ok(b) => Ok(b),
         Err(_) => Err(Refusal::NoMemory),
     }
+}
+
+/// An entry of a binder, with its set in a box. The only error is want of memory.
+pub fn set_of_binder(alloc: Global, found: ParsedBinder) -> Result<ParsedSet, Refusal>
+    ensures pattern { IfOk result (λ x. x.pattern ≡ found.binder.pattern) }
+    ensures set { IfOk result (λ x. x.set.value ≡ found.binder.set) }
+    ensures end { IfOk result (λ x. x.end ≡ found.end) }
+    ensures depth { IfOk result (λ x. x.depth ≡ found.depth) }
+    ensures err { IfErr result (λ e. e ≡ Refusal.NoMemory) }
+{
+    let ParsedBinder { binder, end, depth } = found;
+    let Binder { pattern, set } = binder;
+    let set = boxed(alloc, set)?;
+    Ok(ParsedSet {
+        pattern,
+        set,
+        end,
+        depth,
+    })
 }
 
 /// A tree that stands in another one, the number of the token after it, and its depth.

@@ -9,7 +9,7 @@ ghost use Rattle.tla_parse.specs.Reading.{expr};
 ghost use Rattle.tla_parse.specs.ReadingBrackets as reading;
 ghost use Rattle.tla_parse.specs.Gives.{Gives, GivesItems, GivesTrees};
 ghost use Rattle.tla_parse.specs.Nests.{Nests};
-ghost use Rattle.tla_parse.specs.GivesRecords.{GivesField, GivesFields, GivesKey, GivesKeys, GivesUpdate, GivesUpdates};
+ghost use Rattle.tla_parse.specs.Private.GivesRecords.{GivesField, GivesFields, GivesKey, GivesKeys, GivesUpdate, GivesUpdates};
 
 use crate::grammar::Grammar;
 use crate::list::push;

@@ -3,14 +3,14 @@
 ghost use Rattle.std.specs.Prelude.{◌≡◌, ◌+◌, ◌<◌, ◌≤◌, ◌++◌, ◌∷◌, ◌&&◌, ◌||◌, [], length, true, not, IfErr, OnOk, OnSome, IsTrue};
 ghost use Rattle.tla_parse.specs.Units as units;
 ghost use Rattle.tla_tree.specs.UnitsView.{unit_view};
-ghost use Rattle.tla_parse.specs.UnitsReading as reading;
+ghost use Rattle.tla_parse.specs.Private.UnitsReading as reading;
 ghost use Rattle.tla_parse.specs.LeftOut.{IsExtended, OnlySeparators};
 ghost use Rattle.tla_parse.specs.Kinds.{kind_at};
 ghost use Rattle.tla_parse.specs.Tokens.{seen};
 ghost use Rattle.tla_lex.specs.declared.token.Kind.TheVariants as k;
 ghost use Rattle.tla_parse.specs.Gives.{GivesNames};
 ghost use Rattle.tla_tree.specs.View.{definition_view};
-ghost use Rattle.tla_parse.specs.UnitsGive.{GivesDeclared, GivesConstants, GivesClaim, GivesUnit, GivesUnits};
+ghost use Rattle.tla_parse.specs.Private.UnitsGive.{GivesDeclared, GivesConstants, GivesClaim, GivesUnit, GivesUnits};
 
 use crate::grammar::{definition, expr};
 use crate::list::push;
@@ -136,7 +136,7 @@ fn blanks(tokens: &[Token], from: usize) -> ParsedCount
 }
 
 /// A constant.
-#[tactic(auto, unfolding(crate::specs::UnitsReading::declared))]
+#[tactic(auto, unfolding(crate::specs::Private::UnitsReading::declared))]
 fn constant(
     alloc: Global,
     text: &[u8],
@@ -208,7 +208,7 @@ fn claim_name(tokens: &[Token], from: usize) -> Option<Token>
 }
 
 /// What is assumed or claimed, under a name or none.
-#[tactic(auto, unfolding(crate::specs::UnitsReading::claim))]
+#[tactic(auto, unfolding(crate::specs::Private::UnitsReading::claim))]
 fn claim(alloc: Global, text: &[u8], tokens: &[Token], from: usize) -> Result<ParsedClaim, Refusal>
     requires { from ≤ length tokens.now }
     ensures { GivesClaim text.now tokens.now result (reading.claim text.now tokens.now 200 from) }
@@ -253,7 +253,7 @@ fn unit_of(definition: Definition) -> Unit
 }
 
 /// The unit that begins at the token of this number.
-#[tactic(auto, unfolding(crate::specs::UnitsReading::unit))]
+#[tactic(auto, unfolding(crate::specs::Private::UnitsReading::unit))]
 fn unit_at(alloc: Global, text: &[u8], tokens: &[Token], from: usize) -> Result<ParsedUnit, Refusal>
     requires extends { IsTrue (kind_at k.Extends (seen tokens.now 0 from)) → OnlySeparators tokens.now from }
     ensures { GivesUnit text.now tokens.now result (reading.unit text.now tokens.now 200 from) }
@@ -365,7 +365,7 @@ fn units_from(
 }
 
 /// The units of a module, whose tokens are its name, a separator, the units and the closing line.
-#[tactic(auto, unfolding(crate::specs::UnitsReading::whole))]
+#[tactic(auto, unfolding(crate::specs::Private::UnitsReading::whole))]
 pub fn module_units(alloc: Global, text: &[u8], tokens: &[Token]) -> Result<ParsedUnits, Refusal>
     ensures { GivesUnits text.now tokens.now result (reading.whole text.now tokens.now 200) }
 {

@@ -1,10 +1,10 @@
 //! A part of an action, and what was chosen on the way to it.
 
-use std::alloc::Global;
+use std::alloc::{AllocError, Global};
 use tla_core::Place;
 use tla_value::{Value, ValueError};
 
-/// The value that a `\E` chose for one of its names.
+/// The value that a `\E` chose for one of its names. A name of a pattern has an item of the element.
 #[derive(Drop)]
 pub struct Chosen {
     /// The place of the `\E`.
@@ -21,11 +21,12 @@ pub struct Taken {
     pub chosen: Vec<Chosen>,
 }
 
-/// The `\E` above a part.
+/// The bound names above a part.
 #[derive(Drop)]
 pub(crate) struct Path {
     values: Vec<Value>,
-    places: Vec<Place>,
+    /// The place of the `\E` of each; none where it has no name in the text.
+    places: Vec<Option<Place>>,
 }
 
 impl Path {
@@ -37,21 +38,28 @@ impl Path {
     }
 
     /// One choice more. The only error is want of memory.
-    pub(crate) fn push(
-        &mut self,
-        alloc: Global,
-        place: Place,
-        value: &Value,
-    ) -> Result<(), ValueError> {
-        self.places.push(place)?;
-        self.values.push(value.copy(alloc)?)?;
+    pub(crate) fn push(&mut self, place: Place, value: Value) -> Result<(), AllocError> {
+        self.places.push(Some(place))?;
+        self.values.push(value)?;
         Ok(())
     }
 
-    /// Takes the last choice away.
-    pub(crate) fn pop(&mut self) {
-        let _ = self.places.pop();
-        let _ = self.values.pop();
+    /// An element that stands for its items has no name in the text.
+    pub(crate) fn hide(&mut self, name: usize) {
+        if let Some(place) = self.places.get_mut(name) {
+            *place = None;
+        }
+    }
+
+    /// Takes all choices but the first ones away.
+    pub(crate) fn truncate(&mut self, count: usize) {
+        self.places.truncate(count);
+        self.values.truncate(count);
+    }
+
+    /// How many choices there are.
+    pub(crate) fn len(&self) -> usize {
+        self.values.len()
     }
 
     /// The values that were chosen, the outermost first.
@@ -65,14 +73,17 @@ impl Path {
         let mut last = None;
         let mut name = 0usize;
         for (at, value) in self.places.iter().zip(self.values.iter()) {
-            name = if last == Some(*at) {
+            let Some(at) = *at else {
+                continue;
+            };
+            name = if last == Some(at) {
                 name.saturating_add(1)
             } else {
                 0
             };
-            last = Some(*at);
+            last = Some(at);
             chosen.push(Chosen {
-                place: *at,
+                place: at,
                 name,
                 value: value.copy(alloc)?,
             })?;

@@ -19,7 +19,7 @@ pub fn lacking_parts(
 fn gather(part: &Core, variable: usize, places: &mut Vec<Place>) -> Result<(), AllocError> {
     match part {
         Core::Disjunction(_, parts) => gather_all(parts, variable, places),
-        Core::ForSome(_, _, body) => gather(body, variable, places),
+        Core::ForSome(_, _, body) | Core::Opened(_, _, body) => gather(body, variable, places),
         _ if sets(part, variable) => Ok(()),
         _ => {
             places.push(part.place())?;
@@ -43,7 +43,9 @@ fn sets(part: &Core, variable: usize) -> bool {
         Core::Equal(_, left, _) | Core::Member(_, left, _) => is_next(left, variable),
         Core::Conjunction(_, parts) => some_sets(parts, variable),
         Core::Disjunction(_, parts) => all_set(parts, variable),
-        Core::ForAll(_, _, body) | Core::ForSome(_, _, body) => sets(body, variable),
+        Core::ForAll(_, _, body) | Core::ForSome(_, _, body) | Core::Opened(_, _, body) => {
+            sets(body, variable)
+        }
         Core::If(_, _, yes, no) => sets(yes, variable) && sets(no, variable),
         Core::Cases(_, arms, None) => arms_set(arms, variable),
         Core::Cases(_, arms, Some(other)) => arms_set(arms, variable) && sets(other, variable),

@@ -2,8 +2,8 @@
 
 use crate::chosen::{Path, Taken};
 use std::alloc::Global;
-use tla_core::{Core, Fault, FaultCode, Place, memory};
-use tla_eval::{Partial, eval};
+use tla_core::{Core, Fault, FaultCode, Opening, Place, memory};
+use tla_eval::{Partial, eval, opened};
 use tla_value::{State, Value};
 
 /// A step, and what is looked for in it.
@@ -58,6 +58,9 @@ fn look(
         Core::ForSome(place, set, body) => {
             look_at_each(body, set, *place, search, path, budget, found)
         }
+        Core::Opened(place, openings, body) => {
+            look_under_items(body, openings, *place, search, path, budget, found)
+        }
         _ => look_at_one(part, search, path, budget, found),
     }
 }
@@ -89,15 +92,45 @@ fn look_at_each(
     let Some(Value::Set(elements)) = value_of(set, search, path, budget)? else {
         return Ok(());
     };
+    let count = path.len();
     for element in elements.items() {
-        if path.push(search.alloc, place, element).is_err() {
+        let Ok(copy) = element.copy(search.alloc) else {
             return Err(memory());
-        }
+        };
+        path.push(place, copy)?;
         let looked = look(body, search, path, budget, found);
-        path.pop();
+        path.truncate(count);
         looked?;
     }
     Ok(())
+}
+
+/// The body under the items of elements, if each has as many as its pattern has names.
+#[cycle(taken)]
+fn look_under_items(
+    body: &Core,
+    openings: &[Opening],
+    place: Place,
+    search: &Search<'_>,
+    path: &mut Path,
+    budget: &mut u64,
+    found: &mut Vec<Taken>,
+) -> Result<(), Fault> {
+    let count = path.len();
+    let items = match opened(search.alloc, place, openings, path.values()) {
+        Ok(items) => items,
+        Err(fault) if fault.code == FaultCode::Memory => return Err(fault),
+        Err(_) => return Ok(()),
+    };
+    for opening in openings {
+        path.hide(opening.name);
+    }
+    for item in items {
+        path.push(place, item)?;
+    }
+    let looked = look(body, search, path, budget, found);
+    path.truncate(count);
+    looked
 }
 
 /// A part that isn't looked into.

@@ -11,6 +11,18 @@ use Rattle.tla_tree.specs.declared.tree.Brackets.{Brackets}
 use Rattle.tla_tree.specs.declared.tree.Step.{Step}
 use Rattle.tla_tree.specs.declared.tree.Fairness.{Fairness}
 
+-- What an entry of a binder has before `\in`.
+pub data Pattern : Type 0 where
+  -- x, y: each name is an element
+  Each : List Written → Pattern
+  -- <<x, y>>: the names are the items of an element
+  Tuple : List Written → Pattern
+
+-- its names, in the order of the text
+abbrev pub names_of : Pattern → List Written
+names_of (Each ws) = ws
+names_of (Tuple ws) = ws
+
 mutual
   -- an expression (book, chapter 15); each node has the place of its first token
   pub data Tree : Type 0 where
@@ -34,7 +46,7 @@ mutual
     Binary : Place → Infix → Written → Tree → Tree → Tree
     Quantified : Place → Quantifier → Binders → Tree → Tree
     -- CHOOSE x \in S : p
-    Choose : Place → Written → Tree → Tree → Tree
+    Choose : Place → Pattern → Tree → Tree → Tree
     If : Place → Tree → Tree → Tree → Tree
     -- CASE p -> a [] .. [] OTHER -> b
     Case : Place → Arms → Other → Tree
@@ -42,7 +54,7 @@ mutual
     Let : Place → Definitions → Tree → Tree
     Junction : Place → Bullet → Trees → Tree
     -- {x \in S : p}
-    Filter : Place → Written → Tree → Tree → Tree
+    Filter : Place → Pattern → Tree → Tree → Tree
     -- {e : x, y \in S}
     Image : Place → Tree → Binders → Tree
     -- [x, y \in S |-> e]
@@ -66,10 +78,10 @@ mutual
     none : Trees
     more : Tree → Trees → Trees
 
-  -- the groups of a binder list, x, y \in S
+  -- the entries of a binder list, x, y \in S or <<x, y>> \in S
   pub data Binders : Type 0 where
     unbound : Binders
-    bound : List Written → Tree → Binders → Binders
+    bound : Pattern → Tree → Binders → Binders
 
   -- p -> e
   pub data Arms : Type 0 where
@@ -113,9 +125,9 @@ abbrev pub trees : List Tree → Trees
 trees [] = none
 trees (t ∷ ts) = more t (trees ts)
 
--- the names and the set of one group
+-- an entry of a binder: what stands before `\in`, and the set
 abbrev pub Group : Type 0
-Group = List Written × Tree
+Group = Pattern × Tree
 
 abbrev pub binders : List Group → Binders
 binders [] = unbound

@@ -5,6 +5,8 @@ use Rattle.tla_lex.specs.declared.token.Place.{Place}
 use Rattle.tla_tree.specs.declared.tree.Brackets.{Brackets}
 use Rattle.tla_tree.specs.declared.tree.Bullet.{Bullet}
 use Rattle.tla_tree.specs.declared.tree.Binder.{Binder}
+use Rattle.tla_tree.specs.declared.tree.Pattern.{Pattern}
+use Rattle.tla_tree.specs.declared.tree.Pattern.TheVariants as p
 use Rattle.tla_tree.specs.declared.word.Written.{Written}
 use Rattle.tla_tree.specs.declared.tree.Definition.TheBlock.{hidden-the_row-Expr-1, items_hidden-the_row-Expr-1, hidden-the_row-Binder-0, items_hidden-the_row-Binder-0, hidden-the_row-Arm-2, items_hidden-the_row-Arm-2, hidden-the_row-Definition-3, items_hidden-the_row-Definition-3, hidden-the_row-Key-5, items_hidden-the_row-Key-5, items_shown-the_row-Key-5, hidden-the_row-Field-4, items_hidden-the_row-Field-4, hidden-the_row-Update-6, items_hidden-the_row-Update-6, Held-Expr-Case-2}
 use Rattle.tla_tree.specs.declared.tree.Expr.{Expr, Name, Number, Text, Constant, At, Paren', Listing', Call', Prime', Index', Field', Unary', Binary', Quantified', Choose', If', Case', Let', Junction', Filter', Image', Function', FunctionSet', Record', RecordSet', Except', Action', Fair', Product', None', Some', Row_of-Expr, end_of-Expr, more_of-Expr, items-the_row-Expr, Row_of-Binder, end_of-Binder, more_of-Binder, items-the_row-Binder, Row_of-Arm, end_of-Arm, more_of-Arm, items-the_row-Arm, Row_of-Definition, end_of-Definition, more_of-Definition, items-the_row-Definition, Row_of-Field, end_of-Field, more_of-Field, items-the_row-Field, Row_of-Key, end_of-Key, more_of-Key, items-the_row-Key, Row_of-Update, end_of-Update, more_of-Update, items-the_row-Update}
@@ -17,6 +19,10 @@ use Rattle.tla_tree.specs.declared.tree.Key as k
 use Rattle.tla_tree.specs.declared.tree.Update.{Update}
 use Rattle.tla_tree.specs.Tree.{Tree, Trees, Binders, Arms, Other, Definitions, Group, Choice, none, more, trees, unbound, bound, binders, no_arms, arm, arms, no_other, other, undefined, defined, definitions, Fields, Keys, Updates, Entry, Change, no_fields, field, fields, no_keys, key, keys, no_updates, update, updates}
 use Rattle.tla_tree.specs.Tree as t
+
+abbrev pub pattern_view : Pattern → t.Pattern
+pattern_view (p.Each ws) = t.Each ws.items
+pattern_view (p.Tuple ws) = t.Tuple ws.items
 
 abbrev mutual
   pub view : Expr → Tree
@@ -34,12 +40,12 @@ abbrev mutual
   view (Unary' p op _ e) = t.Unary p op (view e)
   view (Binary' p op w _ l _ r) = t.Binary p op w (view l) (view r)
   view (Quantified' p q _ bs _ e) = t.Quantified p q (bound_views bs) (view e)
-  view (Choose' p w _ s _ e) = t.Choose p w (view s) (view e)
+  view (Choose' at w _ s _ e) = t.Choose at (pattern_view w) (view s) (view e)
   view (If' p _ a _ b _ e) = t.If p (view a) (view b) (view e)
   view (Case' p _ cs o) = t.Case p (arm_views cs) (other_view o)
   view (Let' p _ ds _ e) = t.Let p (definition_views ds) (view e)
   view (Junction' p b _ items) = t.Junction p b (views items)
-  view (Filter' p w _ s _ e) = t.Filter p w (view s) (view e)
+  view (Filter' at w _ s _ e) = t.Filter at (pattern_view w) (view s) (view e)
   view (Image' p _ e _ bs) = t.Image p (view e) (bound_views bs)
   view (Function' p _ bs _ e) = t.Function p (bound_views bs) (view e)
   view (FunctionSet' p _ s _ e) = t.FunctionSet p (view s) (view e)
@@ -56,7 +62,7 @@ abbrev mutual
 
   pub bound_views : {n : _} → Row_of-Binder n → Binders
   bound_views end_of-Binder = unbound
-  bound_views (more_of-Binder ws e rest) = bound ws.items (view e) (bound_views rest)
+  bound_views (more_of-Binder w e rest) = bound (pattern_view w) (view e) (bound_views rest)
 
   pub arm_views : {n : _} → Row_of-Arm n → Arms
   arm_views end_of-Arm = no_arms
@@ -90,9 +96,9 @@ abbrev mutual
   update_views end_of-Update = no_updates
   update_views (more_of-Update _ path e rest) = update (key_views path) (view e) (update_views rest)
 
--- a group of a binder list
+-- an entry of a binder list
 abbrev pub group_view : Binder → Group
-group_view b = (b.names.items, view b.set)
+group_view b = (pattern_view b.pattern, view b.set)
 
 pub views_row : {n : _} (row : Row_of-Expr n) → views row ≡ trees (map view (items-the_row-Expr n row))
 views_row end_of-Expr = refl
@@ -100,7 +106,7 @@ views_row (more_of-Expr e rest) = ap (λ x. more (view e) x) (views_row rest)
 
 pub bound_views_row : {n : _} (row : Row_of-Binder n) → bound_views row ≡ binders (map group_view (items-the_row-Binder n row))
 bound_views_row end_of-Binder = refl
-bound_views_row (more_of-Binder ws e rest) = ap (λ x. bound ws.items (view e) x) (bound_views_row rest)
+bound_views_row (more_of-Binder w e rest) = ap (λ x. bound (pattern_view w) (view e) x) (bound_views_row rest)
 
 pub views_items : (items : Vec Expr Global) → views (hidden-the_row-Expr-1 items) ≡ trees (map view items.items)
 views_items items = views_row (hidden-the_row-Expr-1 items) ∙ ap (λ xs. trees (map view xs)) (items_hidden-the_row-Expr-1 items)

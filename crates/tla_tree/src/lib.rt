@@ -6,8 +6,8 @@ mod unit;
 mod word;
 
 pub use tree::{
-    Arm, Binder, Brackets, Bullet, Constant, Definition, Expr, Fairness, Field, Infix, Key, Prefix,
-    Quantifier, Step, Update,
+    Arm, Binder, Brackets, Bullet, Constant, Definition, Expr, Fairness, Field, Infix, Key,
+    Pattern, Prefix, Quantifier, Step, Update,
 };
 pub use unit::{Declaration, Module, Unit};
 pub use word::{Word, Written};

@@ -129,11 +129,36 @@ pub enum Fairness {
     Strong,
 }
 
-/// A group of a binder list: `x, y \in S`.
+/// What an entry of a binder has before `\in`, of one name or more.
+#[derive(Drop)]
+pub enum Pattern {
+    /// `x, y`: each name is an element.
+    Each(Vec<Written>),
+    /// `<<x, y>>`: the names are the items of an element.
+    Tuple(Vec<Written>),
+}
+
+impl Pattern {
+    ghost use Rattle.std.specs.Prelude.{◌≡◌};
+    ghost use Rattle.tla_tree.specs.View.{pattern_view};
+    ghost use Rattle.tla_tree.specs.Tree.{names_of};
+
+    /// The names, in the order of the text.
+    pub fn names(&self) -> &[Written]
+        ensures { result.now ≡ names_of (pattern_view self.now) }
+    {
+        match self {
+            Pattern::Each(names) => names.as_slice(),
+            Pattern::Tuple(names) => names.as_slice(),
+        }
+    }
+}
+
+/// An entry of a binder: `x, y \in S` or `<<x, y>> \in S`.
 #[cycle(tree)]
 #[derive(Drop)]
 pub struct Binder {
-    pub names: Vec<Written>,
+    pub pattern: Pattern,
     pub set: Expr,
 }
 
@@ -211,8 +236,8 @@ pub enum Expr {
     Binary(Place, Infix, Written, Box<Expr>, Box<Expr>),
     /// `\A x, y \in S, z \in T : p`
     Quantified(Place, Quantifier, Vec<Binder>, Box<Expr>),
-    /// `CHOOSE x \in S : p`
-    Choose(Place, Written, Box<Expr>, Box<Expr>),
+    /// `CHOOSE x \in S : p`, with one name, or a tuple of names.
+    Choose(Place, Pattern, Box<Expr>, Box<Expr>),
     /// `IF p THEN a ELSE b`
     If(Place, Box<Expr>, Box<Expr>, Box<Expr>),
     /// `CASE p -> a [] .. [] OTHER -> b`, with one arm or more, and OTHER or none.
@@ -221,8 +246,8 @@ pub enum Expr {
     Let(Place, Vec<Definition>, Box<Expr>),
     /// A junction list, of one item or more.
     Junction(Place, Bullet, Vec<Expr>),
-    /// `{x \in S : p}`
-    Filter(Place, Written, Box<Expr>, Box<Expr>),
+    /// `{x \in S : p}`, with one name, or a tuple of names.
+    Filter(Place, Pattern, Box<Expr>, Box<Expr>),
     /// `{e : x, y \in S, z \in T}`
     Image(Place, Box<Expr>, Vec<Binder>),
     /// `[x, y \in S, z \in T |-> e]`

@@ -14,7 +14,7 @@ use Rattle.tla_value.proofs.Sorts.{rising-values}
 use Rattle.tla_value.specs.ValueOrder.{value_cmp, value_eq, value_cmp-total}
 use Rattle.tla_value.specs.Rising.{rising-at}
 use Rattle.tla_value.specs.Funs.{value_at}
-use Rattle.tla_value.specs.Inner.{IsPlace}
+use Rattle.tla_value.specs.Private.Inner.{IsPlace}
 use Rattle.tla_value.specs.declared.value.Value.{Value}
 
 abbrev pub Entry : Type 0

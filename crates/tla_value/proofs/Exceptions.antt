@@ -11,7 +11,7 @@ use Rattle.tla_value.specs.Order.{tree_cmp}
 use Rattle.tla_value.specs.IsValue.{IsValue, IsSetList, IsFunList}
 use Rattle.tla_value.specs.ValueOrder.{value_cmp, value_eq, value_cmp-total}
 use Rattle.tla_value.specs.Funs.{arguments, except_of}
-use Rattle.tla_value.specs.Inner.{IsPlace}
+use Rattle.tla_value.specs.Private.Inner.{IsPlace}
 use Rattle.tla_value.proofs.Entries.{Entry, argument_of, alike-way, rising-entries}
 use Rattle.tla_value.specs.declared.value.Value.{Value}
 

@@ -10,7 +10,7 @@ use Rattle.tla_value.specs.Sets.{set_of}
 use Rattle.tla_value.specs.Funs.{arguments, fun_of}
 use Rattle.tla_value.specs.FunLaws.{arguments-fun_of}
 use Rattle.tla_value.specs.Choices.{keys_of}
-use Rattle.tla_value.specs.Inner.{keyed, field_of}
+use Rattle.tla_value.specs.Private.Inner.{keyed, field_of}
 use Rattle.tla_value.proofs.Fields.{arguments-keyed, as_sets}
 use Rattle.tla_value.proofs.FunctionMembers.{images}
 

@@ -8,7 +8,7 @@ use Rattle.tla_value.specs.Sets.{is_member}
 use Rattle.tla_value.specs.Funs.{arguments, value_at}
 use Rattle.tla_value.specs.FunLaws.{none_below}
 use Rattle.tla_value.specs.Choices.{keys_of, if_there, is_each_once}
-use Rattle.tla_value.specs.Inner.{keyed}
+use Rattle.tla_value.specs.Private.Inner.{keyed}
 use Rattle.tla_value.proofs.TreeTests.{and-both, both-and, eq-true, eq-refl, eq-same, not-true}
 use Rattle.tla_value.proofs.FunctionMembers.{stand_in, images, same-members}
 

@@ -18,7 +18,7 @@ use Rattle.tla_value.specs.declared.error.ValueError.{ValueError}
 use Rattle.tla_value.specs.declared.error.ValueError.TheVariants.{TooMany, TooDeep, Memory}
 use Rattle.tla_value.specs.Order.{tree_cmp}
 use Rattle.tla_value.specs.Choices.{choices, functions_by, functions_of}
-use Rattle.tla_value.specs.Inner.{ways, choice_of}
+use Rattle.tla_value.specs.Private.Inner.{ways, choice_of}
 use Rattle.tla_value.proofs.Subsets.{many_subsets}
 use Rattle.tla_value.proofs.Lists.{all-of}
 use Rattle.tla_value.proofs.Choosing.{long-choices, as_many, rising-functions_by}

@@ -12,7 +12,7 @@ use Rattle.tla_value.specs.Order.{tree_cmp, tree_eq}
 use Rattle.tla_value.specs.OrderLaws.{tree_cmp-total}
 use Rattle.tla_value.specs.Rising.{above}
 use Rattle.tla_value.specs.Sets.{is_member}
-use Rattle.tla_value.specs.Inner.{chosen_of}
+use Rattle.tla_value.specs.Private.Inner.{chosen_of}
 use Rattle.tla_value.specs.declared.value.Value.{Value}
 use Rattle.tla_value.proofs.Lists.{map-drop, from_here}
 

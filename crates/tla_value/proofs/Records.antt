@@ -13,7 +13,7 @@ use Rattle.tla_value.specs.SetLaws.{is-set_of}
 use Rattle.tla_value.specs.Funs.{arguments, value_at, fun_of}
 use Rattle.tla_value.specs.FunLaws.{value_at-fun_of, rising-fun_of, arguments-fun_of, all-fun_of}
 use Rattle.tla_value.specs.Choices.{choices, functions_by, functions_of, keys_of, if_there, fields_fit, records_of, is_each_once}
-use Rattle.tla_value.specs.Inner.{keyed}
+use Rattle.tla_value.specs.Private.Inner.{keyed}
 use Rattle.tla_value.proofs.Choosing.{rising-functions_by}
 use Rattle.tla_value.proofs.FunctionSets.{set_of-functions_by}
 use Rattle.tla_value.proofs.TreeTests.{bool-iff, and-both, both-and, or-first, or-second, eq-true, eq-same, member-filter}

@@ -9,7 +9,7 @@ use Rattle.tla_value.specs.Funs.{arguments, items_of}
 use Rattle.tla_value.specs.Tree.{fun, trees, pairs, entries-pairs}
 use Rattle.tla_value.specs.TreeOf.{tree_of, pair_of}
 use Rattle.tla_value.specs.Text.{text_of, escaped, quoted, field_name, is_field, joined, listed, member_texts, value_texts, field_texts, pair_texts}
-use Rattle.tla_value.specs.Inner.{separator_before}
+use Rattle.tla_value.specs.Private.Inner.{separator_before}
 use Rattle.tla_value.specs.declared.value.Value.{Value}
 
 flat_more : {X : Type 0} (f : X → List ℕ) (xs : List X) (i : ℕ) (d : X) → i < length xs → flat_map f (take (suc i) xs) ≡ flat_map f (take i xs) ++ f (get_or xs i d)

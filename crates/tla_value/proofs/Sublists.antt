@@ -14,7 +14,7 @@ use Rattle.tla_value.specs.Order.{tree_cmp}
 use Rattle.tla_value.specs.IsValue.{IsValue, IsSetList}
 use Rattle.tla_value.specs.SetLaws.{set_of-rising}
 use Rattle.tla_value.specs.Choices.{sublists, set_tree, subsets_of}
-use Rattle.tla_value.specs.Inner.{sublist_of}
+use Rattle.tla_value.specs.Private.Inner.{sublist_of}
 use Rattle.tla_value.specs.declared.value.Value.{Value}
 use Rattle.tla_value.specs.declared.value.Value.TheVariants.{Set}
 use Rattle.tla_value.proofs.Subsets.{length-sublists}

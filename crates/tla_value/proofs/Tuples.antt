@@ -10,7 +10,7 @@ use Rattle.tla_value.specs.declared.error.ValueError.{ValueError}
 use Rattle.tla_value.specs.declared.error.ValueError.TheVariants.{TooMany}
 use Rattle.tla_value.specs.Order.{tree_cmp}
 use Rattle.tla_value.specs.Choices.{choices, functions_by, numbered, sequence, tuples_of, counted_up}
-use Rattle.tla_value.specs.Inner.{ways}
+use Rattle.tla_value.specs.Private.Inner.{ways}
 use Rattle.tla_value.proofs.FunctionSets.{length-functions_by, most-functions_by, some-functions_by, set_of-functions_by, MakesSetOfFunctions-small, no_choices, some-ways}
 use Rattle.tla_value.proofs.Choosing.{long-choices}
 

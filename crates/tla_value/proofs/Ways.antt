@@ -10,7 +10,7 @@ use Rattle.tla_value.specs.IsValue.{IsValue}
 use Rattle.tla_value.proofs.Parts.{depth-member-is}
 use Rattle.tla_value.specs.declared.value.Value.{Value}
 use Rattle.tla_value.specs.Choices.{choices}
-use Rattle.tla_value.specs.Inner.{ways, choice_of}
+use Rattle.tla_value.specs.Private.Inner.{ways, choice_of}
 
 -- what is left from a place on
 pub from_place : {A B : Type 0} (f : A → B) (xs : List A) (i : ℕ) (x : A) → i < length xs → x ≡ get_or xs i x → drop i (map f xs) ≡ f x ∷ drop (suc i) (map f xs)

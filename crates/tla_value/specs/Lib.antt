@@ -1,7 +1,6 @@
 pub mod Tree
 pub mod Stored
 pub mod TreeOf
-pub mod Falls
 pub mod Order
 pub mod IsValue
 pub mod Sets
@@ -19,4 +18,4 @@ pub mod Hashed
 pub mod StateOrder
 pub mod TextNames
 pub mod Text
-pub mod Inner
+pub mod Private

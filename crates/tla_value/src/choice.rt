@@ -9,7 +9,7 @@ ghost use Rattle.tla_value.specs.Funs.{fun_of};
 ghost use Rattle.tla_value.specs.Sets.{set_of, MakesSet, MakesSetOfFunctions};
 ghost use Rattle.tla_value.specs.TreeOf.{tree_of, pair_of};
 ghost use Rattle.tla_value.specs.Choices.{functions_by, functions_of, tuples_of, subsets_of, keys_of, records_of, is_each_once};
-ghost use Rattle.tla_value.specs.Inner.{ways, choice_of, sublist_of, keyed, field_of};
+ghost use Rattle.tla_value.specs.Private.Inner.{ways, choice_of, sublist_of, keyed, field_of};
 ghost use Rattle.tla_value.specs.declared.error.ValueError.TheVariants.{Memory};
 
 use crate::error::ValueError;

@@ -10,7 +10,7 @@ ghost use Rattle.tla_value.specs.Tree.{Tree, deepest_pair, pairs as pairs_of};
 ghost use Rattle.tla_value.specs.IsValue.{ArePairs, IsFunList};
 ghost use Rattle.tla_value.specs.Order.{tree_cmp};
 ghost use Rattle.tla_value.specs.Funs.{arguments, value_at, fun_of, except_of, items_of, MakesFun};
-ghost use Rattle.tla_value.specs.Inner.{IsPlace};
+ghost use Rattle.tla_value.specs.Private.Inner.{IsPlace};
 ghost use Rattle.tla_value.specs.ValueOrder.{value_cmp, value_eq};
 ghost use Rattle.tla_value.specs.declared.value.Value.{Value};
 

@@ -7,7 +7,7 @@ ghost use Rattle.tla_value.specs.Tree.{Tree};
 ghost use Rattle.tla_value.specs.TreeOf.{tree_of};
 ghost use Rattle.tla_value.specs.Order.{tree_cmp};
 ghost use Rattle.tla_value.specs.Sets.{is_member, set_of};
-ghost use Rattle.tla_value.specs.Inner.{chosen_of};
+ghost use Rattle.tla_value.specs.Private.Inner.{chosen_of};
 ghost use Rattle.tla_value.specs.declared.error.ValueError.TheVariants.{Memory};
 
 use crate::error::ValueError;

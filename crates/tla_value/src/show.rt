@@ -10,7 +10,7 @@ ghost use Rattle.tla_value.specs.TreeOf.{tree_of, pair_of};
 ghost use Rattle.tla_value.specs.Funs.{arguments};
 ghost use Rattle.tla_value.specs.TextNames.{is_word_byte, begins_fairness, is_identifier, is_reserved};
 ghost use Rattle.tla_value.specs.Text.{text_of, escaped, quoted, field_name, is_field, listed, value_texts, field_texts, pair_texts};
-ghost use Rattle.tla_value.specs.Inner.{separator_before};
+ghost use Rattle.tla_value.specs.Private.Inner.{separator_before};
 
 use crate::fun::is_sequence;
 use crate::value::{FunValue, SetValue, Value};

@@ -8,9 +8,10 @@ ghost use Rattle.tla_core.specs.SetForms.{means-filtered};
 ghost use Rattle.tla_core.specs.Value.{means};
 ghost use Rattle.tla_core.specs.ExprOf.{expr_of};
 ghost use Rattle.tla_eval.specs.Gives.{Gives, GivesBy, GivesTruth, GivesBorrowed};
-ghost use Rattle.tla_eval.specs.Environment.{Evaluates, bound_in, present_in, next_in};
+ghost use Rattle.tla_eval.specs.Private.Environment.{Evaluates, bound_in, present_in, next_in};
 
 use crate::environment::{Environment, Evaluated, Scope};
+use crate::evaluation::patterns::body_value;
 use crate::evaluation::{ask, evaluate};
 use crate::rules::{copied, fault_at};
 use crate::sets::{keep_copy, made_set, members};
@@ -159,7 +160,7 @@ pub(super) fn value_with<'a>(
         now: env.now,
         next: env.next,
     };
-    evaluate(alloc, body, inner)?.into_value(alloc)
+    body_value(alloc, body, inner)?.into_value(alloc)
 }
 
 /// The elements of a set of which a body is TRUE.

@@ -6,12 +6,13 @@ ghost use Rattle.tla_core.specs.Meaning.{Meaning};
 ghost use Rattle.tla_core.specs.Value.{means};
 ghost use Rattle.tla_core.specs.ExprOf.{expr_of, parts_of_cores};
 ghost use Rattle.tla_eval.specs.Gives.{Gives, GivesBy, image_rule, chosen_function_rule, chosen_rule, values_for};
-ghost use Rattle.tla_eval.specs.Environment.{Evaluates, tree_of_evaluated, bound_in, present_in, next_in};
+ghost use Rattle.tla_eval.specs.Private.Environment.{Evaluates, tree_of_evaluated, bound_in, present_in, next_in};
 
 use crate::domain::{choice_at, function_on, lists_of};
 use crate::environment::{Environment, Evaluated, Scope};
 use crate::evaluation::binding::value_with;
 use crate::evaluation::evaluate;
+use crate::evaluation::patterns::body_value;
 use crate::sets::made_set;
 use std::alloc::Global;
 use tla_core::{Core, Fault, Place, memory};
@@ -125,7 +126,7 @@ fn for_choices<'l, 'a>(
 
 /// The value of a body with more bound values.
 #[cycle(evaluate)]
-fn value_with_all<'a>(
+pub(super) fn value_with_all<'a>(
     alloc: Global,
     body: &'a Core,
     choice: &'a [Value],
@@ -139,5 +140,5 @@ fn value_with_all<'a>(
         now: env.now,
         next: env.next,
     };
-    evaluate(alloc, body, inner)?.into_value(alloc)
+    body_value(alloc, body, inner)?.into_value(alloc)
 }

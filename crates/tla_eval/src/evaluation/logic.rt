@@ -5,7 +5,7 @@ ghost use Rattle.tla_core.specs.Logic.{means-conjunction, means-disjunction, mea
 ghost use Rattle.tla_core.specs.Value.{means};
 ghost use Rattle.tla_core.specs.ExprOf.{expr_of, parts_of_cores, arms_of_cores};
 ghost use Rattle.tla_eval.specs.Gives.{GivesTruth};
-ghost use Rattle.tla_eval.specs.Environment.{Evaluates, bound_in, present_in, next_in};
+ghost use Rattle.tla_eval.specs.Private.Environment.{Evaluates, bound_in, present_in, next_in};
 
 use crate::environment::{Environment, Evaluated};
 use crate::evaluation::{ask, evaluate, has};

@@ -7,7 +7,7 @@ ghost use Rattle.tla_core.specs.SetForms.{means-cup, means-cap, means-minus};
 ghost use Rattle.tla_core.specs.Value.{mem, means};
 ghost use Rattle.tla_core.specs.ExprOf.{expr_of};
 ghost use Rattle.tla_eval.specs.Gives.{GivesTruth};
-ghost use Rattle.tla_eval.specs.Environment.{Evaluates, bound_in, present_in, next_in};
+ghost use Rattle.tla_eval.specs.Private.Environment.{Evaluates, bound_in, present_in, next_in};
 
 use crate::environment::{Environment, Evaluated};
 use crate::evaluation::{evaluate, has};

@@ -7,7 +7,7 @@ ghost use Rattle.tla_core.specs.Meaning.{Meaning, means-unary, means-binary, mea
 ghost use Rattle.tla_core.specs.Value.{means};
 ghost use Rattle.tla_core.specs.ExprOf.{expr_of, parts_of_cores, fields_of_cores, unary_of, binary_of};
 ghost use Rattle.tla_eval.specs.Gives.{GivesBy, named_value, record_rule};
-ghost use Rattle.tla_eval.specs.Environment.{Evaluates, bound_in, present_in, next_in};
+ghost use Rattle.tla_eval.specs.Private.Environment.{Evaluates, bound_in, present_in, next_in};
 
 use crate::environment::{Environment, Evaluated};
 use crate::evaluation::evaluate;

@@ -7,7 +7,7 @@ ghost use Rattle.tla_core.specs.Meaning.{Meaning};
 ghost use Rattle.tla_core.specs.SetForms.{means-records, means-product, field_has, parts_have};
 ghost use Rattle.tla_core.specs.ExprOf.{parts_of_cores, fields_of_cores};
 ghost use Rattle.tla_eval.specs.Gives.{GivesBy, GivesTruth, values_of, product_rule, record_set_rule};
-ghost use Rattle.tla_eval.specs.Environment.{Evaluates, tree_of_evaluated, bound_in, present_in, next_in};
+ghost use Rattle.tla_eval.specs.Private.Environment.{Evaluates, tree_of_evaluated, bound_in, present_in, next_in};
 
 use crate::environment::{Environment, Evaluated};
 use crate::evaluation::choices::evaluated_each;

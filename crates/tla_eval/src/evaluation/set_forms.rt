@@ -8,7 +8,7 @@ ghost use Rattle.tla_core.specs.SetForms.{means-power, means-functions};
 ghost use Rattle.tla_core.specs.Value.{mem, means};
 ghost use Rattle.tla_core.specs.ExprOf.{expr_of};
 ghost use Rattle.tla_eval.specs.Gives.{GivesTruth, values_of};
-ghost use Rattle.tla_eval.specs.Environment.{Evaluates, bound_in, present_in, next_in};
+ghost use Rattle.tla_eval.specs.Private.Environment.{Evaluates, bound_in, present_in, next_in};
 
 use crate::environment::{Environment, Evaluated};
 use crate::evaluation::membership::has_all;

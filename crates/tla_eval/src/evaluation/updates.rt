@@ -4,7 +4,7 @@ ghost use Rattle.tla_core.specs.Functions.{means-except, update, update_all};
 ghost use Rattle.tla_core.specs.Value.{means};
 ghost use Rattle.tla_core.specs.ExprOf.{expr_of, parts_of_cores, updates_of_cores};
 ghost use Rattle.tla_eval.specs.Gives.{Gives};
-ghost use Rattle.tla_eval.specs.Environment.{Evaluates, tree_of_evaluated, bound_in, present_in, next_in};
+ghost use Rattle.tla_eval.specs.Private.Environment.{Evaluates, tree_of_evaluated, bound_in, present_in, next_in};
 
 use crate::environment::{Environment, Evaluated};
 use crate::evaluation::binding::value_with;

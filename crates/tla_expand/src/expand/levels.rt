@@ -4,8 +4,8 @@
 ghost use Rattle.std.specs.Prelude.{◌≡◌, ◌≤◌, ◌<◌, ◌+◌, length, OnOk, IfErr};
 ghost use Rattle.tla_expand.specs.Primes.{settled_primes, with_primes};
 ghost use Rattle.tla_expand.specs.Scopes.{AreLinked, scope_at};
-ghost use Rattle.tla_expand.specs.Forms.{form_in};
-ghost use Rattle.tla_expand.specs.Gives.{kept_part, changed_in, part_in, both, Gives, GivesTwo, SaysNone};
+ghost use Rattle.tla_expand.specs.Private.Forms.{form_in};
+ghost use Rattle.tla_expand.specs.Private.Gives.{kept_part, changed_in, part_in, both, Gives, GivesTwo, SaysNone};
 
 use crate::arena::Entry;
 use crate::expand::kept::{changed, kept, settled};

@@ -1,6 +1,6 @@
 use Rattle.std.proofs.Common.{suc}
 use Rattle.counted_writer.specs.PutsLaws.{puts_then, puts_short, puts_exit}
-use Rattle.tla_check.specs.Pieces.{piece_text}
+use Rattle.tla_check.specs.Private.Pieces.{piece_text}
 use Rattle.tla_check.proofs.Lines.{pieces_more, pieces_rest}
 use Rattle.tla_check.proofs.report.put_pieces.Goals as goal
 

@@ -1,6 +1,6 @@
 use Rattle.std.proofs.Common.{take, Ok}
 use Rattle.counted_writer.specs.Puts.{Puts}
-use Rattle.tla_check.specs.Pieces.{pieces_text}
+use Rattle.tla_check.specs.Private.Pieces.{pieces_text}
 use Rattle.tla_check.proofs.report.put_pieces.Given as goal
 
 abbrev pub invariant-loop-piece : goal.invariant-loop-piece

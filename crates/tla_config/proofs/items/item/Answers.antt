@@ -1,8 +1,8 @@
 use Rattle.std.proofs.Common.{◌≡◌, ◌+◌, true, refl, sym, ◌∙◌, slice_get}
 use Rattle.std.proofs.lemmas.Result.{err_from_is_err_and}
 use Rattle.tla_lex.specs.declared.token.Kind.TheVariants as k
-use Rattle.tla_config.specs.Fronts.{kind_at}
-use Rattle.tla_config.specs.GivesValues.{NoValue, NoItem}
+use Rattle.tla_config.specs.Private.Fronts.{kind_at}
+use Rattle.tla_config.specs.Private.GivesValues.{NoValue, NoItem}
 use Rattle.tla_config.proofs.Arms.{fails_map}
 use Rattle.tla_config.proofs.ItemLists.{no_value_item, bracket_item, bracket_left_out, value_because}
 use Rattle.tla_config.proofs.items.item.Goals as goal

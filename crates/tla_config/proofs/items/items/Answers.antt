@@ -1,7 +1,7 @@
 use Rattle.std.proofs.Common.{◌≡◌, ◌++◌, ◌∷◌, [], map, arith, ap, ◌∙◌}
 use Rattle.std.proofs.lemmas.List.{map-append}
 use Rattle.std.proofs.lemmas.Result.{err_from_is_err_and}
-use Rattle.tla_config.specs.GivesValues.{NoItem, NoItems}
+use Rattle.tla_config.specs.Private.GivesValues.{NoItem, NoItems}
 use Rattle.tla_config.specs.View.{item_view}
 use Rattle.tla_config.proofs.Arms.{fails_map}
 use Rattle.tla_config.proofs.ItemLists.{items_none, items_more, items_last, items_fail, items_because}

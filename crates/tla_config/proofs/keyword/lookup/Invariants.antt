@@ -1,5 +1,5 @@
 use Rattle.std.proofs.Common.{◌≡◌, length, map}
-use Rattle.tla_config.specs.Keywords.{lookup}
+use Rattle.tla_config.specs.Private.Keywords.{lookup}
 use Rattle.tla_config.proofs.keyword.lookup.Given as goal
 
 abbrev pub invariant-loop-left : goal.invariant-loop-left

@@ -2,7 +2,7 @@ use Rattle.std.proofs.Common.{arith}
 use Rattle.std.proofs.lemmas.Result.{err_from_is_err_and}
 use Rattle.tla_tree.specs.declared.word.Written.{Written}
 use Rattle.tla_config.specs.Configuration.{IsName}
-use Rattle.tla_config.specs.Gives.{NoNames}
+use Rattle.tla_config.specs.Private.Gives.{NoNames}
 use Rattle.tla_config.proofs.Arms.{fails_map}
 use Rattle.tla_config.proofs.NameLists.{so_far_none, so_far_more, so_far_last, so_far_no_name}
 use Rattle.tla_config.proofs.names.names.Goals as goal

@@ -1,7 +1,7 @@
 use Rattle.std.proofs.Common.{◌∙◌, sym, subst}
 use Rattle.tla_lex.specs.Reads.{Reads}
 use Rattle.tla_lex.specs.declared.lexeme.Source.TheVariants.{Configuration}
-use Rattle.tla_config.specs.Gives.{Because, LeftOutAt, TooLargeAt, NoLeftOutWord}
+use Rattle.tla_config.specs.Private.Gives.{Because, LeftOutAt, TooLargeAt, NoLeftOutWord}
 use Rattle.tla_config.proofs.TextEnd.{reads_end}
 use Rattle.tla_config.proofs.Told.{no_word_told}
 use Rattle.tla_config.proofs.parse.parse_config.Goals as goal

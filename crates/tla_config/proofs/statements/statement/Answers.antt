@@ -1,6 +1,6 @@
 use Rattle.std.proofs.Common.{◌≡◌, Some, slice_get}
 use Rattle.tla_config.specs.declared.keyword.Keyword.TheVariants as word
-use Rattle.tla_config.specs.Fronts.{keyword_of}
+use Rattle.tla_config.specs.Private.Fronts.{keyword_of}
 use Rattle.tla_config.proofs.Arms.{left_out, left_out_here}
 use Rattle.tla_config.proofs.statements.statement.Goals as goal
 

@@ -1,7 +1,7 @@
 use Rattle.std.proofs.Common.{◌≡◌, ◌++◌, ◌∷◌, [], map, ap, ◌∙◌}
 use Rattle.std.proofs.lemmas.List.{map-append}
 use Rattle.std.proofs.lemmas.Result.{err_from_is_err_and}
-use Rattle.tla_config.specs.Gives.{NoStatement, NoStatements}
+use Rattle.tla_config.specs.Private.Gives.{NoStatement, NoStatements}
 use Rattle.tla_config.specs.View.{statement_view}
 use Rattle.tla_config.proofs.Arms.{fails_map}
 use Rattle.tla_config.proofs.StatementLists.{so_far_more, so_far_all, so_far_fails, so_far_twice, so_far_twice_no_word, so_far_because, so_far_all_no_word, checks_next, few_checks}

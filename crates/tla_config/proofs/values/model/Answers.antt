@@ -1,7 +1,7 @@
 use Rattle.std.proofs.Common.{◌≡◌, [], None, Some, ap, sym, ◌∙◌}
 use Rattle.tla_tree.specs.Words.{word_of}
 use Rattle.tla_value.specs.Tree.{model}
-use Rattle.tla_config.specs.Keywords.{keywords, lookup}
+use Rattle.tla_config.specs.Private.Keywords.{keywords, lookup}
 use Rattle.tla_config.proofs.Atoms.{model_is, model_fails, text_because}
 use Rattle.tla_config.proofs.values.model.Goals as goal
 

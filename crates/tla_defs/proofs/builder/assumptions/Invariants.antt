@@ -3,7 +3,7 @@ use Rattle.tla_core.specs.Expr.{Expr}
 use Rattle.tla_core.specs.ExprOf.{expr_of}
 use Rattle.tla_expand.specs.Names.{scope_of}
 use Rattle.tla_tree.specs.UnitsView.{unit_view}
-use Rattle.tla_defs.specs.Formulas.{LacksAssumption}
+use Rattle.tla_defs.specs.Private.Formulas.{LacksAssumption}
 use Rattle.tla_defs.specs.Model.{AreAssumptions, assumptions_of}
 use Rattle.tla_defs.proofs.builder.assumptions.Given as goal
 

@@ -3,7 +3,7 @@ use Rattle.std.proofs.lemmas.Result.{err_from_is_err_and}
 use Rattle.tla_expand.specs.Names.{scope_of}
 use Rattle.tla_model.specs.ModelOf.{predicate_of}
 use Rattle.tla_tree.specs.declared.word.Written.{Written}
-use Rattle.tla_defs.specs.Formulas.{LacksPredicate, mentions}
+use Rattle.tla_defs.specs.Private.Formulas.{LacksPredicate, mentions}
 use Rattle.tla_defs.specs.Model.{AreStatePredicates}
 use Rattle.tla_defs.proofs.builder.constraints.Goals as goal
 

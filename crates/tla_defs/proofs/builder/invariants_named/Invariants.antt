@@ -1,6 +1,6 @@
 use Rattle.std.proofs.Common.{◌≡◌, ◌++◌, length, map}
 use Rattle.tla_config.specs.View.{statement_view}
-use Rattle.tla_defs.specs.Formulas.{mentions}
+use Rattle.tla_defs.specs.Private.Formulas.{mentions}
 use Rattle.tla_defs.specs.Model as model
 use Rattle.tla_defs.proofs.builder.invariants_named.Given as goal
 

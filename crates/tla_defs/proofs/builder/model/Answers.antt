@@ -6,8 +6,8 @@ use Rattle.tla_config.specs.View.{statement_view}
 use Rattle.tla_expand.specs.Names.{scope_of}
 use Rattle.tla_tree.specs.UnitsView.{unit_view}
 use Rattle.tla_defs.specs.Global.{global}
-use Rattle.tla_defs.specs.Mentions.{behaviour_of}
-use Rattle.tla_defs.specs.Specified.{action_tree}
+use Rattle.tla_defs.specs.Private.Mentions.{behaviour_of}
+use Rattle.tla_defs.specs.Private.Specified.{action_tree}
 use Rattle.tla_defs.proofs.Found.{parts_model}
 use Rattle.tla_defs.proofs.Means.{meaning_behaviour, no_meaning}
 use Rattle.tla_defs.proofs.Nones.{no_init, no_next, no_invariants, no_constraints, no_assumptions}

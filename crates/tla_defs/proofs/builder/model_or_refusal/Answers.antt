@@ -2,7 +2,7 @@ use Rattle.std.proofs.Common.{map, ap, ◌∙◌}
 use Rattle.std.proofs.lemmas.Result.{err_from_is_err_and}
 use Rattle.tla_tree.specs.UnitsView.{unit_view}
 use Rattle.tla_config.specs.Statements.{items_of}
-use Rattle.tla_defs.specs.Mentions.{behaviour_of}
+use Rattle.tla_defs.specs.Private.Mentions.{behaviour_of}
 use Rattle.tla_defs.proofs.Behaviours.{behaviour_only}
 use Rattle.tla_defs.proofs.Nones.{no_behaviour, no_items, no_names, no_circle, last_refusal, if_err}
 use Rattle.tla_defs.proofs.builder.model_or_refusal.Goals as goal

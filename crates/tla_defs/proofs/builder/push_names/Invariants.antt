@@ -1,5 +1,5 @@
 use Rattle.std.proofs.Common.{◌≡◌, ◌++◌, length}
-use Rattle.tla_defs.specs.Formulas.{mentions}
+use Rattle.tla_defs.specs.Private.Formulas.{mentions}
 use Rattle.tla_defs.proofs.builder.push_names.Given as goal
 
 abbrev pub invariant-loop-left : goal.invariant-loop-left

@@ -1,7 +1,7 @@
 use Rattle.std.proofs.Common.{map}
 use Rattle.tla_expand.specs.Names.{scope_of}
 use Rattle.tla_model.specs.ModelOf.{predicate_of}
-use Rattle.tla_defs.specs.Formulas.{mentions}
+use Rattle.tla_defs.specs.Private.Formulas.{mentions}
 use Rattle.tla_defs.proofs.Found.{predicates_end}
 use Rattle.tla_defs.proofs.builder.state_predicates.Goals as goal
 

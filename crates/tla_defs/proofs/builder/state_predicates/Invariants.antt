@@ -1,7 +1,7 @@
 use Rattle.std.proofs.Common.{length, map}
 use Rattle.tla_expand.specs.Names.{scope_of}
 use Rattle.tla_model.specs.ModelOf.{predicate_of}
-use Rattle.tla_defs.specs.Formulas.{LacksPredicate, Follow, mentions}
+use Rattle.tla_defs.specs.Private.Formulas.{LacksPredicate, Follow, mentions}
 use Rattle.tla_defs.proofs.builder.state_predicates.Given as goal
 
 abbrev pub invariant-loop-left : goal.invariant-loop-left

@@ -1,8 +1,8 @@
 use Rattle.std.proofs.Common.{◌≡◌, ◌++◌, ◌∷◌, [], List, subst, Some, None, ap, sym, ◌∙◌, option_map}
 use Rattle.std.specs.Prelude.{unwrap_or}
 use Rattle.tla_defs.specs.declared.conjuncts.Formula.{Formula}
-use Rattle.tla_defs.specs.Conjuncts.{replaced_in, fair_names, conjuncts_from, conjuncts_left, AreFoundOrLeft}
-use Rattle.tla_defs.specs.Seen.{tree_at}
+use Rattle.tla_defs.specs.Private.Conjuncts.{replaced_in, fair_names, conjuncts_from, conjuncts_left, AreFoundOrLeft}
+use Rattle.tla_defs.specs.Private.Seen.{tree_at}
 use Rattle.tla_defs.specs.Specification.{conjuncts_of}
 use Rattle.tla_defs.proofs.FoundOrLeft.{goes_on, one_part, two_parts, fair_part, sorted, on_ok, on_ok_two}
 use Rattle.tla_defs.proofs.conjuncts.go_on.Goals as goal

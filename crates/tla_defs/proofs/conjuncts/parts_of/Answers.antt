@@ -1,7 +1,7 @@
 use Rattle.std.proofs.Common.{List, subst}
 use Rattle.tla_tree.specs.View.{view}
 use Rattle.tla_defs.specs.declared.conjuncts.Formula.{Formula}
-use Rattle.tla_defs.specs.Conjuncts.{replaced_in, fair_names, initials_by, AreFoundOrLeft}
+use Rattle.tla_defs.specs.Private.Conjuncts.{replaced_in, fair_names, initials_by, AreFoundOrLeft}
 use Rattle.tla_defs.specs.Specification.{conjuncts, steps_of}
 use Rattle.tla_defs.proofs.conjuncts.parts_of.Goals as goal
 

@@ -1,4 +1,4 @@
-use Rattle.tla_defs.specs.Conjuncts.{replaced_in, fair_names, initials_by, AreFoundOrLeft}
+use Rattle.tla_defs.specs.Private.Conjuncts.{replaced_in, fair_names, initials_by, AreFoundOrLeft}
 use Rattle.tla_tree.specs.View.{view}
 use Rattle.tla_defs.specs.Specification.{conjuncts, steps_of}
 use Rattle.tla_defs.proofs.conjuncts.parts_of.Given as goal

@@ -3,7 +3,7 @@ use Rattle.std.proofs.Math.Seq.{take-suc}
 use Rattle.std.proofs.lemmas.List.{append_assoc}
 use Rattle.tla_tree.specs.Tree.{trees}
 use Rattle.tla_tree.specs.View.{view}
-use Rattle.tla_defs.specs.Conjuncts.{conjuncts_left}
+use Rattle.tla_defs.specs.Private.Conjuncts.{conjuncts_left}
 use Rattle.tla_defs.specs.Specification.{conjuncts_of, conjuncts_each, conjuncts_in}
 use Rattle.tla_defs.proofs.FoundOrLeft.{conjuncts_left_last, each_more}
 use Rattle.tla_defs.proofs.conjuncts.push_each.Goals as goal

@@ -1,7 +1,7 @@
 use Rattle.std.proofs.Common.{◌≡◌, ◌++◌, ◌-◌, length, map, take}
 use Rattle.tla_tree.specs.Tree.{trees}
 use Rattle.tla_tree.specs.View.{view}
-use Rattle.tla_defs.specs.Conjuncts.{conjuncts_left}
+use Rattle.tla_defs.specs.Private.Conjuncts.{conjuncts_left}
 use Rattle.tla_defs.specs.Bodies.{Bodies}
 use Rattle.tla_defs.specs.Specification.{conjuncts_of, conjuncts_each}
 use Rattle.tla_defs.proofs.conjuncts.push_each.Given as goal

@@ -3,7 +3,7 @@ use Rattle.tla_tree.specs.Tree.{trees}
 use Rattle.tla_tree.specs.View.{view}
 use denote.Param.Weighed.{most}
 use Rattle.tla_tree.specs.declared.tree.Expr.{size-Expr}
-use Rattle.tla_defs.specs.Conjuncts.{found_names}
+use Rattle.tla_defs.specs.Private.Conjuncts.{found_names}
 use Rattle.tla_defs.specs.Fairness.{fair_each}
 use Rattle.tla_defs.proofs.fairness.+fair.Given as goal
 

@@ -1,7 +1,7 @@
 use Rattle.std.proofs.Common.{length}
 use Rattle.tla_expand.specs.Names.{scope_of}
-use Rattle.tla_defs.specs.Seen.{seen}
-use Rattle.tla_defs.specs.Specified.{LacksState}
+use Rattle.tla_defs.specs.Private.Seen.{seen}
+use Rattle.tla_defs.specs.Private.Specified.{LacksState}
 use Rattle.tla_defs.proofs.specification.each_of_state_level.Given as goal
 
 abbrev pub invariant-loop-left : goal.invariant-loop-left

@@ -4,13 +4,13 @@ use Rattle.std.proofs.lemmas.Result.{err_from_is_err_and}
 use Rattle.tla_expand.specs.Names.{scope_of}
 use Rattle.tla_tree.specs.Tree.{Tree}
 use Rattle.tla_tree.specs.UnitsView.{unit_view}
-use Rattle.tla_defs.specs.Seen.{tree_at, seen}
+use Rattle.tla_defs.specs.Private.Seen.{tree_at, seen}
 use Rattle.tla_defs.specs.Bodies as spec
 use Rattle.tla_defs.specs.Bodies.{body_of}
 use Rattle.tla_defs.specs.Specification.{conjuncts, replaced_by, steps_of, initials_of}
-use Rattle.tla_defs.specs.Table.{bodies_by, found_by}
-use Rattle.tla_defs.specs.Parts.{step_of, steps_in}
-use Rattle.tla_defs.specs.Parts.{AreMany}
+use Rattle.tla_defs.specs.Private.Table.{bodies_by, found_by}
+use Rattle.tla_defs.specs.Private.Parts.{step_of, steps_in}
+use Rattle.tla_defs.specs.Private.Parts.{AreMany}
 use Rattle.tla_defs.proofs.Forms.{made_known, initials_known, replaced_known, many, no_body, not_one, no_conjunct, not_covered, lacking, found, one_item, none_seen, some_seen}
 use Rattle.tla_defs.proofs.specification.specification.Goals as goal
 

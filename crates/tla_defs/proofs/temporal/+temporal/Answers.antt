@@ -2,7 +2,7 @@ use Rattle.std.proofs.Common.{◌≡◌, ◌++◌, ap, sym, ◌∙◌, map}
 use Rattle.tla_tree.specs.Tree.{trees, binders}
 use Rattle.tla_tree.specs.View.{view, group_view, views_items, bound_views_items}
 use Rattle.tla_names.specs.Scope.{plain, bound_names}
-use Rattle.tla_defs.specs.Conjuncts.{found_names}
+use Rattle.tla_defs.specs.Private.Conjuncts.{found_names}
 use Rattle.tla_defs.specs.Temporal.{temporal_in, some_temporal}
 use Rattle.tla_defs.proofs.temporal.+temporal.Goals as goal
 

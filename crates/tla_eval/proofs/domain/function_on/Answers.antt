@@ -2,7 +2,7 @@ use Rattle.std.proofs.Common.{map, [], ◌∷◌, ap, sym, subst, ◌∙◌, ari
 use Rattle.tla_value.specs.Tree.{Tree}
 use Rattle.tla_value.specs.TreeOf.{tree_of, pair_of}
 use Rattle.tla_value.specs.Funs.{fun_of}
-use Rattle.tla_eval.specs.Environment.{tree_of_evaluated}
+use Rattle.tla_eval.specs.Private.Environment.{tree_of_evaluated}
 use Rattle.tla_core.specs.Fault.{Outcome}
 use Rattle.tla_eval.specs.Gives.{Gives}
 use Rattle.tla_core.specs.Kinds.{as_set, make_fun}

@@ -5,7 +5,7 @@ use Rattle.tla_value.specs.TreeOf.{tree_of, pair_of}
 use Rattle.tla_value.specs.Funs.{fun_of}
 use Rattle.tla_value.specs.Sets.{set_of, MakesSetOfFunctions}
 use Rattle.tla_value.specs.Choices.{tuples_of}
-use Rattle.tla_eval.specs.Environment.{tree_of_evaluated}
+use Rattle.tla_eval.specs.Private.Environment.{tree_of_evaluated}
 use Rattle.tla_core.specs.Fault.{Outcome}
 use Rattle.tla_eval.specs.Gives.{Gives}
 use Rattle.tla_eval.proofs.Domains.{AllRise, tuples_made, tuples_refused}

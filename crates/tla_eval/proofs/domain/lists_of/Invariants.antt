@@ -1,7 +1,7 @@
 use Rattle.std.proofs.Common.{◌≡◌, ◌++◌, drop, map, Ok, Bor, List}
 use Rattle.tla_value.specs.TreeOf.{tree_of}
 use Rattle.tla_value.specs.declared.value.Value.{Value}
-use Rattle.tla_eval.specs.Environment.{tree_of_evaluated}
+use Rattle.tla_eval.specs.Private.Environment.{tree_of_evaluated}
 use Rattle.tla_core.specs.Fault.{◌>>=◌}
 use Rattle.tla_core.specs.Kinds.{as_set}
 use Rattle.tla_core.specs.Lists.{each}

@@ -4,6 +4,7 @@ use Rattle.tla_value.specs.Choices.{choices}
 use Rattle.tla_core.specs.Logic.{means-conjunction, means-disjunction, means-cases}
 use Rattle.tla_core.specs.Meaning.{Meaning, asks, means-enumerated, means-tuple}
 use Rattle.tla_core.specs.Functions.{means-except}
+use Rattle.tla_core.specs.Patterns.{means-opened}
 use Rattle.tla_core.specs.Value.{means, mem}
 use Rattle.tla_core.specs.ExprOf.{expr_of, parts_of_cores, fields_of_cores, arms_of_cores, updates_of_cores}
 use Rattle.tla_value.specs.Tree.{Tree}
@@ -12,7 +13,7 @@ use Rattle.tla_eval.specs.Gives.{GivesBy, GivesTruth, record_rule, image_rule, c
 use Rattle.tla_value.specs.TreeOf.{tree_of, pair_of}
 use Rattle.tla_core.specs.declared.expression.Core.{Core}
 use Rattle.tla_value.specs.declared.value.Value.{Value}
-use Rattle.tla_eval.specs.Environment.{Evaluates, tree_of_evaluated, bound_in, present_in, next_in}
+use Rattle.tla_eval.specs.Private.Environment.{Evaluates, tree_of_evaluated, bound_in, present_in, next_in}
 use Rattle.tla_core.proofs.Loops.{all_hold_step, some_hold_step, first_passing_step}
 use Rattle.tla_eval.proofs.Collected.{record_is}
 use Rattle.tla_eval.proofs.Choices.{image_is, function_is, chosen_step, chosen_from, chosen_end, chosen_long, passing_step}
@@ -121,6 +122,14 @@ evaluate-returns-in-Function t c =
     ∙ ap (λ us. chosen_function_rule n.place (parts_of_cores us) (means (expr_of n.body.value)) b s q) (sym c.deref-in-Function.ensures.value)
     ∙ ap (λ (k : Core). chosen_function_rule n.place (parts_of_cores c.deref-in-Function.result.now) (means (expr_of k)) b s q) (sym c.deref-in-Function-2.ensures) in
     subst (λ (o : Outcome Tree). Evaluates c.function.result o) (sym e) c.function.ensures
+
+pub evaluate-returns-in-Opened : goal.evaluate-returns-in-Opened
+evaluate-returns-in-Opened t c =
+    let n = c.in-Opened in
+    let e = ap (λ (k : Core). means (expr_of k)) n.is
+    ∙ ap (λ os. means-opened n.place os (means (expr_of n.body.value))) (sym c.deref-in-Opened.ensures.value)
+    ∙ ap (λ (k : Core). means-opened n.place c.deref-in-Opened.result.now (means (expr_of k))) (sym c.deref-in-Opened-2.ensures) in
+    subst (λ (m : Meaning). Evaluates c.opened.result (m.value (bound_in c.args.env) (present_in c.args.env) (next_in c.args.env))) (sym e) c.opened.ensures
 
 pub evaluate-returns-in-Except : goal.evaluate-returns-in-Except
 evaluate-returns-in-Except t c =

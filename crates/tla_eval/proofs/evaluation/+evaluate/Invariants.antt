@@ -12,7 +12,7 @@ use Rattle.tla_value.specs.Tree.{Tree}
 use Rattle.tla_value.specs.declared.value.Value.{Value}
 use Rattle.tla_core.specs.Value.{means, mem}
 use Rattle.tla_core.specs.ExprOf.{expr_of, parts_of_cores, fields_of_cores, arms_of_cores, updates_of_cores}
-use Rattle.tla_eval.specs.Environment.{tree_of_evaluated, bound_in, present_in, next_in}
+use Rattle.tla_eval.specs.Private.Environment.{tree_of_evaluated, bound_in, present_in, next_in}
 use Rattle.tla_core.specs.declared.expression.Core.{Core, size-Core}
 use Rattle.tla_eval.proofs.evaluation.+evaluate.Given as goal
 
@@ -25,7 +25,7 @@ abbrev pub decreases-evaluate : goal.decreases-evaluate
 decreases-evaluate l = 2 ^ 66 * size-Core l.core.now
 
 abbrev pub decreases-ask : goal.decreases-ask
-decreases-ask l = 2 ^ 66 * size-Core l.core.now + 1
+decreases-ask l = 2 ^ 66 * size-Core l.core.now + 2
 
 abbrev pub decreases-has : goal.decreases-has
 decreases-has l = 2 ^ 66 * size-Core l.core.now + 1
@@ -34,16 +34,25 @@ abbrev pub decreases-membership::has_all : goal.decreases-membership::has_all
 decreases-membership::has_all l = 2 ^ 66 * size-Core l.core.now + 2
 
 abbrev pub decreases-binding::ask_with : goal.decreases-binding::ask_with
-decreases-binding::ask_with l = 2 ^ 66 * size-Core l.body.now + 2
+decreases-binding::ask_with l = 2 ^ 66 * size-Core l.body.now + 3
 
 abbrev pub decreases-binding::each_holds : goal.decreases-binding::each_holds
-decreases-binding::each_holds l = 2 ^ 66 * size-Core l.body.now + 3
+decreases-binding::each_holds l = 2 ^ 66 * size-Core l.body.now + 4
 
 abbrev pub decreases-binding::some_holds : goal.decreases-binding::some_holds
-decreases-binding::some_holds l = 2 ^ 66 * size-Core l.body.now + 3
+decreases-binding::some_holds l = 2 ^ 66 * size-Core l.body.now + 4
 
 abbrev pub decreases-binding::first_passing : goal.decreases-binding::first_passing
-decreases-binding::first_passing l = 2 ^ 66 * size-Core l.body.now + 3
+decreases-binding::first_passing l = 2 ^ 66 * size-Core l.body.now + 4
+
+abbrev pub decreases-patterns::body_value : goal.decreases-patterns::body_value
+decreases-patterns::body_value l = 2 ^ 66 * size-Core l.body.now + 1
+
+abbrev pub decreases-patterns::opened : goal.decreases-patterns::opened
+decreases-patterns::opened l = 2 ^ 66 * size-Core l.body.now + 4
+
+abbrev pub decreases-patterns::tried : goal.decreases-patterns::tried
+decreases-patterns::tried l = 2 ^ 66 * size-Core l.set.now + 4
 
 abbrev pub decreases-operands::on_one : goal.decreases-operands::on_one
 decreases-operands::on_one l = 2 ^ 66 * size-Core l.operand.now + 4
@@ -64,13 +73,13 @@ abbrev pub decreases-logic::implies : goal.decreases-logic::implies
 decreases-logic::implies l = 2 ^ 66 * max (size-Core l.left.now) (size-Core l.right.now) + 4
 
 abbrev pub decreases-binding::for_all : goal.decreases-binding::for_all
-decreases-binding::for_all l = 2 ^ 66 * max (size-Core l.set.now) (size-Core l.body.now) + 4
+decreases-binding::for_all l = 2 ^ 66 * max (size-Core l.set.now) (size-Core l.body.now) + 5
 
 abbrev pub decreases-binding::for_some : goal.decreases-binding::for_some
-decreases-binding::for_some l = 2 ^ 66 * max (size-Core l.set.now) (size-Core l.body.now) + 4
+decreases-binding::for_some l = 2 ^ 66 * max (size-Core l.set.now) (size-Core l.body.now) + 5
 
 abbrev pub decreases-binding::choose : goal.decreases-binding::choose
-decreases-binding::choose l = 2 ^ 66 * max (size-Core l.set.now) (size-Core l.body.now) + 4
+decreases-binding::choose l = 2 ^ 66 * max (size-Core l.set.now) (size-Core l.body.now) + 5
 
 abbrev pub decreases-membership::is_member : goal.decreases-membership::is_member
 decreases-membership::is_member l = 2 ^ 66 * max (size-Core l.element.now) (size-Core l.set.now) + 4
@@ -124,35 +133,35 @@ abbrev pub decreases-operands::record_of : goal.decreases-operands::record_of
 decreases-operands::record_of l = 2 ^ 66 * goal.size-operands::record_of l + 4
 
 abbrev pub decreases-binding::value_with : goal.decreases-binding::value_with
-decreases-binding::value_with l = 2 ^ 66 * size-Core l.body.now + 1
+decreases-binding::value_with l = 2 ^ 66 * size-Core l.body.now + 2
 
 abbrev pub decreases-binding::filter : goal.decreases-binding::filter
-decreases-binding::filter l = 2 ^ 66 * max (size-Core l.set.now) (size-Core l.body.now) + 4
+decreases-binding::filter l = 2 ^ 66 * max (size-Core l.set.now) (size-Core l.body.now) + 5
 
 abbrev pub decreases-binding::passing : goal.decreases-binding::passing
-decreases-binding::passing l = 2 ^ 66 * size-Core l.body.now + 3
+decreases-binding::passing l = 2 ^ 66 * size-Core l.body.now + 4
 
 -- several names
 abbrev pub decreases-choices::image : goal.decreases-choices::image
-decreases-choices::image l = 2 ^ 66 * max (goal.size-choices::image l) (size-Core l.body.now) + 4
+decreases-choices::image l = 2 ^ 66 * max (goal.size-choices::image l) (size-Core l.body.now) + 5
 
 abbrev pub decreases-choices::function : goal.decreases-choices::function
-decreases-choices::function l = 2 ^ 66 * max (goal.size-choices::function l) (size-Core l.body.now) + 4
+decreases-choices::function l = 2 ^ 66 * max (goal.size-choices::function l) (size-Core l.body.now) + 5
 
 abbrev pub decreases-choices::evaluated_each : goal.decreases-choices::evaluated_each
 decreases-choices::evaluated_each l = 2 ^ 66 * goal.size-choices::evaluated_each l + 1
 
 abbrev pub decreases-choices::chosen : goal.decreases-choices::chosen
-decreases-choices::chosen l = 2 ^ 66 * size-Core l.body.now + 3
+decreases-choices::chosen l = 2 ^ 66 * size-Core l.body.now + 4
 
 abbrev pub decreases-choices::for_each : goal.decreases-choices::for_each
-decreases-choices::for_each l = 2 ^ 66 * size-Core l.body.now + 2
+decreases-choices::for_each l = 2 ^ 66 * size-Core l.body.now + 3
 
 abbrev pub decreases-choices::for_choices : goal.decreases-choices::for_choices
-decreases-choices::for_choices l = 2 ^ 66 * size-Core l.body.now + 2
+decreases-choices::for_choices l = 2 ^ 66 * size-Core l.body.now + 3
 
 abbrev pub decreases-choices::value_with_all : goal.decreases-choices::value_with_all
-decreases-choices::value_with_all l = 2 ^ 66 * size-Core l.body.now + 1
+decreases-choices::value_with_all l = 2 ^ 66 * size-Core l.body.now + 2
 
 -- updates: then how many keys are left
 abbrev pub decreases-updates::except : goal.decreases-updates::except
@@ -162,10 +171,10 @@ abbrev pub decreases-updates::updated_by_all : goal.decreases-updates::updated_b
 decreases-updates::updated_by_all l = 2 ^ 66 * goal.size-updates::updated_by_all l + 2 ^ 65 + 4
 
 abbrev pub decreases-updates::updated : goal.decreases-updates::updated
-decreases-updates::updated l = 2 ^ 66 * max (goal.size-updates::updated l) (size-Core l.body.now) + 2 * length l.keys.now + 2
+decreases-updates::updated l = 2 ^ 66 * max (goal.size-updates::updated l) (size-Core l.body.now) + 2 * length l.keys.now + 3
 
 abbrev pub decreases-updates::updated_at : goal.decreases-updates::updated_at
-decreases-updates::updated_at l = 2 ^ 66 * max (size-Core l.key.now) (max (goal.size-updates::updated_at l) (size-Core l.body.now)) + 2 * length l.rest.now + 3
+decreases-updates::updated_at l = 2 ^ 66 * max (size-Core l.key.now) (max (goal.size-updates::updated_at l) (size-Core l.body.now)) + 2 * length l.rest.now + 4
 
 -- sets
 abbrev pub decreases-set_forms::power : goal.decreases-set_forms::power

@@ -1,5 +1,5 @@
 use Rattle.std.proofs.Common.{◌≡◌, ◌++◌, drop, map, Ok}
-use Rattle.tla_eval.specs.Environment.{tree_of_evaluated}
+use Rattle.tla_eval.specs.Private.Environment.{tree_of_evaluated}
 use Rattle.tla_core.specs.ExprOf.{fields_of_cores}
 use Rattle.tla_core.specs.Fault.{◌>>=◌}
 use Rattle.tla_eval.specs.Gives.{named_sets}

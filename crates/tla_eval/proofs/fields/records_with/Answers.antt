@@ -2,7 +2,7 @@ use Rattle.std.proofs.Common.{map, ap, sym, subst, ◌∙◌}
 use Rattle.tla_value.specs.Tree.{Tree}
 use Rattle.tla_value.specs.Sets.{set_of, MakesSetOfFunctions}
 use Rattle.tla_value.specs.Choices.{keys_of, is_each_once, records_of}
-use Rattle.tla_eval.specs.Environment.{tree_of_evaluated}
+use Rattle.tla_eval.specs.Private.Environment.{tree_of_evaluated}
 use Rattle.tla_core.specs.ExprOf.{fields_of_cores}
 use Rattle.tla_core.specs.Fault.{Outcome}
 use Rattle.tla_eval.specs.Gives.{Gives}

@@ -3,7 +3,7 @@ use Rattle.tla_tree.specs.View.{group_view}
 use Rattle.tla_tree.specs.Tree.{binders}
 use Rattle.tla_expand.specs.Meanings.{Scope}
 use Rattle.tla_expand.specs.Expand.{binds_of}
-use Rattle.tla_expand.specs.Binders.{binds_in}
+use Rattle.tla_expand.specs.Private.Binders.{binds_in}
 use Rattle.tla_expand.proofs.binders.bind_list.Given as goal
 
 abbrev pub invariant-loop-i : goal.invariant-loop-i

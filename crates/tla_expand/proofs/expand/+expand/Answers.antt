@@ -17,16 +17,20 @@ use Rattle.tla_expand.specs.Nodes.{two, three, many, fielded}
 use Rattle.tla_expand.specs.Primes.{one_more, settled_primes, with_primes}
 use Rattle.tla_expand.specs.Expand.{expand, expand_step, binds_of}
 use Rattle.tla_expand.specs.Scopes.{scope_at}
-use Rattle.tla_expand.specs.Binders.{binds_in}
-use Rattle.tla_expand.specs.Bound.{with_names}
+use Rattle.tla_core.specs.Patterns.{items_in}
+use Rattle.tla_expand.specs.declared.failure.Failure.TheVariants.{TooLarge}
+use Rattle.tla_expand.specs.Private.Binders.{names_of, binds_in}
+use Rattle.tla_expand.specs.Bound.{last_or, nested, with_each, opening, openings, under_openings, with_elements, with_items}
 use Rattle.tla_expand.specs.Places.{place_of}
-use Rattle.tla_expand.specs.Gives.{Gives, part_in, arm_in, field_in, set_in, step_in, value_in, update_in, kept_part, changed_in, both, total, highest, sum_of, larger_of, field_nodes, field_depth, update_nodes, update_depth, parts_of}
-use Rattle.tla_expand.specs.Forms.{form_in}
+use Rattle.tla_expand.specs.Private.Gives.{Gives, Fails, part_in, arm_in, field_in, set_in, step_in, value_in, update_in, kept_part, changed_in, both, total, highest, sum_of, larger_of, field_nodes, field_depth, update_nodes, update_depth, parts_of}
+use Rattle.tla_expand.specs.Private.Forms.{form_in}
 use Rattle.tla_expand.proofs.Levels.{look_fails, unchanged_fails}
-use Rattle.tla_expand.proofs.Sizes.{no_room, none_left, first_fails, second_fails, two_give, node_fails, node_gives, same_limits, limits_are}
+use Rattle.tla_expand.proofs.Sizes.{Given, no_room, none_left, first_fails, second_fails, two_give, node_fails, node_gives, same_limits, limits_are, openings_primed, opened_gives, opened_fails, opened_full}
 use Rattle.tla_expand.proofs.Lists.{part_done, part_fails, all_done, total_more, highest_more}
 use Rattle.tla_expand.proofs.Made.{two_larger, three_larger, many_larger, cases_larger, cases_or_larger, fielded_larger, product_larger, except_larger, Triple}
 use Rattle.tla_expand.proofs.Links.{cut_back, home_keep, bind_scope}
+use Rattle.tla_expand.proofs.Binds.{scope_extends, extends_length}
+use Rattle.tla_expand.proofs.Groups.{items_same}
 use Rattle.tla_expand.proofs.Plain.{plain_head, tuple_fails, tuple_gives, equal_fails, equal_gives}
 use Rattle.tla_expand.proofs.Nested.{inner_fails, nested_gives}
 use Rattle.tla_expand.proofs.NamedParts.{field_some, field_fails}
@@ -312,32 +316,79 @@ kept::kept-returns-in_ok-many-in-Some-clause-same t c =
 
 pub binding::nested-returns-in_err-inner-clause-same : goal.binding::nested-returns-in_err-inner-clause-same
 binding::nested-returns-in_err-inner-clause-same t c =
-    let old = c.args.entries.now.items in
-    let new = c.enter.new.entries.items in
     let u = c.args.under in
-    let σ = scope_at old u.home in
+    let b = c.args.first in
+    let σ = scope_at c.args.entries.now.items u.home in
     let r = err_from_is_err_and c.from_residual-in_err-inner.result c.from_residual-in_err-inner.ensures.1 in
-    let k = c.in_ok-set.ensures.kept in
-    let h : scope_at new u.home ≡ σ = home_keep old c.expand.new.entries.items new _ u.home c.in_ok-scope.ensures.added k c.requires.home in
-    let s = bind_scope old c.expand.new.entries.items (scope_at new c.in_ok-scope.scope) c.args.at.scope c.as_bytes.result.now c.args.first.name.now.word c.args.at.bound c.in_ok-scope.ensures.scope k c.as_bytes.ensures in
-    let f = rw h at c.in_err-inner.ensures.same in
-    rw (r.1, r.2) (inner_fails u.node u.place (binds_in (c.args.first ∷ c.args.rest.now) σ) (c.args.first.name.now.word, expand (view c.args.first.set.now) σ) (binds_in c.args.rest.now σ) (expand (view u.body.now))
-    (scope_at old c.args.at.scope) (scope_at new c.in_ok-scope.scope) c.args.at.bound c.args.at.primes refl s
+    let f = rw c.in_ok-set.ensures.kept at c.in_err-inner.ensures.same in
+    rw (r.1, r.2) (inner_fails u.node u.place (binds_in (b ∷ c.args.rest.now) σ) (names_of b.names, expand (view b.set.now) σ) (binds_in c.args.rest.now σ) (expand (view u.body.now))
+    (scope_at c.args.entries.now.items c.args.at.scope) c.args.at.bound c.args.at.primes refl
     c.in_err-inner.field-0.0 c.args.at.room c.args.at.left c.in_ok-set.set.left (expr_of c.in_ok-set.set.core) c.in_ok-set.ensures.same.0 c.in_ok-set.ensures.same.1 f)
 
 pub binding::nested-returns-clause-same : goal.binding::nested-returns-clause-same
 binding::nested-returns-clause-same t c =
+    let u = c.args.under in
+    let b = c.args.first in
+    let σ = scope_at c.args.entries.now.items u.home in
+    let g = rw c.in_ok-set.ensures.kept at c.in_ok-inner.ensures.same in
+    nested_gives u.node u.place (binds_in (b ∷ c.args.rest.now) σ) (names_of b.names, expand (view b.set.now) σ) (binds_in c.args.rest.now σ) (expand (view u.body.now))
+    (scope_at c.args.entries.now.items c.args.at.scope) c.args.at.bound c.args.at.primes refl
+    c.args.at.room c.args.at.left c.in_ok-set.set.left c.in_ok-inner.inner.left (expr_of c.in_ok-set.set.core) (expr_of c.in_ok-inner.inner.core) (expr_of c.in_ok-core.core) c.in_ok-set.ensures.same g c.in_ok-core.ensures.ok
+
+pub binding::under_name-returns-in_err-inner-clause-same : goal.binding::under_name-returns-in_err-inner-clause-same
+binding::under_name-returns-in_err-inner-clause-same t c =
     let old = c.args.entries.now.items in
     let new = c.enter.new.entries.items in
+    let r = err_from_is_err_and c.from_residual-in_err-inner.result c.from_residual-in_err-inner.ensures.1 in
+    let h : scope_at new c.args.under.home ≡ scope_at old c.args.under.home = home_keep old old new _ c.args.under.home c.in_ok-scope.ensures.added refl c.requires.home in
+    let s = bind_scope old old (scope_at new c.in_ok-scope.scope) c.args.at.scope c.as_bytes.result.now c.args.name.now.word c.args.at.bound c.in_ok-scope.ensures.scope refl c.as_bytes.ensures in
+    rw (r.1, r.2) (rw (h, s) at c.in_err-inner.ensures.same)
+
+pub binding::under_name-returns-clause-same : goal.binding::under_name-returns-clause-same
+binding::under_name-returns-clause-same t c =
+    let old = c.args.entries.now.items in
+    let new = c.enter.new.entries.items in
+    let h : scope_at new c.args.under.home ≡ scope_at old c.args.under.home = home_keep old old new _ c.args.under.home c.in_ok-scope.ensures.added refl c.requires.home in
+    let s = bind_scope old old (scope_at new c.in_ok-scope.scope) c.args.at.scope c.as_bytes.result.now c.args.name.now.word c.args.at.bound c.in_ok-scope.ensures.scope refl c.as_bytes.ensures in
+    rw (h, s) at c.in_ok-inner.ensures.same
+
+pub binding::under_tuple-within-requires : goal.binding::under_tuple-within-requires
+binding::under_tuple-within-requires t c =
+    let e = c.in_ok-scope.ensures in
+    let longer = extends_length c.args.entries.now.items c.name_each.new.entries.items e.extends in
+    (omega arith, (e.linked, (omega (arith, longer, c.requires.home), (e.within, omega arith))))
+
+pub binding::under_tuple-returns-in_err-inner-clause-same : goal.binding::under_tuple-returns-in_err-inner-clause-same
+binding::under_tuple-returns-in_err-inner-clause-same t c =
+    let old = c.args.entries.now.items in
+    let new = c.name_each.new.entries.items in
     let u = c.args.under in
+    let ws = c.args.names.now in
+    let r = err_from_is_err_and c.from_residual-in_err-inner.result c.from_residual-in_err-inner.ensures.1 in
+    let h : scope_at new u.home ≡ scope_at old u.home = scope_extends old new u.home c.in_ok-scope.ensures.extends c.requires.home in
     let σ = scope_at old u.home in
-    let k = c.in_ok-set.ensures.kept in
-    let h : scope_at new u.home ≡ σ = home_keep old c.expand.new.entries.items new _ u.home c.in_ok-scope.ensures.added k c.requires.home in
-    let s = bind_scope old c.expand.new.entries.items (scope_at new c.in_ok-scope.scope) c.args.at.scope c.as_bytes.result.now c.args.first.name.now.word c.args.at.bound c.in_ok-scope.ensures.scope k c.as_bytes.ensures in
-    let g = rw h at c.in_ok-inner.ensures.same in
-    nested_gives u.node u.place (binds_in (c.args.first ∷ c.args.rest.now) σ) (c.args.first.name.now.word, expand (view c.args.first.set.now) σ) (binds_in c.args.rest.now σ) (expand (view u.body.now))
-    (scope_at old c.args.at.scope) (scope_at new c.in_ok-scope.scope) c.args.at.bound c.args.at.primes refl s
-    c.args.at.room c.args.at.left c.in_ok-set.set.left c.in_ok-inner.inner.left (expr_of c.in_ok-set.set.core) (expr_of c.in_ok-inner.inner.core) (expr_of c.in_ok-core.core) c.in_ok-set.ensures.same g c.in_ok-core.ensures.ok
+    let bs = binds_in c.args.rest.now σ in
+    let os = opening c.args.at.bound ws ∷ [] in
+    let o = last_or bs (expand (view u.body.now)) (nested u.node u.place bs (expand (view u.body.now))) (with_each ws (c.args.at.bound + 1) (scope_at old c.args.at.scope)) (c.args.at.bound + 1 + length ws) in
+    let f = rw (h, ← c.in_ok-scope.ensures.same) at c.in_err-inner.ensures.same in
+    rw (r.1, r.2, openings_primed c.args.at.primes u.place os o) (opened_fails u.place os c.in_err-inner.field-0.0 (with_primes c.args.at.primes o) c.args.at.room c.args.at.left (c.args.at.left - length ws) (omega arith) f)
+
+pub binding::under_tuple-returns-clause-same : goal.binding::under_tuple-returns-clause-same
+binding::under_tuple-returns-clause-same t c =
+    let old = c.args.entries.now.items in
+    let new = c.name_each.new.entries.items in
+    let u = c.args.under in
+    let ws = c.args.names.now in
+    let h : scope_at new u.home ≡ scope_at old u.home = scope_extends old new u.home c.in_ok-scope.ensures.extends c.requires.home in
+    let σ = scope_at old u.home in
+    let bs = binds_in c.args.rest.now σ in
+    let os = opening c.args.at.bound ws ∷ [] in
+    let o = last_or bs (expand (view u.body.now)) (nested u.node u.place bs (expand (view u.body.now))) (with_each ws (c.args.at.bound + 1) (scope_at old c.args.at.scope)) (c.args.at.bound + 1 + length ws) in
+    let g = rw (h, ← c.in_ok-scope.ensures.same) at c.in_ok-inner.ensures.same in
+    rw (openings_primed c.args.at.primes u.place os o) (opened_gives u.place os (with_primes c.args.at.primes o) (expr_of c.in_ok-inner.inner.core) (expr_of c.in_ok-core.core) c.args.at.room c.args.at.left (c.args.at.left - length ws) c.in_ok-inner.inner.left (omega arith) g (rw c.in_ok-openings.ensures.ok at (sym c.in_ok-core.ensures.ok)))
+
+pub binding::set_for-returns-in-Name-clause-same : goal.binding::set_for-returns-in-Name-clause-same
+binding::set_for-returns-in-Name-clause-same t c = rw c.in-Name.is c.in_ok-set.ensures.same
 
 pub fields_node-returns-in_err-made-clause-same : goal.fields_node-returns-in_err-made-clause-same
 fields_node-returns-in_err-made-clause-same t c =
@@ -404,7 +455,7 @@ pub binding::sets_of-returns-in_err-part-clause-same : goal.binding::sets_of-ret
 binding::sets_of-returns-in_err-part-clause-same t c =
     let r = err_from_is_err_and c.from_residual.result c.from_residual.ensures.1 in
     let f = rw c.loop-i.invariant.kept at c.in_err-part.ensures.same in
-    rw (r.1, r.2) (part_fails (set_in c.args.at.primes (scope_at c.args.entries.now.items c.args.at.scope) c.args.at.bound) c.args.binds.now nodes depth c.in_err-part.field-0.0
+    rw (r.1, r.2) (part_fails (set_in c.args.place c.args.at.primes (scope_at c.args.entries.now.items c.args.at.scope) c.args.at.bound) c.args.binds.now nodes depth c.in_err-part.field-0.0
     (map expr_of c.loop-i.parts.items) c.loop-i.i c.index-binds-i.result c.args.at.room c.args.at.left c.loop-i.left
     c.loop-i.invariant.so_far (omega arith) c.index-binds-i.is c.loop-i.invariant.left f)
 
@@ -418,7 +469,7 @@ binding::sets_of-loop-i-preserved t c =
     let n = total_more nodes old new x p in
     record {
       kept = c.in_ok-part.ensures.kept ∙ c.loop-i.invariant.kept;
-      so_far = part_done (set_in c.args.at.primes (scope_at c.args.entries.now.items c.args.at.scope) c.args.at.bound) c.args.binds.now old new c.loop-i.i c.index-binds-i.result x c.loop-i.invariant.so_far (omega arith) c.index-binds-i.is f.0 p;
+      so_far = part_done (set_in c.args.place c.args.at.primes (scope_at c.args.entries.now.items c.args.at.scope) c.args.at.bound) c.args.binds.now old new c.loop-i.i c.index-binds-i.result x c.loop-i.invariant.so_far (omega arith) c.index-binds-i.is f.0 p;
       left = omega (arith, f.1, c.loop-i.invariant.left, n);
       depth = highest_more depth old new x c.args.at.room p c.loop-i.invariant.depth f.2;
     }
@@ -426,7 +477,7 @@ binding::sets_of-loop-i-preserved t c =
 pub binding::sets_of-returns-clause-same : goal.binding::sets_of-returns-clause-same
 binding::sets_of-returns-clause-same t c =
     let z : drop c.loop-i.i c.args.binds.now ≡ [] = drop_all c.loop-i.i c.args.binds.now (omega arith) in (
-      all_done (set_in c.args.at.primes (scope_at c.args.entries.now.items c.args.at.scope) c.args.at.bound) c.args.binds.now (map expr_of c.loop-i.parts.items) c.loop-i.i z c.loop-i.invariant.so_far,
+      all_done (set_in c.args.place c.args.at.primes (scope_at c.args.entries.now.items c.args.at.scope) c.args.at.bound) c.args.binds.now (map expr_of c.loop-i.parts.items) c.loop-i.i z c.loop-i.invariant.so_far,
       c.loop-i.invariant.left,
       c.loop-i.invariant.depth,
     )
@@ -586,32 +637,73 @@ pub binding::gather_node-returns-in_err-sets-clause-same : goal.binding::gather_
 binding::gather_node-returns-in_err-sets-clause-same t c =
     let r = err_from_is_err_and c.from_residual-in_err-sets.result c.from_residual-in_err-sets.ensures.1 in
     let σ = scope_at c.args.entries.now.items c.args.at.scope in
-    let names = c.as_slice-names.result.now in
-    let is : binds_in names σ ≡ binds_of (binders (map group_view c.args.groups.now)) σ = rw c.as_slice-names.ensures.value (c.in_ok-binds.ensures.ok σ) in
-    rw (r.1, r.2) (sets_fail c.args.node c.args.place (binds_of (binders (map group_view c.args.groups.now)) σ) names (expand (view c.args.body.now)) σ (with_names (binds_in names σ) c.args.at.bound σ) c.args.at.bound c.args.at.primes is refl
+    let d = c.args.at.bound in
+    let binds = c.as_slice-binds.result.now in
+    let bs = binds_of (binders (map group_view c.args.groups.now)) σ in
+    let is : binds_in binds σ ≡ bs = rw c.as_slice-binds.ensures.value (c.in_ok-binds.ensures.ok σ) in
+    rw (r.1, r.2) (sets_fail c.args.node c.args.place bs binds (expand (view c.args.body.now)) σ (with_items bs (d + length binds) (with_elements bs d σ)) d c.args.at.primes is refl
     c.in_err-sets.field-0.0 c.args.at.room c.args.at.left c.in_err-sets.ensures.same)
+
+-- more items than nodes that are left
+pub binding::gather_node-returns-in_err-items-clause-same : goal.binding::gather_node-returns-in_err-items-clause-same
+binding::gather_node-returns-in_err-items-clause-same t c =
+    let r = err_from_is_err_and c.from_residual-in_err-items.result c.from_residual-in_err-items.ensures.1 in
+    let σ = scope_at c.args.entries.now.items c.args.at.scope in
+    let d = c.args.at.bound in
+    let binds = c.as_slice-binds.result.now in
+    let bs = binds_of (binders (map group_view c.args.groups.now)) σ in
+    let is : binds_in binds σ ≡ bs = rw c.as_slice-binds.ensures.value (c.in_ok-binds.ensures.ok σ) in
+    let os = openings bs d in
+    let body = expand (view c.args.body.now) in
+    let opened : c.in_ok-openings.openings.items ≡ os = rw (← is) (c.in_ok-openings.ensures.ok σ) in
+    let τ = with_items bs (d + length binds) (with_elements bs d σ) in
+    let o = body τ (d + length binds + items_in os) in
+    let full = rw (c.as_slice-opened.ensures.value, opened) at c.in_err-items.ensures.err.1 in
+    let none : Fails c.args.at.room c.in_ok-sets.sets.left TooLarge (with_primes c.args.at.primes (under_openings c.args.place os o)) = rw (openings_primed c.args.at.primes c.args.place os o) (opened_full c.args.place os (with_primes c.args.at.primes o) c.args.at.room c.in_ok-sets.sets.left full) in
+    rw (r.1, r.2, c.in_err-items.ensures.err.0) (body_fails c.args.node c.args.place bs binds body σ τ d c.args.at.primes is refl
+    TooLarge c.args.at.room c.args.at.left c.in_ok-sets.sets.left (map expr_of c.in_ok-sets.sets.parts.items) c.in_ok-sets.ensures.same none)
 
 pub binding::gather_node-returns-in_err-body-clause-same : goal.binding::gather_node-returns-in_err-body-clause-same
 binding::gather_node-returns-in_err-body-clause-same t c =
     let r = err_from_is_err_and c.from_residual-in_err-body.result c.from_residual-in_err-body.ensures.1 in
     let σ = scope_at c.args.entries.now.items c.args.at.scope in
-    let names = c.as_slice-names.result.now in
-    let is : binds_in names σ ≡ binds_of (binders (map group_view c.args.groups.now)) σ = rw c.as_slice-names.ensures.value (c.in_ok-binds.ensures.ok σ) in
+    let d = c.args.at.bound in
+    let binds = c.as_slice-binds.result.now in
+    let bs = binds_of (binders (map group_view c.args.groups.now)) σ in
+    let is : binds_in binds σ ≡ bs = rw c.as_slice-binds.ensures.value (c.in_ok-binds.ensures.ok σ) in
+    let os = openings bs d in
+    let body = expand (view c.args.body.now) in
+    let opened : c.in_ok-openings.openings.items ≡ os = rw (← is) (c.in_ok-openings.ensures.ok σ) in
+    let count : items_in os ≡ c.in_ok-items.items = rw (← opened, ← c.as_slice-opened.ensures.value) (sym c.in_ok-items.ensures.ok.0) in
     let τ = scope_at c.name_all.new.entries.items c.in_ok-scope.scope in
-    let named : with_names (binds_in names σ) c.args.at.bound σ ≡ τ = rw c.in_ok-sets.ensures.kept at (c.in_ok-scope.ensures.same σ) in
-    rw (r.1, r.2) (body_fails c.args.node c.args.place (binds_of (binders (map group_view c.args.groups.now)) σ) names (expand (view c.args.body.now)) σ τ c.args.at.bound c.args.at.primes is named
-    c.in_err-body.field-0.0 c.args.at.room c.args.at.left c.in_ok-sets.sets.left (map expr_of c.in_ok-sets.sets.parts.items) c.in_ok-sets.ensures.same c.in_err-body.ensures.same)
+    let named : with_items bs (d + length binds) (with_elements bs d σ) ≡ τ = rw (← is) (rw c.in_ok-sets.ensures.kept at (c.in_ok-scope.ensures.same σ)) in
+    let o = body τ (d + length binds + items_in os) in
+    let f = rw (← count) at c.in_err-body.ensures.same in
+    let inner : Fails c.args.at.room c.in_ok-sets.sets.left c.in_err-body.field-0.0 (with_primes c.args.at.primes (under_openings c.args.place os o)) = rw (openings_primed c.args.at.primes c.args.place os o) (opened_fails c.args.place os c.in_err-body.field-0.0 (with_primes c.args.at.primes o) c.args.at.room c.in_ok-sets.sets.left (c.in_ok-sets.sets.left - items_in os) (omega (arith, count, c.in_ok-items.ensures.ok.1)) f) in
+    rw (r.1, r.2) (body_fails c.args.node c.args.place bs binds body σ τ d c.args.at.primes is named
+    c.in_err-body.field-0.0 c.args.at.room c.args.at.left c.in_ok-sets.sets.left (map expr_of c.in_ok-sets.sets.parts.items) c.in_ok-sets.ensures.same inner)
 
 pub binding::gather_node-returns-clause-same : goal.binding::gather_node-returns-clause-same
 binding::gather_node-returns-clause-same t c =
     let σ = scope_at c.args.entries.now.items c.args.at.scope in
-    let names = c.as_slice-names.result.now in
-    let is : binds_in names σ ≡ binds_of (binders (map group_view c.args.groups.now)) σ = rw c.as_slice-names.ensures.value (c.in_ok-binds.ensures.ok σ) in
+    let d = c.args.at.bound in
+    let binds = c.as_slice-binds.result.now in
+    let bs = binds_of (binders (map group_view c.args.groups.now)) σ in
+    let is : binds_in binds σ ≡ bs = rw c.as_slice-binds.ensures.value (c.in_ok-binds.ensures.ok σ) in
+    let os = openings bs d in
+    let body = expand (view c.args.body.now) in
+    let opened : c.in_ok-openings.openings.items ≡ os = rw (← is) (c.in_ok-openings.ensures.ok σ) in
+    let count : items_in os ≡ c.in_ok-items.items = rw (← opened, ← c.as_slice-opened.ensures.value) (sym c.in_ok-items.ensures.ok.0) in
     let τ = scope_at c.name_all.new.entries.items c.in_ok-scope.scope in
-    let named : with_names (binds_in names σ) c.args.at.bound σ ≡ τ = rw c.in_ok-sets.ensures.kept at (c.in_ok-scope.ensures.same σ) in
-    gather_gives c.args.node c.args.place (binds_of (binders (map group_view c.args.groups.now)) σ) names (expand (view c.args.body.now)) σ τ c.args.at.bound c.args.at.primes is named
-    c.args.at.room c.args.at.left c.in_ok-sets.sets.left c.in_ok-body.body.left (map expr_of c.in_ok-sets.sets.parts.items) (expr_of c.in_ok-body.body.core) (expr_of c.in_ok-core.core)
-    c.in_ok-sets.ensures.same c.in_ok-body.ensures.same c.in_ok-core.ensures.ok
+    let named : with_items bs (d + length binds) (with_elements bs d σ) ≡ τ = rw (← is) (rw c.in_ok-sets.ensures.kept at (c.in_ok-scope.ensures.same σ)) in
+    let o = body τ (d + length binds + items_in os) in
+    let g = rw (← count) at c.in_ok-body.ensures.same in
+    let y = expr_of c.in_ok-inner.inner in
+    let made = rw opened at (sym c.in_ok-inner.ensures.ok) in
+    let inner : Given (with_primes c.args.at.primes (under_openings c.args.place os o)) y c.in_ok-body.body.left c.in_ok-sets.sets.left c.args.at.room = rw (openings_primed c.args.at.primes c.args.place os o) (opened_gives c.args.place os (with_primes c.args.at.primes o) (expr_of c.in_ok-body.body.core) y c.args.at.room c.in_ok-sets.sets.left (c.in_ok-sets.sets.left - items_in os) c.in_ok-body.body.left (omega (arith, count, c.in_ok-items.ensures.ok.1)) g made) in
+    gather_gives c.args.node c.args.place bs binds body σ τ d c.args.at.primes is named
+    c.args.at.room c.args.at.left c.in_ok-sets.sets.left c.in_ok-body.body.left (map expr_of c.in_ok-sets.sets.parts.items) y (expr_of c.in_ok-core.core)
+    c.in_ok-sets.ensures.same inner c.in_ok-core.ensures.ok
 
 pub kept::angle_node-returns-in_err-changed-clause-same : goal.kept::angle_node-returns-in_err-changed-clause-same
 kept::angle_node-returns-in_err-changed-clause-same t c =
@@ -671,14 +763,22 @@ node_of-returns-in-Angle-clause-same t c =
     let m = c.in-Action in
     rw (angle_form c.args.form (scope_at c.args.entries.now.items c.args.at.scope) c.args.at.bound c.args.at.primes m.place m.place_v m.action m.v (rw c.in-Angle.is at m.is)) c.angle_node.ensures.same
 
+pub binding::gather_node-openings_of-requires : goal.binding::gather_node-openings_of-requires
+binding::gather_node-openings_of-requires t c =
+    let s = c.in_ok-sets.ensures.same in
+    let n = names_small (set_in c.args.place c.args.at.primes (scope_at c.args.entries.now.items c.args.at.scope) c.args.at.bound) c.as_slice-binds.result.now (map expr_of c.in_ok-sets.sets.parts.items) c.in_ok-sets.sets.left c.args.at.left s.0 s.1 in
+    omega (arith, n)
+
+-- as many items as are left, for every number of the first element
 pub binding::gather_node-name_all-requires-clause-small : goal.binding::gather_node-name_all-requires-clause-small
 binding::gather_node-name_all-requires-clause-small t c =
     let s = c.in_ok-sets.ensures.same in
-    let n = names_small (set_in c.args.at.primes (scope_at c.args.entries.now.items c.args.at.scope) c.args.at.bound) c.as_slice-names.result.now (map expr_of c.in_ok-sets.sets.parts.items) c.in_ok-sets.sets.left c.args.at.left s.0 s.1 in
-    omega (arith, n)
+    let n = names_small (set_in c.args.place c.args.at.primes (scope_at c.args.entries.now.items c.args.at.scope) c.args.at.bound) c.as_slice-binds.result.now (map expr_of c.in_ok-sets.sets.parts.items) c.in_ok-sets.sets.left c.args.at.left s.0 s.1 in
+    let count = c.in_ok-items.ensures.ok in
+    λ σ d. omega (arith, n, count.0, count.1, ap items_in (c.as_slice-opened.ensures.value ∙ c.in_ok-openings.ensures.ok σ), items_same (binds_in c.as_slice-binds.result.now σ) d c.args.at.bound)
 
 pub binding::gather_node-expand-requires : goal.binding::gather_node-expand-requires
 binding::gather_node-expand-requires t c =
     let s = c.in_ok-sets.ensures.same in
-    let n = names_small (set_in c.args.at.primes (scope_at c.args.entries.now.items c.args.at.scope) c.args.at.bound) c.as_slice-names.result.now (map expr_of c.in_ok-sets.sets.parts.items) c.in_ok-sets.sets.left c.args.at.left s.0 s.1 in
-    (omega arith, (c.in_ok-scope.ensures.linked, (c.in_ok-scope.ensures.within, omega (arith, n))))
+    let n = names_small (set_in c.args.place c.args.at.primes (scope_at c.args.entries.now.items c.args.at.scope) c.args.at.bound) c.as_slice-binds.result.now (map expr_of c.in_ok-sets.sets.parts.items) c.in_ok-sets.sets.left c.args.at.left s.0 s.1 in
+    (omega arith, (c.in_ok-scope.ensures.linked, (c.in_ok-scope.ensures.within, omega (arith, n, c.in_ok-items.ensures.ok.1))))

@@ -2,7 +2,7 @@ use Rattle.std.proofs.Common.{◌≡◌, ◌≤◌, ◌+◌, ◌*◌, map}
 use Rattle.tla_model.specs.Size.{nodes, depth}
 use Rattle.tla_core.specs.ExprOf.{expr_of, exprs_of_arm}
 use Rattle.tla_expand.specs.Scopes.{scope_at}
-use Rattle.tla_expand.specs.Gives.{part_in, arm_in, field_in, set_in, step_in, update_in, kept_part, total, highest, sum_of, larger_of, field_nodes, field_depth, update_nodes, update_depth}
+use Rattle.tla_expand.specs.Private.Gives.{part_in, arm_in, field_in, set_in, step_in, update_in, kept_part, total, highest, sum_of, larger_of, field_nodes, field_depth, update_nodes, update_depth}
 use Rattle.tla_expand.specs.Lists.{named_part, changed_part}
 use Rattle.tla_expand.proofs.Lists.{so_far}
 use Rattle.tla_expand.proofs.expand.+expand.Given as goal
@@ -80,13 +80,22 @@ abbrev pub decreases-kept::kept_one : goal.decreases-kept::kept_one
 decreases-kept::kept_one l = 12 * l.at.room
 
 abbrev pub decreases-binding::bound_several : goal.decreases-binding::bound_several
-decreases-binding::bound_several l = 12 * l.at.room + 3
+decreases-binding::bound_several l = 12 * l.at.room + 5
 
 abbrev pub decreases-binding::bound_one : goal.decreases-binding::bound_one
-decreases-binding::bound_one l = 12 * l.at.room + 3
+decreases-binding::bound_one l = 12 * l.at.room + 5
 
 abbrev pub decreases-binding::nested : goal.decreases-binding::nested
-decreases-binding::nested l = 12 * l.at.room + 2
+decreases-binding::nested l = 12 * l.at.room + 4
+
+abbrev pub decreases-binding::under_element : goal.decreases-binding::under_element
+decreases-binding::under_element l = 12 * l.at.room + 3
+
+abbrev pub decreases-binding::under_name : goal.decreases-binding::under_name
+decreases-binding::under_name l = 12 * l.at.room + 2
+
+abbrev pub decreases-binding::under_tuple : goal.decreases-binding::under_tuple
+decreases-binding::under_tuple l = 12 * l.at.room + 2
 
 abbrev pub decreases-binding::within : goal.decreases-binding::within
 decreases-binding::within l = 12 * l.at.room + 1
@@ -104,7 +113,10 @@ abbrev pub decreases-binding::gather_node : goal.decreases-binding::gather_node
 decreases-binding::gather_node l = 12 * l.at.room + 4
 
 abbrev pub decreases-binding::sets_of : goal.decreases-binding::sets_of
-decreases-binding::sets_of l = 12 * l.at.room + 1
+decreases-binding::sets_of l = 12 * l.at.room + 2
+
+abbrev pub decreases-binding::set_for : goal.decreases-binding::set_for
+decreases-binding::set_for l = 12 * l.at.room + 1
 
 abbrev pub decreases-kept::changed : goal.decreases-kept::changed
 decreases-kept::changed l = 12 * l.at.room
@@ -168,7 +180,7 @@ invariant-lists::named_parts-loop-i l = record {
 abbrev pub invariant-binding::sets_of-loop-i : goal.invariant-binding::sets_of-loop-i
 invariant-binding::sets_of-loop-i l = record {
   kept : l.entries.items ≡ l.fn.entries.items;
-  so_far : so_far (set_in l.at.primes (scope_at l.fn.entries.items l.at.scope) l.at.bound) l.binds (map expr_of l.parts.items) l.i;
+  so_far : so_far (set_in l.place l.at.primes (scope_at l.fn.entries.items l.at.scope) l.at.bound) l.binds (map expr_of l.parts.items) l.i;
   left : l.left + total nodes (map expr_of l.parts.items) ≡ l.at.left;
   depth : highest depth (map expr_of l.parts.items) ≤ l.at.room;
 }

@@ -4,7 +4,7 @@ use Rattle.tla_tree.specs.View.{view, views_items, definition_view, definition_v
 use Rattle.tla_expand.specs.Meanings.{Argument}
 use Rattle.tla_expand.specs.Expand.{expand}
 use Rattle.tla_expand.specs.Scopes.{scope_at, arguments_in}
-use Rattle.tla_expand.specs.Gives.{step_gives, Explains}
+use Rattle.tla_expand.specs.Private.Gives.{step_gives, Explains}
 use Rattle.tla_expand.specs.Primes.{with_primes}
 use Rattle.tla_expand.proofs.Steps.{expand_call, shown_once}
 use Rattle.tla_expand.proofs.heads.go.Goals as goal

@@ -1,5 +1,5 @@
 use Rattle.std.proofs.Common.{sym}
-use Rattle.tla_expand.specs.Parameters.{IsLast}
+use Rattle.tla_expand.specs.Private.Parameters.{IsLast}
 use Rattle.tla_expand.specs.Scopes.{scope_at}
 use Rattle.tla_expand.proofs.Shorter.{chosen_same}
 use Rattle.tla_expand.proofs.shortened.chosen.Goals as goal

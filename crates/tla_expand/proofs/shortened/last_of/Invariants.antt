@@ -1,5 +1,5 @@
 use Rattle.std.proofs.Common.{◌≤◌, length, drop}
-use Rattle.tla_expand.specs.Parameters.{IsAbsent}
+use Rattle.tla_expand.specs.Private.Parameters.{IsAbsent}
 use Rattle.tla_expand.proofs.shortened.last_of.Given as goal
 
 abbrev pub invariant-loop-at : goal.invariant-loop-at

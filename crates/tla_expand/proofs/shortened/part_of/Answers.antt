@@ -1,7 +1,7 @@
 use Rattle.std.proofs.Common.{rules, ◌≡◌, ap, map, sym}
 use Rattle.tla_tree.specs.Tree as t
 use Rattle.tla_tree.specs.View.{view, views_items}
-use Rattle.tla_expand.specs.Parameters.{IsAbsent}
+use Rattle.tla_expand.specs.Private.Parameters.{IsAbsent}
 use Rattle.tla_expand.specs.Scopes.{scope_at}
 use Rattle.tla_expand.proofs.Shorter.{call_same, some_map}
 use Rattle.tla_expand.proofs.shortened.part_of.Goals as goal

@@ -1,6 +1,6 @@
 use Rattle.std.proofs.Common.{◌≡◌, ◌≤◌, ◌+◌, length, drop}
 use Rattle.tla_lex.specs.Module.{closing_from, closing}
-use Rattle.tla_lex.specs.RegionSize.{region_depth}
+use Rattle.tla_lex.specs.Private.RegionSize.{region_depth}
 use Rattle.tla_lex.proofs.closing.closing.Given as goal
 
 abbrev pub invariant-loop-left : goal.invariant-loop-left

@@ -1,6 +1,6 @@
 use Rattle.std.proofs.Common.{◌≡◌, ◌≤◌, ◌+◌, length}
 use Rattle.tla_lex.specs.Gap.{skip, gap}
-use Rattle.tla_lex.specs.GapSize.{depth}
+use Rattle.tla_lex.specs.Private.GapSize.{depth}
 use Rattle.tla_lex.proofs.gap.leading_gap.Given as goal
 
 abbrev pub invariant-loop-left : goal.invariant-loop-left

@@ -62,3 +62,16 @@ returns-in_ok-push-in-End-Some-clause-found c = found c
 
 pub returns-in_ok-push-in-End-Some-clause-only : goal.returns-in_ok-push-in-End-Some-clause-only
 returns-in_ok-push-in-End-Some-clause-only c ts a = tokens_once c.args.text.now ts c.push.new.tokens.items a (found c)
+
+pub returns-in_default-clause-none : goal.returns-in_default-clause-none
+returns-in_default-clause-none c _ =
+    fault_means_none c.args.text.now c.at.result (no_header c.in_ok-check_utf8.ensures.ok (sym c.header_end.ensures.value ∙ c.in_default.is) (c.at.ensures ∙ first_fault c.args.text.now NoHeader))
+
+pub returns-in-End-None-clause-none : goal.returns-in-End-None-clause-none
+returns-in-End-None-clause-none c _ =
+    let r = reads_of_body c.args.text.now c.body_before.result.now c.in-Some.from c.closing-line.result c.in_ok-tokens.field-0.tokens.items _ (End c.in-End-None.place)
+    c.closing-line.ensures.value c.body_before.ensures c.in-End-None.is-0 c.in_ok-tokens.ensures.reads in
+    let none : closing c.args.text.now c.in-Some.from ≡ None = sym c.closing-line.ensures.value ∙ c.in-End-None.is-1 in
+    fault_means_none c.args.text.now c.at-in-End-None.result
+    (no_closing_line c.in-Some.from c.in_ok-tokens.field-0.tokens.items c.in-End-None.place c.in_ok-check_utf8.ensures.ok (sym c.in-Some.ensures.value) none
+    (subst (λ x. Reads Module x c.in-Some.from c.in_ok-tokens.field-0.tokens.items (End c.in-End-None.place)) (body_none c.args.text.now c.in-Some.from none) r) c.at-in-End-None.ensures)

@@ -1,6 +1,6 @@
 use Rattle.std.proofs.Common.{◌≡◌, length, map}
 use Rattle.tla_lex.specs.Symbols.{longest}
-use Rattle.tla_lex.specs.LexemeSize.{Fits}
+use Rattle.tla_lex.specs.Private.LexemeSize.{Fits}
 use Rattle.tla_lex.specs.declared.lexeme.Lexeme.TheVariants.{Fault}
 use Rattle.tla_lex.specs.declared.error.LexCode.TheVariants.{Unknown}
 use Rattle.tla_lex.proofs.symbol.longest.Given as goal

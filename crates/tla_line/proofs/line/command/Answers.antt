@@ -4,7 +4,7 @@ use Rattle.clap.specs.Words.{Text, app_of, new_app, with_rule}
 use Rattle.clap.specs.Simple.{app_of_fields}
 use Rattle.clap.specs.declared.builder.arg.Arg.{Arg}
 use Rattle.tla_line.specs.CommandLine.{with_version}
-use Rattle.tla_line.specs.Parsing.{HasValue}
+use Rattle.tla_line.specs.Private.Parsing.{HasValue}
 use Rattle.tla_line.proofs.ChainLemmas.{each_has_value}
 use Rattle.tla_line.proofs.line.command.Goals as goal
 

@@ -1,6 +1,6 @@
 use Rattle.std.proofs.Common.{◌≡◌, ◌++◌, true, List, subst}
 use Rattle.tla_config.specs.Names.{Name, is_among}
-use Rattle.tla_names.specs.Reached.{AreLed, Covers}
+use Rattle.tla_names.specs.Private.Reached.{AreLed, Covers}
 use Rattle.tla_names.proofs.circle.reached.Goals as goal
 
 pub loop-turn-preserved : goal.loop-turn-preserved

@@ -1,6 +1,6 @@
 use Rattle.std.proofs.Common.{◌++◌}
 use Rattle.tla_names.specs.Leads as leads
-use Rattle.tla_names.specs.Reached.{AreAmong, AreLed, Covers}
+use Rattle.tla_names.specs.Private.Reached.{AreAmong, AreLed, Covers}
 use Rattle.tla_names.proofs.circle.reached.Given as goal
 
 abbrev pub invariant-loop-turn : goal.invariant-loop-turn

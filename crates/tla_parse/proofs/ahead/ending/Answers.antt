@@ -1,9 +1,8 @@
-use Rattle.std.proofs.Common.{◌≡◌, ◌≤◌, ◌<◌, ◌+◌, Some, None, arith, sym, ◌∙◌, length, slice_get}
+use Rattle.std.proofs.Common.{◌≤◌, ◌<◌, arith, sym, ◌∙◌, length}
 use Rattle.std.proofs.lemmas.Option.{slice_get-get_or}
 use Rattle.std.specs.List.{slice_index_or}
 use Rattle.tla_lex.specs.declared.token.Token.{Token}
 use Rattle.tla_lex.specs.declared.token.Kind.TheVariants as k
-use Rattle.tla_parse.specs.Ahead.{role_of, behind}
 use Rattle.tla_parse.proofs.Roles.{ending_more, ending_stop, ending_past}
 use Rattle.tla_parse.proofs.ahead.ending.Goals as goal
 

@@ -1,7 +1,7 @@
-use Rattle.std.proofs.Common.{◌≡◌, ◌+◌, ◌≤◌, Some, true, false, arith, refl, length}
+use Rattle.std.proofs.Common.{◌≡◌, ◌+◌, Some, true, arith, refl}
 use Rattle.std.proofs.lemmas.Option.{slice_get_within}
 use Rattle.tla_lex.specs.declared.token.Kind.TheVariants as k
-use Rattle.tla_parse.specs.Tokens.{seen, KindAt}
+use Rattle.tla_parse.specs.Tokens.{seen}
 use Rattle.tla_parse.specs.Kinds.{kind_at}
 use Rattle.tla_parse.proofs.Inversion.{seen_is, kind_stands, commas_more}
 use Rattle.tla_parse.proofs.binders.is_unbounded.Goals as goal

@@ -1,4 +1,4 @@
-use Rattle.std.proofs.Common.{◌≡◌, ◌+◌, ◌≤◌, length}
+use Rattle.std.proofs.Common.{◌+◌, ◌≤◌, length}
 use Rattle.tla_parse.specs.Tokens.{Commas}
 use Rattle.tla_parse.proofs.binders.is_unbounded.Given as goal
 

@@ -1,6 +1,6 @@
-use Rattle.std.proofs.Common.{◌≡◌, ◌-◌, true, ◌&&◌, length, slice_get, Some, None, refl, sym}
+use Rattle.std.proofs.Common.{◌≡◌, ◌-◌, true, length, slice_get, Some, None, refl, sym}
 use Rattle.tla_tree.specs.declared.tree.Infix.TheVariants as i
-use Rattle.tla_tree.specs.View.{view, views_items}
+use Rattle.tla_tree.specs.View.{views_items}
 use Rattle.tla_parse.specs.Edges.{yields}
 use Rattle.tla_parse.proofs.Factors.{last_some, last_none}
 use Rattle.tla_parse.proofs.operators.+edge_allows.Goals as goal

@@ -2,7 +2,6 @@ use Rattle.std.proofs.Common.{◌≡◌, ◌+◌, ◌-◌, ◌&&◌, ℕ, [], tr
 use Rattle.tla_lex.specs.declared.token.Kind.TheVariants as k
 use Rattle.tla_parse.specs.Tokens.{seen}
 use Rattle.tla_parse.specs.Kinds.{kind_at}
-use Rattle.tla_parse.specs.UnitsReading.{blanks}
 use Rattle.tla_parse.proofs.UnitsSteps.{blanks_last}
 use Rattle.tla_parse.proofs.units.blanks.Goals.{then-is_kind, else-is_kind}
 use Rattle.tla_parse.proofs.units.blanks.Goals as goal

@@ -1,5 +1,5 @@
 use Rattle.std.proofs.Common.{◌≡◌, ◌-◌, ◌+◌, ◌≤◌, length}
-use Rattle.tla_parse.specs.UnitsReading.{blanks}
+use Rattle.tla_parse.specs.Private.UnitsReading.{blanks}
 use Rattle.tla_parse.proofs.units.blanks.Given as goal
 
 abbrev pub invariant-loop-turn : goal.invariant-loop-turn

@@ -1,6 +1,6 @@
 use Rattle.std.proofs.Common.{◌≡◌, ◌-◌, length, map, []}
 use Rattle.tla_tree.specs.UnitsView.{declared}
-use Rattle.tla_parse.specs.UnitsReading.{constants}
+use Rattle.tla_parse.specs.Private.UnitsReading.{constants}
 use Rattle.tla_parse.proofs.units.constants.Given as goal
 
 abbrev pub invariant-loop-turn : goal.invariant-loop-turn

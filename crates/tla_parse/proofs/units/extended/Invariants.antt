@@ -1,5 +1,5 @@
 use Rattle.std.proofs.Common.{◌≡◌, ◌-◌, ◌≤◌, length, []}
-use Rattle.tla_parse.specs.UnitsReading.{modules}
+use Rattle.tla_parse.specs.Private.UnitsReading.{modules}
 use Rattle.tla_parse.specs.LeftOut.{IsExtended}
 use Rattle.tla_parse.proofs.units.extended.Given as goal
 

@@ -2,7 +2,7 @@ use Rattle.std.proofs.Common.{◌≡◌, ◌-◌, ◌≤◌, length, map, [], tr
 use Rattle.tla_parse.specs.Units.{units_depth}
 use Rattle.tla_parse.specs.LeftOut.{OnlySeparators}
 use Rattle.tla_tree.specs.UnitsView.{unit_view}
-use Rattle.tla_parse.specs.UnitsReading.{units}
+use Rattle.tla_parse.specs.Private.UnitsReading.{units}
 use Rattle.tla_parse.proofs.units.units_from.Given as goal
 
 abbrev pub invariant-loop-turn : goal.invariant-loop-turn

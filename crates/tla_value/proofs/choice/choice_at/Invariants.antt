@@ -1,7 +1,7 @@
 use Rattle.std.proofs.Common.{◌≡◌, ◌<◌, ◌++◌, drop, map, zip}
 use Rattle.tla_value.specs.Tree.{pairs as pairs_of, deepest_pair}
 use Rattle.tla_value.specs.TreeOf.{tree_of, pair_of}
-use Rattle.tla_value.specs.Inner.{ways, choice_of}
+use Rattle.tla_value.specs.Private.Inner.{ways, choice_of}
 use Rattle.tla_value.proofs.choice.choice_at.Given as goal
 
 -- what is picked so far, and the rest of the choice, which has the number that is left among those of the other sets

@@ -1,5 +1,5 @@
 use Rattle.std.proofs.Common.{◌≡◌, ◌*◌, ◌≤◌, drop, map}
-use Rattle.tla_value.specs.Inner.{ways}
+use Rattle.tla_value.specs.Private.Inner.{ways}
 use Rattle.tla_value.proofs.choice.count_of.Given as goal
 
 abbrev pub invariant-loop-set : goal.invariant-loop-set

@@ -2,7 +2,7 @@ use Rattle.std.proofs.Common.{◌≡◌, ◌==◌, ◌||◌, drop, map}
 use Rattle.std.specs.List.{AllByRecursion}
 use Rattle.std.specs.List.Sorted.{IsStrictlySortedBy}
 use Rattle.tla_value.specs.Order.{tree_cmp}
-use Rattle.tla_value.specs.Inner.{ways}
+use Rattle.tla_value.specs.Private.Inner.{ways}
 use Rattle.tla_value.proofs.choice.has_empty.Given as goal
 
 abbrev pub invariant-loop-set : goal.invariant-loop-set

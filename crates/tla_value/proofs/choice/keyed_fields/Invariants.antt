@@ -1,5 +1,5 @@
 use Rattle.std.proofs.Common.{◌≡◌, take, map}
-use Rattle.tla_value.specs.Inner.{keyed, field_of}
+use Rattle.tla_value.specs.Private.Inner.{keyed, field_of}
 use Rattle.tla_value.proofs.choice.keyed_fields.Given as goal
 
 abbrev pub invariant-loop-field : goal.invariant-loop-field

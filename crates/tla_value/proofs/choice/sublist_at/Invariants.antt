@@ -1,6 +1,6 @@
 use Rattle.std.proofs.Common.{◌≡◌, ◌++◌, ◌^◌, drop, length, map}
 use Rattle.tla_value.specs.TreeOf.{tree_of}
-use Rattle.tla_value.specs.Inner.{sublist_of}
+use Rattle.tla_value.specs.Private.Inner.{sublist_of}
 use Rattle.tla_value.proofs.choice.sublist_at.Given as goal
 
 abbrev pub invariant-loop-item : goal.invariant-loop-item

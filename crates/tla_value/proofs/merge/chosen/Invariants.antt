@@ -1,6 +1,6 @@
 use Rattle.std.proofs.Common.{◌≡◌, ◌≤◌, drop, take, length, map}
 use Rattle.tla_value.specs.TreeOf.{tree_of}
-use Rattle.tla_value.specs.Inner.{chosen_of}
+use Rattle.tla_value.specs.Private.Inner.{chosen_of}
 use Rattle.tla_value.proofs.Passes.{IsAhead}
 use Rattle.tla_value.proofs.merge.chosen.Given as goal
 

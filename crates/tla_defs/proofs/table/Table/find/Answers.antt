@@ -1,5 +1,5 @@
 use Rattle.std.proofs.Common.{refl, ap, sym, ◌∙◌}
-use Rattle.tla_defs.specs.Table.{found_count, property}
+use Rattle.tla_defs.specs.Private.Table.{found_count, property}
 use Rattle.tla_defs.proofs.Tabled.{one_more, found_more}
 use Rattle.tla_defs.proofs.Temporals.{property_grows}
 use Rattle.tla_defs.proofs.table.Table.find.Goals as goal

@@ -1,5 +1,5 @@
 use Rattle.std.proofs.Common.{◌≡◌, ◌<◌, ℕ, true, false}
-use Rattle.tla_defs.specs.Table.{found_count, property, IsFound, SameDefinitions}
+use Rattle.tla_defs.specs.Private.Table.{found_count, property, IsFound, SameDefinitions}
 use Rattle.tla_defs.proofs.table.Table.find_each.Given as goal
 
 abbrev pub invariant-loop-i : goal.invariant-loop-i

@@ -1,7 +1,7 @@
 use Rattle.std.proofs.Common.{ap, sym, ◌∙◌, length, map}
 use Rattle.tla_tree.specs.UnitsView.{unit_view}
 use Rattle.tla_defs.specs.Bodies.{Bodies, names_with}
-use Rattle.tla_defs.specs.Table.{found_count, property}
+use Rattle.tla_defs.specs.Private.Table.{found_count, property}
 use Rattle.tla_defs.proofs.Tabled.{bodies_are, all_found, smaller, few}
 use Rattle.tla_defs.proofs.Temporals.{property_grows}
 use Rattle.tla_defs.proofs.table.Table.of.Goals as goal

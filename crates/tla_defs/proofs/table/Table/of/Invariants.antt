@@ -2,7 +2,7 @@ use Rattle.std.proofs.Common.{◌≡◌, ◌<◌, ◌+◌, ◌-◌, ◌*◌, ◌
 use Rattle.tla_tree.specs.UnitsView.{unit_view}
 use Rattle.tla_config.specs.Names.{Name}
 use Rattle.tla_defs.specs.Bodies.{body_in}
-use Rattle.tla_defs.specs.Table.{body_at, found_count, property, AreRight, IsFound}
+use Rattle.tla_defs.specs.Private.Table.{body_at, found_count, property, AreRight, IsFound}
 use Rattle.tla_defs.proofs.table.Table.of.Given as goal
 
 abbrev pub invariant-loop-changes : goal.invariant-loop-changes

@@ -3,7 +3,7 @@ use Rattle.tla_tree.specs.UnitsView.{unit_view}
 use Rattle.tla_config.specs.Names.{Name}
 use Rattle.tla_names.specs.Maybe.{or_else}
 use Rattle.tla_defs.specs.Bodies.{body_in}
-use Rattle.tla_defs.specs.Table.{body_at, found_at}
+use Rattle.tla_defs.specs.Private.Table.{body_at, found_at}
 use Rattle.tla_defs.proofs.table.Table.of_units.Given as goal
 
 abbrev pub invariant-loop-left : goal.invariant-loop-left

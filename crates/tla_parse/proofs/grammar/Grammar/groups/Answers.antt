@@ -5,7 +5,6 @@ use Rattle.tla_parse.specs.declared.tokens.Between.TheVariants as between
 use Rattle.tla_tree.specs.View.{group_view}
 use Rattle.tla_parse.specs.ReadingLists.{following, group}
 use Rattle.tla_parse.specs.Reading.{expr}
-use Rattle.tla_parse.proofs.Entries.{entries_more, entry_begins, group_reads}
 use Rattle.tla_parse.proofs.Fails.{refuses_fails}
 use Rattle.tla_parse.proofs.Lists.{comma_within}
 use Rattle.tla_parse.proofs.Sequence.{sequence_more, sequence_last, sequence_full, sequence_fails}
@@ -35,12 +34,7 @@ loop-turn-preserved g c =
     let s = sequence_more (group c.args.text.now c.args.tokens.now (expr c.args.text.now c.args.tokens.now c.args.self.now.depth) c.args.scope) (following c.args.tokens.now c.args.scope.column between.Comma) (length c.args.tokens.now - c.loop-turn._turn) (length c.args.tokens.now - (c.loop-turn._turn + 1)) (map group_view c.loop-turn.binders.items) c.loop-turn.at (group_view c.in_ok-group.group.binder) c.in_ok-group.group.end c.in-Some.next h c.in_ok-group.ensures.0 q in
     let w : map group_view c.push.new.items.items ≡ map group_view c.loop-turn.binders.items ++ group_view c.in_ok-group.group.binder ∷ [] = ap (λ x. map group_view x) c.in_ok-push.ensures.ok ∙ map_append group_view c.loop-turn.binders.items c.in_ok-group.group.binder in
     let d = bound_depth_snoc (map group_view c.loop-turn.binders.items) (group_view c.in_ok-group.group.binder) in
-    let r = group_reads c.args.text.now c.args.tokens.now c.args.self.now.depth c.args.scope c.loop-turn.at (group_view c.in_ok-group.group.binder) c.in_ok-group.group.end c.in_ok-group.ensures.0 in
-    let m = entries_more c.args.text.now c.args.tokens.now c.args.scope c.args.from c.loop-turn.at c.in_ok-group.group.end c.in-Some.next (group_view c.in_ok-group.group.binder) c.loop-turn.invariant.entries r q in
-    rw w (record { same = sym s ∙ c.loop-turn.invariant.same; depth = grind (arith, common_steps, d); shallow = grind (arith, common_steps); within = comma_within c.args.text.now c.args.tokens.now c.args.scope.column c.in_ok-group.group.end c.in-Some.next q; entries = m })
-
-pub group-requires-clause-binder : goal.group-requires-clause-binder
-group-requires-clause-binder g c known unnamed = entry_begins c.args.text.now c.args.tokens.now c.args.scope c.args.from c.loop-turn.at (c.requires.list known) (λ e. rw e (c.requires.binder known (rw e at unnamed))) c.loop-turn.invariant.entries
+    rw w (record { same = sym s ∙ c.loop-turn.invariant.same; depth = grind (arith, common_steps, d); shallow = grind (arith, common_steps); within = comma_within c.args.text.now c.args.tokens.now c.args.scope.column c.in_ok-group.group.end c.in-Some.next q })
 
 pub returns : goal.returns
 returns g c =

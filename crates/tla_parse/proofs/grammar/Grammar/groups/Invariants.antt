@@ -4,7 +4,6 @@ use Rattle.tla_tree.specs.Tree.{binders}
 use Rattle.tla_parse.specs.Edges.{bound_depth}
 use Rattle.tla_parse.specs.ReadingLists.{groups}
 use Rattle.tla_parse.specs.Reading.{expr}
-use Rattle.tla_parse.proofs.Entries.{EntriesTo}
 use Rattle.tla_parse.proofs.grammar.Grammar.groups.Given as goal
 
 abbrev pub invariant-loop-turn : goal.invariant-loop-turn
@@ -14,5 +13,4 @@ invariant-loop-turn g l = record {
   depth : l.depth ≡ bound_depth (binders (map group_view l.binders.items));
   shallow : l.depth ≤ l.self.depth;
   within : l.at ≤ length l.tokens;
-  entries : EntriesTo l.text l.tokens l.scope l.fn.from l.at;
 }

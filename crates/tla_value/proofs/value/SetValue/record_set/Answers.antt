@@ -1,7 +1,7 @@
 use Rattle.std.proofs.Common.{map, sym, ap, ◌∙◌, arith}
 use Rattle.std.proofs.lemmas.List.{length-map}
 use Rattle.tla_value.specs.TreeOf.{tree_of}
-use Rattle.tla_value.specs.Inner.{field_of}
+use Rattle.tla_value.specs.Private.Inner.{field_of}
 use Rattle.tla_value.proofs.Fields.{as_sets}
 use Rattle.tla_value.proofs.Records.{as-many-names, rising-names, makes_records}
 use Rattle.tla_value.proofs.FieldLists.{shallow-names, names-fields, sets-fields}

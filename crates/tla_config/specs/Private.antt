@@ -1,0 +1,5 @@
+-- What serves the code: no public contract cites these.
+pub mod Keywords
+pub mod Fronts
+pub mod Gives
+pub mod GivesValues

@@ -1,0 +1,9 @@
+-- What serves the code: no public contract cites these.
+pub mod Mentions
+pub mod Formulas
+pub mod Seen
+pub mod Parts
+pub mod Table
+pub mod Conjuncts
+pub mod Shapes
+pub mod Specified

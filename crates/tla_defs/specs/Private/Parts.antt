@@ -1,0 +1,21 @@
+-- The conjuncts of a specification, as the code sorts them. Private contracts alone cite this.
+use Rattle.std.specs.Prelude.{◌≤◌, ◌<◌, ◌⊎◌, List, map, length}
+use Rattle.tla_tree.specs.Tree.{Tree}
+use Rattle.tla_defs.specs.declared.parts.Boxed.{Boxed}
+use Rattle.tla_defs.specs.declared.parts.Parts.{Parts}
+use Rattle.tla_defs.specs.Private.Seen.{tree_at}
+use Rattle.tla_defs.specs.Specification.{Step}
+
+abbrev pub step_of : Boxed → Step
+step_of s = (tree_at s.action, tree_at s.subscript)
+
+abbrev pub steps_in : Parts → List Step
+steps_in p = map step_of p.steps.items
+
+-- one step at most, and no more conjuncts than an expression within the limits has nodes
+abbrev pub AreFew : Parts → Type 0
+AreFew p = (length p.steps.items < 2) × (length p.initial.items ≤ 200000)
+
+-- two steps, or more conjuncts than an expression within the limits has nodes
+abbrev pub AreMany : List Step → List Tree → Type 0
+AreMany ss es = (2 ≤ length ss) ⊎ (200001 ≤ length es)

@@ -1,0 +1,12 @@
+use Rattle.std.proofs.Common.{ap, sym, subst, map, ◌≡◌}
+use Rattle.tla_value.specs.TreeOf.{tree_of}
+use Rattle.tla_core.specs.Lists.{each}
+use Rattle.tla_core.specs.Patterns.{fitting}
+use Rattle.tla_eval.specs.Gives.{GivesBy, nothing_of}
+use Rattle.tla_eval.proofs.Fitting.{set_tried}
+use Rattle.tla_eval.proofs.patterns.try_set.Goals as goal
+
+pub returns-in-Set : goal.returns-in-Set
+returns-in-Set c =
+    set_tried c.args.place c.args.count c.args.value.now c.in-Set.set c.try_all.result c.in-Set.is
+    (subst (λ us. GivesBy (λ (u : Unit {0}). u) c.try_all.result (nothing_of (each (fitting c.args.place c.args.count) us))) c.items.ensures.items c.try_all.ensures)

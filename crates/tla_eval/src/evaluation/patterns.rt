@@ -1,0 +1,58 @@
+//! Bodies under tuple patterns, and their sets.
+ghost use Rattle.tla_core.specs.Patterns.{means-opened, means-tried};
+ghost use Rattle.tla_core.specs.Value.{means, val};
+ghost use Rattle.tla_core.specs.ExprOf.{expr_of};
+ghost use Rattle.tla_eval.specs.Private.Environment.{Evaluates, bound_in, present_in, next_in};
+
+use crate::environment::{Environment, Evaluated};
+use crate::evaluation::choices::value_with_all;
+use crate::evaluation::evaluate;
+use crate::patterns::{open_items, try_set};
+use std::alloc::Global;
+use tla_core::{Core, Fault, Opening, Place};
+
+/// The value of a body. Elements that it opens are opened here: `evaluate` takes much stack, and is called once for a form that binds.
+#[cycle(evaluate)]
+pub(super) fn body_value<'a>(
+    alloc: Global,
+    body: &'a Core,
+    env: Environment<'a>,
+) -> Result<Evaluated<'a>, Fault>
+    ensures { Evaluates result (val (expr_of body.now) (bound_in env.entry) (present_in env.entry) (next_in env.entry)) }
+{
+    match body {
+        Core::Opened(place, openings, part) => opened(alloc, *place, openings, part, env),
+        _ => evaluate(alloc, body, env),
+    }
+}
+
+/// The value of a body under the items of elements.
+#[cycle(evaluate)]
+pub(super) fn opened<'a>(
+    alloc: Global,
+    place: Place,
+    openings: &'a [Opening],
+    body: &'a Core,
+    env: Environment<'a>,
+) -> Result<Evaluated<'a>, Fault>
+    ensures { Evaluates result ((means-opened place openings.now (means (expr_of body.now))).value (bound_in env.entry) (present_in env.entry) (next_in env.entry)) }
+{
+    let items = open_items(alloc, place, openings, env.scope)?;
+    Ok(Evaluated::Owned(value_with_all(alloc, body, items.as_slice(), env)?))
+}
+
+/// A set, all elements of which are tried.
+#[cycle(evaluate)]
+pub(super) fn tried<'a>(
+    alloc: Global,
+    place: Place,
+    count: usize,
+    set: &'a Core,
+    env: Environment<'a>,
+) -> Result<Evaluated<'a>, Fault>
+    ensures { Evaluates result ((means-tried place count (means (expr_of set.now))).value (bound_in env.entry) (present_in env.entry) (next_in env.entry)) }
+{
+    let value = evaluate(alloc, set, env)?;
+    try_set(place, count, value.value())?;
+    Ok(value)
+}

@@ -1,0 +1,86 @@
+//! Elements that stand for their items.
+ghost use Rattle.std.specs.Prelude.{map};
+ghost use Rattle.tla_value.specs.TreeOf.{tree_of, pair_of};
+ghost use Rattle.tla_core.specs.Lists.{each};
+ghost use Rattle.tla_core.specs.Patterns.{fitting, opened_items, tried_set};
+ghost use Rattle.tla_eval.specs.Private.Environment.{bound_of};
+ghost use Rattle.tla_eval.specs.Gives.{GivesBy, nothing_of, values_of};
+
+use crate::environment::{Scope, bound_value};
+use crate::rules::fault_at;
+use crate::sequences::{add_items, sequence_pairs};
+use std::alloc::Global;
+use tla_core::{Fault, FaultCode, Opening, Place};
+use tla_value::Value;
+
+/// The pairs of an element that is a sequence of so many items. Another element is a fault of the form at the place.
+fn fitting<'a>(
+    place: Place,
+    count: usize,
+    element: &'a Value,
+) -> Result<&'a [(Value, Value)], Fault>
+    ensures { GivesBy (λ ps. values_of (map pair_of ps.now)) result (fitting place count (tree_of element.now)) }
+{
+    match sequence_pairs(element) {
+        Some(pairs) => {
+            if pairs.len() == count {
+                Ok(pairs)
+            } else {
+                Err(fault_at(FaultCode::WrongKind, place))
+            }
+        }
+        None => Err(fault_at(FaultCode::WrongKind, place)),
+    }
+}
+
+/// Copies of the items of the elements that bound names have, one after the other.
+pub(crate) fn open_items<'a>(
+    alloc: Global,
+    place: Place,
+    openings: &[Opening],
+    scope: &'a Scope<'a>,
+) -> Result<Vec<Value>, Fault>
+    ensures { GivesBy (λ v. map tree_of v.items) result (opened_items place openings.now (bound_of scope.entry.now)) }
+{
+    let mut items = Vec::new(alloc);
+    for opening in openings {
+        let element = bound_value(scope, opening.name);
+        let pairs = fitting(place, opening.items, element.value())?;
+        add_items(alloc, &mut items, pairs)?;
+    }
+    Ok(items)
+}
+
+/// The items of the elements that these names have, one after the other, each a copy.
+/// An element that is no sequence of the length that is asked for is a fault of the form at the place.
+pub fn opened(
+    alloc: Global,
+    place: Place,
+    openings: &[Opening],
+    bound: &[Value],
+) -> Result<Vec<Value>, Fault>
+    ensures { GivesBy (λ v. map tree_of v.items) result (opened_items place openings.now (map tree_of bound.now)) }
+{
+    let scope = Scope::Outer(&*bound);
+    open_items(alloc, place, openings, &scope)
+}
+
+/// Tries each of these elements.
+fn try_all(place: Place, count: usize, elements: &[Value]) -> Result<(), Fault>
+    ensures { GivesBy (λ u. u) result (nothing_of (each (fitting place count) (map tree_of elements.now))) }
+{
+    for element in elements {
+        fitting(place, count, element)?;
+    }
+    Ok(())
+}
+
+/// Tries each element of a value that is a set.
+pub(crate) fn try_set(place: Place, count: usize, value: &Value) -> Result<(), Fault>
+    ensures { GivesBy (λ u. tree_of value.now) result (tried_set place count (tree_of value.now)) }
+{
+    match value {
+        Value::Set(set) => try_all(place, count, set.items()),
+        _ => Ok(()),
+    }
+}

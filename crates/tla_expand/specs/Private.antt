@@ -1,0 +1,5 @@
+-- What serves the code: no public contract cites these.
+pub mod Forms
+pub mod Parameters
+pub mod Binders
+pub mod Gives
