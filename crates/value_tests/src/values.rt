@@ -94,6 +94,7 @@ fn functions(rt: HostRuntime) -> Result<(), Fail> {
     let changed = one.copy(alloc)?.with_value(&Value::Int(1), Value::Int(2))?;
     let same = one.except(alloc, &Value::Int(1), Value::Int(2))?;
     assert!(rt; changed.pairs() == same.pairs());
+    assert_eq!(rt; one.apply(&Value::Int(1)), Some(&Value::Int(7)));
     assert_eq!(rt;
         [changed.apply(&Value::Int(1)), changed.apply(&Value::Int(3))],
         [Some(&Value::Int(2)), None]
