@@ -119,7 +119,7 @@ pub(super) fn arms_of<'a>(
     for i in 0..arms.len() {
         let arm = &arms[i];
         let inside = Setting { left, ..at };
-        let two = two_parts(alloc, entries, &arm.guard, &arm.value, at.primes, inside)?;
+        let two = two_parts(alloc, entries, &arm.guard, &arm.value, inside)?;
         left = two.left;
         push(&mut made, (two.first, two.second))?;
     }

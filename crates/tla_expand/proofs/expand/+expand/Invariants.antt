@@ -19,6 +19,9 @@ decreases-levels::look_at_form l = 12 * l.at.room + 10
 abbrev pub decreases-levels::node_behind : goal.decreases-levels::node_behind
 decreases-levels::node_behind l = 12 * l.at.room + 11
 
+abbrev pub decreases-levels::look_at_each : goal.decreases-levels::look_at_each
+decreases-levels::look_at_each l = 12 * l.at.room + 2
+
 abbrev pub decreases-levels::look_at : goal.decreases-levels::look_at
 decreases-levels::look_at l = 12 * l.at.room + 1
 
@@ -27,6 +30,9 @@ decreases-levels::unchanged_node l = 12 * l.at.room + 4
 
 abbrev pub decreases-levels::kept_parts : goal.decreases-levels::kept_parts
 decreases-levels::kept_parts l = 12 * l.at.room + 2
+
+abbrev pub decreases-levels::told_part : goal.decreases-levels::told_part
+decreases-levels::told_part l = 12 * l.at.room + 1
 
 abbrev pub decreases-levels::kept_subscript : goal.decreases-levels::kept_subscript
 decreases-levels::kept_subscript l = 12 * l.at.room
