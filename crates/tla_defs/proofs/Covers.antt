@@ -1,5 +1,5 @@
 -- Subscripts that cover the variables, as the code finds them.
-use Rattle.std.proofs.Common.{◌≡◌, ℕ, ap, sym, ◌∙◌, true, false, Some}
+use Rattle.std.proofs.Common.{◌≡◌, ℕ, ap, sym, ◌∙◌, Bool, true, false, Some}
 use Rattle.tla_core.specs.Expr.{Expr}
 use Rattle.tla_model.specs.Size.{IsWithinLimits}
 use Rattle.tla_tree.specs.Tree.{Tree}
@@ -8,8 +8,11 @@ use Rattle.tla_expand.specs.Meanings.{Scope}
 use Rattle.tla_expand.specs.Expand.{expand}
 use Rattle.tla_expand.specs.Primes.{with_primes}
 use Rattle.tla_defs.specs.Subscripts.{IsCover, covers}
-use Rattle.tla_defs.proofs.Found.{NoneShown, unprimed_is, shown_unprimed, not_both}
+use Rattle.tla_defs.proofs.Found.{NoneShown, unprimed_is, shown_unprimed}
 use Rattle.tla_defs.proofs.Unique.{same_some}
+
+not_both : (b : Bool) → b ≡ true → b ≡ false → ⊥
+not_both b p q = let z : ⊥ = cc in z
 
 module _ (σ : Scope) (n : ℕ) (t : Tree) where
   pub found_cover : (e : Expr) → with_primes Never (expand t σ 0) ≡ Some e → IsWithinLimits e → covers n e ≡ true → IsCover σ n t

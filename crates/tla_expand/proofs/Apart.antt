@@ -1,9 +1,9 @@
 -- Expressions behind references, and their conjunction.
-use Rattle.std.proofs.Common.{◌≡◌, ◌≢◌, ◌≤◌, ◌<◌, ◌+◌, ℕ, List, [], ◌∷◌, Option, Some, None, length, map, get_or, arith, refl, ap, sym, ◌∙◌}
+use Rattle.std.proofs.Common.{◌≡◌, ◌≢◌, ◌<◌, ℕ, List, [], ◌∷◌, Option, Some, None, length, map, get_or, arith, refl, ap, sym, ◌∙◌}
 use Rattle.std.proofs.lemmas.List.{get_or-map}
 use Rattle.std.specs.Borrow.{Bor}
 use Rattle.tla_core.specs.declared.fault.Place.{Place}
-use Rattle.tla_core.specs.Expr.{Expr, Exprs, conjunction}
+use Rattle.tla_core.specs.Expr.{Expr, conjunction}
 use Rattle.tla_model.specs.Size.{IsWithinLimits, nodes, depth}
 use Rattle.tla_tree.specs.declared.tree.Expr as syntax
 use Rattle.tla_tree.specs.Tree.{Tree, Trees, trees}
@@ -15,7 +15,8 @@ use Rattle.tla_expand.specs.declared.primes.Primes.{Primes}
 use Rattle.tla_expand.specs.Lists.{exprs}
 use Rattle.tla_expand.specs.Meanings.{Scope}
 use Rattle.tla_expand.specs.Expand.{expand_each}
-use Rattle.tla_expand.specs.Private.Gives.{part_in, pointed, total, highest, FailsBy, Fails, Makes}
+use Rattle.tla_expand.specs.Private.Gives.{total, highest, FailsBy, Fails, Makes}
+use Rattle.tla_expand.specs.Private.Parts.{part_in, pointed}
 use Rattle.tla_expand.specs.Maybe.{◌>>=◌, each_of}
 use Rattle.tla_expand.specs.Primes.{with_primes}
 use Rattle.tla_expand.proofs.Lists.{each_in}

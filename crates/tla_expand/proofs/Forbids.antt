@@ -1,5 +1,5 @@
 -- What is read so that no variable may have a prime stays as it is.
-use Rattle.std.proofs.Common.{◌≡◌, refl, sym, Option, Some, None}
+use Rattle.std.proofs.Common.{◌≡◌, refl, sym, Some}
 use Rattle.tla_core.specs.Expr.{Expr, Exprs, Fields, Arms, Updates, constant, bound, now, next, unary, binary, equal, sub_seq, enumerated, tuple, record_of, conjunction, disjunction, implies, conditional, cases, assert, for_all, for_some, choose, image, function, except, member, not_member, subset, kind_set, booleans, sequences, power, functions, records, product, cup, cap, minus, filtered, opened, tried, no_exprs, more_exprs, no_fields, more_fields, no_arms, other, more_arms, no_updates, more_updates}
 use Rattle.tla_expand.specs.declared.primes.Primes.TheVariants.{Forbidden}
 use Rattle.tla_expand.specs.Maybe.{◌>>=◌}

@@ -9,7 +9,8 @@ use Rattle.tla_expand.specs.Primes.{primes, primes_each, primes_fields, primes_a
 use Rattle.tla_expand.specs.Primes.{settled_primes}
 use Rattle.tla_expand.specs.Nodes.{kept}
 use Rattle.tla_expand.specs.Unchanged.{unchanged, unchanged_each, changed}
-use Rattle.tla_expand.specs.Private.Gives.{both, is_tuple, Plain}
+use Rattle.tla_expand.specs.Private.Gives.{both}
+use Rattle.tla_expand.specs.Private.Parts.{is_tuple, Plain}
 use Rattle.tla_expand.specs.Primes.{with_primes}
 use Rattle.tla_expand.proofs.Primed.{once, one, two, unprimed}
 use Rattle.tla_expand.proofs.Keeps.{inv, then_once, stays}

@@ -149,9 +149,3 @@ take_length (e ∷ old) extra = ap (λ (es : List Entry). e ∷ es) (take_length
 
 pub cut_back : (old new cut : List Entry) (mark : ℕ) → Extends new old → mark ≡ length old → cut ≡ take mark new → cut ≡ old
 cut_back old new cut mark x m c = c ∙ rw (m, x.1) (take_length old x.0)
-
-pub home_keep : (old mid new : List Entry) (e : Entry) (i : ℕ) → new ≡ mid ++ e ∷ [] → mid ≡ old → i ≤ length old → scope_at new i ≡ scope_at old i
-home_keep old mid new e i n m b = rw (n, m) (scope_keep old (e ∷ []) i b)
-
-pub bind_scope : (old mid : List Entry) (τ : Scope) (scope : ℕ) (x y : Name) (i : ℕ) → τ ≡ with_name x (bound_name i) (scope_at mid scope) → mid ≡ old → x ≡ y → τ ≡ with_name y (bound_name i) (scope_at old scope)
-bind_scope old mid τ scope x y i h m e = h ∙ rw (m, e) refl

@@ -40,12 +40,13 @@ use Rattle.tla_expand.specs.Primes.{primes, primed_now, settled_primes, once_aft
 use Rattle.tla_expand.specs.Lists.{exprs, arms_with, fields_of, updates_of}
 use Rattle.tla_expand.specs.Nodes.{leaf, constant_of, one, two, three, many, binding, gather, fielded, kept}
 use Rattle.tla_expand.specs.Unchanged.{unchanged, unchanged_each, changed}
-use Rattle.tla_expand.specs.Meanings.{Scope, Argument, with_name, bound_name}
+use Rattle.tla_expand.specs.Meanings.{Scope, Argument}
 use Rattle.tla_core.specs.Patterns.{items_in}
 use Rattle.tla_expand.specs.Bound.{Bind, bind_entry, under as under_element, nested, last_or, set_for, openings, with_elements, with_items, under_openings}
 use Rattle.tla_expand.specs.Expand.{expand, expand_each, expand_key, expand_arms, expand_fields, expand_updates, binds_of}
 use Rattle.tla_expand.specs.Private.Forms.{form_in, tuple_of, tuple_parts}
-use Rattle.tla_expand.specs.Private.Gives.{is_tuple, Plain, both, total, highest, part_in, key_in, arm_in, field_in, update_in, kept_part, sum_of, larger_of, Makes, FailsBy, Fails}
+use Rattle.tla_expand.specs.Private.Gives.{both, total, highest, sum_of, larger_of, Makes, FailsBy, Fails}
+use Rattle.tla_expand.specs.Private.Parts.{is_tuple, Plain, part_in, key_in, arm_in, field_in, update_in, kept_part}
 use Rattle.tla_expand.specs.Primes.{with_primes}
 use Rattle.tla_expand.proofs.Kept.{some_plain, unchanged_plain, kept_settled, kept_equal}
 use Rattle.tla_expand.proofs.Made.{leaf_shown, one_shown, two_shown, three_shown, many_shown, cases_shown, gather_shown, fielded_shown, product_shown, except_shown, binding_shown, kept_larger, two_larger, Triple}

@@ -2,4 +2,6 @@
 pub mod Forms
 pub mod Parameters
 pub mod Binders
+pub mod Under
 pub mod Gives
+pub mod Parts

@@ -13,12 +13,14 @@ ghost use Rattle.tla_expand.specs.Expand as expansion;
 ghost use Rattle.tla_expand.specs.Scopes.{AreLinked, scope_at};
 ghost use Rattle.tla_expand.specs.Private.Forms.{form_in};
 ghost use Rattle.tla_model.specs.Size.{IsWithinLimits};
-ghost use Rattle.tla_expand.specs.Private.Gives.{part_in, key_in, arm_in, field_in, both, made, Gives, GivesTwo};
+ghost use Rattle.tla_expand.specs.Private.Gives.{both, made, Gives, GivesTwo};
+ghost use Rattle.tla_expand.specs.Private.Parts.{part_in, key_in, arm_in, field_in};
 
 mod binding;
 mod kept;
 mod levels;
 mod lists;
+mod naming;
 mod updates;
 
 use crate::arena::Entry;

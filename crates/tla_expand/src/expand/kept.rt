@@ -6,7 +6,8 @@ ghost use Rattle.tla_expand.specs.Maybe.{each_of};
 ghost use Rattle.tla_expand.specs.Primes.{settled_primes};
 ghost use Rattle.tla_expand.specs.Scopes.{AreLinked, scope_at};
 ghost use Rattle.tla_expand.specs.Private.Forms.{tuple_parts};
-ghost use Rattle.tla_expand.specs.Private.Gives.{kept_part, changed_in, part_in, both, made, Gives, GivesMany};
+ghost use Rattle.tla_expand.specs.Private.Gives.{both, made, Gives, GivesMany};
+ghost use Rattle.tla_expand.specs.Private.Parts.{kept_part, changed_in, part_in};
 
 use crate::arena::Entry;
 use crate::builders::{kept_core, two_core};

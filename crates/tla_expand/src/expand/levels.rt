@@ -5,7 +5,8 @@ ghost use Rattle.std.specs.Prelude.{◌≡◌, ◌≤◌, ◌<◌, ◌+◌, leng
 ghost use Rattle.tla_expand.specs.Primes.{settled_primes, with_primes};
 ghost use Rattle.tla_expand.specs.Scopes.{AreLinked, scope_at};
 ghost use Rattle.tla_expand.specs.Private.Forms.{form_in};
-ghost use Rattle.tla_expand.specs.Private.Gives.{kept_part, changed_in, part_in, both, total, highest, Fails, FailsBy, Gives, GivesTwo, SaysNone};
+ghost use Rattle.tla_expand.specs.Private.Gives.{both, total, highest, Fails, FailsBy, Gives, GivesTwo, SaysNone};
+ghost use Rattle.tla_expand.specs.Private.Parts.{kept_part, changed_in, part_in};
 ghost use Rattle.tla_expand.specs.Maybe.{each_of};
 ghost use Rattle.tla_model.specs.Size.{nodes, depth};
 

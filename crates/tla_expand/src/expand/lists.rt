@@ -5,7 +5,8 @@ ghost use Rattle.tla_core.specs.Expr as expr;
 ghost use Rattle.tla_expand.specs.Maybe.{each_of};
 ghost use Rattle.tla_expand.specs.Lists.{exprs};
 ghost use Rattle.tla_expand.specs.Scopes.{AreLinked, scope_at};
-ghost use Rattle.tla_expand.specs.Private.Gives.{part_in, key_in, arm_in, field_in, made, Gives, GivesMany, GivesArms, GivesFields};
+ghost use Rattle.tla_expand.specs.Private.Gives.{made, Gives, GivesMany, GivesArms, GivesFields};
+ghost use Rattle.tla_expand.specs.Private.Parts.{part_in, key_in, arm_in, field_in};
 
 use crate::arena::Entry;
 use crate::builders::{place_of, text_of, tuple};

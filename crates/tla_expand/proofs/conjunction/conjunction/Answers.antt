@@ -1,9 +1,8 @@
-use Rattle.std.proofs.Common.{◌≡◌, ◌∙◌, ap, map, arith}
+use Rattle.std.proofs.Common.{◌≡◌, ◌∙◌, ap, map}
 use Rattle.std.proofs.lemmas.Result.{err_from_is_err_and}
 use Rattle.tla_core.specs.Expr.{conjunction}
 use Rattle.tla_core.specs.ExprOf.{expr_of}
 use Rattle.tla_core.specs.declared.fault.Place.{Place}
-use Rattle.tla_tree.specs.View.{view}
 use Rattle.tla_expand.specs.Lists.{exprs}
 use Rattle.tla_expand.specs.Places.{place_of}
 use Rattle.tla_expand.specs.Scopes.{scope_at}

@@ -22,13 +22,14 @@ use Rattle.tla_expand.specs.declared.failure.Failure.TheVariants.{TooLarge}
 use Rattle.tla_expand.specs.Private.Binders.{names_of, binds_in}
 use Rattle.tla_expand.specs.Bound.{last_or, nested, with_each, opening, openings, under_openings, with_elements, with_items}
 use Rattle.tla_expand.specs.Places.{place_of}
-use Rattle.tla_expand.specs.Private.Gives.{Gives, Fails, part_in, arm_in, field_in, set_in, step_in, value_in, update_in, kept_part, changed_in, both, total, highest, sum_of, larger_of, field_nodes, field_depth, update_nodes, update_depth, parts_of}
+use Rattle.tla_expand.specs.Private.Gives.{Gives, Fails, both, total, highest, sum_of, larger_of, field_nodes, field_depth, update_nodes, update_depth, parts_of}
+use Rattle.tla_expand.specs.Private.Parts.{part_in, arm_in, field_in, set_in, step_in, value_in, update_in, kept_part, changed_in}
 use Rattle.tla_expand.specs.Private.Forms.{form_in}
 use Rattle.tla_expand.proofs.Levels.{look_fails, unchanged_fails}
 use Rattle.tla_expand.proofs.Sizes.{Given, no_room, none_left, first_fails, second_fails, later_fails, earlier_fails, two_give, two_give_back, node_fails, node_gives, same_limits, limits_are, openings_primed, opened_gives, opened_fails, opened_full}
 use Rattle.tla_expand.proofs.Lists.{part_done, part_fails, all_done, total_more, highest_more}
 use Rattle.tla_expand.proofs.Made.{two_larger, three_larger, many_larger, cases_larger, cases_or_larger, fielded_larger, product_larger, except_larger, Triple}
-use Rattle.tla_expand.proofs.Links.{cut_back, home_keep, bind_scope}
+use Rattle.tla_expand.proofs.Links.{cut_back}
 use Rattle.tla_expand.proofs.Binds.{scope_extends, extends_length}
 use Rattle.tla_expand.proofs.Larger.{kept_later}
 use Rattle.tla_expand.proofs.Groups.{items_same}
@@ -371,22 +372,26 @@ binding::nested-returns-clause-same t c =
     (scope_at c.args.entries.now.items c.args.at.scope) c.args.at.bound c.args.at.primes refl
     c.args.at.room c.args.at.left c.in_ok-set.set.left c.in_ok-inner.inner.left (expr_of c.in_ok-set.set.core) (expr_of c.in_ok-inner.inner.core) (expr_of c.in_ok-core.core) c.in_ok-set.ensures.same g c.in_ok-core.ensures.ok
 
+pub binding::under_name-within-requires : goal.binding::under_name-within-requires
+binding::under_name-within-requires t c =
+    let e = c.in_ok-scope.ensures in
+    let longer = extends_length c.args.entries.now.items c.name_element.new.entries.items e.extends in
+    (omega arith, (e.linked, (omega (arith, longer, c.requires.home), (e.within, omega arith))))
+
 pub binding::under_name-returns-in_err-inner-clause-same : goal.binding::under_name-returns-in_err-inner-clause-same
 binding::under_name-returns-in_err-inner-clause-same t c =
     let old = c.args.entries.now.items in
-    let new = c.enter.new.entries.items in
+    let new = c.name_element.new.entries.items in
     let r = err_from_is_err_and c.from_residual-in_err-inner.result c.from_residual-in_err-inner.ensures.1 in
-    let h : scope_at new c.args.under.home ≡ scope_at old c.args.under.home = home_keep old old new _ c.args.under.home c.in_ok-scope.ensures.added refl c.requires.home in
-    let s = bind_scope old old (scope_at new c.in_ok-scope.scope) c.args.at.scope c.as_bytes.result.now c.args.name.now.word c.args.at.bound c.in_ok-scope.ensures.scope refl c.as_bytes.ensures in
-    rw (r.1, r.2) (rw (h, s) at c.in_err-inner.ensures.same)
+    let h : scope_at new c.args.under.home ≡ scope_at old c.args.under.home = scope_extends old new c.args.under.home c.in_ok-scope.ensures.extends c.requires.home in
+    rw (r.1, r.2) (rw (h, c.in_ok-scope.ensures.same) at c.in_err-inner.ensures.same)
 
 pub binding::under_name-returns-clause-same : goal.binding::under_name-returns-clause-same
 binding::under_name-returns-clause-same t c =
     let old = c.args.entries.now.items in
-    let new = c.enter.new.entries.items in
-    let h : scope_at new c.args.under.home ≡ scope_at old c.args.under.home = home_keep old old new _ c.args.under.home c.in_ok-scope.ensures.added refl c.requires.home in
-    let s = bind_scope old old (scope_at new c.in_ok-scope.scope) c.args.at.scope c.as_bytes.result.now c.args.name.now.word c.args.at.bound c.in_ok-scope.ensures.scope refl c.as_bytes.ensures in
-    rw (h, s) at c.in_ok-inner.ensures.same
+    let new = c.name_element.new.entries.items in
+    let h : scope_at new c.args.under.home ≡ scope_at old c.args.under.home = scope_extends old new c.args.under.home c.in_ok-scope.ensures.extends c.requires.home in
+    rw (h, c.in_ok-scope.ensures.same) at c.in_ok-inner.ensures.same
 
 pub binding::under_tuple-within-requires : goal.binding::under_tuple-within-requires
 binding::under_tuple-within-requires t c =

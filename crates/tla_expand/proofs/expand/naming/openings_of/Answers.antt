@@ -1,6 +1,6 @@
 use Rattle.std.proofs.Common.{arith}
 use Rattle.tla_expand.proofs.Groups.{opening_step}
-use Rattle.tla_expand.proofs.expand.binding.openings_of.Goals as goal
+use Rattle.tla_expand.proofs.expand.naming.openings_of.Goals as goal
 
 pub loop-i-preserved : goal.loop-i-preserved
 loop-i-preserved c = record {

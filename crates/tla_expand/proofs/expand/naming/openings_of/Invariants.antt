@@ -2,7 +2,7 @@ use Rattle.std.proofs.Common.{◌≡◌, ◌+◌, ◌++◌, drop}
 use Rattle.tla_expand.specs.Meanings.{Scope}
 use Rattle.tla_expand.specs.Bound as x
 use Rattle.tla_expand.specs.Private.Binders.{binds_in}
-use Rattle.tla_expand.proofs.expand.binding.openings_of.Given as goal
+use Rattle.tla_expand.proofs.expand.naming.openings_of.Given as goal
 
 abbrev pub invariant-loop-i : goal.invariant-loop-i
 invariant-loop-i l = record {

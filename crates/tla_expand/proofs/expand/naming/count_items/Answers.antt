@@ -1,8 +1,8 @@
-use Rattle.std.proofs.Common.{◌≡◌, ◌<◌, ◌≤◌, ℕ, ◌+◌, ◌-◌, List, length, drop, get_or, arith}
+use Rattle.std.proofs.Common.{◌≡◌, ◌<◌, ℕ, ◌+◌, ◌-◌, List, length, drop, get_or, arith}
 use Rattle.std.proofs.lemmas.List.{at_drop_more}
 use Rattle.tla_core.specs.declared.expression.Opening.{Opening}
 use Rattle.tla_core.specs.Patterns.{items_in}
-use Rattle.tla_expand.proofs.expand.binding.count_items.Goals as goal
+use Rattle.tla_expand.proofs.expand.naming.count_items.Goals as goal
 
 next_items : (os : List Opening) (i count total : ℕ) (o : Opening) → i < length os → count + items_in (drop i os) ≡ total → count + (get_or os i o).items + items_in (drop (i + 1) os) ≡ total
 next_items os i count total o h e = let more = at_drop_more items_in os i o h in omega arith

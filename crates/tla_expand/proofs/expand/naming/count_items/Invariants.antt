@@ -1,6 +1,6 @@
 use Rattle.std.proofs.Common.{◌≡◌, ◌≤◌, ◌+◌, drop}
 use Rattle.tla_core.specs.Patterns.{items_in}
-use Rattle.tla_expand.proofs.expand.binding.count_items.Given as goal
+use Rattle.tla_expand.proofs.expand.naming.count_items.Given as goal
 
 abbrev pub invariant-loop-opening : goal.invariant-loop-opening
 invariant-loop-opening l = record {
