@@ -5,3 +5,4 @@ pub mod Binders
 pub mod Under
 pub mod Gives
 pub mod Parts
+pub mod Walks

@@ -228,7 +228,7 @@ fn go<'a>(
 }
 
 /// The next step towards the form of an expression.
-fn next_step<'a>(
+pub(crate) fn next_step<'a>(
     entries: &mut Vec<Entry<'a>>,
     tree: &'a Expr,
     scope: usize,

@@ -5,7 +5,7 @@ ghost use Rattle.tla_expand.specs.Primes as primes_of;
 
 /// What is read with two primes has no variables, and a third one adds nothing. A formula of constant level can be read with
 /// `Twice`, one of state level with `Forbidden`, or with `Once` over the variables next, and an action with `Never`.
-#[derive(Clone, Copy, Debug, PartialEq, Eq)]
+#[derive(Clone, Copy, Debug, PartialEq, Eq, Hash)]
 pub enum Primes {
     Never,
     Once,

@@ -2,7 +2,7 @@ use Rattle.std.proofs.Common.{rules, ◌≡◌, length, ◌+◌, ◌-◌, true, 
 use Rattle.std.specs.Str.{bytes_eq}
 use Rattle.tla_expand.specs.Meanings.{Scope}
 use Rattle.tla_expand.proofs.Links.{find_hit, find_miss, scope_zero, below_rest, below_more, below_at}
-use Rattle.tla_expand.proofs.arena.find.Goals as goal
+use Rattle.tla_expand.proofs.arena.position.Goals as goal
 
 pub returns-then-eq-clause-found : goal.returns-then-eq-clause-found
 returns-then-eq-clause-found c =
