@@ -149,3 +149,9 @@ take_length (e ∷ old) extra = ap (λ (es : List Entry). e ∷ es) (take_length
 
 pub cut_back : (old new cut : List Entry) (mark : ℕ) → Extends new old → mark ≡ length old → cut ≡ take mark new → cut ≡ old
 cut_back old new cut mark x m c = c ∙ rw (m, x.1) (take_length old x.0)
+
+-- there is one entry of a number
+pub same_entry : (es : List Entry) (k : ℕ) (e f : Entry) → k < length es → e ≡ get_or es k e → f ≡ get_or es k f → e ≡ f
+same_entry [] k e f h p q = absurd (omega arith)
+same_entry (g ∷ es) zero e f h p q = p ∙ sym q
+same_entry (g ∷ es) (suc k) e f h p q = same_entry es k e f (omega arith) p q

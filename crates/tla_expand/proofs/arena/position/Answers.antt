@@ -1,19 +1,16 @@
-use Rattle.std.proofs.Common.{rules, ◌≡◌, length, ◌+◌, ◌-◌, true, false, arith, sym, ◌∙◌, ap}
+use Rattle.std.proofs.Common.{rules, ◌≡◌, ◌+◌, ◌-◌, true, false, arith, sym, ◌∙◌, ap}
 use Rattle.std.specs.Str.{bytes_eq}
 use Rattle.tla_expand.specs.Meanings.{Scope}
-use Rattle.tla_expand.proofs.Links.{find_hit, find_miss, scope_zero, below_rest, below_more, below_at}
+use Rattle.tla_expand.proofs.Links.{find_hit, find_miss, scope_zero, below_rest, below_at, same_entry}
 use Rattle.tla_expand.proofs.arena.position.Goals as goal
 
 pub returns-then-eq-clause-found : goal.returns-then-eq-clause-found
-returns-then-eq-clause-found c =
+returns-then-eq-clause-found c = λ e h.
+    let f = c.index-entries-at.result in
     let p : c.loop-at.at ≡ (c.loop-at.at - 1) + 1 = omega arith in
-    let q : bytes_eq c.index-entries-at.result.name.now c.args.name.now ≡ true = search rules in
-    sym c.loop-at.invariant.same ∙ find_hit c.args.entries.now c.loop-at.at (c.loop-at.at - 1) c.args.name.now c.index-entries-at.result c.requires.linked p (omega arith) c.index-entries-at.is q
-
-pub returns-then-eq-clause-below : goal.returns-then-eq-clause-below
-returns-then-eq-clause-below c =
-    below_more (c.loop-at.at - 1) (length c.args.entries.now) c.index-entries-at.result.what c.index-entries-at.result.rest (omega arith)
-    (below_at c.args.entries.now (c.loop-at.at - 1) c.index-entries-at.result c.requires.linked (omega arith) c.index-entries-at.is)
+    let q : bytes_eq f.name.now c.args.name.now ≡ true = search rules in
+    let same : e ≡ f = same_entry c.args.entries.now (c.loop-at.at - 1) e f (omega arith) h c.index-entries-at.is in
+    rw same (sym c.loop-at.invariant.same ∙ find_hit c.args.entries.now c.loop-at.at (c.loop-at.at - 1) c.args.name.now f c.requires.linked p (omega arith) c.index-entries-at.is q)
 
 pub loop-at-smaller : goal.loop-at-smaller
 loop-at-smaller c =
