@@ -4,7 +4,7 @@ use Rattle.std.specs.List.{slice_get}
 use Rattle.std.proofs.lemmas.Option.{same_Some}
 use Rattle.tla_lex.specs.declared.token.Token.{Token}
 use Rattle.tla_lex.specs.declared.token.Kind.TheVariants as k
-use Rattle.tla_parse.specs.LeftOut.{open_behind, IsUnderExcept}
+use Rattle.tla_parse.specs.LeftOut.{open_behind, BeginsUpdate, IsUnderExcept}
 
 module _ (ts : List Token) (at n : ℕ) where
   -- behind EXCEPT itself none is open
@@ -27,3 +27,8 @@ module _ (ts : List Token) (at n : ℕ) where
   pub under_nothing : slice_get ts at ≡ None → IsUnderExcept ts (suc at) n → ⊥
   under_nothing none (inl ((u, there, e), z)) = cc
   under_nothing none (inr (l, h, u, there, e)) = cc
+
+-- no update begins behind another token
+pub begins_behind_none : (ts : List Token) (before : ℕ) (t : Token) → slice_get ts before ≡ Some t → (t.kind ≡ k.Except → ⊥) → (t.kind ≡ k.Comma → ⊥) → BeginsUpdate ts (suc before) → ⊥
+begins_behind_none ts before t here x y (inl (u, there, e)) = x (ap (λ z. z.kind) (same_Some t u (sym here ∙ there)) ∙ e)
+begins_behind_none ts before t here x y (inr ((u, there, e), z)) = y (ap (λ z. z.kind) (same_Some t u (sym here ∙ there)) ∙ e)
