@@ -30,7 +30,7 @@ use crate::formula::{assumption, state_predicate};
 use crate::global::global_scope;
 use crate::meant::{initial_predicate, meaning, next_action};
 use crate::places::Places;
-use std::alloc::Global;
+use std::alloc::{AllocFailed, Global};
 use tla_config::{Config, DefsCode, DefsError, Source, Statement};
 use tla_core::Core;
 use tla_expand::Scopes;
@@ -108,13 +108,20 @@ fn constraints_named<'a>(
     Ok(names)
 }
 
+/// The refusal of one more part where there is no room for it. It lets the part go, so that its callers needn't tell its kinds apart.
+fn no_room<T: Drop>(_part: AllocFailed<T>) -> DefsError
+    ensures { result.code ≡ Memory }
+{
+    no_memory()
+}
+
 fn push(predicates: &mut Vec<StatePredicate>, predicate: StatePredicate) -> Result<(), DefsError>
     ensures ok { OnOk result (predicates.new.items ≡ predicates.old.items ++ predicate ∷ []) }
     ensures err { IfErr result (λ e. e.code ≡ Memory) }
 {
     match predicates.push(predicate) {
         Ok(()) => Ok(()),
-        Err(_) => Err(no_memory()),
+        Err(refused) => Err(no_room(refused)),
     }
 }
 
@@ -232,7 +239,7 @@ fn push_assumption(assumptions: &mut Vec<Core>, assumption: Core) -> Result<(), 
 {
     match assumptions.push(assumption) {
         Ok(()) => Ok(()),
-        Err(_) => Err(no_memory()),
+        Err(refused) => Err(no_room(refused)),
     }
 }
 

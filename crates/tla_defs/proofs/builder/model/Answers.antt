@@ -1,4 +1,4 @@
-use Rattle.std.proofs.Common.{ℕ, List, ◌∙◌, ap, map, sym, length}
+use Rattle.std.proofs.Common.{ℕ, List, ◌∙◌, ap, inr, map, sym, length}
 use Rattle.std.proofs.lemmas.List.{length-map}
 use Rattle.std.proofs.lemmas.Result.{err_from_is_err_and}
 use Rattle.std.specs.Borrow.{Bor}
@@ -93,3 +93,13 @@ pub returns-in_err-names-clause-none : goal.returns-in_err-names-clause-none
 returns-in_err-names-clause-none c =
     let e = err_from_is_err_and c.from_residual-in_err-names.result c.from_residual-in_err-names.ensures.1 in
     rw (e.1, e.2) (λ h. absurd (h c.in_err-names.ensures.err))
+
+pub returns-in_err-invariants-clause-refused : goal.returns-in_err-invariants-clause-refused
+returns-in_err-invariants-clause-refused c =
+    let e = err_from_is_err_and c.from_residual-in_err-invariants.result c.from_residual-in_err-invariants.ensures.1 in
+    rw (e.1, e.2) (λ h. inr (c.in_err-invariants.ensures.formula h))
+
+pub returns-in_err-constraints-clause-refused : goal.returns-in_err-constraints-clause-refused
+returns-in_err-constraints-clause-refused c =
+    let e = err_from_is_err_and c.from_residual-in_err-constraints.result c.from_residual-in_err-constraints.ensures.1 in
+    rw (e.1, e.2) (λ h. inr (c.in_err-constraints.ensures.formula h))

@@ -30,6 +30,14 @@ pub loop-value-preserved-in-None-get-4 : goal.loop-value-preserved-in-None-get-4
 loop-value-preserved-in-None-get-4 c =
     (paired_done c.args.arguments.now c.loop-value.yielded c.loop-value.pairs.items c.in-Some.value c.len-in-loop-value.result c.loop-value.invariant.0 (c.len-in-loop-value.ensures ∙ c.loop-value.pairs.ok.0) c.in-None-get.ensures.lookup.3, tt, tt)
 
+pub loop-value-preserved-in-None-get-5 : goal.loop-value-preserved-in-None-get-5
+loop-value-preserved-in-None-get-5 c =
+    (paired_done c.args.arguments.now c.loop-value.yielded c.loop-value.pairs.items c.in-Some.value c.len-in-loop-value.result c.loop-value.invariant.0 (c.len-in-loop-value.ensures ∙ c.loop-value.pairs.ok.0) c.in-None-get.ensures.lookup.3, tt, tt)
+
+pub loop-value-preserved-in-None-get-6 : goal.loop-value-preserved-in-None-get-6
+loop-value-preserved-in-None-get-6 c =
+    (paired_done c.args.arguments.now c.loop-value.yielded c.loop-value.pairs.items c.in-Some.value c.len-in-loop-value.result c.loop-value.invariant.0 (c.len-in-loop-value.ensures ∙ c.loop-value.pairs.ok.0) c.in-None-get.ensures.lookup.3, tt, tt)
+
 pub loop-value-preserved : goal.loop-value-preserved
 loop-value-preserved c =
     (paired_done c.args.arguments.now c.loop-value.yielded c.loop-value.pairs.items c.in-Some.value c.len-in-loop-value.result c.loop-value.invariant.0 (c.len-in-loop-value.ensures ∙ c.loop-value.pairs.ok.0) c.in-None-get.ensures.lookup.3, tt, tt)
