@@ -72,7 +72,7 @@ fn inserted(alloc: Global, value: Value) -> Result<Made, Refusal> {
     let answer = set.insert(value);
     Ok(Made {
         lent,
-        left: set.into_items(),
+        left: set.into_items()?,
         answer: answer.map(Answer::Truth).map_err(Refusal::from),
     })
 }

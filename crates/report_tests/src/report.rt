@@ -14,7 +14,10 @@ fn one_name(alloc: Global, name: &str) -> Result<Names, AllocError>
     ensures { IfOk result (λ names. length names ≡ 1) }
 {
     let mut names = Vec::new(alloc);
-    names.push(Text::new(String::from_str(alloc, name)?))?;
+    let Ok(text) = Text::new(alloc, name) else {
+        return Err(AllocError);
+    };
+    names.push(text)?;
     Ok(Names::new(names))
 }
 

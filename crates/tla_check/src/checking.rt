@@ -139,7 +139,7 @@ fn name_of_text(text: Option<Text>) -> Option<RefusalName>
     ensures { result ≡ text }
 {
     match text {
-        Some(text) => Some(RefusalName::new(text.into_string().into_bytes())),
+        Some(text) => Some(RefusalName::from_text(text)),
         None => None,
     }
 }

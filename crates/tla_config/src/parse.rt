@@ -85,12 +85,12 @@ fn left_out_at(alloc: Global, place: Place, word: &str) -> DefsError
     ensures located { IsLocated result.code result.place result.name }
     ensures is { (result.code ≡ DefsCode.Memory) ⊎ ((result.code ≡ DefsCode.StatementLeftOut) × (result.place ≡ Some place) × (result.name ≡ Some word.now)) }
 {
-    match String::from_str(alloc, word) {
+    match Text::new(alloc, word) {
         Ok(name) => DefsError {
             code: DefsCode::StatementLeftOut,
             source: Source::Configuration,
             place: Some(place),
-            name: Some(Text::new(name)),
+            name: Some(name),
         },
         Err(_) => out_of_memory(),
     }

@@ -99,8 +99,8 @@ fn text_of(alloc: Global, bytes: &[u8], item: usize) -> Result<Text, Refusal>
     let Ok(text) = str::from_utf8(bytes) else {
         return Err(Refusal::TooLarge(item));
     };
-    match String::from_str(alloc, text) {
-        Ok(text) => Ok(Text::new(text)),
+    match Text::new(alloc, text) {
+        Ok(text) => Ok(text),
         Err(_) => Err(Refusal::NoMemory),
     }
 }

@@ -35,8 +35,8 @@ pub(crate) fn text_of(alloc: Global, word: &Word) -> Result<Text, Failure>
     let Ok(text) = str::from_utf8(word.as_bytes()) else {
         return Err(Failure::Memory);
     };
-    match String::from_str(alloc, text) {
-        Ok(text) => Ok(Text::new(text)),
+    match Text::new(alloc, text) {
+        Ok(text) => Ok(text),
         Err(_) => Err(Failure::Memory),
     }
 }

@@ -31,8 +31,8 @@ pub fn text_of(alloc: Global, name: &[u8]) -> Result<Text, DefsError>
     let Ok(name) = str::from_utf8(name) else {
         return Err(no_memory());
     };
-    match String::from_str(alloc, name) {
-        Ok(name) => Ok(Text::new(name)),
+    match Text::new(alloc, name) {
+        Ok(name) => Ok(name),
         Err(_) => Err(no_memory()),
     }
 }

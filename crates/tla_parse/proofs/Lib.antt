@@ -37,4 +37,5 @@ pub mod Tuples
 pub mod UnitsComplete
 pub mod UnitsSound
 pub mod UnitsSteps
+pub mod Updates
 pub mod Whole

@@ -1,10 +1,11 @@
 -- The forms of the book's language that this one leaves out.
-use Rattle.std.specs.Prelude.{◌≡◌, ◌≤◌, ◌<◌, ℕ, zero, suc, ◌+◌, Bool, true, false, not, IsTrue, List, Some, slice_get}
+use Rattle.std.specs.Prelude.{◌≡◌, ◌≤◌, ◌<◌, ◌⊎◌, ℕ, zero, suc, ◌+◌, Bool, true, false, not, IsTrue, IsSome, if◌then◌else◌, List, Option, None, Some, slice_get}
 use Rattle.tla_lex.specs.declared.token.Token.{Token}
 use Rattle.tla_lex.specs.declared.token.Kind.{Kind}
 use Rattle.tla_lex.specs.declared.token.Kind.TheVariants as k
 use Rattle.tla_tree.specs.Words.{word_of}
 use Rattle.tla_parse.specs.Modules.{is_module}
+use Rattle.tla_parse.specs.Operators.{infix_of, prefix_of}
 use Rattle.tla_parse.specs.Tokens.{KindAt, Commas}
 
 abbrev pub is_quantifier : Kind → Bool
@@ -30,19 +31,49 @@ is_left_out k.MinusMinus = true
 is_left_out k.Guarantees = true
 is_left_out _ = false
 
--- `!` behind such a token begins no update: it selects from a module
-abbrev pub may_select : Kind → Bool
-may_select k.Except = false
-may_select _ = true
+abbrev pub opens : Kind → Bool
+opens k.LeftParen = true
+opens k.LeftBracket = true
+opens k.LeftBrace = true
+opens k.LeftTuple = true
+opens _ = false
+
+abbrev pub closes : Kind → Bool
+closes k.RightParen = true
+closes k.RightBracket = true
+closes k.RightBracketSubscript = true
+closes k.RightBrace = true
+closes k.RightTuple = true
+closes k.RightTupleSubscript = true
+closes _ = false
+
+abbrev pub one_less : ℕ → Option ℕ
+one_less zero = None
+one_less (suc n) = Some n
+
+-- how many brackets are open behind a token, of so many before it: None where it closes another one
+abbrev pub open_behind : Kind → ℕ → Option ℕ
+open_behind kind n = if opens kind then Some (suc n) else if closes kind then one_less n else Some n
 
 module _ (ts : List Token) where
   -- a word or symbol that is left out
   abbrev pub IsWordLeftOut : ℕ → Type 0
   IsWordLeftOut at = (t : Token) × (slice_get ts at ≡ Some t) × IsTrue (is_left_out t.kind)
 
-  -- `!`, but for one directly behind EXCEPT
+  -- before the token of this number stands an EXCEPT, behind which so many brackets were opened that are open still, and none
+  -- was closed that was open at it
+  abbrev pub IsUnderExcept : ℕ → ℕ → Type 0
+  IsUnderExcept zero n = ⊥
+  IsUnderExcept (suc at) n = (KindAt ts at k.Except × (n ≡ 0)) ⊎ ((m : ℕ) × IsUnderExcept at m × (t : Token) × (slice_get ts at ≡ Some t) × (open_behind t.kind m ≡ Some n))
+
+  -- an update of EXCEPT begins here: directly behind it, or behind a comma between updates
+  abbrev pub BeginsUpdate : ℕ → Type 0
+  BeginsUpdate zero = ⊥
+  BeginsUpdate (suc before) = KindAt ts before k.Except ⊎ (KindAt ts before k.Comma × IsUnderExcept before 0)
+
+  -- `!` where no update begins: it selects from a module
   abbrev pub IsSelector : ℕ → Type 0
-  IsSelector at = (before : ℕ) × (t : Token) × (slice_get ts before ≡ Some t) × IsTrue (may_select t.kind) × (at ≡ before + 1) × KindAt ts at k.Bang
+  IsSelector at = KindAt ts at k.Bang × (BeginsUpdate at → ⊥)
 
   -- a quantifier over names without a set, \A x, y : p
   abbrev pub IsUnbounded : ℕ → Type 0
@@ -56,9 +87,22 @@ module _ (ts : List Token) where
   abbrev pub IsUnboundedTuple : ℕ → Type 0
   IsUnboundedTuple at = (n : ℕ) × (last : ℕ) × KindAt ts at k.Choose × KindAt ts (at + 1) k.LeftTuple × Commas ts n (at + 2) last × KindAt ts last k.Name × KindAt ts (last + 1) k.RightTuple × KindAt ts (last + 2) k.Colon
 
+  -- a prefix operator; an infix operator
+  abbrev pub IsPrefix : ℕ → Type 0
+  IsPrefix at = (t : Token) × (slice_get ts at ≡ Some t) × IsSome (prefix_of t.kind)
+
+  abbrev pub IsInfix : ℕ → Type 0
+  IsInfix at = (t : Token) × (slice_get ts at ≡ Some t) × IsSome (infix_of t.kind)
+
+  -- an operator as parameter: F(_), or F(_, .. ; - _; _ + _
+  abbrev pub IsOperatorParameter : ℕ → Type 0
+  IsOperatorParameter at = (KindAt ts at k.Name × KindAt ts (at + 1) k.LeftParen × KindAt ts (at + 2) k.Underscore)
+      ⊎ (IsPrefix at × KindAt ts (at + 1) k.Underscore)
+      ⊎ (KindAt ts at k.Underscore × IsInfix (at + 1) × KindAt ts (at + 2) k.Underscore)
+
   -- a definition with an operator as parameter, Op(F(_), ..) ==
   abbrev pub HasOperatorParameter : ℕ → Type 0
-  HasOperatorParameter at = (n : ℕ) × (last : ℕ) × KindAt ts at k.Name × KindAt ts (at + 1) k.LeftParen × Commas ts n (at + 2) last × KindAt ts last k.Name × KindAt ts (last + 1) k.LeftParen × KindAt ts (last + 2) k.Underscore
+  HasOperatorParameter at = (n : ℕ) × (last : ℕ) × KindAt ts at k.Name × KindAt ts (at + 1) k.LeftParen × Commas ts n (at + 2) last × IsOperatorParameter last
 
   -- no unit but separators stands before the token: a module's name and a separator come before its units
   abbrev pub OnlySeparators : ℕ → Type 0

@@ -1,6 +1,6 @@
 //! Tokens as the grammar reads them: by their number in the list, and only right of a column.
 
-ghost use Rattle.std.specs.Prelude.{◌≡◌, ℕ, ◌+◌, ◌^◌, ◌<◌, ◌≤◌, length, slice_get, IfOk, IfErr, IfSome, OnSome, IsTrue};
+ghost use Rattle.std.specs.Prelude.{◌≡◌, ℕ, ◌+◌, ◌^◌, ◌<◌, ◌≤◌, ◌↔◌, length, slice_get, IfOk, IfErr, IfSome, OnSome, IsTrue, Some, None};
 ghost use Rattle.tla_lex.specs.Strings.{string_text};
 ghost use Rattle.tla_parse.specs.Tokens as spec;
 ghost use Rattle.tla_tree.specs.Words as words;
@@ -11,7 +11,7 @@ ghost use Rattle.tla_parse.specs.Reading as reading;
 ghost use Rattle.tla_parse.specs.ReadingLists as lists;
 ghost use Rattle.tla_parse.specs.Gives.{Refuses};
 
-use crate::operators::{bullet_of, infix_of, low};
+use crate::operators::{bullet_of, infix_of, low, prefix_of};
 use crate::refusal::Refusal;
 use std::alloc::Global;
 use tla_lex::{Kind, Token, string_text};
@@ -312,34 +312,102 @@ fn is_left_out(kind: Kind) -> bool
     }
 }
 
-/// Whether `!` behind a token of this kind begins no update.
-fn may_select(kind: Kind) -> bool
-    ensures { result ≡ left_out.may_select kind }
+/// Whether a token of this kind opens a bracket.
+fn opens(kind: Kind) -> bool
+    ensures { result ≡ left_out.opens kind }
 {
     match kind {
-        Kind::Except => false,
-        _ => true,
+        Kind::LeftParen | Kind::LeftBracket | Kind::LeftBrace | Kind::LeftTuple => true,
+        _ => false,
     }
 }
 
-/// Whether the token before this one lets it select from a module.
-fn is_behind_module(tokens: &[Token], at: usize) -> bool
-    ensures { IsTrue result → (before : ℕ) × (t : Token) × (slice_get tokens.now before ≡ Some t) × IsTrue (left_out.may_select t.kind) × (at ≡ before + 1) }
+/// Whether a token of this kind closes a bracket.
+fn closes(kind: Kind) -> bool
+    ensures { result ≡ left_out.closes kind }
+{
+    match kind {
+        Kind::RightParen
+        | Kind::RightBracket
+        | Kind::RightBracketSubscript
+        | Kind::RightBrace
+        | Kind::RightTuple
+        | Kind::RightTupleSubscript => true,
+        _ => false,
+    }
+}
+
+/// How many brackets are open before a token of this kind, where so many are behind it. None where there is no such number.
+fn open_before(kind: Kind, count: usize) -> Option<usize>
+    requires { count < 2 ^ 63 }
+    ensures some { IfSome result (λ n. (m : ℕ) → (left_out.open_behind kind m ≡ Some count) ↔ (m ≡ n)) }
+    ensures none { result ≡ None → (m : ℕ) → left_out.open_behind kind m ≡ Some count → ⊥ }
+    ensures few { IfSome result (λ n. n ≤ count + 1) }
+{
+    if opens(kind) {
+        count.checked_sub(1)
+    } else if closes(kind) {
+        Some(count + 1)
+    } else {
+        Some(count)
+    }
+}
+
+/// Whether this token is EXCEPT, and no bracket is open behind it.
+fn is_except_itself(token: Token, count: usize) -> bool
+    ensures { IsTrue result ↔ ((token.kind ≡ Kind.Except) × (count ≡ 0)) }
+{
+    match token.kind {
+        Kind::Except => count == 0,
+        _ => false,
+    }
+}
+
+/// Whether EXCEPT stands before the token, and every bracket that was opened since, and no other one, is closed.
+fn is_under_except(tokens: &[Token], at: usize) -> bool
+    requires { at ≤ length tokens.now }
+    ensures { IsTrue result ↔ left_out.IsUnderExcept tokens.now at 0 }
+{
+    let mut open: usize = 0;
+    let mut place = at;
+    for _turn in 0..at {
+        place -= 1;
+        let Some(t) = tokens.get(place) else {
+            return false;
+        };
+        if is_except_itself(*t, open) {
+            return true;
+        }
+        let Some(before) = open_before(t.kind, open) else {
+            return false;
+        };
+        open = before;
+    }
+    false
+}
+
+/// Whether an update of EXCEPT begins here.
+fn begins_update(tokens: &[Token], at: usize) -> bool
+    ensures { IsTrue result ↔ left_out.BeginsUpdate tokens.now at }
 {
     if at == 0 {
         return false;
     }
-    match tokens.get(at - 1) {
-        Some(t) => may_select(t.kind),
-        None => false,
+    let Some(t) = tokens.get(at - 1) else {
+        return false;
+    };
+    match t.kind {
+        Kind::Except => true,
+        Kind::Comma => is_under_except(tokens, at - 1),
+        _ => false,
     }
 }
 
-/// Whether `!` stands here, but not directly behind EXCEPT.
+/// Whether `!` stands here where no update begins.
 fn is_selector(tokens: &[Token], at: usize) -> bool
     ensures { IsTrue result → left_out.IsSelector tokens.now at }
 {
-    is_behind_module(tokens, at) && is_kind(Kind::Bang, tokens.get(at).copied())
+    is_kind(Kind::Bang, tokens.get(at).copied()) && !begins_update(tokens, at)
 }
 
 /// The refusal of a token that doesn't go on with what was read: a form left out, else one at or left of its list's column, else an unexpected one.
@@ -374,6 +442,37 @@ pub fn refused_update(tokens: &[Token], column: u128, at: usize) -> Refusal
     }
 }
 
+/// Whether an infix operator stands here.
+fn is_infix(tokens: &[Token], at: usize) -> bool
+    ensures { IsTrue result → left_out.IsInfix tokens.now at }
+{
+    match tokens.get(at) {
+        Some(t) => infix_of(t.kind).is_some(),
+        None => false,
+    }
+}
+
+/// Whether an operator stands here as a parameter, right of the column.
+fn is_operator_parameter(tokens: &[Token], column: u128, at: usize) -> bool
+    ensures { IsTrue result → left_out.IsOperatorParameter tokens.now at }
+{
+    let Some(t) = seen(tokens, column, at) else {
+        return false;
+    };
+    match t.kind {
+        Kind::Name => {
+            is_kind(Kind::LeftParen, seen(tokens, column, at + 1))
+                && is_kind(Kind::Underscore, seen(tokens, column, at + 2))
+        }
+        Kind::Underscore => {
+            is_infix(tokens, at + 1) && is_kind(Kind::Underscore, seen(tokens, column, at + 2))
+        }
+        other => {
+            prefix_of(other).is_some() && is_kind(Kind::Underscore, seen(tokens, column, at + 1))
+        }
+    }
+}
+
 /// Whether a definition stands here whose parameters, all right of the column, have an operator among them.
 fn has_operator_parameter(tokens: &[Token], column: u128, from: usize) -> bool
     ensures { IsTrue result → left_out.HasOperatorParameter tokens.now from }
@@ -385,13 +484,12 @@ fn has_operator_parameter(tokens: &[Token], column: u128, from: usize) -> bool
     }
     let mut at = from + 2;
     for _turn in 0..tokens.len() {
-        if !is_kind(Kind::Name, seen(tokens, column, at)) {
-            return false;
+        if is_operator_parameter(tokens, column, at) {
+            return true;
         }
-        if is_kind(Kind::LeftParen, seen(tokens, column, at + 1)) {
-            return is_kind(Kind::Underscore, seen(tokens, column, at + 2));
-        }
-        if !is_kind(Kind::Comma, seen(tokens, column, at + 1)) {
+        if !is_kind(Kind::Name, seen(tokens, column, at))
+            || !is_kind(Kind::Comma, seen(tokens, column, at + 1))
+        {
             return false;
         }
         at += 2;

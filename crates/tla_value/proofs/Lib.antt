@@ -16,6 +16,7 @@ pub mod Subsets
 pub mod Sublists
 pub mod Shown
 pub mod Exceptions
+pub mod Made
 pub mod FunctionMembers
 pub mod Fields
 pub mod FieldLists

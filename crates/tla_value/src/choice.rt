@@ -116,7 +116,7 @@ fn functions(
     let mut functions = Vec::with_capacity(alloc, count)?;
     for number in 0..count {
         let pairs = choice_at(alloc, arguments, sets, count, number)?;
-        functions.push(Value::Fun(fun_within(pairs)))?;
+        functions.push(Value::Fun(fun_within(pairs)?))?;
     }
     Ok(functions)
 }
@@ -219,7 +219,7 @@ fn subsets(alloc: Global, items: &[Value], count: usize) -> Result<Vec<Value>, V
     let mut subsets = Vec::with_capacity(alloc, count)?;
     for number in 0..count {
         let items = sublist_at(alloc, items, count, number)?;
-        subsets.push(Value::Set(set_within(items)))?;
+        subsets.push(Value::Set(set_within(items)?))?;
     }
     Ok(subsets)
 }

@@ -6,10 +6,10 @@ ghost use Rattle.std.specs.List.Sorted.{IsStrictlySortedBy, IsSearchInRange, IsS
 ghost use Rattle.std.specs.Ordering.{is_lt};
 ghost use Rattle.tla_value.specs.declared.error.ValueError.TheVariants.{Memory};
 ghost use Rattle.tla_value.specs.TreeOf.{tree_of, pair_of};
-ghost use Rattle.tla_value.specs.Tree.{Tree, deepest_pair, pairs as pairs_of};
-ghost use Rattle.tla_value.specs.IsValue.{ArePairs, IsFunList};
+ghost use Rattle.tla_value.specs.Tree.{Tree, deepest_pair, fun, pairs as pairs_of};
+ghost use Rattle.tla_value.specs.IsValue.{IsValue, ArePairs, IsFunList};
 ghost use Rattle.tla_value.specs.Order.{tree_cmp};
-ghost use Rattle.tla_value.specs.Funs.{arguments, value_at, fun_of, except_of, items_of, MakesFun};
+ghost use Rattle.tla_value.specs.Funs.{arguments, value_at, fun_of, except_of, items_of, MakesFun, RefusesFun};
 ghost use Rattle.tla_value.specs.Private.Inner.{IsPlace};
 ghost use Rattle.tla_value.specs.ValueOrder.{value_cmp, value_eq};
 ghost use Rattle.tla_value.specs.declared.value.Value.{Value};
@@ -61,7 +61,7 @@ pub(crate) fn drop_repeats<T: Drop>(pairs: &mut Vec<(Value, T)>)
 }
 
 // How deep the deepest part of some pairs is nested.
-fn deepest_part_of(pairs: &[(Value, Value)]) -> u64
+pub(crate) fn deepest_part_of(pairs: &[(Value, Value)]) -> u64
     ensures nesting { result ≡ deepest_pair (pairs_of (map pair_of pairs.now)) }
     ensures values { ArePairs (pairs_of (map pair_of pairs.now)) }
 {
@@ -73,9 +73,10 @@ fn deepest_part_of(pairs: &[(Value, Value)]) -> u64
 }
 
 // The function of pairs that rise by argument, within the limits.
-pub(crate) fn fun_within(pairs: Vec<(Value, Value)>) -> FunValue
+pub(crate) fn fun_within(pairs: Vec<(Value, Value)>) -> Result<FunValue, ValueError>
     requires { IsFunList (map pair_of pairs.items) }
-    ensures { result ≡ map pair_of pairs.items }
+    ensures ok { IfOk result (λ f. f ≡ map pair_of pairs.items) }
+    ensures err { IfErr result (λ e. e ≡ Memory) }
 {
     let deepest = deepest_part_of(&pairs);
     FunValue::from_parts(pairs, deepest + 1)
@@ -93,7 +94,7 @@ fn fun_from_rising(pairs: Vec<(Value, Value)>) -> Result<FunValue, ValueError>
     if deepest >= MAX_NESTING {
         return Err(ValueError::TooDeep);
     }
-    Ok(FunValue::from_parts(pairs, deepest + 1))
+    FunValue::from_parts(pairs, deepest + 1)
 }
 
 // Whether the arguments are 1, 2, and so on.
@@ -120,17 +121,6 @@ fn copy_arguments(alloc: Global, pairs: &[(Value, Value)]) -> Result<Vec<Value>,
     Ok(copies)
 }
 
-// Another value at one argument, if it is there.
-fn put_value(pairs: &mut Vec<(Value, Value)>, argument: &Value, value: Value)
-    requires { IsStrictlySortedBy value_cmp (map (λ (p : Value × Value). p.0) pairs.old.items) }
-    ensures { map pair_of pairs.new.items ≡ except_of (tree_of argument.now) (tree_of value) (map pair_of pairs.old.items) }
-{
-    match place_of(pairs.as_slice(), argument) {
-        Ok(index) => pairs[index].1 = value,
-        Err(_) => {}
-    }
-}
-
 impl FunValue {
     /// The set of the arguments: `DOMAIN f`.
     pub fn domain(&self, alloc: Global) -> Result<SetValue, ValueError>
@@ -138,7 +128,19 @@ impl FunValue {
         ensures err { IfErr result (λ e. e ≡ Memory) }
     {
         let items = copy_arguments(alloc, self.pairs())?;
-        Ok(set_within(items))
+        set_within(items)
+    }
+
+    // Another value at one argument, if it is there: in place where nobody else holds the pairs.
+    fn put(&mut self, argument: &Value, value: Value) -> Result<(), ValueError>
+        ensures ok { OnOk result (self.new ≡ except_of (tree_of argument.now) (tree_of value) self.old) }
+        ensures value { OnOk result (IsValue (fun (pairs_of self.new))) }
+        ensures refused { IfErr result (RefusesFun (except_of (tree_of argument.now) (tree_of value) self.old)) }
+    {
+        match place_of(self.pairs(), argument) {
+            Ok(index) => self.put_at(index, value),
+            Err(_) => Ok(()),
+        }
     }
 
     /// The function with another value at one argument: `[f EXCEPT ![argument] = value]`. Outside the domain nothing
@@ -146,9 +148,9 @@ impl FunValue {
     pub fn with_value(self, argument: &Value, value: Value) -> Result<FunValue, ValueError>
         ensures { MakesFun (except_of (tree_of argument.now) (tree_of value) self) result }
     {
-        let mut pairs = self.into_pairs();
-        put_value(&mut pairs, argument, value);
-        fun_from_rising(pairs)
+        let mut changed = self;
+        changed.put(argument, value)?;
+        Ok(changed)
     }
 
     /// A copy with another value at one argument. Outside the domain it equals this function.

@@ -1,5 +1,5 @@
 // Finite sets, as rising lists.
-ghost use Rattle.std.specs.Prelude.{◌≡◌, ◌<◌, ◌≤◌, pos, ◌+ℤ◌, [], ◌++◌, ◌∷◌, map, filter, length, insert, not, is_ok, option_map, slice_get, IfOk, IfErr, OnOk, OnErr};
+ghost use Rattle.std.specs.Prelude.{◌≡◌, ◌<◌, ◌≤◌, pos, ◌+ℤ◌, ◌++◌, ◌∷◌, map, filter, length, insert, not, is_ok, option_map, slice_get, IfOk, IfErr, OnOk, OnErr};
 ghost use Rattle.std.specs.List.{list_all};
 ghost use Rattle.std.specs.List.Sorted.{IsStrictlySortedBy};
 ghost use Rattle.tla_value.specs.Tree.{set, trees, deepest};
@@ -32,9 +32,10 @@ pub(crate) fn deepest_of(values: &[Value]) -> u64
 }
 
 // The set of a rising list, within the limits.
-pub(crate) fn set_within(items: Vec<Value>) -> SetValue
+pub(crate) fn set_within(items: Vec<Value>) -> Result<SetValue, ValueError>
     requires { IsSetList (map tree_of items.items) }
-    ensures { result ≡ map tree_of items.items }
+    ensures ok { IfOk result (λ s. s ≡ map tree_of items.items) }
+    ensures err { IfErr result (λ e. e ≡ Memory) }
 {
     let deepest = deepest_of(&items);
     SetValue::from_parts(items, deepest + 1)
@@ -52,7 +53,7 @@ pub(crate) fn set_from_rising(items: Vec<Value>) -> Result<SetValue, ValueError>
     if deepest >= MAX_NESTING {
         return Err(ValueError::TooDeep);
     }
-    Ok(SetValue::from_parts(items, deepest + 1))
+    SetValue::from_parts(items, deepest + 1)
 }
 
 // The values in rising order, each once.
@@ -90,13 +91,6 @@ impl SetValue {
         ensures { MakesSet (set_of (map tree_of values.items)) result }
     {
         set_from_rising(sort_values(values))
-    }
-
-    /// The empty set.
-    pub fn empty(alloc: Global) -> SetValue
-        ensures { result ≡ [] }
-    {
-        SetValue::from_parts(Vec::new(alloc), 1)
     }
 
     /// The member at a place of the rising list.

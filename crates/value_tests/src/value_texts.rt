@@ -38,7 +38,7 @@ impl Write for Narrow {
 fn steps(alloc: Global) -> Result<Value, Fail> {
     let mut pairs = Vec::new(alloc);
     for (key, name) in [(1, "Done"), (0, "A")] {
-        let text = Text::new(String::from_str(alloc, name)?);
+        let text = Text::new(alloc, name)?;
         pairs.push((Value::Int(key), Value::Text(text)))?;
     }
     Ok(Value::Fun(FunValue::from_pairs(pairs)?))

@@ -45,7 +45,7 @@ fn members(rt: HostRuntime) -> Result<(), Fail> {
         nested(alloc, 64)?.nesting(),
     ];
     assert_eq!(rt; depths, [1, 1, 64]);
-    assert_eq!(rt; set.into_items().len(), 2);
+    assert_eq!(rt; set.into_items()?.len(), 2);
     Ok(())
 }
 
@@ -94,13 +94,14 @@ fn functions(rt: HostRuntime) -> Result<(), Fail> {
     let changed = one.copy(alloc)?.with_value(&Value::Int(1), Value::Int(2))?;
     let same = one.except(alloc, &Value::Int(1), Value::Int(2))?;
     assert!(rt; changed.pairs() == same.pairs());
+    assert_eq!(rt; one.apply(&Value::Int(1)), Some(&Value::Int(7)));
     assert_eq!(rt;
         [changed.apply(&Value::Int(1)), changed.apply(&Value::Int(3))],
         [Some(&Value::Int(2)), None]
     );
     assert!(rt; !one.is_empty() && one.len() == 1 && one.pairs().len() == 1);
     assert!(rt; one.nesting() == 1 && one.as_sequence() == Some(1));
-    assert_eq!(rt; one.into_pairs().len(), 1);
+    assert_eq!(rt; one.into_pairs()?.len(), 1);
     Ok(())
 }
 
@@ -131,8 +132,8 @@ fn states_and_shards(rt: HostRuntime) -> Result<(), Fail> {
 #[test]
 fn strings(rt: HostRuntime) -> Result<(), Fail> {
     let alloc = rt.alloc();
-    let text = Text::new(String::from_str(alloc, "ab")?);
-    assert_eq!(rt; text.copy(alloc)?.into_string().as_str(), "ab");
+    let text = Text::new(alloc, "ab")?;
+    assert_eq!(rt; text.copy(alloc)?.into_string()?.as_str(), "ab");
     Ok(())
 }
 

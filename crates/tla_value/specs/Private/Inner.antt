@@ -12,6 +12,12 @@ use Rattle.tla_value.specs.Sets.{is_member}
 abbrev pub IsPlace : Value → List (Value × Value) → ℕ → Type 0
 IsPlace x ps i = IsPartitionPoint (λ (p : Value × Value). value_cmp p.0 x ≡ Less) (λ (p : Value × Value). value_cmp p.0 x ≡ Greater) ps i
 
+-- another value beside the argument at a place
+abbrev pub with_value_at : List (Tree × Tree) → ℕ → Tree → List (Tree × Tree)
+with_value_at [] i v = []
+with_value_at (p ∷ ps) zero v = (p.0, v) ∷ ps
+with_value_at (p ∷ ps) (suc i) v = p ∷ with_value_at ps i v
+
 -- of the trees of one list, those that stand in another, or those that don't
 abbrev pub chosen_of : Bool → List Tree → List Tree → List Tree
 chosen_of shared others ts = filter (λ t. cond shared (is_member t others) (not (is_member t others))) ts

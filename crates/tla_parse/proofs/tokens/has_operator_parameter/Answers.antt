@@ -6,14 +6,11 @@ use Rattle.tla_parse.specs.Kinds.{kind_at}
 use Rattle.tla_parse.proofs.Inversion.{kind_stands, commas_more}
 use Rattle.tla_parse.proofs.tokens.has_operator_parameter.Goals as goal
 
-pub returns-then-is_kind : goal.returns-then-is_kind
-returns-then-is_kind c h =
+pub returns-then-is_operator_parameter : goal.returns-then-is_operator_parameter
+returns-then-is_operator_parameter c h =
     let a : kind_at k.Name (seen c.args.tokens.now c.args.column c.args.from) ≡ true = cc in
     let b : kind_at k.LeftParen (seen c.args.tokens.now c.args.column (c.args.from + 1)) ≡ true = cc in
-    let p : kind_at k.Name (seen c.args.tokens.now c.args.column c.loop-turn.at) ≡ true = cc in
-    let q : kind_at k.LeftParen (seen c.args.tokens.now c.args.column (c.loop-turn.at + 1)) ≡ true = cc in
-    let r : kind_at k.Underscore (seen c.args.tokens.now c.args.column (c.loop-turn.at + 2)) ≡ true = cc in
-    (c.loop-turn._turn, c.loop-turn.at, kind_stands c.args.tokens.now c.args.column c.args.from k.Name a, kind_stands c.args.tokens.now c.args.column (c.args.from + 1) k.LeftParen b, c.loop-turn.invariant.listed, kind_stands c.args.tokens.now c.args.column c.loop-turn.at k.Name p, kind_stands c.args.tokens.now c.args.column (c.loop-turn.at + 1) k.LeftParen q, kind_stands c.args.tokens.now c.args.column (c.loop-turn.at + 2) k.Underscore r)
+    (c.loop-turn._turn, c.loop-turn.at, kind_stands c.args.tokens.now c.args.column c.args.from k.Name a, kind_stands c.args.tokens.now c.args.column (c.args.from + 1) k.LeftParen b, c.loop-turn.invariant.listed, c.is_operator_parameter.ensures c.if-is_operator_parameter.true)
 
 pub loop-turn-preserved : goal.loop-turn-preserved
 loop-turn-preserved c =

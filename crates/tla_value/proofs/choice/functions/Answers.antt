@@ -12,7 +12,7 @@ fun_within-requires c =
 
 pub loop-number-preserved : goal.loop-number-preserved
 loop-number-preserved c =
-    rw add-one (function_more _ _ _ (map tree_of c.args.arguments.now) (map (λ s. s.now) c.args.sets.now) c.loop-number.number (omega arith) c.in_ok-push.ensures.items (c.fun_within.ensures ∙ c.in_ok-pairs.ensures.ok) c.loop-number.invariant)
+    rw add-one (function_more _ _ _ (map tree_of c.args.arguments.now) (map (λ s. s.now) c.args.sets.now) c.loop-number.number (omega arith) c.in_ok-push.ensures.items (c.in_ok-fun_within.ensures.ok ∙ c.in_ok-pairs.ensures.ok) c.loop-number.invariant)
 
 pub returns-clause-ok : goal.returns-clause-ok
 returns-clause-ok c =

@@ -10,7 +10,7 @@ set_within-requires c = is-set_list (map tree_of c.args.items.now) c.loop-number
 pub loop-number-preserved : goal.loop-number-preserved
 loop-number-preserved c =
     rw add-one (subset_more (map tree_of c.args.items.now) _ _ _ c.loop-number.number c.requires.value
-    (omega (arith, c.requires.count, ap (λ n. 2 ^ n) (length-map c.args.items.now tree_of))) c.in_ok-push.ensures.items (c.set_within.ensures ∙ c.in_ok-items.ensures.ok) c.loop-number.invariant)
+    (omega (arith, c.requires.count, ap (λ n. 2 ^ n) (length-map c.args.items.now tree_of))) c.in_ok-push.ensures.items (c.in_ok-set_within.ensures.ok ∙ c.in_ok-items.ensures.ok) c.loop-number.invariant)
 
 pub returns-clause-ok : goal.returns-clause-ok
 returns-clause-ok c =
