@@ -2,6 +2,7 @@ pub mod Tree
 pub mod Stored
 pub mod TreeOf
 pub mod Order
+pub mod TreeHash
 pub mod IsValue
 pub mod Sets
 pub mod Rising

@@ -7,24 +7,26 @@ use Rattle.tla_value.proofs.value.FunValue.put_at.Goals as goal
 
 pub returns-then-nesting-ge-MAX_NESTING-clause-refused : goal.returns-then-nesting-ge-MAX_NESTING-clause-refused
 returns-then-nesting-ge-MAX_NESTING-clause-refused c =
-    let few : length c.args.self.now ≤ 1000000 = rw (← c.self.view_is) c.self.invariant.list.few in
+    let few : length c.args.self.now ≤ 1000000 = rw (← c.self.view_is) c.self.invariant.shape.list.few in
     too_deep c.args.self.now c.args.index (tree_of c.args.value) few c.requires (omega (arith, c.nesting.ensures.nesting, c.if-nesting-ge-MAX_NESTING.true))
 
 pub put_held-requires-clause-shallow : goal.put_held-requires-clause-shallow
-put_held-requires-clause-shallow c = still_shallow (map pair_of (held_pairs c.self.inside.held)) _ c.args.index (tree_of c.args.value) c.self.invariant (omega (arith, c.nesting.ensures.nesting, c.if-nesting-ge-MAX_NESTING.false))
+put_held-requires-clause-shallow c = still_shallow (map pair_of (held_pairs c.self.inside.held)) _ c.args.index (tree_of c.args.value) c.self.invariant.shape (omega (arith, c.nesting.ensures.nesting, c.if-nesting-ge-MAX_NESTING.false))
 
 pub invariant_of-self-2 : goal.invariant_of-self-2
-invariant_of-self-2 c =
-    rw (c.in_ok-put_held.ensures.pairs, c.in_ok-put_held.ensures.nesting)
-    (IsFunValue-with_value_at (map pair_of (held_pairs c.self.inside.held)) _ c.args.index (tree_of c.args.value) c.self.invariant
-    (omega (arith, c.nesting.ensures.nesting, c.if-nesting-ge-MAX_NESTING.false))
-    c.in_ok-put_held.ensures.values)
+invariant_of-self-2 c = record {
+  shape = rw (c.in_ok-put_held.ensures.pairs, c.in_ok-put_held.ensures.nesting)
+      (IsFunValue-with_value_at (map pair_of (held_pairs c.self.inside.held)) _ c.args.index (tree_of c.args.value) c.self.invariant.shape
+      (omega (arith, c.nesting.ensures.nesting, c.if-nesting-ge-MAX_NESTING.false))
+      c.in_ok-put_held.ensures.values);
+  hashed = rw (← c.in_ok-put_held.ensures.pairs) at c.in_ok-put_held.ensures.hash;
+}
 
 pub returns-clause-value : goal.returns-clause-value
 returns-clause-value c =
     let changed : IsFunValue (map pair_of (held_pairs c.put_held.new.held)) (fun_nesting c.put_held.new.held) =
     rw (c.in_ok-put_held.ensures.pairs, c.in_ok-put_held.ensures.nesting)
-    (IsFunValue-with_value_at (map pair_of (held_pairs c.self.inside.held)) _ c.args.index (tree_of c.args.value) c.self.invariant
+    (IsFunValue-with_value_at (map pair_of (held_pairs c.self.inside.held)) _ c.args.index (tree_of c.args.value) c.self.invariant.shape
     (omega (arith, c.nesting.ensures.nesting, c.if-nesting-ge-MAX_NESTING.false))
     c.in_ok-put_held.ensures.values) in
     IsValue-fun _ _ changed

@@ -1,0 +1,27 @@
+-- What a tree feeds a hasher: its kind, and then what it holds. A set and a function feed one word, the hash of their parts.
+use Rattle.std.specs.Prelude.{ℕ, ◌++◌, [], fold}
+use Rattle.std.specs.Hash as fed
+use Rattle.std.specs.Hash.{HashWrites}
+use Rattle.std.specs.Hash.FoldHasher as folding
+use Rattle.tla_value.specs.Tree.{Tree, Trees, Pairs, truth, int, text, model, set, fun, no_trees, more_trees, no_pairs, more_pairs}
+
+-- the word that a hasher makes of some writes
+unfoldable pub word_of : HashWrites → ℕ
+word_of ws = folding.finish (fold folding.write folding.initial ws)
+
+abbrev mutual
+  pub tree_writes : Tree → HashWrites
+  tree_writes (truth b) = fed.u8 0 ++ fed.bool b
+  tree_writes (int z) = fed.u8 1 ++ fed.i64 z
+  tree_writes (text s) = fed.u8 2 ++ fed.str s
+  tree_writes (model s) = fed.u8 3 ++ fed.str s
+  tree_writes (set ts) = fed.u8 4 ++ fed.u64 (word_of (trees_writes ts))
+  tree_writes (fun ps) = fed.u8 5 ++ fed.u64 (word_of (pairs_writes ps))
+
+  pub trees_writes : Trees → HashWrites
+  trees_writes no_trees = []
+  trees_writes (more_trees t ts) = tree_writes t ++ trees_writes ts
+
+  pub pairs_writes : Pairs → HashWrites
+  pairs_writes no_pairs = []
+  pairs_writes (more_pairs a v ps) = tree_writes a ++ (tree_writes v ++ pairs_writes ps)
