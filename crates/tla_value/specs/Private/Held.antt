@@ -5,7 +5,7 @@ use Rattle.std.specs.declared.sync.Arc.{Arc}
 use Rattle.std.specs.declared.alloc.Global.{Global}
 use Rattle.tla_value.specs.Tree.{Tree, trees, pairs}
 use Rattle.tla_value.specs.TreeHash.{word_of, trees_writes, pairs_writes}
-use Rattle.tla_value.specs.IsValue.{IsSetValue, IsFunValue}
+use Rattle.tla_value.specs.IsValue.{AreValues, IsSetValue, IsFunValue}
 use Rattle.tla_value.specs.declared.value.Value.{Value}
 use Rattle.tla_value.specs.declared.value.Members.{Members}
 use Rattle.tla_value.specs.declared.value.Entries.{Entries}
@@ -42,3 +42,8 @@ pub record IsHeldSet (ts : List Tree) (nesting hash : ℕ) : Type 0 where
 pub record IsHeldFun (ps : List (Tree × Tree)) (nesting hash : ℕ) : Type 0 where
   pub shape : IsFunValue ps nesting
   pub hashed : hash ≡ word_of (pairs_writes (pairs ps))
+
+-- the values of a state beside the hash that is kept of them
+pub record IsHeldState (ts : List Tree) (hash : ℕ) : Type 0 where
+  pub are : AreValues (trees ts)
+  pub hashed : hash ≡ word_of (trees_writes (trees ts))
