@@ -1,2 +1,4 @@
 -- What serves the code: no public contract cites these.
+pub mod Domain
 pub mod Environment
+pub mod Gathered

@@ -1,0 +1,93 @@
+//! The different ones of many values that come one by one.
+ghost use Rattle.std.specs.Prelude.{◌≡◌, ◌∷◌, [], List, map, IfErr, OnOk};
+ghost use Rattle.tla_value.specs.Tree.{Tree};
+ghost use Rattle.tla_value.specs.TreeOf.{tree_of};
+ghost use Rattle.tla_value.specs.Sets.{set_of};
+ghost use Rattle.tla_core.specs.Fault.{out_of_memory};
+ghost use Rattle.tla_core.specs.Kinds.{make_set};
+ghost use Rattle.tla_eval.specs.Gives.{Gives};
+ghost use Rattle.tla_eval.specs.Private.Gathered.{IsHeld, IsGathered, Adds};
+
+use crate::rules::copied;
+use crate::sets::made_set;
+use std::alloc::Global;
+use tla_core::{Fault, Place};
+use tla_value::{SetValue, Value};
+
+/// The most members that a set may have.
+const MAX_MEMBERS: usize = 1_000_000;
+
+/// How many values are held at least before doubles are dropped.
+const LEAST_ROOM: usize = 1024;
+
+/// The different ones of some values. Of more than a set may have only so many are held that this is certain.
+#[derive(Drop)]
+pub(crate) struct Gathered {
+    values: Vec<Value>,
+    room: usize,
+    is_full: bool,
+}
+
+impl Gathered {
+    /// No values.
+    pub(crate) fn new(alloc: Global) -> Gathered
+        ensures { IsGathered [] result }
+    {
+        Gathered {
+            values: Vec::new(alloc),
+            room: LEAST_ROOM,
+            is_full: false,
+        }
+    }
+
+    /// Adds a value.
+    pub(crate) fn add(&mut self, value: Value) -> Result<(), Fault>
+        ensures ok { OnOk result (Adds (tree_of value ∷ []) self.old self.new) }
+        ensures err { IfErr result (λ f. f ≡ out_of_memory) }
+    {
+        if self.is_full {
+            return Ok(());
+        }
+        self.values.push(value)?;
+        if self.values.len() >= self.room {
+            self.drop_doubles();
+        }
+        Ok(())
+    }
+
+    /// Adds copies of some values.
+    pub(crate) fn add_copies(&mut self, alloc: Global, values: &[Value]) -> Result<(), Fault>
+        ensures ok { OnOk result (Adds (map tree_of values.now) self.old self.new) }
+        ensures err { IfErr result (λ f. f ≡ out_of_memory) }
+    {
+        for value in values {
+            self.add(copied(alloc, value)?)?;
+        }
+        Ok(())
+    }
+
+    /// Drops doubles, and makes room for as many more values as are left.
+    fn drop_doubles(&mut self)
+        ensures { (ts : List Tree) → IsHeld ts (map tree_of self.old.values.items) → IsGathered ts self.new }
+    {
+        sort_once(&mut self.values);
+        let count = self.values.len();
+        self.is_full = count > MAX_MEMBERS;
+        self.room = LEAST_ROOM.max(count.saturating_mul(2));
+    }
+
+    /// The set of the values.
+    pub(crate) fn into_set(self, place: Place) -> Result<Value, Fault>
+        ensures { (ts : List Tree) → IsGathered ts self → Gives result (make_set place ts) }
+    {
+        made_set(place, SetValue::from_values(self.values))
+    }
+}
+
+/// Puts some values in rising order, each once.
+fn sort_once(values: &mut Vec<Value>)
+    ensures { map tree_of values.new.items ≡ set_of (map tree_of values.old.items) }
+{
+    values.sort_unstable();
+    values.dedup();
+}
