@@ -42,6 +42,13 @@ pub(crate) fn lists_of<'a>(
     Ok(lists)
 }
 
+/// The member of a list at a place, where there is one.
+pub(crate) fn member_of<'a>(list: &'a [Value], number: usize) -> Option<&'a Value>
+    ensures { option_map (λ v. tree_of v.now) result ≡ slice_get (map tree_of list.now) number }
+{
+    list.get(number)
+}
+
 /// The member of a list at a number, counted round and round.
 fn member_at(list: &[Value], number: usize) -> &Value
     requires { 0 < length list.now }
