@@ -98,9 +98,12 @@ module _ (e : Meaning) (b : Bound) (s : Present) (t : Next) where
       ok_err k = cc
   faults (Some c) g h = (c, refl, go (e.value (b ++ c) s t) h)
     where
-      go : (r : Outcome Tree) → (r >>= λ x. (let q : Outcome (Option Tree) = Ok (Some x) in q)) ≡ Err g → r ≡ Err g
+      go : (r : Outcome Tree) → (r >>= λ x. Ok (Some x)) ≡ Err g → r ≡ Err g
       go (Ok x) k = cc
       go (Err f) k = cc
+
+  pub value_here : (o : Option (List Tree)) (c : List Tree) (v : Tree) → o ≡ Some c → e.value (b ++ c) s t ≡ Ok v → value_at e b s t o ≡ Ok (Some v)
+  value_here o c v h k = ap (λ (u : Option (List Tree)). value_at e b s t u) h ∙ ap (λ (r : Outcome Tree). r >>= λ x. Ok (Some x)) k
 
   module _ (all : List (List Tree)) (i : ℕ) where
     pub value_more : (kept : List Tree) (v : Tree) (new : List Tree) → value_at e b s t (slice_get all i) ≡ Ok (Some v) → new ≡ kept ++ v ∷ []
@@ -111,6 +114,13 @@ module _ (e : Meaning) (b : Bound) (s : Present) (t : Next) where
     value_stop kept g h =
         let r = faults (slice_get all i) g h in
         chosen_from (λ c. e.value (b ++ c) s t) kept all i r.0 r.1 ∙ ap (λ (o : Outcome Tree). o >>= λ y. then_more (kept ++ y ∷ []) (each (λ c. e.value (b ++ c) s t) (drop (suc i) all))) r.2
+
+    pub value_first : (kept : List Tree) → then_more kept (each (λ c. e.value (b ++ c) s t) (drop i all)) ≡ (value_at e b s t (slice_get all i) >>= λ o. then_more kept (each (λ c. e.value (b ++ c) s t) (drop i all)))
+    value_first kept = go (value_at e b s t (slice_get all i)) refl
+      where
+        go : (r : Outcome (Option Tree)) → value_at e b s t (slice_get all i) ≡ r → then_more kept (each (λ c. e.value (b ++ c) s t) (drop i all)) ≡ (r >>= λ o. then_more kept (each (λ c. e.value (b ++ c) s t) (drop i all)))
+        go (Ok o) h = refl
+        go (Err g) h = value_stop kept g h
 
     pub value_end : (kept : List Tree) → value_at e b s t (slice_get all i) ≡ Ok None → then_more kept (each (λ c. e.value (b ++ c) s t) (drop i all)) ≡ Ok kept
     value_end kept h = chosen_end (λ c. e.value (b ++ c) s t) kept all i (gone (slice_get all i) h)
@@ -123,6 +133,13 @@ module _ (e : Meaning) (b : Bound) (s : Present) (t : Next) where
 
     pub pass_stop : (g : Fault) → value_at e b s t (slice_get all i) ≡ Err g → nothing_of (each (λ c. e.value (b ++ c) s t) (drop i all)) ≡ Err g
     pass_stop g h = sym (nothing_more [] (each (λ c. e.value (b ++ c) s t) (drop i all))) ∙ ap (λ (o : Outcome (List Tree)). nothing_of o) (value_stop [] g h)
+
+    pub pass_first : nothing_of (each (λ c. e.value (b ++ c) s t) (drop i all)) ≡ (value_at e b s t (slice_get all i) >>= λ o. nothing_of (each (λ c. e.value (b ++ c) s t) (drop i all)))
+    pass_first = go (value_at e b s t (slice_get all i)) refl
+      where
+        go : (r : Outcome (Option Tree)) → value_at e b s t (slice_get all i) ≡ r → nothing_of (each (λ c. e.value (b ++ c) s t) (drop i all)) ≡ (r >>= λ o. nothing_of (each (λ c. e.value (b ++ c) s t) (drop i all)))
+        go (Ok o) h = refl
+        go (Err g) h = pass_stop g h
 
     pub pass_end : value_at e b s t (slice_get all i) ≡ Ok None → nothing_of (each (λ c. e.value (b ++ c) s t) (drop i all)) ≡ Ok tt
     pass_end h = sym (nothing_more [] (each (λ c. e.value (b ++ c) s t) (drop i all))) ∙ ap (λ (o : Outcome (List Tree)). nothing_of o) (value_end [] h)
@@ -176,16 +193,13 @@ module _ (p : Place) (e : Meaning) (b : Bound) (s : Present) (t : Next) (vs : Li
   pub function_of_values : (ys : List Tree) → values_for e b s t lists ≡ Ok ys → function_for_rule p e b s t vs ≡ function_rule p vs ys
   function_of_values ys h = ap (λ (o : Outcome (List Tree)). o >>= function_rule p vs) (rule_of_lists ∙ h)
 
-  pub function_stop : (g : Fault) → values_for e b s t lists ≡ Err g → function_for_rule p e b s t vs ≡ Err g
-  function_stop g h = ap (λ (o : Outcome (List Tree)). o >>= function_rule p vs) (rule_of_lists ∙ h)
-
   -- where the values are evaluated and not kept
-  pub function_passed_stop : (g : Fault) → nothing_of (values_for e b s t lists) ≡ Err g → function_for_rule p e b s t vs ≡ Err g
-  function_passed_stop g h = function_stop g (go (values_for e b s t lists) h)
+  pub function_first : function_for_rule p e b s t vs ≡ (nothing_of (values_for e b s t lists) >>= λ u. values_for e b s t lists >>= function_rule p vs)
+  function_first = ap (λ (o : Outcome (List Tree)). o >>= function_rule p vs) rule_of_lists ∙ go (values_for e b s t lists)
     where
-      go : (o : Outcome (List Tree)) → nothing_of o ≡ Err g → o ≡ Err g
-      go (Ok ys) k = cc
-      go (Err f) k = cc
+      go : (o : Outcome (List Tree)) → (o >>= function_rule p vs) ≡ (nothing_of o >>= λ u. o >>= function_rule p vs)
+      go (Ok ys) = refl
+      go (Err g) = refl
 
   pub function_passed : (u : Unit {0}) (f : Fault) → nothing_of (values_for e b s t lists) ≡ Ok u → IsDomain p vs (Refused f) → (f ≡ out_of_memory) ⊎ (function_for_rule p e b s t vs ≡ Err f)
   function_passed u f h no =

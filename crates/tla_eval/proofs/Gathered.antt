@@ -175,10 +175,10 @@ gathered_once ts us g e f r h =
 
 -- ---- several, one after the other
 pub adds_none : (g : Gathered) → Adds [] g g
-adds_none g ts h = subst (λ (us : List Tree). IsGathered us g) (sym (append-nil ts)) h
+adds_none g = λ ts h. subst (λ (us : List Tree). IsGathered us g) (sym (append-nil ts)) h
 
 pub adds_more : (us vs : List Tree) (f g h : Gathered) → Adds us f g → Adds vs g h → Adds (us ++ vs) f h
-adds_more us vs f g h a b ts i = subst (λ (xs : List Tree). IsGathered xs h) (append_assoc ts us vs) (b (ts ++ us) (a ts i))
+adds_more us vs f g h a b = λ ts i. subst (λ (xs : List Tree). IsGathered xs h) (append_assoc ts us vs) (b (ts ++ us) (a ts i))
 
 -- ---- the set of what is gathered
 pub gathered_set : (p : Place) (us ts : List Tree) → MakeSameSet us ts → rising_set p (set_of us) ≡ make_set p ts
@@ -198,7 +198,7 @@ module _ (p : Place) (kept : List Tree) (sets : List Value) (i : ℕ) (x : Value
 
   pub joined_more : (xs : List Tree) → as_set p (tree_of x) ≡ Ok xs → then_more kept (joined_sets p (map tree_of (drop i sets))) ≡ then_more (kept ++ xs) (joined_sets p (map tree_of (drop (i + 1) sets)))
   joined_more xs h =
-      rw add-one (ap (then_more kept) (joined_here ∙ ap (λ (o : Outcome (List Tree)). o >>= λ ys. joined_sets p (map tree_of (drop (suc i) sets)) >>= λ zs. Ok (ys ++ zs)) h)
+      rw add-one (ap (λ (o : Outcome (List Tree)). then_more kept o) (joined_here ∙ ap (λ (o : Outcome (List Tree)). o >>= λ ys. joined_sets p (map tree_of (drop (suc i) sets)) >>= λ zs. Ok (ys ++ zs)) h)
       ∙ go (joined_sets p (map tree_of (drop (suc i) sets))))
     where
       go : (o : Outcome (List Tree)) → then_more kept (o >>= λ zs. Ok (xs ++ zs)) ≡ then_more (kept ++ xs) o
@@ -206,7 +206,7 @@ module _ (p : Place) (kept : List Tree) (sets : List Value) (i : ℕ) (x : Value
       go (Err f) = refl
 
   pub joined_stop : (f : Fault) → as_set p (tree_of x) ≡ Err f → then_more kept (joined_sets p (map tree_of (drop i sets))) ≡ Err f
-  joined_stop f h = ap (then_more kept) (joined_here ∙ ap (λ (o : Outcome (List Tree)). o >>= λ ys. joined_sets p (map tree_of (drop (suc i) sets)) >>= λ zs. Ok (ys ++ zs)) h)
+  joined_stop f h = ap (λ (o : Outcome (List Tree)). then_more kept o) (joined_here ∙ ap (λ (o : Outcome (List Tree)). o >>= λ ys. joined_sets p (map tree_of (drop (suc i) sets)) >>= λ zs. Ok (ys ++ zs)) h)
 
 pub joined_end : (p : Place) (kept : List Tree) (sets : List Value) (i : ℕ) → length sets ≤ i → then_more kept (joined_sets p (map tree_of (drop i sets))) ≡ Ok kept
 joined_end p kept sets i l = ap (λ us. then_more kept (joined_sets p (map tree_of us))) (drop_all i sets l) ∙ ap (λ us. Ok us) (append-nil kept)

@@ -1,12 +1,12 @@
 //! The different ones of many values that come one by one.
-ghost use Rattle.std.specs.Prelude.{◌≡◌, ◌∷◌, [], List, map, IfErr, OnOk};
+ghost use Rattle.std.specs.Prelude.{◌≡◌, ◌∷◌, [], List, Ok, map, IfErr, OnOk};
 ghost use Rattle.tla_value.specs.Tree.{Tree};
 ghost use Rattle.tla_value.specs.TreeOf.{tree_of};
 ghost use Rattle.tla_value.specs.Sets.{set_of};
-ghost use Rattle.tla_core.specs.Fault.{out_of_memory};
+ghost use Rattle.tla_core.specs.Fault.{Outcome, ◌>>=◌, out_of_memory};
 ghost use Rattle.tla_core.specs.Kinds.{make_set};
 ghost use Rattle.tla_eval.specs.Gives.{Gives};
-ghost use Rattle.tla_eval.specs.Private.Gathered.{IsHeld, IsGathered, Adds};
+ghost use Rattle.tla_eval.specs.Private.Gathered.{IsHeld, IsGathered, Adds, Gathers};
 
 use crate::rules::copied;
 use crate::sets::made_set;
@@ -46,6 +46,7 @@ impl Gathered {
         ensures err { IfErr result (λ f. f ≡ out_of_memory) }
     {
         if self.is_full {
+            drop(value);
             return Ok(());
         }
         self.values.push(value)?;
@@ -78,7 +79,7 @@ impl Gathered {
 
     /// The set of the values.
     pub(crate) fn into_set(self, place: Place) -> Result<Value, Fault>
-        ensures { (ts : List Tree) → IsGathered ts self → Gives result (make_set place ts) }
+        ensures { (o : Outcome (List Tree)) → Gathers (Ok self) o → Gives result (o >>= make_set place) }
     {
         made_set(place, SetValue::from_values(self.values))
     }

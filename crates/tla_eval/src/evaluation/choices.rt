@@ -89,13 +89,14 @@ fn function_on_tuples<'s, 'a>(
     ensures { Gives result (function_for_rule place (means (expr_of body.now)) (bound_in env.entry) (present_in env.entry) (next_in env.entry) (map tree_of_evaluated sets.now)) }
 {
     let lists = lists_of(alloc, place, sets)?;
+    let lists = lists.as_slice();
     match domain_of(alloc, place, sets)? {
         Domain::Tuples(tuples) => {
-            let values = chosen(alloc, body, lists.as_slice(), env)?;
+            let values = chosen(alloc, body, lists, env)?;
             function_with(alloc, place, tuples.items(), values)
         }
         Domain::Refused(fault) => {
-            pass_over(alloc, body, lists.as_slice(), env)?;
+            pass_over(alloc, body, lists, env)?;
             Err(fault)
         }
     }
@@ -169,7 +170,7 @@ fn pass_over<'l, 'a>(
 {
     for number in 0..usize::MAX {
         match value_for(alloc, body, lists, number, env)? {
-            Some(_) => {}
+            Some(value) => drop(value),
             None => return Ok(()),
         }
     }
