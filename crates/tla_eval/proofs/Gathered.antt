@@ -1,6 +1,6 @@
 -- How many different members there are, and what is gathered of them.
-use Rattle.std.proofs.Common.{◌≡◌, ◌⊎◌, ℕ, suc, ◌*◌, ◌^◌, ◌-◌, ◌<◌, ◌≤◌, ◌||◌, nat_lt, min, max, Bool, true, false, List, [], ◌∷◌, ◌++◌, append_assoc, append-nil, length, map, drop, get_or, drop-cons, add-one, ◌+◌, refl, sym, ap, subst, ◌∙◌, inl, inr, arith, Less, Equal, Greater, Result, Ok, Err}
-use Rattle.std.proofs.lemmas.List.{length-map, length-append, map-append, drop_all}
+use Rattle.std.proofs.Common.{◌≡◌, ◌⊎◌, ℕ, suc, ◌*◌, ◌^◌, ◌-◌, ◌<◌, ◌≤◌, ◌||◌, nat_lt, min, max, Bool, true, false, List, [], ◌∷◌, ◌++◌, append_assoc, append-nil, length, map, take, drop, get_or, drop-cons, add-one, ◌+◌, refl, sym, ap, subst, ◌∙◌, inl, inr, arith, Less, Equal, Greater, Result, Ok, Err}
+use Rattle.std.proofs.lemmas.List.{length-map, length-append, map-append, take_more, drop_all}
 use Rattle.std.proofs.lemmas.Bool.Decides.{nat_tests}
 use Rattle.std.specs.Ordering.{match_ordering}
 use Rattle.std.specs.BTreeSet.{insert_key}
@@ -130,35 +130,36 @@ held_more ts v old new f e h =
       few = omega (arith, free.0, free.1, more, length-map new tree_of, ap length e, length-append old.values.items (v ∷ []));
     }
 
--- and there is room for another
-pub gathered_more : (ts : List Tree) (v : Value) (old new : Gathered) → old.is_full ≡ false → new.values.items ≡ old.values.items ++ v ∷ [] → new.is_full ≡ old.is_full → new.room ≡ old.room
-    → length new.values.items < new.room → IsGathered ts old → IsGathered (ts ++ tree_of v ∷ []) new
-gathered_more ts v old new f e g r l h =
-    let more = different_more ts (tree_of v ∷ []) in
-    let free = h.free f in
-    record {
-      held = held_more ts v old new.values.items f e h;
-      full = λ j. absurd (false_true (sym f ∙ sym g ∙ j));
-      free = λ j. (l, omega (arith, r, free.1, more));
-    }
+pub room_more : (ts : List Tree) (t : Tree) (g : Gathered) → g.is_full ≡ false → IsGathered ts g → g.room ≤ most_held (ts ++ t ∷ [])
+room_more ts t g f h = let free = h.free f in omega (arith, free.1, different_more ts (t ∷ []))
+
+-- where there is room for another
+pub gathered_so : (ts : List Tree) (g : Gathered) → IsHeld ts (map tree_of g.values.items) → g.is_full ≡ false → length g.values.items < g.room → g.room ≤ most_held ts → IsGathered ts g
+gathered_so ts g h f l r = record {
+  held = h;
+  full = λ j. absurd (false_true (sym f ∙ j));
+  free = λ j. (l, r);
+}
   where
     false_true : (let b : Bool = false in b ≡ true) → ⊥
     false_true k = cc
 
 -- where doubles are dropped
-pub gathered_once : (ts us : List Tree) (g : Gathered) → map tree_of g.values.items ≡ set_of us → g.is_full ≡ nat_lt 1000000 (length g.values.items) → g.room ≡ max 1024 (min (length g.values.items * 2) (2 ^ 64 - 1)) → IsHeld ts us → IsGathered ts g
-gathered_once ts us g e f r h =
-    let n = length g.values.items in
-    let count : n ≡ different us = sym (length-map g.values.items tree_of) ∙ ap length e in
+pub gathered_once : (ts us : List Tree) (g : Gathered) (n : ℕ) → n ≡ length g.values.items → map tree_of g.values.items ≡ set_of us → g.is_full ≡ nat_lt 1000000 n → g.room ≡ max 1024 (min (n * 2) (2 ^ 64 - 1)) → IsHeld ts us → IsGathered ts g
+gathered_once ts us g n long e f r h =
+    let count : n ≡ different us = long ∙ sym (length-map g.values.items tree_of) ∙ ap length e in
     let again : different (map tree_of g.values.items) ≡ n = ap different e ∙ ap length (set_twice us) ∙ sym count in
     let fewer = different_few us in
     record {
       held = record {
         same = subst (λ (xs : List Tree). MakeSameSet xs ts) (sym e) (same_once us ts h.same);
-        few = omega (arith, h.few, fewer, count, length-map g.values.items tree_of);
+        few = omega (arith, h.few, fewer, count, long, length-map g.values.items tree_of);
       };
       full = λ j. let many : 1000000 < n = is_more n (sym f ∙ j) in omega (arith, many, again);
-      free = λ j. let few : n ≤ 1000000 = is_few n (sym f ∙ j) in let all : different ts ≡ different us = few_same us ts h.same (omega (arith, few, count)) in (room n g.room r few, bound n g.room (different ts) r few (all ∙ sym count));
+      free = λ j.
+          let few : n ≤ 1000000 = is_few n (sym f ∙ j) in
+          let all : different ts ≡ n = few_same us ts h.same (omega (arith, few, count)) ∙ sym count in
+          (subst (λ (k : ℕ). k < g.room) long (room n g.room r few), bound n g.room (different ts) r few all);
     }
   where
     is_more : (n : ℕ) → nat_lt 1000000 n ≡ true → 1000000 < n
@@ -174,6 +175,9 @@ gathered_once ts us g e f r h =
     bound n m d k l i = omega (arith, k, l, i)
 
 -- ---- several, one after the other
+pub taken : (vs : List Value) (i : ℕ) (x : Value) → x ≡ get_or vs i x → i < length vs → map tree_of (take (i + 1) vs) ≡ map tree_of (take i vs) ++ tree_of x ∷ []
+taken vs i x is l = ap (map tree_of) (take_more vs i x l ∙ ap (λ y. take i vs ++ y ∷ []) (sym is)) ∙ map-append tree_of (take i vs) (x ∷ [])
+
 pub adds_none : (g : Gathered) → Adds [] g g
 adds_none g = λ ts h. subst (λ (us : List Tree). IsGathered us g) (sym (append-nil ts)) h
 
@@ -207,6 +211,13 @@ module _ (p : Place) (kept : List Tree) (sets : List Value) (i : ℕ) (x : Value
 
   pub joined_stop : (f : Fault) → as_set p (tree_of x) ≡ Err f → then_more kept (joined_sets p (map tree_of (drop i sets))) ≡ Err f
   joined_stop f h = ap (λ (o : Outcome (List Tree)). then_more kept o) (joined_here ∙ ap (λ (o : Outcome (List Tree)). o >>= λ ys. joined_sets p (map tree_of (drop (suc i) sets)) >>= λ zs. Ok (ys ++ zs)) h)
+
+  pub joined_first : then_more kept (joined_sets p (map tree_of (drop i sets))) ≡ (as_set p (tree_of x) >>= λ xs. then_more kept (joined_sets p (map tree_of (drop i sets))))
+  joined_first = go (as_set p (tree_of x)) refl
+    where
+      go : (o : Outcome (List Tree)) → as_set p (tree_of x) ≡ o → then_more kept (joined_sets p (map tree_of (drop i sets))) ≡ (o >>= λ xs. then_more kept (joined_sets p (map tree_of (drop i sets))))
+      go (Ok xs) h = refl
+      go (Err f) h = joined_stop f h
 
 pub joined_end : (p : Place) (kept : List Tree) (sets : List Value) (i : ℕ) → length sets ≤ i → then_more kept (joined_sets p (map tree_of (drop i sets))) ≡ Ok kept
 joined_end p kept sets i l = ap (λ us. then_more kept (joined_sets p (map tree_of us))) (drop_all i sets l) ∙ ap (λ us. Ok us) (append-nil kept)

@@ -1,12 +1,12 @@
 //! The different ones of many values that come one by one.
-ghost use Rattle.std.specs.Prelude.{◌≡◌, ◌∷◌, [], List, Ok, map, IfErr, OnOk};
+ghost use Rattle.std.specs.Prelude.{◌≡◌, ◌≤◌, ◌∷◌, [], List, Ok, false, map, IfErr, OnOk};
 ghost use Rattle.tla_value.specs.Tree.{Tree};
 ghost use Rattle.tla_value.specs.TreeOf.{tree_of};
 ghost use Rattle.tla_value.specs.Sets.{set_of};
 ghost use Rattle.tla_core.specs.Fault.{Outcome, ◌>>=◌, out_of_memory};
 ghost use Rattle.tla_core.specs.Kinds.{make_set};
 ghost use Rattle.tla_eval.specs.Gives.{Gives};
-ghost use Rattle.tla_eval.specs.Private.Gathered.{IsHeld, IsGathered, Adds, Gathers};
+ghost use Rattle.tla_eval.specs.Private.Gathered.{most_held, IsHeld, IsGathered, Adds, Gathers};
 
 use crate::rules::copied;
 use crate::sets::made_set;
@@ -50,9 +50,7 @@ impl Gathered {
             return Ok(());
         }
         self.values.push(value)?;
-        if self.values.len() >= self.room {
-            self.drop_doubles();
-        }
+        self.make_room();
         Ok(())
     }
 
@@ -67,14 +65,18 @@ impl Gathered {
         Ok(())
     }
 
-    /// Drops doubles, and makes room for as many more values as are left.
-    fn drop_doubles(&mut self)
-        ensures { (ts : List Tree) → IsHeld ts (map tree_of self.old.values.items) → IsGathered ts self.new }
+    /// Drops doubles where there is no room left, and makes room for as many more values as are left.
+    #[tactic(auto, using(crate::proofs::Gathered::gathered_so))]
+    fn make_room(&mut self)
+        ensures { (ts : List Tree) → IsHeld ts (map tree_of self.old.values.items) → self.old.is_full ≡ false → self.old.room ≤ most_held ts → IsGathered ts self.new }
     {
+        if self.values.len() < self.room {
+            return;
+        }
         sort_once(&mut self.values);
-        let count = self.values.len();
-        self.is_full = count > MAX_MEMBERS;
-        self.room = LEAST_ROOM.max(count.saturating_mul(2));
+        let left = self.values.len();
+        self.is_full = left > MAX_MEMBERS;
+        self.room = LEAST_ROOM.max(left.saturating_mul(2));
     }
 
     /// The set of the values.

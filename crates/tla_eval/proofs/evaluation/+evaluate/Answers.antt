@@ -237,7 +237,7 @@ choices::chosen-returns-in-None t c =
     (c.in_ok-value.ensures ∙ ap (λ (o : Option Value). Ok (option_map tree_of o)) c.in-None.is)
 
 pub choices::chosen_once-loop-number-init : goal.choices::chosen_once-loop-number-init
-choices::chosen_once-loop-number-init t c = ([], c.new.ensures, more_none _)
+choices::chosen_once-loop-number-init t c = ([], c.new-values.ensures, more_none _)
 
 pub choices::chosen_once-loop-number-preserved : goal.choices::chosen_once-loop-number-preserved
 choices::chosen_once-loop-number-preserved t c =
