@@ -14,7 +14,8 @@ use Rattle.tla_core.specs.declared.fault.Place.{Place}
 use Rattle.tla_core.specs.declared.fault.Fault.{Fault}
 use Rattle.tla_core.specs.Fault.{Outcome, ◌>>=◌}
 use Rattle.tla_core.specs.Kinds.{as_set, rising_set, make_set}
-use Rattle.tla_core.specs.Operators.{joined_sets}
+use Rattle.tla_core.specs.Expr.{Union}
+use Rattle.tla_core.specs.Operators.{joined_sets, unary_rule}
 use Rattle.tla_eval.specs.Gives.{then_more}
 use Rattle.tla_eval.specs.declared.gathered.Gathered.{Gathered}
 use Rattle.tla_eval.specs.Private.Gathered.{different, MakeSameSet, most_held, IsHeld, IsGathered, Adds}
@@ -221,3 +222,6 @@ module _ (p : Place) (kept : List Tree) (sets : List Value) (i : ℕ) (x : Value
 
 pub joined_end : (p : Place) (kept : List Tree) (sets : List Value) (i : ℕ) → length sets ≤ i → then_more kept (joined_sets p (map tree_of (drop i sets))) ≡ Ok kept
 joined_end p kept sets i l = ap (λ us. then_more kept (joined_sets p (map tree_of us))) (drop_all i sets l) ∙ ap (λ us. Ok us) (append-nil kept)
+
+pub union_is : (p : Place) (t : Tree) (ts : List Tree) → as_set p t ≡ Ok ts → unary_rule Union p t ≡ (joined_sets p ts >>= make_set p)
+union_is p t ts h = ap (λ (o : Outcome (List Tree)). o >>= λ us. joined_sets p us >>= make_set p) h
