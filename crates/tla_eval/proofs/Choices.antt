@@ -155,6 +155,12 @@ image_is p ms e b s t = go (each (λ (m : Meaning). m.value b s t) ms)
     go (Err x) = refl
     go (Ok vs) = sym (bind_assoc (each (as_set p) vs) (values_for e b s t) (make_set p))
 
+pub image_step : (p : Place) (ms : List Meaning) (e : Meaning) (b : Bound) (s : Present) (t : Next) (vs : List Tree) (lists : List (List Tree)) → each (λ (m : Meaning). m.value b s t) ms ≡ Ok vs → each (as_set p) vs ≡ Ok lists
+    → image_rule p ms e b s t ≡ (values_for e b s t lists >>= make_set p)
+image_step p ms e b s t vs lists h j =
+    ap (λ (o : Outcome (List Tree)). o >>= λ us. chosen_rule p e b s t us >>= make_set p) h
+    ∙ ap (λ (o : Outcome (List (List Tree))). (o >>= values_for e b s t) >>= make_set p) j
+
 pub function_is : (p : Place) (ms : List Meaning) (e : Meaning) (b : Bound) (s : Present) (t : Next) → (means-function p ms e).value b s t ≡ chosen_function_rule p ms e b s t
 function_is p ms e b s t = go (each (λ (m : Meaning). m.value b s t) ms)
   where

@@ -9,8 +9,8 @@ use Rattle.tla_eval.proofs.Collected.{function_on_single}
 use Rattle.tla_eval.proofs.Domains.{one_item, one_list, rule_is}
 use Rattle.tla_eval.proofs.domain.function_on.Goals as goal
 
-pub returns-in_ok-arguments : goal.returns-in_ok-arguments
-returns-in_ok-arguments c =
+pub returns : goal.returns
+returns c =
     let p = c.args.place in
     let xs = map tree_of c.in_ok-arguments.arguments.now in
     let vs = map tree_of c.args.values.items in

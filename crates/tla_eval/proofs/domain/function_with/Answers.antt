@@ -7,6 +7,6 @@ use Rattle.tla_core.specs.Kinds.{make_fun}
 use Rattle.tla_eval.specs.Gives.{Gives}
 use Rattle.tla_eval.proofs.domain.function_with.Goals as goal
 
-pub returns-in_ok-pairs : goal.returns-in_ok-pairs
-returns-in_ok-pairs c =
+pub returns : goal.returns
+returns c =
     subst (λ (o : Outcome Tree). Gives c.made_fun.result o) (ap (make_fun c.args.place) c.in_ok-pairs.ensures.ok) (c.made_fun.ensures (fun_of (map pair_of c.in_ok-pairs.pairs.items)) c.from_pairs.ensures)

@@ -9,7 +9,8 @@ use Rattle.tla_core.specs.Value.{means, mem}
 use Rattle.tla_core.specs.ExprOf.{expr_of, parts_of_cores, fields_of_cores, arms_of_cores, updates_of_cores}
 use Rattle.tla_value.specs.Tree.{Tree}
 use Rattle.tla_core.specs.Fault.{Outcome}
-use Rattle.tla_eval.specs.Gives.{Gives, GivesBy, GivesTruth, record_rule, image_rule, function_rule, chosen_function_rule, product_rule, record_set_rule, values_of}
+use Rattle.tla_eval.specs.Gives.{Gives, GivesBy, GivesTruth, record_rule, image_rule, function_rule, chosen_function_rule, product_rule, record_set_rule, values_for, values_of}
+use Rattle.tla_eval.specs.declared.environment.Evaluated.{Evaluated}
 use Rattle.tla_eval.specs.Private.Chosen.{value_at}
 use Rattle.tla_eval.specs.Private.Domain.{AreForChoices, IsDomain}
 use Rattle.tla_eval.specs.Private.Gathered.{Gathers}
@@ -19,7 +20,7 @@ use Rattle.tla_value.specs.declared.value.Value.{Value}
 use Rattle.tla_eval.specs.Private.Environment.{Evaluates, tree_of_evaluated, bound_in, present_in, next_in}
 use Rattle.tla_core.proofs.Loops.{all_hold_step, some_hold_step, first_passing_step}
 use Rattle.tla_eval.proofs.Collected.{record_is}
-use Rattle.tla_eval.proofs.Choices.{image_is, function_is, passing_step, one_choice, value_here, value_more, value_first, value_end, pass_more, pass_first, pass_end, for_choices, function_of_values, function_first, function_passed}
+use Rattle.tla_eval.proofs.Choices.{image_is, image_step, function_is, passing_step, one_choice, value_here, value_more, value_first, value_end, pass_more, pass_first, pass_end, for_choices, function_of_values, function_first, function_passed}
 use Rattle.tla_eval.proofs.Chosen.{trees_in}
 use Rattle.tla_eval.proofs.Gathered.{more_none}
 use Rattle.tla_core.proofs.Parts.{means_conjunction, means_disjunction, means_enumerated, means_tuple, means_record, means_image, means_function, means_except, means_cases, means_cases_or, means_records, means_product}
@@ -180,6 +181,27 @@ pub binding::passing-loop-value-preserved : goal.binding::passing-loop-value-pre
 binding::passing-loop-value-preserved t c =
     c.loop-value.invariant
     ∙ passing_step (λ v. asks c.args.place (means (expr_of c.args.body.now)) (bound_in c.args.env ++ v ∷ []) (present_in c.args.env) (next_in c.args.env)) c.args.values.now c.loop-value.value-index c.value-item.result c.loop-value.kept.items c.keep_copy.new.kept.items c.in_ok-holds.holds c.value-item.is c.loop-value-test.true c.in_ok-holds.ensures c.in_ok-keep_copy.ensures.ok
+
+pub choices::image-returns : goal.choices::image-returns
+choices::image-returns t c =
+    let m = means (expr_of c.args.body.now) in
+    let vs = map tree_of_evaluated c.as_slice.result.now in
+    let lists = trees_in c.as_slice-2.result.now in
+    let e = image_step c.args.place (parts_of_cores c.args.sets.now) m (bound_in c.args.env) (present_in c.args.env) (next_in c.args.env) vs lists
+    (c.in_ok-sets.ensures ∙ ap (λ (us : List Evaluated). Ok (map tree_of_evaluated us)) (sym c.as_slice.ensures.value))
+    (c.in_ok-lists.ensures ∙ ap (λ (us : List (Bor (List Value))). Ok (trees_in us)) (sym c.as_slice-2.ensures.value)) in
+    e ∙ c.in_ok-into_set.ensures (values_for m (bound_in c.args.env) (present_in c.args.env) (next_in c.args.env) lists) c.in_ok-values.ensures
+
+pub choices::image-returns-in_err-into_set : goal.choices::image-returns-in_err-into_set
+choices::image-returns-in_err-into_set t c =
+    let m = means (expr_of c.args.body.now) in
+    let vs = map tree_of_evaluated c.as_slice.result.now in
+    let lists = trees_in c.as_slice-2.result.now in
+    let e = image_step c.args.place (parts_of_cores c.args.sets.now) m (bound_in c.args.env) (present_in c.args.env) (next_in c.args.env) vs lists
+    (c.in_ok-sets.ensures ∙ ap (λ (us : List Evaluated). Ok (map tree_of_evaluated us)) (sym c.as_slice.ensures.value))
+    (c.in_ok-lists.ensures ∙ ap (λ (us : List (Bor (List Value))). Ok (trees_in us)) (sym c.as_slice-2.ensures.value)) in
+    let g = c.in_err-into_set.ensures (values_for m (bound_in c.args.env) (present_in c.args.env) (next_in c.args.env) lists) c.in_ok-values.ensures in
+    subst (λ (o : Outcome Tree). Evaluates c.from_residual-in_err-into_set.result o) (sym e) (search (rules, g))
 
 pub choices::function_on_tuples-returns-in_ok-values-in-Tuples : goal.choices::function_on_tuples-returns-in_ok-values-in-Tuples
 choices::function_on_tuples-returns-in_ok-values-in-Tuples t c =

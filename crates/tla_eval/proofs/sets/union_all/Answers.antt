@@ -7,7 +7,7 @@ use Rattle.tla_eval.specs.Gives.{Gives}
 use Rattle.tla_eval.proofs.Gathered.{union_is}
 use Rattle.tla_eval.proofs.sets.union_all.Goals as goal
 
-pub returns-in_ok-joined : goal.returns-in_ok-joined
-returns-in_ok-joined c =
+pub returns : goal.returns
+returns c =
     let ts = map tree_of c.in_ok-sets.sets.now in
     subst (λ (o : Outcome Tree). Gives c.into_set.result o) (sym (union_is c.args.place (tree_of c.args.sets.now) ts c.in_ok-sets.ensures)) (c.into_set.ensures (joined_sets c.args.place ts) c.in_ok-joined.ensures)
