@@ -66,7 +66,7 @@ impl Gathered {
     }
 
     /// Drops doubles where there is no room left, and makes room for as many more values as are left.
-    #[tactic(auto, using(crate::proofs::Gathered::gathered_so))]
+    #[tactic(auto, using(crate::proofs::Different::gathered_so))]
     fn make_room(&mut self)
         ensures { (ts : List Tree) → IsHeld ts (map tree_of self.old.values.items) → self.old.is_full ≡ false → self.old.room ≤ most_held ts → IsGathered ts self.new }
     {

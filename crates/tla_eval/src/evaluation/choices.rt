@@ -11,7 +11,9 @@ ghost use Rattle.tla_eval.specs.Private.Chosen.{value_at, function_for_rule};
 ghost use Rattle.tla_eval.specs.Private.Environment.{Evaluates, tree_of_evaluated, bound_in, present_in, next_in};
 ghost use Rattle.tla_eval.specs.Private.Gathered.{Gathers};
 
-use crate::domain::{Domain, choice_at, domain_of, function_on, function_with, lists_of, member_of};
+use crate::domain::{
+    Domain, choice_at, domain_of, function_on, function_with, lists_of, member_of,
+};
 use crate::environment::{Environment, Evaluated, Scope};
 use crate::evaluation::binding::value_with;
 use crate::evaluation::evaluate;

@@ -22,7 +22,7 @@ use Rattle.tla_core.proofs.Loops.{all_hold_step, some_hold_step, first_passing_s
 use Rattle.tla_eval.proofs.Collected.{record_is}
 use Rattle.tla_eval.proofs.Choices.{image_is, image_step, function_is, passing_step, one_choice, value_here, value_more, value_first, value_end, pass_more, pass_first, pass_end, for_choices, function_of_values, function_first, function_passed}
 use Rattle.tla_eval.proofs.Chosen.{trees_in}
-use Rattle.tla_eval.proofs.Gathered.{more_none}
+use Rattle.tla_eval.proofs.Different.{more_none}
 use Rattle.tla_core.proofs.Parts.{means_conjunction, means_disjunction, means_enumerated, means_tuple, means_record, means_image, means_function, means_except, means_cases, means_cases_or, means_records, means_product}
 use Rattle.tla_eval.proofs.RecordSets.{product_is, record_set_is, fields_long, tuple_long, tuple_other, same_number, number_same}
 use Rattle.tla_core.specs.Kinds.{items, as_set, make_fun}
@@ -265,11 +265,13 @@ pub choices::chosen_once-loop-number-preserved : goal.choices::chosen_once-loop-
 choices::chosen_once-loop-number-preserved t c =
     let m = means (expr_of c.args.body.now) in
     let v = tree_of c.in-Some.value in
-    let kept = c.loop-number.invariant.0 in
-    (kept ++ v ∷ [], c.in_ok-add-in-Some.ensures.ok kept c.loop-number.invariant.1,
-    c.loop-number.invariant.2
-    ∙ value_more m (bound_in c.args.env) (present_in c.args.env) (next_in c.args.env) (choices (trees_in c.args.lists.now)) c.loop-number.number kept v (kept ++ v ∷ [])
-    (c.in_ok-value.ensures ∙ ap (λ (o : Option Value). Ok (option_map tree_of o)) c.in-Some.is) refl)
+    let kept = c.loop-number.invariant.0 in (
+      kept ++ v ∷ [],
+      c.in_ok-add-in-Some.ensures.ok kept c.loop-number.invariant.1,
+      c.loop-number.invariant.2
+          ∙ value_more m (bound_in c.args.env) (present_in c.args.env) (next_in c.args.env) (choices (trees_in c.args.lists.now)) c.loop-number.number kept v (kept ++ v ∷ [])
+          (c.in_ok-value.ensures ∙ ap (λ (o : Option Value). Ok (option_map tree_of o)) c.in-Some.is) refl,
+    )
 
 pub choices::chosen_once-returns-in_err-value : goal.choices::chosen_once-returns-in_err-value
 choices::chosen_once-returns-in_err-value t c =
@@ -280,11 +282,13 @@ choices::chosen_once-returns-in_err-value t c =
 pub choices::chosen_once-returns-in-None : goal.choices::chosen_once-returns-in-None
 choices::chosen_once-returns-in-None t c =
     let m = means (expr_of c.args.body.now) in
-    let kept = c.loop-number.invariant.0 in
-    (kept, c.loop-number.invariant.2
-    ∙ value_end m (bound_in c.args.env) (present_in c.args.env) (next_in c.args.env) (choices (trees_in c.args.lists.now)) c.loop-number.number kept
-    (c.in_ok-value.ensures ∙ ap (λ (o : Option Value). Ok (option_map tree_of o)) c.in-None.is),
-    c.loop-number.invariant.1)
+    let kept = c.loop-number.invariant.0 in (
+      kept,
+      c.loop-number.invariant.2
+          ∙ value_end m (bound_in c.args.env) (present_in c.args.env) (next_in c.args.env) (choices (trees_in c.args.lists.now)) c.loop-number.number kept
+          (c.in_ok-value.ensures ∙ ap (λ (o : Option Value). Ok (option_map tree_of o)) c.in-None.is),
+      c.loop-number.invariant.1,
+    )
 
 pub choices::pass_over-loop-number-preserved : goal.choices::pass_over-loop-number-preserved
 choices::pass_over-loop-number-preserved t c =

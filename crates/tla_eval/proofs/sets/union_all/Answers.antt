@@ -4,7 +4,7 @@ use Rattle.tla_value.specs.TreeOf.{tree_of}
 use Rattle.tla_core.specs.Fault.{Outcome}
 use Rattle.tla_core.specs.Operators.{joined_sets}
 use Rattle.tla_eval.specs.Gives.{Gives}
-use Rattle.tla_eval.proofs.Gathered.{union_is}
+use Rattle.tla_eval.proofs.Different.{union_is}
 use Rattle.tla_eval.proofs.sets.union_all.Goals as goal
 
 pub returns : goal.returns

@@ -1,6 +1,6 @@
 use Rattle.std.proofs.Common.{◌++◌, ◌∷◌, []}
 use Rattle.tla_value.specs.TreeOf.{tree_of}
-use Rattle.tla_eval.proofs.Gathered.{still_gathered, held_more, room_more}
+use Rattle.tla_eval.proofs.Different.{still_gathered, held_more, room_more}
 use Rattle.tla_eval.proofs.gathered.Gathered.add.Goals as goal
 
 pub returns-then-self-clause-ok : goal.returns-then-self-clause-ok

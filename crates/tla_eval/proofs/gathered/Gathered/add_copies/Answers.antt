@@ -4,7 +4,7 @@ use Rattle.tla_value.specs.Tree.{Tree}
 use Rattle.tla_value.specs.TreeOf.{tree_of}
 use Rattle.tla_value.specs.declared.value.Value.{Value}
 use Rattle.tla_eval.specs.Private.Gathered.{Adds}
-use Rattle.tla_eval.proofs.Gathered.{adds_none, adds_more, taken}
+use Rattle.tla_eval.proofs.Different.{adds_none, adds_more, taken}
 use Rattle.tla_eval.proofs.gathered.Gathered.add_copies.Goals as goal
 
 pub loop-value-init : goal.loop-value-init

@@ -5,7 +5,7 @@ use Rattle.tla_value.specs.Sets.{set_of}
 use Rattle.tla_core.specs.Fault.{Outcome, ◌>>=◌}
 use Rattle.tla_core.specs.Kinds.{make_set}
 use Rattle.tla_eval.specs.Gives.{Gives}
-use Rattle.tla_eval.proofs.Gathered.{gathered_set}
+use Rattle.tla_eval.proofs.Different.{gathered_set}
 use Rattle.tla_eval.proofs.gathered.Gathered.into_set.Goals as goal
 
 pub returns : goal.returns

@@ -1,5 +1,5 @@
 use Rattle.std.proofs.Common.{refl}
-use Rattle.tla_eval.proofs.Gathered.{none_gathered}
+use Rattle.tla_eval.proofs.Different.{none_gathered}
 use Rattle.tla_eval.proofs.gathered.Gathered.new.Goals as goal
 
 pub returns : goal.returns

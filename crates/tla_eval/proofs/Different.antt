@@ -111,7 +111,7 @@ still_gathered ts t g f h =
     let all = many_too us ts h.held.same many in
     let more = different_more ts (t ∷ []) in
     record {
-      held = record { same = inr (many, omega (arith, all, more)); few = omega (arith, h.held.few, more); };
+      held = record { same = inr (many, omega (arith, all, more)); few = omega (arith, h.held.few, more) };
       full = h.full;
       free = λ e. absurd (true_false (sym f ∙ e));
     }
