@@ -3,10 +3,9 @@ ghost use Rattle.std.specs.Prelude.{◌≡◌, ◌≤◌, ◌∷◌, [], List, O
 ghost use Rattle.tla_value.specs.Tree.{Tree};
 ghost use Rattle.tla_value.specs.TreeOf.{tree_of};
 ghost use Rattle.tla_value.specs.Sets.{set_of};
-ghost use Rattle.tla_core.specs.Fault.{Outcome, ◌>>=◌, out_of_memory};
-ghost use Rattle.tla_core.specs.Kinds.{make_set};
+ghost use Rattle.tla_core.specs.Fault.{Outcome, out_of_memory};
 ghost use Rattle.tla_eval.specs.Gives.{Gives};
-ghost use Rattle.tla_eval.specs.Private.Gathered.{most_held, IsHeld, IsGathered, Adds, Gathers};
+ghost use Rattle.tla_eval.specs.Private.Gathered.{most_held, IsHeld, IsGathered, Adds, Gathers, set_rule};
 
 use crate::rules::copied;
 use crate::sets::made_set;
@@ -81,7 +80,7 @@ impl Gathered {
 
     /// The set of the values.
     pub(crate) fn into_set(self, place: Place) -> Result<Value, Fault>
-        ensures { (o : Outcome (List Tree)) → Gathers (Ok self) o → Gives result (o >>= make_set place) }
+        ensures { (o : Outcome (List Tree)) → Gathers (Ok self) o → Gives result (set_rule place o) }
     {
         made_set(place, SetValue::from_values(self.values))
     }

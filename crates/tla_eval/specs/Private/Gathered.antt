@@ -4,7 +4,9 @@ use Rattle.tla_value.specs.Tree.{Tree}
 use Rattle.tla_value.specs.TreeOf.{tree_of}
 use Rattle.tla_value.specs.Sets.{set_of}
 use Rattle.tla_core.specs.declared.fault.Fault.{Fault}
-use Rattle.tla_core.specs.Fault.{Outcome, out_of_memory}
+use Rattle.tla_core.specs.declared.fault.Place.{Place}
+use Rattle.tla_core.specs.Fault.{Outcome, ◌>>=◌, out_of_memory}
+use Rattle.tla_core.specs.Kinds.{make_set}
 use Rattle.tla_eval.specs.declared.gathered.Gathered.{Gathered}
 
 -- how many different trees stand in a list
@@ -38,3 +40,9 @@ Adds us old new = (ts : List Tree) → IsGathered ts old → IsGathered (ts ++ u
 abbrev pub Gathers : Result Gathered Fault → Outcome (List Tree) → Type 0
 Gathers (Ok g) o = (ts : List Tree) × (o ≡ Ok ts) × IsGathered ts g
 Gathers (Err f) o = (f ≡ out_of_memory) ⊎ (o ≡ Err f)
+
+-- the set of the values that a definition gives
+abbrev pub set_rule : Place → Outcome (List Tree) → Outcome Tree
+set_rule p o = do
+  ts ← o
+  make_set p ts
