@@ -1,5 +1,5 @@
 -- The formulas of a model as the code finds them, or why there are none; and the model of its parts.
-use Rattle.std.proofs.Common.{◌≡◌, refl, ap, sym, ◌∙◌, Bool, true, false, List, [], ◌∷◌, ◌++◌, Option, Some, None, ◌<◌, length, arith, subst, append-nil, map}
+use Rattle.std.proofs.Common.{◌≡◌, refl, ap, sym, ◌∙◌, List, [], ◌∷◌, ◌++◌, Option, Some, None, ◌<◌, length, arith, subst, append-nil, map}
 use Rattle.tla_core.specs.Expr.{Expr}
 use Rattle.tla_core.specs.ExprOf.{expr_of}
 use Rattle.tla_core.specs.declared.expression.Core.{Core}
@@ -13,14 +13,16 @@ use Rattle.tla_tree.specs.UnitsView.{unit_view}
 use Rattle.tla_config.specs.Names.{Name}
 use Rattle.tla_config.specs.Statements.{Statement, items_of, checks_deadlock}
 use Rattle.tla_expand.specs.declared.primes.Primes.{Primes}
-use Rattle.tla_expand.specs.declared.primes.Primes.TheVariants.{Never, Once}
+use Rattle.tla_expand.specs.declared.primes.Primes.TheVariants.{Never, Once, Twice, Forbidden}
 use Rattle.tla_expand.specs.Meanings.{Scope}
 use Rattle.tla_expand.specs.Expand.{expand}
 use Rattle.tla_expand.specs.Primes.{with_primes}
 use Rattle.tla_expand.specs.Maybe.{◌>>=◌}
 use Rattle.tla_expand.specs.Primes.{primes}
+use Rattle.tla_expand.proofs.Keeps.{stays}
 use Rattle.tla_expand.proofs.Primed.{unprimed}
 use Rattle.tla_expand.proofs.PrimesFit.{inv}
+use Rattle.tla_expand.proofs.Forbids.{forbidden_same}
 use Rattle.tla_model.specs.ModelOf.{predicate_of, tree_of_parts}
 use Rattle.tla_model.specs.declared.state_predicate.StatePredicate.{StatePredicate}
 use Rattle.tla_model.specs.Size.{IsWithinLimits}
@@ -32,7 +34,7 @@ use Rattle.tla_names.specs.Items.{definitions_of, replaceable_of, nameable_of, r
 use Rattle.tla_names.specs.Leads.{leads}
 use Rattle.tla_names.specs.Circles.{AreStraight}
 use Rattle.tla_names.specs.Named.{names_misused}
-use Rattle.tla_defs.specs.Model.{IsModel, IsBehaviour, meaning_in, IsInitial, IsAction, IsStatePredicate, IsAssumption, IsStateLevel, IsConstantLevel, AreStatePredicates, AreAssumptions, assumptions_of, invariants_named, constraints_named}
+use Rattle.tla_defs.specs.Model.{IsModel, IsBehaviour, meaning_in, IsInitial, IsAction, IsStatePredicate, IsAssumption, AreStatePredicates, AreAssumptions, assumptions_of, invariants_named, constraints_named}
 
 -- nothing of so many primes is within the limits
 abbrev pub NoneShown : Primes → Tree → Scope → Type 0
@@ -60,34 +62,28 @@ module _ (σ : Scope) (tree : Tree) where
   pub no_action : NoneShown Never tree σ → (e : Expr) → IsAction σ tree e → ⊥
   no_action none e h = none e (shown_unprimed (expand tree σ 0) e h.meaning) h.limits
 
+-- what is read so that no variable may have a prime, or none may stand there, is what it was
+of_forbidden : (o : Option Expr) (e : Expr) → with_primes Forbidden o ≡ Some e → (o ≡ Some e) × (primes Forbidden e ≡ Some e)
+of_forbidden None e p = cc
+of_forbidden (Some x) e p = let same : x ≡ e = sym (forbidden_same x e p) in (ap (λ y. Some y) same, subst (λ y. primes Forbidden y ≡ Some e) same p)
+
+of_twice : (o : Option Expr) (e : Expr) → with_primes Twice o ≡ Some e → (o ≡ Some e) × (primes Twice e ≡ Some e)
+of_twice None e p = cc
+of_twice (Some x) e p = let s = stays x e p Twice in let same : x ≡ e = cc in (ap (λ y. Some y) same, subst (λ y. primes Twice y ≡ Some y) same s)
+
 module _ (σ : Scope) (w : Written) where
-  pub found_predicate : (e : Expr) → with_primes Never (meaning_in σ w) ≡ Some e → IsWithinLimits e → IsStateLevel e → IsStatePredicate σ w e
-  found_predicate e p h l = record { meaning = unprimed_is (meaning_in σ w) e p; level = l; limits = h }
+  pub found_predicate : (e : Expr) → with_primes Forbidden (meaning_in σ w) ≡ Some e → IsWithinLimits e → IsStatePredicate σ w e
+  found_predicate e p h = let f = of_forbidden (meaning_in σ w) e p in record { meaning = f.0; level = f.1; limits = h }
 
-  pub no_predicate : NoneShown Never (t.Name w) σ → (e : Expr) → IsStatePredicate σ w e → ⊥
-  no_predicate none e h = none e (shown_unprimed (meaning_in σ w) e h.meaning) h.limits
-
-  -- what is found is the only expansion
-  pub high_predicate : (d : Expr) → with_primes Never (meaning_in σ w) ≡ Some d → (IsStateLevel d → ⊥) → (e : Expr) → IsStatePredicate σ w e → ⊥
-  high_predicate d p high e h =
-      let q = unprimed_is (meaning_in σ w) d p in
-      let r = h.meaning in
-      let same : e ≡ d = cc in
-      high (subst (λ f. IsStateLevel f) same h.level)
+  pub no_predicate : NoneShown Forbidden (t.Name w) σ → (e : Expr) → IsStatePredicate σ w e → ⊥
+  no_predicate none e h = none e (ap (λ o. o >>= primes Forbidden) h.meaning ∙ h.level) h.limits
 
 module _ (σ : Scope) (tree : Tree) where
-  pub found_assumption : (e : Expr) → with_primes Never (expand tree σ 0) ≡ Some e → IsWithinLimits e → IsConstantLevel e → IsAssumption σ tree e
-  found_assumption e p h level = record { expanded = unprimed_is (expand tree σ 0) e p; level = level; limits = h }
+  pub found_assumption : (e : Expr) → with_primes Twice (expand tree σ 0) ≡ Some e → IsWithinLimits e → IsAssumption σ tree e
+  found_assumption e p h = let f = of_twice (expand tree σ 0) e p in record { expanded = f.0; level = f.1; limits = h }
 
-  pub no_assumption : NoneShown Never tree σ → (e : Expr) → IsAssumption σ tree e → ⊥
-  no_assumption none e h = none e (shown_unprimed (expand tree σ 0) e h.expanded) h.limits
-
-  pub high_assumption : (d : Expr) → with_primes Never (expand tree σ 0) ≡ Some d → (IsConstantLevel d → ⊥) → (e : Expr) → IsAssumption σ tree e → ⊥
-  high_assumption d p high e h =
-      let q = unprimed_is (expand tree σ 0) d p in
-      let r = h.expanded in
-      let same : e ≡ d = cc in
-      high (subst (λ f. IsConstantLevel f) same h.level)
+  pub no_assumption : NoneShown Twice tree σ → (e : Expr) → IsAssumption σ tree e → ⊥
+  no_assumption none e h = none e (ap (λ o. o >>= primes Twice) h.expanded ∙ h.level) h.limits
 
 -- the model of parts in memory
 pub parts_model : (us : List UnitTree) (cs : List Statement) (σ : Scope) (vs : List Name) (assumed : List Core) (init next : Core) (is ks : List StatePredicate) (check : Bool) (i n : Tree)
@@ -143,6 +139,3 @@ pub predicates_end : (σ : Scope) (left : List (Bor Written)) (all : List Writte
     → Follow σ (mentions left) all done → AreStatePredicates σ all done
 predicates_end σ [] all done h f = subst (λ xs. AreStatePredicates σ all xs) (append-nil done) (f [] tt)
 predicates_end σ (w ∷ left) all done h f = absurd (omega (arith, h))
-
-pub not_both : (b : Bool) → b ≡ true → b ≡ false → ⊥
-not_both b p q = let z : ⊥ = cc in z

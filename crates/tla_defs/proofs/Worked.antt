@@ -137,8 +137,8 @@ counts_within =
         limits = within _ 3 2 refl refl (omega arith) (omega arith);
       };
       next = record { meaning = refl; limits = within _ 5 3 refl refl (omega arith) (omega arith) };
-      invariants = tt;
-      constraints = (refl, record { meaning = refl; level = refl; limits = within _ 3 2 refl refl (omega arith) (omega arith) }, tt);
+      invariants = (refl, record { meaning = refl; level = refl; limits = within _ 3 2 refl refl (omega arith) (omega arith) }, tt);
+      constraints = (refl, record { meaning = refl; level = refl; limits = within _ 3 2 refl refl (omega arith) (omega arith) }, (refl, record { meaning = refl; level = refl; limits = within _ 3 2 refl refl (omega arith) (omega arith) }, (refl, record { meaning = refl; level = refl; limits = within _ 3 2 refl refl (omega arith) (omega arith) }, tt)));
       check_deadlock = refl;
     }
 

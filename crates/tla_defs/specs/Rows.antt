@@ -116,12 +116,20 @@ plus_tree = Binary (place 5 9) op.Equal (word 5 12 (codes "=")) (Prime (place 5 
 abbrev pub plus_step : Expr
 plus_step = equal (place_of (place 5 9)) (next (place_of (place 5 9)) 0) (binary (place_of (place 5 14)) e.Add (now_at 5 14) (constant_at 5 18 1))
 
--- counting on as long as Con, which is x < 3, is TRUE
+-- x < n in a line, behind the name of one letter that it defines
+abbrev pub below_tree : ℕ → ℕ → Tree
+below_tree line n = Binary (place line 6) op.Less (word line 8 (codes "<")) (x_at line 6) (number_at line 10 n)
+
+abbrev pub below : ℕ → ℕ → Expr
+below line n = binary (place_of (place line 6)) e.LessThan (now_at line 6) (constant_at line 10 n)
+
+-- counting on as long as A and C are TRUE. Constraints keep the order of the configuration, on both sides of an invariant, and may repeat
 abbrev pub CountsWithin : Type 0
 CountsWithin = IsModel
-    (frame 0 plus_tree (Operator (word 6 1 (codes "Con")) below_three_tree ∷ []))
-    (statements (s.Constraints (place 3 1) (word 3 12 (codes "Con") ∷ []) ∷ []))
-    (record (model 0 plus_step [] true) { constraints = (codes "Con", below_three) ∷ [] })
+    (frame 0 plus_tree (Operator (word 6 1 (codes "A")) (below_tree 6 3) ∷ Operator (word 7 1 (codes "B")) (below_tree 7 9) ∷ Operator (word 8 1 (codes "C")) (below_tree 8 5) ∷ []))
+    (statements (s.Constraints (place 3 1) (word 3 12 (codes "A") ∷ []) ∷ s.Invariants (place 4 1) (word 4 11 (codes "B") ∷ [])
+    ∷ s.Constraints (place 5 1) (word 5 13 (codes "C") ∷ word 5 16 (codes "A") ∷ []) ∷ []))
+    (record (model 0 plus_step ((codes "B", below 7 9) ∷ []) true) { constraints = (codes "A", below 6 3) ∷ (codes "C", below 8 5) ∷ (codes "A", below 6 3) ∷ [] })
 
 -- the largest number, from which one is counted on
 abbrev pub LargestNumber : Type 0

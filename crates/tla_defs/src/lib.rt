@@ -7,7 +7,6 @@
 mod behaviour;
 mod builder;
 mod conjuncts;
-mod cover;
 mod fairness;
 mod formula;
 mod global;
@@ -21,4 +20,4 @@ mod temporal;
 
 pub use builder::build;
 pub use tla_config::{Config, DefsCode, DefsError, Source, parse_config};
-pub use tla_model::Model;
+pub use tla_model::{Model, StatePredicate};

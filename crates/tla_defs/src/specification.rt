@@ -1,6 +1,6 @@
 //! The formula that SPECIFICATION names.
 
-ghost use Rattle.std.specs.Prelude.{◌≡◌, ◌≢◌, Some, Ok, map, OnOk, IfOk, IfErr};
+ghost use Rattle.std.specs.Prelude.{◌≡◌, ◌≢◌, Some, map, OnOk, IfOk, IfErr};
 ghost use Rattle.tla_config.specs.declared.error.DefsCode.TheVariants.{Memory};
 ghost use Rattle.tla_core.specs.Expr as expr;
 ghost use Rattle.tla_expand.specs.Names.{scope_of};
@@ -11,10 +11,10 @@ ghost use Rattle.tla_defs.specs.Model as model;
 ghost use Rattle.tla_defs.specs.Refused as refused;
 ghost use Rattle.tla_names.specs.Refusal as refusal;
 ghost use Rattle.tla_defs.specs.Subscripts as subscripts;
-ghost use Rattle.tla_defs.specs.Private.Specified.{IsForm, LacksState, NoForm};
+ghost use Rattle.tla_defs.specs.Refused.{NoForm};
+ghost use Rattle.tla_defs.specs.Private.Specified.{IsForm, LacksState, form_refused, MayBeLast};
 
 use crate::conjuncts::{Classes, parts_of};
-use crate::cover::covers;
 use crate::table::{Class, Definitions, Table};
 use indexmap::IndexSet;
 use std::alloc::Global;
@@ -38,18 +38,6 @@ fn not_of_form(place: Place) -> DefsError
     refusal_at(DefsCode::SpecificationForm, Source::Configuration, place)
 }
 
-/// The refusal of a subscript of a specification at a place: it says nothing, or it is too large.
-fn subscript_refusal(failure: Failure, place: Place, begins: Place) -> DefsError
-    ensures refused { result.code ≢ Memory → refused.IsLast (Some (refusal.refusal_at DefsCode.SpecificationForm Source.Configuration place)) result }
-    ensures memory { failure ≡ Failure.Memory → result.code ≡ Memory }
-{
-    match failure {
-        Failure::Memory => no_memory(),
-        Failure::NoExpansion(_) => not_of_form(place),
-        Failure::TooLarge => refusal_at(DefsCode::ExpansionTooLarge, Source::Module, begins),
-    }
-}
-
 /// A subscript that covers so many variables.
 fn covered<'a>(
     alloc: Global,
@@ -59,18 +47,13 @@ fn covered<'a>(
     place: Place,
 ) -> Result<(), DefsError>
     ensures covers { OnOk result (subscripts.IsCover (scope_of scopes.now) variables (view subscript.entry.now)) }
-    ensures refused { IfErr result (λ e. e.code ≢ Memory → refused.IsLast (Some (refusal.refusal_at DefsCode.SpecificationForm Source.Configuration place)) e) }
+    ensures refused { IfErr result (λ e. e.code ≢ Memory → MayBeLast (Some (refusal.refusal_at DefsCode.SpecificationForm Source.Configuration place)) e) }
     ensures none { IfErr result (λ e. e.code ≢ Memory → subscripts.IsCover (scope_of scopes.now) variables (view subscript.entry.now) → ⊥) }
 {
-    match scopes.expansion(alloc, subscript, Primes::Never) {
-        Ok(core) => {
-            if covers(variables, &core) {
-                Ok(())
-            } else {
-                Err(not_of_form(place))
-            }
-        }
-        Err(failure) => Err(subscript_refusal(failure, place, subscript.place())),
+    match scopes.covers(alloc, subscript, variables) {
+        Ok(true) => Ok(()),
+        Ok(false) => Err(not_of_form(place)),
+        Err(_) => Err(no_memory()),
     }
 }
 
@@ -158,7 +141,7 @@ pub(crate) fn specification<'a>(
     name: &Written,
 ) -> Result<Specified<'a>, DefsError>
     ensures found { IfOk result (λ s. IsForm (map unit_view units.now) items.now (scope_of scopes.now) variables name.now s) }
-    ensures refused { IfErr result (λ e. e.code ≢ Memory → refused.IsLast (refused.form_refused (Ok (refused.Specified place name.now))) e) }
+    ensures refused { IfErr result (λ e. e.code ≢ Memory → MayBeLast (form_refused (refused.Specified place name.now)) e) }
     ensures none { IfErr result (λ e. e.code ≢ Memory → NoForm (map unit_view units.now) items.now (scope_of scopes.now) variables name.now) }
 {
     let fairness = Table::of(alloc, units, items, Class::Fairness)?;

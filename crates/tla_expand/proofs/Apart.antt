@@ -1,9 +1,9 @@
 -- Expressions behind references, and their conjunction.
-use Rattle.std.proofs.Common.{◌≡◌, ◌≢◌, ◌≤◌, ◌<◌, ◌+◌, ℕ, List, [], ◌∷◌, Option, Some, None, length, map, get_or, arith, refl, ap, sym, ◌∙◌}
+use Rattle.std.proofs.Common.{◌≡◌, ◌≢◌, ◌<◌, ℕ, List, [], ◌∷◌, Option, Some, None, length, map, get_or, arith, refl, ap, sym, ◌∙◌}
 use Rattle.std.proofs.lemmas.List.{get_or-map}
 use Rattle.std.specs.Borrow.{Bor}
 use Rattle.tla_core.specs.declared.fault.Place.{Place}
-use Rattle.tla_core.specs.Expr.{Expr, Exprs, conjunction}
+use Rattle.tla_core.specs.Expr.{Expr, conjunction}
 use Rattle.tla_model.specs.Size.{IsWithinLimits, nodes, depth}
 use Rattle.tla_tree.specs.declared.tree.Expr as syntax
 use Rattle.tla_tree.specs.Tree.{Tree, Trees, trees}
@@ -15,7 +15,8 @@ use Rattle.tla_expand.specs.declared.primes.Primes.{Primes}
 use Rattle.tla_expand.specs.Lists.{exprs}
 use Rattle.tla_expand.specs.Meanings.{Scope}
 use Rattle.tla_expand.specs.Expand.{expand_each}
-use Rattle.tla_expand.specs.Private.Gives.{part_in, pointed, total, highest, FailsBy, Fails, Makes}
+use Rattle.tla_expand.specs.Private.Gives.{total, highest, FailsBy, Fails, Makes}
+use Rattle.tla_expand.specs.Private.Parts.{part_in, pointed}
 use Rattle.tla_expand.specs.Maybe.{◌>>=◌, each_of}
 use Rattle.tla_expand.specs.Primes.{with_primes}
 use Rattle.tla_expand.proofs.Lists.{each_in}
@@ -56,6 +57,9 @@ pub none_within : (s : Failure) (o : Option Expr) → Fails 300 200000 s o → s
 none_within (NoExpansion p) o h k e q l = let z : ⊥ = cc in z
 none_within TooLarge o h k e q l = h e q l.small l.shallow
 none_within Memory o h k e q l = no_other k
+
+pub none_told : (s : Failure) (o : Option Expr) → Fails 300 200000 s o → (p : Place) → s ≡ NoExpansion p → o ≡ None
+none_told s o h p q = rw q at h
 
 pub limits_given : (o : Option Expr) (c : Expr) (rest : ℕ) → Given o c rest 200000 300 → IsWithinLimits c
 limits_given o c rest g = record { small = omega (arith, g.1); shallow = g.2 }

@@ -1,5 +1,5 @@
 -- What a form means under primes, from what its parts mean.
-use Rattle.std.proofs.Common.{◌≡◌, ℕ, List, [], ◌∷◌, map, ap, refl, ◌∙◌, Bor, Some, None}
+use Rattle.std.proofs.Common.{◌≡◌, ℕ, List, ◌∷◌, map, ap, refl, ◌∙◌, Bor, Some, None}
 use Rattle.tla_core.specs.declared.fault.Place.{Place}
 use Rattle.tla_core.specs.Expr as e
 use Rattle.tla_core.specs.Expr.{cases, product, except}
@@ -33,7 +33,8 @@ use Rattle.tla_expand.specs.Meanings.{Scope}
 use Rattle.tla_expand.specs.Bound.{nested, gathered}
 use Rattle.tla_expand.specs.Expand.{expand, expand_each, expand_key, expand_arms, expand_fields, expand_updates, binds_of}
 use Rattle.tla_expand.specs.Private.Forms.{form_in}
-use Rattle.tla_expand.specs.Private.Gives.{both, part_in, key_in, arm_in, field_in, update_in, kept_part, changed_in}
+use Rattle.tla_expand.specs.Private.Gives.{both}
+use Rattle.tla_expand.specs.Private.Parts.{part_in, key_in, arm_in, field_in, update_in, kept_part, changed_in}
 use Rattle.tla_expand.proofs.Made.{one_shown, two_shown, three_shown, many_shown, cases_shown, fielded_shown, product_shown, except_shown}
 use Rattle.tla_expand.proofs.Lists.{each_in, arms_in, arms_or_in}
 use Rattle.tla_expand.proofs.NamedParts.{fields_in, updates_in}

@@ -19,7 +19,8 @@ use Rattle.tla_tree.specs.View.{view}
 use Rattle.tla_expand.specs.Expand.{expand}
 use Rattle.tla_expand.specs.Bound.{with_elements, with_items, openings, under_openings, gathered}
 use Rattle.tla_expand.specs.Private.Binders.{names_of, binds_in}
-use Rattle.tla_expand.specs.Private.Gives.{both, total, highest, sum_of, larger_of, set_in, Makes, FailsBy, Fails}
+use Rattle.tla_expand.specs.Private.Gives.{both, total, highest, sum_of, larger_of, Makes, FailsBy, Fails}
+use Rattle.tla_expand.specs.Private.Parts.{set_in}
 use Rattle.tla_expand.proofs.Keeps.{inv}
 use Rattle.tla_expand.proofs.Primed.{one}
 use Rattle.tla_expand.proofs.Groups.{binds_length}

@@ -3,24 +3,26 @@ use Rattle.std.proofs.Common.{◌≡◌, ℕ, refl, ◌∙◌, Option, Some, Non
 use Rattle.tla_core.specs.declared.fault.Place.{Place}
 use Rattle.tla_core.specs.Expr.{Expr, Exprs, Fields, Arms, Updates, constant, bound, now, next, unary, binary, equal, sub_seq, enumerated, tuple, record_of, conjunction, disjunction, implies, conditional, cases, assert, for_all, for_some, choose, image, function, except, member, not_member, subset, kind_set, booleans, sequences, power, functions, records, product, cup, cap, minus, filtered, opened, tried, no_exprs, more_exprs, no_fields, more_fields, no_arms, other, more_arms, no_updates, more_updates}
 use Rattle.tla_expand.specs.declared.primes.Primes.{Primes}
-use Rattle.tla_expand.specs.declared.primes.Primes.TheVariants.{Never, Once, Twice}
+use Rattle.tla_expand.specs.declared.primes.Primes.TheVariants.{Never, Once, Twice, Forbidden}
 use Rattle.tla_expand.specs.Maybe.{◌>>=◌}
-use Rattle.tla_expand.specs.Primes.{primes, primes_each, primes_fields, primes_arms, primes_updates, one_more, primed_now, primed_next}
+use Rattle.tla_expand.specs.Primes.{primes, primes_each, primes_fields, primes_arms, primes_updates, once_after, primed_now, primed_next}
 use Rattle.tla_expand.proofs.Primed.{one, two, three}
 
-then_once_now : (k : Primes) (p : Place) (i : ℕ) → (primed_now k p i >>= primes Once) ≡ primed_now (one_more k) p i
+then_once_now : (k : Primes) (p : Place) (i : ℕ) → (primed_now k p i >>= primes Once) ≡ primed_now (once_after k) p i
 then_once_now Never p i = refl
 then_once_now Once p i = refl
 then_once_now Twice p i = refl
+then_once_now Forbidden p i = refl
 
-then_once_next : (k : Primes) (p : Place) (i : ℕ) → (primed_next k p i >>= primes Once) ≡ primed_next (one_more k) p i
+then_once_next : (k : Primes) (p : Place) (i : ℕ) → (primed_next k p i >>= primes Once) ≡ primed_next (once_after k) p i
 then_once_next Never p i = refl
 then_once_next Once p i = refl
 then_once_next Twice p i = refl
+then_once_next Forbidden p i = refl
 
 -- primes, and then one more
 mutual
-  pub then_once : (k : Primes) (e : Expr) → (primes k e >>= primes Once) ≡ primes (one_more k) e
+  pub then_once : (k : Primes) (e : Expr) → (primes k e >>= primes Once) ≡ primes (once_after k) e
   then_once k (constant p v) = refl
   then_once k (bound p i) = refl
   then_once k (now p i) = then_once_now k p i
@@ -61,20 +63,20 @@ mutual
   then_once k (opened p os a) = one (λ x. opened p os x) (primes Once) (primes Once) (λ x. refl) (primes k a) ∙ rw (then_once k a) refl
   then_once k (tried p n a) = one (λ x. tried p n x) (primes Once) (primes Once) (λ x. refl) (primes k a) ∙ rw (then_once k a) refl
 
-  pub then_once_each : (k : Primes) (es : Exprs) → (primes_each k es >>= primes_each Once) ≡ primes_each (one_more k) es
+  pub then_once_each : (k : Primes) (es : Exprs) → (primes_each k es >>= primes_each Once) ≡ primes_each (once_after k) es
   then_once_each k no_exprs = refl
   then_once_each k (more_exprs e es) = two (λ x y. more_exprs x y) (primes Once) (primes_each Once) (primes_each Once) (λ x y. refl) (primes k e) (primes_each k es) ∙ rw (then_once k e, then_once_each k es) refl
 
-  pub then_once_fields : (k : Primes) (fs : Fields) → (primes_fields k fs >>= primes_fields Once) ≡ primes_fields (one_more k) fs
+  pub then_once_fields : (k : Primes) (fs : Fields) → (primes_fields k fs >>= primes_fields Once) ≡ primes_fields (once_after k) fs
   then_once_fields k no_fields = refl
   then_once_fields k (more_fields n e fs) = two (λ x y. more_fields n x y) (primes Once) (primes_fields Once) (primes_fields Once) (λ x y. refl) (primes k e) (primes_fields k fs) ∙ rw (then_once k e, then_once_fields k fs) refl
 
-  pub then_once_arms : (k : Primes) (arms : Arms) → (primes_arms k arms >>= primes_arms Once) ≡ primes_arms (one_more k) arms
+  pub then_once_arms : (k : Primes) (arms : Arms) → (primes_arms k arms >>= primes_arms Once) ≡ primes_arms (once_after k) arms
   then_once_arms k no_arms = refl
   then_once_arms k (other e) = one (λ x. other x) (primes Once) (primes_arms Once) (λ x. refl) (primes k e) ∙ rw (then_once k e) refl
   then_once_arms k (more_arms a b arms) = three (λ x y z. more_arms x y z) (primes Once) (primes Once) (primes_arms Once) (primes_arms Once) (λ x y z. refl) (primes k a) (primes k b) (primes_arms k arms) ∙ rw (then_once k a, then_once k b, then_once_arms k arms) refl
 
-  pub then_once_updates : (k : Primes) (us : Updates) → (primes_updates k us >>= primes_updates Once) ≡ primes_updates (one_more k) us
+  pub then_once_updates : (k : Primes) (us : Updates) → (primes_updates k us >>= primes_updates Once) ≡ primes_updates (once_after k) us
   then_once_updates k no_updates = refl
   then_once_updates k (more_updates path e us) = three (λ x y z. more_updates x y z) (primes_each Once) (primes Once) (primes_updates Once) (primes_updates Once) (λ x y z. refl) (primes_each k path) (primes k e) (primes_updates k us) ∙ rw (then_once_each k path, then_once k e, then_once_updates k us) refl
 

@@ -3,13 +3,14 @@ use Rattle.std.proofs.Common.{◌≡◌, false, refl, ap, sym, ◌∙◌, Option
 use Rattle.tla_core.specs.declared.fault.Place.{Place}
 use Rattle.tla_core.specs.Expr.{Unequal, Expr, Exprs, constant, bound, now, next, unary, binary, equal, sub_seq, enumerated, tuple, record_of, conjunction, disjunction, implies, conditional, cases, assert, for_all, for_some, choose, image, function, except, member, not_member, subset, kind_set, booleans, sequences, power, functions, records, product, cup, cap, minus, filtered, opened, tried, no_exprs, more_exprs}
 use Rattle.tla_expand.specs.declared.primes.Primes.{Primes}
-use Rattle.tla_expand.specs.declared.primes.Primes.TheVariants.{Never, Once, Twice}
+use Rattle.tla_expand.specs.declared.primes.Primes.TheVariants.{Never, Once, Twice, Forbidden}
 use Rattle.tla_expand.specs.Maybe.{◌>>=◌}
-use Rattle.tla_expand.specs.Primes.{primes, primes_each, primes_fields, primes_arms, primes_updates, one_more}
+use Rattle.tla_expand.specs.Primes.{primes, primes_each, primes_fields, primes_arms, primes_updates, one_more, once_after}
 use Rattle.tla_expand.specs.Primes.{settled_primes}
 use Rattle.tla_expand.specs.Nodes.{kept}
 use Rattle.tla_expand.specs.Unchanged.{unchanged, unchanged_each, changed}
-use Rattle.tla_expand.specs.Private.Gives.{both, is_tuple, Plain}
+use Rattle.tla_expand.specs.Private.Gives.{both}
+use Rattle.tla_expand.specs.Private.Parts.{is_tuple, Plain}
 use Rattle.tla_expand.specs.Primes.{with_primes}
 use Rattle.tla_expand.proofs.Primed.{once, one, two, unprimed}
 use Rattle.tla_expand.proofs.Keeps.{inv, then_once, stays}
@@ -67,13 +68,13 @@ plain_parts k p (Some e) h = unchanged_plain p e (h e refl) ∙ of_some (primes 
     of_some None = refl
     of_some (Some x) = refl
 
-then_more : (k : Primes) (o : Option Expr) → (with_primes k o >>= primes Once) ≡ with_primes (one_more k) o
+then_more : (k : Primes) (o : Option Expr) → (with_primes k o >>= primes Once) ≡ with_primes (once_after k) o
 then_more k None = refl
 then_more k (Some e) = then_once k e
 
 -- UNCHANGED of what is no tuple is an equation
 pub kept_equal : (k : Primes) (o : Option Expr) (p : Place) → Plain (with_primes k o)
-    → (with_primes k o >>= unchanged p) ≡ (both (with_primes (one_more k) o) (with_primes k o) >>= λ (xy : Expr × Expr). Some (equal p xy.0 xy.1))
+    → (with_primes k o >>= unchanged p) ≡ (both (with_primes (once_after k) o) (with_primes k o) >>= λ (xy : Expr × Expr). Some (equal p xy.0 xy.1))
 kept_equal k o p h = plain_parts k p (with_primes k o) h ∙ rw (then_more k o) refl
 
 none_after : (k : Primes) (p : Place) (e : Expr) (o : Option Expr) → (o >>= primes k) ≡ None → ((o >>= λ x. Some (equal p x e)) >>= primes k) ≡ None
@@ -164,6 +165,7 @@ pub kept_settled : (k : Primes) (p : Place) (o : Option Expr) → with_primes k 
 kept_settled Never p o = shown_not (o >>= unchanged p) ∙ ap (λ (q : Option Expr). q >>= unchanged p) (sym (shown_not o))
 kept_settled Once p o = kept_primed Once p o refl
 kept_settled Twice p o = kept_primed Twice p o refl
+kept_settled Forbidden p o = kept_primed Forbidden p o refl
 
 -- v' # v with primes on it
 changed_of : (k : Primes) (p : Place) (y : Expr) (o : Option Expr) → (o >>= primes k) ≡ primes (one_more k) y
@@ -189,9 +191,11 @@ primes_plain k (tuple p es) x t h = cc
 primes_plain Never (now p i) x t h = some_plain (now p i) x t h
 primes_plain Once (now p i) x t h = some_plain (next p i) x refl h
 primes_plain Twice (now p i) x t h = cc
+primes_plain Forbidden (now p i) x t h = some_plain (now p i) x t h
 primes_plain Never (next p i) x t h = some_plain (next p i) x t h
 primes_plain Once (next p i) x t h = cc
 primes_plain Twice (next p i) x t h = cc
+primes_plain Forbidden (next p i) x t h = cc
 primes_plain k (constant p v) x t h = some_plain (constant p v) x t h
 primes_plain k (bound p i) x t h = some_plain (bound p i) x t h
 primes_plain k (kind_set p o) x t h = some_plain (kind_set p o) x t h

@@ -10,7 +10,7 @@ use Rattle.tla_expand.specs.Maybe.{◌>>=◌, each_of}
 use Rattle.tla_expand.specs.Lists.{exprs}
 use Rattle.tla_expand.specs.Places.{place_of}
 use Rattle.tla_expand.specs.Meanings.{Scope}
-use Rattle.tla_expand.specs.Private.Gives.{part_in, key_in}
+use Rattle.tla_expand.specs.Private.Parts.{part_in, key_in}
 use Rattle.tla_expand.proofs.Lists.{key_of_several}
 
 module _ (k : Primes) (σ : Scope) (d : ℕ) where

@@ -1,7 +1,10 @@
 pub mod Primed
+pub mod PrimesSize
+pub mod Forbids
 pub mod Levels
 pub mod Vectors
 pub mod Links
+pub mod Cuts
 pub mod Binds
 pub mod Steps
 pub mod Shorter
@@ -13,6 +16,7 @@ pub mod Keeps
 pub mod Kept
 pub mod Groups
 pub mod Arms
+pub mod Larger
 pub mod Plain
 pub mod Nested
 pub mod Gathered

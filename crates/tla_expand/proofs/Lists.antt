@@ -8,7 +8,7 @@ use Rattle.tla_tree.specs.Tree.{Tree, trees}
 use Rattle.tla_tree.specs.View.{view, choice_view}
 use Rattle.tla_core.specs.declared.fault.Place.{Place}
 use Rattle.tla_core.specs.Expr as e
-use Rattle.tla_core.specs.Expr.{Expr, Exprs, Arms, no_exprs, more_exprs, more_arms, tuple}
+use Rattle.tla_core.specs.Expr.{Expr, Exprs, Arms, more_exprs, more_arms, tuple}
 use Rattle.tla_model.specs.Size.{nodes, depth, nodes_each, depth_each, nodes_arms, depth_arms}
 use Rattle.tla_expand.specs.declared.primes.Primes.{Primes}
 use Rattle.tla_expand.specs.declared.failure.Failure.{Failure}
@@ -21,7 +21,8 @@ use Rattle.tla_expand.specs.Primes.{primes, primes_each, primes_arms, with_prime
 use Rattle.tla_expand.specs.Unchanged.{unchanged, unchanged_each}
 use Rattle.tla_expand.specs.Meanings.{Scope}
 use Rattle.tla_expand.specs.Expand.{expand, expand_each, expand_arms}
-use Rattle.tla_expand.specs.Private.Gives.{both, sum_of, larger_of, total, highest, part_in, key_in, arm_in, kept_part, FailsBy}
+use Rattle.tla_expand.specs.Private.Gives.{both, sum_of, larger_of, total, highest, FailsBy}
+use Rattle.tla_expand.specs.Private.Parts.{part_in, key_in, arm_in, kept_part}
 use Rattle.tla_expand.proofs.Primed as primed
 use Rattle.tla_expand.proofs.Primed.{two, two_of}
 

@@ -16,7 +16,8 @@ use Rattle.tla_expand.specs.Places.{at_name}
 use Rattle.tla_expand.specs.Primes.{primes, primes_each, primes_fields, primes_updates}
 use Rattle.tla_expand.specs.Meanings.{Scope, with_name, bound_name}
 use Rattle.tla_expand.specs.Expand.{expand, expand_fields, expand_step, expand_path, expand_updates}
-use Rattle.tla_expand.specs.Private.Gives.{both, total, highest, field_nodes, field_depth, update_nodes, update_depth, part_in, field_in, step_in, value_in, update_in, FailsBy, Fails}
+use Rattle.tla_expand.specs.Private.Gives.{both, total, highest, field_nodes, field_depth, update_nodes, update_depth, FailsBy, Fails}
+use Rattle.tla_expand.specs.Private.Parts.{part_in, field_in, step_in, value_in, update_in}
 use Rattle.tla_expand.proofs.Primed as primed
 use Rattle.tla_expand.proofs.Lists.{nodes_exprs, depth_exprs}
 

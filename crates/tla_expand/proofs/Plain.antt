@@ -13,7 +13,7 @@ use Rattle.tla_tree.specs.Tree.{trees, binders}
 use Rattle.tla_tree.specs.View.{view, pattern_view, group_view, choice_view, field_view, update_view}
 use Rattle.tla_expand.specs.declared.failure.Failure.{Failure}
 use Rattle.tla_expand.specs.declared.primes.Primes.{Primes}
-use Rattle.tla_expand.specs.declared.primes.Primes.TheVariants.{Never, Once, Twice}
+use Rattle.tla_expand.specs.declared.primes.Primes.TheVariants.{Never, Once, Twice, Forbidden}
 use Rattle.tla_expand.specs.declared.nodes.Headed.TheVariants as headed
 use Rattle.tla_expand.specs.declared.nodes.Binders.TheVariants as under
 use Rattle.tla_tree.specs.declared.tree.Step.TheVariants as steps
@@ -36,16 +36,17 @@ use Rattle.tla_expand.specs.declared.nodes.Gather.TheVariants as gathers
 use Rattle.tla_expand.specs.declared.nodes.Fielded.{Fielded}
 use Rattle.tla_expand.specs.declared.nodes.Fielded.TheVariants as fieldeds
 use Rattle.tla_expand.specs.Maybe.{◌>>=◌, each_of}
-use Rattle.tla_expand.specs.Primes.{primes, primed_now, settled_primes, one_more}
+use Rattle.tla_expand.specs.Primes.{primes, primed_now, settled_primes, once_after}
 use Rattle.tla_expand.specs.Lists.{exprs, arms_with, fields_of, updates_of}
 use Rattle.tla_expand.specs.Nodes.{leaf, constant_of, one, two, three, many, binding, gather, fielded, kept}
 use Rattle.tla_expand.specs.Unchanged.{unchanged, unchanged_each, changed}
-use Rattle.tla_expand.specs.Meanings.{Scope, Argument, with_name, bound_name}
+use Rattle.tla_expand.specs.Meanings.{Scope, Argument}
 use Rattle.tla_core.specs.Patterns.{items_in}
 use Rattle.tla_expand.specs.Bound.{Bind, bind_entry, under as under_element, nested, last_or, set_for, openings, with_elements, with_items, under_openings}
 use Rattle.tla_expand.specs.Expand.{expand, expand_each, expand_key, expand_arms, expand_fields, expand_updates, binds_of}
 use Rattle.tla_expand.specs.Private.Forms.{form_in, tuple_of, tuple_parts}
-use Rattle.tla_expand.specs.Private.Gives.{is_tuple, Plain, both, total, highest, part_in, key_in, arm_in, field_in, update_in, kept_part, sum_of, larger_of, Makes, FailsBy, Fails}
+use Rattle.tla_expand.specs.Private.Gives.{both, total, highest, sum_of, larger_of, Makes, FailsBy, Fails}
+use Rattle.tla_expand.specs.Private.Parts.{is_tuple, Plain, part_in, key_in, arm_in, field_in, update_in, kept_part}
 use Rattle.tla_expand.specs.Primes.{with_primes}
 use Rattle.tla_expand.proofs.Kept.{some_plain, unchanged_plain, kept_settled, kept_equal}
 use Rattle.tla_expand.proofs.Made.{leaf_shown, one_shown, two_shown, three_shown, many_shown, cases_shown, gather_shown, fielded_shown, product_shown, except_shown, binding_shown, kept_larger, two_larger, Triple}
@@ -79,6 +80,7 @@ now_plain : (k : Primes) (p : Place) (i : ℕ) → Plain (primed_now k p i)
 now_plain Never p i = λ e q. some_plain _ e refl q
 now_plain Once p i = λ e q. some_plain _ e refl q
 now_plain Twice p i = λ e q. cc
+now_plain Forbidden p i = λ e q. some_plain _ e refl q
 
 one_plain : (f : One) (p : Place) (x : Expr) → is_tuple (one f p x) ≡ false
 one_plain (ones.Unary u) p x = refl
@@ -241,12 +243,12 @@ tuple_gives o fm us σ d k p xs c rest room left h t g e =
     rw (tuple_kept o fm us σ d k p h t) (node_gives (total nodes) (highest depth) (λ ys. kept p (exprs ys)) (each_of (kept_part k p σ d) us.now) xs c room left rest (kept_larger p) g e)
 
 -- an equation
-pub equal_fails : (o : Option Expr) (k m : Primes) (p : Place) (s : Failure) (room left : ℕ) → Plain (with_primes k o) → m ≡ one_more k
+pub equal_fails : (o : Option Expr) (k m : Primes) (p : Place) (s : Failure) (room left : ℕ) → Plain (with_primes k o) → m ≡ once_after k
     → FailsBy (sum_of nodes nodes) (larger_of depth depth) room left s (both (with_primes m o) (with_primes k o)) → Fails (room + 1) (left + 1) s (with_primes k o >>= unchanged p)
 equal_fails o k m p s room left h e g =
     rw (kept_equal k o p h, sym e) (node_fails (sum_of nodes nodes) (larger_of depth depth) (λ (xy : Expr × Expr). equal p xy.0 xy.1) s (both (with_primes m o) (with_primes k o)) room left (two_larger twos.Equal p) g)
 
-pub equal_gives : (o : Option Expr) (k m : Primes) (p : Place) (x : Expr × Expr) (z : Expr) (rest room left : ℕ) → Plain (with_primes k o) → m ≡ one_more k
+pub equal_gives : (o : Option Expr) (k m : Primes) (p : Place) (x : Expr × Expr) (z : Expr) (rest room left : ℕ) → Plain (with_primes k o) → m ≡ once_after k
     → Makes (sum_of nodes nodes) (larger_of depth depth) room left rest x (both (with_primes m o) (with_primes k o)) → z ≡ equal p x.0 x.1 → Given (with_primes k o >>= unchanged p) z rest (left + 1) (room + 1)
 equal_gives o k m p x z rest room left h e g q =
     rw (kept_equal k o p h, sym e) (node_gives (sum_of nodes nodes) (larger_of depth depth) (λ (xy : Expr × Expr). equal p xy.0 xy.1) (both (with_primes m o) (with_primes k o)) x z room left rest (two_larger twos.Equal p) g q)

@@ -3,7 +3,7 @@ use Rattle.std.proofs.Common.{◌≡◌, ℕ, refl, ◌∙◌, Option, Some, Non
 use Rattle.tla_core.specs.declared.fault.Place.{Place}
 use Rattle.tla_core.specs.Expr.{Expr, Exprs, Fields, Arms, Updates, constant, bound, now, next, unary, binary, equal, sub_seq, enumerated, tuple, record_of, conjunction, disjunction, implies, conditional, cases, assert, for_all, for_some, choose, image, function, except, member, not_member, subset, kind_set, booleans, sequences, power, functions, records, product, cup, cap, minus, filtered, opened, tried, no_exprs, more_exprs, no_fields, more_fields, no_arms, other, more_arms, no_updates, more_updates}
 use Rattle.tla_expand.specs.declared.primes.Primes.{Primes}
-use Rattle.tla_expand.specs.declared.primes.Primes.TheVariants.{Never, Once, Twice}
+use Rattle.tla_expand.specs.declared.primes.Primes.TheVariants.{Never, Once, Twice, Forbidden}
 use Rattle.tla_expand.specs.Maybe.{◌>>=◌}
 use Rattle.tla_expand.specs.Primes.{primes, primes_each, primes_fields, primes_arms, primes_updates, one_more, primed_now, primed_next}
 
@@ -43,11 +43,13 @@ once_now : (k : Primes) (p : Place) (i : ℕ) → (primed_now Once p i >>= prime
 once_now Never p i = refl
 once_now Once p i = refl
 once_now Twice p i = refl
+once_now Forbidden p i = refl
 
 once_next : (k : Primes) (p : Place) (i : ℕ) → (primed_next Once p i >>= primes k) ≡ primed_next (one_more k) p i
 once_next Never p i = refl
 once_next Once p i = refl
 once_next Twice p i = refl
+once_next Forbidden p i = refl
 
 -- one prime, and then more
 mutual

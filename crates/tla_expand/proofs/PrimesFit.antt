@@ -6,7 +6,7 @@ use Rattle.tla_core.specs.Patterns.{items_in}
 use Rattle.tla_core.specs.Expr.{Expr, Exprs, Fields, Arms, Updates, constant, bound, now, next, unary, binary, equal, sub_seq, enumerated, tuple, record_of, conjunction, disjunction, implies, conditional, cases, assert, for_all, for_some, choose, image, function, except, member, not_member, subset, kind_set, booleans, sequences, power, functions, records, product, cup, cap, minus, filtered, opened, tried, no_exprs, more_exprs, no_fields, more_fields, no_arms, other, more_arms, no_updates, more_updates}
 use Rattle.tla_core.specs.Fits.{fits, fits_all, fits_fields, fits_arms, fits_updates, count}
 use Rattle.tla_expand.specs.declared.primes.Primes.{Primes}
-use Rattle.tla_expand.specs.declared.primes.Primes.TheVariants.{Never, Once, Twice}
+use Rattle.tla_expand.specs.declared.primes.Primes.TheVariants.{Never, Once, Twice, Forbidden}
 use Rattle.tla_expand.specs.Fits.{Stays}
 use Rattle.tla_expand.specs.Maybe.{◌>>=◌}
 use Rattle.tla_expand.specs.Primes.{primes, primes_each, primes_fields, primes_arms, primes_updates, primed_now, primed_next}
@@ -20,11 +20,13 @@ now_fits : (k : Primes) (v n : ℕ) (s : Bool) → Stays k v n s → (p : Place)
 now_fits Never v n s h p i b e q = let same : now p i ≡ e = cc in rw (sym same, h.0, h.1) refl
 now_fits Once v n s h p i b e q = let same : next p i ≡ e = cc in rw (sym same, h) refl
 now_fits Twice v n s h p i b e q = cc
+now_fits Forbidden v n s h p i b e q = let same : now p i ≡ e = cc in rw (sym same, h.0, h.1) refl
 
 next_fits : (k : Primes) (v n : ℕ) (s : Bool) → Stays k v n s → (p : Place) (i b : ℕ) (e : Expr) → primed_next k p i ≡ Some e → fits e b n s ≡ nat_lt i v
 next_fits Never v n s h p i b e q = let same : next p i ≡ e = cc in rw (sym same, h.0) refl
 next_fits Once v n s h p i b e q = cc
 next_fits Twice v n s h p i b e q = cc
+next_fits Forbidden v n s h p i b e q = cc
 
 primes_count : (k : Primes) (es xs : Exprs) → primes_each k es ≡ Some xs → count xs ≡ count es
 primes_count k no_exprs xs q = let same : no_exprs ≡ xs = cc in rw (sym same) refl

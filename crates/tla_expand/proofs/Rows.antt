@@ -10,7 +10,7 @@ use Rattle.tla_tree.specs.declared.tree.Infix.TheVariants as infixes
 use Rattle.tla_tree.specs.declared.tree.Prefix.TheVariants as prefixes
 use Rattle.tla_tree.specs.declared.tree.Brackets.TheVariants as brackets
 use Rattle.tla_tree.specs.declared.tree.Quantifier.TheVariants as quantifier
-use Rattle.tla_tree.specs.Tree.{Tree, Trees, none, more, unbound, undefined, defined, DefinesOperator, Name, Number, Call, Prime, Listing, Unary, Binary, Quantified, Let}
+use Rattle.tla_tree.specs.Tree.{Tree, none, more, unbound, undefined, defined, DefinesOperator, Name, Number, Call, Prime, Listing, Unary, Binary, Quantified, Let}
 use Rattle.tla_tree.specs.Tree as t
 use Rattle.tla_expand.specs.Places as names
 use Rattle.tla_expand.specs.Meanings.{standard, with_name, variable}

@@ -126,6 +126,27 @@ pub two_give : {A B : Type 0} (sa da : A → ℕ) (sb db : B → ℕ) (a : Optio
     → Makes sa da room left less x a → Makes sb db room less rest y b → Makes (sum_of sa sb) (larger_of da db) room left rest (x, y) (both a b)
 two_give sa da sb db a b x y room left less rest g h = (rw (g.0, h.0) refl, omega (arith, g.1, h.1), omega (arith, g.2, h.2))
 
+-- the second fails before there is a first, or the first, where the second is there
+pub later_fails : {A B : Type 0} (sa da : A → ℕ) (sb db : B → ℕ) (s : Failure) (a : Option A) (b : Option B) (room left : ℕ)
+    → FailsBy sb db room left s b → FailsBy (sum_of sa sb) (larger_of da db) room left s (both a b)
+later_fails sa da sb db (NoExpansion p) None b room left h = refl
+later_fails sa da sb db (NoExpansion p) (Some u) b room left h = rw h refl
+later_fails sa da sb db TooLarge None b room left h = λ x q n d. cc
+later_fails sa da sb db TooLarge (Some u) None room left h = λ x q n d. cc
+later_fails sa da sb db TooLarge (Some u) (Some v) room left h = λ x q n d. let w : (u, v) ≡ x = cc in let w0 = ap (λ y. sum_of sa sb y) w in let w1 = ap (λ y. larger_of da db y) w in h v refl (omega arith) (omega arith)
+later_fails sa da sb db Memory a b room left h = tt
+
+pub earlier_fails : {A B : Type 0} (sa da : A → ℕ) (sb db : B → ℕ) (s : Failure) (a : Option A) (b : Option B) (y : B) (room left less : ℕ)
+    → b ≡ Some y → less + sb y ≡ left → FailsBy sa da room less s a → FailsBy (sum_of sa sb) (larger_of da db) room left s (both a b)
+earlier_fails sa da sb db (NoExpansion p) a b y room left less q n h = rw h refl
+earlier_fails sa da sb db TooLarge None b y room left less q n h = λ x r m d. cc
+earlier_fails sa da sb db TooLarge (Some u) b y room left less q n h = rw q (λ x r m d. let w : (u, y) ≡ x = cc in let w0 = ap (λ z. sum_of sa sb z) w in let w1 = ap (λ z. larger_of da db z) w in h u refl (omega arith) (omega arith))
+earlier_fails sa da sb db Memory a b y room left less q n h = tt
+
+pub two_give_back : {A B : Type 0} (sa da : A → ℕ) (sb db : B → ℕ) (a : Option A) (b : Option B) (x : A) (y : B) (room left less rest : ℕ)
+    → Makes sb db room left less y b → Makes sa da room less rest x a → Makes (sum_of sa sb) (larger_of da db) room left rest (x, y) (both a b)
+two_give_back sa da sb db a b x y room left less rest g h = (rw (g.0, h.0) refl, omega (arith, g.1, h.1), omega (arith, g.2, h.2))
+
 -- a node of parts: one node more, one more on each path
 pub record IsLarger {A : Type 0} (size deep : A → ℕ) (f : A → Expr) : Type 0 where
   pub nodes_more : (x : A) → nodes (f x) ≡ size x + 1

@@ -4,7 +4,7 @@ use Rattle.tla_core.specs.declared.fault.Place.{Place}
 use Rattle.tla_core.specs.Expr.{Expr}
 use Rattle.tla_core.specs.Fits.{fits}
 use Rattle.tla_expand.specs.declared.primes.Primes.{Primes}
-use Rattle.tla_expand.specs.declared.primes.Primes.TheVariants.{Never, Once, Twice}
+use Rattle.tla_expand.specs.declared.primes.Primes.TheVariants.{Never, Once, Twice, Forbidden}
 use Rattle.tla_expand.specs.Places as names
 use Rattle.tla_expand.specs.Meanings.{Argument, Meaning, Scope}
 
@@ -28,3 +28,4 @@ abbrev pub Stays : Primes → ℕ → ℕ → Bool → Type 0
 Stays Never v n s = (n ≡ v) × (s ≡ true)
 Stays Once v n s = n ≡ v
 Stays Twice v n s = Unit {0}
+Stays Forbidden v n s = (n ≡ v) × (s ≡ true)

@@ -3,40 +3,57 @@ use Rattle.std.specs.Prelude.{ℕ, Bool, true, false, Option, Some, None}
 use Rattle.tla_core.specs.declared.fault.Place.{Place}
 use Rattle.tla_core.specs.Expr.{Expr, Exprs, Fields, Arms, Updates, constant, bound, now, next, unary, binary, equal, sub_seq, enumerated, tuple, record_of, conjunction, disjunction, implies, conditional, cases, assert, for_all, for_some, choose, image, function, except, member, not_member, subset, kind_set, booleans, sequences, power, functions, records, product, cup, cap, minus, filtered, opened, tried, no_exprs, more_exprs, no_fields, more_fields, no_arms, other, more_arms, no_updates, more_updates}
 use Rattle.tla_expand.specs.declared.primes.Primes.{Primes}
-use Rattle.tla_expand.specs.declared.primes.Primes.TheVariants.{Never, Once, Twice}
+use Rattle.tla_expand.specs.declared.primes.Primes.TheVariants.{Never, Once, Twice, Forbidden}
 use Rattle.tla_expand.specs.Maybe.{◌>>=◌}
 
 abbrev pub one_more : Primes → Primes
 one_more Never = Once
 one_more Once = Twice
 one_more Twice = Twice
+one_more Forbidden = Twice
+
+-- one prime on what is read with so many
+abbrev pub once_after : Primes → Primes
+once_after Never = Once
+once_after Once = Twice
+once_after Twice = Twice
+once_after Forbidden = Once
 
 -- fewer primes than others
 abbrev pub are_fewer : Primes → Primes → Bool
 are_fewer Never Never = false
 are_fewer Never Once = true
 are_fewer Never Twice = true
+are_fewer Never Forbidden = true
 are_fewer Once Never = false
 are_fewer Once Once = false
 are_fewer Once Twice = true
+are_fewer Once Forbidden = false
 are_fewer Twice k = false
+are_fewer Forbidden Never = false
+are_fewer Forbidden Once = false
+are_fewer Forbidden Twice = true
+are_fewer Forbidden Forbidden = false
 
 -- with how many primes e is read in UNCHANGED e under so many: with two under one, which only an e without variables has an expansion for
 abbrev pub settled_primes : Primes → Primes
 settled_primes Never = Never
 settled_primes Once = Twice
 settled_primes Twice = Twice
+settled_primes Forbidden = Twice
 
 -- a variable now, and one next, with so many primes
 abbrev pub primed_now : Primes → Place → ℕ → Option Expr
 primed_now Never p i = Some (now p i)
 primed_now Once p i = Some (next p i)
 primed_now Twice p i = None
+primed_now Forbidden p i = Some (now p i)
 
 abbrev pub primed_next : Primes → Place → ℕ → Option Expr
 primed_next Never p i = Some (next p i)
 primed_next Once p i = None
 primed_next Twice p i = None
+primed_next Forbidden p i = None
 
 -- An expression with so many primes. On a variable next stands no prime.
 abbrev mutual

@@ -2,4 +2,7 @@
 pub mod Forms
 pub mod Parameters
 pub mod Binders
+pub mod Under
 pub mod Gives
+pub mod Parts
+pub mod Walks

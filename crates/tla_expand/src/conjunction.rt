@@ -1,6 +1,7 @@
 //! The expansion of a conjunction whose parts stand apart.
 
-ghost use Rattle.std.specs.Prelude.{◌≡◌, ◌≢◌, ◌≤◌, length, map, Some, IfOk, IfErr};
+ghost use Rattle.std.specs.Prelude.{◌≡◌, ◌≢◌, ◌≤◌, length, map, Some, None, IfOk, IfErr};
+ghost use Rattle.tla_core.specs.declared.fault.Place as fault;
 ghost use Rattle.std.specs.Borrow.{Bor};
 ghost use Rattle.tla_core.specs.Expr as expr;
 ghost use Rattle.tla_core.specs.ExprOf.{expr_of};
@@ -10,7 +11,8 @@ ghost use Rattle.tla_tree.specs.declared.tree.Expr as syntax;
 ghost use Rattle.tla_tree.specs.Tree.{Junction, trees as trees_of};
 ghost use Rattle.tla_tree.specs.View.{view};
 ghost use Rattle.tla_expand.specs.Expand as expansion;
-ghost use Rattle.tla_expand.specs.Private.Gives.{part_in, pointed, GivesMany};
+ghost use Rattle.tla_expand.specs.Private.Gives.{GivesMany};
+ghost use Rattle.tla_expand.specs.Private.Parts.{part_in, pointed};
 ghost use Rattle.tla_expand.specs.Maybe.{each_of};
 ghost use Rattle.tla_expand.specs.Primes.{with_primes};
 ghost use Rattle.tla_expand.specs.Scopes.{AreLinked, scope_at};
@@ -35,7 +37,6 @@ fn each_apart<'a>(
     trees: &[&'a Expr],
     scope: usize,
     primes: Primes,
-    sought: Option<Primes>,
 ) -> Result<Parts, Failure>
     requires linked { AreLinked entries.old.items }
     requires scope { scope ≤ length entries.old.items }
@@ -50,7 +51,7 @@ fn each_apart<'a>(
             bound: 0,
             room: 299,
             left,
-            sought,
+            level: primes,
         };
         let part = expand(alloc, entries, trees[i], at)?;
         left = part.left;
@@ -68,14 +69,14 @@ pub(crate) fn conjunction<'a>(
     trees: &[&'a Expr],
     scope: usize,
     primes: Primes,
-    sought: Option<Primes>,
 ) -> Result<Core, Failure>
     requires linked { AreLinked entries.old.items }
     requires scope { scope ≤ length entries.old.items }
     ensures found { IfOk result (λ c. with_primes primes (expansion.expand (Junction place bullet.And (trees_of (map (λ (t : Bor syntax.Expr). view t.now) trees.now))) (scope_at entries.old.items scope) 0) ≡ Some (expr_of c)) }
     ensures limits { IfOk result (λ c. IsWithinLimits (expr_of c)) }
+    ensures gone { IfErr result (λ f. (p : fault.Place) → f ≡ Failure.NoExpansion p → with_primes primes (expansion.expand (Junction place bullet.And (trees_of (map (λ (t : Bor syntax.Expr). view t.now) trees.now))) (scope_at entries.old.items scope) 0) ≡ None) }
     ensures none { IfErr result (λ f. f ≢ Failure.Memory → (e : expr.Expr) → with_primes primes (expansion.expand (Junction place bullet.And (trees_of (map (λ (t : Bor syntax.Expr). view t.now) trees.now))) (scope_at entries.old.items scope) 0) ≡ Some e → IsWithinLimits e → ⊥) }
 {
-    let many = each_apart(alloc, entries, trees, scope, primes, sought)?;
+    let many = each_apart(alloc, entries, trees, scope, primes)?;
     Ok(many_core(place_of(place), Many::And, many.parts))
 }

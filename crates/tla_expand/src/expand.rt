@@ -13,12 +13,14 @@ ghost use Rattle.tla_expand.specs.Expand as expansion;
 ghost use Rattle.tla_expand.specs.Scopes.{AreLinked, scope_at};
 ghost use Rattle.tla_expand.specs.Private.Forms.{form_in};
 ghost use Rattle.tla_model.specs.Size.{IsWithinLimits};
-ghost use Rattle.tla_expand.specs.Private.Gives.{part_in, key_in, arm_in, field_in, both, made, Gives, GivesTwo};
+ghost use Rattle.tla_expand.specs.Private.Gives.{both, made, Gives, GivesTwo};
+ghost use Rattle.tla_expand.specs.Private.Parts.{part_in, key_in, arm_in, field_in};
 
 mod binding;
 mod kept;
 mod levels;
 mod lists;
+mod naming;
 mod updates;
 
 use crate::arena::Entry;
@@ -53,8 +55,8 @@ pub(crate) struct Setting {
     pub(crate) room: usize,
     /// How many nodes there may be.
     pub(crate) left: usize,
-    /// The primes on the whole, where a refusal has to name the first expression of too high a level.
-    pub(crate) sought: Option<Primes>,
+    /// The primes on the whole, by its level.
+    pub(crate) level: Primes,
 }
 
 /// A node without parts.
@@ -76,7 +78,7 @@ fn variable_of(place: Place, index: usize, primes: Primes, left: usize) -> Resul
     ensures { (room : ℕ) → Gives (room + 1) (left + 1) result (primed_now primes place index) }
 {
     match primes {
-        Primes::Never => Ok(Expanded {
+        Primes::Never | Primes::Forbidden => Ok(Expanded {
             core: Core::Now(place, index),
             left,
         }),
@@ -117,7 +119,7 @@ pub(crate) fn expand<'a>(
         bound: at.bound,
         room: at.room - 1,
         left: at.left - 1,
-        sought: at.sought,
+        level: at.level,
     };
     let made = node_behind(alloc, entries, found, at.primes, inside)?;
     entries.truncate(mark);
@@ -215,7 +217,7 @@ fn two_node<'a>(
     ensures kept { OnOk result (entries.new.items ≡ entries.old.items) }
     ensures same { Gives (at.room + 1) (at.left + 1) result (made (λ xy. nodes.two node place xy.0 xy.1) (both (part_in at.primes (scope_at entries.old.items at.scope) at.bound first.now) (part_in at.primes (scope_at entries.old.items at.scope) at.bound second.now))) }
 {
-    let two = two_parts(alloc, entries, first, second, at.primes, at)?;
+    let two = two_parts(alloc, entries, first, second, at)?;
     let core = two_core(alloc, place, node, two.first, two.second)?;
     Ok(Expanded {
         core,
@@ -241,7 +243,7 @@ fn three_node<'a>(
     ensures kept { OnOk result (entries.new.items ≡ entries.old.items) }
     ensures same { Gives (at.room + 1) (at.left + 1) result (made (λ t. nodes.three node place t.0.0 t.0.1 t.1) (both (both (part_in at.primes (scope_at entries.old.items at.scope) at.bound first.now) (part_in at.primes (scope_at entries.old.items at.scope) at.bound second.now)) (part_in at.primes (scope_at entries.old.items at.scope) at.bound third.now))) }
 {
-    let two = two_parts(alloc, entries, first, second, at.primes, at)?;
+    let two = two_parts(alloc, entries, first, second, at)?;
     let left = two.left;
     let third = expand(alloc, entries, third, Setting { left, ..at })?;
     let core = three_core(alloc, place, node, two.first, two.second, third.core)?;
@@ -397,23 +399,22 @@ fn fields_node<'a>(
     })
 }
 
-/// Two expressions of one scope, the first of them under so many primes.
+/// Two expressions of one scope.
 #[cycle(expand)]
 fn two_parts<'a>(
     alloc: Global,
     entries: &mut Vec<Entry<'a>>,
     first: &'a Expr,
     second: &'a Expr,
-    primes: Primes,
     at: Setting,
 ) -> Result<Pair, Failure>
     requires linked { AreLinked entries.old.items }
     requires scope { at.scope ≤ length entries.old.items }
     requires small { at.bound + at.left ≤ 1000000 }
     ensures kept { OnOk result (entries.new.items ≡ entries.old.items) }
-    ensures same { GivesTwo at.room at.left result (both (part_in primes (scope_at entries.old.items at.scope) at.bound first.now) (part_in at.primes (scope_at entries.old.items at.scope) at.bound second.now)) }
+    ensures same { GivesTwo at.room at.left result (both (part_in at.primes (scope_at entries.old.items at.scope) at.bound first.now) (part_in at.primes (scope_at entries.old.items at.scope) at.bound second.now)) }
 {
-    let first = expand(alloc, entries, first, Setting { primes, ..at })?;
+    let first = expand(alloc, entries, first, at)?;
     let left = first.left;
     let second = expand(alloc, entries, second, Setting { left, ..at })?;
     Ok(Pair {
@@ -430,7 +431,6 @@ pub(crate) fn expansion<'a>(
     tree: &'a Expr,
     scope: usize,
     primes: Primes,
-    sought: Option<Primes>,
 ) -> Result<Core, Failure>
     requires linked { AreLinked entries.old.items }
     requires scope { scope ≤ length entries.old.items }
@@ -445,7 +445,7 @@ pub(crate) fn expansion<'a>(
         bound: 0,
         room: 300,
         left: 200_000,
-        sought,
+        level: primes,
     };
     let made = expand(alloc, entries, tree, at)?;
     Ok(made.core)

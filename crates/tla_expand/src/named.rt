@@ -1,6 +1,7 @@
 //! The expansion of a name.
 
-ghost use Rattle.std.specs.Prelude.{◌≡◌, ◌≢◌, ◌≤◌, length, Some, IfOk, IfErr};
+ghost use Rattle.std.specs.Prelude.{◌≡◌, ◌≢◌, ◌≤◌, length, Some, None, IfOk, IfErr};
+ghost use Rattle.tla_core.specs.declared.fault.Place.{Place};
 ghost use Rattle.tla_core.specs.Expr as expr;
 ghost use Rattle.tla_core.specs.ExprOf.{expr_of};
 ghost use Rattle.tla_model.specs.Size.{IsWithinLimits};
@@ -27,15 +28,16 @@ pub(crate) fn named_expansion<'a>(
     name: &Written,
     scope: usize,
     primes: Primes,
-    sought: Option<Primes>,
 ) -> Result<Core, Failure>
     requires linked { AreLinked entries.old.items }
     requires scope { scope ≤ length entries.old.items }
     ensures found { IfOk result (λ c. with_primes primes (expansion.expand (Name name.now) (scope_at entries.old.items scope) 0) ≡ Some (expr_of c)) }
     ensures limits { IfOk result (λ c. IsWithinLimits (expr_of c)) }
+    ensures gone { IfErr result (λ f. (p : Place) → f ≡ Failure.NoExpansion p → with_primes primes (expansion.expand (Name name.now) (scope_at entries.old.items scope) 0) ≡ None) }
     ensures none { IfErr result (λ f. f ≢ Failure.Memory → (e : expr.Expr) → with_primes primes (expansion.expand (Name name.now) (scope_at entries.old.items scope) 0) ≡ Some e → IsWithinLimits e → ⊥) }
 {
     let at = place_of(name.place);
+    let level = primes;
     let word = name.word.as_bytes();
     match use_of(entries, at, word, &[], scope, primes)? {
         Step::Goes(tree, scope, primes) => {
@@ -45,7 +47,7 @@ pub(crate) fn named_expansion<'a>(
                 bound: 0,
                 room: 300,
                 left: 200_000,
-                sought,
+                level,
             };
             let made = expand(alloc, entries, tree, inside)?;
             Ok(made.core)
@@ -57,7 +59,7 @@ pub(crate) fn named_expansion<'a>(
                 bound: 0,
                 room: 299,
                 left: 199_999,
-                sought,
+                level,
             };
             let made = node_of(alloc, entries, head.form, inside)?;
             Ok(made.core)

@@ -1,6 +1,6 @@
 //! The names of a module, with what they mean.
 
-ghost use Rattle.std.specs.Prelude.{◌≡◌, ◌≢◌, ◌≤◌, [], length, map, IfOk, IfErr, Some, None};
+ghost use Rattle.std.specs.Prelude.{◌≡◌, ◌≢◌, ◌≤◌, [], length, map, IfOk, IfErr, Some, None, Err, true, false};
 ghost use Rattle.std.specs.Borrow.{Bor};
 ghost use Rattle.tla_core.specs.declared.fault.Place.{Place};
 ghost use Rattle.tla_core.specs.Expr as expr;
@@ -10,6 +10,7 @@ ghost use Rattle.tla_tree.specs.Tree.{Name, Junction, trees as trees_of};
 ghost use Rattle.tla_tree.specs.declared.tree.Bullet.TheVariants as bullet;
 ghost use Rattle.tla_tree.specs.declared.tree.Expr as syntax;
 ghost use Rattle.tla_tree.specs.View.{view, definition_view};
+ghost use Rattle.tla_expand.specs.Covers as cover;
 ghost use Rattle.tla_expand.specs.Meanings.{standard, with_name, variable, value_name, operator};
 ghost use Rattle.tla_expand.specs.Expand.{definition_in, expand};
 ghost use Rattle.tla_expand.specs.Scopes.{AreLinked, IsBelow, entry_scope, scope_at};
@@ -18,6 +19,7 @@ ghost use Rattle.tla_expand.specs.Primes.{with_primes};
 
 use crate::arena::{Entry, What, enter, find};
 use crate::conjunction::conjunction;
+use crate::cover::covers;
 use crate::expand::expansion;
 use crate::failure::Failure;
 use crate::heads::entry_of;
@@ -29,11 +31,14 @@ use tla_core::{Core, Place};
 use tla_tree::{Definition, Expr, Word, Written};
 use tla_value::Value;
 
-/// Where there is no expansion: the place that was sought, or where that ended otherwise, the one that was met first.
-fn refused_at(sought: Result<Core, Failure>, first: Place) -> Place {
-    match sought {
-        Err(Failure::NoExpansion(place)) => place,
-        _ => first,
+/// What refuses an expansion that was too large under some primes, where this was found without them.
+fn still(found: Result<Core, Failure>) -> Failure
+    ensures told { (p : Place) → result ≡ Failure.NoExpansion p → ⊥ }
+    ensures large { result ≡ Failure.TooLarge → found ≡ Err Failure.TooLarge }
+{
+    match found {
+        Err(Failure::TooLarge) => Failure::TooLarge,
+        _ => Failure::Memory,
     }
 }
 
@@ -167,14 +172,8 @@ impl<'a> Scopes<'a> {
         self.with_entry(entry)
     }
 
-    /// The expansion of an expression. A refusal names the first expression of too high a level, where that is sought.
-    fn find_expansion(
-        &self,
-        alloc: Global,
-        tree: &'a Expr,
-        primes: Primes,
-        sought: Option<Primes>,
-    ) -> Result<Core, Failure>
+    /// The expansion of an expression, or what is met first that refuses it.
+    fn find_expansion(&self, alloc: Global, tree: &'a Expr, primes: Primes) -> Result<Core, Failure>
         ensures found { IfOk result (λ c. with_primes primes (expand (view tree.now) (scope_of self.now) 0) ≡ Some (expr_of c)) }
         ensures limits { IfOk result (λ c. IsWithinLimits (expr_of c)) }
         ensures gone { IfErr result (λ f. (p : Place) → f ≡ Failure.NoExpansion p → with_primes primes (expand (view tree.now) (scope_of self.now) 0) ≡ None) }
@@ -183,90 +182,90 @@ impl<'a> Scopes<'a> {
         match Vec::from_slice(alloc, self.entries.as_slice()) {
             Ok(mut entries) => {
                 let scope = self.current;
-                expansion(alloc, &mut entries, tree, scope, primes, sought)
+                expansion(alloc, &mut entries, tree, scope, primes)
             }
             Err(_) => Err(Failure::Memory),
         }
     }
 
-    /// The expansion of an expression under these names, with at most 200,000 nodes, of which at most 300 on a path.
-    /// `Primes::Once` takes each variable as the variable next.
+    /// The expansion of an expression under these names, with at most 200,000 nodes, of which at most 300 on a path; or what
+    /// is met first that refuses it, in the order of the expansion: a variable with a prime too many, a limit, or want of
+    /// memory. `Primes::Once` takes each variable as the variable next.
     pub fn expansion(&self, alloc: Global, tree: &'a Expr, primes: Primes) -> Result<Core, Failure>
         ensures found { IfOk result (λ c. with_primes primes (expand (view tree.now) (scope_of self.now) 0) ≡ Some (expr_of c)) }
         ensures limits { IfOk result (λ c. IsWithinLimits (expr_of c)) }
         ensures gone { IfErr result (λ f. (p : Place) → f ≡ Failure.NoExpansion p → with_primes primes (expand (view tree.now) (scope_of self.now) 0) ≡ None) }
         ensures none { IfErr result (λ f. f ≢ Failure.Memory → (e : expr.Expr) → with_primes primes (expand (view tree.now) (scope_of self.now) 0) ≡ Some e → IsWithinLimits e → ⊥) }
+        // Too large is what has no expansion within the limits, whatever its level.
+        ensures large { IfErr result (λ f. f ≡ Failure.TooLarge → (e : expr.Expr) → expand (view tree.now) (scope_of self.now) 0 ≡ Some e → IsWithinLimits e → ⊥) }
     {
-        match self.find_expansion(alloc, tree, primes, None) {
-            Err(Failure::NoExpansion(first)) => {
-                let again = self.find_expansion(alloc, tree, primes, Some(primes));
-                Err(Failure::NoExpansion(refused_at(again, first)))
+        match self.find_expansion(alloc, tree, primes) {
+            Err(Failure::TooLarge) => {
+                let again = self.find_expansion(alloc, tree, Primes::Never);
+                Err(still(again))
             }
             made => made,
         }
     }
 
-    /// The expansion of a name. A refusal names the first expression of too high a level, where that is sought.
-    fn find_meaning(
-        &self,
-        alloc: Global,
-        name: &Written,
-        primes: Primes,
-        sought: Option<Primes>,
-    ) -> Result<Core, Failure>
+    /// The expansion of a name, or what is met first that refuses it.
+    fn find_meaning(&self, alloc: Global, name: &Written, primes: Primes) -> Result<Core, Failure>
         ensures found { IfOk result (λ c. with_primes primes (expand (Name name.now) (scope_of self.now) 0) ≡ Some (expr_of c)) }
         ensures limits { IfOk result (λ c. IsWithinLimits (expr_of c)) }
+        ensures gone { IfErr result (λ f. (p : Place) → f ≡ Failure.NoExpansion p → with_primes primes (expand (Name name.now) (scope_of self.now) 0) ≡ None) }
         ensures none { IfErr result (λ f. f ≢ Failure.Memory → (e : expr.Expr) → with_primes primes (expand (Name name.now) (scope_of self.now) 0) ≡ Some e → IsWithinLimits e → ⊥) }
     {
         match Vec::from_slice(alloc, self.entries.as_slice()) {
             Ok(mut entries) => {
                 let scope = self.current;
-                named_expansion(alloc, &mut entries, name, scope, primes, sought)
+                named_expansion(alloc, &mut entries, name, scope, primes)
             }
             Err(_) => Err(Failure::Memory),
         }
     }
 
-    /// The expansion of a name without arguments, with at most 200,000 nodes, of which at most 300 on a path.
-    /// `Primes::Once` takes each variable as the variable next.
+    /// The expansion of a name without arguments, within the same limits; or what is met first that refuses it.
     pub fn meaning(&self, alloc: Global, name: &Written, primes: Primes) -> Result<Core, Failure>
         ensures found { IfOk result (λ c. with_primes primes (expand (Name name.now) (scope_of self.now) 0) ≡ Some (expr_of c)) }
         ensures limits { IfOk result (λ c. IsWithinLimits (expr_of c)) }
+        ensures gone { IfErr result (λ f. (p : Place) → f ≡ Failure.NoExpansion p → with_primes primes (expand (Name name.now) (scope_of self.now) 0) ≡ None) }
         ensures none { IfErr result (λ f. f ≢ Failure.Memory → (e : expr.Expr) → with_primes primes (expand (Name name.now) (scope_of self.now) 0) ≡ Some e → IsWithinLimits e → ⊥) }
+        // Too large is what has no expansion within the limits, whatever its level.
+        ensures large { IfErr result (λ f. f ≡ Failure.TooLarge → (e : expr.Expr) → expand (Name name.now) (scope_of self.now) 0 ≡ Some e → IsWithinLimits e → ⊥) }
     {
-        match self.find_meaning(alloc, name, primes, None) {
-            Err(Failure::NoExpansion(first)) => {
-                let again = self.find_meaning(alloc, name, primes, Some(primes));
-                Err(Failure::NoExpansion(refused_at(again, first)))
+        match self.find_meaning(alloc, name, primes) {
+            Err(Failure::TooLarge) => {
+                let again = self.find_meaning(alloc, name, Primes::Never);
+                Err(still(again))
             }
             made => made,
         }
     }
 
-    /// The expansion of a conjunction. A refusal names the first expression of too high a level, where that is sought.
+    /// The expansion of a conjunction, or what is met first that refuses it.
     fn find_conjunction(
         &self,
         alloc: Global,
         place: tla_lex::Place,
         trees: &[&'a Expr],
         primes: Primes,
-        sought: Option<Primes>,
     ) -> Result<Core, Failure>
         ensures found { IfOk result (λ c. with_primes primes (expand (Junction place bullet.And (trees_of (map (λ (t : Bor syntax.Expr). view t.now) trees.now))) (scope_of self.now) 0) ≡ Some (expr_of c)) }
         ensures limits { IfOk result (λ c. IsWithinLimits (expr_of c)) }
+        ensures gone { IfErr result (λ f. (p : Place) → f ≡ Failure.NoExpansion p → with_primes primes (expand (Junction place bullet.And (trees_of (map (λ (t : Bor syntax.Expr). view t.now) trees.now))) (scope_of self.now) 0) ≡ None) }
         ensures none { IfErr result (λ f. f ≢ Failure.Memory → (e : expr.Expr) → with_primes primes (expand (Junction place bullet.And (trees_of (map (λ (t : Bor syntax.Expr). view t.now) trees.now))) (scope_of self.now) 0) ≡ Some e → IsWithinLimits e → ⊥) }
     {
         match Vec::from_slice(alloc, self.entries.as_slice()) {
             Ok(mut entries) => {
                 let scope = self.current;
-                conjunction(alloc, &mut entries, place, trees, scope, primes, sought)
+                conjunction(alloc, &mut entries, place, trees, scope, primes)
             }
             Err(_) => Err(Failure::Memory),
         }
     }
 
-    /// The expansion of the conjunction of these expressions, at a place, with at most 200,000 nodes, of which at most
-    /// 300 on a path. `Primes::Once` takes each variable as the variable next.
+    /// The expansion of the conjunction of these expressions, at a place, within the same limits; or what is met first that
+    /// refuses it.
     pub fn conjunction(
         &self,
         alloc: Global,
@@ -276,14 +275,35 @@ impl<'a> Scopes<'a> {
     ) -> Result<Core, Failure>
         ensures found { IfOk result (λ c. with_primes primes (expand (Junction place bullet.And (trees_of (map (λ (t : Bor syntax.Expr). view t.now) trees.now))) (scope_of self.now) 0) ≡ Some (expr_of c)) }
         ensures limits { IfOk result (λ c. IsWithinLimits (expr_of c)) }
+        ensures gone { IfErr result (λ f. (p : Place) → f ≡ Failure.NoExpansion p → with_primes primes (expand (Junction place bullet.And (trees_of (map (λ (t : Bor syntax.Expr). view t.now) trees.now))) (scope_of self.now) 0) ≡ None) }
         ensures none { IfErr result (λ f. f ≢ Failure.Memory → (e : expr.Expr) → with_primes primes (expand (Junction place bullet.And (trees_of (map (λ (t : Bor syntax.Expr). view t.now) trees.now))) (scope_of self.now) 0) ≡ Some e → IsWithinLimits e → ⊥) }
+        // Too large is what has no expansion within the limits, whatever its level.
+        ensures large { IfErr result (λ f. f ≡ Failure.TooLarge → (e : expr.Expr) → expand (Junction place bullet.And (trees_of (map (λ (t : Bor syntax.Expr). view t.now) trees.now))) (scope_of self.now) 0 ≡ Some e → IsWithinLimits e → ⊥) }
     {
-        match self.find_conjunction(alloc, place, trees, primes, None) {
-            Err(Failure::NoExpansion(first)) => {
-                let again = self.find_conjunction(alloc, place, trees, primes, Some(primes));
-                Err(Failure::NoExpansion(refused_at(again, first)))
+        match self.find_conjunction(alloc, place, trees, primes) {
+            Err(Failure::TooLarge) => {
+                let again = self.find_conjunction(alloc, place, trees, Primes::Never);
+                Err(still(again))
             }
             made => made,
+        }
+    }
+
+    /// Whether an expression stands for a variable or a nested tuple of variables that covers the first so many. The tuple
+    /// isn't made, so no limit is set to it. The only error is want of memory.
+    pub fn covers(
+        &self,
+        alloc: Global,
+        tree: &'a Expr,
+        variables: usize,
+    ) -> Result<bool, Failure>
+        ensures yes { IfOk result (λ b. b ≡ true → (e : expr.Expr) × (expand (view tree.now) (scope_of self.now) 0 ≡ Some e) × (cover.covers variables e ≡ true)) }
+        ensures no { IfOk result (λ b. b ≡ false → (e : expr.Expr) → expand (view tree.now) (scope_of self.now) 0 ≡ Some e → cover.covers variables e ≡ false) }
+        ensures err { IfErr result (λ f. f ≡ Failure.Memory) }
+    {
+        match Vec::from_slice(alloc, self.entries.as_slice()) {
+            Ok(entries) => covers(alloc, entries, tree, self.current, variables),
+            Err(_) => Err(Failure::Memory),
         }
     }
 }

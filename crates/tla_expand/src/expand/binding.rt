@@ -1,29 +1,32 @@
 //! Forms that bind names.
 
-ghost use Rattle.std.specs.Prelude.{◌≡◌, ◌≤◌, ◌<◌, ◌+◌, ◌∷◌, ◌++◌, [], ℕ, length, map, IfOk, IfErr, OnOk};
-ghost use Rattle.tla_core.specs.Patterns.{items_in};
+ghost use Rattle.std.specs.Prelude.{◌≡◌, ◌≤◌, ◌<◌, ◌+◌, ◌∷◌, [], length, map, OnOk};
 ghost use Rattle.tla_tree.specs.View.{view, pattern_view, group_view};
 ghost use Rattle.tla_tree.specs.Tree.{binders};
 ghost use Rattle.tla_expand.specs.Primes.{with_primes};
 ghost use Rattle.tla_expand.specs.Expand as expansion;
 ghost use Rattle.tla_expand.specs.Bound as bounds;
-ghost use Rattle.tla_expand.specs.Bound.{bind_entry, last_or, with_each};
-ghost use Rattle.tla_expand.specs.Scopes.{AreLinked, Extends, scope_at};
-ghost use Rattle.tla_expand.specs.Private.Binders.{names_of, binds_in, opened_at, with_element, item_names};
+ghost use Rattle.tla_expand.specs.Bound.{bind_entry};
+ghost use Rattle.tla_expand.specs.Scopes.{AreLinked, scope_at};
+ghost use Rattle.tla_expand.specs.Private.Binders.{names_of};
+ghost use Rattle.tla_expand.specs.Private.Under.{nodes_under, nodes_behind};
 ghost use Rattle.tla_expand.specs.Maybe.{each_of};
-ghost use Rattle.tla_expand.specs.Meanings.{Scope};
-ghost use Rattle.tla_expand.specs.Private.Gives.{Gives, GivesMany, set_in};
+ghost use Rattle.tla_expand.specs.Private.Gives.{Gives, GivesMany};
+ghost use Rattle.tla_expand.specs.Private.Parts.{set_in};
 
-use crate::arena::{Entry, What, enter};
+use crate::arena::Entry;
 use crate::binders::{Bind, Names, bind_list, bind_one};
 use crate::builders::{binding_core, gather_core, opened_core, tried_core};
+use crate::expand::naming::{
+    count_items, name_all, name_each, name_element, opening_of, openings_of,
+};
 use crate::expand::{Setting, expand};
 use crate::expanded::{Expanded, Many};
 use crate::failure::Failure;
 use crate::nodes::{Binding, Gather};
 use crate::parts::push;
 use std::alloc::Global;
-use tla_core::{Opening, Place};
+use tla_core::Place;
 use tla_tree::{Binder, Expr, Pattern, Written};
 
 /// A form of a body under names: its node, the scope of the names' sets, and the body.
@@ -111,7 +114,7 @@ fn nested<'a>(
     requires scope { at.scope ≤ length entries.old.items }
     requires small { at.bound + at.left < 1000000 }
     ensures kept { OnOk result (entries.new.items ≡ entries.old.items) }
-    ensures same { Gives (at.room + 1) (at.left + 1) result (with_primes at.primes (bounds.nested under.entry.node under.entry.place (binds_in (first.entry ∷ rest.now) (scope_at entries.old.items under.entry.home)) (expansion.expand (view under.entry.body.now)) (scope_at entries.old.items at.scope) at.bound)) }
+    ensures same { Gives (at.room + 1) (at.left + 1) result (with_primes at.primes (nodes_under under.entry (first.entry ∷ rest.now) (scope_at entries.old.items under.entry.home) (scope_at entries.old.items at.scope) at.bound)) }
 {
     let home = Setting {
         scope: under.home,
@@ -145,7 +148,7 @@ fn under_element<'a>(
     requires scope { at.scope ≤ length entries.old.items }
     requires small { at.bound + at.left < 1000000 }
     ensures kept { OnOk result (entries.new.items ≡ entries.old.items) }
-    ensures same { Gives at.room at.left result (with_primes at.primes (bounds.under under.entry.place (names_of names.entry) (last_or (binds_in rest.now (scope_at entries.old.items under.entry.home)) (expansion.expand (view under.entry.body.now)) (bounds.nested under.entry.node under.entry.place (binds_in rest.now (scope_at entries.old.items under.entry.home)) (expansion.expand (view under.entry.body.now)))) (scope_at entries.old.items at.scope) at.bound)) }
+    ensures same { Gives at.room at.left result (with_primes at.primes (bounds.under under.entry.place (names_of names.entry) (nodes_behind under.entry rest.now (scope_at entries.old.items under.entry.home)) (scope_at entries.old.items at.scope) at.bound)) }
 {
     match names {
         Names::Name(name) => under_name(alloc, entries, under, name, rest, at),
@@ -168,15 +171,10 @@ fn under_name<'a>(
     requires scope { at.scope ≤ length entries.old.items }
     requires small { at.bound + at.left < 1000000 }
     ensures kept { OnOk result (entries.new.items ≡ entries.old.items) }
-    ensures same { Gives at.room at.left result (with_primes at.primes (bounds.under under.entry.place (bounds.named name.now.word) (last_or (binds_in rest.now (scope_at entries.old.items under.entry.home)) (expansion.expand (view under.entry.body.now)) (bounds.nested under.entry.node under.entry.place (binds_in rest.now (scope_at entries.old.items under.entry.home)) (expansion.expand (view under.entry.body.now)))) (scope_at entries.old.items at.scope) at.bound)) }
+    ensures same { Gives at.room at.left result (with_primes at.primes (bounds.under under.entry.place (bounds.named name.now.word) (nodes_behind under.entry rest.now (scope_at entries.old.items under.entry.home)) (scope_at entries.old.items at.scope) at.bound)) }
 {
     let mark = entries.len();
-    let entry = Entry {
-        name: name.word.as_bytes(),
-        what: What::Bound(at.bound),
-        rest: at.scope,
-    };
-    let scope = enter(entries, entry)?;
+    let scope = name_element(entries, Names::Name(name), at.bound, at.scope)?;
     let inside = Setting {
         scope,
         bound: at.bound + 1,
@@ -202,7 +200,7 @@ fn under_tuple<'a>(
     requires scope { at.scope ≤ length entries.old.items }
     requires small { at.bound + at.left < 1000000 }
     ensures kept { OnOk result (entries.new.items ≡ entries.old.items) }
-    ensures same { Gives at.room at.left result (with_primes at.primes (bounds.under under.entry.place (bounds.tupled names.now) (last_or (binds_in rest.now (scope_at entries.old.items under.entry.home)) (expansion.expand (view under.entry.body.now)) (bounds.nested under.entry.node under.entry.place (binds_in rest.now (scope_at entries.old.items under.entry.home)) (expansion.expand (view under.entry.body.now)))) (scope_at entries.old.items at.scope) at.bound)) }
+    ensures same { Gives at.room at.left result (with_primes at.primes (bounds.under under.entry.place (bounds.tupled names.now) (nodes_behind under.entry rest.now (scope_at entries.old.items under.entry.home)) (scope_at entries.old.items at.scope) at.bound)) }
 {
     let count = names.len();
     if count > at.left {
@@ -241,7 +239,7 @@ fn within<'a>(
     requires scope { at.scope ≤ length entries.old.items }
     requires small { at.bound + at.left ≤ 1000000 }
     ensures kept { OnOk result (entries.new.items ≡ entries.old.items) }
-    ensures same { Gives at.room at.left result (with_primes at.primes (last_or (binds_in binds.now (scope_at entries.old.items under.entry.home)) (expansion.expand (view under.entry.body.now)) (bounds.nested under.entry.node under.entry.place (binds_in binds.now (scope_at entries.old.items under.entry.home)) (expansion.expand (view under.entry.body.now))) (scope_at entries.old.items at.scope) at.bound)) }
+    ensures same { Gives at.room at.left result (with_primes at.primes (nodes_behind under.entry binds.now (scope_at entries.old.items under.entry.home) (scope_at entries.old.items at.scope) at.bound)) }
 {
     let [first, rest @ ..] = binds else {
         return expand(alloc, entries, under.body, at);
@@ -352,200 +350,4 @@ fn sets_of<'a>(
         push(&mut parts, part.core)?;
     }
     Ok(Many { parts, left })
-}
-
-/// One element that is opened: the bound name of this number, and the names for its items. The only error is want of memory.
-fn opening_of(alloc: Global, names: &[Written], bound: usize) -> Result<Vec<Opening>, Failure>
-    ensures ok { IfOk result (λ os. os.items ≡ bounds.opening bound names.now ∷ []) }
-    ensures err { IfErr result (λ e. e ≡ Failure.Memory) }
-{
-    let mut openings = Vec::new(alloc);
-    let opening = Opening {
-        name: bound,
-        items: names.len(),
-    };
-    push(&mut openings, opening)?;
-    Ok(openings)
-}
-
-/// Adds this element, if it is opened. The only error is want of memory.
-fn push_opening(openings: &mut Vec<Opening>, names: Names<'_>, bound: usize) -> Result<(), Failure>
-    ensures ok { OnOk result (openings.new.items ≡ openings.old.items ++ opened_at (names_of names.entry) bound) }
-    ensures err { IfErr result (λ e. e ≡ Failure.Memory) }
-{
-    match names {
-        Names::Name(_) => Ok(()),
-        Names::Tuple(names) => {
-            let opening = Opening {
-                name: bound,
-                items: names.len(),
-            };
-            push(openings, opening)
-        }
-    }
-}
-
-/// The elements that are opened, of those with numbers from `bound` on. The only error is want of memory.
-fn openings_of(alloc: Global, binds: &[Bind<'_>], bound: usize) -> Result<Vec<Opening>, Failure>
-    requires { bound + length binds.now ≤ 1000000 }
-    ensures ok { IfOk result (λ os. (σ : Scope) → os.items ≡ bounds.openings (binds_in binds.now σ) bound) }
-    ensures err { IfErr result (λ e. e ≡ Failure.Memory) }
-{
-    let mut openings = Vec::new(alloc);
-    for i in 0..binds.len() {
-        let bind = binds[i];
-        push_opening(&mut openings, bind.names, bound + i)?;
-    }
-    Ok(openings)
-}
-
-/// How many items elements are opened to, where no more nodes than these may come.
-fn count_items(openings: &[Opening], left: usize) -> Result<usize, Failure>
-    ensures ok { IfOk result (λ n. (n ≡ items_in openings.now) × (n ≤ left)) }
-    ensures err { IfErr result (λ e. (e ≡ Failure.TooLarge) × (left < items_in openings.now)) }
-{
-    let mut count = 0;
-    for opening in openings {
-        if opening.items > left - count {
-            return Err(Failure::TooLarge);
-        }
-        count += opening.items;
-    }
-    Ok(count)
-}
-
-/// The scope with names that are numbered from this number on. The only error is want of memory.
-fn name_each<'a>(
-    entries: &mut Vec<Entry<'a>>,
-    names: &'a [Written],
-    bound: usize,
-    scope: usize,
-) -> Result<usize, Failure>
-    requires linked { AreLinked entries.old.items }
-    requires scope { scope ≤ length entries.old.items }
-    requires small { bound + length names.now ≤ 1000000 }
-    ensures linked { OnOk result (AreLinked entries.new.items) }
-    ensures extends { OnOk result (Extends entries.new.items entries.old.items) }
-    ensures within { IfOk result (λ s. s ≤ length entries.new.items) }
-    ensures same { IfOk result (λ s. with_each names.now bound (scope_at entries.old.items scope) ≡ scope_at entries.new.items s) }
-    ensures err { IfErr result (λ e. e ≡ Failure.Memory) }
-{
-    let mut at = scope;
-    for i in 0..names.len() {
-        let entry = Entry {
-            name: names[i].word.as_bytes(),
-            what: What::Bound(bound + i),
-            rest: at,
-        };
-        at = enter(entries, entry)?;
-    }
-    Ok(at)
-}
-
-/// The scope with all names: those of elements, and then those of items. The only error is want of memory.
-fn name_all<'a>(
-    entries: &mut Vec<Entry<'a>>,
-    binds: &[Bind<'a>],
-    bound: usize,
-    scope: usize,
-) -> Result<usize, Failure>
-    requires linked { AreLinked entries.old.items }
-    requires scope { scope ≤ length entries.old.items }
-    requires small { (σ : Scope) (d : ℕ) → bound + length binds.now + items_in (bounds.openings (binds_in binds.now σ) d) ≤ 1000000 }
-    ensures linked { OnOk result (AreLinked entries.new.items) }
-    ensures extends { OnOk result (Extends entries.new.items entries.old.items) }
-    ensures within { IfOk result (λ s. s ≤ length entries.new.items) }
-    ensures same { IfOk result (λ s. (σ : Scope) → bounds.with_items (binds_in binds.now σ) (bound + length binds.now) (bounds.with_elements (binds_in binds.now σ) bound (scope_at entries.old.items scope)) ≡ scope_at entries.new.items s) }
-    ensures err { IfErr result (λ e. e ≡ Failure.Memory) }
-{
-    let scope = name_elements(entries, binds, bound, scope)?;
-    name_items(entries, binds, bound + binds.len(), scope)
-}
-
-/// The scope with the name of an element, if it has one. The only error is want of memory.
-fn name_element<'a>(
-    entries: &mut Vec<Entry<'a>>,
-    names: Names<'a>,
-    bound: usize,
-    scope: usize,
-) -> Result<usize, Failure>
-    requires linked { AreLinked entries.old.items }
-    requires scope { scope ≤ length entries.old.items }
-    ensures linked { OnOk result (AreLinked entries.new.items) }
-    ensures extends { OnOk result (Extends entries.new.items entries.old.items) }
-    ensures within { IfOk result (λ s. s ≤ length entries.new.items) }
-    ensures same { IfOk result (λ s. scope_at entries.new.items s ≡ with_element (names_of names.entry) bound (scope_at entries.old.items scope)) }
-    ensures err { IfErr result (λ e. e ≡ Failure.Memory) }
-{
-    match names {
-        Names::Name(name) => {
-            let entry = Entry {
-                name: name.word.as_bytes(),
-                what: What::Bound(bound),
-                rest: scope,
-            };
-            enter(entries, entry)
-        }
-        Names::Tuple(_) => Ok(scope),
-    }
-}
-
-/// The scope with the names of elements. The only error is want of memory.
-fn name_elements<'a>(
-    entries: &mut Vec<Entry<'a>>,
-    binds: &[Bind<'a>],
-    bound: usize,
-    scope: usize,
-) -> Result<usize, Failure>
-    requires linked { AreLinked entries.old.items }
-    requires scope { scope ≤ length entries.old.items }
-    requires small { bound + length binds.now ≤ 1000000 }
-    ensures linked { OnOk result (AreLinked entries.new.items) }
-    ensures extends { OnOk result (Extends entries.new.items entries.old.items) }
-    ensures within { IfOk result (λ s. s ≤ length entries.new.items) }
-    ensures same { IfOk result (λ s. (σ : Scope) → bounds.with_elements (binds_in binds.now σ) bound (scope_at entries.old.items scope) ≡ scope_at entries.new.items s) }
-    ensures err { IfErr result (λ e. e ≡ Failure.Memory) }
-{
-    let mut at = scope;
-    for i in 0..binds.len() {
-        let bind = binds[i];
-        at = name_element(entries, bind.names, bound + i, at)?;
-    }
-    Ok(at)
-}
-
-/// The names for the items of an element.
-fn names_for_items<'a>(names: Names<'a>) -> &'a [Written]
-    ensures { result.now ≡ item_names (names_of names.entry) }
-{
-    match names {
-        Names::Name(_) => &[],
-        Names::Tuple(names) => names,
-    }
-}
-
-/// The scope with the names of items. The only error is want of memory.
-fn name_items<'a>(
-    entries: &mut Vec<Entry<'a>>,
-    binds: &[Bind<'a>],
-    bound: usize,
-    scope: usize,
-) -> Result<usize, Failure>
-    requires linked { AreLinked entries.old.items }
-    requires scope { scope ≤ length entries.old.items }
-    requires small { (σ : Scope) (d : ℕ) → bound + items_in (bounds.openings (binds_in binds.now σ) d) ≤ 1000000 }
-    ensures linked { OnOk result (AreLinked entries.new.items) }
-    ensures extends { OnOk result (Extends entries.new.items entries.old.items) }
-    ensures within { IfOk result (λ s. s ≤ length entries.new.items) }
-    ensures same { IfOk result (λ s. (σ : Scope) → bounds.with_items (binds_in binds.now σ) bound (scope_at entries.old.items scope) ≡ scope_at entries.new.items s) }
-    ensures err { IfErr result (λ e. e ≡ Failure.Memory) }
-{
-    let mut at = scope;
-    let mut next = bound;
-    for i in 0..binds.len() {
-        let names = names_for_items(binds[i].names);
-        at = name_each(entries, names, next, at)?;
-        next += names.len();
-    }
-    Ok(at)
 }

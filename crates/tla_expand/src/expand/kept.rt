@@ -6,18 +6,19 @@ ghost use Rattle.tla_expand.specs.Maybe.{each_of};
 ghost use Rattle.tla_expand.specs.Primes.{settled_primes};
 ghost use Rattle.tla_expand.specs.Scopes.{AreLinked, scope_at};
 ghost use Rattle.tla_expand.specs.Private.Forms.{tuple_parts};
-ghost use Rattle.tla_expand.specs.Private.Gives.{kept_part, changed_in, part_in, both, made, Gives, GivesMany};
+ghost use Rattle.tla_expand.specs.Private.Gives.{both, made, Gives, GivesMany};
+ghost use Rattle.tla_expand.specs.Private.Parts.{kept_part, changed_in, part_in};
 
 use crate::arena::Entry;
 use crate::builders::{kept_core, two_core};
-use crate::expand::levels::{changed_subscript, kept_parts, kept_subscript, told_at};
-use crate::expand::{Setting, expand, two_parts};
+use crate::expand::levels::{changed_subscript, kept_parts, kept_subscript, look_at_each};
+use crate::expand::{Setting, expand};
 use crate::expanded::{Expanded, Many as Parts};
 use crate::failure::Failure;
 use crate::heads::find_head;
 use crate::nodes::{Form, Many, Two};
 use crate::parts::push;
-use crate::primes::{Primes, one_more};
+use crate::primes::{Primes, once_after, one_more};
 use std::alloc::Global;
 use tla_core::{Binary, Place};
 use tla_tree::Expr;
@@ -28,7 +29,7 @@ pub(super) fn settled(primes: Primes) -> Primes
 {
     match primes {
         Primes::Never => Primes::Never,
-        Primes::Once | Primes::Twice => Primes::Twice,
+        Primes::Once | Primes::Twice | Primes::Forbidden => Primes::Twice,
     }
 }
 
@@ -42,7 +43,8 @@ fn tuple_items<'a>(form: Form<'a>) -> Option<&'a [Expr]>
     }
 }
 
-/// UNCHANGED of an expression under so many primes. Its node is above the limits that are set for its parts.
+/// UNCHANGED of an expression under so many primes. Its node is above the limits that are set for its parts. What the parts
+/// of a tuple have that is too high is told before what UNCHANGED makes of them.
 #[cycle(expand)]
 pub(super) fn kept<'a>(
     alloc: Global,
@@ -66,6 +68,7 @@ pub(super) fn kept<'a>(
                 primes: found.primes,
                 ..at
             };
+            look_at_each(alloc, entries, items, inside)?;
             let many = kept_each(alloc, entries, place, items, inside)?;
             entries.truncate(mark);
             Ok(Expanded {
@@ -75,8 +78,8 @@ pub(super) fn kept<'a>(
         }
         None => {
             entries.truncate(mark);
-            let more = one_more(at.primes);
-            let told = told_at(at.sought, found.form, place);
+            let more = once_after(at.primes);
+            let told = found.form.place();
             let two = kept_parts(alloc, entries, tree, more, told, at)?;
             let core = two_core(alloc, place, Two::Equal, two.first, two.second)?;
             Ok(Expanded {
@@ -142,13 +145,14 @@ pub(super) fn kept_one<'a>(
     kept(alloc, entries, place, tree, inside)
 }
 
-/// `v' # v`.
+/// `v' # v`. What has no expansion with the prime alone is told at this place.
 #[cycle(expand)]
 pub(super) fn changed<'a>(
     alloc: Global,
     entries: &mut Vec<Entry<'a>>,
     place: Place,
     tree: &'a Expr,
+    told: Place,
     at: Setting,
 ) -> Result<Expanded, Failure>
     requires linked { AreLinked entries.old.items }
@@ -169,7 +173,7 @@ pub(super) fn changed<'a>(
         ..at
     };
     let more = one_more(at.primes);
-    let two = two_parts(alloc, entries, tree, tree, more, inside)?;
+    let two = kept_parts(alloc, entries, tree, more, told, inside)?;
     let core = two_core(
         alloc,
         place,

@@ -5,7 +5,8 @@ ghost use Rattle.tla_core.specs.Expr as expr;
 ghost use Rattle.tla_expand.specs.Maybe.{each_of};
 ghost use Rattle.tla_expand.specs.Lists.{exprs};
 ghost use Rattle.tla_expand.specs.Scopes.{AreLinked, scope_at};
-ghost use Rattle.tla_expand.specs.Private.Gives.{part_in, key_in, arm_in, field_in, made, Gives, GivesMany, GivesArms, GivesFields};
+ghost use Rattle.tla_expand.specs.Private.Gives.{made, Gives, GivesMany, GivesArms, GivesFields};
+ghost use Rattle.tla_expand.specs.Private.Parts.{part_in, key_in, arm_in, field_in};
 
 use crate::arena::Entry;
 use crate::builders::{place_of, text_of, tuple};
@@ -119,7 +120,7 @@ pub(super) fn arms_of<'a>(
     for i in 0..arms.len() {
         let arm = &arms[i];
         let inside = Setting { left, ..at };
-        let two = two_parts(alloc, entries, &arm.guard, &arm.value, at.primes, inside)?;
+        let two = two_parts(alloc, entries, &arm.guard, &arm.value, inside)?;
         left = two.left;
         push(&mut made, (two.first, two.second))?;
     }

@@ -7,7 +7,8 @@ ghost use Rattle.tla_expand.specs.Places as places;
 ghost use Rattle.tla_expand.specs.Maybe.{each_of};
 ghost use Rattle.tla_expand.specs.Lists.{updates_of};
 ghost use Rattle.tla_expand.specs.Scopes.{AreLinked, scope_at};
-ghost use Rattle.tla_expand.specs.Private.Gives.{both, made, part_in, step_in, update_in, value_in, Gives, GivesMany, GivesChange, GivesChanges};
+ghost use Rattle.tla_expand.specs.Private.Gives.{both, made, Gives, GivesMany, GivesChange, GivesChanges};
+ghost use Rattle.tla_expand.specs.Private.Parts.{part_in, step_in, update_in, value_in};
 
 use crate::arena::{Entry, What, enter};
 use crate::builders::{except_core, place_of};

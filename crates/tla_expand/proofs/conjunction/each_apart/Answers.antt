@@ -1,4 +1,4 @@
-use Rattle.std.proofs.Common.{◌≡◌, ◌<◌, length, sym, ◌∙◌, ap, map, drop, [], ◌∷◌, ◌++◌, arith}
+use Rattle.std.proofs.Common.{◌≡◌, ◌∙◌, ap, map, drop, [], ◌∷◌, ◌++◌, arith}
 use Rattle.std.proofs.lemmas.Result.{err_from_is_err_and}
 use Rattle.std.proofs.lemmas.List.{map-append, drop_all, length-map}
 use Rattle.std.specs.Borrow.{Bor}
@@ -6,7 +6,7 @@ use Rattle.tla_model.specs.Size.{nodes, depth}
 use Rattle.tla_core.specs.ExprOf.{expr_of}
 use Rattle.tla_tree.specs.declared.tree.Expr as syntax
 use Rattle.tla_expand.specs.Scopes.{scope_at}
-use Rattle.tla_expand.specs.Private.Gives.{part_in, pointed}
+use Rattle.tla_expand.specs.Private.Parts.{part_in, pointed}
 use Rattle.tla_expand.proofs.Lists.{part_done, part_fails, all_done, total_more, highest_more}
 use Rattle.tla_expand.proofs.Apart.{pointed_at}
 use Rattle.tla_expand.proofs.conjunction.each_apart.Goals as goal

@@ -2,7 +2,8 @@ use Rattle.std.proofs.Common.{◌≡◌, ◌≤◌, ◌+◌, map}
 use Rattle.tla_model.specs.Size.{nodes, depth}
 use Rattle.tla_core.specs.ExprOf.{expr_of}
 use Rattle.tla_expand.specs.Scopes.{scope_at}
-use Rattle.tla_expand.specs.Private.Gives.{part_in, pointed, total, highest}
+use Rattle.tla_expand.specs.Private.Gives.{total, highest}
+use Rattle.tla_expand.specs.Private.Parts.{part_in, pointed}
 use Rattle.tla_expand.proofs.Lists.{so_far}
 use Rattle.tla_expand.proofs.conjunction.each_apart.Given as goal
 

@@ -22,14 +22,16 @@ use Rattle.tla_expand.specs.declared.failure.Failure.TheVariants.{TooLarge}
 use Rattle.tla_expand.specs.Private.Binders.{names_of, binds_in}
 use Rattle.tla_expand.specs.Bound.{last_or, nested, with_each, opening, openings, under_openings, with_elements, with_items}
 use Rattle.tla_expand.specs.Places.{place_of}
-use Rattle.tla_expand.specs.Private.Gives.{Gives, Fails, part_in, arm_in, field_in, set_in, step_in, value_in, update_in, kept_part, changed_in, both, total, highest, sum_of, larger_of, field_nodes, field_depth, update_nodes, update_depth, parts_of}
+use Rattle.tla_expand.specs.Private.Gives.{Gives, Fails, both, total, highest, sum_of, larger_of, field_nodes, field_depth, update_nodes, update_depth, parts_of}
+use Rattle.tla_expand.specs.Private.Parts.{part_in, arm_in, field_in, set_in, step_in, value_in, update_in, kept_part, changed_in}
 use Rattle.tla_expand.specs.Private.Forms.{form_in}
 use Rattle.tla_expand.proofs.Levels.{look_fails, unchanged_fails}
-use Rattle.tla_expand.proofs.Sizes.{Given, no_room, none_left, first_fails, second_fails, two_give, node_fails, node_gives, same_limits, limits_are, openings_primed, opened_gives, opened_fails, opened_full}
+use Rattle.tla_expand.proofs.Sizes.{Given, no_room, none_left, first_fails, second_fails, later_fails, earlier_fails, two_give, two_give_back, node_fails, node_gives, same_limits, limits_are, openings_primed, opened_gives, opened_fails, opened_full}
 use Rattle.tla_expand.proofs.Lists.{part_done, part_fails, all_done, total_more, highest_more}
 use Rattle.tla_expand.proofs.Made.{two_larger, three_larger, many_larger, cases_larger, cases_or_larger, fielded_larger, product_larger, except_larger, Triple}
-use Rattle.tla_expand.proofs.Links.{cut_back, home_keep, bind_scope}
+use Rattle.tla_expand.proofs.Links.{cut_back}
 use Rattle.tla_expand.proofs.Binds.{scope_extends, extends_length}
+use Rattle.tla_expand.proofs.Larger.{kept_later}
 use Rattle.tla_expand.proofs.Groups.{items_same}
 use Rattle.tla_expand.proofs.Plain.{plain_head, tuple_fails, tuple_gives, equal_fails, equal_gives}
 use Rattle.tla_expand.proofs.Nested.{inner_fails, nested_gives}
@@ -236,13 +238,39 @@ pub levels::node_behind-returns-in_err-look_at_form-clause-same : goal.levels::n
 levels::node_behind-returns-in_err-look_at_form-clause-same t c =
     let r = err_from_is_err_and c.from_residual.result c.from_residual.ensures.1 in
     let o = form_in c.args.head.form (scope_at c.args.entries.now.items c.args.at.scope) c.args.at.bound in
-    rw (r.1, r.2) (look_fails c.args.outer c.args.at.primes c.in_err-look_at_form.field-0.0 o (c.args.at.room + 1) (c.args.at.left + 1) (sym c.are_fewer.ensures ∙ c.if-not-are_fewer.false) c.in_err-look_at_form.ensures.none)
+    rw (r.1, r.2) (look_fails c.args.outer c.args.at.primes c.in_err-look_at_form.field-0.0 o (c.args.at.room + 1) (c.args.at.left + 1) (sym c.are_fewer.ensures ∙ c.if-not-are_fewer.false) c.in_err-look_at_form.ensures.fails)
 
 pub levels::unchanged_node-returns-in_err-look_at-clause-same : goal.levels::unchanged_node-returns-in_err-look_at-clause-same
 levels::unchanged_node-returns-in_err-look_at-clause-same t c =
     let r = err_from_is_err_and c.from_residual.result c.from_residual.ensures.1 in
     let o = expand (view c.args.tree.now) (scope_at c.args.entries.now.items c.args.at.scope) c.args.at.bound in
-    rw (r.1, r.2) (unchanged_fails c.args.at.primes c.in_err-look_at.field-0.0 c.args.place o (c.args.at.room + 1) (c.args.at.left + 1) c.in_err-look_at.ensures.none)
+    rw (r.1, r.2) (unchanged_fails c.args.at.primes c.in_err-look_at.field-0.0 c.args.place o (c.args.at.room + 1) (c.args.at.left + 1) (rw c.as_slice.ensures.value at c.in_err-look_at.ensures.none))
+
+pub levels::kept_parts-returns-in_err-second-clause-same : goal.levels::kept_parts-returns-in_err-second-clause-same
+levels::kept_parts-returns-in_err-second-clause-same t c =
+    let r = err_from_is_err_and c.from_residual.result c.from_residual.ensures.1 in
+    let σ = scope_at c.args.entries.now.items c.args.at.scope in
+    let a = part_in c.args.primes σ c.args.at.bound c.args.tree.now in
+    let b = part_in c.args.at.primes σ c.args.at.bound c.args.tree.now in
+    rw (r.1, r.2) (later_fails nodes depth nodes depth c.in_err-second.field-0.0 a b c.args.at.room c.args.at.left c.in_err-second.ensures.same)
+
+pub levels::kept_parts-returns-in_err-first-clause-same : goal.levels::kept_parts-returns-in_err-first-clause-same
+levels::kept_parts-returns-in_err-first-clause-same t c =
+    let r = err_from_is_err_and c.from_residual-in_err-first.result c.from_residual-in_err-first.ensures.1 in
+    let σ = scope_at c.args.entries.now.items c.args.at.scope in
+    let a = part_in c.args.primes σ c.args.at.bound c.args.tree.now in
+    let b = part_in c.args.at.primes σ c.args.at.bound c.args.tree.now in
+    let g = c.in_ok-second.ensures.same in
+    let f = rw c.in_ok-second.ensures.kept at c.in_err-first.ensures.same in
+    rw (r.1, r.2) (earlier_fails nodes depth nodes depth c.in_err-first.field-0.0 a b (expr_of c.in_ok-second.second.core) c.args.at.room c.args.at.left c.in_ok-second.second.left g.0 g.1 f)
+
+pub levels::kept_parts-returns-clause-same : goal.levels::kept_parts-returns-clause-same
+levels::kept_parts-returns-clause-same t c =
+    let σ = scope_at c.args.entries.now.items c.args.at.scope in
+    let a = part_in c.args.primes σ c.args.at.bound c.args.tree.now in
+    let b = part_in c.args.at.primes σ c.args.at.bound c.args.tree.now in
+    let h = rw c.in_ok-second.ensures.kept at c.in_ok-first.ensures.same in
+    two_give_back nodes depth nodes depth a b (expr_of c.in_ok-first.first.core) (expr_of c.in_ok-second.second.core) c.args.at.room c.args.at.left c.in_ok-second.second.left c.in_ok-first.first.left c.in_ok-second.ensures.same h
 
 pub levels::kept_subscript-returns-then-at-eq0-clause-same : goal.levels::kept_subscript-returns-then-at-eq0-clause-same
 levels::kept_subscript-returns-then-at-eq0-clause-same t c =
@@ -288,7 +316,7 @@ kept::kept-returns-in_err-two-in-None-clause-same t c =
     let h = plain_head (with_primes c.args.at.primes o) c.in_ok-found.found.form (scope_at c.find_head.new.entries.items c.in_ok-found.found.scope) c.args.at.bound c.in_ok-found.found.primes (c.in_ok-found.ensures.same c.args.at.bound) (sym c.tuple_items.ensures ∙ c.in-None.is) in
     let r = err_from_is_err_and c.from_residual-in_err-two-in-None.result c.from_residual-in_err-two-in-None.ensures.1 in
     let f = rw p at c.in_err-two-in-None.ensures.same in
-    rw (r.1, r.2) (equal_fails o c.args.at.primes c.one_more-more.result c.args.place c.in_err-two-in-None.field-0.0 c.args.at.room c.args.at.left h c.one_more-more.ensures f)
+    rw (r.1, r.2) (equal_fails o c.args.at.primes c.once_after-more.result c.args.place c.in_err-two-in-None.field-0.0 c.args.at.room c.args.at.left h c.once_after-more.ensures f)
 
 pub kept::kept-returns-in_ok-core-in-None-clause-same : goal.kept::kept-returns-in_ok-core-in-None-clause-same
 kept::kept-returns-in_ok-core-in-None-clause-same t c =
@@ -298,21 +326,30 @@ kept::kept-returns-in_ok-core-in-None-clause-same t c =
     let o = expand (view c.args.tree.now) (scope_at old c.args.at.scope) c.args.at.bound in
     let h = plain_head (with_primes c.args.at.primes o) c.in_ok-found.found.form (scope_at c.find_head.new.entries.items c.in_ok-found.found.scope) c.args.at.bound c.in_ok-found.found.primes (c.in_ok-found.ensures.same c.args.at.bound) (sym c.tuple_items.ensures ∙ c.in-None.is) in
     let g = rw p at c.in_ok-two-in-None.ensures.same in
-    equal_gives o c.args.at.primes c.one_more-more.result c.args.place (parts_of c.in_ok-two-in-None.two) (expr_of c.in_ok-core-in-None.core)
-    c.in_ok-two-in-None.two.left c.args.at.room c.args.at.left h c.one_more-more.ensures g c.in_ok-core-in-None.ensures.ok
+    equal_gives o c.args.at.primes c.once_after-more.result c.args.place (parts_of c.in_ok-two-in-None.two) (expr_of c.in_ok-core-in-None.core)
+    c.in_ok-two-in-None.two.left c.args.at.room c.args.at.left h c.once_after-more.ensures g c.in_ok-core-in-None.ensures.ok
 
 pub kept::kept-returns-in_err-many-in-Some-clause-same : goal.kept::kept-returns-in_err-many-in-Some-clause-same
 kept::kept-returns-in_err-many-in-Some-clause-same t c =
     let r = err_from_is_err_and c.from_residual-in_err-many-in-Some.result c.from_residual-in_err-many-in-Some.ensures.1 in
     rw (r.1, r.2) (tuple_fails (part_in c.args.at.primes (scope_at c.args.entries.now.items c.args.at.scope) c.args.at.bound c.args.tree.now) c.in_ok-found.found.form c.in-Some.items
     (scope_at c.find_head.new.entries.items c.in_ok-found.found.scope) c.args.at.bound c.in_ok-found.found.primes c.args.place c.in_err-many-in-Some.field-0.0 c.args.at.room c.args.at.left
-    (c.in_ok-found.ensures.same c.args.at.bound) (sym c.tuple_items.ensures ∙ c.in-Some.is) c.in_err-many-in-Some.ensures.same)
+    (c.in_ok-found.ensures.same c.args.at.bound) (sym c.tuple_items.ensures ∙ c.in-Some.is) (rw c.in_ok-look_at_each-in-Some.ensures.kept at c.in_err-many-in-Some.ensures.same))
+
+pub kept::kept-returns-in_err-look_at_each-in-Some-clause-same : goal.kept::kept-returns-in_err-look_at_each-in-Some-clause-same
+kept::kept-returns-in_err-look_at_each-in-Some-clause-same t c =
+    let r = err_from_is_err_and c.from_residual-in_err-look_at_each-in-Some.result c.from_residual-in_err-look_at_each-in-Some.ensures.1 in
+    let σ = scope_at c.find_head.new.entries.items c.in_ok-found.found.scope in
+    let f = kept_later c.in_ok-found.found.primes c.args.place σ c.args.at.bound c.in_err-look_at_each-in-Some.field-0.0 c.in-Some.items.now c.args.at.room c.args.at.left c.in_err-look_at_each-in-Some.ensures.fails in
+    rw (r.1, r.2) (tuple_fails (part_in c.args.at.primes (scope_at c.args.entries.now.items c.args.at.scope) c.args.at.bound c.args.tree.now) c.in_ok-found.found.form c.in-Some.items
+    σ c.args.at.bound c.in_ok-found.found.primes c.args.place c.in_err-look_at_each-in-Some.field-0.0 c.args.at.room c.args.at.left
+    (c.in_ok-found.ensures.same c.args.at.bound) (sym c.tuple_items.ensures ∙ c.in-Some.is) f)
 
 pub kept::kept-returns-in_ok-many-in-Some-clause-same : goal.kept::kept-returns-in_ok-many-in-Some-clause-same
 kept::kept-returns-in_ok-many-in-Some-clause-same t c =
     tuple_gives (part_in c.args.at.primes (scope_at c.args.entries.now.items c.args.at.scope) c.args.at.bound c.args.tree.now) c.in_ok-found.found.form c.in-Some.items
     (scope_at c.find_head.new.entries.items c.in_ok-found.found.scope) c.args.at.bound c.in_ok-found.found.primes c.args.place (map expr_of c.in_ok-many-in-Some.many.parts.items) (expr_of c.kept_core.result) c.in_ok-many-in-Some.many.left c.args.at.room c.args.at.left
-    (c.in_ok-found.ensures.same c.args.at.bound) (sym c.tuple_items.ensures ∙ c.in-Some.is) c.in_ok-many-in-Some.ensures.same c.kept_core.ensures
+    (c.in_ok-found.ensures.same c.args.at.bound) (sym c.tuple_items.ensures ∙ c.in-Some.is) (rw c.in_ok-look_at_each-in-Some.ensures.kept at c.in_ok-many-in-Some.ensures.same) c.kept_core.ensures
 
 pub binding::nested-returns-in_err-inner-clause-same : goal.binding::nested-returns-in_err-inner-clause-same
 binding::nested-returns-in_err-inner-clause-same t c =
@@ -335,22 +372,26 @@ binding::nested-returns-clause-same t c =
     (scope_at c.args.entries.now.items c.args.at.scope) c.args.at.bound c.args.at.primes refl
     c.args.at.room c.args.at.left c.in_ok-set.set.left c.in_ok-inner.inner.left (expr_of c.in_ok-set.set.core) (expr_of c.in_ok-inner.inner.core) (expr_of c.in_ok-core.core) c.in_ok-set.ensures.same g c.in_ok-core.ensures.ok
 
+pub binding::under_name-within-requires : goal.binding::under_name-within-requires
+binding::under_name-within-requires t c =
+    let e = c.in_ok-scope.ensures in
+    let longer = extends_length c.args.entries.now.items c.name_element.new.entries.items e.extends in
+    (omega arith, (e.linked, (omega (arith, longer, c.requires.home), (e.within, omega arith))))
+
 pub binding::under_name-returns-in_err-inner-clause-same : goal.binding::under_name-returns-in_err-inner-clause-same
 binding::under_name-returns-in_err-inner-clause-same t c =
     let old = c.args.entries.now.items in
-    let new = c.enter.new.entries.items in
+    let new = c.name_element.new.entries.items in
     let r = err_from_is_err_and c.from_residual-in_err-inner.result c.from_residual-in_err-inner.ensures.1 in
-    let h : scope_at new c.args.under.home ≡ scope_at old c.args.under.home = home_keep old old new _ c.args.under.home c.in_ok-scope.ensures.added refl c.requires.home in
-    let s = bind_scope old old (scope_at new c.in_ok-scope.scope) c.args.at.scope c.as_bytes.result.now c.args.name.now.word c.args.at.bound c.in_ok-scope.ensures.scope refl c.as_bytes.ensures in
-    rw (r.1, r.2) (rw (h, s) at c.in_err-inner.ensures.same)
+    let h : scope_at new c.args.under.home ≡ scope_at old c.args.under.home = scope_extends old new c.args.under.home c.in_ok-scope.ensures.extends c.requires.home in
+    rw (r.1, r.2) (rw (h, c.in_ok-scope.ensures.same) at c.in_err-inner.ensures.same)
 
 pub binding::under_name-returns-clause-same : goal.binding::under_name-returns-clause-same
 binding::under_name-returns-clause-same t c =
     let old = c.args.entries.now.items in
-    let new = c.enter.new.entries.items in
-    let h : scope_at new c.args.under.home ≡ scope_at old c.args.under.home = home_keep old old new _ c.args.under.home c.in_ok-scope.ensures.added refl c.requires.home in
-    let s = bind_scope old old (scope_at new c.in_ok-scope.scope) c.args.at.scope c.as_bytes.result.now c.args.name.now.word c.args.at.bound c.in_ok-scope.ensures.scope refl c.as_bytes.ensures in
-    rw (h, s) at c.in_ok-inner.ensures.same
+    let new = c.name_element.new.entries.items in
+    let h : scope_at new c.args.under.home ≡ scope_at old c.args.under.home = scope_extends old new c.args.under.home c.in_ok-scope.ensures.extends c.requires.home in
+    rw (h, c.in_ok-scope.ensures.same) at c.in_ok-inner.ensures.same
 
 pub binding::under_tuple-within-requires : goal.binding::under_tuple-within-requires
 binding::under_tuple-within-requires t c =

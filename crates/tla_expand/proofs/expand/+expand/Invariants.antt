@@ -2,7 +2,8 @@ use Rattle.std.proofs.Common.{◌≡◌, ◌≤◌, ◌+◌, ◌*◌, map}
 use Rattle.tla_model.specs.Size.{nodes, depth}
 use Rattle.tla_core.specs.ExprOf.{expr_of, exprs_of_arm}
 use Rattle.tla_expand.specs.Scopes.{scope_at}
-use Rattle.tla_expand.specs.Private.Gives.{part_in, arm_in, field_in, set_in, step_in, update_in, kept_part, total, highest, sum_of, larger_of, field_nodes, field_depth, update_nodes, update_depth}
+use Rattle.tla_expand.specs.Private.Gives.{total, highest, sum_of, larger_of, field_nodes, field_depth, update_nodes, update_depth}
+use Rattle.tla_expand.specs.Private.Parts.{part_in, arm_in, field_in, set_in, step_in, update_in, kept_part}
 use Rattle.tla_expand.specs.Lists.{named_part, changed_part}
 use Rattle.tla_expand.proofs.Lists.{so_far}
 use Rattle.tla_expand.proofs.expand.+expand.Given as goal
@@ -19,6 +20,9 @@ decreases-levels::look_at_form l = 12 * l.at.room + 10
 abbrev pub decreases-levels::node_behind : goal.decreases-levels::node_behind
 decreases-levels::node_behind l = 12 * l.at.room + 11
 
+abbrev pub decreases-levels::look_at_each : goal.decreases-levels::look_at_each
+decreases-levels::look_at_each l = 12 * l.at.room + 2
+
 abbrev pub decreases-levels::look_at : goal.decreases-levels::look_at
 decreases-levels::look_at l = 12 * l.at.room + 1
 
@@ -27,6 +31,9 @@ decreases-levels::unchanged_node l = 12 * l.at.room + 4
 
 abbrev pub decreases-levels::kept_parts : goal.decreases-levels::kept_parts
 decreases-levels::kept_parts l = 12 * l.at.room + 2
+
+abbrev pub decreases-levels::told_part : goal.decreases-levels::told_part
+decreases-levels::told_part l = 12 * l.at.room + 1
 
 abbrev pub decreases-levels::kept_subscript : goal.decreases-levels::kept_subscript
 decreases-levels::kept_subscript l = 12 * l.at.room

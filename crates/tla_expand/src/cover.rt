@@ -1,0 +1,190 @@
+//! Whether an expression stands for a nested tuple that covers the variables. It is found part by part, without the tuple,
+//! however large that is; what a name stands for is gone through once.
+
+ghost use Rattle.std.specs.Prelude.{◌≡◌, ◌≤◌, ◌++◌, ◌∷◌, [], Option, length, true, false, IfOk, OnOk, IfErr, IfSome, Some};
+ghost use Rattle.tla_core.specs.Expr as expr;
+ghost use Rattle.tla_tree.specs.View.{view};
+ghost use Rattle.tla_expand.specs.Covers as spec;
+ghost use Rattle.tla_expand.specs.Expand as expansion;
+ghost use Rattle.tla_expand.specs.Private.Gives.{head_gives};
+ghost use Rattle.tla_expand.specs.Private.Walks.{IsWalk, IsNamed, HasEach, GoesOn, part_left};
+ghost use Rattle.tla_expand.specs.Scopes.{AreLinked, scope_at};
+
+use crate::arena::{Entry, position};
+use crate::failure::Failure;
+use crate::heads::{Head, Step, next_step};
+use crate::nodes::{Form, Many};
+use crate::parts::push;
+use crate::primes::Primes;
+use indexmap::IndexSet;
+use std::alloc::Global;
+use tla_tree::Expr;
+
+/// What is left to do.
+#[derive(Clone, Copy)]
+pub(crate) enum Left<'a> {
+    /// To look at an expression in a scope, with so many primes on it.
+    Part(&'a Expr, usize, Primes),
+    /// To note that an entry was gone through, with so many primes on it.
+    End(Gone),
+}
+
+/// An entry, with so many primes on it.
+#[derive(Clone, Copy, PartialEq, Eq, Hash)]
+pub(crate) struct Gone {
+    pub(crate) entry: usize,
+    pub(crate) primes: Primes,
+}
+
+/// A walk over the parts of a nested tuple: what is left, the next one last; the entries that were gone through, and the
+/// variables that were met.
+#[derive(Drop)]
+pub(crate) struct Walk<'a> {
+    pub(crate) entries: Vec<Entry<'a>>,
+    pub(crate) left: Vec<Left<'a>>,
+    pub(crate) gone: IndexSet<Gone>,
+    pub(crate) met: IndexSet<usize>,
+}
+
+/// The entry that a name stands for.
+fn named(entries: &[Entry<'_>], tree: &Expr, scope: usize) -> Option<usize>
+    requires linked { AreLinked entries.now }
+    requires within { scope ≤ length entries.now }
+    ensures { IfSome result (λ k. IsNamed entries.now (view tree.now) scope k) }
+{
+    match tree {
+        Expr::Name(name) => position(entries, scope, name.word.as_bytes()),
+        _ => None,
+    }
+}
+
+/// Parts of a tuple more. The only error is want of memory.
+fn push_parts<'a>(
+    left: &mut Vec<Left<'a>>,
+    items: &'a [Expr],
+    scope: usize,
+    primes: Primes,
+) -> Result<(), Failure> {
+    for i in 0..items.len() {
+        push(left, Left::Part(&items[i], scope, primes))?;
+    }
+    Ok(())
+}
+
+/// Notes a variable. The only error is want of memory.
+fn meet(met: &mut IndexSet<usize>, variable: usize) -> Result<(), Failure> {
+    match met.insert(variable) {
+        Ok(_) => Ok(()),
+        Err(_) => Err(Failure::Memory),
+    }
+}
+
+/// Notes an entry that was gone through. The only error is want of memory.
+fn go_by(gone: &mut IndexSet<Gone>, entry: Gone) -> Result<(), Failure> {
+    match gone.insert(entry) {
+        Ok(_) => Ok(()),
+        Err(_) => Err(Failure::Memory),
+    }
+}
+
+/// Goes on with a form; whether it is a variable or a tuple. The only error is want of memory.
+fn go_into<'a>(walk: &mut Walk<'a>, head: Head<'a>) -> Result<bool, Failure> {
+    match head.form {
+        Form::Variable(_, variable) => match head.primes {
+            Primes::Never | Primes::Forbidden => {
+                meet(&mut walk.met, variable)?;
+                Ok(true)
+            }
+            Primes::Once | Primes::Twice => Ok(false),
+        },
+        Form::Many(_, Many::Tuple, items) => {
+            push_parts(&mut walk.left, items, head.scope, head.primes)?;
+            Ok(true)
+        }
+        _ => Ok(false),
+    }
+}
+
+/// Looks at an expression; whether it may be a part. The only error is want of memory.
+fn look_at<'a>(
+    walk: &mut Walk<'a>,
+    tree: &'a Expr,
+    scope: usize,
+    primes: Primes,
+) -> Result<bool, Failure> {
+    if let Some(entry) = named(walk.entries.as_slice(), tree, scope) {
+        let entry = Gone { entry, primes };
+        if walk.gone.contains(&entry) {
+            return Ok(true);
+        }
+        push(&mut walk.left, Left::End(entry))?;
+    }
+    match next_step(&mut walk.entries, tree, scope, primes) {
+        Ok(Step::Goes(next, inner, more)) => {
+            push(&mut walk.left, Left::Part(next, inner, more))?;
+            Ok(true)
+        }
+        Ok(Step::Ends(head)) => go_into(walk, head),
+        Err(Failure::Memory) => Err(Failure::Memory),
+        Err(_) => Ok(false),
+    }
+}
+
+/// Goes on with what is left; whether all may be parts. The only error is want of memory.
+fn go_on<'a>(walk: &mut Walk<'a>, left: Left<'a>) -> Result<bool, Failure> {
+    match left {
+        Left::Part(tree, scope, primes) => look_at(walk, tree, scope, primes),
+        Left::End(entry) => {
+            go_by(&mut walk.gone, entry)?;
+            Ok(true)
+        }
+    }
+}
+
+/// Whether each of the first so many variables is among these.
+fn has_each(met: &IndexSet<usize>, variables: usize) -> bool
+    ensures yes { result ≡ true → HasEach met.now.keys variables }
+    ensures no { result ≡ false → HasEach met.now.keys variables → ⊥ }
+{
+    let mut left = variables;
+    while left > 0 {
+        left -= 1;
+        if !met.contains(&left) {
+            return false;
+        }
+    }
+    true
+}
+
+/// Whether an expression in a scope stands for a variable or a nested tuple of variables that covers the first so many. The
+/// only error is want of memory.
+pub(crate) fn covers<'a>(
+    alloc: Global,
+    entries: Vec<Entry<'a>>,
+    tree: &'a Expr,
+    scope: usize,
+    variables: usize,
+) -> Result<bool, Failure>
+    requires linked { AreLinked entries.items }
+    requires within { scope ≤ length entries.items }
+    ensures yes { IfOk result (λ b. b ≡ true → (e : expr.Expr) × (expansion.expand (view tree.entry.now) (scope_at entries.items scope) 0 ≡ Some e) × (spec.covers variables e ≡ true)) }
+    ensures no { IfOk result (λ b. b ≡ false → (e : expr.Expr) → expansion.expand (view tree.entry.now) (scope_at entries.items scope) 0 ≡ Some e → spec.covers variables e ≡ false) }
+    ensures err { IfErr result (λ f. f ≡ Failure.Memory) }
+{
+    let mut walk = Walk {
+        entries,
+        left: Vec::new(alloc),
+        gone: IndexSet::new(alloc),
+        met: IndexSet::new(alloc),
+    };
+    push(&mut walk.left, Left::Part(tree, scope, Primes::Never))?;
+    for _turn in 0..u64::MAX {
+        let Some(left) = walk.left.pop() else {
+            return Ok(has_each(&walk.met, variables));
+        };
+        if !go_on(&mut walk, left)? {
+            return Ok(false);
+        }
+    }
+    Err(Failure::Memory)
+}
