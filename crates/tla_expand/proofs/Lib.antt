@@ -26,3 +26,5 @@ pub mod PrimesFit
 pub mod UnchangedFits
 pub mod Fitting
 pub mod Apart
+pub mod Nameless
+pub mod Walking

@@ -1,13 +1,16 @@
 //! Whether an expression stands for a nested tuple that covers the variables. It is found part by part, without the tuple,
 //! however large that is; what a name stands for is gone through once.
 
-ghost use Rattle.std.specs.Prelude.{◌≡◌, ◌≤◌, ◌++◌, ◌∷◌, [], Option, length, true, false, IfOk, OnOk, IfErr, IfSome, Some};
+ghost use Rattle.std.specs.Prelude.{◌≡◌, ◌≤◌, ◌++◌, ◌∷◌, [], length, true, false, nat_eq, Option, IfOk, OnOk, IfErr, IfSome, IfNone, Some};
+ghost use Rattle.indexmap.specs.IndexSet.{insert_key};
 ghost use Rattle.tla_core.specs.Expr as expr;
 ghost use Rattle.tla_tree.specs.View.{view};
 ghost use Rattle.tla_expand.specs.Covers as spec;
 ghost use Rattle.tla_expand.specs.Expand as expansion;
-ghost use Rattle.tla_expand.specs.Private.Gives.{head_gives};
-ghost use Rattle.tla_expand.specs.Private.Walks.{IsWalk, IsNamed, HasEach, GoesOn, part_left};
+ghost use Rattle.tla_expand.specs.Primes.{with_primes};
+ghost use Rattle.tla_expand.specs.Private.Gives.{head_gives, step_gives, IsWithin};
+ghost use Rattle.tla_expand.specs.Private.Walks as walks;
+ghost use Rattle.tla_expand.specs.Private.Walks.{IsNamed, IsAmong, IsAdded, IsInside, ArePushed, IsWalkTo, IsWalk, GoesOn, HasEach};
 ghost use Rattle.tla_expand.specs.Scopes.{AreLinked, scope_at};
 
 use crate::arena::{Entry, position};
@@ -36,6 +39,14 @@ pub(crate) struct Gone {
     pub(crate) primes: Primes,
 }
 
+/// What a form is of a nested tuple of variables.
+#[derive(Clone, Copy)]
+pub(crate) enum Piece<'a> {
+    Variable(usize),
+    Tuple(&'a [Expr]),
+    Other,
+}
+
 /// A walk over the parts of a nested tuple: what is left, the next one last; the entries that were gone through, and the
 /// variables that were met.
 #[derive(Drop)]
@@ -58,13 +69,30 @@ fn named(entries: &[Entry<'_>], tree: &Expr, scope: usize) -> Option<usize>
     }
 }
 
+/// What a form with its primes is.
+fn piece_of<'a>(head: Head<'a>) -> Piece<'a>
+    ensures { result ≡ walks.piece_of head.entry.primes head.entry.form }
+{
+    match head.form {
+        Form::Variable(_, variable) => match head.primes {
+            Primes::Never | Primes::Forbidden => Piece::Variable(variable),
+            Primes::Once | Primes::Twice => Piece::Other,
+        },
+        Form::Many(_, Many::Tuple, items) => Piece::Tuple(items),
+        _ => Piece::Other,
+    }
+}
+
 /// Parts of a tuple more. The only error is want of memory.
 fn push_parts<'a>(
     left: &mut Vec<Left<'a>>,
     items: &'a [Expr],
     scope: usize,
     primes: Primes,
-) -> Result<(), Failure> {
+) -> Result<(), Failure>
+    ensures ok { OnOk result (ArePushed left.old.items items.entry.now scope primes left.new.items) }
+    ensures err { IfErr result (λ f. f ≡ Failure.Memory) }
+{
     for i in 0..items.len() {
         push(left, Left::Part(&items[i], scope, primes))?;
     }
@@ -72,7 +100,10 @@ fn push_parts<'a>(
 }
 
 /// Notes a variable. The only error is want of memory.
-fn meet(met: &mut IndexSet<usize>, variable: usize) -> Result<(), Failure> {
+fn meet(met: &mut IndexSet<usize>, variable: usize) -> Result<(), Failure>
+    ensures ok { OnOk result (met.new.keys ≡ insert_key nat_eq met.old.keys variable) }
+    ensures err { IfErr result (λ f. f ≡ Failure.Memory) }
+{
     match met.insert(variable) {
         Ok(_) => Ok(()),
         Err(_) => Err(Failure::Memory),
@@ -80,29 +111,96 @@ fn meet(met: &mut IndexSet<usize>, variable: usize) -> Result<(), Failure> {
 }
 
 /// Notes an entry that was gone through. The only error is want of memory.
-fn go_by(gone: &mut IndexSet<Gone>, entry: Gone) -> Result<(), Failure> {
+fn go_by(gone: &mut IndexSet<Gone>, entry: Gone) -> Result<(), Failure>
+    ensures ok { OnOk result (IsAdded gone.old.keys entry gone.new.keys) }
+    ensures err { IfErr result (λ f. f ≡ Failure.Memory) }
+{
     match gone.insert(entry) {
         Ok(_) => Ok(()),
         Err(_) => Err(Failure::Memory),
     }
 }
 
+/// Whether an entry was gone through.
+fn was_gone(gone: &IndexSet<Gone>, entry: Gone) -> bool
+    ensures { result ≡ true → IsAmong entry gone.now.keys }
+{
+    gone.contains(&entry)
+}
+
 /// Goes on with a form; whether it is a variable or a tuple. The only error is want of memory.
-fn go_into<'a>(walk: &mut Walk<'a>, head: Head<'a>) -> Result<bool, Failure> {
-    match head.form {
-        Form::Variable(_, variable) => match head.primes {
-            Primes::Never | Primes::Forbidden => {
-                meet(&mut walk.met, variable)?;
-                Ok(true)
-            }
-            Primes::Once | Primes::Twice => Ok(false),
-        },
-        Form::Many(_, Many::Tuple, items) => {
+fn go_into<'a>(walk: &mut Walk<'a>, head: Head<'a>) -> Result<bool, Failure>
+    requires within { head.scope ≤ length walk.old.entries.items }
+    ensures goes { IfOk result (λ b. (whole : Option expr.Expr) → IsWalkTo whole walk.old.entries.items walk.old.left.items walk.old.gone.keys walk.old.met.keys (head_gives walk.old.entries.items head.entry 0) → GoesOn whole walk.new.entries.items walk.new.left.items walk.new.gone.keys walk.new.met.keys b) }
+    ensures err { IfErr result (λ f. f ≡ Failure.Memory) }
+{
+    match piece_of(head) {
+        Piece::Variable(variable) => {
+            meet(&mut walk.met, variable)?;
+            Ok(true)
+        }
+        Piece::Tuple(items) => {
             push_parts(&mut walk.left, items, head.scope, head.primes)?;
             Ok(true)
         }
-        _ => Ok(false),
+        Piece::Other => Ok(false),
     }
+}
+
+/// Goes on with a step; whether it may come to a part. The only error is want of memory.
+fn go_along<'a>(walk: &mut Walk<'a>, step: Step<'a>) -> Result<bool, Failure>
+    requires within { IsWithin walk.old.entries.items step.entry }
+    ensures goes { IfOk result (λ b. (whole : Option expr.Expr) → IsWalkTo whole walk.old.entries.items walk.old.left.items walk.old.gone.keys walk.old.met.keys (step_gives walk.old.entries.items step.entry 0) → GoesOn whole walk.new.entries.items walk.new.left.items walk.new.gone.keys walk.new.met.keys b) }
+    ensures err { IfErr result (λ f. f ≡ Failure.Memory) }
+{
+    match step {
+        Step::Goes(tree, scope, primes) => {
+            push(&mut walk.left, Left::Part(tree, scope, primes))?;
+            Ok(true)
+        }
+        Step::Ends(head) => go_into(walk, head),
+    }
+}
+
+/// Goes a step from an expression; whether it may be a part. The only error is want of memory.
+fn go_from<'a>(
+    walk: &mut Walk<'a>,
+    tree: &'a Expr,
+    scope: usize,
+    primes: Primes,
+) -> Result<bool, Failure>
+    requires linked { AreLinked walk.old.entries.items }
+    requires within { scope ≤ length walk.old.entries.items }
+    ensures goes { IfOk result (λ b. (whole : Option expr.Expr) → IsWalkTo whole walk.old.entries.items walk.old.left.items walk.old.gone.keys walk.old.met.keys (with_primes primes (expansion.expand (view tree.entry.now) (scope_at walk.old.entries.items scope) 0)) → GoesOn whole walk.new.entries.items walk.new.left.items walk.new.gone.keys walk.new.met.keys b) }
+    ensures err { IfErr result (λ f. f ≡ Failure.Memory) }
+{
+    match next_step(&mut walk.entries, tree, scope, primes) {
+        Ok(step) => go_along(walk, step),
+        Err(Failure::Memory) => Err(Failure::Memory),
+        Err(_) => Ok(false),
+    }
+}
+
+/// Looks at a name of an entry; whether it may be a part. The only error is want of memory.
+fn look_at_name<'a>(
+    walk: &mut Walk<'a>,
+    tree: &'a Expr,
+    scope: usize,
+    primes: Primes,
+    entry: usize,
+) -> Result<bool, Failure>
+    requires linked { AreLinked walk.old.entries.items }
+    requires within { scope ≤ length walk.old.entries.items }
+    requires named { IsNamed walk.old.entries.items (view tree.entry.now) scope entry }
+    ensures goes { IfOk result (λ b. (whole : Option expr.Expr) → IsWalkTo whole walk.old.entries.items walk.old.left.items walk.old.gone.keys walk.old.met.keys (with_primes primes (expansion.expand (view tree.entry.now) (scope_at walk.old.entries.items scope) 0)) → GoesOn whole walk.new.entries.items walk.new.left.items walk.new.gone.keys walk.new.met.keys b) }
+    ensures err { IfErr result (λ f. f ≡ Failure.Memory) }
+{
+    let gone = Gone { entry, primes };
+    if was_gone(&walk.gone, gone) {
+        return Ok(true);
+    }
+    push(&mut walk.left, Left::End(gone))?;
+    go_from(walk, tree, scope, primes)
 }
 
 /// Looks at an expression; whether it may be a part. The only error is want of memory.
@@ -111,27 +209,25 @@ fn look_at<'a>(
     tree: &'a Expr,
     scope: usize,
     primes: Primes,
-) -> Result<bool, Failure> {
-    if let Some(entry) = named(walk.entries.as_slice(), tree, scope) {
-        let entry = Gone { entry, primes };
-        if walk.gone.contains(&entry) {
-            return Ok(true);
-        }
-        push(&mut walk.left, Left::End(entry))?;
-    }
-    match next_step(&mut walk.entries, tree, scope, primes) {
-        Ok(Step::Goes(next, inner, more)) => {
-            push(&mut walk.left, Left::Part(next, inner, more))?;
-            Ok(true)
-        }
-        Ok(Step::Ends(head)) => go_into(walk, head),
-        Err(Failure::Memory) => Err(Failure::Memory),
-        Err(_) => Ok(false),
+) -> Result<bool, Failure>
+    requires linked { AreLinked walk.old.entries.items }
+    requires within { scope ≤ length walk.old.entries.items }
+    ensures goes { IfOk result (λ b. (whole : Option expr.Expr) → IsWalkTo whole walk.old.entries.items walk.old.left.items walk.old.gone.keys walk.old.met.keys (with_primes primes (expansion.expand (view tree.entry.now) (scope_at walk.old.entries.items scope) 0)) → GoesOn whole walk.new.entries.items walk.new.left.items walk.new.gone.keys walk.new.met.keys b) }
+    ensures err { IfErr result (λ f. f ≡ Failure.Memory) }
+{
+    match named(walk.entries.as_slice(), tree, scope) {
+        Some(entry) => look_at_name(walk, tree, scope, primes, entry),
+        None => go_from(walk, tree, scope, primes),
     }
 }
 
-/// Goes on with what is left; whether all may be parts. The only error is want of memory.
-fn go_on<'a>(walk: &mut Walk<'a>, left: Left<'a>) -> Result<bool, Failure> {
+/// Goes on with what is left, which was taken away; whether all may be parts. The only error is want of memory.
+fn go_on<'a>(walk: &mut Walk<'a>, left: Left<'a>) -> Result<bool, Failure>
+    requires linked { AreLinked walk.old.entries.items }
+    requires inside { IsInside walk.old.entries.items left.entry }
+    ensures goes { IfOk result (λ b. (whole : Option expr.Expr) → IsWalk whole walk.old.entries.items (walk.old.left.items ++ left.entry ∷ []) walk.old.gone.keys walk.old.met.keys → GoesOn whole walk.new.entries.items walk.new.left.items walk.new.gone.keys walk.new.met.keys b) }
+    ensures err { IfErr result (λ f. f ≡ Failure.Memory) }
+{
     match left {
         Left::Part(tree, scope, primes) => look_at(walk, tree, scope, primes),
         Left::End(entry) => {
