@@ -398,6 +398,14 @@ pub put_part : (whole : Option Expr) (es : List Entry) (left : List Left) (gone 
 put_part whole es left gone met t s k h w =
     put_all whole es left gone met (with_primes k (expand (view t.now) (scope_at es s) 0)) w (Part t s k ∷ []) (h, tt) (λ m a. a.0) (λ m a. (a, tt)) (λ m. tt)
 
+-- what is looked at isn't there
+pub put_nothing : (whole : Option Expr) (es : List Entry) (left : List Left) (gone : List Gone) (met : List ℕ) (k : Primes) (o : Option Expr) → o ≡ None
+    → IsWalkTo whole es left gone met (with_primes k o) → IsNoTuple whole
+put_nothing whole es left gone met k o h w =
+    put_other whole es left gone met (with_primes k o) w (λ e q.
+        let z : None ≡ Some e = sym (ap (λ (u : Option Expr). with_primes k u) h) ∙ q in
+        cc)
+
 -- ---- tuples
 and_first : (a b : Bool) → (a && b) ≡ true → a ≡ true
 and_first true b h = refl
@@ -487,9 +495,9 @@ module _ (es : List Entry) (s : ℕ) (k : Primes) where
           (λ m. ends_parts m a.0))
 
 -- one expression more
-pub parts_more : (old now new : List Left) (ts : List syntax.Expr) (i s : ℕ) (k : Primes) (b : Bor syntax.Expr) → i < length ts → b.now ≡ get_or ts i b.now → ArePushed old (take i ts) s k now → new ≡ now ++ Part b s k ∷ []
+pub parts_more : (old mid new : List Left) (ts : List syntax.Expr) (i s : ℕ) (k : Primes) (b : Bor syntax.Expr) → i < length ts → b.now ≡ get_or ts i b.now → ArePushed old (take i ts) s k mid → new ≡ mid ++ Part b s k ∷ []
     → ArePushed old (take (i + 1) ts) s k new
-parts_more old now new ts i s k b h q a e =
+parts_more old mid new ts i s k b h q a e =
     (a.0 ++ b ∷ [],
       map-append (λ (u : Bor syntax.Expr). u.now) a.0 (b ∷ []) ∙ ap (λ (us : List syntax.Expr). us ++ b.now ∷ []) a.1 ∙ sym (take_more ts i b.now h ∙ ap (λ (t : syntax.Expr). take i ts ++ t ∷ []) (sym q)),
       e ∙ rw a.2 (append_assoc old (parts_at a.0 s k) (Part b s k ∷ []) ∙ ap (λ (ls : List Left). old ++ ls) (sym (map-append (λ (u : Bor syntax.Expr). Part u s k) a.0 (b ∷ [])))))

@@ -176,8 +176,9 @@ fn go_from<'a>(
 {
     match next_step(&mut walk.entries, tree, scope, primes) {
         Ok(step) => go_along(walk, step),
+        Err(Failure::NoExpansion(_)) => Ok(false),
+        Err(Failure::TooLarge) => Ok(false),
         Err(Failure::Memory) => Err(Failure::Memory),
-        Err(_) => Ok(false),
     }
 }
 
