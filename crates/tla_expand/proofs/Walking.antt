@@ -85,9 +85,6 @@ among_sure m (j ∷ is) h i a =
       | inr r ↦ among_sure m is h.1 i r
     ]
 
-true_first : (b : Bool) → (true || b) ≡ true
-true_first b = refl
-
 or_later : (a b : Bool) → b ≡ true → (a || b) ≡ true
 or_later true b h = refl
 or_later false b h = h
@@ -560,7 +557,7 @@ tuple_piece k (form.Binders q f bs a) ts h σ d = cc
 tuple_piece k (form.Binds q f w a b) ts h σ d = cc
 
 -- ---- the ends
-pub walk_start : (es : List Entry) (t : Bor syntax.Expr) (s : ℕ) → AreLinked es → s ≤ length es → IsWalk (expand (view t.now) (scope_at es s) 0) es (Part t s Never ∷ []) [] []
+walk_start : (es : List Entry) (t : Bor syntax.Expr) (s : ℕ) → AreLinked es → s ≤ length es → IsWalk (expand (view t.now) (scope_at es s) 0) es (Part t s Never ∷ []) [] []
 walk_start es t s l h =
     let o = expand (view t.now) (scope_at es s) 0 in
     record {
@@ -572,6 +569,14 @@ walk_start es t s l h =
       ends_met = λ m u. tt;
       parts = λ e q y. ((rw (shown_not o) (e, q, y, λ i r. r), tt), tt, tt);
     }
+
+none_there : {A : Type 0} (xs : List A) → length xs ≡ 0 → xs ≡ []
+none_there [] h = refl
+none_there (x ∷ xs) h = absurd (omega arith)
+
+pub walk_starts : (es : List Entry) (t : Bor syntax.Expr) (s : ℕ) (left : List Left) (gone : List Gone) (met : List ℕ) → AreLinked es → s ≤ length es → left ≡ Part t s Never ∷ [] → length gone ≡ 0 → length met ≡ 0
+    → IsWalk (expand (view t.now) (scope_at es s) 0) es left gone met
+walk_starts es t s left gone met l h q n m = rw (q, none_there gone n, none_there met m) (walk_start es t s l h)
 
 has_all_from : (n : ℕ) (e : Expr) → ((i : ℕ) → i < n → has_name i e ≡ true) → has_all n e ≡ true
 has_all_from zero e f = refl
