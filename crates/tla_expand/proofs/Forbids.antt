@@ -45,77 +45,77 @@ mutual
       let same : binary p o i.0 j.0 ≡ e = cc in
       let u = forbidden_same a i.0 i.1 in
       let v = forbidden_same b j.0 j.1 in
-      rw (sym same, u, v) refl
+      cc
   forbidden_same (equal p a b) e q =
       let i = inv (primes Forbidden a) (λ x. primes Forbidden b >>= λ y. Some (equal p x y)) e q in
       let j = inv (primes Forbidden b) (λ y. Some (equal p i.0 y)) e i.2 in
       let same : equal p i.0 j.0 ≡ e = cc in
       let u = forbidden_same a i.0 i.1 in
       let v = forbidden_same b j.0 j.1 in
-      rw (sym same, u, v) refl
+      cc
   forbidden_same (implies p a b) e q =
       let i = inv (primes Forbidden a) (λ x. primes Forbidden b >>= λ y. Some (implies p x y)) e q in
       let j = inv (primes Forbidden b) (λ y. Some (implies p i.0 y)) e i.2 in
       let same : implies p i.0 j.0 ≡ e = cc in
       let u = forbidden_same a i.0 i.1 in
       let v = forbidden_same b j.0 j.1 in
-      rw (sym same, u, v) refl
+      cc
   forbidden_same (assert p a b) e q =
       let i = inv (primes Forbidden a) (λ x. primes Forbidden b >>= λ y. Some (assert p x y)) e q in
       let j = inv (primes Forbidden b) (λ y. Some (assert p i.0 y)) e i.2 in
       let same : assert p i.0 j.0 ≡ e = cc in
       let u = forbidden_same a i.0 i.1 in
       let v = forbidden_same b j.0 j.1 in
-      rw (sym same, u, v) refl
+      cc
   forbidden_same (member p a b) e q =
       let i = inv (primes Forbidden a) (λ x. primes Forbidden b >>= λ y. Some (member p x y)) e q in
       let j = inv (primes Forbidden b) (λ y. Some (member p i.0 y)) e i.2 in
       let same : member p i.0 j.0 ≡ e = cc in
       let u = forbidden_same a i.0 i.1 in
       let v = forbidden_same b j.0 j.1 in
-      rw (sym same, u, v) refl
+      cc
   forbidden_same (not_member p a b) e q =
       let i = inv (primes Forbidden a) (λ x. primes Forbidden b >>= λ y. Some (not_member p x y)) e q in
       let j = inv (primes Forbidden b) (λ y. Some (not_member p i.0 y)) e i.2 in
       let same : not_member p i.0 j.0 ≡ e = cc in
       let u = forbidden_same a i.0 i.1 in
       let v = forbidden_same b j.0 j.1 in
-      rw (sym same, u, v) refl
+      cc
   forbidden_same (subset p a b) e q =
       let i = inv (primes Forbidden a) (λ x. primes Forbidden b >>= λ y. Some (subset p x y)) e q in
       let j = inv (primes Forbidden b) (λ y. Some (subset p i.0 y)) e i.2 in
       let same : subset p i.0 j.0 ≡ e = cc in
       let u = forbidden_same a i.0 i.1 in
       let v = forbidden_same b j.0 j.1 in
-      rw (sym same, u, v) refl
+      cc
   forbidden_same (functions p a b) e q =
       let i = inv (primes Forbidden a) (λ x. primes Forbidden b >>= λ y. Some (functions p x y)) e q in
       let j = inv (primes Forbidden b) (λ y. Some (functions p i.0 y)) e i.2 in
       let same : functions p i.0 j.0 ≡ e = cc in
       let u = forbidden_same a i.0 i.1 in
       let v = forbidden_same b j.0 j.1 in
-      rw (sym same, u, v) refl
+      cc
   forbidden_same (cup p a b) e q =
       let i = inv (primes Forbidden a) (λ x. primes Forbidden b >>= λ y. Some (cup p x y)) e q in
       let j = inv (primes Forbidden b) (λ y. Some (cup p i.0 y)) e i.2 in
       let same : cup p i.0 j.0 ≡ e = cc in
       let u = forbidden_same a i.0 i.1 in
       let v = forbidden_same b j.0 j.1 in
-      rw (sym same, u, v) refl
+      cc
   forbidden_same (cap p a b) e q =
       let i = inv (primes Forbidden a) (λ x. primes Forbidden b >>= λ y. Some (cap p x y)) e q in
       let j = inv (primes Forbidden b) (λ y. Some (cap p i.0 y)) e i.2 in
       let same : cap p i.0 j.0 ≡ e = cc in
       let u = forbidden_same a i.0 i.1 in
       let v = forbidden_same b j.0 j.1 in
-      rw (sym same, u, v) refl
+      cc
   forbidden_same (minus p a b) e q =
       let i = inv (primes Forbidden a) (λ x. primes Forbidden b >>= λ y. Some (minus p x y)) e q in
       let j = inv (primes Forbidden b) (λ y. Some (minus p i.0 y)) e i.2 in
       let same : minus p i.0 j.0 ≡ e = cc in
       let u = forbidden_same a i.0 i.1 in
       let v = forbidden_same b j.0 j.1 in
-      rw (sym same, u, v) refl
+      cc
   forbidden_same (sub_seq p a b c) e q =
       let i = inv (primes Forbidden a) (λ x. primes Forbidden b >>= λ y. primes Forbidden c >>= λ z. Some (sub_seq p x y z)) e q in
       let j = inv (primes Forbidden b) (λ y. primes Forbidden c >>= λ z. Some (sub_seq p i.0 y z)) e i.2 in
@@ -124,7 +124,7 @@ mutual
       let u = forbidden_same a i.0 i.1 in
       let v = forbidden_same b j.0 j.1 in
       let w = forbidden_same c l.0 l.1 in
-      rw (sym same, u, v, w) refl
+      cc
   forbidden_same (conditional p a b c) e q =
       let i = inv (primes Forbidden a) (λ x. primes Forbidden b >>= λ y. primes Forbidden c >>= λ z. Some (conditional p x y z)) e q in
       let j = inv (primes Forbidden b) (λ y. primes Forbidden c >>= λ z. Some (conditional p i.0 y z)) e i.2 in
@@ -133,35 +133,35 @@ mutual
       let u = forbidden_same a i.0 i.1 in
       let v = forbidden_same b j.0 j.1 in
       let w = forbidden_same c l.0 l.1 in
-      rw (sym same, u, v, w) refl
+      cc
   forbidden_same (for_all p a b) e q =
       let i = inv (primes Forbidden a) (λ x. primes Forbidden b >>= λ y. Some (for_all p x y)) e q in
       let j = inv (primes Forbidden b) (λ y. Some (for_all p i.0 y)) e i.2 in
       let same : for_all p i.0 j.0 ≡ e = cc in
       let u = forbidden_same a i.0 i.1 in
       let v = forbidden_same b j.0 j.1 in
-      rw (sym same, u, v) refl
+      cc
   forbidden_same (for_some p a b) e q =
       let i = inv (primes Forbidden a) (λ x. primes Forbidden b >>= λ y. Some (for_some p x y)) e q in
       let j = inv (primes Forbidden b) (λ y. Some (for_some p i.0 y)) e i.2 in
       let same : for_some p i.0 j.0 ≡ e = cc in
       let u = forbidden_same a i.0 i.1 in
       let v = forbidden_same b j.0 j.1 in
-      rw (sym same, u, v) refl
+      cc
   forbidden_same (choose p a b) e q =
       let i = inv (primes Forbidden a) (λ x. primes Forbidden b >>= λ y. Some (choose p x y)) e q in
       let j = inv (primes Forbidden b) (λ y. Some (choose p i.0 y)) e i.2 in
       let same : choose p i.0 j.0 ≡ e = cc in
       let u = forbidden_same a i.0 i.1 in
       let v = forbidden_same b j.0 j.1 in
-      rw (sym same, u, v) refl
+      cc
   forbidden_same (filtered p a b) e q =
       let i = inv (primes Forbidden a) (λ x. primes Forbidden b >>= λ y. Some (filtered p x y)) e q in
       let j = inv (primes Forbidden b) (λ y. Some (filtered p i.0 y)) e i.2 in
       let same : filtered p i.0 j.0 ≡ e = cc in
       let u = forbidden_same a i.0 i.1 in
       let v = forbidden_same b j.0 j.1 in
-      rw (sym same, u, v) refl
+      cc
   forbidden_same (enumerated p es) e q =
       let i = inv (primes_each Forbidden es) (λ x. Some (enumerated p x)) e q in
       let same : enumerated p i.0 ≡ e = cc in
@@ -208,21 +208,21 @@ mutual
       let same : image p i.0 j.0 ≡ e = cc in
       let u = each_same es i.0 i.1 in
       let v = forbidden_same a j.0 j.1 in
-      rw (sym same, u, v) refl
+      cc
   forbidden_same (function p es a) e q =
       let i = inv (primes_each Forbidden es) (λ x. primes Forbidden a >>= λ y. Some (function p x y)) e q in
       let j = inv (primes Forbidden a) (λ y. Some (function p i.0 y)) e i.2 in
       let same : function p i.0 j.0 ≡ e = cc in
       let u = each_same es i.0 i.1 in
       let v = forbidden_same a j.0 j.1 in
-      rw (sym same, u, v) refl
+      cc
   forbidden_same (except p a us) e q =
       let i = inv (primes Forbidden a) (λ x. primes_updates Forbidden us >>= λ y. Some (except p x y)) e q in
       let j = inv (primes_updates Forbidden us) (λ y. Some (except p i.0 y)) e i.2 in
       let same : except p i.0 j.0 ≡ e = cc in
       let u = forbidden_same a i.0 i.1 in
       let v = updates_same us j.0 j.1 in
-      rw (sym same, u, v) refl
+      cc
 
   each_same : (t e : Exprs) → primes_each Forbidden t ≡ Some e → e ≡ t
   each_same no_exprs e q = let same : no_exprs ≡ e = cc in sym same
@@ -232,7 +232,7 @@ mutual
       let same : more_exprs i.0 j.0 ≡ e = cc in
       let u = forbidden_same a i.0 i.1 in
       let v = each_same es j.0 j.1 in
-      rw (sym same, u, v) refl
+      cc
 
   fields_same : (t e : Fields) → primes_fields Forbidden t ≡ Some e → e ≡ t
   fields_same no_fields e q = let same : no_fields ≡ e = cc in sym same
@@ -242,7 +242,7 @@ mutual
       let same : more_fields o i.0 j.0 ≡ e = cc in
       let u = forbidden_same a i.0 i.1 in
       let v = fields_same fs j.0 j.1 in
-      rw (sym same, u, v) refl
+      cc
 
   arms_same : (t e : Arms) → primes_arms Forbidden t ≡ Some e → e ≡ t
   arms_same no_arms e q = let same : no_arms ≡ e = cc in sym same
@@ -259,7 +259,7 @@ mutual
       let u = forbidden_same a i.0 i.1 in
       let v = forbidden_same b j.0 j.1 in
       let w = arms_same arms l.0 l.1 in
-      rw (sym same, u, v, w) refl
+      cc
 
   updates_same : (t e : Updates) → primes_updates Forbidden t ≡ Some e → e ≡ t
   updates_same no_updates e q = let same : no_updates ≡ e = cc in sym same
@@ -271,4 +271,4 @@ mutual
       let u = each_same es i.0 i.1 in
       let v = forbidden_same a j.0 j.1 in
       let w = updates_same us l.0 l.1 in
-      rw (sym same, u, v, w) refl
+      cc

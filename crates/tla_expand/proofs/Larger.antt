@@ -1,5 +1,5 @@
 -- UNCHANGED of an expression is no smaller than the expression, and so with the parts of a tuple.
-use Rattle.std.proofs.Common.{◌≡◌, ◌≤◌, ℕ, ◌+◌, refl, sym, ◌∙◌, arith, List, [], ◌∷◌, Option, Some, None}
+use Rattle.std.proofs.Common.{◌≡◌, ◌≤◌, ℕ, ◌+◌, refl, ap, sym, ◌∙◌, arith, List, [], ◌∷◌, Option, Some, None}
 use Rattle.tla_core.specs.declared.fault.Place.{Place}
 use Rattle.tla_core.specs.Expr.{Expr, Exprs, constant, bound, now, next, unary, binary, equal, sub_seq, enumerated, tuple, record_of, conjunction, disjunction, implies, conditional, cases, assert, for_all, for_some, choose, image, function, except, member, not_member, subset, kind_set, booleans, sequences, power, functions, records, product, cup, cap, minus, filtered, opened, tried, no_exprs, more_exprs}
 use Rattle.tla_model.specs.Size.{nodes, nodes_each, depth, depth_each}
@@ -87,19 +87,24 @@ mutual
       let b = each_larger p es j.0 j.1 in
       rw (sym same) (omega (arith, a.0, b.0), omega (arith, a.1, b.1))
 
+more_are : {A B : Type 0} (f : A → Option B) (t : A) (ts : List A) (x : B) (xs : List B) → f t ≡ Some x → each_of f ts ≡ Some xs → each_of f (t ∷ ts) ≡ Some (x ∷ xs)
+more_are f t ts x xs h k = rw (h, k) refl
+
 module _ (k : Primes) (p : Place) (σ : Scope) (d : ℕ) where
   -- where UNCHANGED of each part is there, each part is, and is no larger
   parts_smaller : (ts : List syntax.Expr) (ys : List Expr) → each_of (kept_part k p σ d) ts ≡ Some ys
       → (xs : List Expr) × (each_of (part_in k σ d) ts ≡ Some xs) × (total nodes xs ≤ total nodes ys) × (highest depth xs ≤ highest depth ys)
-  parts_smaller [] ys h = let same : [] ≡ ys = cc in ([], refl, rw (sym same) (omega arith), rw (sym same) (omega arith))
+  parts_smaller [] ys h = ([], refl, omega arith, omega arith)
   parts_smaller (t ∷ ts) ys h =
       let i = inv (kept_part k p σ d t) (λ y. each_of (kept_part k p σ d) ts >>= λ zs. Some (y ∷ zs)) ys h in
       let j = inv (each_of (kept_part k p σ d) ts) (λ zs. Some (i.0 ∷ zs)) ys i.2 in
       let same : i.0 ∷ j.0 ≡ ys = cc in
+      let n = ap (total nodes) same in
+      let e = ap (highest depth) same in
       let m = inv (part_in k σ d t) (unchanged p) i.0 i.1 in
       let l = unchanged_larger p m.0 i.0 m.2 in
       let r = parts_smaller ts j.0 j.1 in
-      (m.0 ∷ r.0, rw (m.1, r.1) refl, rw (sym same) (omega (arith, l.0, r.2)), rw (sym same) (omega (arith, l.1, r.3)))
+      (m.0 ∷ r.0, more_are (part_in k σ d) t ts m.0 r.0 m.1 r.1, omega (arith, l.0, r.2, n), omega (arith, l.1, r.3, e))
 
   none_kept : (ts : List syntax.Expr) (o : Option (List Expr)) → each_of (part_in k σ d) ts ≡ None → each_of (kept_part k p σ d) ts ≡ o → o ≡ None
   none_kept ts None h q = refl

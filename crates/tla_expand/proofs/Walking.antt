@@ -582,13 +582,13 @@ has_all_from : (n : ℕ) (e : Expr) → ((i : ℕ) → i < n → has_name i e �
 has_all_from zero e f = refl
 has_all_from (suc n) e f = and_both (has_name n e) (has_all n e) (f n (omega arith)) (has_all_from n e (λ i h. f i (omega arith)))
 
+last_or_before : (n i : ℕ) (e : Expr) (b : Bool) → nat_eq i n ≡ b → has_name n e ≡ true → i < suc n → (i < n → has_name i e ≡ true) → has_name i e ≡ true
+last_or_before n i e true q h l f = rw (eqb-true i n q) h
+last_or_before n i e false q h l f = f (omega (arith, eqb-false i n q))
+
 has_all_to : (n : ℕ) (e : Expr) → has_all n e ≡ true → (i : ℕ) → i < n → has_name i e ≡ true
 has_all_to zero e h i b = absurd (omega arith)
-has_all_to (suc n) e h i b = at (nat_eq i n) refl
-  where
-    at : (c : Bool) → nat_eq i n ≡ c → has_name i e ≡ true
-    at true q = rw (eqb-true i n q) (and_first (has_name n e) (has_all n e) h)
-    at false q = has_all_to n e (and_second (has_name n e) (has_all n e) h) i (omega (arith, eqb-false i n q))
+has_all_to (suc n) e h i b = last_or_before n i e (nat_eq i n) refl (and_first (has_name n e) (has_all n e) h) b (has_all_to n e (and_second (has_name n e) (has_all n e) h) i)
 
 module _ (whole : Option Expr) (es : List Entry) (gone : List Gone) (met : List ℕ) (n : ℕ) (w : IsWalk whole es [] gone met) where
   all_met : IsMet (among met) whole

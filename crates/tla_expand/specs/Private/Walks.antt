@@ -4,7 +4,7 @@ use Rattle.std.specs.Borrow.{Bor}
 use Rattle.std.specs.List.{list_any}
 use Rattle.tla_core.specs.declared.fault.Place.{Place}
 use Rattle.tla_core.specs.Expr.{Expr}
-use Rattle.tla_tree.specs.declared.tree.Expr as s
+use Rattle.tla_tree.specs.declared.tree.Expr as syntax
 use Rattle.tla_tree.specs.Tree.{Tree}
 use Rattle.tla_tree.specs.View.{view}
 use Rattle.tla_expand.specs.declared.arena.Entry.{Entry}
@@ -61,7 +61,7 @@ piece_of_variable Forbidden i = piece.Variable i
 piece_of_variable Once i = piece.Other
 piece_of_variable Twice i = piece.Other
 
-abbrev pub piece_of_many : Many → Bor (List s.Expr) → Piece
+abbrev pub piece_of_many : Many → Bor (List syntax.Expr) → Piece
 piece_of_many manies.Tuple ts = piece.Tuple ts
 piece_of_many f ts = piece.Other
 
@@ -95,12 +95,12 @@ IsInside es (Part t s k) = s ≤ length es
 IsInside es (End g) = g.entry < length es
 
 -- expressions in a scope with so many primes, as what is left to look at
-abbrev pub parts_at : List (Bor s.Expr) → ℕ → Primes → List Left
-parts_at bs s k = map (λ (b : Bor s.Expr). Part b s k) bs
+abbrev pub parts_at : List (Bor syntax.Expr) → ℕ → Primes → List Left
+parts_at bs s k = map (λ (b : Bor syntax.Expr). Part b s k) bs
 
 -- these expressions behind what was left
 abbrev pub ArePushed : List Left → List s.Expr → ℕ → Primes → List Left → Type 0
-ArePushed old ts s k new = (bs : List (Bor s.Expr)) × (pointed bs ≡ ts) × (new ≡ old ++ parts_at bs s k)
+ArePushed old ts s k new = (bs : List (Bor syntax.Expr)) × (pointed bs ≡ ts) × (new ≡ old ++ parts_at bs s k)
 
 -- A walk over the parts of a whole. What is left ends with what is next; what is looked at just now is next to it. The whole is met where all of that is; and where it is a nested tuple of variables, so is all of that and was met.
 pub record IsWalkBy (whole : Option Expr) (es : List Entry) (left : List Left) (gone : List Gone) (met : List ℕ) (next : (ℕ → Bool) → Type 0) : Type 0 where
