@@ -99,7 +99,7 @@ abbrev pub parts_at : List (Bor syntax.Expr) → ℕ → Primes → List Left
 parts_at bs s k = map (λ (b : Bor syntax.Expr). Part b s k) bs
 
 -- these expressions behind what was left
-abbrev pub ArePushed : List Left → List s.Expr → ℕ → Primes → List Left → Type 0
+abbrev pub ArePushed : List Left → List syntax.Expr → ℕ → Primes → List Left → Type 0
 ArePushed old ts s k new = (bs : List (Bor syntax.Expr)) × (pointed bs ≡ ts) × (new ≡ old ++ parts_at bs s k)
 
 -- A walk over the parts of a whole. What is left ends with what is next; what is looked at just now is next to it. The whole is met where all of that is; and where it is a nested tuple of variables, so is all of that and was met.
