@@ -578,6 +578,18 @@ pub walk_starts : (es : List Entry) (t : Bor syntax.Expr) (s : ℕ) (left : List
     → IsWalk (expand (view t.now) (scope_at es s) 0) es left gone met
 walk_starts es t s left gone met l h q n m = rw (q, none_there gone n, none_there met m) (walk_start es t s l h)
 
+-- nothing is left
+pub walk_over : (whole : Option Expr) (es : List Entry) (left : List Left) (gone : List Gone) (met : List ℕ) → length left ≡ 0 → IsWalk whole es left gone met → IsWalk whole es [] gone met
+walk_over whole es left gone met n w = rw (none_there left n) at w
+
+-- one more of the first so many is found
+pub found_more : (is : List ℕ) (n k j : ℕ) → k ≡ j + 1 → among is j ≡ true → ((i : ℕ) → k ≤ i → i < n → among is i ≡ true) → (i : ℕ) → j ≤ i → i < n → among is i ≡ true
+found_more is n k j e h f i a b = pick (nat_eq i j) refl
+  where
+    pick : (c : Bool) → nat_eq i j ≡ c → among is i ≡ true
+    pick true q = rw (eqb-true i j q) h
+    pick false q = f i (omega (arith, eqb-false i j q)) b
+
 has_all_from : (n : ℕ) (e : Expr) → ((i : ℕ) → i < n → has_name i e ≡ true) → has_all n e ≡ true
 has_all_from zero e f = refl
 has_all_from (suc n) e f = and_both (has_name n e) (has_all n e) (f n (omega arith)) (has_all_from n e (λ i h. f i (omega arith)))

@@ -268,18 +268,22 @@ pub(crate) fn covers<'a>(
     ensures no { IfOk result (λ b. b ≡ false → (e : expr.Expr) → expansion.expand (view tree.entry.now) (scope_at entries.items scope) 0 ≡ Some e → spec.covers variables e ≡ false) }
     ensures err { IfErr result (λ f. f ≡ Failure.Memory) }
 {
+    let left = Vec::new(alloc);
+    let gone = IndexSet::new(alloc);
+    let met = IndexSet::new(alloc);
     let mut walk = Walk {
         entries,
-        left: Vec::new(alloc),
-        gone: IndexSet::new(alloc),
-        met: IndexSet::new(alloc),
+        left,
+        gone,
+        met,
     };
     push(&mut walk.left, Left::Part(tree, scope, Primes::Never))?;
     for _turn in 0..u64::MAX {
         let Some(left) = walk.left.pop() else {
             return Ok(has_each(&walk.met, variables));
         };
-        if !go_on(&mut walk, left)? {
+        let goes = go_on(&mut walk, left)?;
+        if !goes {
             return Ok(false);
         }
     }
