@@ -400,8 +400,8 @@ pub put_nothing : (whole : Option Expr) (es : List Entry) (left : List Left) (go
     → IsWalkTo whole es left gone met (with_primes k o) → IsNoTuple whole
 put_nothing whole es left gone met k o h w =
     put_other whole es left gone met (with_primes k o) w (λ e q.
-        let z : None ≡ Some e = sym (ap (λ (u : Option Expr). with_primes k u) h) ∙ q in
-        cc)
+    let z : None ≡ Some e = sym (ap (λ (u : Option Expr). with_primes k u) h) ∙ q in
+    cc)
 
 -- ---- tuples
 and_first : (a b : Bool) → (a && b) ≡ true → a ≡ true
@@ -436,12 +436,16 @@ module _ (m : ℕ → Bool) (f : syntax.Expr → Option Expr) where
   each_met [] h = ([], refl, refl, λ i q. let z : false ≡ true = q in cc)
   each_met (t ∷ ts) h =
       let a = h.0 in
-      let b = each_met ts h.1 in
-      (a.0 ∷ b.0, rw (a.1, b.1) refl, and_both (is_names a.0) (are_names (exprs b.0)) a.2 b.2, λ i q.
-          elim (have_either i a.0 (exprs b.0) (has_name i a.0) refl q) [
-            | inl r ↦ a.3 i r
-            | inr r ↦ b.3 i r
-          ])
+      let b = each_met ts h.1 in (
+        a.0 ∷ b.0,
+        rw (a.1, b.1) refl,
+        and_both (is_names a.0) (are_names (exprs b.0)) a.2 b.2,
+        λ i q.
+            elim (have_either i a.0 (exprs b.0) (has_name i a.0) refl q) [
+              | inl r ↦ a.3 i r
+              | inr r ↦ b.3 i r
+            ],
+      )
 
   each_of_met : (ts : List syntax.Expr) (xs : List Expr) → each_of f ts ≡ Some xs → are_names (exprs xs) ≡ true → ((i : ℕ) → have_name i (exprs xs) ≡ true → m i ≡ true)
       → EachIs (λ (t : syntax.Expr). IsMet m (f t)) ts
@@ -451,9 +455,10 @@ module _ (m : ℕ → Bool) (f : syntax.Expr → Option Expr) where
       let b = inv (each_of f ts) (λ ys. Some (a.0 ∷ ys)) xs a.2 in
       let w : a.0 ∷ b.0 ≡ xs = cc in
       let u : (is_names a.0 && are_names (exprs b.0)) ≡ true = ap (λ (ys : List Expr). are_names (exprs ys)) w ∙ n in
-      let k : (i : ℕ) → have_name i (more_exprs a.0 (exprs b.0)) ≡ true → m i ≡ true = λ i r. h i (ap (λ (ys : List Expr). have_name i (exprs ys)) (sym w) ∙ r) in
-      ((a.0, a.1, and_first (is_names a.0) (are_names (exprs b.0)) u, λ i r. k i (have_first i a.0 (exprs b.0) r)),
-        each_of_met ts b.0 b.1 (and_second (is_names a.0) (are_names (exprs b.0)) u) (λ i r. k i (have_later i a.0 (exprs b.0) r)))
+      let k : (i : ℕ) → have_name i (more_exprs a.0 (exprs b.0)) ≡ true → m i ≡ true = λ i r. h i (ap (λ (ys : List Expr). have_name i (exprs ys)) (sym w) ∙ r) in (
+        (a.0, a.1, and_first (is_names a.0) (are_names (exprs b.0)) u, λ i r. k i (have_first i a.0 (exprs b.0) r)),
+        each_of_met ts b.0 b.1 (and_second (is_names a.0) (are_names (exprs b.0)) u) (λ i r. k i (have_later i a.0 (exprs b.0) r)),
+      )
 
   tuple_met : (p : Place) (ts : List syntax.Expr) → EachIs (λ (t : syntax.Expr). IsMet m (f t)) ts → IsMet m (each_of f ts >>= λ xs. Some (tuple p (exprs xs)))
   tuple_met p ts h = let b = each_met ts h in (tuple p (exprs b.0), rw b.1 refl, b.2, b.3)
@@ -487,17 +492,18 @@ module _ (es : List Entry) (s : ℕ) (k : Primes) where
   put_tuple whole o left more gone met p ts e a h w =
       let f = part_in k (scope_at es s) 0 in
       rw a.2 (put_all whole es left gone met o w (parts_at a.0 s k) (inside_parts h a.0)
-          (λ m u. rw (e, sym a.1) (tuple_met m f p (pointed a.0) (met_pointed m a.0 u)))
-          (λ m u. pointed_met m a.0 (parts_met m f p (pointed a.0) (rw (e, sym a.1) at u)))
-          (λ m. ends_parts m a.0))
+      (λ m u. rw (e, sym a.1) (tuple_met m f p (pointed a.0) (met_pointed m a.0 u)))
+      (λ m u. pointed_met m a.0 (parts_met m f p (pointed a.0) (rw (e, sym a.1) at u)))
+      (λ m. ends_parts m a.0))
 
 -- one expression more
 pub parts_more : (old mid new : List Left) (ts : List syntax.Expr) (i s : ℕ) (k : Primes) (b : Bor syntax.Expr) → i < length ts → b.now ≡ get_or ts i b.now → ArePushed old (take i ts) s k mid → new ≡ mid ++ Part b s k ∷ []
     → ArePushed old (take (i + 1) ts) s k new
-parts_more old mid new ts i s k b h q a e =
-    (a.0 ++ b ∷ [],
-      map-append (λ (u : Bor syntax.Expr). u.now) a.0 (b ∷ []) ∙ ap (λ (us : List syntax.Expr). us ++ b.now ∷ []) a.1 ∙ sym (take_more ts i b.now h ∙ ap (λ (t : syntax.Expr). take i ts ++ t ∷ []) (sym q)),
-      e ∙ rw a.2 (append_assoc old (parts_at a.0 s k) (Part b s k ∷ []) ∙ ap (λ (ls : List Left). old ++ ls) (sym (map-append (λ (u : Bor syntax.Expr). Part u s k) a.0 (b ∷ [])))))
+parts_more old mid new ts i s k b h q a e = (
+  a.0 ++ b ∷ [],
+  map-append (λ (u : Bor syntax.Expr). u.now) a.0 (b ∷ []) ∙ ap (λ (us : List syntax.Expr). us ++ b.now ∷ []) a.1 ∙ sym (take_more ts i b.now h ∙ ap (λ (t : syntax.Expr). take i ts ++ t ∷ []) (sym q)),
+  e ∙ rw a.2 (append_assoc old (parts_at a.0 s k) (Part b s k ∷ []) ∙ ap (λ (ls : List Left). old ++ ls) (sym (map-append (λ (u : Bor syntax.Expr). Part u s k) a.0 (b ∷ [])))),
+)
 
 -- what is looked at was gone through
 pub put_gone : (whole : Option Expr) (es : List Entry) (left : List Left) (gone : List Gone) (met : List ℕ) (t : Tree) (s : ℕ) (g : Gone) → IsNamed es t s g.entry → IsAmong g gone

@@ -149,7 +149,7 @@ fn go_into<'a>(walk: &mut Walk<'a>, head: Head<'a>) -> Result<bool, Failure>
 
 /// Goes on with a step; whether it may come to a part. The only error is want of memory.
 fn go_along<'a>(walk: &mut Walk<'a>, step: Step<'a>) -> Result<bool, Failure>
-    requires within { IsWithin walk.old.entries.items step.entry }
+    requires within { IsWithin walk.old.entries.items step }
     ensures goes { IfOk result (λ b. (whole : Option expr.Expr) → IsWalkTo whole walk.old.entries.items walk.old.left.items walk.old.gone.keys walk.old.met.keys (step_gives walk.old.entries.items step.entry 0) → GoesOn whole walk.new.entries.items walk.new.left.items walk.new.gone.keys walk.new.met.keys b) }
     ensures err { IfErr result (λ f. f ≡ Failure.Memory) }
 {
@@ -192,7 +192,7 @@ fn look_at_name<'a>(
 ) -> Result<bool, Failure>
     requires linked { AreLinked walk.old.entries.items }
     requires within { scope ≤ length walk.old.entries.items }
-    requires named { IsNamed walk.old.entries.items (view tree.entry.now) scope entry }
+    requires named { IsNamed walk.old.entries.items (view tree.now) scope entry }
     ensures goes { IfOk result (λ b. (whole : Option expr.Expr) → IsWalkTo whole walk.old.entries.items walk.old.left.items walk.old.gone.keys walk.old.met.keys (with_primes primes (expansion.expand (view tree.entry.now) (scope_at walk.old.entries.items scope) 0)) → GoesOn whole walk.new.entries.items walk.new.left.items walk.new.gone.keys walk.new.met.keys b) }
     ensures err { IfErr result (λ f. f ≡ Failure.Memory) }
 {
@@ -225,7 +225,7 @@ fn look_at<'a>(
 /// Goes on with what is left, which was taken away; whether all may be parts. The only error is want of memory.
 fn go_on<'a>(walk: &mut Walk<'a>, left: Left<'a>) -> Result<bool, Failure>
     requires linked { AreLinked walk.old.entries.items }
-    requires inside { IsInside walk.old.entries.items left.entry }
+    requires inside { IsInside walk.old.entries.items left }
     ensures goes { IfOk result (λ b. (whole : Option expr.Expr) → IsWalk whole walk.old.entries.items (walk.old.left.items ++ left.entry ∷ []) walk.old.gone.keys walk.old.met.keys → GoesOn whole walk.new.entries.items walk.new.left.items walk.new.gone.keys walk.new.met.keys b) }
     ensures err { IfErr result (λ f. f ≡ Failure.Memory) }
 {
@@ -264,8 +264,8 @@ pub(crate) fn covers<'a>(
 ) -> Result<bool, Failure>
     requires linked { AreLinked entries.items }
     requires within { scope ≤ length entries.items }
-    ensures yes { IfOk result (λ b. b ≡ true → (e : expr.Expr) × (expansion.expand (view tree.entry.now) (scope_at entries.items scope) 0 ≡ Some e) × (spec.covers variables e ≡ true)) }
-    ensures no { IfOk result (λ b. b ≡ false → (e : expr.Expr) → expansion.expand (view tree.entry.now) (scope_at entries.items scope) 0 ≡ Some e → spec.covers variables e ≡ false) }
+    ensures yes { IfOk result (λ b. b ≡ true → (e : expr.Expr) × (expansion.expand (view tree.entry.now) (scope_at entries.entry.items scope) 0 ≡ Some e) × (spec.covers variables e ≡ true)) }
+    ensures no { IfOk result (λ b. b ≡ false → (e : expr.Expr) → expansion.expand (view tree.entry.now) (scope_at entries.entry.items scope) 0 ≡ Some e → spec.covers variables e ≡ false) }
     ensures err { IfErr result (λ f. f ≡ Failure.Memory) }
 {
     let left = Vec::new(alloc);

@@ -291,12 +291,7 @@ impl<'a> Scopes<'a> {
 
     /// Whether an expression stands for a variable or a nested tuple of variables that covers the first so many. The tuple
     /// isn't made, so no limit is set to it. The only error is want of memory.
-    pub fn covers(
-        &self,
-        alloc: Global,
-        tree: &'a Expr,
-        variables: usize,
-    ) -> Result<bool, Failure>
+    pub fn covers(&self, alloc: Global, tree: &'a Expr, variables: usize) -> Result<bool, Failure>
         ensures yes { IfOk result (λ b. b ≡ true → (e : expr.Expr) × (expand (view tree.now) (scope_of self.now) 0 ≡ Some e) × (cover.covers variables e ≡ true)) }
         ensures no { IfOk result (λ b. b ≡ false → (e : expr.Expr) → expand (view tree.now) (scope_of self.now) 0 ≡ Some e → cover.covers variables e ≡ false) }
         ensures err { IfErr result (λ f. f ≡ Failure.Memory) }

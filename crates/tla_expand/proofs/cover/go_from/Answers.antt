@@ -15,8 +15,8 @@ returns-in-Ok-clause-goes c =
     let e = c.in-Ok.ensures in
     let o = with_primes c.args.primes (expand (view c.args.tree.now) (scope_at es c.args.scope) 0) in
     IfOk-weaker c.go_along.result _ _ (λ b f whole w.
-        f whole (walk_same whole new walk.left.items walk.gone.keys walk.met.keys o (step_gives new c.in-Ok.step 0) (e.same 0)
-            (walk_grown es new e.extends w.linked whole o walk.left.items walk.gone.keys walk.met.keys e.linked w)))
+    f whole (walk_same whole new walk.left.items walk.gone.keys walk.met.keys o (step_gives new c.in-Ok.step 0) (e.same 0)
+    (walk_grown es new e.extends w.linked whole o walk.left.items walk.gone.keys walk.met.keys e.linked w)))
 
 pub returns-in-Err-NoExpansion-clause-goes : goal.returns-in-Err-NoExpansion-clause-goes
 returns-in-Err-NoExpansion-clause-goes c = λ whole w.

@@ -7,7 +7,7 @@ returns-in-Part-clause-goes c =
     let walk = c.args.walk.now in
     let m = c.in-Part in
     IfOk-weaker c.look_at.result _ _ (λ b f whole w.
-        f whole (take_part whole walk.entries.items walk.left.items walk.gone.keys walk.met.keys m.tree m.scope m.primes (rw m.is at w)))
+    f whole (take_part whole walk.entries.items walk.left.items walk.gone.keys walk.met.keys m.tree m.scope m.primes (rw m.is at w)))
 
 pub returns-in_ok-go_by-in-End-clause-goes : goal.returns-in_ok-go_by-in-End-clause-goes
 returns-in_ok-go_by-in-End-clause-goes c = λ whole w.

@@ -20,4 +20,4 @@ returns-clause-goes c =
     let g : Gone = record { entry = c.args.entry; primes = c.args.primes } in
     let o = with_primes c.args.primes (expand (view c.args.tree.now) (scope_at es c.args.scope) 0) in
     IfOk-weaker c.go_from.result _ _ (λ b f whole w.
-        f whole (rw c.in_ok-push.ensures.ok (put_end whole es walk.left.items walk.gone.keys walk.met.keys o w g c.requires.named.0 (λ m. name_gone m es (view c.args.tree.now) c.args.scope g c.requires.named))))
+    f whole (rw c.in_ok-push.ensures.ok (put_end whole es walk.left.items walk.gone.keys walk.met.keys o w g c.requires.named.0 (λ m. name_gone m es (view c.args.tree.now) c.args.scope g c.requires.named))))
