@@ -10,20 +10,30 @@
 //! file `lines` too: each of its lines ends the module in turn, and `report` has what is wanted of each, one behind the
 //! other. Where it is `texts`, the folder has a file `texts` and no module or configuration of its own: modules, each
 //! with its configuration behind it, a form feed between each two of these texts, and `report` has what is wanted of
-//! each.
+//! each. Where it is `told`, the folder has a file `told` in place of a report: what the check, with its own options, tells
+//! a reader on standard error.
+//!
+//! It also names each code of which CODES.md, the document, doesn't say what the program tells.
 #![tactic(auto)]
 
 mod case;
+mod codes;
 mod outcome;
+mod told;
 
 use case::{Case, Wanted};
+use codes::is_in;
 use outcome::{
     CaseFiles, is_as_wanted, lines_are_as_wanted, prefixes_are_as_wanted, texts_are_as_wanted,
 };
+use std::io::Write;
 use std::rt::Files;
 use std::sync::Wait;
 use std::thread::Threads;
 use std::{fs, io};
+use tla_check::read_line;
+use tla_explain::CODES;
+use told::is_told_as_wanted;
 
 fn bytes_of<R: AllocGlobal + Files>(rt: &R, case: &str, file: &str) -> io::Result<Vec<u8>> {
     let path = format!(in rt.alloc(); "{case}/{file}")?;
@@ -36,6 +46,29 @@ fn files_of<R: AllocGlobal + Files>(rt: &R, case: &str) -> io::Result<CaseFiles>
         config: bytes_of(rt, case, "model.cfg")?,
         report: bytes_of(rt, case, "report")?,
     })
+}
+
+/// Whether what is told of a case is what its file `told` says.
+fn tells<R: AllocGlobal + Files + Threads + Wait + Sync>(
+    rt: &R,
+    case: &Case<'_>,
+) -> io::Result<bool> {
+    let module = bytes_of(rt, case.name, "module.tla")?;
+    let configuration = bytes_of(rt, case.name, "model.cfg")?;
+    let wanted = bytes_of(rt, case.name, "told")?;
+    let mut words = vec![in rt.alloc(); "tlacheck", "MODULE", "CONFIG"]?;
+    words.extend_from_slice(case.options.as_slice())?;
+    let Ok(line) = read_line(rt.alloc(), words.as_slice()) else {
+        return Ok(false);
+    };
+    is_told_as_wanted(
+        rt,
+        rt.alloc(),
+        &module,
+        &configuration,
+        &line.options,
+        &wanted,
+    )
 }
 
 fn passes<R: AllocGlobal + Files + Threads + Wait + Sync>(
@@ -66,22 +99,47 @@ fn passes<R: AllocGlobal + Files + Threads + Wait + Sync>(
             let report = bytes_of(rt, case.name, "report")?;
             texts_are_as_wanted(rt, rt.alloc(), texts.as_slice(), report.as_slice())
         }
+        Wanted::Told => tells(rt, case),
     }
 }
 
-fn main(rt: HostRuntime) -> io::Result<()> {
-    let list = fs::read_to_string(&rt, "active")?;
+/// Runs all cases, and names those that don't pass.
+fn run_cases<R: AllocGlobal + Files + Threads + Wait + Sync, W: Write>(
+    rt: &R,
+    out: &mut W,
+) -> io::Result<()> {
+    let list = fs::read_to_string(rt, "active")?;
     let mut cases: u64 = 0;
     for line in list.as_str().lines() {
         let Some(case) = Case::read(rt.alloc(), line)? else {
-            println!(rt; "no case: {line}")?;
+            writeln!(out, "no case: {line}")?;
             continue;
         };
-        if !passes(&rt, &case)? {
-            println!(rt; "{}", case.name)?;
+        if !passes(rt, &case)? {
+            writeln!(out, "{}", case.name)?;
         }
         cases = cases.wrapping_add(1);
     }
-    println!(rt; "{cases} cases")?;
+    writeln!(out, "{cases} cases")?;
+    Ok(())
+}
+
+/// Names the codes of which the document says something else.
+fn compare_codes<R: AllocGlobal + Files, W: Write>(rt: &R, out: &mut W) -> io::Result<()> {
+    let page = fs::read_to_string(rt, "CODES.md")?;
+    for text in &CODES {
+        if !is_in(rt.alloc(), page.as_str(), text)? {
+            writeln!(out, "not in CODES.md: {}", text.code)?;
+        }
+    }
+    let count = CODES.len();
+    writeln!(out, "{count} codes")?;
+    Ok(())
+}
+
+fn main(rt: HostRuntime) -> io::Result<()> {
+    let mut out = io::writer(&rt);
+    run_cases(&rt, &mut out)?;
+    compare_codes(&rt, &mut out)?;
     Ok(())
 }
