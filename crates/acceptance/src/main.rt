@@ -1,17 +1,16 @@
-//! Runs each active case of the data folder, and names those whose report or status isn't the one that is wanted. Each case
+//! Runs each case of the data folder, and names those whose report or status isn't the one that is wanted. Each case
 //! is checked with its own options, and again by 1, 2, 7 and 64 workers in pieces of 1, 3 and 65,536 states: each of the one
 //! with each of the other. Where a case has many texts, each text is checked again by one of these twelve pairs, in turn. All
 //! reports of a text have to be the same bytes.
 //!
-//! The file `active` has a line for each case, `waiting` for those that the language doesn't reach yet: the name of the
-//! case's folder, the status that is wanted, and words of the command line. The folder has `module.tla`, `model.cfg` and
-//! `report`. Where the word `prefixes` stands for the status, the module is checked cut short after 0, 1, .. bytes, each
-//! time with the next line of `report` as the report that is wanted, and status 20. Where it is `lines`, the folder has a
-//! file `lines` too: each of its lines ends the module in turn, and `report` has what is wanted of each, one behind the
-//! other. Where it is `texts`, the folder has a file `texts` and no module or configuration of its own: modules, each
-//! with its configuration behind it, a form feed between each two of these texts, and `report` has what is wanted of
-//! each. Where it is `told`, the folder has a file `told` in place of a report: what the check, with its own options, tells
-//! a reader on standard error.
+//! The file `active` has a line for each case: the name of the case's folder, the status that is wanted, and words of the
+//! command line. The folder has `module.tla`, `model.cfg` and `report`. Where the word `prefixes` stands for the status,
+//! the module is checked cut short after 0, 1, .. bytes, each time with the next line of `report` as the report that is
+//! wanted, and status 20. Where it is `lines`, the folder has a file `lines` too: each of its lines ends the module in
+//! turn, and `report` has what is wanted of each, one behind the other. Where it is `texts`, the folder has a file `texts`
+//! and no module or configuration of its own: modules, each with its configuration behind it, a form feed between each two
+//! of these texts, and `report` has what is wanted of each. Where it is `told`, the folder has a file `told` in place of a
+//! report: what a reader is told of the check with the case's own options.
 //!
 //! It also names each code of which CODES.md, the document, doesn't say what the program tells.
 #![tactic(auto)]
