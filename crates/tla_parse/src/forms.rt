@@ -7,7 +7,7 @@ ghost use Rattle.tla_parse.specs.Nests.{Nests};
 
 use crate::grammar::Grammar;
 use crate::list::push;
-use crate::names::names;
+use crate::names::parameters;
 use crate::parts::{
     Parsed, ParsedArm, ParsedArms, ParsedDefinition, ParsedDefinitions, arm_of, case_of,
     case_with_other, function_of, let_of, quantified_of, set_of_binder,
@@ -213,7 +213,7 @@ impl<F: Fn(Global, &[u8], &[Token], usize, Scope, u8, usize) -> Result<Parsed, R
         requires within { from ≤ length tokens.now }
         ensures { GivesDefinition text.now tokens.now self.now.depth result (reading.operator text.now tokens.now (reading.expr text.now tokens.now self.now.depth) scope t from) }
     {
-        let found = names(self.alloc, text, tokens, scope.column, from)?;
+        let found = parameters(self.alloc, text, tokens, scope.column, form, from)?;
         let end = found.end;
         if !is_kind(Kind::RightParen, seen(tokens, scope.column, end)) {
             return Err(refused_parameter(tokens, scope.column, form, end));
