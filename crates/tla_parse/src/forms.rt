@@ -124,11 +124,18 @@ impl<F: Fn(Global, &[u8], &[Token], usize, Scope, u8, usize) -> Result<Parsed, R
         ensures { GivesArm text.now tokens.now self.now.depth result (reading.arm_at text.now tokens.now (reading.expr text.now tokens.now self.now.depth) scope from) }
     {
         let guard = self.inner(text, tokens, scope, 0, from)?;
-        if !is_kind(Kind::Arrow, seen(tokens, scope.column, guard.end)) {
-            return Err(refused(tokens, scope.column, guard.end));
+        let end = guard.end;
+        if !is_kind(Kind::Arrow, seen(tokens, scope.column, end)) {
+            drop(guard);
+            return Err(refused(tokens, scope.column, end));
         }
-        let value = self.inner(text, tokens, scope, 0, guard.end + 1)?;
-        Ok(arm_of(guard, value))
+        match self.inner(text, tokens, scope, 0, end + 1) {
+            Ok(value) => Ok(arm_of(guard, value)),
+            Err(refusal) => {
+                drop(guard);
+                Err(refusal)
+            }
+        }
     }
 
     /// The arms of CASE, but for OTHER.
