@@ -1,4 +1,5 @@
 use Rattle.std.proofs.Common.{◌≡◌, ◌+◌, ◌-◌, ◌++◌, ◌∷◌, [], Some, None, arith, sym, ◌∙◌, length, map, ap}
+use Rattle.std.proofs.lemmas.Grind.{common_steps}
 use Rattle.std.proofs.lemmas.Result.{err_from_is_err_and}
 use Rattle.tla_parse.specs.declared.tokens.Between.TheVariants as between
 use Rattle.tla_tree.specs.View.{choice_view}
@@ -23,7 +24,7 @@ returns-in_default g c =
     let s = sequence_last (arm_at c.args.text.now c.args.tokens.now (expr c.args.text.now c.args.tokens.now c.args.self.now.depth) c.args.scope) (following c.args.tokens.now c.args.scope.column between.Arm) (length c.args.tokens.now - c.loop-turn._turn) (length c.args.tokens.now - (c.loop-turn._turn + 1)) (map choice_view c.loop-turn.arms.items) c.loop-turn.at (choice_view c.in_ok-found.found.arm) c.in_ok-found.found.end h c.in_ok-found.ensures.0 q in
     let w : map choice_view c.push.new.items.items ≡ map choice_view c.loop-turn.arms.items ++ choice_view c.in_ok-found.found.arm ∷ [] = ap (λ x. map choice_view x) c.in_ok-push.ensures.ok ∙ map_append choice_view c.loop-turn.arms.items c.in_ok-found.found.arm in
     let d = arms_depth_snoc (map choice_view c.loop-turn.arms.items) (choice_view c.in_ok-found.found.arm) in
-    rw w (sym c.loop-turn.invariant.same ∙ s, cc, omega arith)
+    rw w (sym c.loop-turn.invariant.same ∙ s, grind (arith, common_steps, d), grind (arith, common_steps))
 
 pub loop-turn-preserved : goal.loop-turn-preserved
 loop-turn-preserved g c =
@@ -32,7 +33,7 @@ loop-turn-preserved g c =
     let s = sequence_more (arm_at c.args.text.now c.args.tokens.now (expr c.args.text.now c.args.tokens.now c.args.self.now.depth) c.args.scope) (following c.args.tokens.now c.args.scope.column between.Arm) (length c.args.tokens.now - c.loop-turn._turn) (length c.args.tokens.now - (c.loop-turn._turn + 1)) (map choice_view c.loop-turn.arms.items) c.loop-turn.at (choice_view c.in_ok-found.found.arm) c.in_ok-found.found.end c.in-Some.next h c.in_ok-found.ensures.0 q in
     let w : map choice_view c.push.new.items.items ≡ map choice_view c.loop-turn.arms.items ++ choice_view c.in_ok-found.found.arm ∷ [] = ap (λ x. map choice_view x) c.in_ok-push.ensures.ok ∙ map_append choice_view c.loop-turn.arms.items c.in_ok-found.found.arm in
     let d = arms_depth_snoc (map choice_view c.loop-turn.arms.items) (choice_view c.in_ok-found.found.arm) in
-    rw w (record { same = sym s ∙ c.loop-turn.invariant.same; depth = cc; shallow = omega arith })
+    rw w (record { same = sym s ∙ c.loop-turn.invariant.same; depth = grind (arith, common_steps, d); shallow = grind (arith, common_steps) })
 
 pub returns : goal.returns
 returns g c =

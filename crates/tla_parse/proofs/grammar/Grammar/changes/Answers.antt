@@ -1,4 +1,5 @@
 use Rattle.std.proofs.Common.{◌≡◌, ◌+◌, ◌-◌, ◌++◌, ◌∷◌, [], Some, None, arith, sym, ◌∙◌, length, map, ap}
+use Rattle.std.proofs.lemmas.Grind.{common_steps}
 use Rattle.std.proofs.lemmas.Result.{err_from_is_err_and}
 use Rattle.tla_parse.specs.declared.tokens.Between.TheVariants as between
 use Rattle.tla_tree.specs.View.{update_view}
@@ -25,7 +26,7 @@ returns-in_default g c =
     let s = sequence_last (change c.args.text.now c.args.tokens.now (expr c.args.text.now c.args.tokens.now c.args.self.now.depth) c.args.scope) (following c.args.tokens.now c.args.scope.column between.Comma) (length c.args.tokens.now - c.loop-turn._turn) (length c.args.tokens.now - (c.loop-turn._turn + 1)) (map update_view c.loop-turn.updates.items) c.loop-turn.at (update_view c.in_ok-found.found.update) c.in_ok-found.found.end h c.in_ok-found.ensures.0 q in
     let w : map update_view c.push.new.items.items ≡ map update_view c.loop-turn.updates.items ++ update_view c.in_ok-found.found.update ∷ [] = ap (λ x. map update_view x) c.in_ok-push.ensures.ok ∙ map_append update_view c.loop-turn.updates.items c.in_ok-found.found.update in
     let d = updates_depth_snoc (map update_view c.loop-turn.updates.items) (update_view c.in_ok-found.found.update) in
-    rw w (sym c.loop-turn.invariant.same ∙ s, omega (arith, d), omega arith)
+    rw w (sym c.loop-turn.invariant.same ∙ s, grind (arith, common_steps, d), grind (arith, common_steps))
 
 pub loop-turn-preserved : goal.loop-turn-preserved
 loop-turn-preserved g c =
@@ -34,7 +35,7 @@ loop-turn-preserved g c =
     let s = sequence_more (change c.args.text.now c.args.tokens.now (expr c.args.text.now c.args.tokens.now c.args.self.now.depth) c.args.scope) (following c.args.tokens.now c.args.scope.column between.Comma) (length c.args.tokens.now - c.loop-turn._turn) (length c.args.tokens.now - (c.loop-turn._turn + 1)) (map update_view c.loop-turn.updates.items) c.loop-turn.at (update_view c.in_ok-found.found.update) c.in_ok-found.found.end c.in-Some.next h c.in_ok-found.ensures.0 q in
     let w : map update_view c.push.new.items.items ≡ map update_view c.loop-turn.updates.items ++ update_view c.in_ok-found.found.update ∷ [] = ap (λ x. map update_view x) c.in_ok-push.ensures.ok ∙ map_append update_view c.loop-turn.updates.items c.in_ok-found.found.update in
     let d = updates_depth_snoc (map update_view c.loop-turn.updates.items) (update_view c.in_ok-found.found.update) in
-    rw w (record { same = sym s ∙ c.loop-turn.invariant.same; depth = omega (arith, d); shallow = omega arith })
+    rw w (record { same = sym s ∙ c.loop-turn.invariant.same; depth = grind (arith, common_steps, d); shallow = grind (arith, common_steps) })
 
 pub returns : goal.returns
 returns g c =

@@ -1,4 +1,5 @@
 use Rattle.std.proofs.Common.{◌≡◌, ◌+◌, ◌-◌, ◌++◌, ◌∷◌, [], Some, None, arith, sym, ◌∙◌, length, map, ap}
+use Rattle.std.proofs.lemmas.Grind.{common_steps}
 use Rattle.std.proofs.lemmas.Result.{err_from_is_err_and}
 use Rattle.tla_parse.specs.declared.tokens.Between.TheVariants as between
 use Rattle.tla_tree.specs.View.{definition_view}
@@ -23,7 +24,7 @@ returns-in_default g c =
     let s = sequence_last (definition c.args.text.now c.args.tokens.now (expr c.args.text.now c.args.tokens.now c.args.self.now.depth) c.args.scope) (following c.args.tokens.now c.args.scope.column between.Nothing) (length c.args.tokens.now - c.loop-turn._turn) (length c.args.tokens.now - (c.loop-turn._turn + 1)) (map definition_view c.loop-turn.definitions.items) c.loop-turn.at (definition_view c.in_ok-found.found.definition) c.in_ok-found.found.end h c.in_ok-found.ensures.0 q in
     let w : map definition_view c.push.new.items.items ≡ map definition_view c.loop-turn.definitions.items ++ definition_view c.in_ok-found.found.definition ∷ [] = ap (λ x. map definition_view x) c.in_ok-push.ensures.ok ∙ map_append definition_view c.loop-turn.definitions.items c.in_ok-found.found.definition in
     let d = definitions_depth_snoc (map definition_view c.loop-turn.definitions.items) (definition_view c.in_ok-found.found.definition) in
-    rw w (sym c.loop-turn.invariant.same ∙ s, omega (arith, d), omega arith)
+    rw w (sym c.loop-turn.invariant.same ∙ s, grind (arith, common_steps, d), grind (arith, common_steps))
 
 pub loop-turn-preserved : goal.loop-turn-preserved
 loop-turn-preserved g c =
@@ -32,7 +33,7 @@ loop-turn-preserved g c =
     let s = sequence_more (definition c.args.text.now c.args.tokens.now (expr c.args.text.now c.args.tokens.now c.args.self.now.depth) c.args.scope) (following c.args.tokens.now c.args.scope.column between.Nothing) (length c.args.tokens.now - c.loop-turn._turn) (length c.args.tokens.now - (c.loop-turn._turn + 1)) (map definition_view c.loop-turn.definitions.items) c.loop-turn.at (definition_view c.in_ok-found.found.definition) c.in_ok-found.found.end c.in-Some.next h c.in_ok-found.ensures.0 q in
     let w : map definition_view c.push.new.items.items ≡ map definition_view c.loop-turn.definitions.items ++ definition_view c.in_ok-found.found.definition ∷ [] = ap (λ x. map definition_view x) c.in_ok-push.ensures.ok ∙ map_append definition_view c.loop-turn.definitions.items c.in_ok-found.found.definition in
     let d = definitions_depth_snoc (map definition_view c.loop-turn.definitions.items) (definition_view c.in_ok-found.found.definition) in
-    rw w (record { same = sym s ∙ c.loop-turn.invariant.same; depth = omega (arith, d); shallow = omega arith })
+    rw w (record { same = sym s ∙ c.loop-turn.invariant.same; depth = grind (arith, common_steps, d); shallow = grind (arith, common_steps) })
 
 pub returns : goal.returns
 returns g c =

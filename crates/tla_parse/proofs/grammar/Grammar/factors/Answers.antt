@@ -1,4 +1,5 @@
 use Rattle.std.proofs.Common.{◌≡◌, ◌+◌, ◌-◌, ◌++◌, ◌∷◌, [], Some, None, arith, sym, ◌∙◌, length, map, ap}
+use Rattle.std.proofs.lemmas.Grind.{common_steps}
 use Rattle.std.proofs.lemmas.Result.{err_from_is_err_and}
 use Rattle.tla_parse.specs.declared.tokens.Between.TheVariants as between
 use Rattle.tla_tree.specs.View.{view}
@@ -23,7 +24,7 @@ returns-in_default g c =
     let s = sequence_last (factor c.args.text.now c.args.tokens.now (expr c.args.text.now c.args.tokens.now c.args.self.now.depth) c.args.scope) (following c.args.tokens.now c.args.scope.column between.Product) (length c.args.tokens.now - c.loop-turn._turn) (length c.args.tokens.now - (c.loop-turn._turn + 1)) (map view c.loop-turn.items.items) c.loop-turn.at (view c.in_ok-e.e.tree) c.in_ok-e.e.end h c.in_ok-e.ensures.0 q in
     let w : map view c.push.new.items.items ≡ map view c.loop-turn.items.items ++ view c.in_ok-e.e.tree ∷ [] = ap (λ x. map view x) c.in_ok-push.ensures.ok ∙ map_append view c.loop-turn.items.items c.in_ok-e.e.tree in
     let d = depths_snoc (map view c.loop-turn.items.items) (view c.in_ok-e.e.tree) in
-    rw w (sym c.loop-turn.invariant.same ∙ s, omega (arith, d), omega arith)
+    rw w (sym c.loop-turn.invariant.same ∙ s, grind (arith, common_steps, d), grind (arith, common_steps))
 
 pub loop-turn-preserved : goal.loop-turn-preserved
 loop-turn-preserved g c =
@@ -32,7 +33,7 @@ loop-turn-preserved g c =
     let s = sequence_more (factor c.args.text.now c.args.tokens.now (expr c.args.text.now c.args.tokens.now c.args.self.now.depth) c.args.scope) (following c.args.tokens.now c.args.scope.column between.Product) (length c.args.tokens.now - c.loop-turn._turn) (length c.args.tokens.now - (c.loop-turn._turn + 1)) (map view c.loop-turn.items.items) c.loop-turn.at (view c.in_ok-e.e.tree) c.in_ok-e.e.end c.in-Some.next h c.in_ok-e.ensures.0 q in
     let w : map view c.push.new.items.items ≡ map view c.loop-turn.items.items ++ view c.in_ok-e.e.tree ∷ [] = ap (λ x. map view x) c.in_ok-push.ensures.ok ∙ map_append view c.loop-turn.items.items c.in_ok-e.e.tree in
     let d = depths_snoc (map view c.loop-turn.items.items) (view c.in_ok-e.e.tree) in
-    rw w (record { same = sym s ∙ c.loop-turn.invariant.same; depth = omega (arith, d); shallow = omega arith })
+    rw w (record { same = sym s ∙ c.loop-turn.invariant.same; depth = grind (arith, common_steps, d); shallow = grind (arith, common_steps) })
 
 pub returns : goal.returns
 returns g c =

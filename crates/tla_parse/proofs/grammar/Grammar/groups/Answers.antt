@@ -1,4 +1,5 @@
 use Rattle.std.proofs.Common.{◌≡◌, ◌+◌, ◌-◌, ◌++◌, ◌∷◌, [], Some, None, arith, sym, ◌∙◌, length, map, ap}
+use Rattle.std.proofs.lemmas.Grind.{common_steps}
 use Rattle.std.proofs.lemmas.Result.{err_from_is_err_and}
 use Rattle.tla_parse.specs.declared.tokens.Between.TheVariants as between
 use Rattle.tla_tree.specs.View.{group_view}
@@ -24,7 +25,7 @@ returns-in_default g c =
     let s = sequence_last (group c.args.text.now c.args.tokens.now (expr c.args.text.now c.args.tokens.now c.args.self.now.depth) c.args.scope) (following c.args.tokens.now c.args.scope.column between.Comma) (length c.args.tokens.now - c.loop-turn._turn) (length c.args.tokens.now - (c.loop-turn._turn + 1)) (map group_view c.loop-turn.binders.items) c.loop-turn.at (group_view c.in_ok-group.group.binder) c.in_ok-group.group.end h c.in_ok-group.ensures.0 q in
     let w : map group_view c.push.new.items.items ≡ map group_view c.loop-turn.binders.items ++ group_view c.in_ok-group.group.binder ∷ [] = ap (λ x. map group_view x) c.in_ok-push.ensures.ok ∙ map_append group_view c.loop-turn.binders.items c.in_ok-group.group.binder in
     let d = bound_depth_snoc (map group_view c.loop-turn.binders.items) (group_view c.in_ok-group.group.binder) in
-    rw w (sym c.loop-turn.invariant.same ∙ s, cc, omega arith)
+    rw w (sym c.loop-turn.invariant.same ∙ s, grind (arith, common_steps, d), grind (arith, common_steps))
 
 pub loop-turn-preserved : goal.loop-turn-preserved
 loop-turn-preserved g c =
@@ -33,7 +34,7 @@ loop-turn-preserved g c =
     let s = sequence_more (group c.args.text.now c.args.tokens.now (expr c.args.text.now c.args.tokens.now c.args.self.now.depth) c.args.scope) (following c.args.tokens.now c.args.scope.column between.Comma) (length c.args.tokens.now - c.loop-turn._turn) (length c.args.tokens.now - (c.loop-turn._turn + 1)) (map group_view c.loop-turn.binders.items) c.loop-turn.at (group_view c.in_ok-group.group.binder) c.in_ok-group.group.end c.in-Some.next h c.in_ok-group.ensures.0 q in
     let w : map group_view c.push.new.items.items ≡ map group_view c.loop-turn.binders.items ++ group_view c.in_ok-group.group.binder ∷ [] = ap (λ x. map group_view x) c.in_ok-push.ensures.ok ∙ map_append group_view c.loop-turn.binders.items c.in_ok-group.group.binder in
     let d = bound_depth_snoc (map group_view c.loop-turn.binders.items) (group_view c.in_ok-group.group.binder) in
-    rw w (record { same = sym s ∙ c.loop-turn.invariant.same; depth = cc; shallow = omega arith; within = comma_within c.args.text.now c.args.tokens.now c.args.scope.column c.in_ok-group.group.end c.in-Some.next q })
+    rw w (record { same = sym s ∙ c.loop-turn.invariant.same; depth = grind (arith, common_steps, d); shallow = grind (arith, common_steps); within = comma_within c.args.text.now c.args.tokens.now c.args.scope.column c.in_ok-group.group.end c.in-Some.next q })
 
 pub returns : goal.returns
 returns g c =
