@@ -7,10 +7,10 @@ use Rattle.tla_parse.specs.declared.scope.Scope.{Scope}
 use Rattle.tla_parse.specs.declared.ahead.Opened.TheVariants as opened
 use Rattle.tla_tree.specs.Tree.{Tree, Pattern, Each, Tuple, Binders, unbound, bound}
 use Rattle.tla_parse.specs.Tokens.{seen, Has}
-use Rattle.tla_parse.specs.Kinds.{same_kind, kind_at}
+use Rattle.tla_parse.specs.Kinds.{same_kind, kind_at, role_of}
 use Rattle.tla_parse.specs.Entries.{is_single, Binds, Entry}
 use Rattle.tla_parse.specs.Grammar.{Spells, Bound, MoreBound}
-use Rattle.tla_parse.specs.Ahead.{role_of, behind, binds, filters, maps, ending}
+use Rattle.tla_parse.specs.Ahead.{behind, binds, filters, maps, ending}
 use Rattle.tla_parse.specs.ReadingBrackets.{opened_by}
 use Rattle.tla_parse.proofs.Inversion.{seen_is}
 use Rattle.tla_parse.proofs.First.{second_token}

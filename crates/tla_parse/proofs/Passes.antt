@@ -11,9 +11,9 @@ use Rattle.tla_tree.specs.declared.tree.Bullet.{Bullet}
 use Rattle.tla_tree.specs.Tree.{Tree, Trees, Pattern, Each, Tuple, Binders, Arms, Other, Definition, Definitions, none, more, unbound, bound, no_arms, arm, no_other, other, DefinesOperator, DefinesFunction, undefined, defined, Case, Let, Name, Number, Text, Word, At, Paren, Listing, Call, Prime, Index, Field, Unary, Binary, Quantified, Choose, If, Junction, Filter, Image, Function, FunctionSet, Record, RecordSet, Except, Action, Fair, Product, Fields, Key, Keys, Updates, no_fields, field, AtIndex, AtField, no_keys, key, no_updates, update}
 use Rattle.tla_parse.specs.Tokens.{Has, Writes, Names}
 use Rattle.tla_parse.specs.Entries.{is_single, Binds}
-use Rattle.tla_parse.specs.Kinds.{opening, closing, step_opening, step_closing, fairness_word}
+use Rattle.tla_parse.specs.Kinds.{opening, closing, step_opening, step_closing, fairness_word, role_of}
 use Rattle.tla_parse.specs.Grammar.{Spells, Items, Factors, Listed, Others, Bound, MoreBound, Chosen, MoreChosen, Otherwise, Defines, Defined, Fielded, MoreFields, Leads, Selects, Updated, MoreUpdates, within, updating}
-use Rattle.tla_parse.specs.Ahead.{role_of, behind, ending}
+use Rattle.tla_parse.specs.Ahead.{behind, ending}
 use Rattle.tla_parse.proofs.Inversion.{seen_is}
 use Rattle.tla_parse.proofs.Roles.{infix_role, prefix_role, quantifier_role, constant_role, opening_role, closing_role, step_opens, step_closes, fairness_role, bullet_token, drop_get}
 

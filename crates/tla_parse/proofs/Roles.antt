@@ -17,9 +17,9 @@ use Rattle.tla_tree.specs.declared.tree.Fairness.{Fairness}
 use Rattle.tla_tree.specs.declared.tree.Fairness.TheVariants as fa
 use Rattle.tla_parse.specs.Operators.{infix_of, prefix_of, bullet_of, quantifier_of, constant_of}
 use Rattle.tla_parse.specs.Tokens.{is_bullet, is_bullet_at}
-use Rattle.tla_parse.specs.Kinds.{opening, closing, step_opening, step_closing, fairness_word}
+use Rattle.tla_parse.specs.Kinds.{opening, closing, step_opening, step_closing, fairness_word, role_of}
 use Rattle.std.proofs.Math.ListN.{drop_of_length-le}
-use Rattle.tla_parse.specs.Ahead.{role_of, behind, ending}
+use Rattle.tla_parse.specs.Ahead.{behind, ending}
 use Rattle.tla_parse.proofs.Inversion.{and_true}
 
 pub infix_role : (kind : Kind) (op : Infix) → infix_of kind ≡ Some op → role_of kind ≡ role.Plain

@@ -1,5 +1,5 @@
 -- Going back over tokens, whether an EXCEPT stands before them with no bracket open.
-use Rattle.std.proofs.Common.{◌≡◌, ◌⊎◌, ◌↔◌, ℕ, suc, Option, Some, None, List, inl, inr, refl, sym, ap, ◌∙◌, subst}
+use Rattle.std.proofs.Common.{◌≡◌, ◌↔◌, ℕ, suc, Some, None, List, inl, inr, refl, sym, ap, ◌∙◌, subst}
 use Rattle.std.specs.List.{slice_get}
 use Rattle.std.proofs.lemmas.Option.{same_Some}
 use Rattle.tla_lex.specs.declared.token.Token.{Token}
@@ -32,3 +32,8 @@ module _ (ts : List Token) (at n : ℕ) where
 pub begins_behind_none : (ts : List Token) (before : ℕ) (t : Token) → slice_get ts before ≡ Some t → (t.kind ≡ k.Except → ⊥) → (t.kind ≡ k.Comma → ⊥) → BeginsUpdate ts (suc before) → ⊥
 begins_behind_none ts before t here x y (inl (u, there, e)) = x (ap (λ z. z.kind) (same_Some t u (sym here ∙ there)) ∙ e)
 begins_behind_none ts before t here x y (inr ((u, there, e), z)) = y (ap (λ z. z.kind) (same_Some t u (sym here ∙ there)) ∙ e)
+
+-- behind a comma one begins where EXCEPT stands before it
+pub begins_behind_comma : (ts : List Token) (before : ℕ) (t : Token) → slice_get ts before ≡ Some t → t.kind ≡ k.Comma → BeginsUpdate ts (suc before) → IsUnderExcept ts before 0
+begins_behind_comma ts before t here x (inl (u, there, e)) = absurd (let z : k.Comma ≡ k.Except = sym x ∙ ap (λ z. z.kind) (same_Some t u (sym here ∙ there)) ∙ e in let y : ⊥ = cc in y)
+begins_behind_comma ts before t here x (inr (c, under)) = under

@@ -6,27 +6,7 @@ use Rattle.tla_lex.specs.declared.token.Kind.TheVariants as k
 use Rattle.tla_parse.specs.declared.ahead.Role.{Role}
 use Rattle.tla_parse.specs.declared.ahead.Role.TheVariants as role
 use Rattle.tla_parse.specs.Tokens.{seen}
-use Rattle.tla_parse.specs.Kinds.{kind_at}
-
-abbrev pub role_of : Kind → Role
-role_of k.LeftParen = role.Opens
-role_of k.LeftBracket = role.Opens
-role_of k.LeftBrace = role.Opens
-role_of k.LeftTuple = role.Opens
-role_of k.RightParen = role.Closes
-role_of k.RightBracket = role.Closes
-role_of k.RightBracketSubscript = role.Closes
-role_of k.RightBrace = role.Closes
-role_of k.RightTuple = role.Closes
-role_of k.RightTupleSubscript = role.Closes
-role_of k.ForAll = role.Binds
-role_of k.Exists = role.Binds
-role_of k.Choose = role.Binds
-role_of k.Colon = role.Colon
-role_of k.Comma = role.Separates
-role_of k.MapsTo = role.Separates
-role_of k.Except = role.Separates
-role_of _ = role.Plain
+use Rattle.tla_parse.specs.Kinds.{kind_at, role_of}
 
 -- Inside so many brackets, and behind so many quantifiers and CHOOSEs whose colons are still to come: the same behind a token in this role, but for one that ends a part of the open bracket.
 abbrev pub behind : ℕ → ℕ → Role → Option (ℕ × ℕ)

@@ -1,8 +1,10 @@
--- Whether a token is of a kind that a reading asks for.
+-- Whether a token is of a kind that a reading asks for, and what it does to the parts of a bracket.
 use Rattle.std.specs.Prelude.{Bool, true, false, Option, Some, None}
 use Rattle.tla_lex.specs.declared.token.Kind.{Kind}
 use Rattle.tla_lex.specs.declared.token.Kind.TheVariants as k
 use Rattle.tla_lex.specs.declared.token.Token.{Token}
+use Rattle.tla_parse.specs.declared.ahead.Role.{Role}
+use Rattle.tla_parse.specs.declared.ahead.Role.TheVariants as role
 use Rattle.tla_tree.specs.declared.tree.Brackets.{Brackets}
 use Rattle.tla_tree.specs.declared.tree.Brackets.TheVariants as b
 use Rattle.tla_tree.specs.declared.tree.Step.{Step}
@@ -72,3 +74,24 @@ opening b.Tuple = k.LeftTuple
 abbrev pub closing : Brackets → Kind
 closing b.Set = k.RightBrace
 closing b.Tuple = k.RightTuple
+
+-- what a token does to the parts of a bracket
+abbrev pub role_of : Kind → Role
+role_of k.LeftParen = role.Opens
+role_of k.LeftBracket = role.Opens
+role_of k.LeftBrace = role.Opens
+role_of k.LeftTuple = role.Opens
+role_of k.RightParen = role.Closes
+role_of k.RightBracket = role.Closes
+role_of k.RightBracketSubscript = role.Closes
+role_of k.RightBrace = role.Closes
+role_of k.RightTuple = role.Closes
+role_of k.RightTupleSubscript = role.Closes
+role_of k.ForAll = role.Binds
+role_of k.Exists = role.Binds
+role_of k.Choose = role.Binds
+role_of k.Colon = role.Colon
+role_of k.Comma = role.Separates
+role_of k.MapsTo = role.Separates
+role_of k.Except = role.Separates
+role_of _ = role.Plain

@@ -1,9 +1,12 @@
 -- The forms of the book's language that this one leaves out.
-use Rattle.std.specs.Prelude.{◌≡◌, ◌≤◌, ◌<◌, ◌⊎◌, ℕ, zero, suc, ◌+◌, Bool, true, false, not, IsTrue, IsSome, if◌then◌else◌, List, Option, None, Some, slice_get}
+use Rattle.std.specs.Prelude.{◌≡◌, ◌≤◌, ◌<◌, ◌⊎◌, ℕ, zero, suc, ◌+◌, Bool, true, false, not, IsTrue, IsSome, List, Option, None, Some, slice_get}
 use Rattle.tla_lex.specs.declared.token.Token.{Token}
 use Rattle.tla_lex.specs.declared.token.Kind.{Kind}
 use Rattle.tla_lex.specs.declared.token.Kind.TheVariants as k
+use Rattle.tla_parse.specs.declared.ahead.Role.{Role}
+use Rattle.tla_parse.specs.declared.ahead.Role.TheVariants as role
 use Rattle.tla_tree.specs.Words.{word_of}
+use Rattle.tla_parse.specs.Kinds.{role_of}
 use Rattle.tla_parse.specs.Modules.{is_module}
 use Rattle.tla_parse.specs.Operators.{infix_of, prefix_of}
 use Rattle.tla_parse.specs.Tokens.{KindAt, Commas}
@@ -31,29 +34,18 @@ is_left_out k.MinusMinus = true
 is_left_out k.Guarantees = true
 is_left_out _ = false
 
-abbrev pub opens : Kind → Bool
-opens k.LeftParen = true
-opens k.LeftBracket = true
-opens k.LeftBrace = true
-opens k.LeftTuple = true
-opens _ = false
-
-abbrev pub closes : Kind → Bool
-closes k.RightParen = true
-closes k.RightBracket = true
-closes k.RightBracketSubscript = true
-closes k.RightBrace = true
-closes k.RightTuple = true
-closes k.RightTupleSubscript = true
-closes _ = false
-
 abbrev pub one_less : ℕ → Option ℕ
 one_less zero = None
 one_less (suc n) = Some n
 
 -- how many brackets are open behind a token, of so many before it: None where it closes another one
+abbrev pub behind_role : Role → ℕ → Option ℕ
+behind_role role.Opens n = Some (suc n)
+behind_role role.Closes n = one_less n
+behind_role _ n = Some n
+
 abbrev pub open_behind : Kind → ℕ → Option ℕ
-open_behind kind n = if opens kind then Some (suc n) else if closes kind then one_less n else Some n
+open_behind kind n = behind_role (role_of kind) n
 
 module _ (ts : List Token) where
   -- a word or symbol that is left out

@@ -3,12 +3,13 @@
 ghost use Rattle.std.specs.Prelude.{◌≡◌, ◌≤◌, ◌<◌, ◌+◌, ◌^◌, drop, length, IfSome};
 ghost use Rattle.tla_parse.specs.ReadingBrackets as reading;
 ghost use Rattle.tla_parse.specs.Ahead as spec;
+ghost use Rattle.tla_parse.specs.Kinds as kinds;
 
 use crate::tokens::{is_kind, seen};
 use tla_lex::{Kind, Token};
 
 /// What a token does to the parts of a bracket.
-#[derive(Clone, Copy, Debug)]
+#[derive(Clone, Copy)]
 pub enum Role {
     Plain,
     /// Opens a bracket.
@@ -23,7 +24,7 @@ pub enum Role {
 }
 
 /// What a bracket opens, by the tokens behind it.
-#[derive(Clone, Copy, Debug)]
+#[derive(Clone, Copy)]
 pub enum Opened {
     /// `a |->`
     Record,
@@ -34,8 +35,9 @@ pub enum Opened {
     Expression,
 }
 
-fn role_of(kind: Kind) -> Role
-    ensures { result ≡ spec.role_of kind }
+/// What a token of this kind does to the parts of a bracket.
+pub fn role_of(kind: Kind) -> Role
+    ensures { result ≡ kinds.role_of kind }
 {
     match kind {
         Kind::LeftParen | Kind::LeftBracket | Kind::LeftBrace | Kind::LeftTuple => Role::Opens,

@@ -242,7 +242,9 @@ impl<F: Fn(Global, &[u8], &[Token], usize, Scope, u8, usize) -> Result<Parsed, R
     {
         if is_kind(Kind::Colon, seen(tokens, scope.column, first.end)) {
             if binds(tokens, scope.column, from + 1).is_some() {
-                return Err(refused(tokens, scope.column, first.end));
+                let end = first.end;
+                drop(first);
+                return Err(refused(tokens, scope.column, end));
             }
             return self.image(text, tokens, scope, at, first);
         }
@@ -410,7 +412,9 @@ impl<F: Fn(Global, &[u8], &[Token], usize, Scope, u8, usize) -> Result<Parsed, R
             Kind::RightBracketSubscript,
             seen(tokens, scope.column, first.end),
         ) {
-            return Err(refused(tokens, scope.column, first.end));
+            let end = first.end;
+            drop(first);
+            return Err(refused(tokens, scope.column, end));
         }
         self.action(text, tokens, scope, start, at, Step::Box, first)
     }

@@ -7,7 +7,7 @@ ghost use Rattle.tla_parse.specs.Nests.{Nests};
 
 use crate::grammar::Grammar;
 use crate::list::push;
-use crate::names::names;
+use crate::names::parameters;
 use crate::parts::{
     Parsed, ParsedArm, ParsedArms, ParsedDefinition, ParsedDefinitions, arm_of, case_of,
     case_with_other, function_of, let_of, quantified_of, set_of_binder,
@@ -124,11 +124,18 @@ impl<F: Fn(Global, &[u8], &[Token], usize, Scope, u8, usize) -> Result<Parsed, R
         ensures { GivesArm text.now tokens.now self.now.depth result (reading.arm_at text.now tokens.now (reading.expr text.now tokens.now self.now.depth) scope from) }
     {
         let guard = self.inner(text, tokens, scope, 0, from)?;
-        if !is_kind(Kind::Arrow, seen(tokens, scope.column, guard.end)) {
-            return Err(refused(tokens, scope.column, guard.end));
+        let end = guard.end;
+        if !is_kind(Kind::Arrow, seen(tokens, scope.column, end)) {
+            drop(guard);
+            return Err(refused(tokens, scope.column, end));
         }
-        let value = self.inner(text, tokens, scope, 0, guard.end + 1)?;
-        Ok(arm_of(guard, value))
+        match self.inner(text, tokens, scope, 0, end + 1) {
+            Ok(value) => Ok(arm_of(guard, value)),
+            Err(refusal) => {
+                drop(guard);
+                Err(refusal)
+            }
+        }
     }
 
     /// The arms of CASE, but for OTHER.
@@ -213,7 +220,7 @@ impl<F: Fn(Global, &[u8], &[Token], usize, Scope, u8, usize) -> Result<Parsed, R
         requires within { from ≤ length tokens.now }
         ensures { GivesDefinition text.now tokens.now self.now.depth result (reading.operator text.now tokens.now (reading.expr text.now tokens.now self.now.depth) scope t from) }
     {
-        let found = names(self.alloc, text, tokens, scope.column, from)?;
+        let found = parameters(self.alloc, text, tokens, scope.column, form, from)?;
         let end = found.end;
         if !is_kind(Kind::RightParen, seen(tokens, scope.column, end)) {
             return Err(refused_parameter(tokens, scope.column, form, end));

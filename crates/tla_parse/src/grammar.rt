@@ -170,7 +170,10 @@ impl<F: Fn(Global, &[u8], &[Token], usize, Scope, u8, usize) -> Result<Parsed, R
         }
         match postfix_at(seen(tokens, scope.column, left.end)) {
             None => Ok(left),
-            Some(_) => Err(Refusal::Nesting(start)),
+            Some(_) => {
+                drop(left);
+                Err(Refusal::Nesting(start))
+            }
         }
     }
 
@@ -267,7 +270,10 @@ impl<F: Fn(Global, &[u8], &[Token], usize, Scope, u8, usize) -> Result<Parsed, R
         }
         match operator_at(seen(tokens, scope.column, left.end), floor) {
             None => Ok(left),
-            Some(_) => Err(Refusal::Nesting(start)),
+            Some(_) => {
+                drop(left);
+                Err(Refusal::Nesting(start))
+            }
         }
     }
 

@@ -6,7 +6,7 @@ ghost use Rattle.tla_parse.specs.Gives.{GivesNames, GivesPattern};
 
 use crate::list::push;
 use crate::refusal::Refusal;
-use crate::tokens::{is_kind, name_at, refused, seen, written};
+use crate::tokens::{is_kind, name_at, refused, refused_parameter, seen, written};
 use std::alloc::Global;
 use tla_lex::{Kind, Token};
 use tla_tree::{Pattern, Written};
@@ -44,6 +44,24 @@ pub fn names(
         at += 2;
     }
     Err(refused(tokens, column, at))
+}
+
+/// Names with commas between them, as the parameters of the definition at `form`, which may be left out for them.
+pub fn parameters(
+    alloc: Global,
+    text: &[u8],
+    tokens: &[Token],
+    column: u128,
+    form: usize,
+    from: usize,
+) -> Result<ParsedNames, Refusal>
+    requires { from ≤ length tokens.now }
+    ensures { GivesNames text.now tokens.now result (lists.names text.now tokens.now (length tokens.now) [] column from) }
+{
+    match names(alloc, text, tokens, column, from) {
+        Err(Refusal::Unexpected(at)) => Err(refused_parameter(tokens, column, form, at)),
+        answer => answer,
+    }
 }
 
 /// What an entry of a binder has before `\in`, and the number of the token after it.

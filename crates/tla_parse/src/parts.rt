@@ -11,6 +11,8 @@ use tla_lex::Place;
 use tla_tree::{Arm, Binder, Brackets, Bullet, Definition, Expr, Pattern, Quantifier, Written};
 
 /// A tree, the number of the token after it, and its depth.
+///
+/// Where one is given up, `drop` is called: it is proved once, while the tree's parts, dropped in place, are gone through by each proof.
 #[derive(Drop)]
 pub struct Parsed {
     pub tree: Expr,
@@ -55,10 +57,7 @@ pub fn boxed(alloc: Global, tree: Expr) -> Result<Box<Expr>, Refusal>
     ensures ok { IfOk result (λ b. b.value ≡ tree) }
     ensures err { IfErr result (λ e. e ≡ Refusal.NoMemory) }
 {
-    match Box::new(alloc, tree) {
-        Ok(b) => Ok(b),
-        Err(_) => Err(Refusal::NoMemory),
-    }
+    Box::new(alloc, tree).ok().ok_or(Refusal::NoMemory)
 }
 
 /// An entry of a binder, with its set in a box. The only error is want of memory.

@@ -37,7 +37,9 @@ impl<F: Fn(Global, &[u8], &[Token], usize, Scope, u8, usize) -> Result<Parsed, R
         if is_kind(Kind::Product, seen(tokens, scope.column, e.end))
             && !edge_allows(&e.tree, Infix::Product)
         {
-            return Err(Refusal::Precedence(e.end));
+            let end = e.end;
+            drop(e);
+            return Err(Refusal::Precedence(end));
         }
         Ok(e)
     }

@@ -1,7 +1,7 @@
 //! Why a reading stops.
 
 /// Why there is no tree, and at which token by its number.
-#[derive(Clone, Copy, Debug)]
+#[derive(Clone, Copy)]
 pub enum Refusal {
     /// The token has no place here.
     Unexpected(usize),

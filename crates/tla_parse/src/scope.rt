@@ -1,7 +1,7 @@
 //! Where an expression stands.
 
 /// What an expression learns from the forms round it.
-#[derive(Clone, Copy, Debug)]
+#[derive(Clone, Copy)]
 pub struct Scope {
     /// The column of the innermost junction list, 0 outside all lists: each token stands right of it.
     pub column: u128,

@@ -11,6 +11,7 @@ ghost use Rattle.tla_parse.specs.Reading as reading;
 ghost use Rattle.tla_parse.specs.ReadingLists as lists;
 ghost use Rattle.tla_parse.specs.Gives.{Refuses};
 
+use crate::ahead::{Role, role_of};
 use crate::operators::{bullet_of, infix_of, low, prefix_of};
 use crate::refusal::Refusal;
 use std::alloc::Global;
@@ -18,7 +19,7 @@ use tla_lex::{Kind, Token, string_text};
 use tla_tree::{Brackets, Bullet, Infix, Word, Written};
 
 /// What stands between the items of a list.
-#[derive(Clone, Copy, Debug)]
+#[derive(Clone, Copy)]
 pub enum Between {
     Comma,
     /// This bullet, in the list's column.
@@ -34,7 +35,7 @@ pub enum Between {
 }
 
 /// A postfix form, by what begins it.
-#[derive(Clone, Copy, Debug)]
+#[derive(Clone, Copy)]
 pub enum Postfix {
     /// `'`
     Prime,
@@ -312,31 +313,6 @@ fn is_left_out(kind: Kind) -> bool
     }
 }
 
-/// Whether a token of this kind opens a bracket.
-fn opens(kind: Kind) -> bool
-    ensures { result ≡ left_out.opens kind }
-{
-    match kind {
-        Kind::LeftParen | Kind::LeftBracket | Kind::LeftBrace | Kind::LeftTuple => true,
-        _ => false,
-    }
-}
-
-/// Whether a token of this kind closes a bracket.
-fn closes(kind: Kind) -> bool
-    ensures { result ≡ left_out.closes kind }
-{
-    match kind {
-        Kind::RightParen
-        | Kind::RightBracket
-        | Kind::RightBracketSubscript
-        | Kind::RightBrace
-        | Kind::RightTuple
-        | Kind::RightTupleSubscript => true,
-        _ => false,
-    }
-}
-
 /// How many brackets are open before a token of this kind, where so many are behind it. None where there is no such number.
 fn open_before(kind: Kind, count: usize) -> Option<usize>
     requires { count < 2 ^ 63 }
@@ -344,12 +320,10 @@ fn open_before(kind: Kind, count: usize) -> Option<usize>
     ensures none { result ≡ None → (m : ℕ) → left_out.open_behind kind m ≡ Some count → ⊥ }
     ensures few { IfSome result (λ n. n ≤ count + 1) }
 {
-    if opens(kind) {
-        count.checked_sub(1)
-    } else if closes(kind) {
-        Some(count + 1)
-    } else {
-        Some(count)
+    match role_of(kind) {
+        Role::Opens => count.checked_sub(1),
+        Role::Closes => Some(count + 1),
+        _ => Some(count),
     }
 }
 

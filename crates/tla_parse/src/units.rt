@@ -223,8 +223,8 @@ fn claim(alloc: Global, text: &[u8], tokens: &[Token], from: usize) -> Result<Pa
             })
         }
         Some(t) => {
-            let e = expr(alloc, text, tokens, MAX_DEPTH, OUTERMOST, 0, from + 2)?;
             let name = written(alloc, text, t)?;
+            let e = expr(alloc, text, tokens, MAX_DEPTH, OUTERMOST, 0, from + 2)?;
             Ok(ParsedClaim {
                 name: Some(name),
                 body: e.tree,

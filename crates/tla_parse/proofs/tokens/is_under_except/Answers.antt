@@ -1,4 +1,4 @@
-use Rattle.std.proofs.Common.{◌≡◌, ◌-◌, ◌↔◌, ◌∙◌, Some, None, suc, subst, sym, ap, arith, rules}
+use Rattle.std.proofs.Common.{◌≡◌, ◌-◌, ◌↔◌, ◌∙◌, Some, suc, subst, sym, ap, arith, rules}
 use Rattle.std.specs.List.{slice_get}
 use Rattle.std.proofs.lemmas.Option.{slice_get-get_or}
 use Rattle.tla_parse.specs.LeftOut.{IsUnderExcept}
