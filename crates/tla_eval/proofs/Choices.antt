@@ -208,9 +208,9 @@ module _ (p : Place) (e : Meaning) (b : Bound) (s : Present) (t : Next) (vs : Li
       go (Err g) = refl
 
   pub function_passed : (u : Unit {0}) (f : Fault) → nothing_of (values_for e b s t lists) ≡ Ok u → IsDomain p vs (Refused f) → (f ≡ out_of_memory) ⊎ (function_for_rule p e b s t vs ≡ Err f)
-  function_passed u f h no =
+  function_passed u f h refuses =
       let r = bind-ok (values_for e b s t lists) (λ (ys : List Tree). Ok tt) u h in
-      ⊎_elim (λ m. inl m) (λ k. inr (function_of_values r.0 r.1 ∙ k)) (no r.0 (for_choices r.0 r.1))
+      ⊎_elim (λ m. inl m) (λ k. inr (function_of_values r.0 r.1 ∙ k)) (refuses r.0 (for_choices r.0 r.1))
 
 -- ---- filters
 module _ (test : Tree → Outcome Bool) (items : List Value) (i : ℕ) (x : Value) (old : List Value) where

@@ -15,8 +15,8 @@ returns-in-Ok c = λ ys long.
     let several : length ts ≡ 1 → ⊥ = λ e. c.requires (sym (length-map c.args.sets.now tree_of_evaluated) ∙ e) in
     tuples_made c.args.place ts ys lists c.in_ok-sets.ensures several rise (long lists c.in_ok-sets.ensures) c.in-Ok.tuples _ made.0 made.1 refl
 
-pub returns-in-Err : goal.returns-in-Err
-returns-in-Err c = λ ys long.
+pub returns : goal.returns
+returns c = λ ys long.
     let lists = c.in_ok-sets.sets.items in
     let ts = map tree_of_evaluated c.args.sets.now in
     let rise = subst AllRise c.as_slice.ensures.value c.each_rises.ensures in

@@ -203,8 +203,8 @@ choices::image-returns-in_err-into_set t c =
     let g = c.in_err-into_set.ensures (values_for m (bound_in c.args.env) (present_in c.args.env) (next_in c.args.env) lists) c.in_ok-values.ensures in
     subst (λ (o : Outcome Tree). Evaluates c.from_residual-in_err-into_set.result o) (sym e) (search (rules, g))
 
-pub choices::function_on_tuples-returns-in_ok-values-in-Tuples : goal.choices::function_on_tuples-returns-in_ok-values-in-Tuples
-choices::function_on_tuples-returns-in_ok-values-in-Tuples t c =
+pub choices::function_on_tuples-returns-in-Tuples : goal.choices::function_on_tuples-returns-in-Tuples
+choices::function_on_tuples-returns-in-Tuples t c =
     let p = c.args.place in
     let m = means (expr_of c.args.body.now) in
     let vs = map tree_of_evaluated c.args.sets.now in
@@ -227,8 +227,8 @@ choices::function_on_tuples-returns-in_err-pass_over-in-Refused t c =
     let e = function_first p m (bound_in c.args.env) (present_in c.args.env) (next_in c.args.env) vs lists are in
     subst (λ (o : Outcome Tree). Gives c.from_residual-in_err-pass_over-in-Refused.result o) (sym e) (search rules)
 
-pub choices::function_on_tuples-returns-in_ok-pass_over-in-Refused : goal.choices::function_on_tuples-returns-in_ok-pass_over-in-Refused
-choices::function_on_tuples-returns-in_ok-pass_over-in-Refused t c =
+pub choices::function_on_tuples-returns : goal.choices::function_on_tuples-returns
+choices::function_on_tuples-returns t c =
     let p = c.args.place in
     let m = means (expr_of c.args.body.now) in
     let vs = map tree_of_evaluated c.args.sets.now in
