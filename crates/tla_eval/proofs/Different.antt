@@ -1,5 +1,5 @@
 -- How many different members there are, and what is gathered of them.
-use Rattle.std.proofs.Common.{◌≡◌, ◌⊎◌, ℕ, suc, ◌*◌, ◌^◌, ◌-◌, ◌<◌, ◌≤◌, ◌||◌, nat_lt, min, max, Bool, true, false, List, [], ◌∷◌, ◌++◌, append_assoc, append-nil, length, map, take, drop, get_or, drop-cons, add-one, ◌+◌, refl, sym, ap, subst, ◌∙◌, inl, inr, arith, Less, Equal, Greater, Result, Ok, Err}
+use Rattle.std.proofs.Common.{◌≡◌, ℕ, suc, ◌*◌, ◌^◌, ◌-◌, ◌<◌, ◌≤◌, ◌||◌, nat_lt, min, max, Bool, true, false, List, [], ◌∷◌, ◌++◌, append_assoc, append-nil, length, map, take, drop, get_or, drop-cons, add-one, ◌+◌, refl, sym, ap, subst, ◌∙◌, inl, inr, arith, Less, Equal, Greater, Ok, Err}
 use Rattle.std.proofs.lemmas.List.{length-map, length-append, map-append, take_more, drop_all}
 use Rattle.std.proofs.lemmas.Bool.Decides.{nat_tests}
 use Rattle.std.specs.Ordering.{match_ordering}

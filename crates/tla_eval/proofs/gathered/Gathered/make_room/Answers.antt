@@ -1,6 +1,6 @@
-use Rattle.std.proofs.Common.{map, max, nat_lt, ap, refl, ◌∙◌}
+use Rattle.std.proofs.Common.{map, max, ap, refl, ◌∙◌}
 use Rattle.tla_value.specs.TreeOf.{tree_of}
-use Rattle.tla_eval.proofs.Different.{gathered_so, gathered_once}
+use Rattle.tla_eval.proofs.Different.{gathered_once}
 use Rattle.tla_eval.proofs.gathered.Gathered.make_room.Goals as goal
 
 pub returns : goal.returns
