@@ -1,5 +1,5 @@
 -- The values of a body for all choices from some lists, and what is kept of a list.
-use Rattle.std.proofs.Common.{◌≡◌, ℕ, zero, suc, ◌+◌, ◌<◌, Bool, true, false, cond, List, [], ◌∷◌, ◌++◌, map, length, drop, get_or, Option, Some, None, Ok, Err, refl, sym, ap, ◌∙◌, add-one, drop-cons}
+use Rattle.std.proofs.Common.{◌≡◌, ℕ, zero, suc, ◌+◌, ◌<◌, Bool, true, false, cond, List, [], ◌∷◌, ◌++◌, map, length, drop, get_or, Option, Some, None, option_map, Ok, Err, ◌⊎◌, inl, inr, ⊎_elim, refl, sym, ap, ◌∙◌, add-one, drop-cons}
 use Rattle.std.specs.Prelude.{slice_get}
 use Rattle.std.proofs.lemmas.List.{map-append}
 use Rattle.tla_value.specs.Tree.{Tree}
@@ -7,12 +7,16 @@ use Rattle.tla_value.specs.TreeOf.{tree_of}
 use Rattle.tla_value.specs.declared.value.Value.{Value}
 use Rattle.tla_value.specs.Choices.{choices}
 use Rattle.tla_core.specs.declared.fault.Place.{Place}
-use Rattle.tla_core.specs.Fault.{Outcome, ◌>>=◌}
+use Rattle.tla_core.specs.declared.fault.Fault.{Fault}
+use Rattle.tla_core.specs.Fault.{Outcome, ◌>>=◌, out_of_memory}
 use Rattle.tla_core.specs.Kinds.{as_set, make_set}
 use Rattle.tla_core.specs.Lists.{each, passing}
 use Rattle.tla_core.specs.Meaning.{Meaning, Bound, Present, Next}
 use Rattle.tla_core.specs.Functions.{function_on, means-image, means-function}
-use Rattle.tla_eval.specs.Gives.{values_for, then_more, chosen_rule, image_rule, chosen_function_rule}
+use Rattle.tla_eval.specs.Gives.{nothing_of, values_for, then_more, chosen_rule, image_rule, function_rule, chosen_function_rule}
+use Rattle.tla_eval.specs.declared.domain.Domain.TheVariants.{Refused}
+use Rattle.tla_eval.specs.Private.Chosen.{value_at, function_for_rule}
+use Rattle.tla_eval.specs.Private.Domain.{AreForChoices, IsDomain}
 use Rattle.tla_eval.proofs.Members.{bind-ok}
 use Rattle.tla_eval.proofs.Collected.{each_more, each_stop, passing_more}
 
@@ -57,6 +61,89 @@ module _ {A : Type 0} (f : A → Outcome Tree) (kept : List Tree) (all : List A)
 pub chosen_end : {A : Type 0} (f : A → Outcome Tree) (kept : List Tree) (all : List A) (i : ℕ) → slice_get all i ≡ None → then_more kept (each f (drop i all)) ≡ Ok kept
 chosen_end f kept all i h = ap (λ us. then_more kept (each f us)) (drop_past all i h) ∙ ap (λ us. Ok us) (none_more kept)
 
+-- ---- the value for the choice with a number
+pub one_choice : (xs : List Tree) (n : ℕ) → slice_get (choices (xs ∷ [])) n ≡ option_map (λ x. x ∷ []) (slice_get xs n)
+one_choice [] n = refl
+one_choice (x ∷ xs) zero = refl
+one_choice (x ∷ xs) (suc n) = one_choice xs n
+
+nothing_more : (kept : List Tree) (o : Outcome (List Tree)) → nothing_of (then_more kept o) ≡ nothing_of o
+nothing_more kept (Ok ys) = refl
+nothing_more kept (Err g) = refl
+
+module _ (e : Meaning) (b : Bound) (s : Present) (t : Next) where
+  there : (o : Option (List Tree)) (v : Tree) → value_at e b s t o ≡ Ok (Some v) → (c : List Tree) × (o ≡ Some c) × (e.value (b ++ c) s t ≡ Ok v)
+  there None v h = absurd (none_some h)
+    where
+      none_some : (let r : Outcome (Option Tree) = Ok None in r ≡ Ok (Some v)) → ⊥
+      none_some k = cc
+  there (Some c) v h =
+      let r = bind-ok (e.value (b ++ c) s t) (λ x. Ok (Some x)) (Some v) h in
+      (c, refl, r.1 ∙ ap (λ x. Ok x) (same r.0 r.2))
+    where
+      same : (x : Tree) → (let r : Outcome (Option Tree) = Ok (Some x) in r ≡ Ok (Some v)) → x ≡ v
+      same x k = cc
+
+  gone : (o : Option (List Tree)) → value_at e b s t o ≡ Ok None → o ≡ None
+  gone None h = refl
+  gone (Some c) h = let r = bind-ok (e.value (b ++ c) s t) (λ x. Ok (Some x)) None h in absurd (some_none r.0 r.2)
+    where
+      some_none : (x : Tree) → (let r : Outcome (Option Tree) = Ok (Some x) in r ≡ Ok None) → ⊥
+      some_none x k = cc
+
+  faults : (o : Option (List Tree)) (g : Fault) → value_at e b s t o ≡ Err g → (c : List Tree) × (o ≡ Some c) × (e.value (b ++ c) s t ≡ Err g)
+  faults None g h = absurd (ok_err h)
+    where
+      ok_err : (let r : Outcome (Option Tree) = Ok None in r ≡ Err g) → ⊥
+      ok_err k = cc
+  faults (Some c) g h = (c, refl, go (e.value (b ++ c) s t) h)
+    where
+      go : (r : Outcome Tree) → (r >>= λ x. Ok (Some x)) ≡ Err g → r ≡ Err g
+      go (Ok x) k = cc
+      go (Err f) k = cc
+
+  pub value_here : (o : Option (List Tree)) (c : List Tree) (v : Tree) → o ≡ Some c → e.value (b ++ c) s t ≡ Ok v → value_at e b s t o ≡ Ok (Some v)
+  value_here o c v h k = ap (λ (u : Option (List Tree)). value_at e b s t u) h ∙ ap (λ (r : Outcome Tree). r >>= λ x. Ok (Some x)) k
+
+  module _ (all : List (List Tree)) (i : ℕ) where
+    pub value_more : (kept : List Tree) (v : Tree) (new : List Tree) → value_at e b s t (slice_get all i) ≡ Ok (Some v) → new ≡ kept ++ v ∷ []
+        → then_more kept (each (λ c. e.value (b ++ c) s t) (drop i all)) ≡ then_more new (each (λ c. e.value (b ++ c) s t) (drop (i + 1) all))
+    value_more kept v new h k = let r = there (slice_get all i) v h in chosen_step (λ c. e.value (b ++ c) s t) kept all i r.0 r.1 v new r.2 k
+
+    pub value_stop : (kept : List Tree) (g : Fault) → value_at e b s t (slice_get all i) ≡ Err g → then_more kept (each (λ c. e.value (b ++ c) s t) (drop i all)) ≡ Err g
+    value_stop kept g h =
+        let r = faults (slice_get all i) g h in
+        chosen_from (λ c. e.value (b ++ c) s t) kept all i r.0 r.1 ∙ ap (λ (o : Outcome Tree). o >>= λ y. then_more (kept ++ y ∷ []) (each (λ c. e.value (b ++ c) s t) (drop (suc i) all))) r.2
+
+    pub value_first : (kept : List Tree) → then_more kept (each (λ c. e.value (b ++ c) s t) (drop i all)) ≡ (value_at e b s t (slice_get all i) >>= λ o. then_more kept (each (λ c. e.value (b ++ c) s t) (drop i all)))
+    value_first kept = go (value_at e b s t (slice_get all i)) refl
+      where
+        go : (r : Outcome (Option Tree)) → value_at e b s t (slice_get all i) ≡ r → then_more kept (each (λ c. e.value (b ++ c) s t) (drop i all)) ≡ (r >>= λ o. then_more kept (each (λ c. e.value (b ++ c) s t) (drop i all)))
+        go (Ok o) h = refl
+        go (Err g) h = value_stop kept g h
+
+    pub value_end : (kept : List Tree) → value_at e b s t (slice_get all i) ≡ Ok None → then_more kept (each (λ c. e.value (b ++ c) s t) (drop i all)) ≡ Ok kept
+    value_end kept h = chosen_end (λ c. e.value (b ++ c) s t) kept all i (gone (slice_get all i) h)
+
+    pub pass_more : (v : Tree) → value_at e b s t (slice_get all i) ≡ Ok (Some v) → nothing_of (each (λ c. e.value (b ++ c) s t) (drop i all)) ≡ nothing_of (each (λ c. e.value (b ++ c) s t) (drop (i + 1) all))
+    pass_more v h =
+        sym (nothing_more [] (each (λ c. e.value (b ++ c) s t) (drop i all)))
+        ∙ ap (λ (o : Outcome (List Tree)). nothing_of o) (value_more [] v (v ∷ []) h refl)
+        ∙ nothing_more (v ∷ []) (each (λ c. e.value (b ++ c) s t) (drop (i + 1) all))
+
+    pub pass_stop : (g : Fault) → value_at e b s t (slice_get all i) ≡ Err g → nothing_of (each (λ c. e.value (b ++ c) s t) (drop i all)) ≡ Err g
+    pass_stop g h = sym (nothing_more [] (each (λ c. e.value (b ++ c) s t) (drop i all))) ∙ ap (λ (o : Outcome (List Tree)). nothing_of o) (value_stop [] g h)
+
+    pub pass_first : nothing_of (each (λ c. e.value (b ++ c) s t) (drop i all)) ≡ (value_at e b s t (slice_get all i) >>= λ o. nothing_of (each (λ c. e.value (b ++ c) s t) (drop i all)))
+    pass_first = go (value_at e b s t (slice_get all i)) refl
+      where
+        go : (r : Outcome (Option Tree)) → value_at e b s t (slice_get all i) ≡ r → nothing_of (each (λ c. e.value (b ++ c) s t) (drop i all)) ≡ (r >>= λ o. nothing_of (each (λ c. e.value (b ++ c) s t) (drop i all)))
+        go (Ok o) h = refl
+        go (Err g) h = pass_stop g h
+
+    pub pass_end : value_at e b s t (slice_get all i) ≡ Ok None → nothing_of (each (λ c. e.value (b ++ c) s t) (drop i all)) ≡ Ok tt
+    pass_end h = sym (nothing_more [] (each (λ c. e.value (b ++ c) s t) (drop i all))) ∙ ap (λ (o : Outcome (List Tree)). nothing_of o) (value_end [] h)
+
 pub bind_assoc : {A B C : Type 0} (o : Outcome A) (k : A → Outcome B) (l : B → Outcome C) → ((o >>= k) >>= l) ≡ (o >>= λ x. k x >>= l)
 bind_assoc (Ok x) k l = refl
 bind_assoc (Err e) k l = refl
@@ -67,6 +154,12 @@ image_is p ms e b s t = go (each (λ (m : Meaning). m.value b s t) ms)
     go : (o : Outcome (List Tree)) → ((o >>= each (as_set p)) >>= λ sets. values_for e b s t sets >>= make_set p) ≡ (o >>= λ vs. chosen_rule p e b s t vs >>= make_set p)
     go (Err x) = refl
     go (Ok vs) = sym (bind_assoc (each (as_set p) vs) (values_for e b s t) (make_set p))
+
+pub image_step : (p : Place) (ms : List Meaning) (e : Meaning) (b : Bound) (s : Present) (t : Next) (vs : List Tree) (lists : List (List Tree)) → each (λ (m : Meaning). m.value b s t) ms ≡ Ok vs → each (as_set p) vs ≡ Ok lists
+    → image_rule p ms e b s t ≡ (values_for e b s t lists >>= make_set p)
+image_step p ms e b s t vs lists h j =
+    ap (λ (o : Outcome (List Tree)). o >>= λ us. chosen_rule p e b s t us >>= make_set p) h
+    ∙ ap (λ (o : Outcome (List (List Tree))). (o >>= values_for e b s t) >>= make_set p) j
 
 pub function_is : (p : Place) (ms : List Meaning) (e : Meaning) (b : Bound) (s : Present) (t : Next) → (means-function p ms e).value b s t ≡ chosen_function_rule p ms e b s t
 function_is p ms e b s t = go (each (λ (m : Meaning). m.value b s t) ms)
@@ -94,6 +187,30 @@ pub chosen_long : (p : Place) (e : Meaning) (b : Bound) (s : Present) (t : Next)
 chosen_long p e b s t vs ys h lists j =
     let r = bind-ok (each (as_set p) vs) (values_for e b s t) ys h in
     each_long (λ c. e.value (b ++ c) s t) (choices r.0) ys r.2 ∙ ap (λ ls. length (choices ls)) (same_list r.0 lists (sym r.1 ∙ j))
+
+-- the function of several names, where what it is defined on is known
+module _ (p : Place) (e : Meaning) (b : Bound) (s : Present) (t : Next) (vs : List Tree) (lists : List (List Tree)) (are : each (as_set p) vs ≡ Ok lists) where
+  pub rule_of_lists : chosen_rule p e b s t vs ≡ values_for e b s t lists
+  rule_of_lists = ap (λ (o : Outcome (List (List Tree))). o >>= values_for e b s t) are
+
+  pub for_choices : (ys : List Tree) → values_for e b s t lists ≡ Ok ys → AreForChoices p vs ys
+  for_choices ys h = chosen_long p e b s t vs ys (rule_of_lists ∙ h)
+
+  pub function_of_values : (ys : List Tree) → values_for e b s t lists ≡ Ok ys → function_for_rule p e b s t vs ≡ function_rule p vs ys
+  function_of_values ys h = ap (λ (o : Outcome (List Tree)). o >>= function_rule p vs) (rule_of_lists ∙ h)
+
+  -- where the values are evaluated and not kept
+  pub function_first : function_for_rule p e b s t vs ≡ (nothing_of (values_for e b s t lists) >>= λ u. values_for e b s t lists >>= function_rule p vs)
+  function_first = ap (λ (o : Outcome (List Tree)). o >>= function_rule p vs) rule_of_lists ∙ go (values_for e b s t lists)
+    where
+      go : (o : Outcome (List Tree)) → (o >>= function_rule p vs) ≡ (nothing_of o >>= λ u. o >>= function_rule p vs)
+      go (Ok ys) = refl
+      go (Err g) = refl
+
+  pub function_passed : (u : Unit {0}) (f : Fault) → nothing_of (values_for e b s t lists) ≡ Ok u → IsDomain p vs (Refused f) → (f ≡ out_of_memory) ⊎ (function_for_rule p e b s t vs ≡ Err f)
+  function_passed u f h refuses =
+      let r = bind-ok (values_for e b s t lists) (λ (ys : List Tree). Ok tt) u h in
+      ⊎_elim (λ m. inl m) (λ k. inr (function_of_values r.0 r.1 ∙ k)) (refuses r.0 (for_choices r.0 r.1))
 
 -- ---- filters
 module _ (test : Tree → Outcome Bool) (items : List Value) (i : ℕ) (x : Value) (old : List Value) where

@@ -1,5 +1,5 @@
 -- Elements that fit a pattern: the items of one, those of several one after the other, and a set of which each fits.
-use Rattle.std.proofs.Common.{◌≡◌, ◌<◌, ℕ, suc, ◌+◌, Bool, false, List, [], ◌∷◌, ◌++◌, map, length, drop, get_or, Option, Some, None, Ok, Err, inl, inr, refl, ap, sym, subst, ◌∙◌, ◌⊎◌, ⊎_elim, add-one, drop-cons, append_assoc}
+use Rattle.std.proofs.Common.{◌≡◌, ◌<◌, ℕ, suc, ◌+◌, Bool, false, List, ◌∷◌, ◌++◌, map, length, drop, get_or, Some, None, Ok, Err, inl, inr, refl, ap, sym, subst, ◌∙◌, ⊎_elim, add-one, drop-cons, append_assoc}
 use Rattle.std.specs.Prelude.{if◌then◌else◌}
 use Rattle.std.proofs.lemmas.Bool.{eq-eqb}
 use Rattle.std.proofs.lemmas.Bool.Decides.{eqb_tells}
@@ -9,7 +9,6 @@ use Rattle.tla_value.specs.TreeOf.{tree_of, pair_of}
 use Rattle.tla_value.specs.declared.value.Value.{Value}
 use Rattle.tla_value.specs.declared.value.Value.TheVariants.{Set}
 use Rattle.tla_core.specs.declared.fault.Place.{Place}
-use Rattle.tla_core.specs.declared.fault.Fault.{Fault}
 use Rattle.tla_core.specs.declared.fault.FaultCode.TheVariants.{WrongKind}
 use Rattle.tla_core.specs.declared.expression.Opening.{Opening}
 use Rattle.tla_core.specs.Fault.{Outcome, ◌>>=◌, fault}

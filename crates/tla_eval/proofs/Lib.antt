@@ -15,5 +15,6 @@ pub mod Arguments
 pub mod Choices
 pub mod Chosen
 pub mod Domains
+pub mod Different
 pub mod Rows
 pub mod Fitting

@@ -1,2 +1,5 @@
 -- What serves the code: no public contract cites these.
+pub mod Chosen
+pub mod Domain
 pub mod Environment
+pub mod Gathered

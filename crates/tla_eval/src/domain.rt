@@ -1,15 +1,15 @@
 //! The function on all choices from some sets.
-ghost use Rattle.std.specs.Prelude.{◌≡◌, ◌<◌, ◌%◌, List, Ok, length, map, option_map, slice_get, slice_index_or, zip, IfOk, IfErr};
+ghost use Rattle.std.specs.Prelude.{◌≡◌, ◌<◌, ◌%◌, length, map, option_map, slice_get, slice_index_or, zip, IfOk, IfErr};
 ghost use Rattle.std.specs.List.{AllByRecursion};
 ghost use Rattle.std.specs.List.Sorted.{IsStrictlySortedBy};
 ghost use Rattle.tla_value.specs.Order.{tree_cmp};
-ghost use Rattle.tla_value.specs.Tree.{Tree};
 ghost use Rattle.tla_value.specs.TreeOf.{tree_of, pair_of};
 ghost use Rattle.tla_value.specs.Choices.{choices};
 ghost use Rattle.tla_core.specs.Fault.{out_of_memory};
-ghost use Rattle.tla_core.specs.Kinds.{as_set};
+ghost use Rattle.tla_core.specs.Kinds.{as_set, make_fun};
 ghost use Rattle.tla_core.specs.Lists.{each};
 ghost use Rattle.tla_eval.specs.Private.Environment.{tree_of_evaluated};
+ghost use Rattle.tla_eval.specs.Private.Domain.{FindsDomain};
 ghost use Rattle.tla_eval.specs.Gives.{Gives, GivesBy, function_rule};
 
 use crate::environment::Evaluated;
@@ -19,6 +19,13 @@ use crate::sets::{as_sets, members, refused};
 use std::alloc::Global;
 use tla_core::{Fault, Place};
 use tla_value::{FunValue, SetValue, Value};
+
+/// The tuples that a function is defined on, or the fault of each function on them.
+#[derive(Drop)]
+pub(crate) enum Domain {
+    Tuples(SetValue),
+    Refused(Fault),
+}
 
 /// The members of some values that are sets.
 pub(crate) fn lists_of<'a>(
@@ -33,6 +40,13 @@ pub(crate) fn lists_of<'a>(
         lists.push(members(place, set.value())?)?;
     }
     Ok(lists)
+}
+
+/// The member of a list at a place, where there is one.
+pub(crate) fn member_of<'a>(list: &'a [Value], number: usize) -> Option<&'a Value>
+    ensures { option_map (λ v. tree_of v.now) result ≡ slice_get (map tree_of list.now) number }
+{
+    list.get(number)
 }
 
 /// The member of a list at a number, counted round and round.
@@ -97,43 +111,46 @@ fn paired(
     Ok(pairs)
 }
 
-/// The function on all choices from some sets, with these values.
+/// The function on these arguments with these values.
+pub(crate) fn function_with(
+    alloc: Global,
+    place: Place,
+    arguments: &[Value],
+    values: Vec<Value>,
+) -> Result<Value, Fault>
+    ensures { Gives result (make_fun place (zip (map tree_of arguments.now) (map tree_of values.items))) }
+{
+    let pairs = paired(alloc, arguments, values)?;
+    made_fun(place, FunValue::from_pairs(pairs))
+}
+
+/// The function on the members of one set, with these values.
 pub(crate) fn function_on(
     alloc: Global,
     place: Place,
     sets: &[Evaluated<'_>],
     values: Vec<Value>,
 ) -> Result<Value, Fault>
-    requires { (lists : List (List Tree)) → each (as_set place) (map tree_of_evaluated sets.now) ≡ Ok lists → length (map tree_of values.items) ≡ length (choices lists) }
+    requires { length sets.now ≡ 1 }
     ensures { Gives result (function_rule place (map tree_of_evaluated sets.now) (map tree_of values.items)) }
 {
-    if sets.len() == 1 {
-        let arguments = members(place, sets[0].value())?;
-        let pairs = paired(alloc, arguments, values)?;
-        made_fun(place, FunValue::from_pairs(pairs))
-    } else {
-        function_on_tuples(alloc, place, sets, values)
-    }
+    let arguments = members(place, sets[0].value())?;
+    function_with(alloc, place, arguments, values)
 }
 
-/// The function on the tuples of all choices from some sets, with these values.
-fn function_on_tuples(
+/// What a function on all choices from some sets is defined on, or the fault of every such function.
+pub(crate) fn domain_of(
     alloc: Global,
     place: Place,
     sets: &[Evaluated<'_>],
-    values: Vec<Value>,
-) -> Result<Value, Fault>
-    requires several { length sets.now ≡ 1 → ⊥ }
-    requires long { (lists : List (List Tree)) → each (as_set place) (map tree_of_evaluated sets.now) ≡ Ok lists → length (map tree_of values.items) ≡ length (choices lists) }
-    ensures { Gives result (function_rule place (map tree_of_evaluated sets.now) (map tree_of values.items)) }
+) -> Result<Domain, Fault>
+    requires { length sets.now ≡ 1 → ⊥ }
+    ensures { FindsDomain place (map tree_of_evaluated sets.now) result }
 {
     let sets = as_sets(alloc, place, sets)?;
     each_rises(sets.as_slice());
     match SetValue::product(alloc, sets.as_slice()) {
-        Ok(domain) => {
-            let pairs = paired(alloc, domain.items(), values)?;
-            made_fun(place, FunValue::from_pairs(pairs))
-        }
-        Err(error) => Err(refused(place, error)),
+        Ok(tuples) => Ok(Domain::Tuples(tuples)),
+        Err(error) => Ok(Domain::Refused(refused(place, error))),
     }
 }

@@ -7,6 +7,7 @@ mod environment;
 mod evaluation;
 mod fields;
 mod functions;
+mod gathered;
 pub mod laws;
 mod operators;
 mod partial;

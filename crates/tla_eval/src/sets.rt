@@ -14,8 +14,10 @@ ghost use Rattle.tla_core.specs.Lists.{each};
 ghost use Rattle.tla_core.specs.SetForms.{on_sets};
 ghost use Rattle.tla_eval.specs.Gives.{Gives, GivesBy, GivesTruth, IsRefusal, contains_rule, subsets_rule, tuples_rule};
 ghost use Rattle.tla_eval.specs.Private.Environment.{Evaluates, tree_of_evaluated};
+ghost use Rattle.tla_eval.specs.Private.Gathered.{Gathers};
 
 use crate::environment::Evaluated;
+use crate::gathered::Gathered;
 use crate::rules::{copied, fault_at};
 use std::alloc::Global;
 use tla_core::{Fault, FaultCode, Place, memory};
@@ -238,30 +240,18 @@ pub(crate) fn union_all(alloc: Global, place: Place, sets: &Value) -> Result<Val
     ensures { Gives result (unary_rule Union place (tree_of sets.now)) }
 {
     let sets = members(place, sets)?;
-    let values = joined(alloc, place, sets)?;
-    made_set(place, SetValue::from_values(values))
+    joined(alloc, place, sets)?.into_set(place)
 }
 
-/// Copies of the members of each of some sets.
-fn joined(alloc: Global, place: Place, sets: &[Value]) -> Result<Vec<Value>, Fault>
-    ensures { GivesBy (λ v. map tree_of v.items) result (joined_sets place (map tree_of sets.now)) }
+/// The different members of some sets.
+fn joined(alloc: Global, place: Place, sets: &[Value]) -> Result<Gathered, Fault>
+    ensures { Gathers result (joined_sets place (map tree_of sets.now)) }
 {
-    let mut values = Vec::new(alloc);
+    let mut gathered = Gathered::new(alloc);
     for set in sets {
-        add_copies(alloc, &mut values, members(place, set)?)?;
+        gathered.add_copies(alloc, members(place, set)?)?;
     }
-    Ok(values)
-}
-
-/// Adds copies of some values at the end.
-fn add_copies(alloc: Global, to: &mut Vec<Value>, values: &[Value]) -> Result<(), Fault>
-    ensures ok { OnOk result (to.new.items ≡ to.old.items ++ values.now) }
-    ensures err { IfErr result (λ f. f ≡ out_of_memory) }
-{
-    for value in values {
-        to.push(copied(alloc, value)?)?;
-    }
-    Ok(())
+    Ok(gathered)
 }
 
 /// `BOOLEAN`.

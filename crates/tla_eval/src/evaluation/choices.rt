@@ -1,22 +1,27 @@
 //! Forms that bind several names.
-ghost use Rattle.std.specs.Prelude.{◌++◌, ◌∷◌, [], map};
+ghost use Rattle.std.specs.Prelude.{◌≡◌, ◌++◌, ◌∷◌, [], length, map, option_map, slice_get};
 ghost use Rattle.tla_value.specs.TreeOf.{tree_of};
+ghost use Rattle.tla_value.specs.Choices.{choices};
 ghost use Rattle.tla_core.specs.Lists.{each};
 ghost use Rattle.tla_core.specs.Meaning.{Meaning};
 ghost use Rattle.tla_core.specs.Value.{means};
 ghost use Rattle.tla_core.specs.ExprOf.{expr_of, parts_of_cores};
-ghost use Rattle.tla_eval.specs.Gives.{Gives, GivesBy, image_rule, chosen_function_rule, chosen_rule, values_for};
+ghost use Rattle.tla_eval.specs.Gives.{Gives, GivesBy, image_rule, chosen_function_rule, nothing_of, values_for};
+ghost use Rattle.tla_eval.specs.Private.Chosen.{value_at, function_for_rule};
 ghost use Rattle.tla_eval.specs.Private.Environment.{Evaluates, tree_of_evaluated, bound_in, present_in, next_in};
+ghost use Rattle.tla_eval.specs.Private.Gathered.{Gathers};
 
-use crate::domain::{choice_at, function_on, lists_of};
+use crate::domain::{
+    Domain, choice_at, domain_of, function_on, function_with, lists_of, member_of,
+};
 use crate::environment::{Environment, Evaluated, Scope};
 use crate::evaluation::binding::value_with;
 use crate::evaluation::evaluate;
 use crate::evaluation::patterns::body_value;
-use crate::sets::made_set;
+use crate::gathered::Gathered;
 use std::alloc::Global;
 use tla_core::{Core, Fault, Place, memory};
-use tla_value::{SetValue, Value};
+use tla_value::Value;
 
 /// The set of the values of a body for all choices from some sets.
 #[cycle(evaluate)]
@@ -30,8 +35,9 @@ pub(super) fn image<'a>(
     ensures { Evaluates result (image_rule place (parts_of_cores sets.now) (means (expr_of body.now)) (bound_in env.entry) (present_in env.entry) (next_in env.entry)) }
 {
     let sets = evaluated_each(alloc, sets, env)?;
-    let values = chosen(alloc, place, sets.as_slice(), body, env)?;
-    Ok(Evaluated::Owned(made_set(place, SetValue::from_values(values))?))
+    let lists = lists_of(alloc, place, sets.as_slice())?;
+    let values = chosen_once(alloc, body, lists.as_slice(), env)?;
+    Ok(Evaluated::Owned(values.into_set(place)?))
 }
 
 /// The function on all choices from some sets with the values of a body for them.
@@ -47,8 +53,55 @@ pub(super) fn function<'a>(
 {
     let sets = evaluated_each(alloc, sets, env)?;
     let sets = sets.as_slice();
-    let values = chosen(alloc, place, sets, body, env)?;
-    Ok(Evaluated::Owned(function_on(alloc, place, sets, values)?))
+    if sets.len() == 1 {
+        Ok(Evaluated::Owned(function_on_members(alloc, place, sets, body, env)?))
+    } else {
+        Ok(Evaluated::Owned(function_on_tuples(alloc, place, sets, body, env)?))
+    }
+}
+
+/// The function on the members of one set with the values of a body for them.
+#[cycle(evaluate)]
+fn function_on_members<'s, 'a>(
+    alloc: Global,
+    place: Place,
+    sets: &'s [Evaluated<'s>],
+    body: &'a Core,
+    env: Environment<'a>,
+) -> Result<Value, Fault>
+    requires { length sets.now ≡ 1 }
+    ensures { Gives result (function_for_rule place (means (expr_of body.now)) (bound_in env.entry) (present_in env.entry) (next_in env.entry) (map tree_of_evaluated sets.now)) }
+{
+    let lists = lists_of(alloc, place, sets)?;
+    let values = chosen(alloc, body, lists.as_slice(), env)?;
+    function_on(alloc, place, sets, values)
+}
+
+/// The function on the tuples of all choices from some sets with the values of a body for them. Where there are too many tuples,
+/// the body is only evaluated for them.
+#[cycle(evaluate)]
+fn function_on_tuples<'s, 'a>(
+    alloc: Global,
+    place: Place,
+    sets: &'s [Evaluated<'s>],
+    body: &'a Core,
+    env: Environment<'a>,
+) -> Result<Value, Fault>
+    requires { length sets.now ≡ 1 → ⊥ }
+    ensures { Gives result (function_for_rule place (means (expr_of body.now)) (bound_in env.entry) (present_in env.entry) (next_in env.entry) (map tree_of_evaluated sets.now)) }
+{
+    let lists = lists_of(alloc, place, sets)?;
+    let lists = lists.as_slice();
+    match domain_of(alloc, place, sets)? {
+        Domain::Tuples(tuples) => {
+            let values = chosen(alloc, body, lists, env)?;
+            function_with(alloc, place, tuples.items(), values)
+        }
+        Domain::Refused(fault) => {
+            pass_over(alloc, body, lists, env)?;
+            Err(fault)
+        }
+    }
 }
 
 /// The values of some expressions, from left to right, lent where they can be.
@@ -67,46 +120,9 @@ pub(super) fn evaluated_each<'a>(
     Ok(values)
 }
 
-/// The values of a body for all choices from some sets.
-#[cycle(evaluate)]
-fn chosen<'s, 'a>(
-    alloc: Global,
-    place: Place,
-    sets: &'s [Evaluated<'s>],
-    body: &'a Core,
-    env: Environment<'a>,
-) -> Result<Vec<Value>, Fault>
-    ensures { GivesBy (λ v. map tree_of v.items) result (chosen_rule place (means (expr_of body.now)) (bound_in env.entry) (present_in env.entry) (next_in env.entry) (map tree_of_evaluated sets.now)) }
-{
-    let lists = lists_of(alloc, place, sets)?;
-    let lists = lists.as_slice();
-    if lists.len() == 1 {
-        for_each(alloc, body, lists[0], env)
-    } else {
-        for_choices(alloc, body, lists, env)
-    }
-}
-
-/// The values of a body for each of some values.
-#[cycle(evaluate)]
-fn for_each<'l, 'a>(
-    alloc: Global,
-    body: &'a Core,
-    list: &'l [Value],
-    env: Environment<'a>,
-) -> Result<Vec<Value>, Fault>
-    ensures { GivesBy (λ v. map tree_of v.items) result (values_for (means (expr_of body.now)) (bound_in env.entry) (present_in env.entry) (next_in env.entry) (map tree_of list.now ∷ [])) }
-{
-    let mut values = Vec::new(alloc);
-    for value in list {
-        values.push(value_with(alloc, body, value, env)?)?;
-    }
-    Ok(values)
-}
-
 /// The values of a body for all choices from some lists, the first list slowest.
 #[cycle(evaluate)]
-fn for_choices<'l, 'a>(
+fn chosen<'l, 'a>(
     alloc: Global,
     body: &'a Core,
     lists: &'l [&'l [Value]],
@@ -116,12 +132,103 @@ fn for_choices<'l, 'a>(
 {
     let mut values = Vec::new(alloc);
     for number in 0..usize::MAX {
-        match choice_at(alloc, lists, number)? {
-            Some(choice) => values.push(value_with_all(alloc, body, choice.as_slice(), env)?)?,
+        match value_for(alloc, body, lists, number, env)? {
+            Some(value) => values.push(value)?,
             None => return Ok(values),
         }
     }
     Err(memory())
+}
+
+/// The different values of a body for all choices from some lists.
+#[cycle(evaluate)]
+fn chosen_once<'l, 'a>(
+    alloc: Global,
+    body: &'a Core,
+    lists: &'l [&'l [Value]],
+    env: Environment<'a>,
+) -> Result<Gathered, Fault>
+    ensures { Gathers result (values_for (means (expr_of body.now)) (bound_in env.entry) (present_in env.entry) (next_in env.entry) (map (λ l. map tree_of l.now) lists.now)) }
+{
+    let mut values = Gathered::new(alloc);
+    for number in 0..usize::MAX {
+        match value_for(alloc, body, lists, number, env)? {
+            Some(value) => values.add(value)?,
+            None => return Ok(values),
+        }
+    }
+    Err(memory())
+}
+
+/// Evaluates a body for all choices from some lists, up to its first fault.
+#[cycle(evaluate)]
+fn pass_over<'l, 'a>(
+    alloc: Global,
+    body: &'a Core,
+    lists: &'l [&'l [Value]],
+    env: Environment<'a>,
+) -> Result<(), Fault>
+    ensures { GivesBy (λ u. u) result (nothing_of (values_for (means (expr_of body.now)) (bound_in env.entry) (present_in env.entry) (next_in env.entry) (map (λ l. map tree_of l.now) lists.now))) }
+{
+    for number in 0..usize::MAX {
+        match value_for(alloc, body, lists, number, env)? {
+            Some(value) => drop(value),
+            None => return Ok(()),
+        }
+    }
+    Err(memory())
+}
+
+/// The value of a body for the choice with a number; none where there are fewer choices.
+#[cycle(evaluate)]
+fn value_for<'l, 'a>(
+    alloc: Global,
+    body: &'a Core,
+    lists: &'l [&'l [Value]],
+    number: usize,
+    env: Environment<'a>,
+) -> Result<Option<Value>, Fault>
+    ensures { GivesBy (λ o. option_map tree_of o) result (value_at (means (expr_of body.now)) (bound_in env.entry) (present_in env.entry) (next_in env.entry) (slice_get (choices (map (λ l. map tree_of l.now) lists.now)) number)) }
+{
+    if lists.len() == 1 {
+        value_for_member(alloc, body, lists[0], number, env)
+    } else {
+        value_for_choice(alloc, body, lists, number, env)
+    }
+}
+
+/// The value of a body for the member of a list at a place.
+#[cycle(evaluate)]
+fn value_for_member<'l, 'a>(
+    alloc: Global,
+    body: &'a Core,
+    list: &'l [Value],
+    number: usize,
+    env: Environment<'a>,
+) -> Result<Option<Value>, Fault>
+    ensures { GivesBy (λ o. option_map tree_of o) result (value_at (means (expr_of body.now)) (bound_in env.entry) (present_in env.entry) (next_in env.entry) (slice_get (choices (map tree_of list.now ∷ [])) number)) }
+{
+    match member_of(list, number) {
+        Some(value) => Ok(Some(value_with(alloc, body, value, env)?)),
+        None => Ok(None),
+    }
+}
+
+/// The value of a body for the choice with a number from several lists.
+#[cycle(evaluate)]
+fn value_for_choice<'l, 'a>(
+    alloc: Global,
+    body: &'a Core,
+    lists: &'l [&'l [Value]],
+    number: usize,
+    env: Environment<'a>,
+) -> Result<Option<Value>, Fault>
+    ensures { GivesBy (λ o. option_map tree_of o) result (value_at (means (expr_of body.now)) (bound_in env.entry) (present_in env.entry) (next_in env.entry) (slice_get (choices (map (λ l. map tree_of l.now) lists.now)) number)) }
+{
+    match choice_at(alloc, lists, number)? {
+        Some(choice) => Ok(Some(value_with_all(alloc, body, choice.as_slice(), env)?)),
+        None => Ok(None),
+    }
 }
 
 /// The value of a body with more bound values.

@@ -1,22 +1,20 @@
-use Rattle.std.proofs.Common.{map, [], ◌∷◌, ap, sym, subst, ◌∙◌, arith}
+use Rattle.std.proofs.Common.{map, [], ◌∷◌, ap, sym, subst, ◌∙◌}
 use Rattle.tla_value.specs.Tree.{Tree}
-use Rattle.tla_value.specs.TreeOf.{tree_of, pair_of}
-use Rattle.tla_value.specs.Funs.{fun_of}
+use Rattle.tla_value.specs.TreeOf.{tree_of}
 use Rattle.tla_eval.specs.Private.Environment.{tree_of_evaluated}
 use Rattle.tla_core.specs.Fault.{Outcome}
 use Rattle.tla_eval.specs.Gives.{Gives}
-use Rattle.tla_core.specs.Kinds.{as_set, make_fun}
+use Rattle.tla_core.specs.Kinds.{as_set}
 use Rattle.tla_eval.proofs.Collected.{function_on_single}
 use Rattle.tla_eval.proofs.Domains.{one_item, one_list, rule_is}
 use Rattle.tla_eval.proofs.domain.function_on.Goals as goal
 
-pub returns-in_ok-pairs : goal.returns-in_ok-pairs
-returns-in_ok-pairs c =
+pub returns : goal.returns
+returns c =
     let p = c.args.place in
     let xs = map tree_of c.in_ok-arguments.arguments.now in
     let vs = map tree_of c.args.values.items in
     let ts = map tree_of_evaluated c.args.sets.now in
-    let one = one_item c.args.sets.now c.index-sets-0.result (omega (arith, c.if-sets-eq1.true)) c.index-sets-0.is in
+    let one = one_item c.args.sets.now c.index-sets-0.result c.requires c.index-sets-0.is in
     let all = one_list p ts (tree_of_evaluated c.index-sets-0.result) xs (ap (map tree_of_evaluated) one) (ap (as_set p) (sym c.value.ensures) ∙ c.in_ok-arguments.ensures) in
-    let e = rule_is p ts vs (xs ∷ []) all ∙ function_on_single p xs vs ∙ ap (make_fun p) (sym c.in_ok-pairs.ensures.ok) in
-    subst (λ (o : Outcome Tree). Gives c.made_fun.result o) (sym e) (c.made_fun.ensures (fun_of (map pair_of c.in_ok-pairs.pairs.items)) c.from_pairs.ensures)
+    subst (λ (o : Outcome Tree). Gives c.function_with.result o) (sym (rule_is p ts vs (xs ∷ []) all ∙ function_on_single p xs vs)) c.function_with.ensures

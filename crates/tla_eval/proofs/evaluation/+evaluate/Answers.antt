@@ -1,4 +1,4 @@
-use Rattle.std.proofs.Common.{rules, arith, Vec, Global, map, length, option_map, Bor, List, ◌++◌, ◌∷◌, [], Bool, Some, None, Ok, ap, sym, ◌∙◌, subst}
+use Rattle.std.proofs.Common.{◌≡◌, rules, arith, Vec, Global, map, zip, length, option_map, Option, Bor, List, ◌++◌, ◌∷◌, [], Bool, Some, None, Ok, ap, sym, ◌∙◌, refl, subst}
 use Rattle.std.proofs.lemmas.List.{map-append}
 use Rattle.tla_value.specs.Choices.{choices}
 use Rattle.tla_core.specs.Logic.{means-conjunction, means-disjunction, means-cases}
@@ -9,17 +9,24 @@ use Rattle.tla_core.specs.Value.{means, mem}
 use Rattle.tla_core.specs.ExprOf.{expr_of, parts_of_cores, fields_of_cores, arms_of_cores, updates_of_cores}
 use Rattle.tla_value.specs.Tree.{Tree}
 use Rattle.tla_core.specs.Fault.{Outcome}
-use Rattle.tla_eval.specs.Gives.{GivesBy, GivesTruth, record_rule, image_rule, chosen_function_rule, product_rule, record_set_rule, values_of}
+use Rattle.tla_eval.specs.Gives.{Gives, GivesBy, GivesTruth, record_rule, image_rule, function_rule, chosen_function_rule, product_rule, record_set_rule, values_for, values_of}
+use Rattle.tla_eval.specs.declared.environment.Evaluated.{Evaluated}
+use Rattle.tla_eval.specs.Private.Chosen.{value_at}
+use Rattle.tla_eval.specs.Private.Domain.{AreForChoices, IsDomain}
+use Rattle.tla_eval.specs.Private.Gathered.{Gathers}
 use Rattle.tla_value.specs.TreeOf.{tree_of, pair_of}
 use Rattle.tla_core.specs.declared.expression.Core.{Core}
 use Rattle.tla_value.specs.declared.value.Value.{Value}
 use Rattle.tla_eval.specs.Private.Environment.{Evaluates, tree_of_evaluated, bound_in, present_in, next_in}
 use Rattle.tla_core.proofs.Loops.{all_hold_step, some_hold_step, first_passing_step}
 use Rattle.tla_eval.proofs.Collected.{record_is}
-use Rattle.tla_eval.proofs.Choices.{image_is, function_is, chosen_step, chosen_from, chosen_end, chosen_long, passing_step}
+use Rattle.tla_eval.proofs.Choices.{image_is, image_step, function_is, passing_step, one_choice, value_here, value_more, value_first, value_end, pass_more, pass_first, pass_end, for_choices, function_of_values, function_first, function_passed}
+use Rattle.tla_eval.proofs.Chosen.{trees_in}
+use Rattle.tla_eval.proofs.Different.{more_none}
 use Rattle.tla_core.proofs.Parts.{means_conjunction, means_disjunction, means_enumerated, means_tuple, means_record, means_image, means_function, means_except, means_cases, means_cases_or, means_records, means_product}
 use Rattle.tla_eval.proofs.RecordSets.{product_is, record_set_is, fields_long, tuple_long, tuple_other, same_number, number_same}
-use Rattle.tla_core.specs.Kinds.{items}
+use Rattle.tla_core.specs.Kinds.{items, as_set, make_fun}
+use Rattle.tla_core.specs.Lists.{each}
 use Rattle.tla_core.specs.SetForms.{means-records, means-product}
 use Rattle.tla_eval.proofs.evaluation.+evaluate.Goals as goal
 
@@ -175,32 +182,168 @@ binding::passing-loop-value-preserved t c =
     c.loop-value.invariant
     ∙ passing_step (λ v. asks c.args.place (means (expr_of c.args.body.now)) (bound_in c.args.env ++ v ∷ []) (present_in c.args.env) (next_in c.args.env)) c.args.values.now c.loop-value.value-index c.value-item.result c.loop-value.kept.items c.keep_copy.new.kept.items c.in_ok-holds.holds c.value-item.is c.loop-value-test.true c.in_ok-holds.ensures c.in_ok-keep_copy.ensures.ok
 
-pub choices::for_choices-loop-number-preserved : goal.choices::for_choices-loop-number-preserved
-choices::for_choices-loop-number-preserved t c =
-    let f : List Tree → Outcome Tree = λ k. (means (expr_of c.args.body.now)).value (bound_in c.args.env ++ k) (present_in c.args.env) (next_in c.args.env) in
-    let at = sym c.in_ok-choice.ensures.ok ∙ ap (option_map (λ (v : Vec Value Global). map tree_of v.items)) c.in-Some.is ∙ ap (λ us. Some (map tree_of us)) (sym c.as_slice.ensures.value) in
-    let v = c.in_ok-value_with_all-in-Some.field-0 in
+pub choices::image-returns : goal.choices::image-returns
+choices::image-returns t c =
+    let m = means (expr_of c.args.body.now) in
+    let vs = map tree_of_evaluated c.as_slice.result.now in
+    let lists = trees_in c.as_slice-2.result.now in
+    let e = image_step c.args.place (parts_of_cores c.args.sets.now) m (bound_in c.args.env) (present_in c.args.env) (next_in c.args.env) vs lists
+    (c.in_ok-sets.ensures ∙ ap (λ (us : List Evaluated). Ok (map tree_of_evaluated us)) (sym c.as_slice.ensures.value))
+    (c.in_ok-lists.ensures ∙ ap (λ (us : List (Bor (List Value))). Ok (trees_in us)) (sym c.as_slice-2.ensures.value)) in
+    e ∙ c.in_ok-into_set.ensures (values_for m (bound_in c.args.env) (present_in c.args.env) (next_in c.args.env) lists) c.in_ok-values.ensures
+
+pub choices::image-returns-in_err-into_set : goal.choices::image-returns-in_err-into_set
+choices::image-returns-in_err-into_set t c =
+    let m = means (expr_of c.args.body.now) in
+    let vs = map tree_of_evaluated c.as_slice.result.now in
+    let lists = trees_in c.as_slice-2.result.now in
+    let e = image_step c.args.place (parts_of_cores c.args.sets.now) m (bound_in c.args.env) (present_in c.args.env) (next_in c.args.env) vs lists
+    (c.in_ok-sets.ensures ∙ ap (λ (us : List Evaluated). Ok (map tree_of_evaluated us)) (sym c.as_slice.ensures.value))
+    (c.in_ok-lists.ensures ∙ ap (λ (us : List (Bor (List Value))). Ok (trees_in us)) (sym c.as_slice-2.ensures.value)) in
+    let g = c.in_err-into_set.ensures (values_for m (bound_in c.args.env) (present_in c.args.env) (next_in c.args.env) lists) c.in_ok-values.ensures in
+    subst (λ (o : Outcome Tree). Evaluates c.from_residual-in_err-into_set.result o) (sym e) (search (rules, g))
+
+pub choices::function_on_tuples-returns-in-Tuples : goal.choices::function_on_tuples-returns-in-Tuples
+choices::function_on_tuples-returns-in-Tuples t c =
+    let p = c.args.place in
+    let m = means (expr_of c.args.body.now) in
+    let vs = map tree_of_evaluated c.args.sets.now in
+    let lists = trees_in c.as_slice-lists.result.now in
+    let are : each (as_set p) vs ≡ Ok lists = c.in_ok-lists.ensures ∙ ap (λ (us : List (Bor (List Value))). Ok (trees_in us)) (sym c.as_slice-lists.ensures.value) in
+    let ys = map tree_of c.in_ok-values-in-Tuples.values.items in
+    let on : (zs : List Tree) → AreForChoices p vs zs → function_rule p vs zs ≡ make_fun p (zip c.in-Tuples.tuples zs) = subst (IsDomain p vs) c.in-Tuples.is c.in_ok-tuples.ensures in
+    let e = function_of_values p m (bound_in c.args.env) (present_in c.args.env) (next_in c.args.env) vs lists are ys c.in_ok-values-in-Tuples.ensures
+    ∙ on ys (for_choices p m (bound_in c.args.env) (present_in c.args.env) (next_in c.args.env) vs lists are ys c.in_ok-values-in-Tuples.ensures)
+    ∙ ap (λ us. make_fun p (zip us ys)) (sym c.items.ensures.items) in
+    subst (λ (o : Outcome Tree). Gives c.function_with.result o) (sym e) c.function_with.ensures
+
+pub choices::function_on_tuples-returns-in_err-pass_over-in-Refused : goal.choices::function_on_tuples-returns-in_err-pass_over-in-Refused
+choices::function_on_tuples-returns-in_err-pass_over-in-Refused t c =
+    let p = c.args.place in
+    let m = means (expr_of c.args.body.now) in
+    let vs = map tree_of_evaluated c.args.sets.now in
+    let lists = trees_in c.as_slice-lists.result.now in
+    let are : each (as_set p) vs ≡ Ok lists = c.in_ok-lists.ensures ∙ ap (λ (us : List (Bor (List Value))). Ok (trees_in us)) (sym c.as_slice-lists.ensures.value) in
+    let e = function_first p m (bound_in c.args.env) (present_in c.args.env) (next_in c.args.env) vs lists are in
+    subst (λ (o : Outcome Tree). Gives c.from_residual-in_err-pass_over-in-Refused.result o) (sym e) (search rules)
+
+pub choices::function_on_tuples-returns : goal.choices::function_on_tuples-returns
+choices::function_on_tuples-returns t c =
+    let p = c.args.place in
+    let m = means (expr_of c.args.body.now) in
+    let vs = map tree_of_evaluated c.args.sets.now in
+    let lists = trees_in c.as_slice-lists.result.now in
+    let are : each (as_set p) vs ≡ Ok lists = c.in_ok-lists.ensures ∙ ap (λ (us : List (Bor (List Value))). Ok (trees_in us)) (sym c.as_slice-lists.ensures.value) in
+    function_passed p m (bound_in c.args.env) (present_in c.args.env) (next_in c.args.env) vs lists are c.in_ok-pass_over-in-Refused.field-0 c.in-Refused.fault c.in_ok-pass_over-in-Refused.ensures
+    (subst (IsDomain p vs) c.in-Refused.is c.in_ok-tuples.ensures)
+
+pub choices::chosen-loop-number-preserved : goal.choices::chosen-loop-number-preserved
+choices::chosen-loop-number-preserved t c =
+    let m = means (expr_of c.args.body.now) in
+    let v = c.in-Some.value in
     c.loop-number.invariant
-    ∙ chosen_step f (map tree_of c.loop-number.values.items) (choices (map (λ (r : Bor (List Value)). map tree_of r.now) c.args.lists.now)) c.loop-number.number (map tree_of c.as_slice.result.now) at (tree_of v) (map tree_of c.push.new.self.items)
-    c.in_ok-value_with_all-in-Some.ensures (ap (map tree_of) c.in_ok-push-in-Some.ensures.items ∙ map-append tree_of c.loop-number.values.items (v ∷ []))
+    ∙ value_more m (bound_in c.args.env) (present_in c.args.env) (next_in c.args.env) (choices (trees_in c.args.lists.now)) c.loop-number.number (map tree_of c.loop-number.values.items) (tree_of v) (map tree_of c.push.new.self.items)
+    (c.in_ok-value.ensures ∙ ap (λ (o : Option Value). Ok (option_map tree_of o)) c.in-Some.is) (ap (map tree_of) c.in_ok-push-in-Some.ensures.items ∙ map-append tree_of c.loop-number.values.items (v ∷ []))
 
-pub choices::for_choices-returns-in_err-value_with_all-in-Some : goal.choices::for_choices-returns-in_err-value_with_all-in-Some
-choices::for_choices-returns-in_err-value_with_all-in-Some t c =
-    let f : List Tree → Outcome Tree = λ k. (means (expr_of c.args.body.now)).value (bound_in c.args.env ++ k) (present_in c.args.env) (next_in c.args.env) in
-    let at = sym c.in_ok-choice.ensures.ok ∙ ap (option_map (λ (v : Vec Value Global). map tree_of v.items)) c.in-Some.is ∙ ap (λ us. Some (map tree_of us)) (sym c.as_slice.ensures.value) in
-    let e = c.loop-number.invariant
-    ∙ chosen_from f (map tree_of c.loop-number.values.items) (choices (map (λ (r : Bor (List Value)). map tree_of r.now) c.args.lists.now)) c.loop-number.number (map tree_of c.as_slice.result.now) at in
-    subst (λ (o : Outcome (List Tree)). GivesBy (λ (v : Vec Value Global). map tree_of v.items) c.from_residual-in_err-value_with_all-in-Some.result o) (sym e) (search rules)
+pub choices::chosen-returns-in_err-value : goal.choices::chosen-returns-in_err-value
+choices::chosen-returns-in_err-value t c =
+    let m = means (expr_of c.args.body.now) in
+    let e = c.loop-number.invariant ∙ value_first m (bound_in c.args.env) (present_in c.args.env) (next_in c.args.env) (choices (trees_in c.args.lists.now)) c.loop-number.number (map tree_of c.loop-number.values.items) in
+    subst (λ (o : Outcome (List Tree)). GivesBy (λ (v : Vec Value Global). map tree_of v.items) c.from_residual.result o) (sym e) (search rules)
 
-pub choices::for_choices-returns-in-None : goal.choices::for_choices-returns-in-None
-choices::for_choices-returns-in-None t c =
-    let f : List Tree → Outcome Tree = λ k. (means (expr_of c.args.body.now)).value (bound_in c.args.env ++ k) (present_in c.args.env) (next_in c.args.env) in
+pub choices::chosen-returns-in-None : goal.choices::chosen-returns-in-None
+choices::chosen-returns-in-None t c =
+    let m = means (expr_of c.args.body.now) in
     c.loop-number.invariant
-    ∙ chosen_end f (map tree_of c.loop-number.values.items) (choices (map (λ (r : Bor (List Value)). map tree_of r.now) c.args.lists.now)) c.loop-number.number (sym c.in_ok-choice.ensures.ok ∙ ap (option_map (λ (v : Vec Value Global). map tree_of v.items)) c.in-None.is)
+    ∙ value_end m (bound_in c.args.env) (present_in c.args.env) (next_in c.args.env) (choices (trees_in c.args.lists.now)) c.loop-number.number (map tree_of c.loop-number.values.items)
+    (c.in_ok-value.ensures ∙ ap (λ (o : Option Value). Ok (option_map tree_of o)) c.in-None.is)
 
-pub choices::function-function_on-requires : goal.choices::function-function_on-requires
-choices::function-function_on-requires t c = λ lists h.
-    chosen_long c.args.place (means (expr_of c.args.body.now)) (bound_in c.args.env) (present_in c.args.env) (next_in c.args.env) (map tree_of_evaluated c.as_slice-sets.result.now) (map tree_of c.in_ok-values.values.items) c.in_ok-values.ensures lists h
+pub choices::chosen_once-loop-number-init : goal.choices::chosen_once-loop-number-init
+choices::chosen_once-loop-number-init t c = ([], c.new-values.ensures, more_none _)
+
+pub choices::chosen_once-loop-number-preserved : goal.choices::chosen_once-loop-number-preserved
+choices::chosen_once-loop-number-preserved t c =
+    let m = means (expr_of c.args.body.now) in
+    let v = tree_of c.in-Some.value in
+    let kept = c.loop-number.invariant.0 in (
+      kept ++ v ∷ [],
+      c.in_ok-add-in-Some.ensures.ok kept c.loop-number.invariant.1,
+      c.loop-number.invariant.2
+          ∙ value_more m (bound_in c.args.env) (present_in c.args.env) (next_in c.args.env) (choices (trees_in c.args.lists.now)) c.loop-number.number kept v (kept ++ v ∷ [])
+          (c.in_ok-value.ensures ∙ ap (λ (o : Option Value). Ok (option_map tree_of o)) c.in-Some.is) refl,
+    )
+
+pub choices::chosen_once-returns-in_err-value : goal.choices::chosen_once-returns-in_err-value
+choices::chosen_once-returns-in_err-value t c =
+    let m = means (expr_of c.args.body.now) in
+    let e = c.loop-number.invariant.2 ∙ value_first m (bound_in c.args.env) (present_in c.args.env) (next_in c.args.env) (choices (trees_in c.args.lists.now)) c.loop-number.number c.loop-number.invariant.0 in
+    subst (λ (o : Outcome (List Tree)). Gathers c.from_residual.result o) (sym e) (search rules)
+
+pub choices::chosen_once-returns-in-None : goal.choices::chosen_once-returns-in-None
+choices::chosen_once-returns-in-None t c =
+    let m = means (expr_of c.args.body.now) in
+    let kept = c.loop-number.invariant.0 in (
+      kept,
+      c.loop-number.invariant.2
+          ∙ value_end m (bound_in c.args.env) (present_in c.args.env) (next_in c.args.env) (choices (trees_in c.args.lists.now)) c.loop-number.number kept
+          (c.in_ok-value.ensures ∙ ap (λ (o : Option Value). Ok (option_map tree_of o)) c.in-None.is),
+      c.loop-number.invariant.1,
+    )
+
+pub choices::pass_over-loop-number-preserved : goal.choices::pass_over-loop-number-preserved
+choices::pass_over-loop-number-preserved t c =
+    let m = means (expr_of c.args.body.now) in
+    c.loop-number.invariant
+    ∙ pass_more m (bound_in c.args.env) (present_in c.args.env) (next_in c.args.env) (choices (trees_in c.args.lists.now)) c.loop-number.number (tree_of c.in-Some.value)
+    (c.in_ok-value.ensures ∙ ap (λ (o : Option Value). Ok (option_map tree_of o)) c.in-Some.is)
+
+pub choices::pass_over-returns-in_err-value : goal.choices::pass_over-returns-in_err-value
+choices::pass_over-returns-in_err-value t c =
+    let m = means (expr_of c.args.body.now) in
+    let e = c.loop-number.invariant ∙ pass_first m (bound_in c.args.env) (present_in c.args.env) (next_in c.args.env) (choices (trees_in c.args.lists.now)) c.loop-number.number in
+    subst (λ (o : Outcome (Unit {0})). GivesBy (λ (u : Unit {0}). u) c.from_residual.result o) (sym e) (search rules)
+
+pub choices::pass_over-returns-in-None : goal.choices::pass_over-returns-in-None
+choices::pass_over-returns-in-None t c =
+    let m = means (expr_of c.args.body.now) in
+    c.loop-number.invariant
+    ∙ pass_end m (bound_in c.args.env) (present_in c.args.env) (next_in c.args.env) (choices (trees_in c.args.lists.now)) c.loop-number.number
+    (c.in_ok-value.ensures ∙ ap (λ (o : Option Value). Ok (option_map tree_of o)) c.in-None.is)
+
+pub choices::value_for_member-returns-in_ok-value_with-in-Some : goal.choices::value_for_member-returns-in_ok-value_with-in-Some
+choices::value_for_member-returns-in_ok-value_with-in-Some t c =
+    let m = means (expr_of c.args.body.now) in
+    let at = one_choice (map tree_of c.args.list.now) c.args.number ∙ ap (option_map (λ (x : Tree). x ∷ [])) (sym c.member_of.ensures ∙ ap (option_map (λ (v : Bor Value). tree_of v.now)) c.in-Some.is) in
+    value_here m (bound_in c.args.env) (present_in c.args.env) (next_in c.args.env) _ (tree_of c.in-Some.value.now ∷ []) (tree_of c.in_ok-value_with-in-Some.field-0) at c.in_ok-value_with-in-Some.ensures
+
+pub choices::value_for_member-returns-in_err-value_with-in-Some : goal.choices::value_for_member-returns-in_err-value_with-in-Some
+choices::value_for_member-returns-in_err-value_with-in-Some t c =
+    let m = means (expr_of c.args.body.now) in
+    let at = one_choice (map tree_of c.args.list.now) c.args.number ∙ ap (option_map (λ (x : Tree). x ∷ [])) (sym c.member_of.ensures ∙ ap (option_map (λ (v : Bor Value). tree_of v.now)) c.in-Some.is) in
+    subst (λ (o : Outcome (Option Tree)). GivesBy (λ (v : Option Value). option_map tree_of v) c.from_residual.result o) (sym (ap (λ (o : Option (List Tree)). value_at m (bound_in c.args.env) (present_in c.args.env) (next_in c.args.env) o) at)) (search rules)
+
+pub choices::value_for_member-returns-in-None : goal.choices::value_for_member-returns-in-None
+choices::value_for_member-returns-in-None t c =
+    let m = means (expr_of c.args.body.now) in
+    let at = one_choice (map tree_of c.args.list.now) c.args.number ∙ ap (option_map (λ (x : Tree). x ∷ [])) (sym c.member_of.ensures ∙ ap (option_map (λ (v : Bor Value). tree_of v.now)) c.in-None.is) in
+    ap (λ (o : Option (List Tree)). value_at m (bound_in c.args.env) (present_in c.args.env) (next_in c.args.env) o) at
+
+pub choices::value_for_choice-returns-in_ok-value_with_all-in-Some : goal.choices::value_for_choice-returns-in_ok-value_with_all-in-Some
+choices::value_for_choice-returns-in_ok-value_with_all-in-Some t c =
+    let m = means (expr_of c.args.body.now) in
+    let at = sym c.in_ok-choice.ensures.ok ∙ ap (option_map (λ (v : Vec Value Global). map tree_of v.items)) c.in-Some.is ∙ ap (λ us. Some (map tree_of us)) (sym c.as_slice.ensures.value) in
+    value_here m (bound_in c.args.env) (present_in c.args.env) (next_in c.args.env) _ (map tree_of c.as_slice.result.now) (tree_of c.in_ok-value_with_all-in-Some.field-0) at c.in_ok-value_with_all-in-Some.ensures
+
+pub choices::value_for_choice-returns-in_err-value_with_all-in-Some : goal.choices::value_for_choice-returns-in_err-value_with_all-in-Some
+choices::value_for_choice-returns-in_err-value_with_all-in-Some t c =
+    let m = means (expr_of c.args.body.now) in
+    let at = sym c.in_ok-choice.ensures.ok ∙ ap (option_map (λ (v : Vec Value Global). map tree_of v.items)) c.in-Some.is ∙ ap (λ us. Some (map tree_of us)) (sym c.as_slice.ensures.value) in
+    subst (λ (o : Outcome (Option Tree)). GivesBy (λ (v : Option Value). option_map tree_of v) c.from_residual-in_err-value_with_all-in-Some.result o) (sym (ap (λ (o : Option (List Tree)). value_at m (bound_in c.args.env) (present_in c.args.env) (next_in c.args.env) o) at)) (search rules)
+
+pub choices::value_for_choice-returns-in-None : goal.choices::value_for_choice-returns-in-None
+choices::value_for_choice-returns-in-None t c =
+    let m = means (expr_of c.args.body.now) in
+    ap (λ (o : Option (List Tree)). value_at m (bound_in c.args.env) (present_in c.args.env) (next_in c.args.env) o) (sym c.in_ok-choice.ensures.ok ∙ ap (option_map (λ (v : Vec Value Global). map tree_of v.items)) c.in-None.is)
 
 pub products::records-records_with-requires : goal.products::records-records_with-requires
 products::records-records_with-requires t c =

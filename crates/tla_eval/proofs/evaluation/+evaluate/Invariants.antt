@@ -2,7 +2,7 @@ use Rattle.std.proofs.Common.{◌≡◌, ℕ, ◌+◌, ◌*◌, ◌^◌, length,
 use Rattle.tla_value.specs.TreeOf.{tree_of, pair_of}
 use Rattle.tla_core.specs.Lists.{each, all_hold, some_hold, first_passing, passing}
 use Rattle.tla_core.specs.Fault.{◌>>=◌, Outcome}
-use Rattle.tla_eval.specs.Gives.{named_value, values_of, values_for, then_more}
+use Rattle.tla_eval.specs.Gives.{named_value, values_of, nothing_of, then_more}
 use Rattle.tla_value.specs.Choices.{parts_of, choices}
 use Rattle.tla_core.specs.SetForms.{field_has, parts_have}
 use Rattle.tla_core.specs.Meaning.{Meaning, asks}
@@ -13,6 +13,7 @@ use Rattle.tla_value.specs.declared.value.Value.{Value}
 use Rattle.tla_core.specs.Value.{means, mem}
 use Rattle.tla_core.specs.ExprOf.{expr_of, parts_of_cores, fields_of_cores, arms_of_cores, updates_of_cores}
 use Rattle.tla_eval.specs.Private.Environment.{tree_of_evaluated, bound_in, present_in, next_in}
+use Rattle.tla_eval.specs.Private.Gathered.{IsGathered}
 use Rattle.tla_core.specs.declared.expression.Core.{Core, size-Core}
 use Rattle.tla_eval.proofs.evaluation.+evaluate.Given as goal
 
@@ -143,22 +144,37 @@ decreases-binding::passing l = 2 ^ 66 * size-Core l.body.now + 4
 
 -- several names
 abbrev pub decreases-choices::image : goal.decreases-choices::image
-decreases-choices::image l = 2 ^ 66 * max (goal.size-choices::image l) (size-Core l.body.now) + 5
+decreases-choices::image l = 2 ^ 66 * max (goal.size-choices::image l) (size-Core l.body.now) + 6
 
 abbrev pub decreases-choices::function : goal.decreases-choices::function
-decreases-choices::function l = 2 ^ 66 * max (goal.size-choices::function l) (size-Core l.body.now) + 5
+decreases-choices::function l = 2 ^ 66 * max (goal.size-choices::function l) (size-Core l.body.now) + 7
+
+abbrev pub decreases-choices::function_on_members : goal.decreases-choices::function_on_members
+decreases-choices::function_on_members l = 2 ^ 66 * size-Core l.body.now + 6
+
+abbrev pub decreases-choices::function_on_tuples : goal.decreases-choices::function_on_tuples
+decreases-choices::function_on_tuples l = 2 ^ 66 * size-Core l.body.now + 6
 
 abbrev pub decreases-choices::evaluated_each : goal.decreases-choices::evaluated_each
 decreases-choices::evaluated_each l = 2 ^ 66 * goal.size-choices::evaluated_each l + 1
 
 abbrev pub decreases-choices::chosen : goal.decreases-choices::chosen
-decreases-choices::chosen l = 2 ^ 66 * size-Core l.body.now + 4
+decreases-choices::chosen l = 2 ^ 66 * size-Core l.body.now + 5
 
-abbrev pub decreases-choices::for_each : goal.decreases-choices::for_each
-decreases-choices::for_each l = 2 ^ 66 * size-Core l.body.now + 3
+abbrev pub decreases-choices::chosen_once : goal.decreases-choices::chosen_once
+decreases-choices::chosen_once l = 2 ^ 66 * size-Core l.body.now + 5
 
-abbrev pub decreases-choices::for_choices : goal.decreases-choices::for_choices
-decreases-choices::for_choices l = 2 ^ 66 * size-Core l.body.now + 3
+abbrev pub decreases-choices::pass_over : goal.decreases-choices::pass_over
+decreases-choices::pass_over l = 2 ^ 66 * size-Core l.body.now + 5
+
+abbrev pub decreases-choices::value_for : goal.decreases-choices::value_for
+decreases-choices::value_for l = 2 ^ 66 * size-Core l.body.now + 4
+
+abbrev pub decreases-choices::value_for_member : goal.decreases-choices::value_for_member
+decreases-choices::value_for_member l = 2 ^ 66 * size-Core l.body.now + 3
+
+abbrev pub decreases-choices::value_for_choice : goal.decreases-choices::value_for_choice
+decreases-choices::value_for_choice l = 2 ^ 66 * size-Core l.body.now + 3
 
 abbrev pub decreases-choices::value_with_all : goal.decreases-choices::value_with_all
 decreases-choices::value_with_all l = 2 ^ 66 * size-Core l.body.now + 2
@@ -243,16 +259,23 @@ invariant-choices::evaluated_each-loop-core l =
     each (λ (m : Meaning). m.value (bound_in l.env) (present_in l.env) (next_in l.env)) (parts_of_cores l.cores)
     ≡ (each (λ (m : Meaning). m.value (bound_in l.env) (present_in l.env) (next_in l.env)) (parts_of_cores (drop l.core-index l.cores)) >>= λ ys. Ok (map tree_of_evaluated l.values.items ++ ys))
 
-abbrev pub invariant-choices::for_each-loop-value : goal.invariant-choices::for_each-loop-value
-invariant-choices::for_each-loop-value l =
-    values_for (means (expr_of l.body)) (bound_in l.env) (present_in l.env) (next_in l.env) (map tree_of l.list ∷ [])
-    ≡ then_more (map tree_of l.values.items) (values_for (means (expr_of l.body)) (bound_in l.env) (present_in l.env) (next_in l.env) (map tree_of (drop l.value-index l.list) ∷ []))
-
-abbrev pub invariant-choices::for_choices-loop-number : goal.invariant-choices::for_choices-loop-number
-invariant-choices::for_choices-loop-number l =
+abbrev pub invariant-choices::chosen-loop-number : goal.invariant-choices::chosen-loop-number
+invariant-choices::chosen-loop-number l =
     let f : List Tree → Outcome Tree = λ c. (means (expr_of l.body)).value (bound_in l.env ++ c) (present_in l.env) (next_in l.env) in
     let all = choices (map (λ (r : Bor (List Value)). map tree_of r.now) l.lists) in
     each f all ≡ then_more (map tree_of l.values.items) (each f (drop l.number all))
+
+abbrev pub invariant-choices::chosen_once-loop-number : goal.invariant-choices::chosen_once-loop-number
+invariant-choices::chosen_once-loop-number l =
+    let f : List Tree → Outcome Tree = λ c. (means (expr_of l.body)).value (bound_in l.env ++ c) (present_in l.env) (next_in l.env) in
+    let all = choices (map (λ (r : Bor (List Value)). map tree_of r.now) l.lists) in
+    (kept : List Tree) × IsGathered kept l.values × (each f all ≡ then_more kept (each f (drop l.number all)))
+
+abbrev pub invariant-choices::pass_over-loop-number : goal.invariant-choices::pass_over-loop-number
+invariant-choices::pass_over-loop-number l =
+    let f : List Tree → Outcome Tree = λ c. (means (expr_of l.body)).value (bound_in l.env ++ c) (present_in l.env) (next_in l.env) in
+    let all = choices (map (λ (r : Bor (List Value)). map tree_of r.now) l.lists) in
+    nothing_of (each f all) ≡ nothing_of (each f (drop l.number all))
 
 abbrev pub invariant-updates::updated_by_all-loop-update : goal.invariant-updates::updated_by_all-loop-update
 invariant-updates::updated_by_all-loop-update l =

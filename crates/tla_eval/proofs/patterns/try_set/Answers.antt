@@ -1,5 +1,4 @@
-use Rattle.std.proofs.Common.{ap, sym, subst, map, ◌≡◌}
-use Rattle.tla_value.specs.TreeOf.{tree_of}
+use Rattle.std.proofs.Common.{subst}
 use Rattle.tla_core.specs.Lists.{each}
 use Rattle.tla_core.specs.Patterns.{fitting}
 use Rattle.tla_eval.specs.Gives.{GivesBy, nothing_of}
