@@ -4,3 +4,4 @@ pub mod Latest
 pub mod Walks
 pub mod Keys
 pub mod Tables
+pub mod Tabling

@@ -12,4 +12,5 @@ pub mod Refusal
 pub mod Mentions
 pub mod Latest
 pub mod LatestProps
+pub mod Tabled
 pub mod Private

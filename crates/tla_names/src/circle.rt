@@ -12,14 +12,18 @@ use crate::items::{Items, replaced_name};
 use crate::leads::Leads;
 use crate::mention::Mention;
 use crate::name_set::NameSet;
-use crate::names::Names;
 use crate::refusal::{no_memory, refusal_of};
+use crate::waiting::Waiting;
 use std::alloc::Global;
 use tla_config::{DefsCode, DefsError, Source};
 use tla_tree::{Unit, Word};
 
 /// The names that a name leads to at once, more. The only error is want of memory.
-fn push_next<'a>(leads: &Leads<'a>, names: &mut Names<'a>, name: &'a Word) -> Result<(), DefsError>
+fn push_next<'a>(
+    leads: &Leads<'a>,
+    names: &mut Waiting<'a>,
+    name: &'a Word,
+) -> Result<(), DefsError>
     ensures ok { OnOk result (names.new ≡ names.old ++ spec.next_names leads.now name.entry.now) }
     ensures err { IfErr result (λ e. e.code ≡ Memory) }
 {
@@ -33,7 +37,7 @@ fn push_next<'a>(leads: &Leads<'a>, names: &mut Names<'a>, name: &'a Word) -> Re
 #[derive(Drop)]
 struct Walk<'a> {
     passed: NameSet<'a>,
-    waiting: Names<'a>,
+    waiting: Waiting<'a>,
 }
 
 /// Goes on from a name. The only error is want of memory.
@@ -56,7 +60,7 @@ fn reached<'a>(alloc: Global, leads: &Leads<'a>, from: &'a Word) -> Result<NameS
 {
     let mut walk = Walk {
         passed: NameSet::new(alloc),
-        waiting: Names::new(alloc),
+        waiting: Waiting::new(alloc),
     };
     push_next(leads, &mut walk.waiting, from)?;
     for _turn in 0..u64::MAX {
