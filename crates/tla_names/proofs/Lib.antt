@@ -5,3 +5,5 @@ pub mod Walks
 pub mod Keys
 pub mod Tables
 pub mod Tabling
+pub mod Settling
+pub mod Firsts

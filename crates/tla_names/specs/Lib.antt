@@ -13,4 +13,5 @@ pub mod Mentions
 pub mod Latest
 pub mod LatestProps
 pub mod Tabled
+pub mod Firsts
 pub mod Private

@@ -36,7 +36,7 @@ impl<'a> Waiting<'a> {
     }
 
     /// One name more. The only error is want of memory.
-    fn push(&mut self, word: &'a Word) -> Result<(), DefsError>
+    pub(crate) fn push(&mut self, word: &'a Word) -> Result<(), DefsError>
         ensures ok { OnOk result (self.new ≡ self.old ++ word.entry.now ∷ []) }
         ensures err { IfErr result (λ e. e.code ≡ Memory) }
     {

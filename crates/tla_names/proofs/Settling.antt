@@ -1,0 +1,46 @@
+-- Names that are known not to lead to themselves.
+use Rattle.std.proofs.Common.{◌≡◌, refl, ap, sym, ◌∙◌, inl, inr, Bool, true, false, List, [], ◌∷◌, ◌++◌}
+use Rattle.std.specs.Prelude.{◌⊎◌}
+use Rattle.tla_config.specs.Names.{Name, is_among}
+use Rattle.tla_names.specs.Leads.{Lead, next_names, IsCircular}
+use Rattle.tla_names.specs.Private.Reached.{AreAmong}
+use Rattle.tla_names.specs.Private.Settled.{AreSettled}
+use Rattle.tla_names.proofs.Walks.{one, among_append, among_first, stays}
+
+nowhere : (y : Name) → is_among y [] ≡ true → ⊥
+nowhere y h = let z : ⊥ = cc in z
+
+pub all_none : (ys : List Name) → AreAmong [] ys
+all_none ys y h = absurd (nowhere y h)
+
+pub all_more : (x : Name) (xs ys : List Name) → is_among x ys ≡ true → AreAmong xs ys → AreAmong (x ∷ xs) ys
+all_more x xs ys h k z m = pick (among_append z (x ∷ []) xs m)
+  where
+    pick : (is_among z (x ∷ []) ≡ true) ⊎ (is_among z xs ≡ true) → is_among z ys ≡ true
+    pick (inl j) = ap (λ v. is_among v ys) (one z x j) ∙ h
+    pick (inr j) = k z j
+
+module _ (ls : List Lead) where
+  pub settled_none : AreSettled ls []
+  settled_none = record { covers = λ y h. absurd (nowhere y h); straight = λ y h. absurd (nowhere y h) }
+
+  pub settled_more : (xs : List Name) (x : Name) → AreAmong (next_names ls x) xs → AreSettled ls xs → AreSettled ls (xs ++ x ∷ [])
+  settled_more xs x h s = record {
+    covers = λ y k. covered y (among_append y xs (x ∷ []) k);
+    straight = λ y k. never y (among_append y xs (x ∷ []) k);
+  }
+    where
+      covered : (y : Name) → (is_among y xs ≡ true) ⊎ (is_among y (x ∷ []) ≡ true) → AreAmong (next_names ls y) (xs ++ x ∷ [])
+      covered y (inl k) z j = among_first z xs (x ∷ []) (s.covers y k z j)
+      covered y (inr k) z j = among_first z xs (x ∷ []) (h z (ap (λ v. is_among z (next_names ls v)) (sym (one y x k)) ∙ j))
+
+      never : (y : Name) → (is_among y xs ≡ true) ⊎ (is_among y (x ∷ []) ≡ true) → IsCircular ls y → ⊥
+      never y (inl k) c = s.straight y k c
+      never y (inr k) c =
+          let start : AreAmong (next_names ls y) xs = λ z j. h z (ap (λ v. is_among z (next_names ls v)) (sym (one y x k)) ∙ j) in
+          s.straight y (stays ls xs s.covers y y c.0 start c.1) c
+
+  -- a name that was put in, or that was there
+  pub settled_with : (b : Bool) (xs ys : List Name) (x : Name) → (b ≡ true → ys ≡ xs ++ x ∷ []) → (b ≡ false → ys ≡ xs) → AreAmong (next_names ls x) xs → AreSettled ls xs → AreSettled ls ys
+  settled_with true xs ys x new same h s = rw (new refl) (settled_more xs x h s)
+  settled_with false xs ys x new same h s = rw (same refl) s
