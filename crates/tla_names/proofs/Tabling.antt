@@ -28,7 +28,7 @@ among_more x (v ∷ ws) w = ap (λ b. bytes_eq x v.now || b) (among_more x ws w)
 -- a name that is there already adds nothing
 or_there : (a b : Bool) → (b ≡ true → a ≡ true) → (a || b) ≡ a
 or_there true b h = refl
-or_there false true h = h refl
+or_there false true h = sym (h refl)
 or_there false false h = refl
 
 -- the same name as a key of the table and in the list

@@ -6,7 +6,7 @@ ghost use Rattle.tla_tree.specs.UnitsView.{unit_view};
 ghost use Rattle.tla_names.specs.Circles.{AreStraight};
 ghost use Rattle.tla_names.specs.Leads as spec;
 ghost use Rattle.tla_names.specs.Private.Reached.{AreAmong, AreLed, Covers, GoesOn};
-ghost use Rattle.tla_names.specs.Private.Settled.{AreSettled};
+ghost use Rattle.tla_names.specs.Private.Settled.{AreSettled, all_among};
 ghost use Rattle.tla_names.specs.Refusal.{IsOfCircle};
 
 use crate::items::{Items, replaced_name};
@@ -86,7 +86,7 @@ fn is_circular<'a>(alloc: Global, leads: &Leads<'a>, name: &'a Word) -> Result<b
 
 /// Whether each of these names is one of the others.
 fn all_among<'a>(names: &Names<'a>, others: &NameSet<'a>) -> bool
-    ensures { result ≡ true → AreAmong names.now others.now }
+    ensures { result ≡ all_among names.now others.now }
 {
     let mut left = names.words();
     while let [first, rest @ ..] = left {
@@ -100,7 +100,7 @@ fn all_among<'a>(names: &Names<'a>, others: &NameSet<'a>) -> bool
 
 /// Whether a name leads at once to these names alone.
 fn leads_among<'a>(leads: &Leads<'a>, name: &'a Word, names: &NameSet<'a>) -> bool
-    ensures { result ≡ true → AreAmong (spec.next_names leads.now name.entry.now) names.now }
+    ensures { result ≡ all_among (spec.next_names leads.now name.entry.now) names.now }
 {
     match leads.next(name.as_bytes()) {
         Some(next) => all_among(next, names),
