@@ -1,5 +1,5 @@
 -- The first item of each name, as a table keeps it. Private contracts alone cite this.
-use Rattle.std.specs.Prelude.{◌≡◌, List, Option, map, option_map}
+use Rattle.std.specs.Prelude.{◌≡◌, List, map, option_map}
 use Rattle.std.specs.Borrow.{Bor}
 use Rattle.std.specs.Coded.{Coded-set}
 use Rattle.std.specs.Map.{lookup}
