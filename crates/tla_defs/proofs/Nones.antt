@@ -44,6 +44,27 @@ last_refusal us config is b e known at given valued behaves named straight last 
     let none : refused us config ≡ None = rw (known, g, v, behaves, named) refl in
     rw (none, behaves) (inr (s, last))
 
+-- where the steps before them refuse nothing, the names of the configuration are what is refused
+pub name_refusal : (us : List UnitTree) (config : ConfigTree) (is : List Item) (b : Behaviour) (e : DefsError) → misuse us ≡ None → is ≡ items_of config.statements
+    → items_misused (replaceable_of us) (nameable_of us) [] is ≡ None → unvalued (replaced_names is) us ≡ None → behaviour config.statements config.end None None ≡ Ok b
+    → refusal_for source.Configuration (names_misused (definitions_of us) config.statements) ≡ Some e → IsRefusal us config e
+name_refusal us config is b e known at given valued behaves named =
+    let g = rw at at given in
+    let v = rw at at valued in
+    let some : refused us config ≡ Some e = rw (known, g, v, behaves) named in
+    rw some refl
+
+-- where the steps that look at names refuse nothing, an item that leads back to its name is what is refused
+pub circle_refusal : (us : List UnitTree) (config : ConfigTree) (is : List Item) (b : Behaviour) (e : DefsError) → misuse us ≡ None → is ≡ items_of config.statements
+    → items_misused (replaceable_of us) (nameable_of us) [] is ≡ None → unvalued (replaced_names is) us ≡ None → behaviour config.statements config.end None None ≡ Ok b
+    → names_misused (definitions_of us) config.statements ≡ None → IsOfCircle (leads us is) is e → IsRefusal us config e
+circle_refusal us config is b e known at given valued behaves named circle =
+    let g = rw at at given in
+    let v = rw at at valued in
+    let c = rw at at circle in
+    let none : refused us config ≡ None = rw (known, g, v, behaves, named) refl in
+    rw none (inl c)
+
 pub if_err : {A E : Type 0} {P Q : E → Type 0} (r : Result A E) → ((e : E) → P e → Q e) → IfErr r P → IfErr r Q
 if_err (Ok x) f h = tt
 if_err (Err e) f h = f e h

@@ -4,3 +4,6 @@ pub mod Latest
 pub mod Walks
 pub mod Keys
 pub mod Tables
+pub mod Tabling
+pub mod Settling
+pub mod Firsts

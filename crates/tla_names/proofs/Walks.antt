@@ -36,7 +36,7 @@ pub among_second : (z : Name) (xs ys : List Name) → is_among z ys ≡ true →
 among_second z xs ys h = list_any-append (bytes_eq z) xs ys ∙ second (is_among z xs) (is_among z ys) h
 
 -- the one name of a list
-one : (z name : Name) → is_among z (name ∷ []) ≡ true → z ≡ name
+pub one : (z name : Name) → is_among z (name ∷ []) ≡ true → z ≡ name
 one z name h = only (either (bytes_eq z name) false h)
   where
     only : (bytes_eq z name ≡ true) ⊎ (false ≡ true) → z ≡ name

@@ -12,4 +12,6 @@ pub mod Refusal
 pub mod Mentions
 pub mod Latest
 pub mod LatestProps
+pub mod Tabled
+pub mod Firsts
 pub mod Private

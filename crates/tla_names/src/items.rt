@@ -7,6 +7,7 @@ ghost use Rattle.tla_config.specs.Statements as config;
 ghost use Rattle.tla_config.specs.View.{item_view, statement_view};
 ghost use Rattle.tla_tree.specs.UnitsView.{unit_view};
 ghost use Rattle.tla_value.specs.Tree as value;
+ghost use Rattle.tla_names.specs.Firsts.{AreFirst, AreFirst-prop};
 ghost use Rattle.tla_names.specs.Items as spec;
 ghost use Rattle.tla_names.specs.Leads as leads;
 ghost use Rattle.tla_names.specs.Scope as scopes;
@@ -21,15 +22,19 @@ use crate::mention::Mention;
 use crate::names::Names;
 use crate::refusal::{no_memory, refusal_of};
 use crate::scope::Scope;
+use indexmap::IndexMap;
 use std::alloc::Global;
 use std::marker::Model;
 use tla_config::{DefsCode, DefsError, Item, Source, Statement};
 use tla_tree::{Definition, Unit, Word, Written};
 
-/// Items in the order of the configuration. Contracts see the list of what they say.
+/// Items in the order of the configuration, and a table of the first one of each name. Contracts see the list of what they
+/// say.
 #[derive(Drop)]
 pub struct Items<'a> {
     list: Vec<&'a Item>,
+    firsts: IndexMap<&'a [u8], &'a Item>,
+    ghost first_ones: { AreFirst firsts.entries list.items } by { AreFirst-prop firsts.entries list.items },
 }
 
 impl<'a> Model for Items<'a> {
@@ -54,8 +59,19 @@ impl<'a> Items<'a> {
         ensures err { IfErr result (λ e. e.code ≡ Memory) }
     {
         match self.list.push(item) {
-            Ok(()) => Ok(()),
-            Err(_) => Err(no_memory()),
+            Ok(()) => {}
+            Err(_) => return Err(no_memory()),
+        }
+        let name = replaced_name(item).word.as_bytes();
+        if self.firsts.contains_key(&name) {
+            return Ok(());
+        }
+        match self.firsts.insert(name, item) {
+            Ok(_) => Ok(()),
+            Err(_) => {
+                self.list.pop();
+                Err(no_memory())
+            }
         }
     }
 
@@ -95,6 +111,7 @@ impl<'a> Items<'a> {
     {
         let mut items = Items {
             list: Vec::new(alloc),
+            firsts: IndexMap::new(alloc),
         };
         let mut left = statements;
         while let [first, rest @ ..] = left {
@@ -115,14 +132,10 @@ impl<'a> Items<'a> {
     fn first(&self, name: &[u8]) -> Option<&'a Item>
         ensures { option_map item_of result ≡ spec.item_for self.now name.now }
     {
-        let mut left = self.list.as_slice();
-        while let [first, rest @ ..] = left {
-            if name == replaced_name(first).word.as_bytes() {
-                return Some(*first);
-            }
-            left = rest;
+        match self.firsts.get(&name) {
+            Some(item) => Some(*item),
+            None => None,
         }
-        None
     }
 
     /// The name that a name means: Op, where it has an item `c <- Op`. None where it has a value.

@@ -18,6 +18,7 @@ mod names_in;
 mod refusal;
 mod scope;
 mod units;
+mod waiting;
 
 pub use circle::straight;
 pub use items::{Items, definitions_of, name_of, valued};

@@ -1,21 +1,25 @@
 //! Lists of names.
 
-ghost use Rattle.std.specs.Prelude.{◌≡◌, ◌++◌, ◌∷◌, [], OnOk, IfOk, IfErr, IfSome, IfNone, map, List, ℕ};
+ghost use Rattle.std.specs.Prelude.{◌≡◌, ◌++◌, ◌∷◌, [], OnOk, IfOk, IfErr, map, List, ℕ};
 ghost use Rattle.std.specs.Borrow.{Bor};
 ghost use Rattle.tla_config.specs.declared.error.DefsCode.TheVariants.{Memory};
 ghost use Rattle.tla_config.specs.Names.{is_among};
+ghost use Rattle.tla_names.specs.Tabled.{IsTabled, IsTabled-prop};
 
 use crate::refusal::{no_memory, text_of};
+use indexmap::IndexSet;
 use std::alloc::Global;
 use std::marker::Model;
 use tla_config::DefsError;
 use tla_tree::Word;
 use tla_value::Text;
 
-/// Names in the order in which they were brought in.
+/// Names in the order in which they were brought in, and a table in which each is found.
 #[derive(Drop)]
 pub struct Names<'a> {
     words: Vec<&'a Word>,
+    table: IndexSet<&'a [u8]>,
+    ghost tabled: { IsTabled table.keys words.items } by { IsTabled-prop table.keys words.items },
 }
 
 impl<'a> Model for Names<'a> {
@@ -34,6 +38,7 @@ impl<'a> Names<'a> {
     {
         Names {
             words: Vec::new(alloc),
+            table: IndexSet::new(alloc),
         }
     }
 
@@ -43,30 +48,16 @@ impl<'a> Names<'a> {
         ensures err { IfErr result (λ e. e.code ≡ Memory) }
     {
         match self.words.push(word) {
-            Ok(()) => Ok(()),
-            Err(_) => Err(no_memory()),
+            Ok(()) => {}
+            Err(_) => return Err(no_memory()),
         }
-    }
-
-    /// Names more. The only error is want of memory.
-    pub(crate) fn push_names(&mut self, names: &Names<'a>) -> Result<(), DefsError>
-        ensures ok { OnOk result (self.new ≡ self.old ++ names.now) }
-        ensures err { IfErr result (λ e. e.code ≡ Memory) }
-    {
-        let mut left = names.words.as_slice();
-        while let [first, rest @ ..] = left {
-            self.push(first)?;
-            left = rest;
+        match self.table.insert(word.as_bytes()) {
+            Ok(_) => Ok(()),
+            Err(_) => {
+                self.words.pop();
+                Err(no_memory())
+            }
         }
-        Ok(())
-    }
-
-    /// Takes the last name away.
-    pub(crate) fn pop(&mut self) -> Option<&'a Word>
-        ensures some { IfSome result (λ w. self.old ≡ self.new ++ w.now ∷ []) }
-        ensures none { IfNone result (self.old ≡ []) }
-    {
-        self.words.pop()
     }
 
     /// The texts of the names, in order. The only error is want of memory.
@@ -90,14 +81,7 @@ impl<'a> Names<'a> {
     pub fn contains(&self, name: &[u8]) -> bool
         ensures { result ≡ is_among name.now self.now }
     {
-        let mut left = self.words.as_slice();
-        while let [first, rest @ ..] = left {
-            if name == first.as_bytes() {
-                return true;
-            }
-            left = rest;
-        }
-        false
+        self.table.contains(&name)
     }
 
     /// The names in order.

@@ -4,7 +4,7 @@ use Rattle.tla_tree.specs.UnitsView.{unit_view}
 use Rattle.tla_config.specs.Statements.{items_of}
 use Rattle.tla_defs.specs.Private.Mentions.{behaviour_of}
 use Rattle.tla_defs.proofs.Behaviours.{behaviour_only}
-use Rattle.tla_defs.proofs.Nones.{no_behaviour, no_items, no_names, no_circle, last_refusal, if_err}
+use Rattle.tla_defs.proofs.Nones.{no_behaviour, no_items, no_names, no_circle, name_refusal, circle_refusal, last_refusal, if_err}
 use Rattle.tla_defs.proofs.builder.model_or_refusal.Goals as goal
 
 pub model-requires-clause-only : goal.model-requires-clause-only
@@ -40,3 +40,20 @@ returns-clause-refused c =
     (c.in_ok-items.ensures.ok ∙ ap (λ cs. items_of cs) c.statements-statements.ensures) c.in_ok-valued.ensures.given c.in_ok-valued.ensures.valued c.in-Ok.ensures
     (rw (c.in_ok-definitions.ensures.ok, c.statements-statements.ensures) at c.in_ok-statements_named.ensures) c.in_ok-straight.ensures.ok (h m))
     c.model.ensures.refused
+
+pub returns-in_err-statements_named-clause-refused : goal.returns-in_err-statements_named-clause-refused
+returns-in_err-statements_named-clause-refused c =
+    let e = err_from_is_err_and c.from_residual-in_err-statements_named.result c.from_residual-in_err-statements_named.ensures.1 in
+    rw (e.1, e.2) (λ h. name_refusal (map unit_view c.args.units.now) c.args.config.now c.in_ok-items.items (behaviour_of c.in-Ok.found) _ c.in_ok-variables.ensures.known
+    (c.in_ok-items.ensures.ok ∙ ap (λ cs. items_of cs) c.statements-statements.ensures) c.in_ok-valued.ensures.given c.in_ok-valued.ensures.valued c.in-Ok.ensures
+    (rw (c.in_ok-definitions.ensures.ok, c.statements-statements.ensures) at (c.in_err-statements_named.ensures h)))
+
+pub returns-in_err-straight-clause-refused : goal.returns-in_err-straight-clause-refused
+returns-in_err-straight-clause-refused c =
+    let e = err_from_is_err_and c.from_residual-in_err-straight.result c.from_residual-in_err-straight.ensures.1 in
+    rw (e.1, e.2) (λ h. circle_refusal (map unit_view c.args.units.now) c.args.config.now c.in_ok-items.items (behaviour_of c.in-Ok.found) _ c.in_ok-variables.ensures.known
+    (c.in_ok-items.ensures.ok ∙ ap (λ cs. items_of cs) c.statements-statements.ensures) c.in_ok-valued.ensures.given c.in_ok-valued.ensures.valued c.in-Ok.ensures
+    (rw (c.in_ok-definitions.ensures.ok, c.statements-statements.ensures) at c.in_ok-statements_named.ensures) (c.in_err-straight.ensures.err h))
+
+pub returns-clause-found : goal.returns-clause-found
+returns-clause-found c = rw c.statements-statements.ensures at c.model.ensures.found

@@ -10,7 +10,7 @@ returns-then-branch-clause-err c = λ h.
     let left = c.loop-left.left.now in
     let name = c.replaced_name-name.result.now in
     let some : 0 < length left = omega arith in
-    let circle = c.in_ok-is_circular.ensures.yes c.if-branch.true in
+    let circle = c.in_ok-leads_back.ensures.yes c.if-branch.true in
     record {
       name = name;
       first = c.loop-left.invariant.first name (first_here c.args.leads.now left c.first-item.result name some c.first-item.is (sym c.replaced_name-name.ensures) circle);
