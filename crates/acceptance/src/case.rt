@@ -14,8 +14,6 @@ pub enum Wanted {
     Lines,
     /// Of each module of `texts` with the configuration behind it, in turn, the next part of the report.
     Texts,
-    /// Beside the report, what `told` says.
-    Told,
 }
 
 /// A line of the list.
@@ -35,8 +33,6 @@ impl Wanted {
             Some(Wanted::Lines)
         } else if word == "texts" {
             Some(Wanted::Texts)
-        } else if word == "told" {
-            Some(Wanted::Told)
         } else {
             Some(Wanted::Status(word.parse().ok()?))
         }
