@@ -7,7 +7,6 @@
 mod behaviour;
 mod builder;
 mod conjuncts;
-mod cover;
 mod fairness;
 mod formula;
 mod global;

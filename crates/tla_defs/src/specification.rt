@@ -14,7 +14,6 @@ ghost use Rattle.tla_defs.specs.Subscripts as subscripts;
 ghost use Rattle.tla_defs.specs.Private.Specified.{IsForm, LacksState, NoForm};
 
 use crate::conjuncts::{Classes, parts_of};
-use crate::cover::covers;
 use crate::table::{Class, Definitions, Table};
 use indexmap::IndexSet;
 use std::alloc::Global;
@@ -38,18 +37,6 @@ fn not_of_form(place: Place) -> DefsError
     refusal_at(DefsCode::SpecificationForm, Source::Configuration, place)
 }
 
-/// The refusal of a subscript of a specification at a place: it says nothing, or it is too large.
-fn subscript_refusal(failure: Failure, place: Place, begins: Place) -> DefsError
-    ensures refused { result.code ≢ Memory → refused.IsLast (Some (refusal.refusal_at DefsCode.SpecificationForm Source.Configuration place)) result }
-    ensures memory { failure ≡ Failure.Memory → result.code ≡ Memory }
-{
-    match failure {
-        Failure::Memory => no_memory(),
-        Failure::NoExpansion(_) => not_of_form(place),
-        Failure::TooLarge => refusal_at(DefsCode::ExpansionTooLarge, Source::Module, begins),
-    }
-}
-
 /// A subscript that covers so many variables.
 fn covered<'a>(
     alloc: Global,
@@ -62,15 +49,10 @@ fn covered<'a>(
     ensures refused { IfErr result (λ e. e.code ≢ Memory → refused.IsLast (Some (refusal.refusal_at DefsCode.SpecificationForm Source.Configuration place)) e) }
     ensures none { IfErr result (λ e. e.code ≢ Memory → subscripts.IsCover (scope_of scopes.now) variables (view subscript.entry.now) → ⊥) }
 {
-    match scopes.expansion(alloc, subscript, Primes::Never) {
-        Ok(core) => {
-            if covers(variables, &core) {
-                Ok(())
-            } else {
-                Err(not_of_form(place))
-            }
-        }
-        Err(failure) => Err(subscript_refusal(failure, place, subscript.place())),
+    match scopes.covers(alloc, subscript, variables) {
+        Ok(true) => Ok(()),
+        Ok(false) => Err(not_of_form(place)),
+        Err(_) => Err(no_memory()),
     }
 }
 

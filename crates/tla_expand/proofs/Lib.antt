@@ -2,6 +2,7 @@ pub mod Primed
 pub mod Levels
 pub mod Vectors
 pub mod Links
+pub mod Cuts
 pub mod Binds
 pub mod Steps
 pub mod Shorter
@@ -22,3 +23,5 @@ pub mod PrimesFit
 pub mod UnchangedFits
 pub mod Fitting
 pub mod Apart
+pub mod Nameless
+pub mod Walking

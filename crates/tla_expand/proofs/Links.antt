@@ -155,3 +155,9 @@ home_keep old mid new e i n m b = rw (n, m) (scope_keep old (e ∷ []) i b)
 
 pub bind_scope : (old mid : List Entry) (τ : Scope) (scope : ℕ) (x y : Name) (i : ℕ) → τ ≡ with_name x (bound_name i) (scope_at mid scope) → mid ≡ old → x ≡ y → τ ≡ with_name y (bound_name i) (scope_at old scope)
 bind_scope old mid τ scope x y i h m e = h ∙ rw (m, e) refl
+
+-- there is one entry of a number
+pub same_entry : (es : List Entry) (k : ℕ) (e f : Entry) → k < length es → e ≡ get_or es k e → f ≡ get_or es k f → e ≡ f
+same_entry [] k e f h p q = absurd (omega arith)
+same_entry (g ∷ es) zero e f h p q = p ∙ sym q
+same_entry (g ∷ es) (suc k) e f h p q = same_entry es k e f (omega arith) p q

@@ -9,6 +9,7 @@ pub mod Library
 pub mod Meanings
 pub mod Bound
 pub mod Expand
+pub mod Covers
 pub mod Scopes
 pub mod Linked
 pub mod Names

@@ -3,3 +3,4 @@ pub mod Forms
 pub mod Parameters
 pub mod Binders
 pub mod Gives
+pub mod Walks

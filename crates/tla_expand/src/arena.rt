@@ -1,6 +1,7 @@
 //! Scopes in memory.
 
-ghost use Rattle.std.specs.Prelude.{◌≡◌, ◌≤◌, length, IfSome, IfNone, IfOk, OnOk, IfErr, Some, ◌++◌, ◌∷◌, []};
+ghost use Rattle.std.specs.Prelude.{◌≡◌, ◌≤◌, ◌<◌, length, get_or, IfSome, IfNone, IfOk, OnOk, IfErr, Some, ◌++◌, ◌∷◌, []};
+ghost use Rattle.tla_expand.specs.declared.arena.Entry as arena_entry;
 ghost use Rattle.tla_expand.specs.Meanings.{standard, with_parameters};
 ghost use Rattle.tla_expand.specs.Scopes.{AreLinked, IsBelow, Extends, scope_at, entry_scope, meaning_of, arguments_in};
 
@@ -36,6 +37,25 @@ pub(crate) struct Entry<'a> {
     pub(crate) rest: usize,
 }
 
+/// The entry that a name has in a scope, by its number.
+pub(crate) fn position(entries: &[Entry<'_>], scope: usize, name: &[u8]) -> Option<usize>
+    requires linked { AreLinked entries.now }
+    requires within { scope ≤ length entries.now }
+    ensures found { IfSome result (λ k. (e : arena_entry.Entry) → e ≡ get_or entries.now k e → scope_at entries.now scope name.now ≡ meaning_of (scope_at entries.now) e.what) }
+    ensures there { IfSome result (λ k. k < length entries.now) }
+    ensures none { IfNone result (scope_at entries.now scope name.now ≡ standard name.now) }
+{
+    let mut at = scope;
+    while at > 0 {
+        let entry = entries[at - 1];
+        if entry.name == name {
+            return Some(at - 1);
+        }
+        at = entry.rest;
+    }
+    None
+}
+
 /// What a name means in a scope.
 pub(crate) fn find<'a>(entries: &[Entry<'a>], scope: usize, name: &[u8]) -> Option<Entry<'a>>
     requires linked { AreLinked entries.now }
@@ -44,15 +64,10 @@ pub(crate) fn find<'a>(entries: &[Entry<'a>], scope: usize, name: &[u8]) -> Opti
     ensures below { IfSome result (λ e. IsBelow (length entries.now) e.what e.rest) }
     ensures none { IfNone result (scope_at entries.now scope name.now ≡ standard name.now) }
 {
-    let mut at = scope;
-    while at > 0 {
-        let entry = entries[at - 1];
-        if entry.name == name {
-            return Some(entry);
-        }
-        at = entry.rest;
+    match position(entries, scope, name) {
+        Some(at) => Some(entries[at]),
+        None => None,
     }
-    None
 }
 
 /// Adds an entry, and gives its scope. The only error is want of memory.

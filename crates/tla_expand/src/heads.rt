@@ -228,7 +228,7 @@ fn go<'a>(
 }
 
 /// The next step towards the form of an expression.
-fn next_step<'a>(
+pub(crate) fn next_step<'a>(
     entries: &mut Vec<Entry<'a>>,
     tree: &'a Expr,
     scope: usize,
@@ -254,6 +254,29 @@ fn next_step<'a>(
     }
 }
 
+/// The larger of two.
+fn larger(first: usize, second: usize) -> usize
+    ensures first { first ≤ result }
+    ensures second { second ≤ result }
+    ensures least { (n : ℕ) → first ≤ n → second ≤ n → result ≤ n }
+{
+    if first < second { second } else { first }
+}
+
+/// Gives back the entries behind a scope, and behind so many: what a call leaves behind that comes to one of its arguments.
+fn give_back<'a>(entries: &mut Vec<Entry<'a>>, kept: usize, scope: usize)
+    requires linked { AreLinked entries.old.items }
+    requires kept { kept ≤ length entries.old.items }
+    requires scope { scope ≤ length entries.old.items }
+    ensures linked { AreLinked entries.new.items }
+    ensures within { scope ≤ length entries.new.items }
+    ensures same { scope_at entries.new.items scope ≡ scope_at entries.old.items scope }
+    ensures extends { (es : List arena_entry.Entry) → length es ≤ kept → Extends entries.old.items es → Extends entries.new.items es }
+{
+    let end = larger(kept, scope);
+    entries.truncate(end);
+}
+
 /// Where the last prime stands, with that of an expression.
 fn last_prime(tree: &Expr, before: Option<Place>) -> Option<Place> {
     match tree {
@@ -277,6 +300,27 @@ pub(crate) fn find_head<'a>(
     ensures same { IfOk result (λ h. (d : ℕ) → with_primes primes (expand (view start.now) (scope_at entries.old.items scope) d) ≡ head_gives entries.new.items h d) }
     ensures err { IfErr result (λ e. Explains e (λ d. with_primes primes (expand (view start.now) (scope_at entries.old.items scope) d))) }
 {
+    let mark = entries.len();
+    head_behind(entries, start, scope, primes, mark)
+}
+
+/// The form of an expression, where there are so many entries.
+fn head_behind<'a>(
+    entries: &mut Vec<Entry<'a>>,
+    start: &'a Expr,
+    scope: usize,
+    primes: Primes,
+    mark: usize,
+) -> Result<Head<'a>, Failure>
+    requires mark { mark ≡ length entries.old.items }
+    requires linked { AreLinked entries.old.items }
+    requires scope { scope ≤ length entries.old.items }
+    ensures linked { OnOk result (AreLinked entries.new.items) }
+    ensures extends { OnOk result (Extends entries.new.items entries.old.items) }
+    ensures within { IfOk result (λ h. h.scope ≤ length entries.new.items) }
+    ensures same { IfOk result (λ h. (d : ℕ) → with_primes primes (expand (view start.now) (scope_at entries.old.items scope) d) ≡ head_gives entries.new.items h d) }
+    ensures err { IfErr result (λ e. Explains e (λ d. with_primes primes (expand (view start.now) (scope_at entries.old.items scope) d))) }
+{
     let mut tree = start;
     let mut at = scope;
     let mut with = primes;
@@ -285,6 +329,7 @@ pub(crate) fn find_head<'a>(
         match next_step(entries, tree, at, with)? {
             Step::Ends(head) => return Ok(Head { primed, ..head }),
             Step::Goes(next, inner, more) => {
+                give_back(entries, mark, inner);
                 primed = last_prime(tree, primed);
                 tree = next;
                 at = inner;

@@ -8,6 +8,7 @@ mod arena;
 mod binders;
 mod builders;
 mod conjunction;
+mod cover;
 mod expand;
 mod expanded;
 mod failure;

@@ -1,6 +1,6 @@
 //! The names of a module, with what they mean.
 
-ghost use Rattle.std.specs.Prelude.{◌≡◌, ◌≢◌, ◌≤◌, [], length, map, IfOk, IfErr, Some, None};
+ghost use Rattle.std.specs.Prelude.{◌≡◌, ◌≢◌, ◌≤◌, [], length, map, IfOk, IfErr, Some, None, true, false};
 ghost use Rattle.std.specs.Borrow.{Bor};
 ghost use Rattle.tla_core.specs.declared.fault.Place.{Place};
 ghost use Rattle.tla_core.specs.Expr as expr;
@@ -10,6 +10,7 @@ ghost use Rattle.tla_tree.specs.Tree.{Name, Junction, trees as trees_of};
 ghost use Rattle.tla_tree.specs.declared.tree.Bullet.TheVariants as bullet;
 ghost use Rattle.tla_tree.specs.declared.tree.Expr as syntax;
 ghost use Rattle.tla_tree.specs.View.{view, definition_view};
+ghost use Rattle.tla_expand.specs.Covers as cover;
 ghost use Rattle.tla_expand.specs.Meanings.{standard, with_name, variable, value_name, operator};
 ghost use Rattle.tla_expand.specs.Expand.{definition_in, expand};
 ghost use Rattle.tla_expand.specs.Scopes.{AreLinked, IsBelow, entry_scope, scope_at};
@@ -18,6 +19,7 @@ ghost use Rattle.tla_expand.specs.Primes.{with_primes};
 
 use crate::arena::{Entry, What, enter, find};
 use crate::conjunction::conjunction;
+use crate::cover::covers;
 use crate::expand::expansion;
 use crate::failure::Failure;
 use crate::heads::entry_of;
@@ -284,6 +286,19 @@ impl<'a> Scopes<'a> {
                 Err(Failure::NoExpansion(refused_at(again, first)))
             }
             made => made,
+        }
+    }
+
+    /// Whether an expression stands for a variable or a nested tuple of variables that covers the first so many. The tuple
+    /// isn't made, so no limit is set to it. The only error is want of memory.
+    pub fn covers(&self, alloc: Global, tree: &'a Expr, variables: usize) -> Result<bool, Failure>
+        ensures yes { IfOk result (λ b. b ≡ true → (e : expr.Expr) × (expand (view tree.now) (scope_of self.now) 0 ≡ Some e) × (cover.covers variables e ≡ true)) }
+        ensures no { IfOk result (λ b. b ≡ false → (e : expr.Expr) → expand (view tree.now) (scope_of self.now) 0 ≡ Some e → cover.covers variables e ≡ false) }
+        ensures err { IfErr result (λ f. f ≡ Failure.Memory) }
+    {
+        match Vec::from_slice(alloc, self.entries.as_slice()) {
+            Ok(entries) => covers(alloc, entries, tree, self.current, variables),
+            Err(_) => Err(Failure::Memory),
         }
     }
 }

@@ -1,38 +1,11 @@
-use Rattle.std.proofs.Common.{rules, ◌≡◌, length, ◌+◌, ◌-◌, true, false, arith, sym, ◌∙◌, ap}
-use Rattle.std.specs.Str.{bytes_eq}
-use Rattle.tla_expand.specs.Meanings.{Scope}
-use Rattle.tla_expand.proofs.Links.{find_hit, find_miss, scope_zero, below_rest, below_more, below_at}
+use Rattle.std.proofs.Common.{length, arith}
+use Rattle.tla_expand.proofs.Links.{below_more, below_at}
 use Rattle.tla_expand.proofs.arena.find.Goals as goal
 
-pub returns-then-eq-clause-found : goal.returns-then-eq-clause-found
-returns-then-eq-clause-found c =
-    let p : c.loop-at.at ≡ (c.loop-at.at - 1) + 1 = omega arith in
-    let q : bytes_eq c.index-entries-at.result.name.now c.args.name.now ≡ true = search rules in
-    sym c.loop-at.invariant.same ∙ find_hit c.args.entries.now c.loop-at.at (c.loop-at.at - 1) c.args.name.now c.index-entries-at.result c.requires.linked p (omega arith) c.index-entries-at.is q
+pub returns-in-Some-clause-found : goal.returns-in-Some-clause-found
+returns-in-Some-clause-found c = c.in-Some.ensures.found c.index-entries-at.result c.index-entries-at.is
 
-pub returns-then-eq-clause-below : goal.returns-then-eq-clause-below
-returns-then-eq-clause-below c =
-    below_more (c.loop-at.at - 1) (length c.args.entries.now) c.index-entries-at.result.what c.index-entries-at.result.rest (omega arith)
-    (below_at c.args.entries.now (c.loop-at.at - 1) c.index-entries-at.result c.requires.linked (omega arith) c.index-entries-at.is)
-
-pub loop-at-smaller : goal.loop-at-smaller
-loop-at-smaller c =
-    let b = below_at c.args.entries.now (c.loop-at.at - 1) c.index-entries-at.result c.requires.linked (omega arith) c.index-entries-at.is in
-    let r = below_rest (c.loop-at.at - 1) c.index-entries-at.result.what c.index-entries-at.result.rest b in
-    omega arith
-
-pub loop-at-preserved : goal.loop-at-preserved
-loop-at-preserved c =
-    let b = below_at c.args.entries.now (c.loop-at.at - 1) c.index-entries-at.result c.requires.linked (omega arith) c.index-entries-at.is in
-    let r = below_rest (c.loop-at.at - 1) c.index-entries-at.result.what c.index-entries-at.result.rest b in
-    let p : c.loop-at.at ≡ (c.loop-at.at - 1) + 1 = omega arith in
-    let q : bytes_eq c.index-entries-at.result.name.now c.args.name.now ≡ false = search rules in
-    record {
-      within = omega arith;
-      same = sym (find_miss c.args.entries.now c.loop-at.at (c.loop-at.at - 1) c.args.name.now c.index-entries-at.result c.requires.linked p (omega arith) c.index-entries-at.is q) ∙ c.loop-at.invariant.same;
-    }
-
-pub returns-clause-none : goal.returns-clause-none
-returns-clause-none c =
-    let z : c.loop-at.at ≡ 0 = omega arith in
-    sym c.loop-at.invariant.same ∙ rw z (ap (λ (σ : Scope). σ c.args.name.now) (scope_zero c.args.entries.now))
+pub returns-in-Some-clause-below : goal.returns-in-Some-clause-below
+returns-in-Some-clause-below c =
+    below_more c.in-Some.at (length c.args.entries.now) c.index-entries-at.result.what c.index-entries-at.result.rest (omega (arith, c.in-Some.ensures.there))
+    (below_at c.args.entries.now c.in-Some.at c.index-entries-at.result c.requires.linked c.in-Some.ensures.there c.index-entries-at.is)

@@ -1,6 +1,6 @@
 use Rattle.std.proofs.Common.{◌≡◌, ◌≤◌, length}
 use Rattle.tla_expand.specs.Scopes.{scope_at}
-use Rattle.tla_expand.proofs.arena.find.Given as goal
+use Rattle.tla_expand.proofs.arena.position.Given as goal
 
 abbrev pub invariant-loop-at : goal.invariant-loop-at
 invariant-loop-at l = record {

@@ -1,0 +1,291 @@
+//! Whether an expression stands for a nested tuple that covers the variables. It is found part by part, without the tuple,
+//! however large that is; what a name stands for is gone through once.
+
+ghost use Rattle.std.specs.Prelude.{◌≡◌, ◌≤◌, ◌++◌, ◌∷◌, [], length, true, false, nat_eq, Option, IfOk, OnOk, IfErr, IfSome, IfNone, Some};
+ghost use Rattle.indexmap.specs.IndexSet.{insert_key};
+ghost use Rattle.tla_core.specs.Expr as expr;
+ghost use Rattle.tla_tree.specs.View.{view};
+ghost use Rattle.tla_expand.specs.Covers as spec;
+ghost use Rattle.tla_expand.specs.Expand as expansion;
+ghost use Rattle.tla_expand.specs.Primes.{with_primes};
+ghost use Rattle.tla_expand.specs.Private.Gives.{head_gives, step_gives, IsWithin};
+ghost use Rattle.tla_expand.specs.Private.Walks as walks;
+ghost use Rattle.tla_expand.specs.Private.Walks.{IsNamed, IsAmong, IsAdded, IsInside, ArePushed, IsWalkTo, IsWalk, GoesOn, HasEach};
+ghost use Rattle.tla_expand.specs.Scopes.{AreLinked, scope_at};
+
+use crate::arena::{Entry, position};
+use crate::failure::Failure;
+use crate::heads::{Head, Step, next_step};
+use crate::nodes::{Form, Many};
+use crate::parts::push;
+use crate::primes::Primes;
+use indexmap::IndexSet;
+use std::alloc::Global;
+use tla_tree::Expr;
+
+/// What is left to do.
+#[derive(Clone, Copy)]
+pub(crate) enum Left<'a> {
+    /// To look at an expression in a scope, with so many primes on it.
+    Part(&'a Expr, usize, Primes),
+    /// To note that an entry was gone through, with so many primes on it.
+    End(Gone),
+}
+
+/// An entry, with so many primes on it.
+#[derive(Clone, Copy, PartialEq, Eq, Hash)]
+pub(crate) struct Gone {
+    pub(crate) entry: usize,
+    pub(crate) primes: Primes,
+}
+
+/// What a form is of a nested tuple of variables.
+#[derive(Clone, Copy)]
+pub(crate) enum Piece<'a> {
+    Variable(usize),
+    Tuple(&'a [Expr]),
+    Other,
+}
+
+/// A walk over the parts of a nested tuple: what is left, the next one last; the entries that were gone through, and the
+/// variables that were met.
+#[derive(Drop)]
+pub(crate) struct Walk<'a> {
+    pub(crate) entries: Vec<Entry<'a>>,
+    pub(crate) left: Vec<Left<'a>>,
+    pub(crate) gone: IndexSet<Gone>,
+    pub(crate) met: IndexSet<usize>,
+}
+
+/// The entry that a name stands for.
+fn named(entries: &[Entry<'_>], tree: &Expr, scope: usize) -> Option<usize>
+    requires linked { AreLinked entries.now }
+    requires within { scope ≤ length entries.now }
+    ensures { IfSome result (λ k. IsNamed entries.now (view tree.now) scope k) }
+{
+    match tree {
+        Expr::Name(name) => position(entries, scope, name.word.as_bytes()),
+        _ => None,
+    }
+}
+
+/// What a form with its primes is.
+fn piece_of<'a>(head: Head<'a>) -> Piece<'a>
+    ensures { result ≡ walks.piece_of head.entry.primes head.entry.form }
+{
+    match head.form {
+        Form::Variable(_, variable) => match head.primes {
+            Primes::Never => Piece::Variable(variable),
+            Primes::Once | Primes::Twice => Piece::Other,
+        },
+        Form::Many(_, Many::Tuple, items) => Piece::Tuple(items),
+        _ => Piece::Other,
+    }
+}
+
+/// Parts of a tuple more. The only error is want of memory.
+fn push_parts<'a>(
+    left: &mut Vec<Left<'a>>,
+    items: &'a [Expr],
+    scope: usize,
+    primes: Primes,
+) -> Result<(), Failure>
+    ensures ok { OnOk result (ArePushed left.old.items items.entry.now scope primes left.new.items) }
+    ensures err { IfErr result (λ f. f ≡ Failure.Memory) }
+{
+    for i in 0..items.len() {
+        push(left, Left::Part(&items[i], scope, primes))?;
+    }
+    Ok(())
+}
+
+/// Notes a variable. The only error is want of memory.
+fn meet(met: &mut IndexSet<usize>, variable: usize) -> Result<(), Failure>
+    ensures ok { OnOk result (met.new.keys ≡ insert_key nat_eq met.old.keys variable) }
+    ensures err { IfErr result (λ f. f ≡ Failure.Memory) }
+{
+    match met.insert(variable) {
+        Ok(_) => Ok(()),
+        Err(_) => Err(Failure::Memory),
+    }
+}
+
+/// Notes an entry that was gone through. The only error is want of memory.
+fn go_by(gone: &mut IndexSet<Gone>, entry: Gone) -> Result<(), Failure>
+    ensures ok { OnOk result (IsAdded gone.old.keys entry gone.new.keys) }
+    ensures err { IfErr result (λ f. f ≡ Failure.Memory) }
+{
+    match gone.insert(entry) {
+        Ok(_) => Ok(()),
+        Err(_) => Err(Failure::Memory),
+    }
+}
+
+/// Whether an entry was gone through.
+fn was_gone(gone: &IndexSet<Gone>, entry: Gone) -> bool
+    ensures { result ≡ true → IsAmong entry gone.now.keys }
+{
+    gone.contains(&entry)
+}
+
+/// Goes on with a form; whether it is a variable or a tuple. The only error is want of memory.
+fn go_into<'a>(walk: &mut Walk<'a>, head: Head<'a>) -> Result<bool, Failure>
+    requires within { head.scope ≤ length walk.old.entries.items }
+    ensures goes { IfOk result (λ b. (whole : Option expr.Expr) → IsWalkTo whole walk.old.entries.items walk.old.left.items walk.old.gone.keys walk.old.met.keys (head_gives walk.old.entries.items head.entry 0) → GoesOn whole walk.new.entries.items walk.new.left.items walk.new.gone.keys walk.new.met.keys b) }
+    ensures err { IfErr result (λ f. f ≡ Failure.Memory) }
+{
+    match piece_of(head) {
+        Piece::Variable(variable) => {
+            meet(&mut walk.met, variable)?;
+            Ok(true)
+        }
+        Piece::Tuple(items) => {
+            push_parts(&mut walk.left, items, head.scope, head.primes)?;
+            Ok(true)
+        }
+        Piece::Other => Ok(false),
+    }
+}
+
+/// Goes on with a step; whether it may come to a part. The only error is want of memory.
+fn go_along<'a>(walk: &mut Walk<'a>, step: Step<'a>) -> Result<bool, Failure>
+    requires within { IsWithin walk.old.entries.items step }
+    ensures goes { IfOk result (λ b. (whole : Option expr.Expr) → IsWalkTo whole walk.old.entries.items walk.old.left.items walk.old.gone.keys walk.old.met.keys (step_gives walk.old.entries.items step.entry 0) → GoesOn whole walk.new.entries.items walk.new.left.items walk.new.gone.keys walk.new.met.keys b) }
+    ensures err { IfErr result (λ f. f ≡ Failure.Memory) }
+{
+    match step {
+        Step::Goes(tree, scope, primes) => {
+            push(&mut walk.left, Left::Part(tree, scope, primes))?;
+            Ok(true)
+        }
+        Step::Ends(head) => go_into(walk, head),
+    }
+}
+
+/// Goes a step from an expression; whether it may be a part. The only error is want of memory.
+fn go_from<'a>(
+    walk: &mut Walk<'a>,
+    tree: &'a Expr,
+    scope: usize,
+    primes: Primes,
+) -> Result<bool, Failure>
+    requires linked { AreLinked walk.old.entries.items }
+    requires within { scope ≤ length walk.old.entries.items }
+    ensures goes { IfOk result (λ b. (whole : Option expr.Expr) → IsWalkTo whole walk.old.entries.items walk.old.left.items walk.old.gone.keys walk.old.met.keys (with_primes primes (expansion.expand (view tree.entry.now) (scope_at walk.old.entries.items scope) 0)) → GoesOn whole walk.new.entries.items walk.new.left.items walk.new.gone.keys walk.new.met.keys b) }
+    ensures err { IfErr result (λ f. f ≡ Failure.Memory) }
+{
+    match next_step(&mut walk.entries, tree, scope, primes) {
+        Ok(step) => go_along(walk, step),
+        Err(Failure::NoExpansion(_)) => Ok(false),
+        Err(Failure::TooLarge) => Ok(false),
+        Err(Failure::Memory) => Err(Failure::Memory),
+    }
+}
+
+/// Looks at a name of an entry; whether it may be a part. The only error is want of memory.
+fn look_at_name<'a>(
+    walk: &mut Walk<'a>,
+    tree: &'a Expr,
+    scope: usize,
+    primes: Primes,
+    entry: usize,
+) -> Result<bool, Failure>
+    requires linked { AreLinked walk.old.entries.items }
+    requires within { scope ≤ length walk.old.entries.items }
+    requires named { IsNamed walk.old.entries.items (view tree.now) scope entry }
+    ensures goes { IfOk result (λ b. (whole : Option expr.Expr) → IsWalkTo whole walk.old.entries.items walk.old.left.items walk.old.gone.keys walk.old.met.keys (with_primes primes (expansion.expand (view tree.entry.now) (scope_at walk.old.entries.items scope) 0)) → GoesOn whole walk.new.entries.items walk.new.left.items walk.new.gone.keys walk.new.met.keys b) }
+    ensures err { IfErr result (λ f. f ≡ Failure.Memory) }
+{
+    let gone = Gone { entry, primes };
+    if was_gone(&walk.gone, gone) {
+        return Ok(true);
+    }
+    push(&mut walk.left, Left::End(gone))?;
+    go_from(walk, tree, scope, primes)
+}
+
+/// Looks at an expression; whether it may be a part. The only error is want of memory.
+fn look_at<'a>(
+    walk: &mut Walk<'a>,
+    tree: &'a Expr,
+    scope: usize,
+    primes: Primes,
+) -> Result<bool, Failure>
+    requires linked { AreLinked walk.old.entries.items }
+    requires within { scope ≤ length walk.old.entries.items }
+    ensures goes { IfOk result (λ b. (whole : Option expr.Expr) → IsWalkTo whole walk.old.entries.items walk.old.left.items walk.old.gone.keys walk.old.met.keys (with_primes primes (expansion.expand (view tree.entry.now) (scope_at walk.old.entries.items scope) 0)) → GoesOn whole walk.new.entries.items walk.new.left.items walk.new.gone.keys walk.new.met.keys b) }
+    ensures err { IfErr result (λ f. f ≡ Failure.Memory) }
+{
+    match named(walk.entries.as_slice(), tree, scope) {
+        Some(entry) => look_at_name(walk, tree, scope, primes, entry),
+        None => go_from(walk, tree, scope, primes),
+    }
+}
+
+/// Goes on with what is left, which was taken away; whether all may be parts. The only error is want of memory.
+fn go_on<'a>(walk: &mut Walk<'a>, left: Left<'a>) -> Result<bool, Failure>
+    requires linked { AreLinked walk.old.entries.items }
+    requires inside { IsInside walk.old.entries.items left }
+    ensures goes { IfOk result (λ b. (whole : Option expr.Expr) → IsWalk whole walk.old.entries.items (walk.old.left.items ++ left.entry ∷ []) walk.old.gone.keys walk.old.met.keys → GoesOn whole walk.new.entries.items walk.new.left.items walk.new.gone.keys walk.new.met.keys b) }
+    ensures err { IfErr result (λ f. f ≡ Failure.Memory) }
+{
+    match left {
+        Left::Part(tree, scope, primes) => look_at(walk, tree, scope, primes),
+        Left::End(entry) => {
+            go_by(&mut walk.gone, entry)?;
+            Ok(true)
+        }
+    }
+}
+
+/// Whether each of the first so many variables is among these.
+fn has_each(met: &IndexSet<usize>, variables: usize) -> bool
+    ensures yes { result ≡ true → HasEach met.now.keys variables }
+    ensures no { result ≡ false → HasEach met.now.keys variables → ⊥ }
+{
+    let mut left = variables;
+    while left > 0 {
+        left -= 1;
+        if !met.contains(&left) {
+            return false;
+        }
+    }
+    true
+}
+
+/// Whether an expression in a scope stands for a variable or a nested tuple of variables that covers the first so many. The
+/// only error is want of memory.
+pub(crate) fn covers<'a>(
+    alloc: Global,
+    entries: Vec<Entry<'a>>,
+    tree: &'a Expr,
+    scope: usize,
+    variables: usize,
+) -> Result<bool, Failure>
+    requires linked { AreLinked entries.items }
+    requires within { scope ≤ length entries.items }
+    ensures yes { IfOk result (λ b. b ≡ true → (e : expr.Expr) × (expansion.expand (view tree.entry.now) (scope_at entries.entry.items scope) 0 ≡ Some e) × (spec.covers variables e ≡ true)) }
+    ensures no { IfOk result (λ b. b ≡ false → (e : expr.Expr) → expansion.expand (view tree.entry.now) (scope_at entries.entry.items scope) 0 ≡ Some e → spec.covers variables e ≡ false) }
+    ensures err { IfErr result (λ f. f ≡ Failure.Memory) }
+{
+    let left = Vec::new(alloc);
+    let gone = IndexSet::new(alloc);
+    let met = IndexSet::new(alloc);
+    let mut walk = Walk {
+        entries,
+        left,
+        gone,
+        met,
+    };
+    push(&mut walk.left, Left::Part(tree, scope, Primes::Never))?;
+    for _turn in 0..u64::MAX {
+        let Some(left) = walk.left.pop() else {
+            return Ok(has_each(&walk.met, variables));
+        };
+        let goes = go_on(&mut walk, left)?;
+        if !goes {
+            return Ok(false);
+        }
+    }
+    Err(Failure::Memory)
+}
