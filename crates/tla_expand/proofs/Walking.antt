@@ -1,6 +1,6 @@
 -- A walk over the parts of a nested tuple, step by step.
 use Rattle.std.proofs.Common.{◌≡◌, ◌≤◌, ◌<◌, ◌+◌, ◌⊎◌, inl, inr, ℕ, zero, suc, Bool, true, false, List, [], ◌∷◌, ◌++◌, map, length, get_or, take, append_assoc, refl, sym, ap, ◌∙◌, arith, Bor, Option, Some, None}
-use Rattle.std.specs.Prelude.{nat_eq, ◌&&◌, ◌||◌}
+use Rattle.std.specs.Prelude.{nat_eq, ◌&&◌, ◌||◌, IfOk, IfSome, Result, Ok, Err}
 use Rattle.std.specs.List.{list_any}
 use Rattle.std.proofs.lemmas.Bool.{eqb-true, eqb-false, eq-eqb}
 use Rattle.std.proofs.lemmas.List.{map-append, take_more}
@@ -11,9 +11,13 @@ use Rattle.tla_core.specs.Expr.{Expr, Exprs, now, next, bound, constant, kind_se
 use Rattle.tla_core.specs.ExprOf.{kind_of}
 use Rattle.tla_value.specs.TreeOf.{tree_of}
 use Rattle.tla_tree.specs.declared.tree.Expr as syntax
+use Rattle.tla_tree.specs.declared.tree.Expr.TheVariants as variants
+use Rattle.tla_tree.specs.declared.word.Written.{Written}
 use Rattle.tla_tree.specs.Tree.{Tree, binders, trees}
 use Rattle.tla_tree.specs.View.{view, group_view}
 use Rattle.tla_expand.specs.declared.arena.Entry.{Entry}
+use Rattle.tla_expand.specs.declared.failure.Failure.{Failure}
+use Rattle.tla_expand.specs.Places.{Name, place_of}
 use Rattle.tla_expand.specs.declared.arena.What.{What}
 use Rattle.tla_expand.specs.declared.arena.What.TheVariants.{Bound, Variable, Value, Argument, Definition, Function, Module, Unknown}
 use Rattle.tla_expand.specs.declared.cover.Gone.{Gone}
@@ -32,7 +36,7 @@ use Rattle.tla_expand.specs.Covers.{is_names, has_name, are_names, have_name, ha
 use Rattle.tla_expand.specs.Expand.{expand, expand_each, binds_of}
 use Rattle.tla_expand.specs.Lists.{exprs}
 use Rattle.tla_expand.specs.Maybe.{◌>>=◌, each_of}
-use Rattle.tla_expand.specs.Meanings.{Scope, parameter, operator}
+use Rattle.tla_expand.specs.Meanings.{Scope, Meaning, parameter, operator}
 use Rattle.tla_expand.specs.Primes.{with_primes, primed_now}
 use Rattle.tla_expand.specs.Private.Forms.{form_in}
 use Rattle.tla_expand.specs.Private.Gives.{part_in, pointed}
@@ -273,6 +277,26 @@ module _ (es new : List Entry) (x : Extends new es) where
       ends_met = λ m u. ends_grown m left (IsMet m o) w.inside (w.ends_met m u);
       parts = λ e q t. let p = w.parts e q t in (are_met_grown (λ i. has_name i e) left w.inside p.0, p.1, p.2);
     }
+
+-- ---- what a call answers
+pub goes_by : (r : Result Bool Failure) (g : Option Expr → Bool → Type 0) (P Q : Option Expr → Type 0) → IfOk r (λ b. (whole : Option Expr) → P whole → g whole b)
+    → ((whole : Option Expr) → Q whole → P whole) → IfOk r (λ b. (whole : Option Expr) → Q whole → g whole b)
+goes_by (Ok b) g P Q h f = λ whole q. h whole (f whole q)
+goes_by (Err e) g P Q h f = tt
+
+-- the entry of a name
+pub named_is : (es : List Entry) (t : syntax.Expr) (s : ℕ) (w : Written) (x : Name) (r : Option ℕ) → t ≡ variants.Name w → x ≡ w.word
+    → IfSome r (λ k. (e : Entry) → e ≡ get_or es k e → scope_at es s x ≡ meaning_of (scope_at es) e.what) → IfSome r (λ k. k < length es) → IfSome r (λ k. IsNamed es (view t) s k)
+named_is es t s w x None q n f h = tt
+named_is es t s w x (Some k) q n f h = (h, λ e g. (place_of w.place, λ d. rw (q, sym n) (ap (λ (m : Meaning). m (place_of w.place) [] d) (f e g))))
+
+among_found : {A : Type 0} (test : A → Bool) (x : A) → ((y : A) → test y ≡ true → y ≡ x) → (xs : List A) → list_any test xs ≡ true → IsAmong x xs
+among_found test x f [] h = let z : false ≡ true = h in cc
+among_found test x f (y ∷ ys) h = at (test y) refl h
+  where
+    at : (b : Bool) → test y ≡ b → (b || list_any test ys) ≡ true → IsAmong x (y ∷ ys)
+    at true q k = inl (f y q)
+    at false q k = inr (among_found test x f ys k)
 
 -- ---- steps
 pub walk_same : (whole : Option Expr) (es : List Entry) (left : List Left) (gone : List Gone) (met : List ℕ) (o u : Option Expr) → o ≡ u → IsWalkTo whole es left gone met o → IsWalkTo whole es left gone met u

@@ -27,19 +27,19 @@ returns-then-not-goes-clause-no c = λ q.
     let whole = expand (view c.args.tree.now) (scope_at c.args.entries.items c.args.scope) 0 in
     no_cover whole c.args.variables (rw c.if-not-goes.true at (c.in_ok-goes.ensures.goes whole (rw c.in-Some.ensures.items at c.loop-turn.invariant.goes)))
 
-pub returns-in-None-clause-yes : goal.returns-in-None-clause-yes
-returns-in-None-clause-yes c = λ q.
+pub returns-in_default-clause-yes : goal.returns-in_default-clause-yes
+returns-in_default-clause-yes c = λ q.
     let walk = c.loop-turn.walk in
     let whole = expand (view c.args.tree.now) (scope_at c.args.entries.items c.args.scope) 0 in
     covered whole walk.entries.items walk.gone.keys walk.met.keys c.args.variables
-    (walk_over whole walk.entries.items walk.left.items walk.gone.keys walk.met.keys c.in-None.ensures.cases.0 c.loop-turn.invariant.goes) (c.has_each.ensures.yes q)
+    (walk_over whole walk.entries.items walk.left.items walk.gone.keys walk.met.keys (rw c.in_default.is at c.pop.ensures.cases).0 c.loop-turn.invariant.goes) (c.has_each.ensures.yes q)
 
-pub returns-in-None-clause-no : goal.returns-in-None-clause-no
-returns-in-None-clause-no c = λ q.
+pub returns-in_default-clause-no : goal.returns-in_default-clause-no
+returns-in_default-clause-no c = λ q.
     let walk = c.loop-turn.walk in
     let whole = expand (view c.args.tree.now) (scope_at c.args.entries.items c.args.scope) 0 in
     uncovered whole walk.entries.items walk.gone.keys walk.met.keys c.args.variables
-    (walk_over whole walk.entries.items walk.left.items walk.gone.keys walk.met.keys c.in-None.ensures.cases.0 c.loop-turn.invariant.goes) (c.has_each.ensures.no q)
+    (walk_over whole walk.entries.items walk.left.items walk.gone.keys walk.met.keys (rw c.in_default.is at c.pop.ensures.cases).0 c.loop-turn.invariant.goes) (c.has_each.ensures.no q)
 
 pub go_on-requires-clause-linked : goal.go_on-requires-clause-linked
 go_on-requires-clause-linked c = c.loop-turn.invariant.goes.linked

@@ -7,5 +7,5 @@ use Rattle.tla_expand.proofs.cover.covers.Given as goal
 
 abbrev pub invariant-loop-turn : goal.invariant-loop-turn
 invariant-loop-turn l = record {
-  goes : IsWalk (expand (view l.fn.tree.now) (scope_at l.fn.entries.items l.fn.scope) 0) l.walk.entries.items l.walk.left.items l.walk.gone.keys l.walk.met.keys;
+  goes : IsWalk (expand (view l.fn.tree) (scope_at l.fn.entries.items l.fn.scope) 0) l.walk.entries.items l.walk.left.items l.walk.gone.keys l.walk.met.keys;
 }

@@ -1,26 +1,33 @@
-use Rattle.std.proofs.lemmas.Result.{IfOk-weaker}
+use Rattle.std.proofs.Common.{◌≡◌, None}
 use Rattle.tla_tree.specs.View.{view}
 use Rattle.tla_expand.specs.Expand.{expand}
 use Rattle.tla_expand.specs.Primes.{with_primes}
 use Rattle.tla_expand.specs.Private.Gives.{step_gives}
+use Rattle.tla_expand.specs.Private.Walks.{IsWalkTo, GoesOn}
 use Rattle.tla_expand.specs.Scopes.{scope_at}
-use Rattle.tla_expand.proofs.Walking.{walk_grown, walk_same, put_nothing}
+use Rattle.tla_expand.proofs.Walking.{walk_grown, walk_same, put_nothing, goes_by}
 use Rattle.tla_expand.proofs.cover.go_from.Goals as goal
 
 pub returns-in-Ok-clause-goes : goal.returns-in-Ok-clause-goes
 returns-in-Ok-clause-goes c =
     let walk = c.args.walk.now in
     let es = walk.entries.items in
-    let new = c.next_step.new.entries.items in
+    let mid = c.next_step.new.entries.items in
+    let new = c.go_along.new.walk in
     let e = c.in-Ok.ensures in
     let o = with_primes c.args.primes (expand (view c.args.tree.now) (scope_at es c.args.scope) 0) in
-    IfOk-weaker c.go_along.result _ _ (λ b f whole w.
-    f whole (walk_same whole new walk.left.items walk.gone.keys walk.met.keys o (step_gives new c.in-Ok.step 0) (e.same 0)
-    (walk_grown es new e.extends w.linked whole o walk.left.items walk.gone.keys walk.met.keys e.linked w)))
+    goes_by c.go_along.result (λ whole b. GoesOn whole new.entries.items new.left.items new.gone.keys new.met.keys b)
+    (λ whole. IsWalkTo whole mid walk.left.items walk.gone.keys walk.met.keys (step_gives mid c.in-Ok.step 0))
+    (λ whole. IsWalkTo whole es walk.left.items walk.gone.keys walk.met.keys o)
+    c.go_along.ensures.goes
+    (λ whole w.
+    walk_same whole mid walk.left.items walk.gone.keys walk.met.keys o (step_gives mid c.in-Ok.step 0) (e.same 0)
+    (walk_grown es mid e.extends w.linked whole o walk.left.items walk.gone.keys walk.met.keys e.linked w))
 
 pub returns-in-Err-NoExpansion-clause-goes : goal.returns-in-Err-NoExpansion-clause-goes
 returns-in-Err-NoExpansion-clause-goes c = λ whole w.
     let walk = c.args.walk.now in
     let o = expand (view c.args.tree.now) (scope_at walk.entries.items c.args.scope) 0 in
-    let h : o ≡ None = c.in-Err-NoExpansion.ensures.err 0 in
+    let f = rw c.in-Err-NoExpansion.field-0-is at c.in-Err-NoExpansion.ensures.err in
+    let h : o ≡ None = f 0 in
     put_nothing whole walk.entries.items walk.left.items walk.gone.keys walk.met.keys c.args.primes o h w

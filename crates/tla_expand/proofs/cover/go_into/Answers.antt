@@ -11,7 +11,7 @@ returns-in_ok-meet-in-Variable-clause-goes c = λ whole w.
     let walk = c.args.walk.now in
     let es = walk.entries.items in
     let v = variable_piece h.primes h.form c.in-Variable.variable (sym c.piece_of.ensures ∙ c.in-Variable.is) (scope_at es h.scope) 0 in
-    put_variable whole es walk.left.items walk.gone.keys walk.met.keys (head_gives es h 0) w v.0 c.in-Variable.variable c.meet-in-Variable.new.met.keys v.1 c.in_ok-meet-in-Variable.ensures.ok
+    put_variable whole es walk.left.items walk.gone.keys walk.met.keys (head_gives es h 0) w v.0 c.in-Variable.variable c.meet.new.met.keys v.1 c.in_ok-meet-in-Variable.ensures.ok
 
 pub returns-in_ok-push_parts-in-Tuple-clause-goes : goal.returns-in_ok-push_parts-in-Tuple-clause-goes
 returns-in_ok-push_parts-in-Tuple-clause-goes c = λ whole w.
@@ -19,7 +19,7 @@ returns-in_ok-push_parts-in-Tuple-clause-goes c = λ whole w.
     let walk = c.args.walk.now in
     let es = walk.entries.items in
     let v = tuple_piece h.primes h.form c.in-Tuple.items (sym c.piece_of.ensures ∙ c.in-Tuple.is) (scope_at es h.scope) 0 in
-    put_tuple es h.scope h.primes whole (head_gives es h 0) walk.left.items c.push_parts-in-Tuple.new.left.items walk.gone.keys walk.met.keys v.0 c.in-Tuple.items.now v.1 c.in_ok-push_parts-in-Tuple.ensures.ok c.requires w
+    put_tuple es h.scope h.primes whole (head_gives es h 0) walk.left.items c.push_parts.new.left.items walk.gone.keys walk.met.keys v.0 c.in-Tuple.items.now v.1 c.in_ok-push_parts-in-Tuple.ensures.ok c.requires.within w
 
 pub returns-in-Other-clause-goes : goal.returns-in-Other-clause-goes
 returns-in-Other-clause-goes c = λ whole w.

@@ -1,10 +1,10 @@
-use Rattle.std.proofs.lemmas.Result.{IfOk-weaker}
 use Rattle.tla_tree.specs.View.{view}
 use Rattle.tla_expand.specs.Expand.{expand}
 use Rattle.tla_expand.specs.Primes.{with_primes}
 use Rattle.tla_expand.specs.Scopes.{scope_at}
 use Rattle.tla_expand.specs.declared.cover.Gone.{Gone}
-use Rattle.tla_expand.proofs.Walking.{put_gone, put_end, name_gone}
+use Rattle.tla_expand.specs.Private.Walks.{IsWalkTo, GoesOn}
+use Rattle.tla_expand.proofs.Walking.{put_gone, put_end, name_gone, goes_by}
 use Rattle.tla_expand.proofs.cover.look_at_name.Goals as goal
 
 pub returns-then-was_gone-clause-goes : goal.returns-then-was_gone-clause-goes
@@ -19,5 +19,9 @@ returns-clause-goes c =
     let es = walk.entries.items in
     let g : Gone = record { entry = c.args.entry; primes = c.args.primes } in
     let o = with_primes c.args.primes (expand (view c.args.tree.now) (scope_at es c.args.scope) 0) in
-    IfOk-weaker c.go_from.result _ _ (λ b f whole w.
-    f whole (rw c.in_ok-push.ensures.ok (put_end whole es walk.left.items walk.gone.keys walk.met.keys o w g c.requires.named.0 (λ m. name_gone m es (view c.args.tree.now) c.args.scope g c.requires.named))))
+    let new = c.go_from.new.walk in
+    goes_by c.go_from.result (λ whole b. GoesOn whole new.entries.items new.left.items new.gone.keys new.met.keys b)
+    (λ whole. IsWalkTo whole es c.push.new.items.items walk.gone.keys walk.met.keys o)
+    (λ whole. IsWalkTo whole es walk.left.items walk.gone.keys walk.met.keys o)
+    c.go_from.ensures.goes
+    (λ whole w. rw c.in_ok-push.ensures.ok (put_end whole es walk.left.items walk.gone.keys walk.met.keys o w g c.requires.named.0 (λ m. name_gone m es (view c.args.tree.now) c.args.scope g c.requires.named)))
