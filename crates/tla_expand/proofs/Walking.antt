@@ -290,13 +290,25 @@ pub named_is : (es : List Entry) (t : syntax.Expr) (s : ℕ) (w : Written) (x : 
 named_is es t s w x None q n f h = tt
 named_is es t s w x (Some k) q n f h = (h, λ e g. (place_of w.place, λ d. rw (q, sym n) (ap (λ (m : Meaning). m (place_of w.place) [] d) (f e g))))
 
-among_found : {A : Type 0} (test : A → Bool) (x : A) → ((y : A) → test y ≡ true → y ≡ x) → (xs : List A) → list_any test xs ≡ true → IsAmong x xs
-among_found test x f [] h = let z : false ≡ true = h in cc
-among_found test x f (y ∷ ys) h = at (test y) refl h
+-- an entry with as many primes
+pub same_gone : (x y : Gone) → y.entry ≡ x.entry → y.primes ≡ x.primes → y ≡ x
+same_gone x y a b = ap (λ (n : ℕ). gone n y.primes) a ∙ ap (λ (k : Primes). gone x.entry k) b
   where
-    at : (b : Bool) → test y ≡ b → (b || list_any test ys) ≡ true → IsAmong x (y ∷ ys)
-    at true q k = inl (f y q)
-    at false q k = inr (among_found test x f ys k)
+    gone : ℕ → Primes → Gone
+    gone n k = record { entry = n; primes = k }
+
+first_or_later : (a b : Bool) → (a || b) ≡ true → (a ≡ true) ⊎ (b ≡ true)
+first_or_later true b h = inl refl
+first_or_later false b h = inr h
+
+-- what a test finds that only this passes
+pub among_found : {A : Type 0} (test : A → Bool) (x : A) → ((y : A) → test y ≡ true → y ≡ x) → (xs : List A) → list_any test xs ≡ true → IsAmong x xs
+among_found test x f [] h = let z : false ≡ true = h in cc
+among_found test x f (y ∷ ys) h =
+    elim (first_or_later (test y) (list_any test ys) h) [
+      | inl q ↦ inl (f y q)
+      | inr q ↦ inr (among_found test x f ys q)
+    ]
 
 -- ---- steps
 pub walk_same : (whole : Option Expr) (es : List Entry) (left : List Left) (gone : List Gone) (met : List ℕ) (o u : Option Expr) → o ≡ u → IsWalkTo whole es left gone met o → IsWalkTo whole es left gone met u

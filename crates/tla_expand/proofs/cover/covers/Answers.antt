@@ -1,4 +1,4 @@
-use Rattle.std.proofs.Common.{◌++◌, ◌∷◌, [], List, ap, ◌∙◌}
+use Rattle.std.proofs.Common.{◌≡◌, ◌++◌, ◌∷◌, [], List, length, vec_len, rules, ap, ◌∙◌}
 use Rattle.tla_tree.specs.View.{view}
 use Rattle.tla_expand.specs.declared.cover.Left.{Left}
 use Rattle.tla_expand.specs.declared.cover.Left.TheVariants.{Part}
@@ -30,16 +30,18 @@ returns-then-not-goes-clause-no c = λ q.
 pub returns-in_default-clause-yes : goal.returns-in_default-clause-yes
 returns-in_default-clause-yes c = λ q.
     let walk = c.loop-turn.walk in
+    let n : length walk.left.items ≡ vec_len walk.left = search rules in
     let whole = expand (view c.args.tree.now) (scope_at c.args.entries.items c.args.scope) 0 in
     covered whole walk.entries.items walk.gone.keys walk.met.keys c.args.variables
-    (walk_over whole walk.entries.items walk.left.items walk.gone.keys walk.met.keys (rw c.in_default.is at c.pop.ensures.cases).0 c.loop-turn.invariant.goes) (c.has_each.ensures.yes q)
+    (walk_over whole walk.entries.items walk.left.items walk.gone.keys walk.met.keys (n ∙ (rw c.in_default.is at c.pop.ensures.cases).0) c.loop-turn.invariant.goes) (c.has_each.ensures.yes q)
 
 pub returns-in_default-clause-no : goal.returns-in_default-clause-no
 returns-in_default-clause-no c = λ q.
     let walk = c.loop-turn.walk in
+    let n : length walk.left.items ≡ vec_len walk.left = search rules in
     let whole = expand (view c.args.tree.now) (scope_at c.args.entries.items c.args.scope) 0 in
     uncovered whole walk.entries.items walk.gone.keys walk.met.keys c.args.variables
-    (walk_over whole walk.entries.items walk.left.items walk.gone.keys walk.met.keys (rw c.in_default.is at c.pop.ensures.cases).0 c.loop-turn.invariant.goes) (c.has_each.ensures.no q)
+    (walk_over whole walk.entries.items walk.left.items walk.gone.keys walk.met.keys (n ∙ (rw c.in_default.is at c.pop.ensures.cases).0) c.loop-turn.invariant.goes) (c.has_each.ensures.no q)
 
 pub go_on-requires-clause-linked : goal.go_on-requires-clause-linked
 go_on-requires-clause-linked c = c.loop-turn.invariant.goes.linked
