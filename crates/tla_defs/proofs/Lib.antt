@@ -12,7 +12,6 @@ pub mod Temporals
 pub mod FoundOrLeft
 pub mod Tabled
 pub mod States
-pub mod Covers
 pub mod Forms
 pub mod Sound
 pub mod Found

@@ -28,7 +28,7 @@ specified =
           is_body = refl;
           subscript = x_at 6 26;
           one_step = refl;
-          covered = record { names = now_at 6 26; expanded = refl; limits = within _ 1 1 refl refl (omega arith) (omega arith); all = refl };
+          covered = record { names = now_at 6 26; expanded = refl; all = refl };
           is_initial = refl;
         };
       });
@@ -61,7 +61,7 @@ specified_in_parts =
           is_body = refl;
           subscript = x_at 6 26;
           one_step = refl;
-          covered = record { names = now_at 6 26; expanded = refl; limits = within _ 1 1 refl refl (omega arith) (omega arith); all = refl };
+          covered = record { names = now_at 6 26; expanded = refl; all = refl };
           is_initial = refl;
         };
       });
@@ -94,7 +94,7 @@ specified_by_names =
           is_body = refl;
           subscript = x_at 6 17;
           one_step = refl;
-          covered = record { names = now_at 6 17; expanded = refl; limits = within _ 1 1 refl refl (omega arith) (omega arith); all = refl };
+          covered = record { names = now_at 6 17; expanded = refl; all = refl };
           is_initial = refl;
         };
       });
