@@ -2,6 +2,7 @@
 use Rattle.std.proofs.Common.{◌≡◌, ◌∙◌, ℕ, ◌+◌, Bool, List, [], ◌∷◌, ◌++◌, length, refl, Option, Some, None}
 use Rattle.std.specs.Prelude.{if◌then◌else◌}
 use Rattle.std.specs.Str.{bytes_eq}
+use Rattle.tla_lex.specs.declared.token.Place as text
 use Rattle.tla_core.specs.declared.fault.Place.{Place}
 use Rattle.tla_core.specs.Expr as e
 use Rattle.tla_core.specs.Expr.{Expr, unary, binary, enumerated, tuple, conjunction, disjunction, conditional, cases, functions, record_of, records, product, except, more_exprs}
@@ -14,11 +15,6 @@ use Rattle.tla_tree.specs.Places.{place}
 use Rattle.tla_tree.specs.Tree as t
 use Rattle.tla_tree.specs.Tree.{Tree, Trees, none, more, Binders, unbound, Arms, no_arms, arm, Other, no_other, other, Definition, DefinesOperator, DefinesFunction, Definitions, undefined, defined, Fields, no_fields, field, Key, AtIndex, AtField, Keys, no_keys, key, Updates, no_updates, update, Pattern}
 use Rattle.tla_names.specs.Leads.{names_in, names_each, names_sets, names_arms, names_other, names_fields, names_key, names_keys, names_updates, names_definition, names_definitions}
-use Rattle.tla_expand.specs.declared.nodes.Two.TheVariants as twos
-use Rattle.tla_expand.specs.declared.nodes.Binding.{Binding}
-use Rattle.tla_expand.specs.declared.nodes.Binding.TheVariants as binds
-use Rattle.tla_expand.specs.declared.nodes.Gather.{Gather}
-use Rattle.tla_expand.specs.declared.nodes.Gather.TheVariants as gathers
 use Rattle.tla_expand.specs.declared.primes.Primes.TheVariants.{Once}
 use Rattle.tla_expand.specs.Lists.{exprs}
 use Rattle.tla_expand.specs.Maybe.{◌>>=◌, each_of}
@@ -70,12 +66,15 @@ last_same : (xs : List Name) (bs : List Bind) (body next : Scope → Argument) �
 last_same xs [] body next h k = h
 last_same xs (b ∷ bs) body next h k = k
 
-nested_same : (xs : List Name) (f : Binding) (p : Place) (bs : List Bind) (body : Scope → Argument) → IsSame xs body → IsSame xs (nested f p bs body)
+nested_same : (xs : List Name) (f : _) (p : Place) (bs : List Bind) (body : Scope → Argument) → IsSame xs body → IsSame xs (nested f p bs body)
 nested_same xs f p [] body h σ τ a = refl
 nested_same xs f p (b ∷ bs) body h σ τ a =
     let inner : IsSame xs (last_or bs body (nested f p bs body)) = last_same xs bs body (nested f p bs body) h (nested_same xs f p bs body h) in
     let same : under p b.0 (last_or bs body (nested f p bs body)) σ ≡ under p b.0 (last_or bs body (nested f p bs body)) τ = under_same xs p b.0 (last_or bs body (nested f p bs body)) inner σ τ a in
     λ i d. b.1 d >>= λ x. same i d >>= λ y. Some (binding f p x y)
+
+nested_alike : (xs : List Name) (f : _) (p : Place) (bs cs : List Bind) (body : Scope → Argument) → bs ≡ cs → IsSame xs body → (σ τ : Scope) → Alike xs σ τ → nested f p bs body σ ≡ nested f p cs body τ
+nested_alike xs f p bs cs body e h σ τ a = (λ i. nested f p (e i) body σ) ∙ nested_same xs f p cs body h σ τ a
 
 elements_alike : (xs : List Name) (bs : List Bind) (d : ℕ) (σ τ : Scope) → Alike xs σ τ → Alike xs (with_elements bs d σ) (with_elements bs d τ)
 elements_alike xs [] d σ τ h = h
@@ -87,11 +86,14 @@ items_alike xs [] d σ τ h = h
 items_alike xs ((named x, s) ∷ bs) d σ τ h = items_alike xs bs d σ τ h
 items_alike xs ((tupled ws, s) ∷ bs) d σ τ h = items_alike xs bs (d + length ws) (with_each ws d σ) (with_each ws d τ) (each_alike xs ws d σ τ h)
 
-gathered_same : (xs : List Name) (f : Gather) (p : Place) (bs : List Bind) (body : Scope → Argument) → IsSame xs body → IsSame xs (gathered f p bs body)
+gathered_same : (xs : List Name) (f : _) (p : Place) (bs : List Bind) (body : Scope → Argument) → IsSame xs body → IsSame xs (gathered f p bs body)
 gathered_same xs f p bs body h σ τ a =
     let inner = λ (d : ℕ). items_alike xs bs (d + length bs) (with_elements bs d σ) (with_elements bs d τ) (elements_alike xs bs d σ τ a) in
     λ i d. each_of (λ (b : Bind). set_for p b.0 (b.1 d)) bs >>= λ ss.
         under_openings p (openings bs d) (h (with_items bs (d + length bs) (with_elements bs d σ)) (with_items bs (d + length bs) (with_elements bs d τ)) (inner d) i (d + length bs + items_in (openings bs d))) >>= λ y. Some (gather f p (exprs ss) y)
+
+gathered_alike : (xs : List Name) (f : _) (p : Place) (bs cs : List Bind) (body : Scope → Argument) → bs ≡ cs → IsSame xs body → (σ τ : Scope) → Alike xs σ τ → gathered f p bs body σ ≡ gathered f p cs body τ
+gathered_alike xs f p bs cs body e h σ τ a = (λ i. gathered f p (e i) body σ) ∙ gathered_same xs f p cs body h σ τ a
 
 -- ---- definitions
 parameters_same : (xs : List Name) (ws : List Written) (args : List Argument) (body : Scope → Argument) → IsSame xs body → (d : ℕ) (σ τ : Scope) → Alike xs σ τ
@@ -129,24 +131,17 @@ mutual
       λ i d. infix_for op >>= λ f. l i d >>= λ x. r i d >>= λ y. Some (two f (place_of p) x y)
   expand_alike (t.Quantified p q bs a) σ τ h =
       let b = binds_alike bs σ τ (left (names_sets bs) (names_in a) σ τ h) in
-      (λ i. nested (of_quantifier q) (place_of p) (b i) (expand a) σ)
-      ∙ nested_same (names_in a) (of_quantifier q) (place_of p) (binds_of bs τ) (expand a) (expand_alike a) σ τ (right (names_sets bs) (names_in a) σ τ h)
+      nested_alike (names_in a) (of_quantifier q) (place_of p) (binds_of bs σ) (binds_of bs τ) (expand a) b (expand_alike a) σ τ (right (names_sets bs) (names_in a) σ τ h)
   expand_alike (t.Choose p w s a) σ τ h =
       let b = expand_alike s σ τ (left (names_in s) (names_in a) σ τ h) in
-      (λ i. nested binds.Choose (place_of p) (bind_entry w (b i) []) (expand a) σ)
-      ∙ nested_same (names_in a) binds.Choose (place_of p) (bind_entry w (expand s τ) []) (expand a) (expand_alike a) σ τ (right (names_in s) (names_in a) σ τ h)
+      nested_alike (names_in a) _ (place_of p) (bind_entry w (expand s σ) []) (bind_entry w (expand s τ) []) (expand a) (λ i. bind_entry w (b i) []) (expand_alike a) σ τ (right (names_in s) (names_in a) σ τ h)
   expand_alike (t.Filter p w s a) σ τ h =
       let b = expand_alike s σ τ (left (names_in s) (names_in a) σ τ h) in
-      (λ i. nested binds.Filter (place_of p) (bind_entry w (b i) []) (expand a) σ)
-      ∙ nested_same (names_in a) binds.Filter (place_of p) (bind_entry w (expand s τ) []) (expand a) (expand_alike a) σ τ (right (names_in s) (names_in a) σ τ h)
+      nested_alike (names_in a) _ (place_of p) (bind_entry w (expand s σ) []) (bind_entry w (expand s τ) []) (expand a) (λ i. bind_entry w (b i) []) (expand_alike a) σ τ (right (names_in s) (names_in a) σ τ h)
   expand_alike (t.Image p a bs) σ τ h =
       let b = binds_alike bs σ τ (left (names_sets bs) (names_in a) σ τ h) in
-      (λ i. gathered gathers.Image (place_of p) (b i) (expand a) σ)
-      ∙ gathered_same (names_in a) gathers.Image (place_of p) (binds_of bs τ) (expand a) (expand_alike a) σ τ (right (names_sets bs) (names_in a) σ τ h)
-  expand_alike (t.Function p bs a) σ τ h =
-      let b = binds_alike bs σ τ (left (names_sets bs) (names_in a) σ τ h) in
-      (λ i. gathered gathers.Function (place_of p) (b i) (expand a) σ)
-      ∙ gathered_same (names_in a) gathers.Function (place_of p) (binds_of bs τ) (expand a) (expand_alike a) σ τ (right (names_sets bs) (names_in a) σ τ h)
+      gathered_alike (names_in a) _ (place_of p) (binds_of bs σ) (binds_of bs τ) (expand a) b (expand_alike a) σ τ (right (names_sets bs) (names_in a) σ τ h)
+  expand_alike (t.Function p bs a) σ τ h = function_alike p bs a σ τ h
   expand_alike (t.FunctionSet p s a) σ τ h =
       let l = expand_alike s σ τ (left (names_in s) (names_in a) σ τ h) in
       let r = expand_alike a σ τ (right (names_in s) (names_in a) σ τ h) in
@@ -164,11 +159,11 @@ mutual
   expand_alike (t.Action p steps.Box a v) σ τ h =
       let l = expand_alike a σ τ (left (names_in a) (names_in v) σ τ h) in
       let r = expand_alike v σ τ (right (names_in a) (names_in v) σ τ h) in
-      λ i d. l i d >>= λ x. (r i d >>= unchanged (place_of (place v))) >>= λ y. Some (two twos.Or (place_of p) x y)
+      λ i d. l i d >>= λ x. (r i d >>= unchanged (place_of (place v))) >>= λ y. Some (two _ (place_of p) x y)
   expand_alike (t.Action p steps.Angle a v) σ τ h =
       let l = expand_alike a σ τ (left (names_in a) (names_in v) σ τ h) in
       let r = expand_alike v σ τ (right (names_in a) (names_in v) σ τ h) in
-      λ i d. l i d >>= λ x. (r i d >>= changed (place_of (place v))) >>= λ y. Some (two twos.And (place_of p) x y)
+      λ i d. l i d >>= λ x. (r i d >>= changed (place_of (place v))) >>= λ y. Some (two _ (place_of p) x y)
   expand_alike (t.Fair p f v a) σ τ h = refl
   expand_alike (t.If p a b c) σ τ h =
       let k = right (names_in a) (names_in b ++ names_in c) σ τ h in
@@ -268,12 +263,10 @@ mutual
   definition_alike (DefinesOperator w ws a) xs σ τ h k =
       more_alike xs w.word (operator ws (expand a) σ) (operator ws (expand a) τ) σ τ (operator_alike (names_in a) ws (expand a) (expand_alike a) σ τ h) k
   definition_alike (DefinesFunction w bs a) xs σ τ h k =
-      let s = function_alike w bs a σ τ h in
-      more_alike xs w.word (parameter (gathered gathers.Function (place_of w.place) (binds_of bs σ) (expand a) σ)) (parameter (gathered gathers.Function (place_of w.place) (binds_of bs τ) (expand a) τ)) σ τ (λ i. parameter (s i)) k
+      let s = function_alike w.place bs a σ τ h in
+      more_alike xs w.word (parameter (expand (t.Function w.place bs a) σ)) (parameter (expand (t.Function w.place bs a) τ)) σ τ (λ i. parameter (s i)) k
 
-  pub function_alike : (w : Written) (bs : Binders) (a : Tree) (σ τ : Scope) → Alike (names_sets bs ++ names_in a) σ τ
-      → gathered gathers.Function (place_of w.place) (binds_of bs σ) (expand a) σ ≡ gathered gathers.Function (place_of w.place) (binds_of bs τ) (expand a) τ
-  function_alike w bs a σ τ h =
+  pub function_alike : (p : text.Place) (bs : Binders) (a : Tree) (σ τ : Scope) → Alike (names_sets bs ++ names_in a) σ τ → expand (t.Function p bs a) σ ≡ expand (t.Function p bs a) τ
+  function_alike p bs a σ τ h =
       let b = binds_alike bs σ τ (left (names_sets bs) (names_in a) σ τ h) in
-      (λ i. gathered gathers.Function (place_of w.place) (b i) (expand a) σ)
-      ∙ gathered_same (names_in a) gathers.Function (place_of w.place) (binds_of bs τ) (expand a) (expand_alike a) σ τ (right (names_sets bs) (names_in a) σ τ h)
+      gathered_alike (names_in a) _ (place_of p) (binds_of bs σ) (binds_of bs τ) (expand a) b (expand_alike a) σ τ (right (names_sets bs) (names_in a) σ τ h)

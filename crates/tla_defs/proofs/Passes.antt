@@ -6,7 +6,7 @@ use Rattle.std.specs.Str.{bytes_eq}
 use Rattle.std.proofs.lemmas.Bool.Decides.{Decides-eqb}
 use Rattle.std.proofs.lemmas.Slice.Eq.{bytes_eq-Decides}
 use Rattle.tla_tree.specs.declared.word.Written.{Written}
-use Rattle.tla_tree.specs.Tree.{Tree, Definition, DefinesOperator, DefinesFunction}
+use Rattle.tla_tree.specs.Tree.{Tree, Function, Definition, DefinesOperator, DefinesFunction}
 use Rattle.tla_tree.specs.Units.{UnitTree, Separator, Extends, Variables, Operator, Defines, Local, Constants, Assume, Theorem}
 use Rattle.tla_config.specs.Names.{Name, is_among}
 use Rattle.tla_config.specs.Statements.{Item, Value, Replaces}
@@ -14,11 +14,8 @@ use Rattle.tla_names.specs.Scope.{signature}
 use Rattle.tla_names.specs.Items.{replaced_names}
 use Rattle.tla_names.specs.Leads.{names_in, names_definition, names_sets}
 use Rattle.tla_names.specs.Open.{meets, with_touched, touched, with_operators, with_operators_of, still_open, at_word}
-use Rattle.tla_expand.specs.Meanings.{Scope, Meaning, standard, with_name, variable, parameter, operator}
-use Rattle.tla_expand.specs.Bound.{gathered}
-use Rattle.tla_expand.specs.Expand.{expand, definition_in, binds_of}
-use Rattle.tla_expand.specs.Places.{place_of}
-use Rattle.tla_expand.specs.declared.nodes.Gather.TheVariants as gathers
+use Rattle.tla_expand.specs.Meanings.{Argument, Scope, Meaning, standard, with_name, variable, parameter, operator}
+use Rattle.tla_expand.specs.Expand.{expand, definition_in}
 use Rattle.tla_defs.specs.Given.{fixed, with_items}
 use Rattle.tla_defs.specs.Global.{with_variable, with_operator, variables_in, unless, units_in, meant, raised}
 use Rattle.tla_defs.proofs.Alike.{Alike, expand_alike, operator_alike, function_alike}
@@ -114,8 +111,8 @@ definition_outside r ys (DefinesOperator w ws a) σ τ h =
     unless_outside r ys w.word (names_in a) (operator ws (expand a) σ) (operator ws (expand a) τ) σ τ (operator_alike (names_in a) ws (expand a) (expand_alike a) σ τ) h
 definition_outside r ys (DefinesFunction w bs a) σ τ h =
     unless_outside r ys w.word (names_sets bs ++ names_in a)
-        (parameter (gathered gathers.Function (place_of w.place) (binds_of bs σ) (expand a) σ)) (parameter (gathered gathers.Function (place_of w.place) (binds_of bs τ) (expand a) τ)) σ τ
-        (λ k. ap (λ (s : ℕ → _). parameter s) (function_alike w bs a σ τ k)) h
+        (parameter (expand (Function w.place bs a) σ)) (parameter (expand (Function w.place bs a) τ)) σ τ
+        (λ k. ap (λ (s : Argument). parameter s) (function_alike w.place bs a σ τ k)) h
 
 -- ---- the units
 variables_outside : (ys : List Name) (i : ℕ) (ws : List Written) (σ τ : Scope) → Outside ys σ τ → Outside ys (variables_in i ws σ) (variables_in i ws τ)
