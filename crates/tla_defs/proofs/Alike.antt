@@ -107,6 +107,13 @@ pub operator_alike : (xs : List Name) (ws : List Written) (body : Scope → Argu
 operator_alike xs ws body h σ τ a = λ i p args d. parameters_same xs ws args body h d σ τ a i
 
 -- ---- expressions
+function_same : (p : text.Place) (bs : Binders) (a : Tree) (σ τ : Scope) → binds_of bs σ ≡ binds_of bs τ → IsSame (names_in a) (expand a) → Alike (names_in a) σ τ → expand (t.Function p bs a) σ ≡ expand (t.Function p bs a) τ
+function_same p bs a σ τ e h k = gathered_alike (names_in a) _ (place_of p) (binds_of bs σ) (binds_of bs τ) (expand a) e h σ τ k
+
+-- arms before the last ones
+abbrev arms_before : Arms → Scope → Option e.Arms → ℕ → Option e.Arms
+arms_before as' σ last d = expand_arms as' last σ d
+
 mutual
   pub expand_alike : (t : Tree) (σ τ : Scope) → Alike (names_in t) σ τ → expand t σ ≡ expand t τ
   expand_alike (t.Name w) σ τ h = λ i d. h.0 i (place_of w.place) [] d
@@ -141,7 +148,7 @@ mutual
   expand_alike (t.Image p a bs) σ τ h =
       let b = binds_alike bs σ τ (left (names_sets bs) (names_in a) σ τ h) in
       gathered_alike (names_in a) _ (place_of p) (binds_of bs σ) (binds_of bs τ) (expand a) b (expand_alike a) σ τ (right (names_sets bs) (names_in a) σ τ h)
-  expand_alike (t.Function p bs a) σ τ h = function_alike p bs a σ τ h
+  expand_alike (t.Function p bs a) σ τ h = function_same p bs a σ τ (binds_alike bs σ τ (left (names_sets bs) (names_in a) σ τ h)) (expand_alike a) (right (names_sets bs) (names_in a) σ τ h)
   expand_alike (t.FunctionSet p s a) σ τ h =
       let l = expand_alike s σ τ (left (names_in s) (names_in a) σ τ h) in
       let r = expand_alike a σ τ (right (names_in s) (names_in a) σ τ h) in
@@ -197,7 +204,7 @@ mutual
       let r = each_alike_in es σ τ (right (names_in b) (names_each es) σ τ k) in
       λ i d. l i d >>= λ x. m i d >>= λ y. r i d >>= λ xs. Some (tuple (place_of (place a)) (more_exprs x (more_exprs y xs)))
 
-  arms_alike : (as' : Arms) (σ τ : Scope) → Alike (names_arms as') σ τ → (λ (l : Option e.Arms). expand_arms as' l σ) ≡ (λ (l : Option e.Arms). expand_arms as' l τ)
+  arms_alike : (as' : Arms) (σ τ : Scope) → Alike (names_arms as') σ τ → arms_before as' σ ≡ arms_before as' τ
   arms_alike no_arms σ τ h = refl
   arms_alike (arm g a as') σ τ h =
       let k = right (names_in g) (names_in a ++ names_arms as') σ τ h in
@@ -263,10 +270,8 @@ mutual
   definition_alike (DefinesOperator w ws a) xs σ τ h k =
       more_alike xs w.word (operator ws (expand a) σ) (operator ws (expand a) τ) σ τ (operator_alike (names_in a) ws (expand a) (expand_alike a) σ τ h) k
   definition_alike (DefinesFunction w bs a) xs σ τ h k =
-      let s = function_alike w.place bs a σ τ h in
+      let s = function_same w.place bs a σ τ (binds_alike bs σ τ (left (names_sets bs) (names_in a) σ τ h)) (expand_alike a) (right (names_sets bs) (names_in a) σ τ h) in
       more_alike xs w.word (parameter (expand (t.Function w.place bs a) σ)) (parameter (expand (t.Function w.place bs a) τ)) σ τ (λ i. parameter (s i)) k
 
-  pub function_alike : (p : text.Place) (bs : Binders) (a : Tree) (σ τ : Scope) → Alike (names_sets bs ++ names_in a) σ τ → expand (t.Function p bs a) σ ≡ expand (t.Function p bs a) τ
-  function_alike p bs a σ τ h =
-      let b = binds_alike bs σ τ (left (names_sets bs) (names_in a) σ τ h) in
-      gathered_alike (names_in a) _ (place_of p) (binds_of bs σ) (binds_of bs τ) (expand a) b (expand_alike a) σ τ (right (names_sets bs) (names_in a) σ τ h)
+pub function_alike : (p : text.Place) (bs : Binders) (a : Tree) (σ τ : Scope) → Alike (names_sets bs ++ names_in a) σ τ → expand (t.Function p bs a) σ ≡ expand (t.Function p bs a) τ
+function_alike p bs a σ τ h = expand_alike (t.Function p bs a) σ τ h
