@@ -5,7 +5,7 @@ use Rattle.std.specs.Str.{bytes_eq}
 use Rattle.tla_lex.specs.declared.token.Place as text
 use Rattle.tla_core.specs.declared.fault.Place.{Place}
 use Rattle.tla_core.specs.Expr as e
-use Rattle.tla_core.specs.Expr.{Expr, unary, binary, enumerated, tuple, conjunction, disjunction, conditional, cases, functions, record_of, records, product, except, more_exprs}
+use Rattle.tla_core.specs.Expr.{Expr, unary, binary, enumerated, tuple, conjunction, disjunction, conditional, cases, functions, record_of, records, product, except, image, function, no_exprs, more_exprs}
 use Rattle.tla_core.specs.Patterns.{items_in}
 use Rattle.tla_tree.specs.declared.word.Written.{Written}
 use Rattle.tla_tree.specs.declared.tree.Bullet.TheVariants as bullet
@@ -21,10 +21,10 @@ use Rattle.tla_expand.specs.Maybe.{◌>>=◌, each_of}
 use Rattle.tla_expand.specs.Places.{Name, place_of, at_name}
 use Rattle.tla_expand.specs.Primes.{primes}
 use Rattle.tla_expand.specs.Unchanged.{unchanged, changed}
-use Rattle.tla_expand.specs.Nodes.{two, binding, gather}
+use Rattle.tla_expand.specs.Nodes.{two, binding}
 use Rattle.tla_expand.specs.Operators.{infix_for}
 use Rattle.tla_expand.specs.Meanings.{Argument, Meaning, Scope, with_name, bound_name, parameter, with_parameters, operator}
-use Rattle.tla_expand.specs.Bound.{Names, named, tupled, Bind, bind_entry, last_or, with_each, opening, under_openings, under, nested, with_elements, with_items, openings, set_for, gathered}
+use Rattle.tla_expand.specs.Bound.{Names, named, tupled, Bind, bind_entry, last_or, with_each, opening, under_openings, under, nested, with_elements, with_items, openings, set_for}
 use Rattle.tla_expand.specs.Expand.{expand, expand_each, expand_key, expand_arms, expand_other, expand_fields, expand_step, expand_path, expand_updates, arguments, binds_of, definitions_in, definition_in, of_quantifier, prefixed}
 
 -- scopes that say the same of these names, and of `@`
@@ -86,14 +86,19 @@ items_alike xs [] d σ τ h = h
 items_alike xs ((named x, s) ∷ bs) d σ τ h = items_alike xs bs d σ τ h
 items_alike xs ((tupled ws, s) ∷ bs) d σ τ h = items_alike xs bs (d + length ws) (with_each ws d σ) (with_each ws d τ) (each_alike xs ws d σ τ h)
 
-gathered_same : (xs : List Name) (f : _) (p : Place) (bs : List Bind) (body : Scope → Argument) → IsSame xs body → IsSame xs (gathered f p bs body)
-gathered_same xs f p bs body h σ τ a =
+-- what is made of the sets of all elements, and of a body under them
+abbrev over : (List Expr → Expr → Expr) → Place → List Bind → (Scope → Argument) → Scope → Argument
+over make p bs body σ d = each_of (λ (b : Bind). set_for p b.0 (b.1 d)) bs >>= λ ss.
+    under_openings p (openings bs d) (body (with_items bs (d + length bs) (with_elements bs d σ)) (d + length bs + items_in (openings bs d))) >>= λ y. Some (make ss y)
+
+over_same : (xs : List Name) (make : List Expr → Expr → Expr) (p : Place) (bs : List Bind) (body : Scope → Argument) → IsSame xs body → IsSame xs (over make p bs body)
+over_same xs make p bs body h σ τ a =
     let inner = λ (d : ℕ). items_alike xs bs (d + length bs) (with_elements bs d σ) (with_elements bs d τ) (elements_alike xs bs d σ τ a) in
     λ i d. each_of (λ (b : Bind). set_for p b.0 (b.1 d)) bs >>= λ ss.
-        under_openings p (openings bs d) (h (with_items bs (d + length bs) (with_elements bs d σ)) (with_items bs (d + length bs) (with_elements bs d τ)) (inner d) i (d + length bs + items_in (openings bs d))) >>= λ y. Some (gather f p (exprs ss) y)
+        under_openings p (openings bs d) (h (with_items bs (d + length bs) (with_elements bs d σ)) (with_items bs (d + length bs) (with_elements bs d τ)) (inner d) i (d + length bs + items_in (openings bs d))) >>= λ y. Some (make ss y)
 
-gathered_alike : (xs : List Name) (f : _) (p : Place) (bs cs : List Bind) (body : Scope → Argument) → bs ≡ cs → IsSame xs body → (σ τ : Scope) → Alike xs σ τ → gathered f p bs body σ ≡ gathered f p cs body τ
-gathered_alike xs f p bs cs body e h σ τ a = (λ i. gathered f p (e i) body σ) ∙ gathered_same xs f p cs body h σ τ a
+over_alike : (xs : List Name) (make : List Expr → Expr → Expr) (p : Place) (bs cs : List Bind) (body : Scope → Argument) → bs ≡ cs → IsSame xs body → (σ τ : Scope) → Alike xs σ τ → over make p bs body σ ≡ over make p cs body τ
+over_alike xs make p bs cs body e h σ τ a = (λ i. over make p (e i) body σ) ∙ over_same xs make p cs body h σ τ a
 
 -- ---- definitions
 parameters_same : (xs : List Name) (ws : List Written) (args : List Argument) (body : Scope → Argument) → IsSame xs body → (d : ℕ) (σ τ : Scope) → Alike xs σ τ
@@ -108,7 +113,24 @@ operator_alike xs ws body h σ τ a = λ i p args d. parameters_same xs ws args 
 
 -- ---- expressions
 function_same : (p : text.Place) (bs : Binders) (a : Tree) (σ τ : Scope) → binds_of bs σ ≡ binds_of bs τ → IsSame (names_in a) (expand a) → Alike (names_in a) σ τ → expand (t.Function p bs a) σ ≡ expand (t.Function p bs a) τ
-function_same p bs a σ τ e h k = gathered_alike (names_in a) _ (place_of p) (binds_of bs σ) (binds_of bs τ) (expand a) e h σ τ k
+function_same p bs a σ τ e h k =
+    over_alike (names_in a) (λ ss y. function (place_of p) (exprs ss) y) (place_of p) (binds_of bs σ) (binds_of bs τ) (expand a) e h σ τ k
+
+image_same : (p : text.Place) (bs : Binders) (a : Tree) (σ τ : Scope) → binds_of bs σ ≡ binds_of bs τ → IsSame (names_in a) (expand a) → Alike (names_in a) σ τ → expand (t.Image p a bs) σ ≡ expand (t.Image p a bs) τ
+image_same p bs a σ τ e h k =
+    over_alike (names_in a) (λ ss y. image (place_of p) (exprs ss) y) (place_of p) (binds_of bs σ) (binds_of bs τ) (expand a) e h σ τ k
+
+choose_same : (p : text.Place) (w : Pattern) (s a : Tree) (σ τ : Scope) → expand s σ ≡ expand s τ → IsSame (names_in a) (expand a) → Alike (names_in a) σ τ → expand (t.Choose p w s a) σ ≡ expand (t.Choose p w s a) τ
+choose_same p w s a σ τ e h k =
+    let each : (f : _) → nested f (place_of p) (bind_entry w (expand s σ) []) (expand a) σ ≡ nested f (place_of p) (bind_entry w (expand s τ) []) (expand a) τ =
+        λ f. nested_alike (names_in a) f (place_of p) (bind_entry w (expand s σ) []) (bind_entry w (expand s τ) []) (expand a) (λ i. bind_entry w (e i) []) h σ τ k in
+    search each
+
+filter_same : (p : text.Place) (w : Pattern) (s a : Tree) (σ τ : Scope) → expand s σ ≡ expand s τ → IsSame (names_in a) (expand a) → Alike (names_in a) σ τ → expand (t.Filter p w s a) σ ≡ expand (t.Filter p w s a) τ
+filter_same p w s a σ τ e h k =
+    let each : (f : _) → nested f (place_of p) (bind_entry w (expand s σ) []) (expand a) σ ≡ nested f (place_of p) (bind_entry w (expand s τ) []) (expand a) τ =
+        λ f. nested_alike (names_in a) f (place_of p) (bind_entry w (expand s σ) []) (bind_entry w (expand s τ) []) (expand a) (λ i. bind_entry w (e i) []) h σ τ k in
+    search each
 
 -- arms before the last ones
 abbrev arms_before : Arms → Scope → Option e.Arms → ℕ → Option e.Arms
@@ -139,15 +161,9 @@ mutual
   expand_alike (t.Quantified p q bs a) σ τ h =
       let b = binds_alike bs σ τ (left (names_sets bs) (names_in a) σ τ h) in
       nested_alike (names_in a) (of_quantifier q) (place_of p) (binds_of bs σ) (binds_of bs τ) (expand a) b (expand_alike a) σ τ (right (names_sets bs) (names_in a) σ τ h)
-  expand_alike (t.Choose p w s a) σ τ h =
-      let b = expand_alike s σ τ (left (names_in s) (names_in a) σ τ h) in
-      nested_alike (names_in a) _ (place_of p) (bind_entry w (expand s σ) []) (bind_entry w (expand s τ) []) (expand a) (λ i. bind_entry w (b i) []) (expand_alike a) σ τ (right (names_in s) (names_in a) σ τ h)
-  expand_alike (t.Filter p w s a) σ τ h =
-      let b = expand_alike s σ τ (left (names_in s) (names_in a) σ τ h) in
-      nested_alike (names_in a) _ (place_of p) (bind_entry w (expand s σ) []) (bind_entry w (expand s τ) []) (expand a) (λ i. bind_entry w (b i) []) (expand_alike a) σ τ (right (names_in s) (names_in a) σ τ h)
-  expand_alike (t.Image p a bs) σ τ h =
-      let b = binds_alike bs σ τ (left (names_sets bs) (names_in a) σ τ h) in
-      gathered_alike (names_in a) _ (place_of p) (binds_of bs σ) (binds_of bs τ) (expand a) b (expand_alike a) σ τ (right (names_sets bs) (names_in a) σ τ h)
+  expand_alike (t.Choose p w s a) σ τ h = choose_same p w s a σ τ (expand_alike s σ τ (left (names_in s) (names_in a) σ τ h)) (expand_alike a) (right (names_in s) (names_in a) σ τ h)
+  expand_alike (t.Filter p w s a) σ τ h = filter_same p w s a σ τ (expand_alike s σ τ (left (names_in s) (names_in a) σ τ h)) (expand_alike a) (right (names_in s) (names_in a) σ τ h)
+  expand_alike (t.Image p a bs) σ τ h = image_same p bs a σ τ (binds_alike bs σ τ (left (names_sets bs) (names_in a) σ τ h)) (expand_alike a) (right (names_sets bs) (names_in a) σ τ h)
   expand_alike (t.Function p bs a) σ τ h = function_same p bs a σ τ (binds_alike bs σ τ (left (names_sets bs) (names_in a) σ τ h)) (expand_alike a) (right (names_sets bs) (names_in a) σ τ h)
   expand_alike (t.FunctionSet p s a) σ τ h =
       let l = expand_alike s σ τ (left (names_in s) (names_in a) σ τ h) in
@@ -166,17 +182,17 @@ mutual
   expand_alike (t.Action p steps.Box a v) σ τ h =
       let l = expand_alike a σ τ (left (names_in a) (names_in v) σ τ h) in
       let r = expand_alike v σ τ (right (names_in a) (names_in v) σ τ h) in
-      λ i d. l i d >>= λ x. (r i d >>= unchanged (place_of (place v))) >>= λ y. Some (two _ (place_of p) x y)
+      λ i d. l i d >>= λ x. (r i d >>= unchanged (place_of (place v))) >>= λ y. Some (disjunction (place_of p) (more_exprs x (more_exprs y no_exprs)))
   expand_alike (t.Action p steps.Angle a v) σ τ h =
       let l = expand_alike a σ τ (left (names_in a) (names_in v) σ τ h) in
       let r = expand_alike v σ τ (right (names_in a) (names_in v) σ τ h) in
-      λ i d. l i d >>= λ x. (r i d >>= changed (place_of (place v))) >>= λ y. Some (two _ (place_of p) x y)
+      λ i d. l i d >>= λ x. (r i d >>= changed (place_of (place v))) >>= λ y. Some (conjunction (place_of p) (more_exprs x (more_exprs y no_exprs)))
   expand_alike (t.Fair p f v a) σ τ h = refl
   expand_alike (t.If p a b c) σ τ h =
-      let k = right (names_in a) (names_in b ++ names_in c) σ τ h in
-      let l = expand_alike a σ τ (left (names_in a) (names_in b ++ names_in c) σ τ h) in
-      let m = expand_alike b σ τ (left (names_in b) (names_in c) σ τ k) in
-      let r = expand_alike c σ τ (right (names_in b) (names_in c) σ τ k) in
+      let k = left (names_in a ++ names_in b) (names_in c) σ τ h in
+      let l = expand_alike a σ τ (left (names_in a) (names_in b) σ τ k) in
+      let m = expand_alike b σ τ (right (names_in a) (names_in b) σ τ k) in
+      let r = expand_alike c σ τ (right (names_in a ++ names_in b) (names_in c) σ τ h) in
       λ i d. l i d >>= λ x. m i d >>= λ y. r i d >>= λ z. Some (conditional (place_of p) x y z)
   expand_alike (t.Case p as' o) σ τ h =
       let l = arms_alike as' σ τ (left (names_arms as') (names_other o) σ τ h) in
@@ -207,10 +223,10 @@ mutual
   arms_alike : (as' : Arms) (σ τ : Scope) → Alike (names_arms as') σ τ → arms_before as' σ ≡ arms_before as' τ
   arms_alike no_arms σ τ h = refl
   arms_alike (arm g a as') σ τ h =
-      let k = right (names_in g) (names_in a ++ names_arms as') σ τ h in
-      let l = expand_alike g σ τ (left (names_in g) (names_in a ++ names_arms as') σ τ h) in
-      let m = expand_alike a σ τ (left (names_in a) (names_arms as') σ τ k) in
-      let r = arms_alike as' σ τ (right (names_in a) (names_arms as') σ τ k) in
+      let k = left (names_in g ++ names_in a) (names_arms as') σ τ h in
+      let l = expand_alike g σ τ (left (names_in g) (names_in a) σ τ k) in
+      let m = expand_alike a σ τ (right (names_in g) (names_in a) σ τ k) in
+      let r = arms_alike as' σ τ (right (names_in g ++ names_in a) (names_arms as') σ τ h) in
       λ i o d. l i d >>= λ x. m i d >>= λ y. r i o d >>= λ xs. Some (e.more_arms x y xs)
 
   other_alike : (o : Other) (σ τ : Scope) → Alike (names_other o) σ τ → expand_other o σ ≡ expand_other o τ
@@ -238,11 +254,11 @@ mutual
   updates_alike : (us : Updates) (σ τ : Scope) → Alike (names_updates us) σ τ → expand_updates us σ ≡ expand_updates us τ
   updates_alike no_updates σ τ h = refl
   updates_alike (update ks a us) σ τ h =
-      let k = right (names_keys ks) (names_in a ++ names_updates us) σ τ h in
-      let l = path_alike ks σ τ (left (names_keys ks) (names_in a ++ names_updates us) σ τ h) in
-      let inner = left (names_in a) (names_updates us) σ τ k in
+      let k = left (names_keys ks ++ names_in a) (names_updates us) σ τ h in
+      let l = path_alike ks σ τ (left (names_keys ks) (names_in a) σ τ k) in
+      let inner = right (names_keys ks) (names_in a) σ τ k in
       let m = λ (d : ℕ). expand_alike a (with_name at_name (bound_name d) σ) (with_name at_name (bound_name d) τ) (more_alike (names_in a) at_name (bound_name d) (bound_name d) σ τ refl inner) in
-      let r = updates_alike us σ τ (right (names_in a) (names_updates us) σ τ k) in
+      let r = updates_alike us σ τ (right (names_keys ks ++ names_in a) (names_updates us) σ τ h) in
       λ i d. l i d >>= λ xs. m d i (d + 1) >>= λ y. r i d >>= λ ys. Some (e.more_updates xs y ys)
 
   arguments_alike : (es : Trees) (σ τ : Scope) → Alike (names_each es) σ τ → arguments es σ ≡ arguments es τ

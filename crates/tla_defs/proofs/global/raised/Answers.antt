@@ -1,4 +1,5 @@
-use Rattle.std.proofs.Common.{rules, ◌≡◌, ◌∙◌, sym, subst, List, map}
+use Rattle.std.proofs.Common.{rules, arith, ◌≡◌, ◌∙◌, sym, subst, List, map}
+use Rattle.std.proofs.lemmas.Grind.{common_steps}
 use Rattle.tla_config.specs.Names.{Name}
 use Rattle.tla_expand.specs.Meanings.{standard}
 use Rattle.tla_expand.specs.Names.{scope_of}
@@ -31,6 +32,6 @@ loop-left-preserved-in_ok-waiting-2 c =
     let τ = scope_of c.in_ok-all.all in
     let s = next_pass us is c.loop-left.waiting w.0 ρ τ w.1 w.2 c.in_ok-all.ensures.ok in
     record {
-      same = search rules;
+      same = first_of (search rules, grind (arith, common_steps));
       settled = (ρ, c.in_ok-all.ensures.ok, subst (λ (xs : List Name). AreSettled xs is ρ τ) (sym c.in_ok-waiting-2.ensures.ok) s);
     }
