@@ -1,5 +1,5 @@
 -- An expression says the same under scopes that say the same of the names in it.
-use Rattle.std.proofs.Common.{◌≡◌, ◌∙◌, ℕ, ◌+◌, Bool, List, [], ◌∷◌, ◌++◌, length, refl, Option, Some, None}
+use Rattle.std.proofs.Common.{◌≡◌, ◌∙◌, ℕ, ◌+◌, List, [], ◌∷◌, ◌++◌, length, refl, Option, Some}
 use Rattle.std.specs.Prelude.{if◌then◌else◌}
 use Rattle.std.specs.Str.{bytes_eq}
 use Rattle.tla_lex.specs.declared.token.Place as text
@@ -95,7 +95,7 @@ over_same : (xs : List Name) (make : List Expr → Expr → Expr) (p : Place) (b
 over_same xs make p bs body h σ τ a =
     let inner = λ (d : ℕ). items_alike xs bs (d + length bs) (with_elements bs d σ) (with_elements bs d τ) (elements_alike xs bs d σ τ a) in
     λ i d. each_of (λ (b : Bind). set_for p b.0 (b.1 d)) bs >>= λ ss.
-        under_openings p (openings bs d) (h (with_items bs (d + length bs) (with_elements bs d σ)) (with_items bs (d + length bs) (with_elements bs d τ)) (inner d) i (d + length bs + items_in (openings bs d))) >>= λ y. Some (make ss y)
+    under_openings p (openings bs d) (h (with_items bs (d + length bs) (with_elements bs d σ)) (with_items bs (d + length bs) (with_elements bs d τ)) (inner d) i (d + length bs + items_in (openings bs d))) >>= λ y. Some (make ss y)
 
 over_alike : (xs : List Name) (make : List Expr → Expr → Expr) (p : Place) (bs cs : List Bind) (body : Scope → Argument) → bs ≡ cs → IsSame xs body → (σ τ : Scope) → Alike xs σ τ → over make p bs body σ ≡ over make p cs body τ
 over_alike xs make p bs cs body e h σ τ a = (λ i. over make p (e i) body σ) ∙ over_same xs make p cs body h σ τ a
@@ -123,13 +123,13 @@ image_same p bs a σ τ e h k =
 choose_same : (p : text.Place) (w : Pattern) (s a : Tree) (σ τ : Scope) → expand s σ ≡ expand s τ → IsSame (names_in a) (expand a) → Alike (names_in a) σ τ → expand (t.Choose p w s a) σ ≡ expand (t.Choose p w s a) τ
 choose_same p w s a σ τ e h k =
     let each : (f : _) → nested f (place_of p) (bind_entry w (expand s σ) []) (expand a) σ ≡ nested f (place_of p) (bind_entry w (expand s τ) []) (expand a) τ =
-        λ f. nested_alike (names_in a) f (place_of p) (bind_entry w (expand s σ) []) (bind_entry w (expand s τ) []) (expand a) (λ i. bind_entry w (e i) []) h σ τ k in
+    λ f. nested_alike (names_in a) f (place_of p) (bind_entry w (expand s σ) []) (bind_entry w (expand s τ) []) (expand a) (λ i. bind_entry w (e i) []) h σ τ k in
     search each
 
 filter_same : (p : text.Place) (w : Pattern) (s a : Tree) (σ τ : Scope) → expand s σ ≡ expand s τ → IsSame (names_in a) (expand a) → Alike (names_in a) σ τ → expand (t.Filter p w s a) σ ≡ expand (t.Filter p w s a) τ
 filter_same p w s a σ τ e h k =
     let each : (f : _) → nested f (place_of p) (bind_entry w (expand s σ) []) (expand a) σ ≡ nested f (place_of p) (bind_entry w (expand s τ) []) (expand a) τ =
-        λ f. nested_alike (names_in a) f (place_of p) (bind_entry w (expand s σ) []) (bind_entry w (expand s τ) []) (expand a) (λ i. bind_entry w (e i) []) h σ τ k in
+    λ f. nested_alike (names_in a) f (place_of p) (bind_entry w (expand s σ) []) (bind_entry w (expand s τ) []) (expand a) (λ i. bind_entry w (e i) []) h σ τ k in
     search each
 
 -- arms before the last ones

@@ -1,7 +1,6 @@
 -- A pass over the units says the same of all names but those that lead to what is still open.
-use Rattle.std.proofs.Common.{◌≡◌, ◌∙◌, ℕ, ◌+◌, Bool, true, false, ◌||◌, List, [], ◌∷◌, ◌++◌, length, ◌==◌, arith, refl, sym, ap, subst, Option, Some, None}
+use Rattle.std.proofs.Common.{◌≡◌, ◌∙◌, ℕ, ◌+◌, Bool, true, false, ◌||◌, List, [], ◌∷◌, ◌++◌, length, ◌==◌, arith, refl, sym, ap, subst, Some, None}
 use Rattle.std.specs.Prelude.{if◌then◌else◌}
-use Rattle.std.specs.List.{list_any}
 use Rattle.std.specs.Str.{bytes_eq}
 use Rattle.std.proofs.lemmas.Bool.Decides.{Decides-eqb}
 use Rattle.std.proofs.lemmas.Slice.Eq.{bytes_eq-Decides}
@@ -111,8 +110,8 @@ definition_outside r ys (DefinesOperator w ws a) σ τ h =
     unless_outside r ys w.word (names_in a) (operator ws (expand a) σ) (operator ws (expand a) τ) σ τ (operator_alike (names_in a) ws (expand a) (expand_alike a) σ τ) h
 definition_outside r ys (DefinesFunction w bs a) σ τ h =
     unless_outside r ys w.word (names_sets bs ++ names_in a)
-        (parameter (expand (Function w.place bs a) σ)) (parameter (expand (Function w.place bs a) τ)) σ τ
-        (λ k. ap (λ (s : Argument). parameter s) (function_alike w.place bs a σ τ k)) h
+    (parameter (expand (Function w.place bs a) σ)) (parameter (expand (Function w.place bs a) τ)) σ τ
+    (λ k. ap (λ (s : Argument). parameter s) (function_alike w.place bs a σ τ k)) h
 
 -- ---- the units
 variables_outside : (ys : List Name) (i : ℕ) (ws : List Written) (σ τ : Scope) → Outside ys σ τ → Outside ys (variables_in i ws σ) (variables_in i ws τ)

@@ -27,11 +27,7 @@ fn meets(names: &Names<'_>, others: &Names<'_>) -> bool
 }
 
 /// With the name of a definition, where one of the names in it is one of these. The only error is want of memory.
-fn touch<'a>(
-    touched: &mut Names<'a>,
-    name: &'a Word,
-    names: &Names<'_>,
-) -> Result<(), DefsError>
+fn touch<'a>(touched: &mut Names<'a>, name: &'a Word, names: &Names<'_>) -> Result<(), DefsError>
     ensures ok { OnOk result (touched.new ≡ spec.with_touched touched.old name.entry.now names.now) }
     ensures err { IfErr result (λ e. e.code ≡ Memory) }
 {
@@ -42,11 +38,7 @@ fn touch<'a>(
 }
 
 /// With what a unit defines, where one of the names in it is one of these. The only error is want of memory.
-fn touch_unit<'a>(
-    alloc: Global,
-    touched: &mut Names<'a>,
-    unit: &'a Unit,
-) -> Result<(), DefsError>
+fn touch_unit<'a>(alloc: Global, touched: &mut Names<'a>, unit: &'a Unit) -> Result<(), DefsError>
     ensures ok { OnOk result (touched.new ≡ spec.unit_touched touched.old (unit_view unit.entry.now)) }
     ensures err { IfErr result (λ e. e.code ≡ Memory) }
 {

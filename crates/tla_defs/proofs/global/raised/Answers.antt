@@ -1,4 +1,4 @@
-use Rattle.std.proofs.Common.{rules, arith, ◌≡◌, ◌∙◌, sym, subst, List, map}
+use Rattle.std.proofs.Common.{rules, arith, ◌∙◌, sym, subst, List, map}
 use Rattle.std.proofs.lemmas.Grind.{common_steps}
 use Rattle.tla_config.specs.Names.{Name}
 use Rattle.tla_expand.specs.Meanings.{standard}
