@@ -16,3 +16,5 @@ pub mod Forms
 pub mod Sound
 pub mod Found
 pub mod Locating
+pub mod Alike
+pub mod Passes

@@ -5,6 +5,7 @@ ghost use Rattle.tla_config.specs.declared.error.DefsCode.TheVariants.{Memory};
 ghost use Rattle.tla_config.specs.Names.{is_among};
 ghost use Rattle.tla_config.specs.View.{item_view};
 ghost use Rattle.tla_expand.specs.Expand.{definition_in};
+ghost use Rattle.tla_expand.specs.Meanings.{standard};
 ghost use Rattle.tla_expand.specs.Names.{scope_of, outer_of};
 ghost use Rattle.tla_tree.specs.Units.{UnitTree};
 ghost use Rattle.tla_tree.specs.UnitsView.{unit_view};
@@ -17,7 +18,7 @@ ghost use Rattle.tla_names.specs.Scope.{signature};
 use std::alloc::Global;
 use tla_config::{DefsError, Item};
 use tla_expand::Scopes;
-use tla_names::{Items, Names, name_of, no_memory};
+use tla_names::{Items, Names, name_of, no_memory, still_open, with_operators};
 use tla_tree::{Definition, Expr, Unit, Word, Written};
 
 /// A scope, and how many variables are in it.
@@ -215,22 +216,30 @@ fn meant<'a>(
     with_units(counted, replaced, units)
 }
 
-/// What the names mean, once more for each item with an operator.
+/// What the names mean, once more for each item with an operator. The passes behind one that leaves no operator open say
+/// nothing new, and aren't made.
 fn raised<'a>(
+    alloc: Global,
     scopes: Scopes<'a>,
     replaced: &Names<'_>,
     given: &Items<'a>,
     units: &'a [Unit],
 ) -> Result<Scopes<'a>, DefsError>
-    requires { replaced.now ≡ items.replaced_names given.now }
+    requires replaced { replaced.now ≡ items.replaced_names given.now }
+    requires first { scope_of scopes ≡ global.meant (map unit_view units.now) given.now standard }
     ensures ok { IfOk result (λ s. scope_of s ≡ global.raised (map unit_view units.now) given.now given.now (scope_of scopes.entry)) }
     ensures err { IfErr result (λ e. e.code ≡ Memory) }
 {
     let mut all = scopes;
+    let mut waiting = with_operators(alloc, given)?;
     let mut left = given.list();
     while let [first, rest @ ..] = left {
         if let Item::Replaces(_, _) = first {
+            if waiting.is_empty() {
+                return Ok(all);
+            }
             all = meant(all, replaced, given, units)?;
+            waiting = still_open(alloc, waiting, units, given)?;
         }
         left = rest;
     }
@@ -248,5 +257,5 @@ pub(crate) fn global_scope<'a>(
 {
     let replaced = given.names(alloc)?;
     let first = meant(Scopes::new(alloc), &replaced, given, units)?;
-    raised(first, &replaced, given, units)
+    raised(alloc, first, &replaced, given, units)
 }

@@ -7,6 +7,7 @@ pub mod Misuses
 pub mod Items
 pub mod Named
 pub mod Leads
+pub mod Open
 pub mod Circles
 pub mod Refusal
 pub mod Mentions
