@@ -6,7 +6,9 @@ use Rattle.tla_core.specs.Expr.{Expr}
 use Rattle.tla_tree.specs.declared.tree.Expr as syntax
 use Rattle.tla_tree.specs.declared.word.Written.{Written}
 use Rattle.tla_tree.specs.View.{view}
+use Rattle.tla_expand.specs.declared.arena.Entry.{Entry}
 use Rattle.tla_expand.specs.declared.arena.Given.{Given}
+use Rattle.tla_expand.specs.declared.arena.What.TheVariants.{Gives}
 use Rattle.tla_expand.specs.declared.primes.Primes.{Primes}
 use Rattle.tla_expand.specs.declared.primes.Primes.TheVariants.{Never, Once, Twice}
 use Rattle.tla_expand.specs.Maybe.{◌>>=◌}
@@ -16,7 +18,7 @@ use Rattle.tla_expand.specs.Meanings.{Scope, Argument, Meaning, with_name, param
 use Rattle.tla_expand.specs.Expand.{expand}
 use Rattle.tla_expand.specs.Private.Arguments.{with_more, has_count, argument_at, argument_of, given}
 use Rattle.tla_expand.specs.Private.Parameters.{IsAbsent, IsLast}
-use Rattle.tla_expand.specs.Scopes.{arguments_in}
+use Rattle.tla_expand.specs.Scopes.{meaning_of, arguments_in}
 use Rattle.tla_expand.proofs.Primed.{once, unprimed}
 use Rattle.tla_expand.proofs.Shorter.{absent_same}
 use Rattle.tla_expand.proofs.Steps.{shown_once}
@@ -84,3 +86,17 @@ use_other n g es h = λ σ p d. rw (count_other n es σ h) refl
 
 pub use_beyond : (n : ℕ) (g : Given) (es : List syntax.Expr) → n ≡ length es → length es ≤ g.index → (σ : Scope) (p : Place) (d : ℕ) → given n g p (arguments_in es σ) d ≡ None
 use_beyond n g es c h = λ σ p d. rw (c, count_row es σ) (ap (λ (o : Option Expr). with_primes g.primes o) (argument_beyond es g.index σ d h))
+
+-- the use of a definition that gives back an argument
+pub use_gives : (k : Primes) (at : ℕ → Scope) (m : Meaning) (e : Entry) (n : ℕ) (g : Given) (es : List syntax.Expr) (x : syntax.Expr) (σ : Scope) (p : Place) → m ≡ meaning_of at e.what → e.what ≡ Gives n g
+    → ((ρ : Scope) (q : Place) (d : ℕ) → given n g q (arguments_in es ρ) d ≡ with_primes g.primes (expand (view x) ρ d)) → (d : ℕ) → with_primes k (m p (arguments_in es σ) d) ≡ with_primes (with_more k g.primes) (expand (view x) σ d)
+use_gives k at m e n g es x σ p h w c = λ d. rw (h, w) (ap (λ (o : Option Expr). with_primes k o) (c σ p d) ∙ shown_more k g.primes (expand (view x) σ d))
+
+pub use_gives_none : (at : ℕ → Scope) (m : Meaning) (e : Entry) (n : ℕ) (g : Given) (es : List syntax.Expr) (σ : Scope) (p : Place) → m ≡ meaning_of at e.what → e.what ≡ Gives n g
+    → ((ρ : Scope) (q : Place) (d : ℕ) → given n g q (arguments_in es ρ) d ≡ None) → (d : ℕ) → m p (arguments_in es σ) d ≡ None
+use_gives_none at m e n g es σ p h w c = λ d. rw (h, w) (c σ p d)
+
+-- without primes
+pub use_never : (at : ℕ → Scope) (m : Meaning) (e : Entry) (n : ℕ) (g : Given) (es : List syntax.Expr) (x : syntax.Expr) → m ≡ meaning_of at e.what → e.what ≡ Gives n g → g.primes ≡ Never
+    → ((ρ : Scope) (q : Place) (d : ℕ) → given n g q (arguments_in es ρ) d ≡ with_primes g.primes (expand (view x) ρ d)) → (σ : Scope) (p : Place) (d : ℕ) → m p (arguments_in es σ) d ≡ expand (view x) σ d
+use_never at m e n g es x h w q c = λ σ p d. rw (h, w) (c σ p d ∙ rw q (shown_never (expand (view x) σ d)))

@@ -1,6 +1,7 @@
 -- The walk to the argument that a body gives back.
-use Rattle.std.proofs.Common.{◌≡◌, ℕ, zero, suc, ◌+◌, ◌<◌, ◌≤◌, true, false, List, [], ◌∷◌, length, map, refl, ap, sym, ◌∙◌, arith, Option, Some, None, Bor}
+use Rattle.std.proofs.Common.{◌≡◌, ℕ, zero, suc, ◌+◌, ◌<◌, ◌≤◌, true, false, List, [], ◌∷◌, length, get_or, drop, map, refl, ap, sym, ◌∙◌, arith, add-one, drop-cons, Option, Some, None, Bor}
 use Rattle.std.specs.Str.{bytes_eq}
+use Rattle.std.proofs.lemmas.List.{drop_all}
 use Rattle.tla_core.specs.declared.fault.Place.{Place}
 use Rattle.tla_core.specs.Expr.{Expr}
 use Rattle.tla_lex.specs.declared.token.Place as text
@@ -23,7 +24,7 @@ use Rattle.tla_expand.specs.Places.{Name, place_of}
 use Rattle.tla_expand.specs.Primes.{with_primes}
 use Rattle.tla_expand.specs.Meanings.{Scope, Argument, Meaning, with_name, parameter, with_parameters, operator}
 use Rattle.tla_expand.specs.Bound.{gathered}
-use Rattle.tla_expand.specs.Expand.{expand, definition_in, binds_of}
+use Rattle.tla_expand.specs.Expand.{expand, definition_in, definitions_in, binds_of}
 use Rattle.tla_expand.specs.Private.Arguments.{with_more, argument_at, argument_of, given}
 use Rattle.tla_expand.specs.Private.Known.{Holds, IsSought, IsGiven, IsMeant, IsOperator, ComesTo, GivesBack, defined_name}
 use Rattle.tla_expand.specs.Private.Parameters.{IsAbsent, IsLast}
@@ -123,17 +124,18 @@ comes_back ρ a b g f k = λ args τ h d.
     u.2 d ∙ k args u.0 u.1 d
 
 -- a part inside one definition more
-pub back_more : (ρ : Scope) (a b : Part) (def : defining.Definition) (defs rest : List defining.Definition) (x : Bor (List ℕ)) (w : Meant) (g : Given) → defs ≡ def ∷ rest → b.known.now ≡ views.Named x w a.known → x.now ≡ defined_name (definition_view def)
-    → b.tree ≡ a.tree → b.primes ≡ a.primes → IsMeant ρ a.known.now (definition_view def) w → GivesBack ρ b rest g → GivesBack ρ a defs g
-back_more ρ a b def defs rest x w g l known n tree k i f = λ args τ h d.
-    let u = i args τ h in
+pub back_more : (ρ : Scope) (a : Part) (def : defining.Definition) (defs : List defining.Definition) (i : ℕ) (x : Bor (List ℕ)) (w : Meant) (g : Given) → i < length defs → def ≡ get_or defs i def → x.now ≡ defined_name (definition_view def)
+    → IsMeant ρ a.known.now (definition_view def) w
+    → ((args : List Argument) (τ : Scope) → Holds ρ (views.Named x w a.known) args τ → (d : ℕ) → with_primes a.primes (expand (view a.tree.now) (definitions_in (t.definitions (map definition_view (drop (i + 1) defs))) τ) d) ≡ argument_of g args d)
+    → GivesBack ρ a (drop i defs) g
+back_more ρ a def defs i x w g l q n m f = λ args τ h d.
+    let u = m args τ h in
     let e : definition_in (definition_view def) τ ≡ with_name x.now u.0 τ = rw n u.2 in
-    let r = f args (definition_in (definition_view def) τ) (rw known (τ, u.0, h, u.1, e)) d in
-    rw l (rw (tree, k) at r)
+    let p : drop i defs ≡ def ∷ drop (i + 1) defs = rw (add-one i) (drop-cons defs i def l ∙ ap (λ (y : defining.Definition). y ∷ drop (suc i) defs) (sym q)) in
+    rw p (f args (definition_in (definition_view def) τ) (τ, u.0, h, u.1, e) d)
 
-pub back_none : (ρ : Scope) (a : Part) (defs : List defining.Definition) (g : Given) → length defs ≤ 0 → GivesBack ρ a [] g → GivesBack ρ a defs g
-back_none ρ a [] g h f = f
-back_none ρ a (def ∷ defs) g h f = absurd (omega arith)
+pub back_none : (ρ : Scope) (a : Part) (defs : List defining.Definition) (i : ℕ) (g : Given) → length defs ≤ i → GivesBack ρ a [] g → GivesBack ρ a (drop i defs) g
+back_none ρ a defs i g h f = rw (drop_all i defs h) f
 
 -- a LET
 pub back_let : (ρ : Scope) (a b : Part) (p : text.Place) (defs : List defining.Definition) (g : Given) → view a.tree.now ≡ t.Let p (t.definitions (map definition_view defs)) (view b.tree.now) → b.known ≡ a.known → b.primes ≡ a.primes
@@ -141,8 +143,10 @@ pub back_let : (ρ : Scope) (a b : Part) (p : text.Place) (defs : List defining.
 back_let ρ a b p defs g v known k f = λ args τ h d. let r = f args τ (rw known h) d in rw v (rw k at r)
 
 -- what is known of a definition
-pub expression_meant : (ρ : Scope) (known : Known) (def : t.Definition) (w : Written) (e : Bor syntax.Expr) → def ≡ DefinesOperator w [] (view e.now) → IsMeant ρ known def (Expression e)
-expression_meant ρ known def w e q = λ args τ h. (operator [] (expand (view e.now)) τ, refl, rw q refl)
+pub expression_meant : (ρ : Scope) (known : Known) (def : t.Definition) (w : Written) (ws : List Written) (e : syntax.Expr) → def ≡ DefinesOperator w ws (view e) → length ws ≡ 0 → (args : List Argument) (τ : Scope) → Holds ρ known args τ
+    → (m : Meaning) × (m ≡ operator [] (expand (view e)) τ) × (definition_in def τ ≡ with_name (defined_name def) m τ)
+expression_meant ρ known def w [] e q n = λ args τ h. (operator [] (expand (view e)) τ, refl, rw q refl)
+expression_meant ρ known def w (v ∷ ws) e q n = absurd (omega arith)
 
 pub operator_meant : (ρ : Scope) (known : Known) (def : t.Definition) (w : Written) (ws : List Written) (body : Tree) (n : ℕ) (g : Given) → def ≡ DefinesOperator w ws body → n ≡ length ws → IsOperator ρ known ws body g → IsMeant ρ known def (Gives n g)
 operator_meant ρ known def w ws body n g q c i = λ args τ h. (operator ws (expand body) τ, rw c (i args τ h), rw q refl)
@@ -152,8 +156,6 @@ other_meant ρ known (DefinesOperator w ws a) = λ args τ h. (operator ws (expa
 other_meant ρ known (DefinesFunction w bs a) = λ args τ h. (parameter (gathered gathers.Function (place_of w.place) (binds_of bs τ) (expand a) τ), tt, refl)
 
 -- the body of an operator
-pub operator_back : (ρ : Scope) (a : Part) (known : Bor Known) (ws : Bor (List Written)) (body : Bor syntax.Expr) (g : Given) → a.known.now ≡ views.Parameters ws known → a.tree ≡ body → a.primes ≡ Never → GivesBack ρ a [] g
-    → IsOperator ρ known.now ws.now (view body.now) g
-operator_back ρ a known ws body g q tree k f = λ args σ h. operator_given ws.now (expand (view body.now)) σ g (λ more τ d e.
-    let r = f more τ (rw q (args, σ, h, e)) d in
-    sym (shown_never (expand (view body.now) τ d)) ∙ (rw (tree, k) at r))
+pub operator_back : (ρ : Scope) (known : Bor Known) (ws : Bor (List Written)) (body : syntax.Expr) (g : Given)
+    → ((args : List Argument) (τ : Scope) → Holds ρ (views.Parameters ws known) args τ → (d : ℕ) → with_primes Never (expand (view body) τ d) ≡ argument_of g args d) → IsOperator ρ known.now ws.now (view body) g
+operator_back ρ known ws body g f = λ args σ h. operator_given ws.now (expand (view body)) σ g (λ more τ d e. sym (shown_never (expand (view body) τ d)) ∙ f more τ (args, σ, h, e) d)

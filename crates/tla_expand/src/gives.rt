@@ -1,7 +1,7 @@
 //! Definitions that give back one of their arguments, through parentheses, primes, LET and uses of others that do so. Such
 //! a definition costs its uses nothing, however often others of the kind stand in its body.
 
-ghost use Rattle.std.specs.Prelude.{◌≡◌, ◌≤◌, ◌<◌, length, ℕ, List, [], Some, None, IfSome, IfNone};
+ghost use Rattle.std.specs.Prelude.{◌≡◌, ◌≤◌, ◌<◌, length, ℕ, List, [], Some, None, IfSome, IfNone, map, drop};
 ghost use Rattle.tla_core.specs.declared.fault.Place.{Place};
 ghost use Rattle.tla_tree.specs.Tree.{Call, Name, trees};
 ghost use Rattle.tla_tree.specs.View.{view, definition_view};
@@ -12,7 +12,6 @@ ghost use Rattle.tla_expand.specs.Private.Arguments as backs;
 ghost use Rattle.tla_expand.specs.declared.gives.Meant.TheVariants as meants;
 ghost use Rattle.tla_expand.specs.Private.Known.{IsSought, IsHit, IsGiven, IsMeant, IsOperator, IsTurn, ComesTo, GivesBack, defined_name};
 ghost use Rattle.tla_expand.specs.Scopes.{AreLinked, scope_at, arguments_in};
-ghost use Rattle.std.specs.Prelude.{map};
 
 use crate::arena::{Entry, Given, What, find};
 use crate::builders::place_of;
@@ -181,12 +180,14 @@ fn named<'a>(part: Part<'a>, name: &Written) -> Turn<'a>
             }),
             None => Turn::Stops,
         },
-        Known::Named(_, Meant::Expression(tree), rest) => Turn::Goes(Part {
-            known: rest,
-            tree,
-            ..part
-        }),
-        Known::Named(_, _, _) => Turn::Stops,
+        Known::Named(_, meant, rest) => match *meant {
+            Meant::Expression(tree) => Turn::Goes(Part {
+                known: rest,
+                tree,
+                ..part
+            }),
+            Meant::Gives(_, _) | Meant::Other => Turn::Stops,
+        },
     }
 }
 
@@ -267,30 +268,32 @@ fn name_of<'a>(definition: &'a Definition) -> &'a [u8]
     }
 }
 
-/// What a part of a body gives back, inside a LET of these definitions.
+/// What a part of a body gives back, inside a LET of these definitions from one on.
 #[cycle(gives)]
 fn given_in(
     entries: &[Entry<'_>],
     scope: usize,
     part: Part<'_>,
     definitions: &[Definition],
+    from: usize,
     left: usize,
 ) -> Option<Given>
     requires linked { AreLinked entries.now }
     requires within { scope ≤ length entries.now }
-    ensures { IfSome result (λ g. GivesBack (scope_at entries.now scope) part.entry definitions.now g) }
+    ensures { IfSome result (λ g. GivesBack (scope_at entries.now scope) part.entry (drop from definitions.now) g) }
 {
     if left == 0 {
         return None;
     }
-    if definitions.len() > 0 {
-        let meant = meant_by(entries, scope, part.known, &definitions[0], left - 1);
-        let known = Known::Named(name_of(&definitions[0]), meant, part.known);
+    if from < definitions.len() {
+        let definition = &definitions[from];
+        let meant = meant_by(entries, scope, part.known, definition, left - 1);
+        let known = Known::Named(name_of(definition), meant, part.known);
         let inside = Part {
             known: &known,
             ..part
         };
-        return given_in(entries, scope, inside, &definitions[1..], left - 1);
+        return given_in(entries, scope, inside, definitions, from + 1, left - 1);
     }
     match last(entries, scope, part) {
         Turn::Ends(given) => Some(given),
@@ -300,7 +303,7 @@ fn given_in(
                     tree,
                     ..end
                 };
-                given_in(entries, scope, inside, inner_definitions.as_slice(), left - 1)
+                given_in(entries, scope, inside, inner_definitions.as_slice(), 0, left - 1)
             }
             _ => None,
         },
@@ -354,7 +357,7 @@ fn given_by(
         primes: Primes::Never,
         primed: None,
     };
-    given_in(entries, scope, part, &[], left)
+    given_in(entries, scope, part, &[], 0, left)
 }
 
 /// What a definition gives back.

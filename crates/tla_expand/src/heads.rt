@@ -4,9 +4,9 @@ ghost use Rattle.std.specs.Prelude.{◌≡◌, ◌≤◌, length, ℕ, List, map
 ghost use Rattle.tla_tree.specs.View.{view, definition_view};
 ghost use Rattle.tla_tree.specs.Tree.{definitions as definitions_of};
 ghost use Rattle.tla_expand.specs.declared.arena.Entry as arena_entry;
-ghost use Rattle.tla_expand.specs.Meanings.{Scope, standard, builtin_meaning};
+ghost use Rattle.tla_expand.specs.Meanings.{Scope, standard, operator, builtin_meaning};
 ghost use Rattle.tla_expand.specs.Expand.{expand, definitions_in, definition_in};
-ghost use Rattle.tla_expand.specs.Scopes.{AreLinked, IsBelow, Extends, scope_at, entry_scope, arguments_in};
+ghost use Rattle.tla_expand.specs.Scopes.{AreLinked, IsBelow, Extends, scope_at, entry_scope, meaning_of, arguments_in};
 ghost use Rattle.tla_expand.specs.Private.Gives.{step_gives, head_gives, IsWithin, Explains};
 ghost use Rattle.tla_expand.specs.Primes.{with_primes};
 
@@ -20,7 +20,7 @@ use crate::operators::builtin_for;
 use crate::primes::{Primes, one_more};
 use crate::shortened::shortened;
 use tla_core::Place;
-use tla_tree::{Definition, Expr};
+use tla_tree::{Definition, Expr, Written};
 
 /// A form, with the scope of its parts and so many primes on it; and where the last of them stands that was met on the
 /// way to it.
@@ -168,6 +168,27 @@ fn define<'a>(
     Ok(at)
 }
 
+/// What the name of a definition means, by its parameters and its body.
+fn operator_of<'a>(
+    entries: &[Entry<'a>],
+    parameters: &'a [Written],
+    body: &'a Expr,
+    scope: usize,
+) -> What<'a>
+    requires linked { AreLinked entries.now }
+    requires within { scope ≤ length entries.now }
+    ensures below { IsBelow scope result scope }
+    ensures same { meaning_of (scope_at entries.now) result ≡ operator parameters.now (expand (view body.now)) (scope_at entries.now scope) }
+{
+    match gives(entries, scope, parameters, body) {
+        Some(given) => What::Gives(parameters.len(), given),
+        None => {
+            let part = shortened(entries, scope, parameters, body);
+            What::Definition(parameters, part, scope)
+        }
+    }
+}
+
 /// The entry of a definition behind a scope.
 pub(crate) fn entry_of<'a>(
     entries: &[Entry<'a>],
@@ -183,16 +204,9 @@ pub(crate) fn entry_of<'a>(
     match definition {
         Definition::Operator(name, parameters, body) => {
             let parameters = parameters.as_slice();
-            let what = match gives(entries, scope, parameters, body) {
-                Some(given) => What::Gives(parameters.len(), given),
-                None => {
-                    let body = shortened(entries, scope, parameters, body);
-                    What::Definition(parameters, body, scope)
-                }
-            };
             Entry {
                 name: name.word.as_bytes(),
-                what,
+                what: operator_of(entries, parameters, body, scope),
                 rest: scope,
             }
         }

@@ -1,4 +1,4 @@
-use Rattle.std.proofs.Common.{◌≡◌, map, ap, refl}
+use Rattle.std.proofs.Common.{◌≡◌, map, ap, refl, Some}
 use Rattle.tla_tree.specs.Tree as t
 use Rattle.tla_tree.specs.View.{view, views_items}
 use Rattle.tla_expand.specs.Expand.{expand}
@@ -21,4 +21,7 @@ returns-in-Paren c =
     comes_here (scope_at c.args.entries.now c.args.scope) a (record { known = a.known; tree = c.deref.result; primes = a.primes; primed = a.primed }) refl (λ args τ d h. rw (c.in-Paren.is, c.deref.ensures) refl)
 
 pub returns-in-Prime : goal.returns-in-Prime
-returns-in-Prime c = ?
+returns-in-Prime c =
+    let a = c.args.part in
+    comes_here (scope_at c.args.entries.now c.args.scope) a (record { known = a.known; tree = c.deref-in-Prime.result; primes = c.one_more.result; primed = Some c.place_of.result }) refl
+    (λ args τ d h. rw (c.one_more.ensures, c.deref-in-Prime.ensures, c.in-Prime.is) (shown_once a.primes (expand (view c.in-Prime.inner.value) τ d)))
