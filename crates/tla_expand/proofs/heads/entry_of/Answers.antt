@@ -1,0 +1,16 @@
+use Rattle.std.proofs.Common.{◌≡◌, map, ap, refl}
+use Rattle.tla_tree.specs.Tree as t
+use Rattle.tla_tree.specs.View.{view, group_view, definition_view, bound_views_items}
+use Rattle.tla_expand.proofs.heads.entry_of.Goals as goal
+
+pub returns-in-Operator-clause-scope : goal.returns-in-Operator-clause-scope
+returns-in-Operator-clause-scope c =
+    let m = c.in-Operator in
+    rw (m.is, c.as_bytes.ensures, c.operator_of.ensures.same, c.as_slice-parameters.ensures.value) refl
+
+pub returns-in-Function-clause-scope : goal.returns-in-Function-clause-scope
+returns-in-Function-clause-scope c =
+    let m = c.in-Function in
+    let same : definition_view c.args.definition.now ≡ t.DefinesFunction m.name (t.binders (map group_view c.as_slice.result.now)) (view m.body) =
+    rw (m.is, c.as_slice.ensures.value) (ap (λ x. t.DefinesFunction m.name x (view m.body)) (bound_views_items m.groups)) in
+    rw (same, c.as_bytes-in-Function.ensures, c.place_of.ensures) refl

@@ -14,11 +14,11 @@ returns-in-Some-given_argument-clause-same c =
     let at = scope_at c.args.entries.now.items in
     let f = rw c.as_slice.ensures.value at c.in-Some.ensures.found in
     let m = c.in-Gives in
-    use_gives c.args.primes at (at c.args.scope c.args.name.now) c.in-Some.entry m.count m.given c.args.arguments.now c.in-Some-given_argument.argument.now (at c.args.scope) c.args.place f m.is c.in-Some-given_argument.ensures.some
+    rw c.with_more.ensures (use_gives c.args.primes at (at c.args.scope c.args.name.now) c.in-Some.entry m.count m.given c.args.arguments.now c.in-Some-given_argument.argument.now (at c.args.scope) c.args.place f m.is c.in-Some-given_argument.ensures.some)
 
-pub returns-in-None-given_argument-clause-err : goal.returns-in-None-given_argument-clause-err
-returns-in-None-given_argument-clause-err c =
+pub returns-in-None-clause-err : goal.returns-in-None-clause-err
+returns-in-None-clause-err c =
     let at = scope_at c.args.entries.now.items in
     let f = rw c.as_slice.ensures.value at c.in-Some.ensures.found in
     let m = c.in-Gives in
-    use_gives_none at (at c.args.scope c.args.name.now) c.in-Some.entry m.count m.given c.args.arguments.now (at c.args.scope) c.args.place f m.is c.in-None-given_argument.ensures.none
+    use_gives_none at (at c.args.scope c.args.name.now) c.in-Some.entry m.count m.given c.args.arguments.now (at c.args.scope) c.args.place f m.is c.in-None.ensures.none
