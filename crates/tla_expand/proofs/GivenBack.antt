@@ -1,6 +1,5 @@
 -- Arguments that are given back.
-use Rattle.std.proofs.Common.{◌≡◌, ℕ, zero, suc, ◌+◌, ◌<◌, ◌≤◌, true, false, List, [], ◌∷◌, length, get_or, map, refl, ap, sym, ◌∙◌, arith, Option, Some, None, if◌then◌else◌}
-use Rattle.std.specs.Str.{bytes_eq}
+use Rattle.std.proofs.Common.{◌≡◌, ℕ, zero, suc, ◌<◌, ◌≤◌, true, false, List, [], ◌∷◌, length, get_or, refl, ap, sym, ◌∙◌, arith, Option, Some, None, if◌then◌else◌}
 use Rattle.tla_core.specs.declared.fault.Place.{Place}
 use Rattle.tla_core.specs.Expr.{Expr}
 use Rattle.tla_tree.specs.declared.tree.Expr as syntax
@@ -17,7 +16,7 @@ use Rattle.tla_expand.specs.Primes.{primes, one_more, with_primes}
 use Rattle.tla_expand.specs.Meanings.{Scope, Argument, Meaning, with_name, parameter, with_parameters, operator}
 use Rattle.tla_expand.specs.Expand.{expand}
 use Rattle.tla_expand.specs.Private.Arguments.{with_more, has_count, argument_at, argument_of, given}
-use Rattle.tla_expand.specs.Private.Parameters.{IsAbsent, IsLast}
+use Rattle.tla_expand.specs.Private.Parameters.{IsLast}
 use Rattle.tla_expand.specs.Scopes.{meaning_of, arguments_in}
 use Rattle.tla_expand.proofs.Primed.{once, unprimed}
 use Rattle.tla_expand.proofs.Shorter.{absent_same}

@@ -1,5 +1,5 @@
 -- The walk to the argument that a body gives back.
-use Rattle.std.proofs.Common.{◌≡◌, ℕ, zero, suc, ◌+◌, ◌<◌, ◌≤◌, true, false, List, [], ◌∷◌, length, get_or, drop, map, refl, ap, sym, ◌∙◌, arith, add-one, drop-cons, Option, Some, None, Bor}
+use Rattle.std.proofs.Common.{◌≡◌, ℕ, suc, ◌+◌, ◌<◌, ◌≤◌, true, false, List, [], ◌∷◌, length, get_or, drop, map, refl, ap, sym, ◌∙◌, arith, add-one, drop-cons, Option, Bor}
 use Rattle.std.specs.Str.{bytes_eq}
 use Rattle.std.proofs.lemmas.List.{drop_all}
 use Rattle.tla_core.specs.declared.fault.Place.{Place}
@@ -17,12 +17,11 @@ use Rattle.tla_expand.specs.declared.gives.Known.TheViews as views
 use Rattle.tla_expand.specs.declared.gives.Meant.{Meant}
 use Rattle.tla_expand.specs.declared.gives.Meant.TheVariants.{Expression, Gives, Other}
 use Rattle.tla_expand.specs.declared.gives.Part.{Part}
-use Rattle.tla_expand.specs.declared.primes.Primes.{Primes}
 use Rattle.tla_expand.specs.declared.primes.Primes.TheVariants.{Never}
 use Rattle.tla_expand.specs.declared.nodes.Gather.TheVariants as gathers
 use Rattle.tla_expand.specs.Places.{Name, place_of}
 use Rattle.tla_expand.specs.Primes.{with_primes}
-use Rattle.tla_expand.specs.Meanings.{Scope, Argument, Meaning, with_name, parameter, with_parameters, operator}
+use Rattle.tla_expand.specs.Meanings.{Scope, Argument, Meaning, with_name, parameter, operator}
 use Rattle.tla_expand.specs.Bound.{gathered}
 use Rattle.tla_expand.specs.Expand.{expand, definition_in, definitions_in, binds_of}
 use Rattle.tla_expand.specs.Private.Arguments.{with_more, argument_at, argument_of, given}

@@ -1,20 +1,17 @@
 -- A body that comes to a part of it.
-use Rattle.std.proofs.Common.{◌≡◌, ℕ, zero, suc, ◌+◌, ◌<◌, true, false, List, [], ◌∷◌, length, get_or, drop, map, refl, ap, sym, ◌∙◌, arith, add-one, drop-cons, Option, Some, None, IfSome, Bor}
+use Rattle.std.proofs.Common.{◌≡◌, ℕ, zero, suc, ◌+◌, ◌<◌, true, false, List, [], ◌∷◌, length, get_or, drop, map, refl, ap, sym, ◌∙◌, arith, add-one, drop-cons, Option, Some, None, IfSome}
 use Rattle.std.specs.Str.{bytes_eq}
-use Rattle.std.proofs.lemmas.List.{length-map}
 use Rattle.tla_core.specs.declared.fault.Place.{Place}
 use Rattle.tla_tree.specs.declared.tree.Expr as syntax
 use Rattle.tla_tree.specs.declared.word.Written.{Written}
 use Rattle.tla_tree.specs.Tree as t
 use Rattle.tla_tree.specs.View.{view}
-use Rattle.tla_expand.specs.declared.arena.Entry.{Entry}
-use Rattle.tla_expand.specs.declared.arena.What.TheVariants.{Definition}
 use Rattle.tla_expand.specs.Maybe.{◌>>=◌}
 use Rattle.tla_expand.specs.Places.{Name, place_of}
 use Rattle.tla_expand.specs.Meanings.{Scope, Argument, Meaning, with_name, parameter, with_parameters, operator}
 use Rattle.tla_expand.specs.Expand.{expand}
 use Rattle.tla_expand.specs.Private.Parameters.{IsAbsent, IsLast}
-use Rattle.tla_expand.specs.Scopes.{meaning_of, arguments_in}
+use Rattle.tla_expand.specs.Scopes.{arguments_in}
 use Rattle.tla_expand.proofs.Steps.{expand_call}
 
 pub last_at : (ws : List Written) (i : ℕ) (w : Written) (x : Name) → i < length ws → w ≡ get_or ws i w → bytes_eq w.word x ≡ true → IsAbsent x (drop (i + 1) ws) → IsLast x ws i

@@ -7,7 +7,7 @@ use Rattle.std.proofs.lemmas.List.{map-append, take_more}
 use Rattle.std.proofs.Math.ListN.{get_or-append}
 use Rattle.indexmap.specs.IndexSet.{insert_key}
 use Rattle.tla_core.specs.declared.fault.Place.{Place}
-use Rattle.tla_core.specs.Expr.{Expr, Exprs, now, next, bound, constant, kind_set, tuple, no_exprs, more_exprs}
+use Rattle.tla_core.specs.Expr.{Expr, Exprs, now, next, bound, constant, kind_set, tuple, more_exprs}
 use Rattle.tla_core.specs.ExprOf.{kind_of}
 use Rattle.tla_value.specs.TreeOf.{tree_of}
 use Rattle.tla_tree.specs.declared.tree.Expr as syntax
@@ -40,7 +40,7 @@ use Rattle.tla_expand.specs.Meanings.{Scope, Meaning, parameter, operator}
 use Rattle.tla_expand.specs.Primes.{with_primes, primed_now}
 use Rattle.tla_expand.specs.Private.Forms.{form_in}
 use Rattle.tla_expand.specs.Private.Gives.{part_in, pointed}
-use Rattle.tla_expand.specs.Private.Walks.{EachIs, IsAmong, IsAdded, IsMet, IsNoTuple, among, HasEach, IsGone, IsNamed, AreMet, EndsMet, IsInside, parts_at, piece_of, ArePushed, IsWalkBy, IsWalk, IsWalkTo}
+use Rattle.tla_expand.specs.Private.Walks.{EachIs, IsAmong, IsAdded, IsMet, IsNoTuple, among, HasEach, IsGone, IsNamed, AreMet, EndsMet, IsInside, parts_at, piece_of, ArePushed, IsWalk, IsWalkTo}
 use Rattle.tla_expand.specs.Scopes.{AreLinked, Extends, IsBelow, scope_at, meaning_of}
 use Rattle.tla_expand.proofs.Binds.{extends_length, scope_extends}
 use Rattle.tla_expand.proofs.Keeps.{inv}

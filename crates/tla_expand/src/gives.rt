@@ -299,11 +299,15 @@ fn given_in(
         Turn::Ends(given) => Some(given),
         Turn::Goes(end) => match end.tree {
             Expr::Let(_, inner_definitions, tree) => {
-                let inside = Part {
-                    tree,
-                    ..end
-                };
-                given_in(entries, scope, inside, inner_definitions.as_slice(), 0, left - 1)
+                let inside = Part { tree, ..end };
+                given_in(
+                    entries,
+                    scope,
+                    inside,
+                    inner_definitions.as_slice(),
+                    0,
+                    left - 1,
+                )
             }
             _ => None,
         },

@@ -134,9 +134,8 @@ pub(crate) fn use_of<'a>(
         What::Bound(index) => Form::Leaf(place, Leaf::Bound(index)),
         What::Variable(index) => Form::Variable(place, index),
         What::Value(value) => Form::Leaf(place, Leaf::Value(value)),
-        What::Definition(_, _, _) | What::Gives(_, _) | What::Module(_) | What::Unknown => return Err(
-            Failure::NoExpansion(place),
-        ),
+        What::Definition(_, _, _) | What::Gives(_, _) | What::Module(_) | What::Unknown =>
+            return Err(Failure::NoExpansion(place)),
     };
     Ok(Step::Ends(Head {
         form,

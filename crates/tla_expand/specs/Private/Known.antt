@@ -1,5 +1,5 @@
 -- What is known of the names round a part of a body. Private contracts alone cite this.
-use Rattle.std.specs.Prelude.{◌≡◌, ℕ, true, List, [], ◌∷◌, map, length, Some}
+use Rattle.std.specs.Prelude.{◌≡◌, ℕ, true, List, [], map, length, Some}
 use Rattle.std.specs.Str.{bytes_eq}
 use Rattle.tla_tree.specs.declared.tree.Definition as defining
 use Rattle.tla_tree.specs.declared.word.Written.{Written}

@@ -1,4 +1,4 @@
-use Rattle.std.proofs.Common.{◌≡◌, map, ap, refl, Some}
+use Rattle.std.proofs.Common.{ap, refl, Some}
 use Rattle.tla_tree.specs.Tree as t
 use Rattle.tla_tree.specs.View.{view, views_items}
 use Rattle.tla_expand.specs.Expand.{expand}

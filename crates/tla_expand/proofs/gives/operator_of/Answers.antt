@@ -7,4 +7,4 @@ pub loop-at-preserved-in-Parameters : goal.loop-at-preserved-in-Parameters
 loop-at-preserved-in-Parameters c =
     let m = c.in-Parameters in
     let known : IsAbsent c.args.name.now m.parameters.now = search rules in
-    record { same = passed_parameters c.args.name.now c.args.known.now c.loop-at.at.now m.parameters m.rest m.is known c.loop-at.invariant.same; }
+    record { same = passed_parameters c.args.name.now c.args.known.now c.loop-at.at.now m.parameters m.rest m.is known c.loop-at.invariant.same }

@@ -7,4 +7,4 @@ pub loop-at-preserved : goal.loop-at-preserved
 loop-at-preserved c =
     let n = c.in-Named in
     let q : bytes_eq n.word.now c.args.name.now ≡ false = search rules in
-    record { same = sought_more c.args.name.now c.args.known.now c.loop-at.at.now n.word n.field-1 n.rest n.is q c.loop-at.invariant.same; }
+    record { same = sought_more c.args.name.now c.args.known.now c.loop-at.at.now n.word n.field-1 n.rest n.is q c.loop-at.invariant.same }
