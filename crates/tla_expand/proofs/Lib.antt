@@ -6,6 +6,8 @@ pub mod Cuts
 pub mod Binds
 pub mod Steps
 pub mod Shorter
+pub mod GivenBack
+pub mod GivenWalk
 pub mod Sizes
 pub mod Made
 pub mod Lists

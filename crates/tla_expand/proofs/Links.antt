@@ -6,13 +6,14 @@ use Rattle.std.specs.Str.{bytes_eq}
 use Rattle.tla_expand.specs.Places.{Name}
 use Rattle.tla_expand.specs.declared.arena.Entry.{Entry}
 use Rattle.tla_expand.specs.declared.arena.What.{What}
-use Rattle.tla_expand.specs.declared.arena.What.TheVariants.{Bound, Variable, Value, Argument, Definition, Function, Module, Unknown}
+use Rattle.tla_expand.specs.declared.arena.What.TheVariants.{Bound, Variable, Value, Argument, Definition, Function, Gives, Module, Unknown}
 use Rattle.tla_expand.specs.Meanings.{Scope, standard, with_name, unknown, bound_name, variable, value_name, parameter, operator, builtin_meaning}
 use Rattle.tla_expand.specs.declared.nodes.Gather.TheVariants as gathers
 use Rattle.tla_expand.specs.Bound.{gathered}
 use Rattle.tla_expand.specs.Expand.{expand, binds_of}
 use Rattle.tla_tree.specs.Tree.{binders}
 use Rattle.tla_tree.specs.View.{view, group_view}
+use Rattle.tla_expand.specs.Private.Arguments.{given}
 use Rattle.tla_expand.specs.Scopes.{meaning_of, at_of, entry_scope, grow, scope_at, IsBelow, LinkedFrom, AreLinked, Extends}
 
 pub agree : (at at2 : ℕ → Scope) (n : ℕ) (w : What) (rest : ℕ) (x : Name) → ((r : ℕ) → r ≤ n → at r ≡ at2 r) → IsBelow n w rest
@@ -30,6 +31,7 @@ agree at at2 n (Argument t s) rest x h b =
 agree at at2 n (Definition xs body home) rest x h b =
     ap (λ (σ : Scope). with_name x (operator xs.now (expand (view body.now)) σ) (at rest)) (h home b.0)
     ∙ ap (λ (σ : Scope). with_name x (operator xs.now (expand (view body.now)) (at2 home)) σ) (h rest b.1)
+agree at at2 n (Gives k g) rest x h b = ap (λ (σ : Scope). with_name x (given k g) σ) (h rest b)
 agree at at2 n (Module m) rest x h b = ap (λ (σ : Scope). with_name x (builtin_meaning m) σ) (h rest b)
 
 pub grow_at : (es : List Entry) (σs : List Scope) (i : ℕ) → i < length σs → at_of (grow σs es) i ≡ at_of σs i
@@ -113,6 +115,7 @@ below_rest n (Function p bs body home) rest b = b.1
 below_rest n Unknown rest b = b
 below_rest n (Argument t s) rest b = b.1
 below_rest n (Definition xs body home) rest b = b.1
+below_rest n (Gives k g) rest b = b
 below_rest n (Module m) rest b = b
 
 -- before another scope
@@ -124,6 +127,7 @@ below_other n Unknown rest other h b = h
 below_other n (Argument t s) rest other h b = (b.0, h)
 below_other n (Definition xs body home) rest other h b = (b.0, h)
 below_other n (Function p bs body home) rest other h b = (b.0, h)
+below_other n (Gives k g) rest other h b = h
 below_other n (Module m) rest other h b = h
 
 pub below_more : (n m : ℕ) (w : What) (rest : ℕ) → n ≤ m → IsBelow n w rest → IsBelow m w rest
@@ -134,6 +138,7 @@ below_more n m (Function p bs body home) rest h b = (omega (arith, b.0), omega (
 below_more n m Unknown rest h b = omega arith
 below_more n m (Argument t s) rest h b = (omega (arith, b.0), omega (arith, b.1))
 below_more n m (Definition xs body home) rest h b = (omega (arith, b.0), omega (arith, b.1))
+below_more n m (Gives k g) rest h b = omega arith
 below_more n m (Module k) rest h b = omega arith
 
 pub below_at : (es : List Entry) (k : ℕ) (e : Entry) → AreLinked es → k < length es → e ≡ get_or es k e → IsBelow k e.what e.rest

@@ -1,20 +1,17 @@
 -- A body that comes to a part of it.
-use Rattle.std.proofs.Common.{◌≡◌, ℕ, zero, suc, ◌+◌, ◌<◌, true, false, List, [], ◌∷◌, length, get_or, drop, map, refl, ap, sym, ◌∙◌, arith, add-one, drop-cons, Option, Some, None, IfSome, Bor}
+use Rattle.std.proofs.Common.{◌≡◌, ℕ, zero, suc, ◌+◌, ◌<◌, true, false, List, [], ◌∷◌, length, get_or, drop, map, refl, ap, sym, ◌∙◌, arith, add-one, drop-cons, Option, Some, None, IfSome}
 use Rattle.std.specs.Str.{bytes_eq}
-use Rattle.std.proofs.lemmas.List.{length-map}
 use Rattle.tla_core.specs.declared.fault.Place.{Place}
 use Rattle.tla_tree.specs.declared.tree.Expr as syntax
 use Rattle.tla_tree.specs.declared.word.Written.{Written}
 use Rattle.tla_tree.specs.Tree as t
 use Rattle.tla_tree.specs.View.{view}
-use Rattle.tla_expand.specs.declared.arena.Entry.{Entry}
-use Rattle.tla_expand.specs.declared.arena.What.TheVariants.{Definition}
 use Rattle.tla_expand.specs.Maybe.{◌>>=◌}
 use Rattle.tla_expand.specs.Places.{Name, place_of}
 use Rattle.tla_expand.specs.Meanings.{Scope, Argument, Meaning, with_name, parameter, with_parameters, operator}
 use Rattle.tla_expand.specs.Expand.{expand}
 use Rattle.tla_expand.specs.Private.Parameters.{IsAbsent, IsLast}
-use Rattle.tla_expand.specs.Scopes.{meaning_of, arguments_in}
+use Rattle.tla_expand.specs.Scopes.{arguments_in}
 use Rattle.tla_expand.proofs.Steps.{expand_call}
 
 pub last_at : (ws : List Written) (i : ℕ) (w : Written) (x : Name) → i < length ws → w ≡ get_or ws i w → bytes_eq w.word x ≡ true → IsAbsent x (drop (i + 1) ws) → IsLast x ws i
@@ -30,35 +27,12 @@ absent_more ws i w x h g e a =
     let q : i + 1 ≡ suc i = add-one i in
     rw p (e, rw q at a)
 
--- with as many arguments as parameters there is a scope
-pub parameters_some : (ws : List Written) (args : List Argument) (σ : Scope) → length ws ≡ length args → (τ : Scope) × (with_parameters ws args σ ≡ Some τ)
-parameters_some [] [] σ h = (σ, refl)
-parameters_some [] (a ∷ args) σ h = absurd (omega arith)
-parameters_some (w ∷ ws) [] σ h = absurd (omega arith)
-parameters_some (w ∷ ws) (a ∷ args) σ h = parameters_some ws args (with_name w.word (parameter a) σ) (omega arith)
-
 -- a name that is no parameter means what it did
 pub absent_same : (ws : List Written) (args : List Argument) (σ τ : Scope) (x : Name) → IsAbsent x ws → with_parameters ws args σ ≡ Some τ → τ x ≡ σ x
 absent_same [] [] σ τ x a h = let e : σ ≡ τ = cc in ap (λ (ρ : Scope). ρ x) (sym e)
 absent_same [] (b ∷ args) σ τ x a h = cc
 absent_same (w ∷ ws) [] σ τ x a h = cc
 absent_same (w ∷ ws) (b ∷ args) σ τ x a h = absent_same ws args (with_name w.word (parameter b) σ) τ x a.1 h ∙ rw a.0 refl
-
--- the last parameter of a name means its argument
-pub last_means : (ws : List Written) (es : List syntax.Expr) (σ τ ρ : Scope) (x : Name) (i : ℕ) (e : syntax.Expr) → IsLast x ws i → e ≡ get_or es i e → with_parameters ws (arguments_in es ρ) σ ≡ Some τ
-    → τ x ≡ parameter (expand (view e) ρ)
-last_means [] es σ τ ρ x i e l g h = absurd l
-last_means (w ∷ ws) [] σ τ ρ x i e l g h = cc
-last_means (w ∷ ws) (f ∷ es) σ τ ρ x zero e l g h = absent_same ws (arguments_in es ρ) (with_name w.word (parameter (expand (view f) ρ)) σ) τ x l.1 h ∙ rw (l.0, g) refl
-last_means (w ∷ ws) (f ∷ es) σ τ ρ x (suc i) e l g h = last_means ws es (with_name w.word (parameter (expand (view f) ρ)) σ) τ ρ x i e l g h
-
--- the use of a definition that is one of its parameters
-pub chosen_same : (at : ℕ → Scope) (m : Meaning) (e : Entry) (ws : Bor (List Written)) (body : Bor syntax.Expr) (home : ℕ) (w : Written) (es : List syntax.Expr) (i : ℕ) (g : syntax.Expr) (σ : Scope) (p : Place) (d : ℕ)
-    → m ≡ meaning_of at e.what → e.what ≡ Definition ws body home → body.now ≡ syntax.Name w → length ws.now ≡ length es → IsLast w.word ws.now i → g ≡ get_or es i g → m p (arguments_in es σ) d ≡ expand (view g) σ d
-chosen_same at m e ws body home w es i g σ p d h k b n l q =
-    let same : length ws.now ≡ length (arguments_in es σ) = n ∙ sym (length-map es (λ (y : syntax.Expr). expand (view y) σ)) in
-    let s = parameters_some ws.now (arguments_in es σ) (at home) same in
-    rw (h, k, b, s.1) (ap (λ (f : Meaning). f (place_of w.place) [] d) (last_means ws.now es (at home) s.0 σ w.word i g l q s.1))
 
 pub call_same : (ws : List Written) (args : List Argument) (σ τ : Scope) (w : Written) (es : List syntax.Expr) (b g : syntax.Expr) (d : ℕ) → view b ≡ t.Call w (t.trees (map view es)) → IsAbsent w.word ws
     → with_parameters ws args σ ≡ Some τ → ((ρ : Scope) (p : Place) (k : ℕ) → σ w.word p (arguments_in es ρ) k ≡ expand (view g) ρ k) → expand (view g) τ d ≡ expand (view b) τ d

@@ -7,7 +7,7 @@ use Rattle.std.proofs.lemmas.List.{map-append, take_more}
 use Rattle.std.proofs.Math.ListN.{get_or-append}
 use Rattle.indexmap.specs.IndexSet.{insert_key}
 use Rattle.tla_core.specs.declared.fault.Place.{Place}
-use Rattle.tla_core.specs.Expr.{Expr, Exprs, now, next, bound, constant, kind_set, tuple, no_exprs, more_exprs}
+use Rattle.tla_core.specs.Expr.{Expr, Exprs, now, next, bound, constant, kind_set, tuple, more_exprs}
 use Rattle.tla_core.specs.ExprOf.{kind_of}
 use Rattle.tla_value.specs.TreeOf.{tree_of}
 use Rattle.tla_tree.specs.declared.tree.Expr as syntax
@@ -19,7 +19,7 @@ use Rattle.tla_expand.specs.declared.arena.Entry.{Entry}
 use Rattle.tla_expand.specs.declared.failure.Failure.{Failure}
 use Rattle.tla_expand.specs.Places.{Name, place_of}
 use Rattle.tla_expand.specs.declared.arena.What.{What}
-use Rattle.tla_expand.specs.declared.arena.What.TheVariants.{Bound, Variable, Value, Argument, Definition, Function, Module, Unknown}
+use Rattle.tla_expand.specs.declared.arena.What.TheVariants.{Bound, Variable, Value, Argument, Definition, Function, Gives, Module, Unknown}
 use Rattle.tla_expand.specs.declared.cover.Gone.{Gone}
 use Rattle.tla_expand.specs.declared.cover.Left.{Left}
 use Rattle.tla_expand.specs.declared.cover.Left.TheVariants.{Part, End}
@@ -40,7 +40,7 @@ use Rattle.tla_expand.specs.Meanings.{Scope, Meaning, parameter, operator}
 use Rattle.tla_expand.specs.Primes.{with_primes, primed_now}
 use Rattle.tla_expand.specs.Private.Forms.{form_in}
 use Rattle.tla_expand.specs.Private.Gives.{part_in, pointed}
-use Rattle.tla_expand.specs.Private.Walks.{EachIs, IsAmong, IsAdded, IsMet, IsNoTuple, among, HasEach, IsGone, IsNamed, AreMet, EndsMet, IsInside, parts_at, piece_of, ArePushed, IsWalkBy, IsWalk, IsWalkTo}
+use Rattle.tla_expand.specs.Private.Walks.{EachIs, IsAmong, IsAdded, IsMet, IsNoTuple, among, HasEach, IsGone, IsNamed, AreMet, EndsMet, IsInside, parts_at, piece_of, ArePushed, IsWalk, IsWalkTo}
 use Rattle.tla_expand.specs.Scopes.{AreLinked, Extends, IsBelow, scope_at, meaning_of}
 use Rattle.tla_expand.proofs.Binds.{extends_length, scope_extends}
 use Rattle.tla_expand.proofs.Keeps.{inv}
@@ -160,6 +160,7 @@ elsewhere m k at (Value v) p q h = absurd (other_not_met m (constant p (tree_of 
 elsewhere m k at (Argument t s) p q h = h
 elsewhere m k at (Definition ws body home) p q h = h
 elsewhere m k at (Function f bs body home) p q h = h
+elsewhere m k at (Gives n g) p q h = h
 elsewhere m k at (Module (builtin.Kinds t)) p q h = absurd (other_not_met m (kind_set p (kind_of t)) refl h)
 elsewhere m k at (Module builtin.Sequences) p q h = absurd (none_not_met m h)
 elsewhere m k at (Module (builtin.One u)) p q h = absurd (none_not_met m h)
@@ -229,6 +230,7 @@ meaning_grown at other n (Function p bs body home) rest h b =
 meaning_grown at other n Unknown rest h b = refl
 meaning_grown at other n (Argument t s) rest h b = ap (λ (σ : Scope). parameter (expand (view t.now) σ)) (h s b.0)
 meaning_grown at other n (Definition xs body home) rest h b = ap (λ (σ : Scope). operator xs.now (expand (view body.now)) σ) (h home b.0)
+meaning_grown at other n (Gives k g) rest h b = refl
 meaning_grown at other n (Module k) rest h b = refl
 
 module _ (es new : List Entry) (x : Extends new es) where

@@ -3,7 +3,7 @@ use Rattle.std.specs.Prelude.{ℕ, ◌+◌, List, [], ◌∷◌}
 use Rattle.std.proofs.Props.{props}
 use Rattle.tla_expand.specs.declared.arena.Entry.{Entry}
 use Rattle.tla_expand.specs.declared.arena.What.{What}
-use Rattle.tla_expand.specs.declared.arena.What.TheVariants.{Bound, Variable, Value, Argument, Definition, Function, Module, Unknown}
+use Rattle.tla_expand.specs.declared.arena.What.TheVariants.{Bound, Variable, Value, Argument, Definition, Function, Gives, Module, Unknown}
 use Rattle.tla_expand.specs.Scopes.{IsBelow, LinkedFrom, AreLinked}
 
 pub IsBelow-prop : (k : ℕ) (w : What) (rest : ℕ) → IsProp (IsBelow k w rest)
@@ -13,6 +13,7 @@ IsBelow-prop k (Value v) rest = hlevel props
 IsBelow-prop k (Argument t s) rest = hlevel props
 IsBelow-prop k (Definition ws body home) rest = hlevel props
 IsBelow-prop k (Function p bs body home) rest = hlevel props
+IsBelow-prop k (Gives n g) rest = hlevel props
 IsBelow-prop k (Module b) rest = hlevel props
 IsBelow-prop k Unknown rest = hlevel props
 

@@ -1,6 +1,8 @@
 -- What serves the code: no public contract cites these.
 pub mod Forms
 pub mod Parameters
+pub mod Arguments
+pub mod Known
 pub mod Binders
 pub mod Gives
 pub mod Walks

@@ -6,11 +6,12 @@ use Rattle.tla_tree.specs.View.{view, group_view}
 use Rattle.tla_expand.specs.declared.nodes.Gather.TheVariants as gathers
 use Rattle.tla_expand.specs.declared.arena.Entry.{Entry}
 use Rattle.tla_expand.specs.declared.arena.What.{What}
-use Rattle.tla_expand.specs.declared.arena.What.TheVariants.{Bound, Variable, Value, Argument, Definition, Function, Module, Unknown}
+use Rattle.tla_expand.specs.declared.arena.What.TheVariants.{Bound, Variable, Value, Argument, Definition, Function, Gives, Module, Unknown}
 use Rattle.tla_expand.specs.Meanings as x
 use Rattle.tla_expand.specs.Meanings.{Scope, Meaning, standard, with_name, unknown, bound_name, variable, value_name, parameter, operator, builtin_meaning}
 use Rattle.tla_expand.specs.Bound.{gathered}
 use Rattle.tla_expand.specs.Expand.{expand, binds_of}
+use Rattle.tla_expand.specs.Private.Arguments.{given}
 
 -- the arguments of a use
 abbrev pub arguments_in : List s.Expr → Scope → List x.Argument
@@ -24,6 +25,7 @@ meaning_of at (Value v) = value_name v.now
 meaning_of at (Argument t s) = parameter (expand (view t.now) (at s))
 meaning_of at (Definition ws body home) = operator ws.now (expand (view body.now)) (at home)
 meaning_of at (Function p bs body home) = parameter (gathered gathers.Function p (binds_of (binders (map group_view bs.now)) (at home)) (expand (view body.now)) (at home))
+meaning_of at (Gives n g) = given n g
 meaning_of at (Module b) = builtin_meaning b
 meaning_of at Unknown = unknown
 

@@ -7,9 +7,18 @@ ghost use Rattle.tla_expand.specs.Scopes.{AreLinked, IsBelow, Extends, scope_at,
 
 use crate::failure::Failure;
 use crate::nodes::Builtin;
+use crate::primes::Primes;
 use tla_core::Place;
 use tla_tree::{Binder, Expr, Written};
 use tla_value::Value;
+
+/// The argument that an operator gives back, by its number, and under how many primes; and where the last of these stands.
+#[derive(Clone, Copy)]
+pub(crate) struct Given {
+    pub(crate) index: usize,
+    pub(crate) primes: Primes,
+    pub(crate) primed: Option<Place>,
+}
 
 /// What a name means.
 #[derive(Clone, Copy)]
@@ -23,6 +32,8 @@ pub(crate) enum What<'a> {
     Definition(&'a [Written], &'a Expr, usize),
     /// The place, the binder list and the body of a function that is defined by its name, in the scope where it stands.
     Function(Place, &'a [Binder], &'a Expr, usize),
+    /// An operator of so many parameters that gives back one of its arguments.
+    Gives(usize, Given),
     /// An operator of a module under another name.
     Module(Builtin),
     /// Another name of what means nothing.

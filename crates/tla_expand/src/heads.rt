@@ -4,9 +4,9 @@ ghost use Rattle.std.specs.Prelude.{◌≡◌, ◌≤◌, length, ℕ, List, map
 ghost use Rattle.tla_tree.specs.View.{view, definition_view};
 ghost use Rattle.tla_tree.specs.Tree.{definitions as definitions_of};
 ghost use Rattle.tla_expand.specs.declared.arena.Entry as arena_entry;
-ghost use Rattle.tla_expand.specs.Meanings.{Scope, standard, builtin_meaning};
+ghost use Rattle.tla_expand.specs.Meanings.{Scope, standard, operator, builtin_meaning};
 ghost use Rattle.tla_expand.specs.Expand.{expand, definitions_in, definition_in};
-ghost use Rattle.tla_expand.specs.Scopes.{AreLinked, IsBelow, Extends, scope_at, entry_scope, arguments_in};
+ghost use Rattle.tla_expand.specs.Scopes.{AreLinked, IsBelow, Extends, scope_at, entry_scope, meaning_of, arguments_in};
 ghost use Rattle.tla_expand.specs.Private.Gives.{step_gives, head_gives, IsWithin, Explains};
 ghost use Rattle.tla_expand.specs.Primes.{with_primes};
 
@@ -14,12 +14,13 @@ use crate::arena::{Entry, What, bind, enter, find};
 use crate::builders::place_of;
 use crate::failure::Failure;
 use crate::forms::{builtin_form, form_of};
+use crate::gives::{given_argument, gives, later, with_more};
 use crate::nodes::{Binders, Builtin, Form, Gather, Leaf, Shape};
 use crate::operators::builtin_for;
 use crate::primes::{Primes, one_more};
 use crate::shortened::shortened;
 use tla_core::Place;
-use tla_tree::{Definition, Expr};
+use tla_tree::{Definition, Expr, Written};
 
 /// A form, with the scope of its parts and so many primes on it; and where the last of them stands that was met on the
 /// way to it.
@@ -107,6 +108,12 @@ pub(crate) fn use_of<'a>(
         let inner = bind(entries, parameters, home, arguments, scope)?;
         return Ok(Step::Goes(body, inner, primes));
     }
+    if let What::Gives(count, given) = entry.what {
+        return match given_argument(arguments, count, given) {
+            Some(argument) => Ok(Step::Goes(argument, scope, with_more(primes, given.primes))),
+            None => Err(Failure::NoExpansion(place)),
+        };
+    }
     if let What::Module(builtin) = entry.what {
         let head = use_of_builtin(place, builtin, arguments, scope, primes)?;
         return Ok(Step::Ends(head));
@@ -127,9 +134,8 @@ pub(crate) fn use_of<'a>(
         What::Bound(index) => Form::Leaf(place, Leaf::Bound(index)),
         What::Variable(index) => Form::Variable(place, index),
         What::Value(value) => Form::Leaf(place, Leaf::Value(value)),
-        What::Definition(_, _, _) | What::Module(_) | What::Unknown => return Err(
-            Failure::NoExpansion(place),
-        ),
+        What::Definition(_, _, _) | What::Gives(_, _) | What::Module(_) | What::Unknown =>
+            return Err(Failure::NoExpansion(place)),
     };
     Ok(Step::Ends(Head {
         form,
@@ -161,6 +167,27 @@ fn define<'a>(
     Ok(at)
 }
 
+/// What the name of a definition means, by its parameters and its body.
+fn operator_of<'a>(
+    entries: &[Entry<'a>],
+    parameters: &'a [Written],
+    body: &'a Expr,
+    scope: usize,
+) -> What<'a>
+    requires linked { AreLinked entries.now }
+    requires within { scope ≤ length entries.now }
+    ensures below { IsBelow scope result scope }
+    ensures same { meaning_of (scope_at entries.now) result ≡ operator parameters.now (expand (view body.now)) (scope_at entries.now scope) }
+{
+    match gives(entries, scope, parameters, body) {
+        Some(given) => What::Gives(parameters.len(), given),
+        None => {
+            let part = shortened(entries, scope, parameters, body);
+            What::Definition(parameters, part, scope)
+        }
+    }
+}
+
 /// The entry of a definition behind a scope.
 pub(crate) fn entry_of<'a>(
     entries: &[Entry<'a>],
@@ -176,10 +203,9 @@ pub(crate) fn entry_of<'a>(
     match definition {
         Definition::Operator(name, parameters, body) => {
             let parameters = parameters.as_slice();
-            let body = shortened(entries, scope, parameters, body);
             Entry {
                 name: name.word.as_bytes(),
-                what: What::Definition(parameters, body, scope),
+                what: operator_of(entries, parameters, body, scope),
                 rest: scope,
             }
         }
@@ -277,10 +303,44 @@ fn give_back<'a>(entries: &mut Vec<Entry<'a>>, kept: usize, scope: usize)
     entries.truncate(end);
 }
 
-/// Where the last prime stands, with that of an expression.
-fn last_prime(tree: &Expr, before: Option<Place>) -> Option<Place> {
+/// Where the last prime stands, with that of an argument that a use gives back.
+fn last_given(
+    entries: &[Entry<'_>],
+    scope: usize,
+    name: &[u8],
+    before: Option<Place>,
+) -> Option<Place>
+    requires linked { AreLinked entries.now }
+    requires scope { scope ≤ length entries.now }
+{
+    match find(entries, scope, name) {
+        Some(entry) => match entry.what {
+            What::Gives(_, given) => later(before, given.primed),
+            _ => before,
+        },
+        None => before,
+    }
+}
+
+/// Where the last prime stands, with those that are passed from an expression, behind which there are so many.
+fn last_prime(
+    entries: &[Entry<'_>],
+    scope: usize,
+    tree: &Expr,
+    primes: Primes,
+    before: Option<Place>,
+) -> Option<Place>
+    requires linked { AreLinked entries.now }
+    requires scope { scope ≤ length entries.now }
+{
     match tree {
         Expr::Prime(at, _) => Some(place_of(*at)),
+        Expr::Call(name, _) => match primes {
+            Primes::Never => before,
+            Primes::Once | Primes::Twice => {
+                last_given(entries, scope, name.word.as_bytes(), before)
+            }
+        },
         _ => before,
     }
 }
@@ -329,8 +389,8 @@ fn head_behind<'a>(
         match next_step(entries, tree, at, with)? {
             Step::Ends(head) => return Ok(Head { primed, ..head }),
             Step::Goes(next, inner, more) => {
+                primed = last_prime(entries.as_slice(), at, tree, more, primed);
                 give_back(entries, mark, inner);
-                primed = last_prime(tree, primed);
                 tree = next;
                 at = inner;
                 with = more;

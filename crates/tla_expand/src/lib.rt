@@ -13,6 +13,7 @@ mod expand;
 mod expanded;
 mod failure;
 mod forms;
+mod gives;
 mod heads;
 pub mod laws;
 mod named;

@@ -10,10 +10,12 @@ ghost use Rattle.tla_expand.specs.Private.Parameters.{IsAbsent, IsLast};
 ghost use Rattle.tla_expand.specs.Scopes.{AreLinked, scope_at, arguments_in};
 
 use crate::arena::{Entry, What, find};
+use crate::gives::given_argument;
+use crate::primes::Primes;
 use tla_tree::{Expr, Written};
 
 /// The last parameter of a name.
-fn last_of(parameters: &[Written], name: &[u8]) -> Option<usize>
+pub(crate) fn last_of(parameters: &[Written], name: &[u8]) -> Option<usize>
     ensures within { IfSome result (λ i. i < length parameters.now) }
     ensures some { IfSome result (λ i. IsLast name.now parameters.now i) }
     ensures none { IfNone result (IsAbsent name.now parameters.now) }
@@ -28,7 +30,7 @@ fn last_of(parameters: &[Written], name: &[u8]) -> Option<usize>
     None
 }
 
-/// The argument that a use of a name comes to, where its definition is one of its parameters.
+/// The argument that a use of a name comes to, where its definition gives it back without primes.
 fn chosen<'a>(
     entries: &[Entry<'a>],
     scope: usize,
@@ -40,17 +42,13 @@ fn chosen<'a>(
     ensures { IfSome result (λ e. (σ : Scope) (p : Place) (d : ℕ) → scope_at entries.now scope name.now p (arguments_in arguments.now σ) d ≡ expand (view e.now) σ d) }
 {
     let entry = find(entries, scope, name)?;
-    let What::Definition(parameters, body, _) = entry.what else {
+    let What::Gives(count, given) = entry.what else {
         return None;
     };
-    let Expr::Name(parameter) = body else {
-        return None;
-    };
-    if parameters.len() != arguments.len() {
-        return None;
+    match given.primes {
+        Primes::Never => given_argument(arguments, count, given),
+        Primes::Once | Primes::Twice => None,
     }
-    let index = last_of(parameters, parameter.word.as_bytes())?;
-    Some(&arguments[index])
 }
 
 /// The part that a body comes to by one step, whatever its parameters stand for.

@@ -1,17 +1,12 @@
 use Rattle.std.proofs.Common.{◌≡◌, map, ap, refl}
 use Rattle.tla_tree.specs.Tree as t
 use Rattle.tla_tree.specs.View.{view, group_view, definition_view, bound_views_items}
-use Rattle.tla_expand.specs.Meanings.{operator}
-use Rattle.tla_expand.specs.Expand.{expand}
-use Rattle.tla_expand.specs.Scopes.{scope_at}
 use Rattle.tla_expand.proofs.heads.entry_of.Goals as goal
 
 pub returns-in-Operator-clause-scope : goal.returns-in-Operator-clause-scope
 returns-in-Operator-clause-scope c =
     let m = c.in-Operator in
-    let σ = scope_at c.args.entries.now c.args.scope in
-    let e : operator c.as_slice-parameters.result.now (expand (view c.shortened-body.result.now)) σ ≡ operator c.as_slice-parameters.result.now (expand (view m.body)) σ = c.shortened-body.ensures in
-    rw (m.is, c.as_bytes.ensures, e, c.as_slice-parameters.ensures.value) refl
+    rw (m.is, c.as_bytes.ensures, c.operator_of.ensures.same, c.as_slice-parameters.ensures.value) refl
 
 pub returns-in-Function-clause-scope : goal.returns-in-Function-clause-scope
 returns-in-Function-clause-scope c =

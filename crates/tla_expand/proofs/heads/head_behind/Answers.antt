@@ -1,4 +1,4 @@
-use Rattle.std.proofs.Common.{◌∙◌, ap, sym, arith}
+use Rattle.std.proofs.Common.{◌∙◌, ap, sym, arith, length}
 use Rattle.std.proofs.lemmas.Result.{err_from_is_err_and}
 use Rattle.tla_expand.specs.Expand.{expand}
 use Rattle.tla_expand.specs.Meanings.{Scope}
@@ -38,3 +38,9 @@ give_back-requires-clause-kept c =
 
 pub give_back-requires-clause-scope : goal.give_back-requires-clause-scope
 give_back-requires-clause-scope c = let e = c.in_ok-head.ensures in rw c.in-Goes.is at e.within
+
+pub last_prime-primed-requires-clause-scope : goal.last_prime-primed-requires-clause-scope
+last_prime-primed-requires-clause-scope c =
+    let x = extends_length c.loop-turn.entries.items c.next_step.new.entries.items c.in_ok-head.ensures.extends in
+    let n = ap length c.as_slice.ensures.value in
+    omega (arith, x, n, c.loop-turn.invariant.within)

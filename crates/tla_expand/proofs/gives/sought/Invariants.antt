@@ -1,0 +1,5 @@
+use Rattle.tla_expand.specs.Private.Known.{IsSought}
+use Rattle.tla_expand.proofs.gives.sought.Given as goal
+
+abbrev pub invariant-loop-at : goal.invariant-loop-at
+invariant-loop-at l = record { same : IsSought l.name l.known l.at }
