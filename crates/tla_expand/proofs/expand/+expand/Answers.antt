@@ -24,7 +24,7 @@ use Rattle.tla_expand.specs.Bound.{last_or, nested, with_each, opening, openings
 use Rattle.tla_expand.specs.Places.{place_of}
 use Rattle.tla_expand.specs.Private.Gives.{Gives, Fails, part_in, arm_in, field_in, set_in, step_in, value_in, update_in, kept_part, changed_in, both, total, highest, sum_of, larger_of, field_nodes, field_depth, update_nodes, update_depth, parts_of}
 use Rattle.tla_expand.specs.Private.Forms.{form_in}
-use Rattle.tla_expand.proofs.Levels.{look_fails, unchanged_fails}
+use Rattle.tla_expand.proofs.Levels.{look_fails, unchanged_fails, explains_none, tuple_operand_fails, plain_operand_fails, changed_fails, tuple_looked}
 use Rattle.tla_expand.proofs.Sizes.{Given, no_room, none_left, first_fails, second_fails, two_give, node_fails, node_gives, same_limits, limits_are, openings_primed, opened_gives, opened_fails, opened_full}
 use Rattle.tla_expand.proofs.Lists.{part_done, part_fails, all_done, total_more, highest_more}
 use Rattle.tla_expand.proofs.Made.{two_larger, three_larger, many_larger, cases_larger, cases_or_larger, fielded_larger, product_larger, except_larger, Triple}
@@ -236,13 +236,18 @@ pub levels::node_behind-returns-in_err-look_at_form-clause-same : goal.levels::n
 levels::node_behind-returns-in_err-look_at_form-clause-same t c =
     let r = err_from_is_err_and c.from_residual.result c.from_residual.ensures.1 in
     let o = form_in c.args.head.form (scope_at c.args.entries.now.items c.args.at.scope) c.args.at.bound in
-    rw (r.1, r.2) (look_fails c.args.outer c.args.at.primes c.in_err-look_at_form.field-0.0 o (c.args.at.room + 1) (c.args.at.left + 1) (sym c.are_fewer.ensures ∙ c.if-not-are_fewer.false) c.in_err-look_at_form.ensures.none)
+    rw (r.1, r.2) (look_fails c.args.outer c.args.at.primes c.in_err-look_at_form.field-0.0 o (c.args.at.room + 1) (c.args.at.left + 1) (sym c.are_fewer.ensures ∙ c.if-not-are_fewer.false) c.in_err-look_at_form.ensures.fails)
 
-pub levels::unchanged_node-returns-in_err-look_at-clause-same : goal.levels::unchanged_node-returns-in_err-look_at-clause-same
-levels::unchanged_node-returns-in_err-look_at-clause-same t c =
+pub levels::unchanged_node-returns-in_err-look_at_operand-clause-same : goal.levels::unchanged_node-returns-in_err-look_at_operand-clause-same
+levels::unchanged_node-returns-in_err-look_at_operand-clause-same t c =
+    let r = err_from_is_err_and c.from_residual.result c.from_residual.ensures.1 in
+    rw (r.1, r.2) (c.in_err-look_at_operand.ensures.fails c.args.place)
+
+pub levels::changed_subscript-returns-in_err-look_at-clause-same : goal.levels::changed_subscript-returns-in_err-look_at-clause-same
+levels::changed_subscript-returns-in_err-look_at-clause-same t c =
     let r = err_from_is_err_and c.from_residual.result c.from_residual.ensures.1 in
     let o = expand (view c.args.tree.now) (scope_at c.args.entries.now.items c.args.at.scope) c.args.at.bound in
-    rw (r.1, r.2) (unchanged_fails c.args.at.primes c.in_err-look_at.field-0.0 c.args.place o (c.args.at.room + 1) (c.args.at.left + 1) c.in_err-look_at.ensures.none)
+    rw (r.1, r.2) (changed_fails c.args.at.primes c.in_err-look_at.field-0.0 c.args.place o c.args.at.room c.args.at.left c.in_err-look_at.ensures.fails)
 
 pub levels::kept_subscript-returns-then-at-eq0-clause-same : goal.levels::kept_subscript-returns-then-at-eq0-clause-same
 levels::kept_subscript-returns-then-at-eq0-clause-same t c =
