@@ -1,5 +1,6 @@
 -- What isn't there under some primes isn't there under more, nor with UNCHANGED or as a subscript; and what fails there fails in the whole.
-use Rattle.std.proofs.Common.{◌≡◌, ◌≤◌, ℕ, ◌+◌, Bool, true, false, refl, ap, sym, ◌∙◌, arith, subst, map, List, Option, Some, None, Bor}
+use Rattle.std.proofs.Common.{◌≡◌, ◌≤◌, ℕ, ◌+◌, Bool, true, false, refl, ap, sym, ◌∙◌, arith, subst, map, List, Option, Some, None, Result, Ok, Err, Bor}
+use Rattle.std.specs.Prelude.{IfErr}
 use Rattle.tla_core.specs.declared.fault.Place.{Place}
 use Rattle.tla_core.specs.declared.expression.Binary.TheVariants.{Unequal}
 use Rattle.tla_core.specs.Expr.{Expr, equal}
@@ -137,13 +138,13 @@ plain_operand_fails k TooLarge p o room left plain h = λ y e n d.
 plain_operand_fails k Memory p o room left plain h = tt
 
 -- a subscript that is looked at
-none_after : (a : Option Expr) → both a (None {A = Expr}) ≡ None
-none_after None = refl
-none_after (Some x) = refl
+none_after : (a b : Option Expr) → b ≡ None → both a b ≡ None
+none_after None b h = refl
+none_after (Some x) b h = rw h refl
 
 pub changed_fails : (k : Primes) (f : Failure) (p : Place) (o : Option Expr) (room left : ℕ) → Fails room left f (with_primes k o)
     → Fails room left f (both (with_primes (one_more k) o) (with_primes k o) >>= λ (xy : Expr × Expr). Some (two (twos.Binary Unequal) p xy.0 xy.1))
-changed_fails k (NoExpansion q) p o room left h = rw (h, none_after (with_primes (one_more k) o)) refl
+changed_fails k (NoExpansion q) p o room left h = rw (none_after (with_primes (one_more k) o) (with_primes k o) h) refl
 changed_fails k TooLarge p o room left h = λ y e n d.
     let a = with_primes (one_more k) o in
     let b = with_primes k o in
@@ -203,3 +204,7 @@ too_high k (Some t) e p l h =
 pub large_bare : (o : Option Expr) → ((x : Expr) → with_primes Never o ≡ Some x → IsWithinLimits x → ⊥) → (x : Expr) → o ≡ Some x → IsWithinLimits x → ⊥
 large_bare None h x p l = cc
 large_bare (Some t) h x p l = h x (unprimed t ∙ p) l
+
+pub if_fails : {A : Type 0} {P Q : Failure → Type 0} (r : Result A Failure) → ((f : Failure) → P f → Q f) → IfErr r P → IfErr r Q
+if_fails (Ok x) f h = tt
+if_fails (Err e) f h = f e h

@@ -104,7 +104,7 @@ fn look_at_tuple<'a>(
     requires linked { AreLinked entries.old.items }
     requires scope { at.scope ≤ length entries.old.items }
     requires small { at.bound + at.left ≤ 1000000 }
-    requires tuple { tuple_parts head.entry.form ≡ Some items.entry }
+    requires tuple { tuple_parts head.form ≡ Some items }
     ensures kept { OnOk result (entries.new.items ≡ entries.old.items) }
     ensures fails { IfErr result (λ f. Fails (at.room + 1) (at.left + 1) f (with_primes at.primes (form_in head.entry.form (scope_at entries.old.items at.scope) at.bound))) }
 {
@@ -118,7 +118,8 @@ fn look_at_tuple<'a>(
     look_at_each(alloc, entries, items, before)?;
     match look_at_each(alloc, entries, items, at) {
         Err(Failure::NoExpansion(_)) => Err(Failure::NoExpansion(primed_at(head, outer))),
-        looked => looked,
+        Err(failure) => Err(failure),
+        Ok(_) => Ok(()),
     }
 }
 
