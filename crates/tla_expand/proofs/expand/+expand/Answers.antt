@@ -264,7 +264,7 @@ levels::look_at_tuple-returns-in-Err-clause-fails t c =
 
 pub levels::look_at_operand-returns-in_err-found-clause-fails : goal.levels::look_at_operand-returns-in_err-found-clause-fails
 levels::look_at_operand-returns-in_err-found-clause-fails t c =
-    let r = err_from_is_err_and c.from_residual-in_err-found.result c.from_residual-in_err-found.ensures.1 in
+    let r = err_from_is_err_and c.from_residual.result c.from_residual.ensures.1 in
     let k = c.args.at.primes in
     let e = expand (view c.args.tree.now) (scope_at c.args.entries.now.items c.args.at.scope) in
     let f = c.in_err-found.field-0.0 in
