@@ -14,7 +14,8 @@ use Rattle.tla_defs.specs.Private.Seen.{tree_at, seen}
 use Rattle.tla_defs.specs.Bodies.{Bodies, body_of}
 use Rattle.tla_defs.specs.Subscripts.{IsCover}
 use Rattle.tla_defs.specs.Specification.{Step, IsSpecification, is_conjunction, replaced, replaced_by, conjuncts, conjunction_of, initials_of, steps_of}
-use Rattle.tla_defs.specs.Private.Specified.{LacksState, NoForm}
+use Rattle.tla_defs.specs.Refused.{NoForm}
+use Rattle.tla_defs.specs.Private.Specified.{LacksState}
 use Rattle.tla_defs.specs.Private.Conjuncts.{AreMadeOfFairness, initials_by}
 use Rattle.tla_defs.specs.Fairness.{fair_in, fair_of}
 use Rattle.tla_defs.specs.Temporal.{temporal_of}

@@ -10,15 +10,22 @@ use Rattle.tla_tree.specs.Tree as t
 use Rattle.tla_tree.specs.declared.unit.Unit.{Unit}
 use Rattle.tla_tree.specs.Units.{UnitTree}
 use Rattle.tla_tree.specs.UnitsView.{unit_view}
+use Rattle.std.specs.Prelude.{is_some}
+use Rattle.tla_config.specs.declared.error.DefsCode.{DefsCode}
+use Rattle.tla_config.specs.declared.error.DefsCode.TheVariants as c
+use Rattle.tla_config.specs.declared.error.DefsError.{DefsError}
 use Rattle.tla_config.specs.Names.{Name}
 use Rattle.tla_config.specs.Statements.{Statement, items_of, checks_deadlock}
 use Rattle.tla_expand.specs.declared.primes.Primes.{Primes}
-use Rattle.tla_expand.specs.declared.primes.Primes.TheVariants.{Never, Once}
+use Rattle.tla_expand.specs.declared.primes.Primes.TheVariants.{Never, Once, Twice}
 use Rattle.tla_expand.specs.Meanings.{Scope}
 use Rattle.tla_expand.specs.Expand.{expand}
 use Rattle.tla_expand.specs.Primes.{with_primes}
 use Rattle.tla_expand.specs.Maybe.{◌>>=◌}
 use Rattle.tla_expand.specs.Primes.{primes}
+use Rattle.tla_expand.proofs.Keeps.{stays}
+use Rattle.tla_expand.proofs.Levels.{none_more}
+use Rattle.tla_expand.proofs.PrimesSize.{primes_sizes}
 use Rattle.tla_expand.proofs.Primed.{unprimed}
 use Rattle.tla_expand.proofs.PrimesFit.{inv}
 use Rattle.tla_model.specs.ModelOf.{predicate_of, tree_of_parts}
@@ -32,7 +39,8 @@ use Rattle.tla_names.specs.Items.{definitions_of, replaceable_of, nameable_of, r
 use Rattle.tla_names.specs.Leads.{leads}
 use Rattle.tla_names.specs.Circles.{AreStraight}
 use Rattle.tla_names.specs.Named.{names_misused}
-use Rattle.tla_defs.specs.Model.{IsModel, IsBehaviour, meaning_in, IsInitial, IsAction, IsStatePredicate, IsAssumption, IsStateLevel, IsConstantLevel, AreStatePredicates, AreAssumptions, assumptions_of, invariants_named, constraints_named}
+use Rattle.tla_defs.specs.Refused.{IsCause, IsOfFormula}
+use Rattle.tla_defs.specs.Model.{IsModel, IsBehaviour, meaning_in, IsInitial, IsAction, IsStatePredicate, IsAssumption, AreStatePredicates, AreAssumptions, assumptions_of, invariants_named, constraints_named}
 
 -- nothing of so many primes is within the limits
 abbrev pub NoneShown : Primes → Tree → Scope → Type 0
@@ -60,34 +68,60 @@ module _ (σ : Scope) (tree : Tree) where
   pub no_action : NoneShown Never tree σ → (e : Expr) → IsAction σ tree e → ⊥
   no_action none e h = none e (shown_unprimed (expand tree σ 0) e h.meaning) h.limits
 
+-- what is there
+some_of : {A : Type 0} (o : Option A) → is_some o ≡ true → (x : A) × (o ≡ Some x)
+some_of None h = let no : ⊥ = cc in absurd no
+some_of (Some x) h = (x, refl)
+
+same_expr : (x y : Expr) → Some x ≡ Some y → x ≡ y
+same_expr x y p = cc
+
 module _ (σ : Scope) (w : Written) where
-  pub found_predicate : (e : Expr) → with_primes Never (meaning_in σ w) ≡ Some e → IsWithinLimits e → IsStateLevel e → IsStatePredicate σ w e
-  found_predicate e p h l = record { meaning = unprimed_is (meaning_in σ w) e p; level = l; limits = h }
+  -- a formula of state level is an initial predicate, and as it stands the action of that name
+  pub found_predicate : (n e : Expr) → IsInitial σ (t.Name w) n → IsAction σ (t.Name w) e → IsStatePredicate σ w e
+  found_predicate n e i a =
+      let same = same_expr i.before e (sym i.meaning ∙ a.meaning) in
+      let level : is_some (primes Once i.before) ≡ true = rw i.primed refl in
+      record { meaning = a.meaning; level = subst (λ x. is_some (primes Once x) ≡ true) same level; limits = a.limits }
 
-  pub no_predicate : NoneShown Never (t.Name w) σ → (e : Expr) → IsStatePredicate σ w e → ⊥
-  no_predicate none e h = none e (shown_unprimed (meaning_in σ w) e h.meaning) h.limits
+  pub not_initial : ((x : Expr) → IsInitial σ (t.Name w) x → ⊥) → (e : Expr) → IsStatePredicate σ w e → ⊥
+  not_initial none e h =
+      let i = some_of (primes Once e) h.level in
+      let s = primes_sizes Once e i.0 i.1 in
+      none i.0 (record { before = e; meaning = h.meaning; primed = i.1; limits = record { small = omega (arith, s.0, h.limits.small); shallow = omega (arith, s.1, h.limits.shallow) } })
 
-  -- what is found is the only expansion
-  pub high_predicate : (d : Expr) → with_primes Never (meaning_in σ w) ≡ Some d → (IsStateLevel d → ⊥) → (e : Expr) → IsStatePredicate σ w e → ⊥
-  high_predicate d p high e h =
-      let q = unprimed_is (meaning_in σ w) d p in
-      let r = h.meaning in
-      let same : e ≡ d = cc in
-      high (subst (λ f. IsStateLevel f) same h.level)
+  pub not_action : ((x : Expr) → IsAction σ (t.Name w) x → ⊥) → (e : Expr) → IsStatePredicate σ w e → ⊥
+  not_action none e h = none e (record { meaning = h.meaning; limits = h.limits })
+
+-- what has no expansion as an action has none of state level
+once_cause : (k : DefsCode) (o : Option Expr) → IsCause k o Never → IsCause k o Once
+once_cause c.Level o h = none_more Never Once o refl h
+once_cause c.ExpansionTooLarge o h = h
+once_cause c.ConfigurationText o h = h
+once_cause c.UnknownName o h = h
+once_cause c.DefinedTwice o h = h
+once_cause c.ArgumentCount o h = h
+once_cause c.ConstantWithoutValue o h = h
+once_cause c.CircularReplacement o h = h
+once_cause c.SpecificationForm o h = h
+once_cause c.BehaviourCount o h = h
+once_cause c.StatementLeftOut o h = h
+once_cause c.Memory o h = h
+
+pub once_told : (o : Option Expr) (e : DefsError) → IsOfFormula o Never e → IsOfFormula o Once e
+once_told o e r = record { cause = once_cause e.code o r.cause; source = r.source; place = r.place; name = r.name }
+
+-- what has no variable is what it was
+of_twice : (o : Option Expr) (e : Expr) → with_primes Twice o ≡ Some e → (o ≡ Some e) × (primes Twice e ≡ Some e)
+of_twice None e p = let no : ⊥ = cc in absurd no
+of_twice (Some x) e p = let s = stays x e p Twice in let same : x ≡ e = cc in (ap (λ y. Some y) same, subst (λ y. primes Twice y ≡ Some y) same s)
 
 module _ (σ : Scope) (tree : Tree) where
-  pub found_assumption : (e : Expr) → with_primes Never (expand tree σ 0) ≡ Some e → IsWithinLimits e → IsConstantLevel e → IsAssumption σ tree e
-  found_assumption e p h level = record { expanded = unprimed_is (expand tree σ 0) e p; level = level; limits = h }
+  pub found_assumption : (e : Expr) → with_primes Twice (expand tree σ 0) ≡ Some e → IsWithinLimits e → IsAssumption σ tree e
+  found_assumption e p h = let f = of_twice (expand tree σ 0) e p in record { expanded = f.0; level = f.1; limits = h }
 
-  pub no_assumption : NoneShown Never tree σ → (e : Expr) → IsAssumption σ tree e → ⊥
-  no_assumption none e h = none e (shown_unprimed (expand tree σ 0) e h.expanded) h.limits
-
-  pub high_assumption : (d : Expr) → with_primes Never (expand tree σ 0) ≡ Some d → (IsConstantLevel d → ⊥) → (e : Expr) → IsAssumption σ tree e → ⊥
-  high_assumption d p high e h =
-      let q = unprimed_is (expand tree σ 0) d p in
-      let r = h.expanded in
-      let same : e ≡ d = cc in
-      high (subst (λ f. IsConstantLevel f) same h.level)
+  pub no_assumption : NoneShown Twice tree σ → (e : Expr) → IsAssumption σ tree e → ⊥
+  no_assumption none e h = none e (ap (λ o. o >>= primes Twice) h.expanded ∙ h.level) h.limits
 
 -- the model of parts in memory
 pub parts_model : (us : List UnitTree) (cs : List Statement) (σ : Scope) (vs : List Name) (assumed : List Core) (init next : Core) (is ks : List StatePredicate) (check : Bool) (i n : Tree)
@@ -143,6 +177,3 @@ pub predicates_end : (σ : Scope) (left : List (Bor Written)) (all : List Writte
     → Follow σ (mentions left) all done → AreStatePredicates σ all done
 predicates_end σ [] all done h f = subst (λ xs. AreStatePredicates σ all xs) (append-nil done) (f [] tt)
 predicates_end σ (w ∷ left) all done h f = absurd (omega (arith, h))
-
-pub not_both : (b : Bool) → b ≡ true → b ≡ false → ⊥
-not_both b p q = let z : ⊥ = cc in z

@@ -1,8 +1,10 @@
 -- Each refusal has its place, and its name where it prints one.
 use Rattle.std.proofs.Common.{◌≡◌, refl, sym, ap, inl, inr, List, [], Option, Some, None, true, Result, Ok, Err}
 use Rattle.std.specs.Prelude.{is_some}
+use Rattle.tla_core.specs.Expr.{Expr}
 use Rattle.tla_lex.specs.declared.token.Place.{Place}
 use Rattle.tla_tree.specs.declared.word.Written.{Written}
+use Rattle.tla_tree.specs.Tree.{Tree}
 use Rattle.tla_tree.specs.Units.{UnitTree}
 use Rattle.tla_config.specs.declared.error.DefsCode.{DefsCode}
 use Rattle.tla_config.specs.declared.error.DefsCode.TheVariants as c
@@ -19,7 +21,13 @@ use Rattle.tla_names.specs.Constants.{unvalued}
 use Rattle.tla_names.specs.Items.{definitions_of, replaceable_of, nameable_of, replaced_names, items_misused}
 use Rattle.tla_names.specs.Named.{names_misused}
 use Rattle.tla_names.specs.Misuses.{misuse}
-use Rattle.tla_defs.specs.Refused.{Behaviour, Named, Specified, behaviour, behaviour_refused, form_refused, refused, IsLast, IsRefusal, refusal_is, IsOfFormula, is_of_formula}
+use Rattle.tla_expand.specs.declared.primes.Primes.{Primes}
+use Rattle.tla_expand.specs.declared.primes.Primes.TheVariants as read
+use Rattle.tla_expand.specs.Expand.{expand}
+use Rattle.tla_expand.specs.Meanings.{Scope}
+use Rattle.tla_defs.specs.Global.{global}
+use Rattle.tla_defs.specs.Model.{meaning_in, assumptions_of, invariants_named, constraints_named}
+use Rattle.tla_defs.specs.Refused.{Behaviour, Named, Specified, behaviour, behaviour_refused, refused, IsLast, IsRefusal, refusal_is, IsCause, IsOfFormula, IsOfAssumption, IsOfPredicate, IsOfSome, of_assumption, of_initial, of_action, of_invariant, of_constraint, IsTooLarge}
 use Rattle.tla_names.specs.Refusal.{items_refused, constant_refused, refusal_for}
 
 -- the refusal, if there is one
@@ -66,39 +74,58 @@ of_step us config =
     (either (items_refused us is) behaves (of_items us is) (of_behaviour us config.statements named))
 
 -- a place, and no name
-placed : (k : DefsCode) (p : Option Place) (x : Option Name) → is_of_formula k ≡ true → is_some p ≡ true → x ≡ None → IsLocated k p x
-placed k None x a b d = let z : ⊥ = cc in absurd z
-placed c.Level (Some p) x a b d = rw d refl
-placed c.ExpansionTooLarge (Some p) x a b d = rw d refl
-placed c.ConfigurationText (Some p) x a b d = let z : ⊥ = cc in absurd z
-placed c.UnknownName (Some p) x a b d = let z : ⊥ = cc in absurd z
-placed c.DefinedTwice (Some p) x a b d = let z : ⊥ = cc in absurd z
-placed c.ArgumentCount (Some p) x a b d = let z : ⊥ = cc in absurd z
-placed c.ConstantWithoutValue (Some p) x a b d = let z : ⊥ = cc in absurd z
-placed c.CircularReplacement (Some p) x a b d = let z : ⊥ = cc in absurd z
-placed c.SpecificationForm (Some p) x a b d = let z : ⊥ = cc in absurd z
-placed c.BehaviourCount (Some p) x a b d = let z : ⊥ = cc in absurd z
-placed c.StatementLeftOut (Some p) x a b d = let z : ⊥ = cc in absurd z
-placed c.Memory (Some p) x a b d = let z : ⊥ = cc in absurd z
+placed : (k : DefsCode) (p : Option Place) (x : Option Name) (o : Option Expr) (m : Primes) → IsCause k o m → is_some p ≡ true → x ≡ None → IsLocated k p x
+placed k None x o m a b d = let z : ⊥ = cc in absurd z
+placed c.Level (Some p) x o m a b d = rw d refl
+placed c.ExpansionTooLarge (Some p) x o m a b d = rw d refl
+placed c.ConfigurationText (Some p) x o m a b d = absurd a
+placed c.UnknownName (Some p) x o m a b d = absurd a
+placed c.DefinedTwice (Some p) x o m a b d = absurd a
+placed c.ArgumentCount (Some p) x o m a b d = absurd a
+placed c.ConstantWithoutValue (Some p) x o m a b d = absurd a
+placed c.CircularReplacement (Some p) x o m a b d = absurd a
+placed c.SpecificationForm (Some p) x o m a b d = absurd a
+placed c.BehaviourCount (Some p) x o m a b d = absurd a
+placed c.StatementLeftOut (Some p) x o m a b d = absurd a
+placed c.Memory (Some p) x o m a b d = absurd a
 
-of_formula : (e : DefsError) → IsOfFormula e → IsLocated e.code e.place e.name
-of_formula e r = placed e.code e.place e.name r.code r.place r.name
+too_large : (k : DefsCode) (p : Option Place) (x : Option Name) → k ≡ c.ExpansionTooLarge → is_some p ≡ true → x ≡ None → IsLocated k p x
+too_large k None x a b d = let z : ⊥ = cc in absurd z
+too_large k (Some p) x a b d = rw (a, d) refl
 
-of_form : (b : Result Behaviour Place) → Located (form_refused b)
-of_form (Ok (Specified p w)) = one _ refl
-of_form (Ok (Named i n)) = none
-of_form (Err p) = none
+of_formula : (o : Option Expr) (k : Primes) (e : DefsError) → IsOfFormula o k e → IsLocated e.code e.place e.name
+of_formula o k e r = placed e.code e.place e.name o k r.cause r.place r.name
 
-of_last : (form : Option DefsError) → Located form → (e : DefsError) → IsLast form e → IsLocated e.code e.place e.name
-of_last form g e (inl r) = g e r
-of_last form g e (inr r) = of_formula e r
+of_assumptions : (σ : Scope) (ts : List Tree) (e : DefsError) → IsOfAssumption σ ts e → IsLocated e.code e.place e.name
+of_assumptions σ [] e r = absurd r
+of_assumptions σ (t ∷ ts) e (inl r) = of_formula (expand t σ 0) read.Twice e r
+of_assumptions σ (t ∷ ts) e (inr r) = of_assumptions σ ts e r
 
-of_refusal : (us : List UnitTree) (is : List Item) (o form : Option DefsError) → Located o → Located form → (e : DefsError) → refusal_is us is o form e → IsLocated e.code e.place e.name
-of_refusal us is (Some d) form h g e r = h e (ap (λ x. Some x) r)
-of_refusal us is None form h g e (inl r) = rw (sym r.refused) refl
-of_refusal us is None form h g e (inr r) = of_last form g e r.1
+of_predicates : (σ : Scope) (ws : List Written) (e : DefsError) → IsOfPredicate σ ws e → IsLocated e.code e.place e.name
+of_predicates σ [] e r = absurd r
+of_predicates σ (w ∷ ws) e (inl r) = of_formula (meaning_in σ w) read.Once e r
+of_predicates σ (w ∷ ws) e (inr r) = of_predicates σ ws e r
+
+of_some : (us : List UnitTree) (cs : List Statement) (e : DefsError) → IsOfSome us cs e → IsLocated e.code e.place e.name
+of_some us cs e (of_assumption r) = of_assumptions (global us (items_of cs)) (assumptions_of us) e r
+of_some us cs e (of_initial i a b r) = of_formula (expand i (global us (items_of cs)) 0) read.Once e r
+of_some us cs e (of_action i a b r) = of_formula (expand a (global us (items_of cs)) 0) read.Never e r
+of_some us cs e (of_invariant r) = of_predicates (global us (items_of cs)) (invariants_named cs) e r
+of_some us cs e (of_constraint r) = of_predicates (global us (items_of cs)) (constraints_named cs) e r
+
+of_last : (us : List UnitTree) (cs : List Statement) (b : Result Behaviour Place) (e : DefsError) → IsLast us cs b e → IsLocated e.code e.place e.name
+of_last us cs b e (inr r) = of_some us cs e r
+of_last us cs (Ok (Specified p w)) e (inl (inl r, none)) = rw (sym r) refl
+of_last us cs (Ok (Specified p w)) e (inl (inr r, none)) = too_large e.code e.place e.name r.code r.place r.name
+of_last us cs (Ok (Named i n)) e (inl r) = absurd r
+of_last us cs (Err p) e (inl r) = absurd r
+
+of_refusal : (us : List UnitTree) (cs : List Statement) (o : Option DefsError) (b : Result Behaviour Place) → Located o → (e : DefsError) → refusal_is us cs o b e → IsLocated e.code e.place e.name
+of_refusal us cs (Some d) b h e r = h e (ap (λ x. Some x) r)
+of_refusal us cs None b h e (inl r) = rw (sym r.refused) refl
+of_refusal us cs None b h e (inr r) = of_last us cs b e r.1
 
 pub refused_located : (us : List UnitTree) (config : ConfigTree) (e : DefsError) → IsRefusal us config e → IsLocated e.code e.place e.name
 refused_located us config e r =
     let named = behaviour config.statements config.end None None in
-    of_refusal us (items_of config.statements) (refused us config) (form_refused named) (of_step us config) (of_form named) e r
+    of_refusal us config.statements (refused us config) named (of_step us config) e r

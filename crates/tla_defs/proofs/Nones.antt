@@ -1,10 +1,11 @@
 -- Where there is a model, no step refuses.
-use Rattle.std.proofs.Common.{◌≡◌, refl, sym, inl, inr, List, [], ◌∷◌, Some, None, Result, Ok, Err, subst}
+use Rattle.std.proofs.Common.{◌≡◌, refl, sym, inl, inr, ℕ, length, List, [], ◌∷◌, Some, None, Result, Ok, Err, subst}
 use Rattle.tla_core.specs.Expr.{Expr}
 use Rattle.tla_lex.specs.declared.token.Place.{Place}
 use Rattle.tla_tree.specs.declared.word.Written.{Written}
 use Rattle.tla_tree.specs.Tree.{Tree}
 use Rattle.tla_tree.specs.Units.{UnitTree}
+use Rattle.tla_config.specs.declared.error.DefsCode.TheVariants as c
 use Rattle.tla_config.specs.declared.error.DefsError.{DefsError}
 use Rattle.tla_config.specs.declared.error.Source.TheVariants as source
 use Rattle.tla_config.specs.Names.{Name}
@@ -14,16 +15,17 @@ use Rattle.tla_expand.specs.Meanings.{Scope}
 use Rattle.tla_model.specs.ModelTree.{ModelTree}
 use Rattle.tla_defs.specs.Private.Formulas.{LacksPredicate, LacksAssumption}
 use Rattle.tla_defs.specs.Global.{global}
-use Rattle.std.specs.Prelude.{IfErr}
+use Rattle.std.specs.Prelude.{◌⊎◌, IfOk, IfErr}
 use Rattle.tla_names.specs.Constants.{unvalued}
-use Rattle.tla_names.specs.Misuses.{misuse}
+use Rattle.tla_names.specs.Misuses.{misuse, variables_of}
 use Rattle.tla_names.specs.Items.{definitions_of, replaceable_of, nameable_of, replaced_names, items_misused}
 use Rattle.tla_names.specs.Leads.{Lead, leads, IsCircular}
 use Rattle.tla_names.specs.Circles.{AreStraight, IsFirstCircle}
 use Rattle.tla_defs.specs.Model.{IsModel, IsBehaviour, IsInitial, IsAction, AreStatePredicates, AreAssumptions, assumptions_of, invariants_named, constraints_named}
 use Rattle.tla_names.specs.Named.{names_misused}
-use Rattle.tla_defs.specs.Refused.{Behaviour, refused, behaviour, form_refused, IsLast, IsRefusal}
-use Rattle.tla_names.specs.Refusal.{items_refused, refusal_for, IsOfCircle}
+use Rattle.tla_defs.specs.Refused.{Behaviour, Named, Specified, refused, behaviour, NoForm, IsLast, IsRefusal, IsTooLarge}
+use Rattle.tla_defs.specs.Private.Specified.{form_refused, MayBeLast, NoneMeant}
+use Rattle.tla_names.specs.Refusal.{items_refused, refusal_at, refusal_for, IsOfCircle}
 use Rattle.tla_defs.proofs.Behaviours.{behaviour_found}
 use Rattle.tla_defs.proofs.Unique.{one_behaviour}
 
@@ -36,13 +38,26 @@ no_refusal us config m h =
 -- where the steps that look at names refuse nothing, and no item leads back to its name, a refusal is one of the last steps
 pub last_refusal : (us : List UnitTree) (config : ConfigTree) (is : List Item) (b : Behaviour) (e : DefsError) → misuse us ≡ None → is ≡ items_of config.statements
     → items_misused (replaceable_of us) (nameable_of us) [] is ≡ None → unvalued (replaced_names is) us ≡ None → behaviour config.statements config.end None None ≡ Ok b
-    → names_misused (definitions_of us) config.statements ≡ None → AreStraight (leads us is) is → IsLast (form_refused (Ok b)) e → IsRefusal us config e
+    → names_misused (definitions_of us) config.statements ≡ None → AreStraight (leads us is) is → IsLast us config.statements (Ok b) e → IsRefusal us config e
 last_refusal us config is b e known at given valued behaves named straight last =
     let g = rw at at given in
     let v = rw at at valued in
     let s = rw at at straight in
     let none : refused us config ≡ None = rw (known, g, v, behaves, named) refl in
     rw (none, behaves) (inr (s, last))
+
+-- the refusal of a meaning
+pub meaning_refused : (us : List UnitTree) (cs : List Statement) (is : List Item) (σ : Scope) (n : ℕ) (b : Behaviour) (e : DefsError) → is ≡ items_of cs → σ ≡ global us is → n ≡ length (variables_of us)
+    → MayBeLast (form_refused b) e → NoneMeant us is σ n b → IsLast us cs (Ok b) e
+meaning_refused us cs is σ n (Named i a) e given at counted last none = absurd none
+meaning_refused us cs is σ n (Specified p w) e given at counted last none = inl (of_form last, no_form)
+  where
+    no_form : NoForm us (items_of cs) (global us (items_of cs)) (length (variables_of us)) w
+    no_form = subst (λ js. NoForm us js (global us js) (length (variables_of us)) w) given (subst (λ ρ. NoForm us is ρ (length (variables_of us)) w) at (subst (λ k. NoForm us is σ k w) counted none))
+
+    of_form : MayBeLast (Some (refusal_at c.SpecificationForm source.Configuration p)) e → (refusal_at c.SpecificationForm source.Configuration p ≡ e) ⊎ IsTooLarge e
+    of_form (inl h) = let same : refusal_at c.SpecificationForm source.Configuration p ≡ e = cc in inl same
+    of_form (inr l) = inr l
 
 -- where the steps before them refuse nothing, the names of the configuration are what is refused
 pub name_refusal : (us : List UnitTree) (config : ConfigTree) (is : List Item) (b : Behaviour) (e : DefsError) → misuse us ≡ None → is ≡ items_of config.statements
@@ -64,6 +79,10 @@ circle_refusal us config is b e known at given valued behaves named circle =
     let c = rw at at circle in
     let none : refused us config ≡ None = rw (known, g, v, behaves, named) refl in
     rw none (inl c)
+
+pub if_ok : {A E : Type 0} {P Q : A → Type 0} (r : Result A E) → ((x : A) → P x → Q x) → IfOk r P → IfOk r Q
+if_ok (Ok x) f h = f x h
+if_ok (Err e) f h = tt
 
 pub if_err : {A E : Type 0} {P Q : E → Type 0} (r : Result A E) → ((e : E) → P e → Q e) → IfErr r P → IfErr r Q
 if_err (Ok x) f h = tt

@@ -11,7 +11,7 @@ use Rattle.tla_tree.specs.Tree as t
 use Rattle.tla_tree.specs.Units.{UnitTree, Separator, Extends, Variables, Operator, Defines, Local, Constants, Assume, Theorem}
 use Rattle.tla_config.specs.Names.{Name, words, is_among}
 use Rattle.tla_config.specs.Statements.{Statement, Item, Value, Replaces, items_of}
-use Rattle.tla_expand.specs.declared.primes.Primes.TheVariants.{Once}
+use Rattle.tla_expand.specs.declared.primes.Primes.TheVariants.{Once, Twice}
 use Rattle.tla_expand.specs.Meanings.{Scope, standard, variable, with_name}
 use Rattle.tla_expand.specs.Fits.{FitsScope, FitsMeaning}
 use Rattle.tla_expand.proofs.PrimesFit.{primes_fit}
@@ -97,7 +97,9 @@ module _ (n : ℕ) (σ : Scope) (scope : FitsScope n 0 σ) where
   assumptions_usable [] [] h = tt
   assumptions_usable [] (e ∷ es) h = absurd h
   assumptions_usable (t ∷ ts) [] h = absurd h
-  assumptions_usable (t ∷ ts) (e ∷ es) h = (usable 0 false e h.0.level h.0.limits, assumptions_usable ts es h.1)
+  assumptions_usable (t ∷ ts) (e ∷ es) h =
+      let constant_fits = primes_fit Twice n 0 false tt e 0 e h.0.level ∙ expand_fits t σ n 0 scope e h.0.expanded in
+      (usable 0 false e constant_fits h.0.limits, assumptions_usable ts es h.1)
 
 -- the parts of a model can be evaluated
 pub sound : (us : List UnitTree) (cs : List Statement) (m : ModelTree) → IsModel us cs m → IsSound m

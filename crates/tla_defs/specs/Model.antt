@@ -1,9 +1,7 @@
 -- The model that the units of a module and the statements of a configuration name (book, chapter 14).
-use Rattle.std.specs.Prelude.{◌≡◌, ◌⊎◌, false, true, List, [], ◌∷◌, Option, Some, None, length}
+use Rattle.std.specs.Prelude.{◌≡◌, ◌⊎◌, true, is_some, List, [], ◌∷◌, Option, Some, None, length}
 use Rattle.std.specs.List.{flat_map}
 use Rattle.tla_core.specs.Expr.{Expr}
-use Rattle.tla_core.specs.Fits.{fits}
-use Rattle.tla_core.specs.Value.{means}
 use Rattle.tla_tree.specs.declared.word.Written.{Written}
 use Rattle.tla_tree.specs.Tree.{Tree}
 use Rattle.tla_tree.specs.Tree as t
@@ -11,7 +9,7 @@ use Rattle.tla_tree.specs.Units.{UnitTree, Assume}
 use Rattle.tla_config.specs.Names.{Name}
 use Rattle.tla_config.specs.Statements.{Statement, Specification, Init, Next, Invariants, Constraints, items_of, checks_deadlock}
 use Rattle.tla_expand.specs.Primes.{primes}
-use Rattle.tla_expand.specs.declared.primes.Primes.TheVariants.{Once}
+use Rattle.tla_expand.specs.declared.primes.Primes.TheVariants.{Once, Twice}
 use Rattle.tla_expand.specs.Meanings.{Scope}
 use Rattle.tla_expand.specs.Expand.{expand}
 use Rattle.tla_model.specs.ModelTree.{ModelTree}
@@ -29,13 +27,13 @@ use Rattle.tla_defs.specs.Specification.{IsSpecification}
 abbrev pub meaning_in : Scope → Written → Option Expr
 meaning_in σ w = expand (t.Name w) σ 0
 
--- of state level: no variable next stands in it
+-- of state level: a prime can stand on it, since no variable in it has one
 abbrev pub IsStateLevel : Expr → Type 0
-IsStateLevel e = (means e).primed ≡ false
+IsStateLevel e = is_some (primes Once e) ≡ true
 
--- of constant level: no variable stands in it
+-- of constant level: no variable stands in it, so that primes leave it as it is
 abbrev pub IsConstantLevel : Expr → Type 0
-IsConstantLevel e = fits e 0 0 false ≡ true
+IsConstantLevel e = primes Twice e ≡ Some e
 
 -- an initial condition: of state level, and with its variables taken as the variables next
 pub record IsInitial (σ : Scope) (t : Tree) (e : Expr) : Type 0 where

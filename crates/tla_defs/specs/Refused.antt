@@ -1,7 +1,9 @@
 -- Why a module and a configuration name no model: the first step that refuses them, and where (this project's own choice).
-use Rattle.std.specs.Prelude.{◌≡◌, ◌⊎◌, Bool, true, false, is_some, List, [], ◌∷◌, Option, Some, None, Result, Ok, Err}
+use Rattle.std.specs.Prelude.{◌≡◌, ◌⊎◌, ℕ, true, is_some, length, List, [], ◌∷◌, Option, Some, None, Result, Ok, Err}
+use Rattle.tla_core.specs.Expr.{Expr}
 use Rattle.tla_lex.specs.declared.token.Place.{Place}
 use Rattle.tla_tree.specs.declared.word.Written.{Written}
+use Rattle.tla_tree.specs.Tree.{Tree}
 use Rattle.tla_tree.specs.Units.{UnitTree}
 use Rattle.tla_config.specs.declared.error.DefsCode.{DefsCode}
 use Rattle.tla_config.specs.declared.error.DefsCode.TheVariants as c
@@ -9,13 +11,22 @@ use Rattle.tla_config.specs.declared.error.DefsError.{DefsError}
 use Rattle.tla_config.specs.declared.error.Source.TheVariants as source
 use Rattle.tla_config.specs.Statements.{Statement, Specification, Init, Next, Invariants, Constraints, Constants, CheckDeadlock, Item, items_of}
 use Rattle.tla_config.specs.View.{ConfigTree}
+use Rattle.tla_expand.specs.declared.primes.Primes.{Primes}
+use Rattle.tla_expand.specs.declared.primes.Primes.TheVariants.{Never, Once, Twice}
+use Rattle.tla_expand.specs.Expand.{expand}
+use Rattle.tla_expand.specs.Meanings.{Scope}
+use Rattle.tla_expand.specs.Primes.{with_primes}
+use Rattle.tla_model.specs.Size.{IsWithinLimits}
 use Rattle.tla_names.specs.Maybe.{or_else}
 use Rattle.tla_names.specs.Items.{definitions_of}
-use Rattle.tla_names.specs.Misuses.{misuse}
+use Rattle.tla_names.specs.Misuses.{misuse, variables_of}
 use Rattle.tla_names.specs.Leads.{leads}
 use Rattle.tla_names.specs.Circles.{AreStraight}
 use Rattle.tla_names.specs.Named.{names_misused}
 use Rattle.tla_names.specs.Refusal.{refusal_at, refusal_for, items_refused, IsOfCircle}
+use Rattle.tla_defs.specs.Global.{global}
+use Rattle.tla_defs.specs.Model.{IsInitial, IsBehaviour, meaning_in, assumptions_of, invariants_named, constraints_named}
+use Rattle.tla_defs.specs.Specification.{IsSpecification}
 
 -- What names the behaviour: INIT and NEXT, or SPECIFICATION, at its place.
 pub data Behaviour : Type 0 where
@@ -60,32 +71,62 @@ refused us config =
     or_else (refusal_for source.Module (misuse us))
     (or_else (items_refused us (items_of config.statements)) (behaviour_refused us config.statements (behaviour config.statements config.end None None)))
 
-abbrev pub is_of_formula : DefsCode → Bool
-is_of_formula c.Level = true
-is_of_formula c.ExpansionTooLarge = true
-is_of_formula _ = false
+-- Why a formula is refused that has this expansion and, by its level, is read with these primes: nothing of it is of the level (C5), or it is not within the limits (C11).
+abbrev pub IsCause : DefsCode → Option Expr → Primes → Type 0
+IsCause c.Level o k = with_primes k o ≡ None
+IsCause c.ExpansionTooLarge o k = (x : Expr) → o ≡ Some x → IsWithinLimits x → ⊥
+IsCause _ o k = ⊥
 
--- what is told of a formula of too high a level, or of one that is too large: some place of the module (which of the two, and where, is not said here)
-pub record IsOfFormula (e : DefsError) : Type 0 where
-  pub code : is_of_formula e.code ≡ true
+-- what is told of such a formula: some place of the module (where, is not said here)
+pub record IsOfFormula (o : Option Expr) (k : Primes) (e : DefsError) : Type 0 where
+  pub cause : IsCause e.code o k
   pub source : e.source ≡ source.Module
   pub place : is_some e.place ≡ true
   pub name : e.name ≡ None
 
--- the formula that SPECIFICATION names is not of the form
-abbrev pub form_refused : Result Behaviour Place → Option DefsError
-form_refused (Ok (Specified p w)) = Some (refusal_at c.SpecificationForm source.Configuration p)
-form_refused _ = None
+-- one of these assumptions is refused
+abbrev pub IsOfAssumption : Scope → List Tree → DefsError → Type 0
+IsOfAssumption σ [] e = ⊥
+IsOfAssumption σ (t ∷ ts) e = IsOfFormula (expand t σ 0) Twice e ⊎ IsOfAssumption σ ts e
+
+-- one of these invariants or constraints is refused
+abbrev pub IsOfPredicate : Scope → List Written → DefsError → Type 0
+IsOfPredicate σ [] e = ⊥
+IsOfPredicate σ (w ∷ ws) e = IsOfFormula (meaning_in σ w) Once e ⊎ IsOfPredicate σ ws e
+
+-- A formula of the model is refused: an assumption (constant level), the initial predicate (state level, over the variables next), the action, an invariant or a constraint (state level).
+pub data IsOfSome (us : List UnitTree) (cs : List Statement) (e : DefsError) : Type 0 where
+  of_assumption : IsOfAssumption (global us (items_of cs)) (assumptions_of us) e → IsOfSome us cs e
+  of_initial : (i a : Tree) → IsBehaviour us cs i a → IsOfFormula (expand i (global us (items_of cs)) 0) Once e → IsOfSome us cs e
+  of_action : (i a : Tree) → IsBehaviour us cs i a → IsOfFormula (expand a (global us (items_of cs)) 0) Never e → IsOfSome us cs e
+  of_invariant : IsOfPredicate (global us (items_of cs)) (invariants_named cs) e → IsOfSome us cs e
+  of_constraint : IsOfPredicate (global us (items_of cs)) (constraints_named cs) e → IsOfSome us cs e
+
+-- too large, at some place of the module
+pub record IsTooLarge (e : DefsError) : Type 0 where
+  pub code : e.code ≡ c.ExpansionTooLarge
+  pub source : e.source ≡ source.Module
+  pub place : is_some e.place ≡ true
+  pub name : e.name ≡ None
+
+-- No initial predicate of state level and action, within the limits, make up the formula that SPECIFICATION names.
+abbrev pub NoForm : List UnitTree → List Item → Scope → ℕ → Written → Type 0
+NoForm us is σ n w = (i a : Tree) → IsSpecification us is σ n w i a → (x : Expr) → IsInitial σ i x → ⊥
+
+-- SPECIFICATION stands alone, and the formula that it names is not of the form, or too large for it
+abbrev pub IsFormRefused : List UnitTree → List Item → Result Behaviour Place → DefsError → Type 0
+IsFormRefused us is (Ok (Specified p w)) e = ((refusal_at c.SpecificationForm source.Configuration p ≡ e) ⊎ IsTooLarge e) × NoForm us is (global us is) (length (variables_of us)) w
+IsFormRefused us is _ e = ⊥
 
 -- behind all other steps: the form of the specification, or a formula
-abbrev pub IsLast : Option DefsError → DefsError → Type 0
-IsLast form e = (form ≡ Some e) ⊎ IsOfFormula e
+abbrev pub IsLast : List UnitTree → List Statement → Result Behaviour Place → DefsError → Type 0
+IsLast us cs b e = IsFormRefused us (items_of cs) b e ⊎ IsOfSome us cs e
 
 -- behind the steps that look at names: an item that leads back to its name, or the last steps
-abbrev pub refusal_is : List UnitTree → List Item → Option DefsError → Option DefsError → DefsError → Type 0
-refusal_is us is (Some r) form e = r ≡ e
-refusal_is us is None form e = IsOfCircle (leads us is) is e ⊎ (AreStraight (leads us is) is × IsLast form e)
+abbrev pub refusal_is : List UnitTree → List Statement → Option DefsError → Result Behaviour Place → DefsError → Type 0
+refusal_is us cs (Some r) b e = r ≡ e
+refusal_is us cs None b e = IsOfCircle (leads us (items_of cs)) (items_of cs) e ⊎ (AreStraight (leads us (items_of cs)) (items_of cs) × IsLast us cs b e)
 
 -- The first step that refuses a module and a configuration, or, where none does, the first item that leads back to its name, or else the specification or a formula.
 abbrev pub IsRefusal : List UnitTree → ConfigTree → DefsError → Type 0
-IsRefusal us config e = refusal_is us (items_of config.statements) (refused us config) (form_refused (behaviour config.statements config.end None None)) e
+IsRefusal us config e = refusal_is us config.statements (refused us config) (behaviour config.statements config.end None None) e

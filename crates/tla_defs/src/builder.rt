@@ -7,6 +7,7 @@ ghost use Rattle.tla_config.specs.Statements.{items_of, checks_deadlock};
 ghost use Rattle.tla_config.specs.View.{statement_view};
 ghost use Rattle.tla_core.specs.Expr as expr;
 ghost use Rattle.tla_core.specs.ExprOf.{expr_of};
+ghost use Rattle.tla_expand.specs.declared.primes.Primes.TheVariants as read;
 ghost use Rattle.tla_expand.specs.Names.{scope_of};
 ghost use Rattle.tla_model.specs.ModelTree.{ModelTree};
 ghost use Rattle.tla_model.specs.ModelOf.{predicate_of};
@@ -134,7 +135,7 @@ fn named_predicate(
 ) -> Result<StatePredicate, DefsError>
     ensures name { IfOk result (λ p. p.name ≡ name.now.word) }
     ensures found { IfOk result (λ p. model.IsStatePredicate (scope_of scopes.now) name.now (expr_of p.core)) }
-    ensures formula { IfErr result (λ e. e.code ≢ Memory → refused.IsOfFormula e) }
+    ensures formula { IfErr result (λ e. e.code ≢ Memory → refused.IsOfFormula (model.meaning_in (scope_of scopes.now) name.now) read.Once e) }
     ensures none { IfErr result (λ e. e.code ≢ Memory → (x : expr.Expr) → model.IsStatePredicate (scope_of scopes.now) name.now x → ⊥) }
 {
     let core = state_predicate(alloc, places, scopes, name)?;
@@ -151,7 +152,7 @@ fn push_predicate(
     predicates: &mut Vec<StatePredicate>,
 ) -> Result<(), DefsError>
     ensures found { (left all : List written.Written) → OnOk result (Follow (scope_of scopes.now) (name.now ∷ left) all (map predicate_of predicates.old.items) → Follow (scope_of scopes.now) left all (map predicate_of predicates.new.items)) }
-    ensures formula { IfErr result (λ e. e.code ≢ Memory → refused.IsOfFormula e) }
+    ensures formula { IfErr result (λ e. e.code ≢ Memory → refused.IsOfFormula (model.meaning_in (scope_of scopes.now) name.now) read.Once e) }
     ensures none { IfErr result (λ e. e.code ≢ Memory → (x : expr.Expr) → model.IsStatePredicate (scope_of scopes.now) name.now x → ⊥) }
 {
     let predicate = named_predicate(alloc, places, scopes, name)?;
@@ -167,7 +168,7 @@ fn state_predicates(
     names: &[&Written],
 ) -> Result<Vec<StatePredicate>, DefsError>
     ensures found { IfOk result (λ ps. model.AreStatePredicates (scope_of scopes.now) (mentions names.now) (map predicate_of ps.items)) }
-    ensures formula { IfErr result (λ e. e.code ≢ Memory → refused.IsOfFormula e) }
+    ensures formula { IfErr result (λ e. e.code ≢ Memory → refused.IsOfPredicate (scope_of scopes.now) (mentions names.now) e) }
     ensures none { IfErr result (λ e. e.code ≢ Memory → LacksPredicate (scope_of scopes.now) (mentions names.now)) }
 {
     let mut predicates = Vec::new(alloc);
@@ -187,7 +188,7 @@ fn invariants(
     statements: &[Statement],
 ) -> Result<Vec<StatePredicate>, DefsError>
     ensures found { IfOk result (λ ps. model.AreStatePredicates (scope_of scopes.now) (model.invariants_named (map statement_view statements.now)) (map predicate_of ps.items)) }
-    ensures formula { IfErr result (λ e. e.code ≢ Memory → refused.IsOfFormula e) }
+    ensures formula { IfErr result (λ e. e.code ≢ Memory → refused.IsOfPredicate (scope_of scopes.now) (model.invariants_named (map statement_view statements.now)) e) }
     ensures none { IfErr result (λ e. e.code ≢ Memory → LacksPredicate (scope_of scopes.now) (model.invariants_named (map statement_view statements.now))) }
 {
     let named = invariants_named(alloc, statements)?;
@@ -203,7 +204,7 @@ fn constraints(
     statements: &[Statement],
 ) -> Result<Vec<StatePredicate>, DefsError>
     ensures found { IfOk result (λ ps. model.AreStatePredicates (scope_of scopes.now) (model.constraints_named (map statement_view statements.now)) (map predicate_of ps.items)) }
-    ensures formula { IfErr result (λ e. e.code ≢ Memory → refused.IsOfFormula e) }
+    ensures formula { IfErr result (λ e. e.code ≢ Memory → refused.IsOfPredicate (scope_of scopes.now) (model.constraints_named (map statement_view statements.now)) e) }
     ensures none { IfErr result (λ e. e.code ≢ Memory → LacksPredicate (scope_of scopes.now) (model.constraints_named (map statement_view statements.now))) }
 {
     let named = constraints_named(alloc, statements)?;
@@ -218,7 +219,7 @@ fn assumptions<'a>(
     scopes: &Scopes<'a>,
 ) -> Result<Vec<Core>, DefsError>
     ensures found { IfOk result (λ es. model.AreAssumptions (scope_of scopes.now) (model.assumptions_of (map unit_view units.entry.now)) (map expr_of es.items)) }
-    ensures formula { IfErr result (λ e. e.code ≢ Memory → refused.IsOfFormula e) }
+    ensures formula { IfErr result (λ e. e.code ≢ Memory → refused.IsOfAssumption (scope_of scopes.now) (model.assumptions_of (map unit_view units.entry.now)) e) }
     ensures none { IfErr result (λ e. e.code ≢ Memory → LacksAssumption (scope_of scopes.now) (model.assumptions_of (map unit_view units.entry.now))) }
 {
     let mut assumptions = Vec::new(alloc);
@@ -261,7 +262,7 @@ fn model<'a>(
     requires variables { variables.now ≡ known.variables_of (map unit_view units.now) }
     requires only { IsOnly (map statement_view statements.now) (behaviour_of behaviour) }
     ensures found { IfOk result (λ m. model.IsModel (map unit_view units.now) (map statement_view statements.now) (model_of m)) }
-    ensures refused { IfErr result (λ e. e.code ≢ Memory → refused.IsLast (refused.form_refused (Ok (behaviour_of behaviour.entry))) e) }
+    ensures refused { IfErr result (λ e. e.code ≢ Memory → refused.IsLast (map unit_view units.now) (map statement_view statements.now) (Ok (behaviour_of behaviour.entry)) e) }
     ensures none { IfErr result (λ e. e.code ≢ Memory → (m : ModelTree) → model.IsModel (map unit_view units.now) (map statement_view statements.now) m → ⊥) }
 {
     let scopes = global_scope(alloc, units, items)?;

@@ -8,7 +8,7 @@ ghost use Rattle.tla_names.specs.Refusal as refusal;
 ghost use Rattle.tla_defs.specs.Bodies as bodies;
 ghost use Rattle.tla_defs.specs.Private.Conjuncts.{replaced_in, fair_names, conjuncts_from, conjuncts_left, initials_by, AreMadeOfFairness, AreFoundOrLeft};
 ghost use Rattle.tla_defs.specs.Private.Parts.{steps_in, AreMany};
-ghost use Rattle.tla_defs.specs.Refused.{IsLast};
+ghost use Rattle.tla_defs.specs.Private.Specified.{MayBeLast};
 ghost use Rattle.tla_defs.specs.Private.Seen.{tree_at, seen};
 ghost use Rattle.tla_defs.specs.Private.Shapes.{conjuncts_by};
 ghost use Rattle.tla_defs.specs.Specification as spec;
@@ -195,7 +195,7 @@ pub(crate) fn parts_of<'a>(
     requires fair { AreMadeOfFairness (fair_names classes.now) (replaced_in classes.now) }
     ensures steps { IfOk result (λ p. steps_in p ≡ spec.steps_of (spec.conjuncts names (replaced_in classes.now) (tree_at whole.entry))) }
     ensures initial { IfOk result (λ p. seen p.initial.items ≡ initials_by (fair_names classes.now) (spec.conjuncts names (replaced_in classes.now) (tree_at whole.entry))) }
-    ensures refused { IfErr result (λ e. e.code ≢ Memory → IsLast (Some (refusal.refusal_at DefsCode.SpecificationForm Source.Configuration place)) e) }
+    ensures refused { IfErr result (λ e. e.code ≢ Memory → MayBeLast (Some (refusal.refusal_at DefsCode.SpecificationForm Source.Configuration place)) e) }
     ensures many { IfErr result (λ e. e.code ≢ Memory → AreMany (spec.steps_of (spec.conjuncts names (replaced_in classes.now) (tree_at whole.entry))) (initials_by (fair_names classes.now) (spec.conjuncts names (replaced_in classes.now) (tree_at whole.entry)))) }
 {
     let mut walk = Walk {

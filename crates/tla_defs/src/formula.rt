@@ -1,10 +1,16 @@
 //! The formulas that names of a configuration stand for.
 
-ghost use Rattle.std.specs.Prelude.{◌≡◌, ◌≢◌, IfOk, IfErr};
+ghost use Rattle.std.specs.Prelude.{◌≡◌, ◌≢◌, Option, Some, None, IfOk, IfErr};
 ghost use Rattle.tla_config.specs.declared.error.DefsCode.TheVariants.{Memory};
+ghost use Rattle.tla_core.specs.declared.fault.Place as fault;
 ghost use Rattle.tla_core.specs.Expr as expr;
 ghost use Rattle.tla_core.specs.ExprOf.{expr_of};
+ghost use Rattle.tla_expand.specs.declared.primes.Primes as prime;
+ghost use Rattle.tla_expand.specs.declared.primes.Primes.TheVariants as read;
+ghost use Rattle.tla_expand.specs.Expand.{expand};
 ghost use Rattle.tla_expand.specs.Names.{scope_of};
+ghost use Rattle.tla_expand.specs.Primes.{with_primes};
+ghost use Rattle.tla_model.specs.Size.{IsWithinLimits};
 ghost use Rattle.tla_tree.specs.Tree.{Name};
 ghost use Rattle.tla_tree.specs.View.{view};
 ghost use Rattle.tla_defs.specs.Model as model;
@@ -29,7 +35,7 @@ fn place_of(place: tla_core::Place) -> Place {
 
 /// A refusal of a formula that begins at this place: its level is too high, or it is too large.
 pub(crate) fn refusal(failure: Failure, begins: Place) -> DefsError
-    ensures formula { result.code ≢ Memory → refused.IsOfFormula result }
+    ensures formula { (o : Option expr.Expr) (k : prime.Primes) → ((p : fault.Place) → failure ≡ Failure.NoExpansion p → with_primes k o ≡ None) → (failure ≡ Failure.TooLarge → (x : expr.Expr) → o ≡ Some x → IsWithinLimits x → ⊥) → result.code ≢ Memory → refused.IsOfFormula o k result }
     ensures memory { failure ≡ Failure.Memory → result.code ≡ Memory }
 {
     match failure {
@@ -41,18 +47,6 @@ pub(crate) fn refusal(failure: Failure, begins: Place) -> DefsError
     }
 }
 
-/// The refusal of a formula that begins at this place and speaks of too much: at what one prime more can't stand on,
-/// where that is found.
-fn too_high(found: Result<Core, Failure>, begins: Place) -> DefsError
-    ensures { refused.IsOfFormula result }
-{
-    let place = match found {
-        Err(Failure::NoExpansion(place)) => place_of(place),
-        _ => begins,
-    };
-    refusal_at(DefsCode::Level, Source::Module, place)
-}
-
 /// The initial condition of this name, over the variables next.
 pub(crate) fn initial(
     alloc: Global,
@@ -61,7 +55,7 @@ pub(crate) fn initial(
     name: &Written,
 ) -> Result<Core, DefsError>
     ensures found { IfOk result (λ c. model.IsInitial (scope_of scopes.now) (Name name.now) (expr_of c)) }
-    ensures formula { IfErr result (λ e. e.code ≢ Memory → refused.IsOfFormula e) }
+    ensures formula { IfErr result (λ e. e.code ≢ Memory → refused.IsOfFormula (expand (Name name.now) (scope_of scopes.now) 0) read.Once e) }
     ensures none { IfErr result (λ e. e.code ≢ Memory → (x : expr.Expr) → model.IsInitial (scope_of scopes.now) (Name name.now) x → ⊥) }
 {
     match scopes.meaning(alloc, name, Primes::Once) {
@@ -78,7 +72,7 @@ pub(crate) fn action(
     name: &Written,
 ) -> Result<Core, DefsError>
     ensures found { IfOk result (λ c. model.IsAction (scope_of scopes.now) (Name name.now) (expr_of c)) }
-    ensures formula { IfErr result (λ e. e.code ≢ Memory → refused.IsOfFormula e) }
+    ensures formula { IfErr result (λ e. e.code ≢ Memory → refused.IsOfFormula (expand (Name name.now) (scope_of scopes.now) 0) read.Never e) }
     ensures none { IfErr result (λ e. e.code ≢ Memory → (x : expr.Expr) → model.IsAction (scope_of scopes.now) (Name name.now) x → ⊥) }
 {
     match scopes.meaning(alloc, name, Primes::Never) {
@@ -87,7 +81,7 @@ pub(crate) fn action(
     }
 }
 
-/// The invariant or the constraint of this name.
+/// The invariant or the constraint of this name. Of state level is what can be read over the variables next.
 pub(crate) fn state_predicate(
     alloc: Global,
     places: &Places<'_, '_>,
@@ -95,49 +89,26 @@ pub(crate) fn state_predicate(
     name: &Written,
 ) -> Result<Core, DefsError>
     ensures found { IfOk result (λ c. model.IsStatePredicate (scope_of scopes.now) name.now (expr_of c)) }
-    ensures formula { IfErr result (λ e. e.code ≢ Memory → refused.IsOfFormula e) }
+    ensures formula { IfErr result (λ e. e.code ≢ Memory → refused.IsOfFormula (model.meaning_in (scope_of scopes.now) name.now) read.Once e) }
     ensures none { IfErr result (λ e. e.code ≢ Memory → (x : expr.Expr) → model.IsStatePredicate (scope_of scopes.now) name.now x → ⊥) }
 {
-    match scopes.meaning(alloc, name, Primes::Never) {
-        Ok(core) => {
-            if core.is_primed() {
-                let found = scopes.meaning(alloc, name, Primes::Once);
-                Err(too_high(found, places.begins(name)))
-            } else {
-                Ok(core)
-            }
-        }
-        Err(Failure::NoExpansion(_)) => {
-            let found = scopes.meaning(alloc, name, Primes::Once);
-            Err(too_high(found, places.begins(name)))
-        }
-        Err(failure) => Err(refusal(failure, places.begins(name))),
-    }
+    let over_next = initial(alloc, places, scopes, name)?;
+    drop(over_next);
+    action(alloc, places, scopes, name)
 }
 
-/// An assumption.
+/// An assumption. Of constant level is what can be read with two primes.
 pub(crate) fn assumption<'a>(
     alloc: Global,
     scopes: &Scopes<'a>,
     tree: &'a Expr,
 ) -> Result<Core, DefsError>
     ensures found { IfOk result (λ c. model.IsAssumption (scope_of scopes.now) (view tree.entry.now) (expr_of c)) }
-    ensures formula { IfErr result (λ e. e.code ≢ Memory → refused.IsOfFormula e) }
+    ensures formula { IfErr result (λ e. e.code ≢ Memory → refused.IsOfFormula (expand (view tree.entry.now) (scope_of scopes.now) 0) read.Twice e) }
     ensures none { IfErr result (λ e. e.code ≢ Memory → (x : expr.Expr) → model.IsAssumption (scope_of scopes.now) (view tree.entry.now) x → ⊥) }
 {
-    match scopes.expansion(alloc, tree, Primes::Never) {
-        Ok(core) => {
-            if core.fits(0, 0, false) {
-                Ok(core)
-            } else {
-                let found = scopes.expansion(alloc, tree, Primes::Twice);
-                Err(too_high(found, tree.place()))
-            }
-        }
-        Err(Failure::NoExpansion(_)) => {
-            let found = scopes.expansion(alloc, tree, Primes::Twice);
-            Err(too_high(found, tree.place()))
-        }
+    match scopes.expansion(alloc, tree, Primes::Twice) {
+        Ok(core) => Ok(core),
         Err(failure) => Err(refusal(failure, tree.place())),
     }
 }

@@ -1,9 +1,11 @@
 //! The initial predicate and the action that a configuration names.
 
-ghost use Rattle.std.specs.Prelude.{◌≡◌, ◌≢◌, Some, Ok, map, IfOk, IfErr};
+ghost use Rattle.std.specs.Prelude.{◌≡◌, ◌≢◌, Some, map, IfOk, IfErr};
 ghost use Rattle.tla_config.specs.declared.error.DefsCode.TheVariants.{Memory};
 ghost use Rattle.tla_core.specs.Expr as expr;
 ghost use Rattle.tla_core.specs.ExprOf.{expr_of};
+ghost use Rattle.tla_expand.specs.declared.primes.Primes.TheVariants as read;
+ghost use Rattle.tla_expand.specs.Expand.{expand};
 ghost use Rattle.tla_expand.specs.Names.{scope_of};
 ghost use Rattle.tla_tree.specs.declared.tree.Bullet.TheVariants as bullet;
 ghost use Rattle.tla_tree.specs.Tree.{Tree, Junction, trees as trees_of};
@@ -13,7 +15,7 @@ ghost use Rattle.tla_tree.specs.View.{view};
 ghost use Rattle.tla_defs.specs.Private.Mentions.{behaviour_of};
 ghost use Rattle.tla_defs.specs.Model as model;
 ghost use Rattle.tla_defs.specs.Refused as refused;
-ghost use Rattle.tla_defs.specs.Private.Specified.{initial_in, initial_tree, action_tree, IsMeant, NoneMeant};
+ghost use Rattle.tla_defs.specs.Private.Specified.{initial_in, initial_tree, action_tree, IsMeant, NoneMeant, form_refused, MayBeLast};
 
 use crate::behaviour::Behaviour;
 use crate::formula::{action, initial, refusal};
@@ -44,7 +46,7 @@ pub(crate) fn meaning<'a>(
     behaviour: Behaviour<'a>,
 ) -> Result<Meant<'a>, DefsError>
     ensures found { IfOk result (λ m. IsMeant (map unit_view units.now) items.now (scope_of scopes.now) variables (behaviour_of behaviour.entry) m) }
-    ensures refused { IfErr result (λ e. e.code ≢ Memory → refused.IsLast (refused.form_refused (Ok (behaviour_of behaviour.entry))) e) }
+    ensures refused { IfErr result (λ e. e.code ≢ Memory → MayBeLast (form_refused (behaviour_of behaviour.entry)) e) }
     ensures none { IfErr result (λ e. e.code ≢ Memory → NoneMeant (map unit_view units.now) items.now (scope_of scopes.now) variables (behaviour_of behaviour.entry)) }
 {
     match behaviour {
@@ -59,7 +61,7 @@ pub(crate) fn meaning<'a>(
 /// An initial predicate of one conjunct, over the variables next.
 fn one_conjunct<'a>(alloc: Global, scopes: &Scopes<'a>, tree: &'a Expr) -> Result<Core, DefsError>
     ensures found { IfOk result (λ c. model.IsInitial (scope_of scopes.now) (view tree.entry.now) (expr_of c)) }
-    ensures formula { IfErr result (λ e. e.code ≢ Memory → refused.IsOfFormula e) }
+    ensures formula { IfErr result (λ e. e.code ≢ Memory → refused.IsOfFormula (expand (view tree.entry.now) (scope_of scopes.now) 0) read.Once e) }
     ensures none { IfErr result (λ e. e.code ≢ Memory → (x : expr.Expr) → model.IsInitial (scope_of scopes.now) (view tree.entry.now) x → ⊥) }
 {
     match scopes.expansion(alloc, tree, Primes::Once) {
@@ -76,7 +78,7 @@ fn several_conjuncts<'a>(
     trees: &[&'a Expr],
 ) -> Result<Core, DefsError>
     ensures found { IfOk result (λ c. model.IsInitial (scope_of scopes.now) (Junction place bullet.And (trees_of (seen trees.now))) (expr_of c)) }
-    ensures formula { IfErr result (λ e. e.code ≢ Memory → refused.IsOfFormula e) }
+    ensures formula { IfErr result (λ e. e.code ≢ Memory → refused.IsOfFormula (expand (Junction place bullet.And (trees_of (seen trees.now))) (scope_of scopes.now) 0) read.Once e) }
     ensures none { IfErr result (λ e. e.code ≢ Memory → (x : expr.Expr) → model.IsInitial (scope_of scopes.now) (Junction place bullet.And (trees_of (seen trees.now))) x → ⊥) }
 {
     match scopes.conjunction(alloc, place, trees, Primes::Once) {
@@ -92,7 +94,7 @@ fn specified_initial<'a>(
     specified: &Specified<'a>,
 ) -> Result<Core, DefsError>
     ensures found { (i : Tree) → initial_in specified.now ≡ Some i → IfOk result (λ c. model.IsInitial (scope_of scopes.now) i (expr_of c)) }
-    ensures formula { IfErr result (λ e. e.code ≢ Memory → refused.IsOfFormula e) }
+    ensures formula { (i : Tree) → initial_in specified.now ≡ Some i → IfErr result (λ e. e.code ≢ Memory → refused.IsOfFormula (expand i (scope_of scopes.now) 0) read.Once e) }
     ensures none { (i : Tree) → initial_in specified.now ≡ Some i → IfErr result (λ e. e.code ≢ Memory → (x : expr.Expr) → model.IsInitial (scope_of scopes.now) i x → ⊥) }
 {
     if specified.initial.len() == 0 {
@@ -112,7 +114,7 @@ fn specified_action<'a>(
     tree: &'a Expr,
 ) -> Result<Core, DefsError>
     ensures found { IfOk result (λ c. model.IsAction (scope_of scopes.now) (view tree.entry.now) (expr_of c)) }
-    ensures formula { IfErr result (λ e. e.code ≢ Memory → refused.IsOfFormula e) }
+    ensures formula { IfErr result (λ e. e.code ≢ Memory → refused.IsOfFormula (expand (view tree.entry.now) (scope_of scopes.now) 0) read.Never e) }
     ensures none { IfErr result (λ e. e.code ≢ Memory → (x : expr.Expr) → model.IsAction (scope_of scopes.now) (view tree.entry.now) x → ⊥) }
 {
     match scopes.expansion(alloc, tree, Primes::Never) {
@@ -129,7 +131,7 @@ pub(crate) fn initial_predicate<'a>(
     meant: &Meant<'a>,
 ) -> Result<Core, DefsError>
     ensures found { (i : Tree) → initial_tree «meant».now ≡ Some i → IfOk result (λ c. model.IsInitial (scope_of scopes.now) i (expr_of c)) }
-    ensures formula { IfErr result (λ e. e.code ≢ Memory → refused.IsOfFormula e) }
+    ensures formula { (i : Tree) → initial_tree «meant».now ≡ Some i → IfErr result (λ e. e.code ≢ Memory → refused.IsOfFormula (expand i (scope_of scopes.now) 0) read.Once e) }
     ensures none { (i : Tree) → initial_tree «meant».now ≡ Some i → IfErr result (λ e. e.code ≢ Memory → (x : expr.Expr) → model.IsInitial (scope_of scopes.now) i x → ⊥) }
 {
     match meant {
@@ -146,7 +148,7 @@ pub(crate) fn next_action<'a>(
     meant: &Meant<'a>,
 ) -> Result<Core, DefsError>
     ensures found { IfOk result (λ c. model.IsAction (scope_of scopes.now) (action_tree «meant».now) (expr_of c)) }
-    ensures formula { IfErr result (λ e. e.code ≢ Memory → refused.IsOfFormula e) }
+    ensures formula { IfErr result (λ e. e.code ≢ Memory → refused.IsOfFormula (expand (action_tree «meant».now) (scope_of scopes.now) 0) read.Never e) }
     ensures none { IfErr result (λ e. e.code ≢ Memory → (x : expr.Expr) → model.IsAction (scope_of scopes.now) (action_tree «meant».now) x → ⊥) }
 {
     match meant {

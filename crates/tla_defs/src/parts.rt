@@ -6,7 +6,7 @@ ghost use Rattle.tla_tree.specs.View.{view};
 ghost use Rattle.tla_names.specs.Refusal as refusal;
 ghost use Rattle.tla_defs.specs.Private.Conjuncts.{found_names, initials_by};
 ghost use Rattle.tla_defs.specs.Private.Parts.{step_of, steps_in, AreFew};
-ghost use Rattle.tla_defs.specs.Refused.{IsLast};
+ghost use Rattle.tla_defs.specs.Private.Specified.{MayBeLast};
 ghost use Rattle.tla_defs.specs.Private.Seen.{tree_at, seen};
 ghost use Rattle.tla_defs.specs.Specification as spec;
 
@@ -116,7 +116,7 @@ impl<'a> Parts<'a> {
     /// The refusal of more than a few conjuncts, where SPECIFICATION stands at this place: of two steps, or of an initial
     /// predicate that is too large.
     pub(crate) fn too_many(&self, place: Place) -> DefsError
-        ensures { result.code ≢ Memory → IsLast (Some (refusal.refusal_at DefsCode.SpecificationForm Source.Configuration place)) result }
+        ensures { result.code ≢ Memory → MayBeLast (Some (refusal.refusal_at DefsCode.SpecificationForm Source.Configuration place)) result }
     {
         if self.steps.len() > 1 || self.initial.len() == 0 {
             return refusal_at(DefsCode::SpecificationForm, Source::Configuration, place);

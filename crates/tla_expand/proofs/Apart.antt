@@ -57,5 +57,8 @@ none_within (NoExpansion p) o h k e q l = let z : ⊥ = cc in z
 none_within TooLarge o h k e q l = h e q l.small l.shallow
 none_within Memory o h k e q l = no_other k
 
+pub none_told : (s : Failure) (o : Option Expr) → Fails 300 200000 s o → (p : Place) → s ≡ NoExpansion p → o ≡ None
+none_told s o h p q = rw q at h
+
 pub limits_given : (o : Option Expr) (c : Expr) (rest : ℕ) → Given o c rest 200000 300 → IsWithinLimits c
 limits_given o c rest g = record { small = omega (arith, g.1); shallow = g.2 }

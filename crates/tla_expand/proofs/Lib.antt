@@ -1,5 +1,4 @@
 pub mod Primed
-pub mod Levels
 pub mod Vectors
 pub mod Links
 pub mod Cuts
@@ -13,7 +12,10 @@ pub mod Made
 pub mod Lists
 pub mod NamedParts
 pub mod Keeps
+pub mod PrimesSize
+pub mod Larger
 pub mod Kept
+pub mod Levels
 pub mod Groups
 pub mod Arms
 pub mod Plain

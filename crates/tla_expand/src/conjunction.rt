@@ -1,7 +1,8 @@
 //! The expansion of a conjunction whose parts stand apart.
 
-ghost use Rattle.std.specs.Prelude.{◌≡◌, ◌≢◌, ◌≤◌, length, map, Some, IfOk, IfErr};
+ghost use Rattle.std.specs.Prelude.{◌≡◌, ◌≢◌, ◌≤◌, length, map, Some, None, IfOk, IfErr};
 ghost use Rattle.std.specs.Borrow.{Bor};
+ghost use Rattle.tla_core.specs.declared.fault.Place as fault;
 ghost use Rattle.tla_core.specs.Expr as expr;
 ghost use Rattle.tla_core.specs.ExprOf.{expr_of};
 ghost use Rattle.tla_model.specs.Size.{IsWithinLimits};
@@ -74,6 +75,7 @@ pub(crate) fn conjunction<'a>(
     requires scope { scope ≤ length entries.old.items }
     ensures found { IfOk result (λ c. with_primes primes (expansion.expand (Junction place bullet.And (trees_of (map (λ (t : Bor syntax.Expr). view t.now) trees.now))) (scope_at entries.old.items scope) 0) ≡ Some (expr_of c)) }
     ensures limits { IfOk result (λ c. IsWithinLimits (expr_of c)) }
+    ensures gone { IfErr result (λ f. (p : fault.Place) → f ≡ Failure.NoExpansion p → with_primes primes (expansion.expand (Junction place bullet.And (trees_of (map (λ (t : Bor syntax.Expr). view t.now) trees.now))) (scope_at entries.old.items scope) 0) ≡ None) }
     ensures none { IfErr result (λ f. f ≢ Failure.Memory → (e : expr.Expr) → with_primes primes (expansion.expand (Junction place bullet.And (trees_of (map (λ (t : Bor syntax.Expr). view t.now) trees.now))) (scope_at entries.old.items scope) 0) ≡ Some e → IsWithinLimits e → ⊥) }
 {
     let many = each_apart(alloc, entries, trees, scope, primes, sought)?;

@@ -53,7 +53,7 @@ pub(crate) struct Setting {
     pub(crate) room: usize,
     /// How many nodes there may be.
     pub(crate) left: usize,
-    /// The primes on the whole, where a refusal has to name the first expression of too high a level.
+    /// The primes on the whole, where its operands are looked at as they stand, so that what is met first is told.
     pub(crate) sought: Option<Primes>,
 }
 

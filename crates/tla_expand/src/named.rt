@@ -1,6 +1,7 @@
 //! The expansion of a name.
 
-ghost use Rattle.std.specs.Prelude.{◌≡◌, ◌≢◌, ◌≤◌, length, Some, IfOk, IfErr};
+ghost use Rattle.std.specs.Prelude.{◌≡◌, ◌≢◌, ◌≤◌, length, Some, None, IfOk, IfErr};
+ghost use Rattle.tla_core.specs.declared.fault.Place as fault;
 ghost use Rattle.tla_core.specs.Expr as expr;
 ghost use Rattle.tla_core.specs.ExprOf.{expr_of};
 ghost use Rattle.tla_model.specs.Size.{IsWithinLimits};
@@ -33,6 +34,7 @@ pub(crate) fn named_expansion<'a>(
     requires scope { scope ≤ length entries.old.items }
     ensures found { IfOk result (λ c. with_primes primes (expansion.expand (Name name.now) (scope_at entries.old.items scope) 0) ≡ Some (expr_of c)) }
     ensures limits { IfOk result (λ c. IsWithinLimits (expr_of c)) }
+    ensures gone { IfErr result (λ f. (p : fault.Place) → f ≡ Failure.NoExpansion p → with_primes primes (expansion.expand (Name name.now) (scope_at entries.old.items scope) 0) ≡ None) }
     ensures none { IfErr result (λ f. f ≢ Failure.Memory → (e : expr.Expr) → with_primes primes (expansion.expand (Name name.now) (scope_at entries.old.items scope) 0) ≡ Some e → IsWithinLimits e → ⊥) }
 {
     let at = place_of(name.place);

@@ -1,8 +1,9 @@
 //! The names of a module, with what they mean.
 
-ghost use Rattle.std.specs.Prelude.{◌≡◌, ◌≢◌, ◌≤◌, [], length, map, IfOk, IfErr, Some, None, true, false};
+ghost use Rattle.std.specs.Prelude.{◌≡◌, ◌≢◌, ◌≤◌, [], length, map, IfOk, IfErr, Ok, Err, Some, None, true, false};
 ghost use Rattle.std.specs.Borrow.{Bor};
 ghost use Rattle.tla_core.specs.declared.fault.Place.{Place};
+ghost use Rattle.tla_core.specs.declared.expression.Core as core;
 ghost use Rattle.tla_core.specs.Expr as expr;
 ghost use Rattle.tla_core.specs.ExprOf.{expr_of};
 ghost use Rattle.tla_model.specs.Size.{IsWithinLimits};
@@ -15,6 +16,7 @@ ghost use Rattle.tla_expand.specs.Meanings.{standard, with_name, variable, value
 ghost use Rattle.tla_expand.specs.Expand.{definition_in, expand};
 ghost use Rattle.tla_expand.specs.Scopes.{AreLinked, IsBelow, entry_scope, scope_at};
 ghost use Rattle.tla_expand.specs.Linked.{AreLinked-prop};
+ghost use Rattle.tla_expand.specs.declared.failure.Failure as failure;
 ghost use Rattle.tla_expand.specs.Primes.{with_primes};
 
 use crate::arena::{Entry, What, enter, find};
@@ -31,11 +33,16 @@ use tla_core::{Core, Place};
 use tla_tree::{Definition, Expr, Word, Written};
 use tla_value::Value;
 
-/// Where there is no expansion: the place that was sought, or where that ended otherwise, the one that was met first.
-fn refused_at(sought: Result<Core, Failure>, first: Place) -> Place {
-    match sought {
-        Err(Failure::NoExpansion(place)) => place,
-        _ => first,
+/// What refuses an expression that was too large under its level, where this was found of it without one: only its level, if
+/// it is within the limits so.
+fn still_refused(found: Result<Core, Failure>) -> Failure
+    ensures level { (p : Place) → result ≡ Failure.NoExpansion p → (c : core.Core) × (found ≡ Ok c) }
+    ensures large { result ≡ Failure.TooLarge → (f : failure.Failure) × (found ≡ Err f) × (f ≢ Failure.Memory) }
+{
+    match found {
+        Ok(core) => Failure::NoExpansion(core.place()),
+        Err(Failure::Memory) => Failure::Memory,
+        Err(_) => Failure::TooLarge,
     }
 }
 
@@ -169,7 +176,7 @@ impl<'a> Scopes<'a> {
         self.with_entry(entry)
     }
 
-    /// The expansion of an expression. A refusal names the first expression of too high a level, where that is sought.
+    /// The expansion of an expression, or what refuses it: what is met first, where operands are looked at as they stand.
     fn find_expansion(
         &self,
         alloc: Global,
@@ -191,24 +198,27 @@ impl<'a> Scopes<'a> {
         }
     }
 
-    /// The expansion of an expression under these names, with at most 200,000 nodes, of which at most 300 on a path.
-    /// `Primes::Once` takes each variable as the variable next.
+    /// The expansion of an expression under these names, with at most 200,000 nodes, of which at most 300 on a path; or what
+    /// is met first that refuses it, in the order of the expansion: a variable with a prime too many, a limit, or want of
+    /// memory. `Primes::Once` takes each variable as the variable next.
     pub fn expansion(&self, alloc: Global, tree: &'a Expr, primes: Primes) -> Result<Core, Failure>
         ensures found { IfOk result (λ c. with_primes primes (expand (view tree.now) (scope_of self.now) 0) ≡ Some (expr_of c)) }
         ensures limits { IfOk result (λ c. IsWithinLimits (expr_of c)) }
         ensures gone { IfErr result (λ f. (p : Place) → f ≡ Failure.NoExpansion p → with_primes primes (expand (view tree.now) (scope_of self.now) 0) ≡ None) }
         ensures none { IfErr result (λ f. f ≢ Failure.Memory → (e : expr.Expr) → with_primes primes (expand (view tree.now) (scope_of self.now) 0) ≡ Some e → IsWithinLimits e → ⊥) }
+        // Too large is what has no expansion within the limits, whatever its level.
+        ensures large { IfErr result (λ f. f ≡ Failure.TooLarge → (e : expr.Expr) → expand (view tree.now) (scope_of self.now) 0 ≡ Some e → IsWithinLimits e → ⊥) }
     {
-        match self.find_expansion(alloc, tree, primes, None) {
-            Err(Failure::NoExpansion(first)) => {
-                let again = self.find_expansion(alloc, tree, primes, Some(primes));
-                Err(Failure::NoExpansion(refused_at(again, first)))
+        match self.find_expansion(alloc, tree, primes, Some(primes)) {
+            Err(Failure::TooLarge) => {
+                let found = self.find_expansion(alloc, tree, Primes::Never, None);
+                Err(still_refused(found))
             }
             made => made,
         }
     }
 
-    /// The expansion of a name. A refusal names the first expression of too high a level, where that is sought.
+    /// The expansion of a name, or what refuses it: what is met first, where operands are looked at as they stand.
     fn find_meaning(
         &self,
         alloc: Global,
@@ -218,6 +228,7 @@ impl<'a> Scopes<'a> {
     ) -> Result<Core, Failure>
         ensures found { IfOk result (λ c. with_primes primes (expand (Name name.now) (scope_of self.now) 0) ≡ Some (expr_of c)) }
         ensures limits { IfOk result (λ c. IsWithinLimits (expr_of c)) }
+        ensures gone { IfErr result (λ f. (p : Place) → f ≡ Failure.NoExpansion p → with_primes primes (expand (Name name.now) (scope_of self.now) 0) ≡ None) }
         ensures none { IfErr result (λ f. f ≢ Failure.Memory → (e : expr.Expr) → with_primes primes (expand (Name name.now) (scope_of self.now) 0) ≡ Some e → IsWithinLimits e → ⊥) }
     {
         match Vec::from_slice(alloc, self.entries.as_slice()) {
@@ -229,23 +240,25 @@ impl<'a> Scopes<'a> {
         }
     }
 
-    /// The expansion of a name without arguments, with at most 200,000 nodes, of which at most 300 on a path.
-    /// `Primes::Once` takes each variable as the variable next.
+    /// The expansion of a name without arguments, within the same limits; or what is met first that refuses it.
     pub fn meaning(&self, alloc: Global, name: &Written, primes: Primes) -> Result<Core, Failure>
         ensures found { IfOk result (λ c. with_primes primes (expand (Name name.now) (scope_of self.now) 0) ≡ Some (expr_of c)) }
         ensures limits { IfOk result (λ c. IsWithinLimits (expr_of c)) }
+        ensures gone { IfErr result (λ f. (p : Place) → f ≡ Failure.NoExpansion p → with_primes primes (expand (Name name.now) (scope_of self.now) 0) ≡ None) }
         ensures none { IfErr result (λ f. f ≢ Failure.Memory → (e : expr.Expr) → with_primes primes (expand (Name name.now) (scope_of self.now) 0) ≡ Some e → IsWithinLimits e → ⊥) }
+        // Too large is what has no expansion within the limits, whatever its level.
+        ensures large { IfErr result (λ f. f ≡ Failure.TooLarge → (e : expr.Expr) → expand (Name name.now) (scope_of self.now) 0 ≡ Some e → IsWithinLimits e → ⊥) }
     {
-        match self.find_meaning(alloc, name, primes, None) {
-            Err(Failure::NoExpansion(first)) => {
-                let again = self.find_meaning(alloc, name, primes, Some(primes));
-                Err(Failure::NoExpansion(refused_at(again, first)))
+        match self.find_meaning(alloc, name, primes, Some(primes)) {
+            Err(Failure::TooLarge) => {
+                let found = self.find_meaning(alloc, name, Primes::Never, None);
+                Err(still_refused(found))
             }
             made => made,
         }
     }
 
-    /// The expansion of a conjunction. A refusal names the first expression of too high a level, where that is sought.
+    /// The expansion of a conjunction, or what refuses it: what is met first, where operands are looked at as they stand.
     fn find_conjunction(
         &self,
         alloc: Global,
@@ -256,6 +269,7 @@ impl<'a> Scopes<'a> {
     ) -> Result<Core, Failure>
         ensures found { IfOk result (λ c. with_primes primes (expand (Junction place bullet.And (trees_of (map (λ (t : Bor syntax.Expr). view t.now) trees.now))) (scope_of self.now) 0) ≡ Some (expr_of c)) }
         ensures limits { IfOk result (λ c. IsWithinLimits (expr_of c)) }
+        ensures gone { IfErr result (λ f. (p : Place) → f ≡ Failure.NoExpansion p → with_primes primes (expand (Junction place bullet.And (trees_of (map (λ (t : Bor syntax.Expr). view t.now) trees.now))) (scope_of self.now) 0) ≡ None) }
         ensures none { IfErr result (λ f. f ≢ Failure.Memory → (e : expr.Expr) → with_primes primes (expand (Junction place bullet.And (trees_of (map (λ (t : Bor syntax.Expr). view t.now) trees.now))) (scope_of self.now) 0) ≡ Some e → IsWithinLimits e → ⊥) }
     {
         match Vec::from_slice(alloc, self.entries.as_slice()) {
@@ -267,8 +281,8 @@ impl<'a> Scopes<'a> {
         }
     }
 
-    /// The expansion of the conjunction of these expressions, at a place, with at most 200,000 nodes, of which at most
-    /// 300 on a path. `Primes::Once` takes each variable as the variable next.
+    /// The expansion of the conjunction of these expressions, at a place, within the same limits; or what is met first that
+    /// refuses it.
     pub fn conjunction(
         &self,
         alloc: Global,
@@ -278,12 +292,15 @@ impl<'a> Scopes<'a> {
     ) -> Result<Core, Failure>
         ensures found { IfOk result (λ c. with_primes primes (expand (Junction place bullet.And (trees_of (map (λ (t : Bor syntax.Expr). view t.now) trees.now))) (scope_of self.now) 0) ≡ Some (expr_of c)) }
         ensures limits { IfOk result (λ c. IsWithinLimits (expr_of c)) }
+        ensures gone { IfErr result (λ f. (p : Place) → f ≡ Failure.NoExpansion p → with_primes primes (expand (Junction place bullet.And (trees_of (map (λ (t : Bor syntax.Expr). view t.now) trees.now))) (scope_of self.now) 0) ≡ None) }
         ensures none { IfErr result (λ f. f ≢ Failure.Memory → (e : expr.Expr) → with_primes primes (expand (Junction place bullet.And (trees_of (map (λ (t : Bor syntax.Expr). view t.now) trees.now))) (scope_of self.now) 0) ≡ Some e → IsWithinLimits e → ⊥) }
+        // Too large is what has no expansion within the limits, whatever its level.
+        ensures large { IfErr result (λ f. f ≡ Failure.TooLarge → (e : expr.Expr) → expand (Junction place bullet.And (trees_of (map (λ (t : Bor syntax.Expr). view t.now) trees.now))) (scope_of self.now) 0 ≡ Some e → IsWithinLimits e → ⊥) }
     {
-        match self.find_conjunction(alloc, place, trees, primes, None) {
-            Err(Failure::NoExpansion(first)) => {
-                let again = self.find_conjunction(alloc, place, trees, primes, Some(primes));
-                Err(Failure::NoExpansion(refused_at(again, first)))
+        match self.find_conjunction(alloc, place, trees, primes, Some(primes)) {
+            Err(Failure::TooLarge) => {
+                let found = self.find_conjunction(alloc, place, trees, Primes::Never, None);
+                Err(still_refused(found))
             }
             made => made,
         }

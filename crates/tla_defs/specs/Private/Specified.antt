@@ -1,18 +1,22 @@
 -- What the code finds of a specification. Private contracts alone cite this.
-use Rattle.std.specs.Prelude.{◌≡◌, ◌⊎◌, ℕ, List, [], ◌∷◌, Option, Some}
+use Rattle.std.specs.Prelude.{◌≡◌, ◌⊎◌, ℕ, List, [], ◌∷◌, Option, Some, None}
 use Rattle.tla_core.specs.Expr.{Expr}
 use Rattle.tla_tree.specs.declared.word.Written.{Written}
 use Rattle.tla_tree.specs.Tree.{Tree}
 use Rattle.tla_tree.specs.Tree as t
 use Rattle.tla_tree.specs.Units.{UnitTree}
+use Rattle.tla_config.specs.declared.error.DefsCode.TheVariants as c
+use Rattle.tla_config.specs.declared.error.DefsError.{DefsError}
+use Rattle.tla_config.specs.declared.error.Source.TheVariants as source
 use Rattle.tla_config.specs.Statements.{Statement, Item}
 use Rattle.tla_expand.specs.Meanings.{Scope}
+use Rattle.tla_names.specs.Refusal.{refusal_at}
 use Rattle.tla_defs.specs.declared.meant.Meant.{Meant}
 use Rattle.tla_defs.specs.declared.meant.Meant.TheVariants as meant
 use Rattle.tla_defs.specs.declared.specification.Specified as declared
 use Rattle.tla_defs.specs.Private.Seen.{tree_at, seen}
 use Rattle.tla_defs.specs.Model.{IsInitial, initials_named, nexts_named, specifications_named}
-use Rattle.tla_defs.specs.Refused.{Behaviour, Named, Specified}
+use Rattle.tla_defs.specs.Refused.{Behaviour, Named, Specified, NoForm, IsTooLarge}
 use Rattle.tla_defs.specs.Specification.{conjunction_of, IsSpecification}
 
 -- one of these is no initial predicate
@@ -26,10 +30,6 @@ initial_in s = conjunction_of (seen s.initial.items)
 -- these are the initial predicate and the action of the formula
 abbrev pub IsForm : List UnitTree → List Item → Scope → ℕ → Written → declared.Specified → Type 0
 IsForm us is σ n w s = (i : Tree) × (initial_in s ≡ Some i) × IsSpecification us is σ n w i (tree_at s.action)
-
--- the formula has no initial predicate and action
-abbrev pub NoForm : List UnitTree → List Item → Scope → ℕ → Written → Type 0
-NoForm us is σ n w = (i a : Tree) → IsSpecification us is σ n w i a → (x : Expr) → IsInitial σ i x → ⊥
 
 -- the initial predicate and the action
 abbrev pub initial_tree : Meant → Option Tree
@@ -48,6 +48,14 @@ IsMeant us is σ n _ _ = ⊥
 abbrev pub NoneMeant : List UnitTree → List Item → Scope → ℕ → Behaviour → Type 0
 NoneMeant us is σ n (Named i a) = ⊥
 NoneMeant us is σ n (Specified p w) = NoForm us is σ n w
+
+-- a refusal at SPECIFICATION, if it stands, or one that it is too large
+abbrev pub form_refused : Behaviour → Option DefsError
+form_refused (Specified p w) = Some (refusal_at c.SpecificationForm source.Configuration p)
+form_refused (Named i a) = None
+
+abbrev pub MayBeLast : Option DefsError → DefsError → Type 0
+MayBeLast form e = (form ≡ Some e) ⊎ IsTooLarge e
 
 -- the names of INIT, of NEXT and of SPECIFICATION
 abbrev pub init_names : Behaviour → List Written

@@ -33,7 +33,7 @@ pub(super) fn settled(primes: Primes) -> Primes
 }
 
 /// The parts of a tuple.
-fn tuple_items<'a>(form: Form<'a>) -> Option<&'a [Expr]>
+pub(super) fn tuple_items<'a>(form: Form<'a>) -> Option<&'a [Expr]>
     ensures { result ≡ tuple_parts form.entry }
 {
     match form {

@@ -1,14 +1,18 @@
-//! Which expression a refusal names whose level is too high. It is told of the whole only after its parts: first what is
-//! refused in an operand, then a prime on it, UNCHANGED of it, or it as a subscript.
+//! What is met first that refuses an expression. It is told of the whole only after its parts: an operand is looked at as
+//! it stands before it is with a prime on it, under UNCHANGED or as a subscript.
 
-ghost use Rattle.std.specs.Prelude.{◌≡◌, ◌≤◌, ◌<◌, ◌+◌, length, OnOk, IfErr};
+ghost use Rattle.std.specs.Prelude.{◌≡◌, ◌≤◌, ◌<◌, ◌+◌, length, Some, OnOk, IfErr};
+ghost use Rattle.tla_core.specs.declared.fault.Place as fault;
+ghost use Rattle.tla_expand.specs.Maybe.{each_of};
 ghost use Rattle.tla_expand.specs.Primes.{settled_primes, with_primes};
 ghost use Rattle.tla_expand.specs.Scopes.{AreLinked, scope_at};
-ghost use Rattle.tla_expand.specs.Private.Forms.{form_in};
-ghost use Rattle.tla_expand.specs.Private.Gives.{kept_part, changed_in, part_in, both, Gives, GivesTwo, SaysNone};
+ghost use Rattle.tla_expand.specs.Private.Forms.{form_in, tuple_parts};
+ghost use Rattle.tla_expand.specs.Private.Gives.{kept_part, changed_in, part_in, both, total, highest, Fails, FailsBy, Gives, GivesTwo, SaysNone};
+ghost use Rattle.tla_model.specs.Size.{nodes, depth};
 
 use crate::arena::Entry;
-use crate::expand::kept::{changed, kept, settled};
+use crate::expand::kept::{changed, kept, settled, tuple_items};
+use crate::expand::lists::each;
 use crate::expand::{Setting, expand, node_of, two_parts};
 use crate::expanded::{Expanded, Two as Pair};
 use crate::failure::Failure;
@@ -19,7 +23,7 @@ use std::alloc::Global;
 use tla_core::Place;
 use tla_tree::Expr;
 
-/// Whether a refusal under these primes has to name the first expression of too high a level.
+/// Whether operands under these primes are looked at as they stand.
 fn is_sought(sought: Option<Primes>, primes: Primes) -> bool {
     match sought {
         Some(level) => level == primes,
@@ -46,7 +50,7 @@ fn primed_at(head: Head<'_>, outer: Primes) -> Place {
     }
 }
 
-/// Looks for what has no expansion in a form. No other failure says anything.
+/// Looks at a form as it stands.
 #[cycle(expand)]
 fn look_at_form<'a>(
     alloc: Global,
@@ -58,16 +62,68 @@ fn look_at_form<'a>(
     requires scope { at.scope ≤ length entries.old.items }
     requires small { at.bound + at.left < 1000000 }
     ensures kept { OnOk result (entries.new.items ≡ entries.old.items) }
-    ensures none { IfErr result (λ f. SaysNone f (with_primes at.primes (form_in form.entry (scope_at entries.old.items at.scope) at.bound))) }
+    ensures fails { IfErr result (λ f. Fails (at.room + 1) (at.left + 1) f (with_primes at.primes (form_in form.entry (scope_at entries.old.items at.scope) at.bound))) }
 {
     match node_of(alloc, entries, form, at) {
         Ok(_) => Ok(()),
-        Err(Failure::NoExpansion(place)) => Err(Failure::NoExpansion(place)),
-        Err(_) => Err(Failure::Memory),
+        Err(failure) => Err(failure),
     }
 }
 
-/// Looks for what has no expansion in an expression, where that is sought. No other failure says anything.
+/// Looks at expressions of one scope as they stand.
+#[cycle(expand)]
+fn look_at_each<'a>(
+    alloc: Global,
+    entries: &mut Vec<Entry<'a>>,
+    trees: &'a [Expr],
+    at: Setting,
+) -> Result<(), Failure>
+    requires linked { AreLinked entries.old.items }
+    requires scope { at.scope ≤ length entries.old.items }
+    requires small { at.bound + at.left ≤ 1000000 }
+    ensures kept { OnOk result (entries.new.items ≡ entries.old.items) }
+    ensures fails { IfErr result (λ f. FailsBy (total nodes) (highest depth) at.room at.left f (each_of (part_in at.primes (scope_at entries.old.items at.scope) at.bound) trees.now)) }
+{
+    match each(alloc, entries, trees, at) {
+        Ok(_) => Ok(()),
+        Err(failure) => Err(failure),
+    }
+}
+
+/// Looks at the parts of a tuple, first as they stand under outer primes, and then behind those that were met on the way to
+/// it.
+#[cycle(expand)]
+fn look_at_tuple<'a>(
+    alloc: Global,
+    entries: &mut Vec<Entry<'a>>,
+    head: Head<'a>,
+    items: &'a [Expr],
+    outer: Primes,
+    at: Setting,
+) -> Result<(), Failure>
+    requires linked { AreLinked entries.old.items }
+    requires scope { at.scope ≤ length entries.old.items }
+    requires small { at.bound + at.left ≤ 1000000 }
+    requires tuple { tuple_parts head.form ≡ Some items }
+    ensures kept { OnOk result (entries.new.items ≡ entries.old.items) }
+    ensures fails { IfErr result (λ f. Fails (at.room + 1) (at.left + 1) f (with_primes at.primes (form_in head.entry.form (scope_at entries.old.items at.scope) at.bound))) }
+{
+    if !are_fewer(outer, at.primes) {
+        return look_at_each(alloc, entries, items, at);
+    }
+    let before = Setting {
+        primes: outer,
+        ..at
+    };
+    look_at_each(alloc, entries, items, before)?;
+    match look_at_each(alloc, entries, items, at) {
+        Err(Failure::NoExpansion(_)) => Err(Failure::NoExpansion(primed_at(head, outer))),
+        Err(failure) => Err(failure),
+        Ok(_) => Ok(()),
+    }
+}
+
+/// Looks at an expression as it stands, where operands are looked at.
 #[cycle(expand)]
 fn look_at<'a>(
     alloc: Global,
@@ -79,15 +135,52 @@ fn look_at<'a>(
     requires scope { at.scope ≤ length entries.old.items }
     requires small { at.bound + at.left ≤ 1000000 }
     ensures kept { OnOk result (entries.new.items ≡ entries.old.items) }
-    ensures none { IfErr result (λ f. SaysNone f (part_in at.primes (scope_at entries.old.items at.scope) at.bound tree.now)) }
+    ensures fails { IfErr result (λ f. Fails at.room at.left f (part_in at.primes (scope_at entries.old.items at.scope) at.bound tree.now)) }
 {
     if !is_sought(at.sought, at.primes) {
         return Ok(());
     }
     match expand(alloc, entries, tree, at) {
         Ok(_) => Ok(()),
-        Err(Failure::NoExpansion(place)) => Err(Failure::NoExpansion(place)),
-        Err(_) => Err(Failure::Memory),
+        Err(failure) => Err(failure),
+    }
+}
+
+/// Looks at what stands under UNCHANGED as it stands, where operands are looked at. A tuple is no node of what UNCHANGED
+/// makes of it, so only its parts are.
+#[cycle(expand)]
+fn look_at_operand<'a>(
+    alloc: Global,
+    entries: &mut Vec<Entry<'a>>,
+    tree: &'a Expr,
+    at: Setting,
+) -> Result<(), Failure>
+    requires linked { AreLinked entries.old.items }
+    requires scope { at.scope ≤ length entries.old.items }
+    requires small { at.bound + at.left ≤ 1000000 }
+    ensures kept { OnOk result (entries.new.items ≡ entries.old.items) }
+    ensures fails { IfErr result (λ f. (p : fault.Place) → Fails (at.room + 1) (at.left + 1) f (kept_part (settled_primes at.primes) p (scope_at entries.old.items at.scope) at.bound tree.now)) }
+{
+    if !is_sought(at.sought, at.primes) {
+        return Ok(());
+    }
+    let mark = entries.len();
+    let found = find_head(entries, tree, at.scope, at.primes)?;
+    match tuple_items(found.form) {
+        Some(items) => {
+            let inside = Setting {
+                scope: found.scope,
+                primes: found.primes,
+                ..at
+            };
+            look_at_tuple(alloc, entries, found, items, at.primes, inside)?;
+            entries.truncate(mark);
+            Ok(())
+        }
+        None => {
+            entries.truncate(mark);
+            look_at(alloc, entries, tree, at)
+        }
     }
 }
 
@@ -138,7 +231,7 @@ pub(super) fn unchanged_node<'a>(
     ensures kept { OnOk result (entries.new.items ≡ entries.old.items) }
     ensures same { Gives (at.room + 1) (at.left + 1) result (kept_part (settled_primes at.primes) place (scope_at entries.old.items at.scope) at.bound tree.now) }
 {
-    look_at(alloc, entries, tree, at)?;
+    look_at_operand(alloc, entries, tree, at)?;
     let primes = settled(at.primes);
     kept(alloc, entries, place, tree, Setting { primes, ..at })
 }

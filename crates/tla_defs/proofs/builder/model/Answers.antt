@@ -1,16 +1,20 @@
-use Rattle.std.proofs.Common.{ℕ, List, ◌∙◌, ap, inr, map, sym, length}
+use Rattle.std.proofs.Common.{ℕ, List, ◌∙◌, ap, map, sym, subst, inr, length}
 use Rattle.std.proofs.lemmas.List.{length-map}
 use Rattle.std.proofs.lemmas.Result.{err_from_is_err_and}
 use Rattle.std.specs.Borrow.{Bor}
 use Rattle.tla_config.specs.View.{statement_view}
+use Rattle.tla_expand.specs.declared.primes.Primes.TheVariants as read
+use Rattle.tla_expand.specs.Expand.{expand}
 use Rattle.tla_expand.specs.Names.{scope_of}
 use Rattle.tla_tree.specs.UnitsView.{unit_view}
 use Rattle.tla_defs.specs.Global.{global}
 use Rattle.tla_defs.specs.Private.Mentions.{behaviour_of}
+use Rattle.tla_defs.specs.Model.{assumptions_of, invariants_named, constraints_named}
+use Rattle.tla_defs.specs.Refused.{IsOfFormula, IsOfAssumption, IsOfPredicate, of_assumption, of_initial, of_action, of_invariant, of_constraint}
 use Rattle.tla_defs.specs.Private.Specified.{action_tree}
 use Rattle.tla_defs.proofs.Found.{parts_model}
 use Rattle.tla_defs.proofs.Means.{meaning_behaviour, no_meaning}
-use Rattle.tla_defs.proofs.Nones.{no_init, no_next, no_invariants, no_constraints, no_assumptions}
+use Rattle.tla_defs.proofs.Nones.{no_init, no_next, no_invariants, no_constraints, no_assumptions, meaning_refused}
 use Rattle.tla_defs.proofs.Sound.{sound}
 use Rattle.tla_defs.proofs.builder.model.Goals as goal
 
@@ -94,12 +98,56 @@ returns-in_err-names-clause-none c =
     let e = err_from_is_err_and c.from_residual-in_err-names.result c.from_residual-in_err-names.ensures.1 in
     rw (e.1, e.2) (λ h. absurd (h c.in_err-names.ensures.err))
 
+pub returns-in_err-meant-clause-refused : goal.returns-in_err-meant-clause-refused
+returns-in_err-meant-clause-refused c =
+    let us = map unit_view c.args.units.now in
+    let is = c.args.items.now in
+    let counted = sym (length-map c.words-count.result.now (λ (w : Bor (List ℕ)). w.now)) ∙ ap (λ (xs : List (List ℕ)). length xs) c.words-count.ensures ∙ ap (λ (xs : List (List ℕ)). length xs) c.requires.variables in
+    let e = err_from_is_err_and c.from_residual-in_err-meant.result c.from_residual-in_err-meant.ensures.1 in
+    let cs = map statement_view c.args.statements.now in
+    rw (e.1, e.2) (λ h. meaning_refused us cs is (scope_of c.in_ok-scopes.scopes) (length c.words-count.result.now) (behaviour_of c.args.behaviour) c.in_err-meant.field-0.0
+    c.requires.items c.in_ok-scopes.ensures.ok counted (c.in_err-meant.ensures.refused h) (c.in_err-meant.ensures.none h))
+
+pub returns-in_err-assumptions-clause-refused : goal.returns-in_err-assumptions-clause-refused
+returns-in_err-assumptions-clause-refused c =
+    let us = map unit_view c.args.units.now in
+    let cs = map statement_view c.args.statements.now in
+    let at = c.in_ok-scopes.ensures.ok ∙ ap (λ is. global us is) c.requires.items in
+    let e = err_from_is_err_and c.from_residual-in_err-assumptions.result c.from_residual-in_err-assumptions.ensures.1 in
+    rw (e.1, e.2) (λ h. inr (of_assumption (subst (λ ρ. IsOfAssumption ρ (assumptions_of us) c.in_err-assumptions.field-0.0) at (c.in_err-assumptions.ensures.formula h))))
+
+pub returns-in_err-init-clause-refused : goal.returns-in_err-init-clause-refused
+returns-in_err-init-clause-refused c =
+    let us = map unit_view c.args.units.now in
+    let cs = map statement_view c.args.statements.now in
+    let at = c.in_ok-scopes.ensures.ok ∙ ap (λ is. global us is) c.requires.items in
+    let counted = sym (length-map c.words-count.result.now (λ (w : Bor (List ℕ)). w.now)) ∙ ap (λ (xs : List (List ℕ)). length xs) c.words-count.ensures ∙ ap (λ (xs : List (List ℕ)). length xs) c.requires.variables in
+    let means = meaning_behaviour us cs c.args.items.now (scope_of c.in_ok-scopes.scopes) (length c.words-count.result.now) (behaviour_of c.args.behaviour) c.in_ok-meant.meant c.requires.items at counted c.requires.only c.in_ok-meant.ensures.found in
+    let e = err_from_is_err_and c.from_residual-in_err-init.result c.from_residual-in_err-init.ensures.1 in
+    rw (e.1, e.2) (λ h. inr (of_initial means.0 (action_tree c.in_ok-meant.meant) means.2 (subst (λ ρ. IsOfFormula (expand means.0 ρ 0) read.Once c.in_err-init.field-0.0) at (c.in_err-init.ensures.formula means.0 means.1 h))))
+
+pub returns-in_err-next-clause-refused : goal.returns-in_err-next-clause-refused
+returns-in_err-next-clause-refused c =
+    let us = map unit_view c.args.units.now in
+    let cs = map statement_view c.args.statements.now in
+    let at = c.in_ok-scopes.ensures.ok ∙ ap (λ is. global us is) c.requires.items in
+    let counted = sym (length-map c.words-count.result.now (λ (w : Bor (List ℕ)). w.now)) ∙ ap (λ (xs : List (List ℕ)). length xs) c.words-count.ensures ∙ ap (λ (xs : List (List ℕ)). length xs) c.requires.variables in
+    let means = meaning_behaviour us cs c.args.items.now (scope_of c.in_ok-scopes.scopes) (length c.words-count.result.now) (behaviour_of c.args.behaviour) c.in_ok-meant.meant c.requires.items at counted c.requires.only c.in_ok-meant.ensures.found in
+    let e = err_from_is_err_and c.from_residual-in_err-next.result c.from_residual-in_err-next.ensures.1 in
+    rw (e.1, e.2) (λ h. inr (of_action means.0 (action_tree c.in_ok-meant.meant) means.2 (subst (λ ρ. IsOfFormula (expand (action_tree c.in_ok-meant.meant) ρ 0) read.Never c.in_err-next.field-0.0) at (c.in_err-next.ensures.formula h))))
+
 pub returns-in_err-invariants-clause-refused : goal.returns-in_err-invariants-clause-refused
 returns-in_err-invariants-clause-refused c =
+    let us = map unit_view c.args.units.now in
+    let cs = map statement_view c.args.statements.now in
+    let at = c.in_ok-scopes.ensures.ok ∙ ap (λ is. global us is) c.requires.items in
     let e = err_from_is_err_and c.from_residual-in_err-invariants.result c.from_residual-in_err-invariants.ensures.1 in
-    rw (e.1, e.2) (λ h. inr (c.in_err-invariants.ensures.formula h))
+    rw (e.1, e.2) (λ h. inr (of_invariant (subst (λ ρ. IsOfPredicate ρ (invariants_named cs) c.in_err-invariants.field-0.0) at (c.in_err-invariants.ensures.formula h))))
 
 pub returns-in_err-constraints-clause-refused : goal.returns-in_err-constraints-clause-refused
 returns-in_err-constraints-clause-refused c =
+    let us = map unit_view c.args.units.now in
+    let cs = map statement_view c.args.statements.now in
+    let at = c.in_ok-scopes.ensures.ok ∙ ap (λ is. global us is) c.requires.items in
     let e = err_from_is_err_and c.from_residual-in_err-constraints.result c.from_residual-in_err-constraints.ensures.1 in
-    rw (e.1, e.2) (λ h. inr (c.in_err-constraints.ensures.formula h))
+    rw (e.1, e.2) (λ h. inr (of_constraint (subst (λ ρ. IsOfPredicate ρ (constraints_named cs) c.in_err-constraints.field-0.0) at (c.in_err-constraints.ensures.formula h))))

@@ -38,7 +38,7 @@ returns-clause-refused c =
     (λ e h m.
     last_refusal (map unit_view c.args.units.now) c.args.config.now c.in_ok-items.items (behaviour_of c.in-Ok.found) e c.in_ok-variables.ensures.known
     (c.in_ok-items.ensures.ok ∙ ap (λ cs. items_of cs) c.statements-statements.ensures) c.in_ok-valued.ensures.given c.in_ok-valued.ensures.valued c.in-Ok.ensures
-    (rw (c.in_ok-definitions.ensures.ok, c.statements-statements.ensures) at c.in_ok-statements_named.ensures) c.in_ok-straight.ensures.ok (h m))
+    (rw (c.in_ok-definitions.ensures.ok, c.statements-statements.ensures) at c.in_ok-statements_named.ensures) c.in_ok-straight.ensures.ok (rw c.statements-statements.ensures at (h m)))
     c.model.ensures.refused
 
 pub returns-in_err-statements_named-clause-refused : goal.returns-in_err-statements_named-clause-refused

@@ -1,4 +1,6 @@
 use Rattle.tla_core.specs.ExprOf.{expr_of}
+use Rattle.tla_expand.specs.declared.primes.Primes.TheVariants as read
+use Rattle.tla_expand.specs.Expand.{expand}
 use Rattle.tla_expand.specs.Names.{scope_of}
 use Rattle.tla_tree.specs.Tree.{Name}
 use Rattle.tla_defs.proofs.Found.{found_initial, no_initial}
@@ -10,3 +12,6 @@ returns-in-Ok-clause-found c =
 
 pub returns-in-Err-clause-none : goal.returns-in-Err-clause-none
 returns-in-Err-clause-none c = λ h. no_initial (scope_of c.args.scopes.now) (Name c.args.name.now) (c.in-Err.ensures.none (λ m. h (c.refusal.ensures.memory m)))
+
+pub returns-in-Err-clause-formula : goal.returns-in-Err-clause-formula
+returns-in-Err-clause-formula c = λ h. c.refusal.ensures.formula (expand (Name c.args.name.now) (scope_of c.args.scopes.now) 0) read.Once c.in-Err.ensures.gone c.in-Err.ensures.large h

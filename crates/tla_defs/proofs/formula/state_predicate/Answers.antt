@@ -1,23 +1,26 @@
-use Rattle.std.proofs.Common.{sym, ◌∙◌}
+use Rattle.std.proofs.lemmas.Result.{err_from_is_err_and}
 use Rattle.tla_core.specs.ExprOf.{expr_of}
 use Rattle.tla_expand.specs.Names.{scope_of}
-use Rattle.tla_defs.proofs.Found.{found_predicate, no_predicate, high_predicate, not_both}
+use Rattle.tla_defs.specs.Model.{meaning_in}
+use Rattle.tla_defs.proofs.Found.{found_predicate, not_initial, not_action, once_told}
+use Rattle.tla_defs.proofs.Nones.{if_err, if_ok}
 use Rattle.tla_defs.proofs.formula.state_predicate.Goals as goal
 
-pub returns-else-is_primed-clause-found : goal.returns-else-is_primed-clause-found
-returns-else-is_primed-clause-found c =
-    found_predicate (scope_of c.args.scopes.now) c.args.name.now (expr_of c.in-Ok.core) c.in-Ok.ensures.found c.in-Ok.ensures.limits
-    (sym c.is_primed.ensures ∙ c.if-is_primed.false)
+pub returns-in_err-over_next-clause-formula : goal.returns-in_err-over_next-clause-formula
+returns-in_err-over_next-clause-formula c =
+    let e = err_from_is_err_and c.from_residual.result c.from_residual.ensures.1 in
+    rw (e.1, e.2) c.in_err-over_next.ensures.formula
 
-pub returns-then-is_primed-clause-none : goal.returns-then-is_primed-clause-none
-returns-then-is_primed-clause-none c = λ h.
-    high_predicate (scope_of c.args.scopes.now) c.args.name.now (expr_of c.in-Ok.core) c.in-Ok.ensures.found
-    (λ low. not_both _ (sym c.is_primed.ensures ∙ c.if-is_primed.true) low)
+pub returns-in_err-over_next-clause-none : goal.returns-in_err-over_next-clause-none
+returns-in_err-over_next-clause-none c =
+    let e = err_from_is_err_and c.from_residual.result c.from_residual.ensures.1 in
+    rw (e.1, e.2) (λ h. not_initial (scope_of c.args.scopes.now) c.args.name.now (c.in_err-over_next.ensures.none h))
 
-pub returns-in-Err-clause-none : goal.returns-in-Err-clause-none
-returns-in-Err-clause-none c = λ h. no_predicate (scope_of c.args.scopes.now) c.args.name.now (c.in-Err.ensures.none (λ m. h (c.refusal.ensures.memory m)))
+pub returns-clause-found : goal.returns-clause-found
+returns-clause-found c = if_ok c.action.result (λ x a. found_predicate (scope_of c.args.scopes.now) c.args.name.now (expr_of c.in_ok-over_next.over_next) (expr_of x) c.in_ok-over_next.ensures.found a) c.action.ensures.found
 
-pub returns-in-Err-NoExpansion-clause-none : goal.returns-in-Err-NoExpansion-clause-none
-returns-in-Err-NoExpansion-clause-none c = λ h.
-    let m = c.in-Err-NoExpansion in
-    no_predicate (scope_of c.args.scopes.now) c.args.name.now (m.ensures.none (λ p. let is = m.field-0-is in let z : ⊥ = cc in z))
+pub returns-clause-formula : goal.returns-clause-formula
+returns-clause-formula c = if_err c.action.result (λ e told h. once_told (meaning_in (scope_of c.args.scopes.now) c.args.name.now) e (told h)) c.action.ensures.formula
+
+pub returns-clause-none : goal.returns-clause-none
+returns-clause-none c = if_err c.action.result (λ e none h. not_action (scope_of c.args.scopes.now) c.args.name.now (none h)) c.action.ensures.none

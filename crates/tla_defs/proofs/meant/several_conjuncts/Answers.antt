@@ -1,4 +1,6 @@
 use Rattle.tla_core.specs.ExprOf.{expr_of}
+use Rattle.tla_expand.specs.declared.primes.Primes.TheVariants as read
+use Rattle.tla_expand.specs.Expand.{expand}
 use Rattle.tla_expand.specs.Names.{scope_of}
 use Rattle.tla_tree.specs.declared.tree.Bullet.TheVariants as bullet
 use Rattle.tla_tree.specs.Tree.{Junction, trees}
@@ -12,3 +14,6 @@ returns-in-Ok-clause-found c =
 
 pub returns-in-Err-clause-none : goal.returns-in-Err-clause-none
 returns-in-Err-clause-none c = λ h. no_initial (scope_of c.args.scopes.now) (Junction c.args.place bullet.And (trees (seen c.args.trees.now))) (c.in-Err.ensures.none (λ m. h (c.refusal.ensures.memory m)))
+
+pub returns-in-Err-clause-formula : goal.returns-in-Err-clause-formula
+returns-in-Err-clause-formula c = λ h. c.refusal.ensures.formula (expand (Junction c.args.place bullet.And (trees (seen c.args.trees.now))) (scope_of c.args.scopes.now) 0) read.Once c.in-Err.ensures.gone c.in-Err.ensures.large h

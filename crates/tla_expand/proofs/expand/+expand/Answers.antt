@@ -18,13 +18,13 @@ use Rattle.tla_expand.specs.Primes.{one_more, settled_primes, with_primes}
 use Rattle.tla_expand.specs.Expand.{expand, expand_step, binds_of}
 use Rattle.tla_expand.specs.Scopes.{scope_at}
 use Rattle.tla_core.specs.Patterns.{items_in}
-use Rattle.tla_expand.specs.declared.failure.Failure.TheVariants.{TooLarge}
+use Rattle.tla_expand.specs.declared.failure.Failure.TheVariants.{NoExpansion, TooLarge}
 use Rattle.tla_expand.specs.Private.Binders.{names_of, binds_in}
 use Rattle.tla_expand.specs.Bound.{last_or, nested, with_each, opening, openings, under_openings, with_elements, with_items}
 use Rattle.tla_expand.specs.Places.{place_of}
 use Rattle.tla_expand.specs.Private.Gives.{Gives, Fails, part_in, arm_in, field_in, set_in, step_in, value_in, update_in, kept_part, changed_in, both, total, highest, sum_of, larger_of, field_nodes, field_depth, update_nodes, update_depth, parts_of}
 use Rattle.tla_expand.specs.Private.Forms.{form_in}
-use Rattle.tla_expand.proofs.Levels.{look_fails, unchanged_fails}
+use Rattle.tla_expand.proofs.Levels.{look_fails, unchanged_fails, explains_none, tuple_operand_fails, plain_operand_fails, changed_fails, tuple_looked, if_fails}
 use Rattle.tla_expand.proofs.Sizes.{Given, no_room, none_left, first_fails, second_fails, two_give, node_fails, node_gives, same_limits, limits_are, openings_primed, opened_gives, opened_fails, opened_full}
 use Rattle.tla_expand.proofs.Lists.{part_done, part_fails, all_done, total_more, highest_more}
 use Rattle.tla_expand.proofs.Made.{two_larger, three_larger, many_larger, cases_larger, cases_or_larger, fielded_larger, product_larger, except_larger, Triple}
@@ -236,13 +236,69 @@ pub levels::node_behind-returns-in_err-look_at_form-clause-same : goal.levels::n
 levels::node_behind-returns-in_err-look_at_form-clause-same t c =
     let r = err_from_is_err_and c.from_residual.result c.from_residual.ensures.1 in
     let o = form_in c.args.head.form (scope_at c.args.entries.now.items c.args.at.scope) c.args.at.bound in
-    rw (r.1, r.2) (look_fails c.args.outer c.args.at.primes c.in_err-look_at_form.field-0.0 o (c.args.at.room + 1) (c.args.at.left + 1) (sym c.are_fewer.ensures ∙ c.if-not-are_fewer.false) c.in_err-look_at_form.ensures.none)
+    rw (r.1, r.2) (look_fails c.args.outer c.args.at.primes c.in_err-look_at_form.field-0.0 o (c.args.at.room + 1) (c.args.at.left + 1) (sym c.are_fewer.ensures ∙ c.if-not-are_fewer.false) c.in_err-look_at_form.ensures.fails)
 
-pub levels::unchanged_node-returns-in_err-look_at-clause-same : goal.levels::unchanged_node-returns-in_err-look_at-clause-same
-levels::unchanged_node-returns-in_err-look_at-clause-same t c =
+pub levels::look_at_tuple-returns-then-not-are_fewer-clause-fails : goal.levels::look_at_tuple-returns-then-not-are_fewer-clause-fails
+levels::look_at_tuple-returns-then-not-are_fewer-clause-fails t c =
+    let σ = scope_at c.args.entries.now.items c.args.at.scope in
+    if_fails c.look_at_each.result (λ f h. tuple_looked c.args.head.form c.args.items σ c.args.at.bound c.args.at.primes f c.args.at.room c.args.at.left c.requires.tuple h) c.look_at_each.ensures.fails
+
+pub levels::look_at_tuple-returns-in_err-look_at_each-clause-fails : goal.levels::look_at_tuple-returns-in_err-look_at_each-clause-fails
+levels::look_at_tuple-returns-in_err-look_at_each-clause-fails t c =
+    let r = err_from_is_err_and c.from_residual.result c.from_residual.ensures.1 in
+    let σ = scope_at c.args.entries.now.items c.args.at.scope in
+    let f = c.in_err-look_at_each.field-0.0 in
+    rw (r.1, r.2) (look_fails c.args.outer c.args.at.primes f (form_in c.args.head.form σ c.args.at.bound) (c.args.at.room + 1) (c.args.at.left + 1) (sym c.are_fewer.ensures ∙ c.if-not-are_fewer.false)
+    (tuple_looked c.args.head.form c.args.items σ c.args.at.bound c.args.outer f c.args.at.room c.args.at.left c.requires.tuple c.in_err-look_at_each.ensures.fails))
+
+pub levels::look_at_tuple-returns-in-Err-NoExpansion-clause-fails : goal.levels::look_at_tuple-returns-in-Err-NoExpansion-clause-fails
+levels::look_at_tuple-returns-in-Err-NoExpansion-clause-fails t c =
+    let m = c.in-Err-NoExpansion in
+    tuple_looked c.args.head.form c.args.items (scope_at c.args.entries.now.items c.args.at.scope) c.args.at.bound c.args.at.primes (NoExpansion c.primed_at.result) c.args.at.room c.args.at.left c.requires.tuple
+    (rw c.in_ok-look_at_each.ensures.kept at (rw m.field-0-is at m.ensures.fails))
+
+pub levels::look_at_tuple-returns-in-Err-clause-fails : goal.levels::look_at_tuple-returns-in-Err-clause-fails
+levels::look_at_tuple-returns-in-Err-clause-fails t c =
+    tuple_looked c.args.head.form c.args.items (scope_at c.args.entries.now.items c.args.at.scope) c.args.at.bound c.args.at.primes c.in-Err.failure c.args.at.room c.args.at.left c.requires.tuple
+    (rw c.in_ok-look_at_each.ensures.kept at c.in-Err.ensures.fails)
+
+pub levels::look_at_operand-returns-in_err-found-clause-fails : goal.levels::look_at_operand-returns-in_err-found-clause-fails
+levels::look_at_operand-returns-in_err-found-clause-fails t c =
+    let r = err_from_is_err_and c.from_residual.result c.from_residual.ensures.1 in
+    let k = c.args.at.primes in
+    let e = expand (view c.args.tree.now) (scope_at c.args.entries.now.items c.args.at.scope) in
+    let f = c.in_err-found.field-0.0 in
+    rw (r.1, r.2) (λ p. unchanged_fails k f p (e c.args.at.bound) (c.args.at.room + 1) (c.args.at.left + 1) (explains_none f (λ d. with_primes k (e d)) c.args.at.bound c.in_err-found.ensures.err))
+
+pub levels::look_at_operand-returns-in_err-look_at_tuple-in-Some-clause-fails : goal.levels::look_at_operand-returns-in_err-look_at_tuple-in-Some-clause-fails
+levels::look_at_operand-returns-in_err-look_at_tuple-in-Some-clause-fails t c =
+    let r = err_from_is_err_and c.from_residual-in_err-look_at_tuple-in-Some.result c.from_residual-in_err-look_at_tuple-in-Some.ensures.1 in
+    let k = c.args.at.primes in
+    let o = expand (view c.args.tree.now) (scope_at c.args.entries.now.items c.args.at.scope) c.args.at.bound in
+    let f = c.in_err-look_at_tuple-in-Some.field-0.0 in
+    rw (r.1, r.2) (λ p. tuple_operand_fails k f p o (c.args.at.room + 1) (c.args.at.left + 1)
+    (subst (λ x. Fails (c.args.at.room + 1) (c.args.at.left + 1) f x) (sym (c.in_ok-found.ensures.same c.args.at.bound)) c.in_err-look_at_tuple-in-Some.ensures.fails))
+
+pub levels::look_at_operand-returns-in-None-clause-fails : goal.levels::look_at_operand-returns-in-None-clause-fails
+levels::look_at_operand-returns-in-None-clause-fails t c =
+    let old = c.args.entries.now.items in
+    let m : c.len-mark.result ≡ length old = search rules in
+    let q : c.truncate-in-None.new.self.items ≡ old = cut_back old c.find_head.new.entries.items c.truncate-in-None.new.self.items c.len-mark.result c.in_ok-found.ensures.extends m c.truncate-in-None.ensures.items in
+    let k = c.args.at.primes in
+    let o = expand (view c.args.tree.now) (scope_at old c.args.at.scope) c.args.at.bound in
+    let plain = plain_head (with_primes k o) c.in_ok-found.found.form (scope_at c.find_head.new.entries.items c.in_ok-found.found.scope) c.args.at.bound c.in_ok-found.found.primes (c.in_ok-found.ensures.same c.args.at.bound) (sym c.tuple_items.ensures ∙ c.in-None.is) in
+    if_fails c.look_at.result (λ f h p. plain_operand_fails k f p o c.args.at.room c.args.at.left plain h) (rw q at c.look_at.ensures.fails)
+
+pub levels::unchanged_node-returns-in_err-look_at_operand-clause-same : goal.levels::unchanged_node-returns-in_err-look_at_operand-clause-same
+levels::unchanged_node-returns-in_err-look_at_operand-clause-same t c =
+    let r = err_from_is_err_and c.from_residual.result c.from_residual.ensures.1 in
+    rw (r.1, r.2) (c.in_err-look_at_operand.ensures.fails c.args.place)
+
+pub levels::changed_subscript-returns-in_err-look_at-clause-same : goal.levels::changed_subscript-returns-in_err-look_at-clause-same
+levels::changed_subscript-returns-in_err-look_at-clause-same t c =
     let r = err_from_is_err_and c.from_residual.result c.from_residual.ensures.1 in
     let o = expand (view c.args.tree.now) (scope_at c.args.entries.now.items c.args.at.scope) c.args.at.bound in
-    rw (r.1, r.2) (unchanged_fails c.args.at.primes c.in_err-look_at.field-0.0 c.args.place o (c.args.at.room + 1) (c.args.at.left + 1) c.in_err-look_at.ensures.none)
+    rw (r.1, r.2) (changed_fails c.args.at.primes c.in_err-look_at.field-0.0 c.args.place o c.args.at.room c.args.at.left c.in_err-look_at.ensures.fails)
 
 pub levels::kept_subscript-returns-then-at-eq0-clause-same : goal.levels::kept_subscript-returns-then-at-eq0-clause-same
 levels::kept_subscript-returns-then-at-eq0-clause-same t c =

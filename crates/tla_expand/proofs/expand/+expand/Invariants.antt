@@ -16,6 +16,15 @@ decreases-node_of l = 12 * l.at.room + 9
 abbrev pub decreases-levels::look_at_form : goal.decreases-levels::look_at_form
 decreases-levels::look_at_form l = 12 * l.at.room + 10
 
+abbrev pub decreases-levels::look_at_each : goal.decreases-levels::look_at_each
+decreases-levels::look_at_each l = 12 * l.at.room + 2
+
+abbrev pub decreases-levels::look_at_tuple : goal.decreases-levels::look_at_tuple
+decreases-levels::look_at_tuple l = 12 * l.at.room + 3
+
+abbrev pub decreases-levels::look_at_operand : goal.decreases-levels::look_at_operand
+decreases-levels::look_at_operand l = 12 * l.at.room + 4
+
 abbrev pub decreases-levels::node_behind : goal.decreases-levels::node_behind
 decreases-levels::node_behind l = 12 * l.at.room + 11
 
@@ -23,7 +32,7 @@ abbrev pub decreases-levels::look_at : goal.decreases-levels::look_at
 decreases-levels::look_at l = 12 * l.at.room + 1
 
 abbrev pub decreases-levels::unchanged_node : goal.decreases-levels::unchanged_node
-decreases-levels::unchanged_node l = 12 * l.at.room + 4
+decreases-levels::unchanged_node l = 12 * l.at.room + 5
 
 abbrev pub decreases-levels::kept_parts : goal.decreases-levels::kept_parts
 decreases-levels::kept_parts l = 12 * l.at.room + 2
