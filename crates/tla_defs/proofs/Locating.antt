@@ -1,5 +1,5 @@
 -- Each refusal has its place, and its name where it prints one.
-use Rattle.std.proofs.Common.{◌≡◌, refl, sym, ap, inl, inr, List, [], Option, Some, None, true, Result, Ok, Err}
+use Rattle.std.proofs.Common.{◌≡◌, refl, sym, ap, inl, inr, List, [], ◌∷◌, Option, Some, None, true, Result, Ok, Err}
 use Rattle.std.specs.Prelude.{is_some}
 use Rattle.tla_core.specs.Expr.{Expr}
 use Rattle.tla_lex.specs.declared.token.Place.{Place}

@@ -46,6 +46,10 @@ last_refusal us config is b e known at given valued behaves named straight last 
     let none : refused us config ≡ None = rw (known, g, v, behaves, named) refl in
     rw (none, behaves) (inr (s, last))
 
+-- the last steps are those of the same statements
+pub last_same : (us : List UnitTree) (cs ds : List Statement) (b : Result Behaviour Place) (e : DefsError) → cs ≡ ds → IsLast us cs b e → IsLast us ds b e
+last_same us cs ds b e same last = subst (λ xs. IsLast us xs b e) same last
+
 -- the refusal of a meaning
 pub meaning_refused : (us : List UnitTree) (cs : List Statement) (is : List Item) (σ : Scope) (n : ℕ) (b : Behaviour) (e : DefsError) → is ≡ items_of cs → σ ≡ global us is → n ≡ length (variables_of us)
     → MayBeLast (form_refused b) e → NoneMeant us is σ n b → IsLast us cs (Ok b) e

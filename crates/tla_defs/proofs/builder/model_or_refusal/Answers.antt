@@ -1,10 +1,10 @@
-use Rattle.std.proofs.Common.{map, ap, ◌∙◌}
+use Rattle.std.proofs.Common.{map, ap, ◌∙◌, Ok}
 use Rattle.std.proofs.lemmas.Result.{err_from_is_err_and}
 use Rattle.tla_tree.specs.UnitsView.{unit_view}
 use Rattle.tla_config.specs.Statements.{items_of}
 use Rattle.tla_defs.specs.Private.Mentions.{behaviour_of}
 use Rattle.tla_defs.proofs.Behaviours.{behaviour_only}
-use Rattle.tla_defs.proofs.Nones.{no_behaviour, no_items, no_names, no_circle, name_refusal, circle_refusal, last_refusal, if_err}
+use Rattle.tla_defs.proofs.Nones.{no_behaviour, no_items, no_names, no_circle, name_refusal, circle_refusal, last_refusal, last_same, if_err}
 use Rattle.tla_defs.proofs.builder.model_or_refusal.Goals as goal
 
 pub model-requires-clause-only : goal.model-requires-clause-only
@@ -38,7 +38,8 @@ returns-clause-refused c =
     (λ e h m.
     last_refusal (map unit_view c.args.units.now) c.args.config.now c.in_ok-items.items (behaviour_of c.in-Ok.found) e c.in_ok-variables.ensures.known
     (c.in_ok-items.ensures.ok ∙ ap (λ cs. items_of cs) c.statements-statements.ensures) c.in_ok-valued.ensures.given c.in_ok-valued.ensures.valued c.in-Ok.ensures
-    (rw (c.in_ok-definitions.ensures.ok, c.statements-statements.ensures) at c.in_ok-statements_named.ensures) c.in_ok-straight.ensures.ok (rw c.statements-statements.ensures at (h m)))
+    (rw (c.in_ok-definitions.ensures.ok, c.statements-statements.ensures) at c.in_ok-statements_named.ensures) c.in_ok-straight.ensures.ok
+    (last_same (map unit_view c.args.units.now) _ c.args.config.now.statements (Ok (behaviour_of c.in-Ok.found)) e c.statements-statements.ensures (h m)))
     c.model.ensures.refused
 
 pub returns-in_err-statements_named-clause-refused : goal.returns-in_err-statements_named-clause-refused
