@@ -1,12 +1,12 @@
 //! A search by a clock that goes on by a second at each look.
 
-use crate::{Progress, Seen, Took};
 use std::fmt::Display;
 use std::io;
 use std::io::Eprint;
 use std::sync::atomic::{AtomicU64, Ordering};
 use std::test::Fail;
 use std::time::{Clock, Duration, Instant};
+use tla_progress::{Progress, Seen, Took};
 use tla_workers::{Gate, GatePlace, Pass};
 
 /// A clock, and a standard error that counts its lines.
@@ -60,31 +60,30 @@ fn lines(is_told: bool) -> u64 {
 #[test]
 fn tells_when_it_is_due(rt: HostRuntime) {
     // At 2, 7 and 12 seconds.
-    assert_eq!(rt; lines(true), 3);
-    assert_eq!(rt; lines(false), 0);
+    assert!(rt; lines(true) == 3);
+    assert!(rt; lines(false) == 0);
 }
+
+const SEEN: Seen = Seen {
+    levels: 3,
+    states: 2048,
+    left: Some(1024),
+    per_second: 500,
+};
+
+const TOLD: &str =
+    "tlacheck: level 3, at least 2048 states found, 500 a second, at most 1024 left in the level";
 
 #[test]
 fn the_lines(rt: HostRuntime) -> Result<(), Fail> {
-    let seen = Seen {
-        levels: 3,
-        states: 2048,
-        left: Some(1024),
-        per_second: 500,
-    };
-    let text = format!(in rt.alloc(); "{seen}")?;
-    assert_eq!(rt;
-        text.as_str(),
-        "tlacheck: level 3, at least 2048 states found, 500 a second, at most 1024 left in the level"
-    );
+    assert!(rt; format!(in rt.alloc(); "{SEEN}")?.as_str() == TOLD);
     let clock = Seconds {
         looks: AtomicU64::new(0),
         lines: AtomicU64::new(0),
     };
     let began = Instant::now(&clock).ok();
-    assert_eq!(rt; Took::since(&clock, began), None);
+    assert!(rt; Took::since(&clock, began).is_none());
     let took = Took::since(&clock, began).ok_or("none")?;
-    let text = format!(in rt.alloc(); "{took}")?;
-    assert_eq!(rt; text.as_str(), "tlacheck: took 2 seconds");
+    assert!(rt; format!(in rt.alloc(); "{took}")?.as_str() == "tlacheck: took 2 seconds");
     Ok(())
 }
