@@ -15,7 +15,7 @@ pub struct Subject {
 const TRUE: Pieces = &[("TRUE", 1)];
 
 /// Each call by its name. One that is refused has the name of its code.
-const SUBJECTS: [(&str, Call, Pieces); 22] = [
+static SUBJECTS: [(&str, Call, Pieces); 22] = [
     ("insert", Call::Insert, TRUE),
     ("V1", Call::Power, TRUE),
     ("V2", Call::InsertDeep, TRUE),
@@ -56,7 +56,7 @@ const SUBJECTS: [(&str, Call, Pieces); 22] = [
 
 /// The subject of this name.
 pub fn subject_of(name: &str) -> Option<Subject> {
-    for (known, call, formula) in SUBJECTS {
+    for &(known, call, formula) in &SUBJECTS {
         if known == name {
             return Some(Subject { call, formula });
         }

@@ -30,7 +30,7 @@ Levels 3, states 3.
 ";
 
 /// A module, a configuration, the limit on states, the status and the report.
-const CHECKS: [(&str, &str, u64, u8, &str); 7] = [
+static CHECKS: [(&str, &str, u64, u8, &str); 7] = [
     (COUNTER, WITH_INVARIANT, 100, 0, COUNTER_REPORT),
     (
         COUNTER,
@@ -66,7 +66,7 @@ const CHECKS: [(&str, &str, u64, u8, &str); 7] = [
 
 #[test]
 fn answers_and_refusals(rt: HostRuntime) {
-    for (module, config, limit, status, report) in CHECKS {
+    for &(module, config, limit, status, report) in &CHECKS {
         let options = Options::new(1, 1024, limit);
         assert!(rt; options.is_some());
         if let Some(options) = options {

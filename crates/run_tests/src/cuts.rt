@@ -35,16 +35,19 @@ fn assert_cuts(rt: &impl Abort, alloc: Global, checked: &Checked, report: &[u8])
     }
 }
 
+/// A module, a configuration and the report.
+static TEXTS: [(&str, &str, &str); 3] = [
+    (COUNTER, WITH_INVARIANT, COUNTER_REPORT),
+    (JUGS, NOT_FOUR, JUGS_REPORT),
+    (TWO, SMALL, TWO_REPORT),
+];
+
 #[test]
 fn a_report_ends_where_its_writer_does(rt: HostRuntime) {
-    let options = Options::new(1, 1024, 100);
-    assert!(rt; options.is_some());
-    if let Some(options) = options {
-        for (module, configuration, report) in [
-            (COUNTER, WITH_INVARIANT, COUNTER_REPORT),
-            (JUGS, NOT_FOUR, JUGS_REPORT),
-            (TWO, SMALL, TWO_REPORT),
-        ] {
+    for &(module, configuration, report) in &TEXTS {
+        let options = Options::new(1, 1024, 100);
+        assert!(rt; options.is_some());
+        if let Some(options) = options {
             let checked = check(
                 &rt,
                 rt.alloc(),

@@ -29,7 +29,7 @@ impl Read for Source {
 }
 
 /// How many bytes a source gives, how many at a read, whether it fails then, what is answered, and after how many reads.
-const SOURCES: [(usize, usize, bool, Result<usize, ReadFault>, usize); 5] = [
+static SOURCES: [(usize, usize, bool, Result<usize, ReadFault>, usize); 5] = [
     (10, 3, false, Ok(10), 5),
     (200_000, 100_000, false, Ok(200_000), 5),
     (10, 3, true, Err(ReadFault::Failed), 5),
@@ -39,7 +39,7 @@ const SOURCES: [(usize, usize, bool, Result<usize, ReadFault>, usize); 5] = [
 
 #[test]
 fn reads_to_the_end_and_tells_why_it_stopped(rt: HostRuntime) {
-    for (left, most, fails, answer, reads) in SOURCES {
+    for &(left, most, fails, answer, reads) in &SOURCES {
         let mut source = Source {
             left,
             most,

@@ -27,7 +27,7 @@ const PLAIN: Row = Row {
     quiet: false,
 };
 
-const ROWS: [Row; 8] = [
+static ROWS: [Row; 8] = [
     PLAIN,
     Row {
         words: &["tlacheck", "M.tla", "M.cfg"],
@@ -99,7 +99,7 @@ fn names_files_and_numbers(rt: HostRuntime) {
 }
 
 /// An option, and a text that is no number or one outside its limits.
-const BAD_NUMBERS: [(&str, &str); 10] = [
+static BAD_NUMBERS: [(&str, &str); 10] = [
     ("--workers", "0"),
     ("--workers", "65"),
     ("--workers", "x"),
@@ -114,26 +114,27 @@ const BAD_NUMBERS: [(&str, &str); 10] = [
 
 #[test]
 fn tells_bad_numbers(rt: HostRuntime) {
-    for (option, text) in BAD_NUMBERS {
+    for &(option, text) in &BAD_NUMBERS {
         let words = ["tlacheck", "M.tla", "M.cfg", option, text];
         let refused = read_line(rt.alloc(), &words);
         assert!(rt; matches!(refused, Err(LineFault::Number)), "{option} {text}");
     }
 }
 
+static REFUSED: [&[&str]; 8] = [
+    &[],
+    &["tlacheck"],
+    &["tlacheck", "M.tla"],
+    &["tlacheck", "M.tla", "M.cfg", "more"],
+    &["tlacheck", "M.tla", "M.cfg", "--depth", "3"],
+    &["tlacheck", "M.tla", "M.cfg", "--workers"],
+    &["tlacheck", "M.tla", "M.cfg", "--cut", "1", "--cut", "1"],
+    &["tlacheck", "M.tla", "M.cfg", "--quiet=yes"],
+];
+
 #[test]
 fn refuses_words(rt: HostRuntime) {
-    let cases: [&[&str]; 8] = [
-        &[],
-        &["tlacheck"],
-        &["tlacheck", "M.tla"],
-        &["tlacheck", "M.tla", "M.cfg", "more"],
-        &["tlacheck", "M.tla", "M.cfg", "--depth", "3"],
-        &["tlacheck", "M.tla", "M.cfg", "--workers"],
-        &["tlacheck", "M.tla", "M.cfg", "--cut", "1", "--cut", "1"],
-        &["tlacheck", "M.tla", "M.cfg", "--quiet=yes"],
-    ];
-    for words in cases {
+    for words in &REFUSED {
         let refused = read_line(rt.alloc(), words);
         assert!(rt; matches!(refused, Err(LineFault::Refused(_))), "{words:?}");
     }
@@ -145,15 +146,17 @@ fn is_told(alloc: Global, fault: &LineFault, text: &str, is_help: bool) -> Resul
     Ok(told.as_str() == text && fault.is_help() == is_help)
 }
 
+/// Words that name no line, what is told of them, and whether that is help.
+static TOLD: [(&[&str], &str, bool); 4] = [
+    (&["tlacheck", "M.tla"], MISSING, false),
+    (&["bin/tlacheck", "--help"], HELP, true),
+    (&["tlacheck", "M", "-V"], "tlacheck 0.1.0\n", true),
+    (&["tlacheck", "M", "C", "--cut", "0"], BAD_NUMBER, false),
+];
+
 #[test]
 fn tells_faults(rt: HostRuntime) -> Result<(), Fail> {
-    let cases: [(&[&str], &str, bool); 4] = [
-        (&["tlacheck", "M.tla"], MISSING, false),
-        (&["bin/tlacheck", "--help"], HELP, true),
-        (&["tlacheck", "M", "-V"], "tlacheck 0.1.0\n", true),
-        (&["tlacheck", "M", "C", "--cut", "0"], BAD_NUMBER, false),
-    ];
-    for (words, text, is_help) in cases {
+    for &(words, text, is_help) in &TOLD {
         let fault = read_line(rt.alloc(), words).err().ok_or("a line")?;
         assert!(rt; is_told(rt.alloc(), &fault, text, is_help)?, "{text}");
     }
@@ -163,7 +166,7 @@ fn tells_faults(rt: HostRuntime) -> Result<(), Fail> {
 }
 
 /// Numbers of workers, of states in a piece and of states in all, and whether they are within their limits.
-const NUMBERS: [(u64, u64, u64, bool); 4] = [
+static NUMBERS: [(u64, u64, u64, bool); 4] = [
     (1, 1, 1, true),
     (64, 65_536, 16_777_216, true),
     (0, 1, 1, false),
@@ -172,7 +175,7 @@ const NUMBERS: [(u64, u64, u64, bool); 4] = [
 
 #[test]
 fn makes_options(rt: HostRuntime) {
-    for (workers, cut, limit, is_within) in NUMBERS {
+    for &(workers, cut, limit, is_within) in &NUMBERS {
         let options = Options::new(workers, cut, limit);
         assert!(rt; options.is_some() == is_within, "{workers}, {limit}");
         if let Some(made) = options {

@@ -170,7 +170,7 @@ Usage: tlacheck [OPTIONS] <MODULE> [CONFIG]
 For more information, try '--help'.
 ";
 
-const ROWS: [Row; 23] = [
+static ROWS: [Row; 23] = [
     EXPLAINED,
     Row {
         words: &["tlacheck", "M.tla", "M.cfg", "--quiet", "--explain"],

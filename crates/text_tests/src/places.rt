@@ -78,16 +78,18 @@ fn places_of(alloc: Global, definitions: &str) -> Option<String> {
     Some(out)
 }
 
+/// Definitions, and the places of what the last one expands to.
+static ROWS: [(&str, &str); 5] = [
+    ("A == UNCHANGED <<x, y>>", " 4.6 4.6 4.6"),
+    ("A == UNCHANGED <<>>", " 4.6"),
+    ("B == <<x>>\nA == UNCHANGED B", " 5.6 5.6"),
+    ("A == [x' = 1]_<<y>>", " 4.6 4.7 4.15"),
+    ("A == <<x' = 1>>_(y)", " 4.6 4.8 4.17"),
+];
+
 #[test]
 fn places(rt: HostRuntime) {
-    let rows = [
-        ("A == UNCHANGED <<x, y>>", " 4.6 4.6 4.6"),
-        ("A == UNCHANGED <<>>", " 4.6"),
-        ("B == <<x>>\nA == UNCHANGED B", " 5.6 5.6"),
-        ("A == [x' = 1]_<<y>>", " 4.6 4.7 4.15"),
-        ("A == <<x' = 1>>_(y)", " 4.6 4.8 4.17"),
-    ];
-    for (text, wanted) in rows {
+    for &(text, wanted) in &ROWS {
         let told = places_of(rt.alloc(), text);
         assert!(rt; told.is_some_and(|it| it.as_str() == wanted), "{text}");
     }

@@ -9,7 +9,7 @@ const LEFT_OUT: &[u8] = b"---- MODULE M ----
 ENABLED INSTANCE LAMBDA RECURSIVE WITH PROOF BY OBVIOUS OMITTED \\AA \\EE \\cdot -- -+->
 ====";
 
-const LEFT_OUT_KINDS: [Kind; 14] = [
+static LEFT_OUT_KINDS: [Kind; 14] = [
     Kind::Enabled,
     Kind::Instance,
     Kind::Lambda,
@@ -38,7 +38,7 @@ fn reads_what_is_left_out(rt: HostRuntime) -> Result<(), Fail> {
 
 /// A mark that stands so many times behind a module's first words, and the refusal: many open comments, a long line, a name
 /// of 64 mebibytes, and comments of as many.
-const LONG: [(&str, u32, LexCode, u64, u128); 4] = [
+static LONG: [(&str, u32, LexCode, u64, u128); 4] = [
     ("(*", 1_000_000, LexCode::OpenComment, 1, 19),
     (" <<<", 100_000, LexCode::NoClosingLine, 1, 400_019),
     ("x", 67_108_864, LexCode::NoClosingLine, 1, 67_108_883),
@@ -62,7 +62,7 @@ fn repeated(alloc: Global, mark: &[u8], times: u32) -> Result<Vec<u8>, AllocErro
 
 #[test]
 fn reads_long_texts(rt: HostRuntime) -> Result<(), Fail> {
-    for (mark, times, code, line, column) in LONG {
+    for &(mark, times, code, line, column) in &LONG {
         let text = repeated(rt.alloc(), mark.as_bytes(), times)?;
         let refusal = LexError::at(code, Place { line, column });
         let told = tokens(rt.alloc(), &text).err();

@@ -63,7 +63,7 @@ const MERGE: Row = Row {
 
 const THREE: Crew = Crew { workers: 3, cut: 1 };
 
-const ROWS: [Row; 16] = [
+static ROWS: [Row; 16] = [
     MEETING,
     Row {
         name: "two workers look for steps at once",
