@@ -15,21 +15,25 @@ use tla_search::{NoGate, Options, search};
 use tla_value::{SetValue, State, Value};
 
 /// Which call is made.
-#[derive(Clone, Copy, Debug)]
+#[derive(Clone, Copy)]
 pub enum Call {
     Insert,
     InsertDeep,
     Power,
     Configure,
     Build,
+    On(OnModel),
+}
+
+/// A call on the model of a module.
+#[derive(Clone, Copy)]
+pub enum OnModel {
     Evaluate,
     Member,
     Initials,
     Successors,
-    /// By so many workers.
-    Search(u64),
-    /// Of two states at most.
-    SearchOfTwo,
+    /// By so many workers, of so many states at most.
+    Search(u64, u64),
 }
 
 /// What a call answers.
@@ -95,31 +99,54 @@ fn built(alloc: Global, formula: Pieces) -> Made {
     unlent(alloc, model(alloc, formula).map(|_| Answer::Model))
 }
 
-/// The value of the formula where b is 7.
-fn evaluated(alloc: Global, model: &Model) -> Result<Made, Refusal> {
-    let nothing = Partial::unset(alloc, 0)?;
+/// No next value, and twice the values of the bound names, of which b is 7.
+#[derive(Drop)]
+struct Given {
+    nothing: Partial,
+    lent: Vec<Value>,
+    left: Vec<Value>,
+}
+
+fn given(alloc: Global) -> Result<Given, Refusal> {
     let lent = numbers(alloc, &[7])?;
-    let mut left = numbers(alloc, &[7])?;
-    let answer = eval(alloc, formula(model), &mut left, None, &nothing);
-    Ok(Made {
+    let left = numbers(alloc, &[7])?;
+    let nothing = Partial::unset(alloc, 0)?;
+    Ok(Given {
+        nothing,
         lent,
         left,
-        answer: answer.map(Answer::Value).map_err(Refusal::from),
     })
+}
+
+/// A call that was lent these.
+fn lent(given: Given, answer: Result<Answer, Refusal>) -> Made {
+    Made {
+        lent: given.lent,
+        left: given.left,
+        answer,
+    }
+}
+
+/// The value of the formula where b is 7.
+fn evaluated(alloc: Global, model: &Model) -> Result<Made, Refusal> {
+    let mut given = given(alloc)?;
+    let answer = eval(alloc, formula(model), &mut given.left, None, &given.nothing);
+    Ok(lent(given, answer.map(Answer::Value).map_err(Refusal::from)))
 }
 
 /// Whether 8 is a member of the formula where b is 7.
 fn tested(alloc: Global, model: &Model) -> Result<Made, Refusal> {
-    let nothing = Partial::unset(alloc, 0)?;
-    let lent = numbers(alloc, &[7])?;
-    let mut left = numbers(alloc, &[7])?;
+    let mut given = given(alloc)?;
     let eight = Value::Int(8);
-    let answer = member(alloc, &eight, formula(model), &mut left, None, &nothing);
-    Ok(Made {
-        lent,
-        left,
-        answer: answer.map(Answer::Truth).map_err(Refusal::from),
-    })
+    let answer = member(
+        alloc,
+        &eight,
+        formula(model),
+        &mut given.left,
+        None,
+        &given.nothing,
+    );
+    Ok(lent(given, answer.map(Answer::Truth).map_err(Refusal::from)))
 }
 
 /// The initial states.
@@ -161,6 +188,22 @@ fn searched<R: Threads + Wait + Sync>(
     unlent(alloc, answer.map(Answer::Found))
 }
 
+/// Makes a call on a model.
+fn make_on<R: AllocGlobal + Threads + Wait + Sync>(
+    rt: &R,
+    model: &Model,
+    call: OnModel,
+) -> Result<Made, Refusal> {
+    let alloc = rt.alloc();
+    match call {
+        OnModel::Evaluate => evaluated(alloc, model),
+        OnModel::Member => tested(alloc, model),
+        OnModel::Initials => Ok(begun(alloc, model)),
+        OnModel::Successors => followed(alloc, model),
+        OnModel::Search(workers, limit) => Ok(searched(rt, alloc, model, workers, limit)),
+    }
+}
+
 /// Makes a call. An error is one of its inputs.
 pub fn make<R: AllocGlobal + Threads + Wait + Sync>(
     rt: &R,
@@ -173,17 +216,6 @@ pub fn make<R: AllocGlobal + Threads + Wait + Sync>(
         Call::Power => power(alloc),
         Call::Configure => Ok(configured(alloc)),
         Call::Build => Ok(built(alloc, subject.formula)),
-        Call::Evaluate => evaluated(alloc, &model(alloc, subject.formula)?),
-        Call::Member => tested(alloc, &model(alloc, subject.formula)?),
-        Call::Initials => Ok(begun(alloc, &model(alloc, subject.formula)?)),
-        Call::Successors => followed(alloc, &model(alloc, subject.formula)?),
-        Call::Search(workers) => Ok(searched(
-            rt,
-            alloc,
-            &model(alloc, subject.formula)?,
-            workers,
-            100,
-        )),
-        Call::SearchOfTwo => Ok(searched(rt, alloc, &model(alloc, subject.formula)?, 2, 2)),
+        Call::On(call) => make_on(rt, &model(alloc, subject.formula)?, call),
     }
 }

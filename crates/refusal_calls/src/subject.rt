@@ -1,6 +1,6 @@
 //! The calls by their names, and what each is made on.
 
-use crate::call::Call;
+use crate::call::{Call, OnModel};
 
 /// Pieces of a text, each with how often it stands there.
 pub type Pieces = &'static [(&'static str, u64)];
@@ -19,21 +19,21 @@ static SUBJECTS: [(&str, Call, Pieces); 22] = [
     ("insert", Call::Insert, TRUE),
     ("V1", Call::Power, TRUE),
     ("V2", Call::InsertDeep, TRUE),
-    ("eval", Call::Evaluate, &[("{b + i : i \\in 1..3}", 1)]),
+    ("eval", Call::On(OnModel::Evaluate), &[("{b + i : i \\in 1..3}", 1)]),
     (
         "member",
-        Call::Member,
+        Call::On(OnModel::Member),
         &[("{b} \\cup {i + 1 : i \\in 1..7}", 1)],
     ),
-    ("E2", Call::Evaluate, &[("{b, b + 9223372036854775807}", 1)]),
-    ("E3", Call::Evaluate, &[("<<b, 1 \\div 0>>", 1)]),
-    ("E10", Call::Evaluate, &[("SUBSET (1..20)", 1)]),
-    ("E11", Call::Evaluate, &[("{", 65), ("b", 1), ("}", 65)]),
-    ("initials", Call::Initials, TRUE),
-    ("successors", Call::Successors, TRUE),
-    ("search", Call::Search(1), TRUE),
-    ("search_by_two", Call::Search(2), TRUE),
-    ("limit", Call::SearchOfTwo, TRUE),
+    ("E2", Call::On(OnModel::Evaluate), &[("{b, b + 9223372036854775807}", 1)]),
+    ("E3", Call::On(OnModel::Evaluate), &[("<<b, 1 \\div 0>>", 1)]),
+    ("E10", Call::On(OnModel::Evaluate), &[("SUBSET (1..20)", 1)]),
+    ("E11", Call::On(OnModel::Evaluate), &[("{", 65), ("b", 1), ("}", 65)]),
+    ("initials", Call::On(OnModel::Initials), TRUE),
+    ("successors", Call::On(OnModel::Successors), TRUE),
+    ("search", Call::On(OnModel::Search(1, 100)), TRUE),
+    ("search_by_two", Call::On(OnModel::Search(2, 100)), TRUE),
+    ("limit", Call::On(OnModel::Search(2, 2)), TRUE),
     ("build", Call::Build, TRUE),
     ("L2", Call::Build, &[("b ? b", 1)]),
     ("L5", Call::Build, &[("9223372036854775808", 1)]),
