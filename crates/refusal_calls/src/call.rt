@@ -1,17 +1,20 @@
 //! The calls.
 ghost use Rattle.std.specs.Prelude.{◌≡◌, length, IfOk};
 
-use crate::inputs::{deepest, formula, model, numbers};
+use crate::hashing::Zero;
+use crate::inputs::{deepest, formula, model, model_of_action, numbers};
 use crate::refusal::Refusal;
 use crate::subject::{Pieces, Subject};
 use std::alloc::{AllocError, Global};
+use std::hash::BuildHasherDefault;
 use std::sync::Wait;
 use std::thread::Threads;
+use tla_core::{Core, Place};
 use tla_defs::parse_config;
 use tla_enum::{initials, successors};
 use tla_eval::{Partial, eval, member};
 use tla_model::Model;
-use tla_search::{NoGate, Options, search};
+use tla_search::{NoGate, Options, search, search_by};
 use tla_value::{SetValue, State, Value};
 
 /// Which call is made.
@@ -22,6 +25,8 @@ pub enum Call {
     Power,
     Configure,
     Build,
+    /// Of the places of an action.
+    Places,
     On(OnModel),
 }
 
@@ -34,6 +39,8 @@ pub enum OnModel {
     Successors,
     /// By so many workers, of so many states at most.
     Search(u64, u64),
+    /// By three workers, of states that all have the hash 0.
+    SearchOfOneHash,
 }
 
 /// What a call answers.
@@ -42,6 +49,7 @@ pub enum Answer {
     Truth(bool),
     Value(Value),
     States(Vec<State>),
+    Places(Vec<Place>),
     Configuration,
     Model,
     Found(tla_search::Answer),
@@ -97,6 +105,26 @@ fn configured(alloc: Global) -> Made {
 /// The model of a module that assumes this formula.
 fn built(alloc: Global, formula: Pieces) -> Made {
     unlent(alloc, model(alloc, formula).map(|_| Answer::Model))
+}
+
+/// The place of a node, and those of its parts where it is a list of truths. No fault can stand there, so no report tells
+/// them.
+fn places_of(alloc: Global, core: &Core) -> Result<Vec<Place>, AllocError> {
+    let mut places = Vec::new(alloc);
+    places.push(core.place())?;
+    if let Core::Conjunction(_, parts) | Core::Disjunction(_, parts) = core {
+        for part in parts.as_slice() {
+            places.push(part.place())?;
+        }
+    }
+    Ok(places)
+}
+
+/// The places of the action A of these definitions.
+fn placed(alloc: Global, definitions: Pieces) -> Result<Made, Refusal> {
+    let model = model_of_action(alloc, definitions)?;
+    let places = places_of(alloc, model.next());
+    Ok(unlent(alloc, places.map(Answer::Places)))
 }
 
 /// No next value, and twice the values of the bound names, of which b is 7.
@@ -188,6 +216,16 @@ fn searched<R: Threads + Wait + Sync>(
     unlent(alloc, answer.map(Answer::Found))
 }
 
+/// The answer of a search of states that have one hash, in pieces of one state.
+fn searched_by_one_hash<R: Threads + Wait + Sync>(rt: &R, alloc: Global, model: &Model) -> Made {
+    let Some(options) = Options::new(3, 1, 100) else {
+        return unlent(alloc, Ok::<Answer, Refusal>(Answer::Nothing));
+    };
+    let answer =
+        search_by::<BuildHasherDefault<Zero>, NoGate, R>(rt, alloc, model, &options, &NoGate);
+    unlent(alloc, answer.map(Answer::Found))
+}
+
 /// Makes a call on a model.
 fn make_on<R: AllocGlobal + Threads + Wait + Sync>(
     rt: &R,
@@ -201,6 +239,7 @@ fn make_on<R: AllocGlobal + Threads + Wait + Sync>(
         OnModel::Initials => Ok(begun(alloc, model)),
         OnModel::Successors => followed(alloc, model),
         OnModel::Search(workers, limit) => Ok(searched(rt, alloc, model, workers, limit)),
+        OnModel::SearchOfOneHash => Ok(searched_by_one_hash(rt, alloc, model)),
     }
 }
 
@@ -216,6 +255,7 @@ pub fn make<R: AllocGlobal + Threads + Wait + Sync>(
         Call::Power => power(alloc),
         Call::Configure => Ok(configured(alloc)),
         Call::Build => Ok(built(alloc, subject.formula)),
+        Call::Places => placed(alloc, subject.formula),
         Call::On(call) => make_on(rt, &model(alloc, subject.formula)?, call),
     }
 }

@@ -5,7 +5,7 @@ use crate::call::{Call, OnModel};
 /// Pieces of a text, each with how often it stands there.
 pub type Pieces = &'static [(&'static str, u64)];
 
-/// A call, and the formula that the module assumes of b, which is 7.
+/// A call, and the formula that the module assumes of b, which is 7, or the definitions of its action.
 #[derive(Clone, Copy)]
 pub struct Subject {
     pub call: Call,
@@ -15,7 +15,7 @@ pub struct Subject {
 const TRUE: Pieces = &[("TRUE", 1)];
 
 /// Each call by its name. One that is refused has the name of its code.
-static SUBJECTS: [(&str, Call, Pieces); 22] = [
+static SUBJECTS: [(&str, Call, Pieces); 28] = [
     ("insert", Call::Insert, TRUE),
     ("V1", Call::Power, TRUE),
     ("V2", Call::InsertDeep, TRUE),
@@ -34,6 +34,28 @@ static SUBJECTS: [(&str, Call, Pieces); 22] = [
     ("search", Call::On(OnModel::Search(1, 100)), TRUE),
     ("search_by_two", Call::On(OnModel::Search(2, 100)), TRUE),
     ("limit", Call::On(OnModel::Search(2, 2)), TRUE),
+    ("one_hash", Call::On(OnModel::SearchOfOneHash), TRUE),
+    (
+        "places_of_unchanged",
+        Call::Places,
+        &[("A == UNCHANGED <<x, y>>", 1)],
+    ),
+    (
+        "places_of_nothing_unchanged",
+        Call::Places,
+        &[("A == UNCHANGED <<>>", 1)],
+    ),
+    (
+        "places_of_a_name_unchanged",
+        Call::Places,
+        &[("B == <<x>>\nA == UNCHANGED B", 1)],
+    ),
+    ("places_of_a_box", Call::Places, &[("A == [x' = 1]_<<y>>", 1)]),
+    (
+        "places_of_an_angle",
+        Call::Places,
+        &[("A == <<x' = 1>>_(y)", 1)],
+    ),
     ("build", Call::Build, TRUE),
     ("L2", Call::Build, &[("b ? b", 1)]),
     ("L5", Call::Build, &[("9223372036854775808", 1)]),

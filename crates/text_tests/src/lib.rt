@@ -6,8 +6,6 @@
 #[cfg(test)]
 mod hints;
 #[cfg(test)]
-mod places;
-#[cfg(test)]
 mod tokens;
 #[cfg(test)]
 mod trees;

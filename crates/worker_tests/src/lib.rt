@@ -16,6 +16,4 @@ mod graphs;
 #[cfg(test)]
 mod held;
 #[cfg(test)]
-mod models;
-#[cfg(test)]
 mod texts;
