@@ -135,7 +135,7 @@ struct Given {
     left: Vec<Value>,
 }
 
-fn given(alloc: Global) -> Result<Given, Refusal> {
+fn sevens(alloc: Global) -> Result<Given, Refusal> {
     let lent = numbers(alloc, &[7])?;
     let left = numbers(alloc, &[7])?;
     let nothing = Partial::unset(alloc, 0)?;
@@ -157,14 +157,14 @@ fn lent(given: Given, answer: Result<Answer, Refusal>) -> Made {
 
 /// The value of the formula where b is 7.
 fn evaluated(alloc: Global, model: &Model) -> Result<Made, Refusal> {
-    let mut given = given(alloc)?;
+    let mut given = sevens(alloc)?;
     let answer = eval(alloc, formula(model), &mut given.left, None, &given.nothing);
     Ok(lent(given, answer.map(Answer::Value).map_err(Refusal::from)))
 }
 
 /// Whether 8 is a member of the formula where b is 7.
 fn tested(alloc: Global, model: &Model) -> Result<Made, Refusal> {
-    let mut given = given(alloc)?;
+    let mut given = sevens(alloc)?;
     let eight = Value::Int(8);
     let answer = member(
         alloc,
@@ -221,8 +221,9 @@ fn searched_by_one_hash<R: Threads + Wait + Sync>(rt: &R, alloc: Global, model: 
     let Some(options) = Options::new(3, 1, 100) else {
         return unlent(alloc, Ok::<Answer, Refusal>(Answer::Nothing));
     };
-    let answer =
-        search_by::<BuildHasherDefault<Zero>, NoGate, R>(rt, alloc, model, &options, &NoGate);
+    let answer = search_by::<BuildHasherDefault<Zero>, NoGate, R>(
+        rt, alloc, model, &options, &NoGate,
+    );
     unlent(alloc, answer.map(Answer::Found))
 }
 

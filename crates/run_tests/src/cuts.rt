@@ -8,12 +8,7 @@ use std::process::Abort;
 use tla_check::{Checked, NoGate, Options, WriteFault, check, write_report};
 
 /// Whether a report goes out to such a writer as far as there is room, and its length is told.
-fn is_cut(
-    checked: &Checked,
-    report: &[u8],
-    room: usize,
-    mut out: Narrow,
-) -> bool {
+fn is_cut(checked: &Checked, report: &[u8], room: usize, mut out: Narrow) -> bool {
     let result = write_report(checked, &mut out);
     if room < report.len() {
         let written = room as u64;

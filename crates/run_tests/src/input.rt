@@ -52,7 +52,10 @@ fn reads_to_the_end_and_tells_why_it_stopped(rt: HostRuntime) {
             assert!(rt; bytes.iter().all(|b| *b == b'a'), "{left}, {most}");
         }
         assert!(rt; read.map(|bytes| bytes.len()) == answer, "{left}, {most}");
-        assert!(rt; source.reads == reads && source.room == 65_536, "{left}, {most}");
+        assert!(rt;
+            source.reads == reads && source.room == 65_536,
+            "{left}, {most}"
+        );
         assert!(rt; source.left == 0 || answer == Err(ReadFault::Endless));
     }
 }

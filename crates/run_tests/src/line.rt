@@ -117,7 +117,10 @@ fn tells_bad_numbers(rt: HostRuntime) {
     for &(option, text) in &BAD_NUMBERS {
         let words = ["tlacheck", "M.tla", "M.cfg", option, text];
         let refused = read_line(rt.alloc(), &words);
-        assert!(rt; matches!(refused, Err(LineFault::Number)), "{option} {text}");
+        assert!(rt;
+            matches!(refused, Err(LineFault::Number)),
+            "{option} {text}"
+        );
     }
 }
 
@@ -141,7 +144,12 @@ fn refuses_words(rt: HostRuntime) {
 }
 
 /// Whether a fault has this text, and is help where it says so.
-fn is_told(alloc: Global, fault: &LineFault, text: &str, is_help: bool) -> Result<bool, AllocError> {
+fn is_told(
+    alloc: Global,
+    fault: &LineFault,
+    text: &str,
+    is_help: bool,
+) -> Result<bool, AllocError> {
     let told = format!(in alloc; "{fault}")?;
     Ok(told.as_str() == text && fault.is_help() == is_help)
 }

@@ -43,4 +43,3 @@ Example:
 pub const BAD_NUMBER: &str = "tlacheck: bad number
 hint: --workers takes 1 to 64, --cut 1 to 65536, --max-states 1 to 16777216
 ";
-

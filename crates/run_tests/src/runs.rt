@@ -322,7 +322,11 @@ fn runs_as_wanted<R: Threads + Wait + Sync>(
 fn runs_end_as_wanted(rt: HostRuntime) -> Result<(), Fail> {
     for row in &ROWS {
         let words = words_of(rt.alloc(), row.words)?;
-        assert!(rt; runs_as_wanted(&rt, rt.alloc(), &words, row), "{:?}", row.words);
+        assert!(rt;
+            runs_as_wanted(&rt, rt.alloc(), &words, row),
+            "{:?}",
+            row.words
+        );
     }
     Ok(())
 }

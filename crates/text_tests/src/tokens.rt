@@ -42,13 +42,7 @@ static LONG: [(&str, u32, LexCode, u64, u128); 4] = [
     ("(*", 1_000_000, LexCode::OpenComment, 1, 19),
     (" <<<", 100_000, LexCode::NoClosingLine, 1, 400_019),
     ("x", 67_108_864, LexCode::NoClosingLine, 1, 67_108_883),
-    (
-        "\\*  \n  ",
-        8_388_608,
-        LexCode::NoClosingLine,
-        8_388_609,
-        3,
-    ),
+    ("\\*  \n  ", 8_388_608, LexCode::NoClosingLine, 8_388_609, 3),
 ];
 
 fn repeated(alloc: Global, mark: &[u8], times: u32) -> Result<Vec<u8>, AllocError> {

@@ -16,7 +16,10 @@ Next == /\\ x ' = ( x + 1 ) % 3
 fn prefixes(rt: HostRuntime) -> Result<(), Fail> {
     let tokens = tokens(rt.alloc(), TEXT)?;
     for (length, _) in tokens.iter().enumerate() {
-        assert!(rt; parse_module(rt.alloc(), TEXT, &tokens[..length]).is_err(), "{length}");
+        assert!(rt;
+            parse_module(rt.alloc(), TEXT, &tokens[..length]).is_err(),
+            "{length}"
+        );
     }
     assert!(rt; parse_module(rt.alloc(), TEXT, &tokens).is_ok());
     Ok(())

@@ -171,9 +171,11 @@ fn text_length(alloc: Global, value: &Value) -> Option<usize> {
 fn large_sets_agree(alloc: Global) -> Result<bool, ValueError> {
     let range = Value::Set(SetValue::range(alloc, 1, 1_000_000)?.copy(alloc)?);
     let backwards = Value::Set(backwards(alloc)?);
-    Ok(range == backwards
-        && hash_of(&range) == hash_of(&backwards)
-        && text_length(alloc, &range) == Some(7_888_896))
+    Ok(
+        range == backwards
+            && hash_of(&range) == hash_of(&backwards)
+            && text_length(alloc, &range) == Some(7_888_896),
+    )
 }
 
 #[test]

@@ -178,11 +178,17 @@ fn assert_row<R: AllocGlobal + Abort + Threads + Wait + Sync>(rt: &R, row: &Row)
     let told = report_of(rt, row.module, CONFIG, row.crew, &gate);
     assert!(rt; told.as_slice() == row.report.as_bytes(), "{name}");
     assert!(rt; gate.late.load(Ordering::SeqCst) == 0, "{name}");
-    assert!(rt; gate.held_entered.load(Ordering::SeqCst) == row.entered, "{name}");
+    assert!(rt;
+        gate.held_entered.load(Ordering::SeqCst) == row.entered,
+        "{name}"
+    );
     assert!(rt; gate.left.load(Ordering::SeqCst) == row.left, "{name}");
     if let Some((held, others)) = row.dropped {
         assert!(rt; gate.held_dropped.load(Ordering::SeqCst) == held, "{name}");
-        assert!(rt; gate.others_dropped.load(Ordering::SeqCst) == others, "{name}");
+        assert!(rt;
+            gate.others_dropped.load(Ordering::SeqCst) == others,
+            "{name}"
+        );
     }
 }
 
