@@ -19,7 +19,8 @@ def listed(count):
     yield "elements of a set", module(f"CHOOSE y \\in {{{many('{}')}}} : y = 0"), plain
     yield "items of a tuple", module(f"<<{many('0')}>>[1]"), plain
     yield "fields", module(f"[{many('a{} |-> 0')}].a0"), plain
-    yield "names of a binder", module(f"IF \\A {many('a{}')} \\in {{1}} : a0 = 1 THEN 0 ELSE 1"), plain
+    ones = plain + b"CONSTANT c = {1}\n"
+    yield "names of a binder", module(f"IF {{a0 : {many('a{}')} \\in c}} = c THEN 0 ELSE 1", "CONSTANT c\n"), ones
     yield "updates", module(f"[<<0, 0>> EXCEPT {many('![1] = {}')}][2]"), plain
     yield "arms", module("CASE " + many("x = {} + 1 -> 0", " [] ") + " [] OTHER -> 0"), plain
     yield "conjuncts", module("IF " + many("x = 0", " /\\ ") + " THEN 0 ELSE 0"), plain
@@ -51,7 +52,8 @@ def named(count):
         nested = f"LET d{number} == {number} IN {nested}"
     yield "definitions in a chain", module(f"D{count - 1}", chain), plain
     yield "invariants of a definition each", module(before=definitions), plain + f"INVARIANTS {' '.join(f'D{number}' for number in numbers)}\n".encode()
-    yield "names of a binder in its body", module(f"IF \\A {', '.join(names)} \\in {{1}} : <<{', '.join(names[::2])}>> # 1 THEN 0 ELSE 1"), plain
+    body = f"IF {{<<{', '.join(names[::2])}>> : {', '.join(names)} \\in c}} = {{}} THEN 1 ELSE 0"
+    yield "names of a binder in its body", module(body, "CONSTANT c\n"), plain + b"CONSTANT c = {1}\n"
     yield "constants with a value", module(before=constants), plain + f"CONSTANTS {' '.join(straight)}\n".encode()
     yield "constants with a definition", module(before=constants + definitions), plain + f"CONSTANTS {' '.join(items)}\n".encode()
     yield "nested LETs (at most 190)", module(nested), plain

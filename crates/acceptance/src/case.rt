@@ -14,6 +14,8 @@ pub enum Wanted {
     Lines,
     /// Of each module of `texts` with the configuration behind it, in turn, the next part of the report.
     Texts,
+    /// Beside the report, what `told` says.
+    Told,
 }
 
 /// A line of the list.
@@ -33,6 +35,8 @@ impl Wanted {
             Some(Wanted::Lines)
         } else if word == "texts" {
             Some(Wanted::Texts)
+        } else if word == "told" {
+            Some(Wanted::Told)
         } else {
             Some(Wanted::Status(word.parse().ok()?))
         }

@@ -41,6 +41,14 @@ struct Ending {
     report: Vec<u8>,
 }
 
+/// The last line of a report where no level was searched.
+const NO_LEVEL: &[u8] = b"Levels 0, states 0.\n";
+
+/// Whether levels were searched, so that workers had a part in this.
+fn is_searched(ending: &Ending) -> bool {
+    ending.status != REFUSED_TEXT && !ending.report.as_slice().ends_with(NO_LEVEL)
+}
+
 /// What a check of these texts ends with, or none where the report isn't written.
 fn ending_of<R: Threads + Wait + Sync>(
     rt: &R,
@@ -116,7 +124,7 @@ fn reported<R: Threads + Wait + Sync>(
         return Ok(None);
     };
     let limit = line.options.limit();
-    if ends_alike_again(rt, alloc, (module, config), again, limit, &first) {
+    if !is_searched(&first) || ends_alike_again(rt, alloc, (module, config), again, limit, &first) {
         Ok(Some((first.status, first.report)))
     } else {
         Ok(None)

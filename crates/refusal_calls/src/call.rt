@@ -1,35 +1,46 @@
 //! The calls.
 ghost use Rattle.std.specs.Prelude.{◌≡◌, length, IfOk};
 
-use crate::inputs::{deepest, formula, model, numbers};
+use crate::hashing::Zero;
+use crate::inputs::{deepest, formula, model, model_of_action, numbers};
 use crate::refusal::Refusal;
 use crate::subject::{Pieces, Subject};
 use std::alloc::{AllocError, Global};
+use std::hash::BuildHasherDefault;
 use std::sync::Wait;
 use std::thread::Threads;
+use tla_core::{Core, Place};
 use tla_defs::parse_config;
 use tla_enum::{initials, successors};
 use tla_eval::{Partial, eval, member};
 use tla_model::Model;
-use tla_search::{NoGate, Options, search};
+use tla_search::{NoGate, Options, search, search_by};
 use tla_value::{SetValue, State, Value};
 
 /// Which call is made.
-#[derive(Clone, Copy, Debug)]
+#[derive(Clone, Copy)]
 pub enum Call {
     Insert,
     InsertDeep,
     Power,
     Configure,
     Build,
+    /// Of the places of an action.
+    Places,
+    On(OnModel),
+}
+
+/// A call on the model of a module.
+#[derive(Clone, Copy)]
+pub enum OnModel {
     Evaluate,
     Member,
     Initials,
     Successors,
-    /// By so many workers.
-    Search(u64),
-    /// Of two states at most.
-    SearchOfTwo,
+    /// By so many workers, of so many states at most.
+    Search(u64, u64),
+    /// By three workers, of states that all have the hash 0.
+    SearchOfOneHash,
 }
 
 /// What a call answers.
@@ -38,6 +49,7 @@ pub enum Answer {
     Truth(bool),
     Value(Value),
     States(Vec<State>),
+    Places(Vec<Place>),
     Configuration,
     Model,
     Found(tla_search::Answer),
@@ -95,31 +107,74 @@ fn built(alloc: Global, formula: Pieces) -> Made {
     unlent(alloc, model(alloc, formula).map(|_| Answer::Model))
 }
 
-/// The value of the formula where b is 7.
-fn evaluated(alloc: Global, model: &Model) -> Result<Made, Refusal> {
-    let nothing = Partial::unset(alloc, 0)?;
+/// The place of a node, and those of its parts where it is a list of truths. No fault can stand there, so no report tells
+/// them.
+fn places_of(alloc: Global, core: &Core) -> Result<Vec<Place>, AllocError> {
+    let mut places = Vec::new(alloc);
+    places.push(core.place())?;
+    if let Core::Conjunction(_, parts) | Core::Disjunction(_, parts) = core {
+        for part in parts.as_slice() {
+            places.push(part.place())?;
+        }
+    }
+    Ok(places)
+}
+
+/// The places of the action A of these definitions.
+fn placed(alloc: Global, definitions: Pieces) -> Result<Made, Refusal> {
+    let model = model_of_action(alloc, definitions)?;
+    let places = places_of(alloc, model.next());
+    Ok(unlent(alloc, places.map(Answer::Places)))
+}
+
+/// No next value, and twice the values of the bound names, of which b is 7.
+#[derive(Drop)]
+struct Given {
+    nothing: Partial,
+    lent: Vec<Value>,
+    left: Vec<Value>,
+}
+
+fn sevens(alloc: Global) -> Result<Given, Refusal> {
     let lent = numbers(alloc, &[7])?;
-    let mut left = numbers(alloc, &[7])?;
-    let answer = eval(alloc, formula(model), &mut left, None, &nothing);
-    Ok(Made {
+    let left = numbers(alloc, &[7])?;
+    let nothing = Partial::unset(alloc, 0)?;
+    Ok(Given {
+        nothing,
         lent,
         left,
-        answer: answer.map(Answer::Value).map_err(Refusal::from),
     })
+}
+
+/// A call that was lent these.
+fn lent(given: Given, answer: Result<Answer, Refusal>) -> Made {
+    Made {
+        lent: given.lent,
+        left: given.left,
+        answer,
+    }
+}
+
+/// The value of the formula where b is 7.
+fn evaluated(alloc: Global, model: &Model) -> Result<Made, Refusal> {
+    let mut given = sevens(alloc)?;
+    let answer = eval(alloc, formula(model), &mut given.left, None, &given.nothing);
+    Ok(lent(given, answer.map(Answer::Value).map_err(Refusal::from)))
 }
 
 /// Whether 8 is a member of the formula where b is 7.
 fn tested(alloc: Global, model: &Model) -> Result<Made, Refusal> {
-    let nothing = Partial::unset(alloc, 0)?;
-    let lent = numbers(alloc, &[7])?;
-    let mut left = numbers(alloc, &[7])?;
+    let mut given = sevens(alloc)?;
     let eight = Value::Int(8);
-    let answer = member(alloc, &eight, formula(model), &mut left, None, &nothing);
-    Ok(Made {
-        lent,
-        left,
-        answer: answer.map(Answer::Truth).map_err(Refusal::from),
-    })
+    let answer = member(
+        alloc,
+        &eight,
+        formula(model),
+        &mut given.left,
+        None,
+        &given.nothing,
+    );
+    Ok(lent(given, answer.map(Answer::Truth).map_err(Refusal::from)))
 }
 
 /// The initial states.
@@ -161,6 +216,34 @@ fn searched<R: Threads + Wait + Sync>(
     unlent(alloc, answer.map(Answer::Found))
 }
 
+/// The answer of a search of states that have one hash, in pieces of one state.
+fn searched_by_one_hash<R: Threads + Wait + Sync>(rt: &R, alloc: Global, model: &Model) -> Made {
+    let Some(options) = Options::new(3, 1, 100) else {
+        return unlent(alloc, Ok::<Answer, Refusal>(Answer::Nothing));
+    };
+    let answer = search_by::<BuildHasherDefault<Zero>, NoGate, R>(
+        rt, alloc, model, &options, &NoGate,
+    );
+    unlent(alloc, answer.map(Answer::Found))
+}
+
+/// Makes a call on a model.
+fn make_on<R: AllocGlobal + Threads + Wait + Sync>(
+    rt: &R,
+    model: &Model,
+    call: OnModel,
+) -> Result<Made, Refusal> {
+    let alloc = rt.alloc();
+    match call {
+        OnModel::Evaluate => evaluated(alloc, model),
+        OnModel::Member => tested(alloc, model),
+        OnModel::Initials => Ok(begun(alloc, model)),
+        OnModel::Successors => followed(alloc, model),
+        OnModel::Search(workers, limit) => Ok(searched(rt, alloc, model, workers, limit)),
+        OnModel::SearchOfOneHash => Ok(searched_by_one_hash(rt, alloc, model)),
+    }
+}
+
 /// Makes a call. An error is one of its inputs.
 pub fn make<R: AllocGlobal + Threads + Wait + Sync>(
     rt: &R,
@@ -173,17 +256,7 @@ pub fn make<R: AllocGlobal + Threads + Wait + Sync>(
         Call::Power => power(alloc),
         Call::Configure => Ok(configured(alloc)),
         Call::Build => Ok(built(alloc, subject.formula)),
-        Call::Evaluate => evaluated(alloc, &model(alloc, subject.formula)?),
-        Call::Member => tested(alloc, &model(alloc, subject.formula)?),
-        Call::Initials => Ok(begun(alloc, &model(alloc, subject.formula)?)),
-        Call::Successors => followed(alloc, &model(alloc, subject.formula)?),
-        Call::Search(workers) => Ok(searched(
-            rt,
-            alloc,
-            &model(alloc, subject.formula)?,
-            workers,
-            100,
-        )),
-        Call::SearchOfTwo => Ok(searched(rt, alloc, &model(alloc, subject.formula)?, 2, 2)),
+        Call::Places => placed(alloc, subject.formula),
+        Call::On(call) => make_on(rt, &model(alloc, subject.formula)?, call),
     }
 }

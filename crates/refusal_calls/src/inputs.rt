@@ -51,13 +51,27 @@ fn module(alloc: Global, formula: Pieces) -> Result<String, AllocError> {
     Ok(text)
 }
 
+/// The model of a module and a configuration.
+fn model_of(alloc: Global, text: &str, configuration: &[u8]) -> Result<Model, Refusal> {
+    let tokens = tokens(alloc, text.as_bytes())?;
+    let tree = parse_module(alloc, text.as_bytes(), &tokens)?;
+    let configuration = parse_config(alloc, configuration)?;
+    Ok(build(alloc, &tree, &configuration)?)
+}
+
 /// The model of a module that assumes this formula.
 pub fn model(alloc: Global, formula: Pieces) -> Result<Model, Refusal> {
     let text = module(alloc, formula)?;
-    let tokens = tokens(alloc, text.as_bytes())?;
-    let tree = parse_module(alloc, text.as_bytes(), &tokens)?;
-    let configuration = parse_config(alloc, b"INIT Init\nNEXT Next\n")?;
-    Ok(build(alloc, &tree, &configuration)?)
+    model_of(alloc, text.as_str(), b"INIT Init\nNEXT Next\n")
+}
+
+/// The model of a module whose next-state action is A of these definitions. They begin in line 4.
+pub fn model_of_action(alloc: Global, definitions: Pieces) -> Result<Model, Refusal> {
+    let mut text = String::new(alloc);
+    text.push_str("---- MODULE M ----\nEXTENDS Integers\nVARIABLES x, y\n")?;
+    push_pieces(&mut text, definitions)?;
+    text.push_str("\nInit == x = 0 /\\ y = 0\n====\n")?;
+    model_of(alloc, text.as_str(), b"INIT Init\nNEXT A\n")
 }
 
 /// The formula that a model assumes of each number of a set; of another model its initial predicate.

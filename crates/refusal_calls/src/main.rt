@@ -5,6 +5,7 @@
 #![tactic(auto)]
 
 mod call;
+mod hashing;
 mod inputs;
 mod refusal;
 mod subject;

@@ -1,11 +1,11 @@
 //! The calls by their names, and what each is made on.
 
-use crate::call::Call;
+use crate::call::{Call, OnModel};
 
 /// Pieces of a text, each with how often it stands there.
 pub type Pieces = &'static [(&'static str, u64)];
 
-/// A call, and the formula that the module assumes of b, which is 7.
+/// A call, and the formula that the module assumes of b, which is 7, or the definitions of its action.
 #[derive(Clone, Copy)]
 pub struct Subject {
     pub call: Call,
@@ -15,25 +15,67 @@ pub struct Subject {
 const TRUE: Pieces = &[("TRUE", 1)];
 
 /// Each call by its name. One that is refused has the name of its code.
-const SUBJECTS: [(&str, Call, Pieces); 22] = [
+static SUBJECTS: [(&str, Call, Pieces); 28] = [
     ("insert", Call::Insert, TRUE),
     ("V1", Call::Power, TRUE),
     ("V2", Call::InsertDeep, TRUE),
-    ("eval", Call::Evaluate, &[("{b + i : i \\in 1..3}", 1)]),
+    (
+        "eval",
+        Call::On(OnModel::Evaluate),
+        &[("{b + i : i \\in 1..3}", 1)],
+    ),
     (
         "member",
-        Call::Member,
+        Call::On(OnModel::Member),
         &[("{b} \\cup {i + 1 : i \\in 1..7}", 1)],
     ),
-    ("E2", Call::Evaluate, &[("{b, b + 9223372036854775807}", 1)]),
-    ("E3", Call::Evaluate, &[("<<b, 1 \\div 0>>", 1)]),
-    ("E10", Call::Evaluate, &[("SUBSET (1..20)", 1)]),
-    ("E11", Call::Evaluate, &[("{", 65), ("b", 1), ("}", 65)]),
-    ("initials", Call::Initials, TRUE),
-    ("successors", Call::Successors, TRUE),
-    ("search", Call::Search(1), TRUE),
-    ("search_by_two", Call::Search(2), TRUE),
-    ("limit", Call::SearchOfTwo, TRUE),
+    (
+        "E2",
+        Call::On(OnModel::Evaluate),
+        &[("{b, b + 9223372036854775807}", 1)],
+    ),
+    (
+        "E3",
+        Call::On(OnModel::Evaluate),
+        &[("<<b, 1 \\div 0>>", 1)],
+    ),
+    ("E10", Call::On(OnModel::Evaluate), &[("SUBSET (1..20)", 1)]),
+    (
+        "E11",
+        Call::On(OnModel::Evaluate),
+        &[("{", 65), ("b", 1), ("}", 65)],
+    ),
+    ("initials", Call::On(OnModel::Initials), TRUE),
+    ("successors", Call::On(OnModel::Successors), TRUE),
+    ("search", Call::On(OnModel::Search(1, 100)), TRUE),
+    ("search_by_two", Call::On(OnModel::Search(2, 100)), TRUE),
+    ("limit", Call::On(OnModel::Search(2, 2)), TRUE),
+    ("one_hash", Call::On(OnModel::SearchOfOneHash), TRUE),
+    (
+        "places_of_unchanged",
+        Call::Places,
+        &[("A == UNCHANGED <<x, y>>", 1)],
+    ),
+    (
+        "places_of_nothing_unchanged",
+        Call::Places,
+        &[("A == UNCHANGED <<>>", 1)],
+    ),
+    (
+        "places_of_a_name_unchanged",
+        Call::Places,
+        &[("B == <<x>>\nA == UNCHANGED B", 1)],
+    ),
+    (
+        "places_of_a_box",
+        Call::Places,
+        &[("A == [x' = 1]_<<y>>", 1)],
+    ),
+    (
+        "places_of_an_angle",
+        Call::Places,
+        &[("A == <<x' = 1>>_(y)", 1)],
+    ),
     ("build", Call::Build, TRUE),
     ("L2", Call::Build, &[("b ? b", 1)]),
     ("L5", Call::Build, &[("9223372036854775808", 1)]),
@@ -56,7 +98,7 @@ const SUBJECTS: [(&str, Call, Pieces); 22] = [
 
 /// The subject of this name.
 pub fn subject_of(name: &str) -> Option<Subject> {
-    for (known, call, formula) in SUBJECTS {
+    for &(known, call, formula) in &SUBJECTS {
         if known == name {
             return Some(Subject { call, formula });
         }

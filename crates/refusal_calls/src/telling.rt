@@ -4,6 +4,7 @@ use crate::call::{Answer, Made};
 use crate::refusal::Refusal;
 use std::io;
 use std::io::{ErrorKind, Write};
+use tla_core::Place;
 use tla_search::Counts;
 use tla_value::{State, Value};
 
@@ -24,6 +25,14 @@ fn put_states<W: Write>(out: &mut W, states: &[State]) -> io::Result<()> {
         out.write_all(b" [")?;
         put_values(out, state.values())?;
         out.write_all(b" ]")?;
+    }
+    Ok(())
+}
+
+/// Places, each as its line and column behind a space.
+fn put_places<W: Write>(out: &mut W, places: &[Place]) -> io::Result<()> {
+    for place in places {
+        write!(out, " {}.{}", place.line, place.column)?;
     }
     Ok(())
 }
@@ -57,6 +66,7 @@ fn put_answer<W: Write>(out: &mut W, answer: &Answer) -> io::Result<()> {
         Answer::Truth(truth) => write!(out, " {truth}"),
         Answer::Value(value) => put_values(out, std::slice::from_ref(value)),
         Answer::States(states) => put_states(out, states),
+        Answer::Places(places) => put_places(out, places),
         Answer::Configuration => out.write_all(b" a configuration"),
         Answer::Model => out.write_all(b" a model"),
         Answer::Nothing => out.write_all(b" nothing"),

@@ -11,7 +11,8 @@ use Rattle.tla_defs.specs.declared.meant.Meant.{Meant}
 use Rattle.tla_defs.specs.declared.meant.Meant.TheVariants as meant
 use Rattle.tla_defs.specs.Global.{global}
 use Rattle.tla_names.specs.Misuses.{variables_of}
-use Rattle.tla_defs.specs.Model.{IsModel, IsBehaviour, IsInitial, specifications_named}
+use Rattle.tla_formulas.specs.Formulas.{IsInitial}
+use Rattle.tla_defs.specs.Model.{IsModel, IsBehaviour, specifications_named}
 use Rattle.tla_defs.specs.Refused.{Behaviour, Named, Specified}
 use Rattle.tla_defs.specs.Private.Specified.{IsOnly, IsMeant, NoneMeant, initial_tree, action_tree}
 use Rattle.tla_defs.proofs.Unique.{same_one}

@@ -15,13 +15,14 @@ use Rattle.tla_expand.specs.Meanings.{Scope}
 use Rattle.tla_model.specs.ModelTree.{ModelTree}
 use Rattle.tla_defs.specs.Private.Formulas.{LacksPredicate, LacksAssumption}
 use Rattle.tla_defs.specs.Global.{global}
-use Rattle.std.specs.Prelude.{◌⊎◌, IfOk, IfErr}
+use Rattle.std.specs.Prelude.{◌⊎◌}
 use Rattle.tla_names.specs.Constants.{unvalued}
 use Rattle.tla_names.specs.Misuses.{misuse, variables_of}
 use Rattle.tla_names.specs.Items.{definitions_of, replaceable_of, nameable_of, replaced_names, items_misused}
 use Rattle.tla_names.specs.Leads.{Lead, leads, IsCircular}
 use Rattle.tla_names.specs.Circles.{AreStraight, IsFirstCircle}
-use Rattle.tla_defs.specs.Model.{IsModel, IsBehaviour, IsInitial, IsAction, AreStatePredicates, AreAssumptions, assumptions_of, invariants_named, constraints_named}
+use Rattle.tla_formulas.specs.Formulas.{IsInitial, IsAction}
+use Rattle.tla_defs.specs.Model.{IsModel, IsBehaviour, AreStatePredicates, AreAssumptions, assumptions_of, invariants_named, constraints_named}
 use Rattle.tla_names.specs.Named.{names_misused}
 use Rattle.tla_defs.specs.Refused.{Behaviour, Named, Specified, refused, behaviour, NoForm, IsLast, IsRefusal, IsTooLarge}
 use Rattle.tla_defs.specs.Private.Specified.{form_refused, MayBeLast, NoneMeant}
@@ -83,14 +84,6 @@ circle_refusal us config is b e known at given valued behaves named circle =
     let c = rw at at circle in
     let none : refused us config ≡ None = rw (known, g, v, behaves, named) refl in
     rw none (inl c)
-
-pub if_ok : {A E : Type 0} {P Q : A → Type 0} (r : Result A E) → ((x : A) → P x → Q x) → IfOk r P → IfOk r Q
-if_ok (Ok x) f h = f x h
-if_ok (Err e) f h = tt
-
-pub if_err : {A E : Type 0} {P Q : E → Type 0} (r : Result A E) → ((e : E) → P e → Q e) → IfErr r P → IfErr r Q
-if_err (Ok x) f h = tt
-if_err (Err e) f h = f e h
 
 pub no_behaviour : (us : List UnitTree) (config : ConfigTree) (p : Place) → behaviour config.statements config.end None None ≡ Err p → (m : ModelTree) → IsModel us config.statements m → ⊥
 no_behaviour us config p q m h =

@@ -24,7 +24,8 @@ use Rattle.tla_names.specs.Items.{replaced_names}
 use Rattle.tla_defs.specs.Given.{fixed, with_items}
 use Rattle.tla_names.specs.Scope.{signature}
 use Rattle.tla_names.specs.Misuses.{variables_of}
-use Rattle.tla_defs.specs.Model.{meaning_in, AreStatePredicates, AreAssumptions, IsModel, assumptions_of, invariants_named, constraints_named}
+use Rattle.tla_formulas.specs.Formulas.{meaning_in}
+use Rattle.tla_defs.specs.Model.{AreStatePredicates, AreAssumptions, IsModel, assumptions_of, invariants_named, constraints_named}
 
 variables_fit : (ws : List Written) (i n : ℕ) (σ : Scope) → i + length ws ≤ n → FitsScope n 0 σ → FitsScope n 0 (variables_in i ws σ)
 variables_fit [] i n σ h s = s

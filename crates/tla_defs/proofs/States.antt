@@ -16,7 +16,7 @@ use Rattle.tla_expand.specs.Primes.{primes, primes_each}
 use Rattle.tla_expand.proofs.PrimesFit.{inv}
 use Rattle.tla_expand.proofs.Sizes.{some_node}
 use Rattle.tla_defs.specs.Private.Seen.{tree_at, seen}
-use Rattle.tla_defs.specs.Model.{IsInitial}
+use Rattle.tla_formulas.specs.Formulas.{IsInitial}
 use Rattle.tla_defs.specs.Specification.{conjunction_of}
 use Rattle.tla_defs.specs.Private.Specified.{LacksState}
 

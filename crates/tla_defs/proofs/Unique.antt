@@ -14,7 +14,8 @@ use Rattle.tla_expand.specs.Primes.{primes}
 use Rattle.tla_model.specs.ModelTree.{ModelTree}
 use Rattle.tla_defs.specs.Global.{global}
 use Rattle.tla_names.specs.Misuses.{variables_of}
-use Rattle.tla_defs.specs.Model.{meaning_in, IsInitial, IsBehaviour, AreStatePredicates, AreAssumptions, IsModel, assumptions_of, initials_named, nexts_named, specifications_named, invariants_named, constraints_named}
+use Rattle.tla_formulas.specs.Formulas.{meaning_in, IsInitial}
+use Rattle.tla_defs.specs.Model.{IsBehaviour, AreStatePredicates, AreAssumptions, IsModel, assumptions_of, initials_named, nexts_named, specifications_named, invariants_named, constraints_named}
 use Rattle.tla_defs.specs.Bodies.{body_of}
 use Rattle.tla_defs.specs.Specification.{IsSpecification, replaced, conjuncts, conjunction_of, initials_of, steps_of}
 

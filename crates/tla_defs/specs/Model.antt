@@ -1,5 +1,5 @@
 -- The model that the units of a module and the statements of a configuration name (book, chapter 14).
-use Rattle.std.specs.Prelude.{◌≡◌, ◌⊎◌, true, is_some, List, [], ◌∷◌, Option, Some, None, length}
+use Rattle.std.specs.Prelude.{◌≡◌, ◌⊎◌, List, [], ◌∷◌, None, length}
 use Rattle.std.specs.List.{flat_map}
 use Rattle.tla_core.specs.Expr.{Expr}
 use Rattle.tla_tree.specs.declared.word.Written.{Written}
@@ -8,12 +8,9 @@ use Rattle.tla_tree.specs.Tree as t
 use Rattle.tla_tree.specs.Units.{UnitTree, Assume}
 use Rattle.tla_config.specs.Names.{Name}
 use Rattle.tla_config.specs.Statements.{Statement, Specification, Init, Next, Invariants, Constraints, items_of, checks_deadlock}
-use Rattle.tla_expand.specs.Primes.{primes}
-use Rattle.tla_expand.specs.declared.primes.Primes.TheVariants.{Once, Twice}
 use Rattle.tla_expand.specs.Meanings.{Scope}
-use Rattle.tla_expand.specs.Expand.{expand}
 use Rattle.tla_model.specs.ModelTree.{ModelTree}
-use Rattle.tla_model.specs.Size.{IsWithinLimits}
+use Rattle.tla_formulas.specs.Formulas.{IsInitial, IsAction, IsStatePredicate, IsAssumption}
 use Rattle.tla_defs.specs.Global.{global}
 use Rattle.tla_names.specs.Constants.{unvalued}
 use Rattle.tla_names.specs.Items.{definitions_of, replaceable_of, nameable_of, replaced_names, items_misused}
@@ -22,35 +19,6 @@ use Rattle.tla_names.specs.Circles.{AreStraight}
 use Rattle.tla_names.specs.Named.{names_misused}
 use Rattle.tla_names.specs.Misuses.{variables_of, misuse}
 use Rattle.tla_defs.specs.Specification.{IsSpecification}
-
--- what a name of the configuration says, where the names of the module mean this
-abbrev pub meaning_in : Scope → Written → Option Expr
-meaning_in σ w = expand (t.Name w) σ 0
-
--- of state level: a prime can stand on it, since no variable in it has one
-abbrev pub IsStateLevel : Expr → Type 0
-IsStateLevel e = is_some (primes Once e) ≡ true
-
--- of constant level: no variable stands in it, so that primes leave it as it is
-abbrev pub IsConstantLevel : Expr → Type 0
-IsConstantLevel e = primes Twice e ≡ Some e
-
--- an initial condition: of state level, and with its variables taken as the variables next
-pub record IsInitial (σ : Scope) (t : Tree) (e : Expr) : Type 0 where
-  pub before : Expr
-  pub meaning : expand t σ 0 ≡ Some before
-  pub primed : primes Once before ≡ Some e
-  pub limits : IsWithinLimits e
-
-pub record IsAction (σ : Scope) (t : Tree) (e : Expr) : Type 0 where
-  pub meaning : expand t σ 0 ≡ Some e
-  pub limits : IsWithinLimits e
-
--- an invariant or a constraint: a formula of state level
-pub record IsStatePredicate (σ : Scope) (w : Written) (e : Expr) : Type 0 where
-  pub meaning : meaning_in σ w ≡ Some e
-  pub level : IsStateLevel e
-  pub limits : IsWithinLimits e
 
 -- each name with its state predicate, in the same order
 abbrev pub AreStatePredicates : Scope → List Written → List (Name × Expr) → Type 0
@@ -66,11 +34,6 @@ assumed _ = []
 -- what is assumed, with a name or without, in the order of the text
 abbrev pub assumptions_of : List UnitTree → List Tree
 assumptions_of us = flat_map assumed us
-
-pub record IsAssumption (σ : Scope) (t : Tree) (e : Expr) : Type 0 where
-  pub expanded : expand t σ 0 ≡ Some e
-  pub level : IsConstantLevel e
-  pub limits : IsWithinLimits e
 
 abbrev pub AreAssumptions : Scope → List Tree → List Expr → Type 0
 AreAssumptions σ [] [] = Unit {0}

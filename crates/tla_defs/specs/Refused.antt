@@ -5,18 +5,14 @@ use Rattle.tla_lex.specs.declared.token.Place.{Place}
 use Rattle.tla_tree.specs.declared.word.Written.{Written}
 use Rattle.tla_tree.specs.Tree.{Tree}
 use Rattle.tla_tree.specs.Units.{UnitTree}
-use Rattle.tla_config.specs.declared.error.DefsCode.{DefsCode}
 use Rattle.tla_config.specs.declared.error.DefsCode.TheVariants as c
 use Rattle.tla_config.specs.declared.error.DefsError.{DefsError}
 use Rattle.tla_config.specs.declared.error.Source.TheVariants as source
 use Rattle.tla_config.specs.Statements.{Statement, Specification, Init, Next, Invariants, Constraints, Constants, CheckDeadlock, Item, items_of}
 use Rattle.tla_config.specs.View.{ConfigTree}
-use Rattle.tla_expand.specs.declared.primes.Primes.{Primes}
 use Rattle.tla_expand.specs.declared.primes.Primes.TheVariants.{Never, Once, Twice}
 use Rattle.tla_expand.specs.Expand.{expand}
 use Rattle.tla_expand.specs.Meanings.{Scope}
-use Rattle.tla_expand.specs.Primes.{with_primes}
-use Rattle.tla_model.specs.Size.{IsWithinLimits}
 use Rattle.tla_names.specs.Maybe.{or_else}
 use Rattle.tla_names.specs.Items.{definitions_of}
 use Rattle.tla_names.specs.Misuses.{misuse, variables_of}
@@ -25,7 +21,9 @@ use Rattle.tla_names.specs.Circles.{AreStraight}
 use Rattle.tla_names.specs.Named.{names_misused}
 use Rattle.tla_names.specs.Refusal.{refusal_at, refusal_for, items_refused, IsOfCircle}
 use Rattle.tla_defs.specs.Global.{global}
-use Rattle.tla_defs.specs.Model.{IsInitial, IsBehaviour, meaning_in, assumptions_of, invariants_named, constraints_named}
+use Rattle.tla_formulas.specs.Formulas.{IsInitial, meaning_in}
+use Rattle.tla_formulas.specs.Refused.{IsOfFormula}
+use Rattle.tla_defs.specs.Model.{IsBehaviour, assumptions_of, invariants_named, constraints_named}
 use Rattle.tla_defs.specs.Specification.{IsSpecification}
 
 -- What names the behaviour: INIT and NEXT, or SPECIFICATION, at its place.
@@ -70,19 +68,6 @@ abbrev pub refused : List UnitTree → ConfigTree → Option DefsError
 refused us config =
     or_else (refusal_for source.Module (misuse us))
     (or_else (items_refused us (items_of config.statements)) (behaviour_refused us config.statements (behaviour config.statements config.end None None)))
-
--- Why a formula is refused that has this expansion and, by its level, is read with these primes: nothing of it is of the level (C5), or it is not within the limits (C11).
-abbrev pub IsCause : DefsCode → Option Expr → Primes → Type 0
-IsCause c.Level o k = with_primes k o ≡ None
-IsCause c.ExpansionTooLarge o k = (x : Expr) → o ≡ Some x → IsWithinLimits x → ⊥
-IsCause _ o k = ⊥
-
--- what is told of such a formula: some place of the module (where, is not said here)
-pub record IsOfFormula (o : Option Expr) (k : Primes) (e : DefsError) : Type 0 where
-  pub cause : IsCause e.code o k
-  pub source : e.source ≡ source.Module
-  pub place : is_some e.place ≡ true
-  pub name : e.name ≡ None
 
 -- one of these assumptions is refused
 abbrev pub IsOfAssumption : Scope → List Tree → DefsError → Type 0

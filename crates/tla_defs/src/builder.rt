@@ -16,6 +16,8 @@ ghost use Rattle.tla_tree.specs.declared.word.Written as written;
 ghost use Rattle.tla_tree.specs.UnitsView.{unit_view};
 ghost use Rattle.tla_names.specs.Circles.{AreStraight};
 ghost use Rattle.tla_names.specs.Constants.{unvalued};
+ghost use Rattle.tla_formulas.specs.Formulas as formulas;
+ghost use Rattle.tla_formulas.specs.Refused as formula_refused;
 ghost use Rattle.tla_defs.specs.Private.Formulas.{LacksPredicate, LacksAssumption, Follow, mentions};
 ghost use Rattle.tla_names.specs.Items as given;
 ghost use Rattle.tla_names.specs.Leads.{leads};
@@ -27,14 +29,13 @@ ghost use Rattle.tla_defs.specs.Refused as refused;
 ghost use Rattle.tla_defs.specs.Private.Specified.{IsOnly};
 
 use crate::behaviour::{Behaviour, named_behaviour};
-use crate::formula::{assumption, state_predicate};
 use crate::global::global_scope;
 use crate::meant::{initial_predicate, meaning, next_action};
-use crate::places::Places;
 use std::alloc::{AllocFailed, Global};
 use tla_config::{Config, DefsCode, DefsError, Source, Statement};
 use tla_core::Core;
 use tla_expand::Scopes;
+use tla_formulas::{Places, assumption, state_predicate};
 use tla_model::{Model, StatePredicate};
 use tla_names::{
     Items, Names, definitions_of, no_memory, refusal_at, statements_named, straight, text_of,
@@ -134,9 +135,9 @@ fn named_predicate(
     name: &Written,
 ) -> Result<StatePredicate, DefsError>
     ensures name { IfOk result (λ p. p.name ≡ name.now.word) }
-    ensures found { IfOk result (λ p. model.IsStatePredicate (scope_of scopes.now) name.now (expr_of p.core)) }
-    ensures formula { IfErr result (λ e. e.code ≢ Memory → refused.IsOfFormula (model.meaning_in (scope_of scopes.now) name.now) read.Once e) }
-    ensures none { IfErr result (λ e. e.code ≢ Memory → (x : expr.Expr) → model.IsStatePredicate (scope_of scopes.now) name.now x → ⊥) }
+    ensures found { IfOk result (λ p. formulas.IsStatePredicate (scope_of scopes.now) name.now (expr_of p.core)) }
+    ensures formula { IfErr result (λ e. e.code ≢ Memory → formula_refused.IsOfFormula (formulas.meaning_in (scope_of scopes.now) name.now) read.Once e) }
+    ensures none { IfErr result (λ e. e.code ≢ Memory → (x : expr.Expr) → formulas.IsStatePredicate (scope_of scopes.now) name.now x → ⊥) }
 {
     let core = state_predicate(alloc, places, scopes, name)?;
     let name = text_of(alloc, name.word.as_bytes())?;
@@ -152,8 +153,8 @@ fn push_predicate(
     predicates: &mut Vec<StatePredicate>,
 ) -> Result<(), DefsError>
     ensures found { (left all : List written.Written) → OnOk result (Follow (scope_of scopes.now) (name.now ∷ left) all (map predicate_of predicates.old.items) → Follow (scope_of scopes.now) left all (map predicate_of predicates.new.items)) }
-    ensures formula { IfErr result (λ e. e.code ≢ Memory → refused.IsOfFormula (model.meaning_in (scope_of scopes.now) name.now) read.Once e) }
-    ensures none { IfErr result (λ e. e.code ≢ Memory → (x : expr.Expr) → model.IsStatePredicate (scope_of scopes.now) name.now x → ⊥) }
+    ensures formula { IfErr result (λ e. e.code ≢ Memory → formula_refused.IsOfFormula (formulas.meaning_in (scope_of scopes.now) name.now) read.Once e) }
+    ensures none { IfErr result (λ e. e.code ≢ Memory → (x : expr.Expr) → formulas.IsStatePredicate (scope_of scopes.now) name.now x → ⊥) }
 {
     let predicate = named_predicate(alloc, places, scopes, name)?;
     push(predicates, predicate)?;

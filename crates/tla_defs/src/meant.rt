@@ -9,22 +9,21 @@ ghost use Rattle.tla_expand.specs.Expand.{expand};
 ghost use Rattle.tla_expand.specs.Names.{scope_of};
 ghost use Rattle.tla_tree.specs.declared.tree.Bullet.TheVariants as bullet;
 ghost use Rattle.tla_tree.specs.Tree.{Tree, Junction, trees as trees_of};
+ghost use Rattle.tla_formulas.specs.Formulas as formulas;
+ghost use Rattle.tla_formulas.specs.Refused as formula_refused;
 ghost use Rattle.tla_defs.specs.Private.Seen.{seen};
 ghost use Rattle.tla_tree.specs.UnitsView.{unit_view};
 ghost use Rattle.tla_tree.specs.View.{view};
 ghost use Rattle.tla_defs.specs.Private.Mentions.{behaviour_of};
-ghost use Rattle.tla_defs.specs.Model as model;
-ghost use Rattle.tla_defs.specs.Refused as refused;
 ghost use Rattle.tla_defs.specs.Private.Specified.{initial_in, initial_tree, action_tree, IsMeant, NoneMeant, form_refused, MayBeLast};
 
 use crate::behaviour::Behaviour;
-use crate::formula::{action, initial, refusal};
-use crate::places::Places;
 use crate::specification::{Specified, specification};
 use std::alloc::Global;
 use tla_config::DefsError;
 use tla_core::Core;
 use tla_expand::{Primes, Scopes};
+use tla_formulas::{Places, action, initial, refusal};
 use tla_lex::Place;
 use tla_names::{Items, no_memory};
 use tla_tree::{Expr, Unit, Written};
@@ -60,9 +59,9 @@ pub(crate) fn meaning<'a>(
 
 /// An initial predicate of one conjunct, over the variables next.
 fn one_conjunct<'a>(alloc: Global, scopes: &Scopes<'a>, tree: &'a Expr) -> Result<Core, DefsError>
-    ensures found { IfOk result (λ c. model.IsInitial (scope_of scopes.now) (view tree.entry.now) (expr_of c)) }
-    ensures formula { IfErr result (λ e. e.code ≢ Memory → refused.IsOfFormula (expand (view tree.entry.now) (scope_of scopes.now) 0) read.Once e) }
-    ensures none { IfErr result (λ e. e.code ≢ Memory → (x : expr.Expr) → model.IsInitial (scope_of scopes.now) (view tree.entry.now) x → ⊥) }
+    ensures found { IfOk result (λ c. formulas.IsInitial (scope_of scopes.now) (view tree.entry.now) (expr_of c)) }
+    ensures formula { IfErr result (λ e. e.code ≢ Memory → formula_refused.IsOfFormula (expand (view tree.entry.now) (scope_of scopes.now) 0) read.Once e) }
+    ensures none { IfErr result (λ e. e.code ≢ Memory → (x : expr.Expr) → formulas.IsInitial (scope_of scopes.now) (view tree.entry.now) x → ⊥) }
 {
     match scopes.expansion(alloc, tree, Primes::Once) {
         Ok(core) => Ok(core),
@@ -77,9 +76,9 @@ fn several_conjuncts<'a>(
     place: Place,
     trees: &[&'a Expr],
 ) -> Result<Core, DefsError>
-    ensures found { IfOk result (λ c. model.IsInitial (scope_of scopes.now) (Junction place bullet.And (trees_of (seen trees.now))) (expr_of c)) }
-    ensures formula { IfErr result (λ e. e.code ≢ Memory → refused.IsOfFormula (expand (Junction place bullet.And (trees_of (seen trees.now))) (scope_of scopes.now) 0) read.Once e) }
-    ensures none { IfErr result (λ e. e.code ≢ Memory → (x : expr.Expr) → model.IsInitial (scope_of scopes.now) (Junction place bullet.And (trees_of (seen trees.now))) x → ⊥) }
+    ensures found { IfOk result (λ c. formulas.IsInitial (scope_of scopes.now) (Junction place bullet.And (trees_of (seen trees.now))) (expr_of c)) }
+    ensures formula { IfErr result (λ e. e.code ≢ Memory → formula_refused.IsOfFormula (expand (Junction place bullet.And (trees_of (seen trees.now))) (scope_of scopes.now) 0) read.Once e) }
+    ensures none { IfErr result (λ e. e.code ≢ Memory → (x : expr.Expr) → formulas.IsInitial (scope_of scopes.now) (Junction place bullet.And (trees_of (seen trees.now))) x → ⊥) }
 {
     match scopes.conjunction(alloc, place, trees, Primes::Once) {
         Ok(core) => Ok(core),
@@ -93,9 +92,9 @@ fn specified_initial<'a>(
     scopes: &Scopes<'a>,
     specified: &Specified<'a>,
 ) -> Result<Core, DefsError>
-    ensures found { (i : Tree) → initial_in specified.now ≡ Some i → IfOk result (λ c. model.IsInitial (scope_of scopes.now) i (expr_of c)) }
-    ensures formula { (i : Tree) → initial_in specified.now ≡ Some i → IfErr result (λ e. e.code ≢ Memory → refused.IsOfFormula (expand i (scope_of scopes.now) 0) read.Once e) }
-    ensures none { (i : Tree) → initial_in specified.now ≡ Some i → IfErr result (λ e. e.code ≢ Memory → (x : expr.Expr) → model.IsInitial (scope_of scopes.now) i x → ⊥) }
+    ensures found { (i : Tree) → initial_in specified.now ≡ Some i → IfOk result (λ c. formulas.IsInitial (scope_of scopes.now) i (expr_of c)) }
+    ensures formula { (i : Tree) → initial_in specified.now ≡ Some i → IfErr result (λ e. e.code ≢ Memory → formula_refused.IsOfFormula (expand i (scope_of scopes.now) 0) read.Once e) }
+    ensures none { (i : Tree) → initial_in specified.now ≡ Some i → IfErr result (λ e. e.code ≢ Memory → (x : expr.Expr) → formulas.IsInitial (scope_of scopes.now) i x → ⊥) }
 {
     if specified.initial.len() == 0 {
         return Err(no_memory());
@@ -113,9 +112,9 @@ fn specified_action<'a>(
     scopes: &Scopes<'a>,
     tree: &'a Expr,
 ) -> Result<Core, DefsError>
-    ensures found { IfOk result (λ c. model.IsAction (scope_of scopes.now) (view tree.entry.now) (expr_of c)) }
-    ensures formula { IfErr result (λ e. e.code ≢ Memory → refused.IsOfFormula (expand (view tree.entry.now) (scope_of scopes.now) 0) read.Never e) }
-    ensures none { IfErr result (λ e. e.code ≢ Memory → (x : expr.Expr) → model.IsAction (scope_of scopes.now) (view tree.entry.now) x → ⊥) }
+    ensures found { IfOk result (λ c. formulas.IsAction (scope_of scopes.now) (view tree.entry.now) (expr_of c)) }
+    ensures formula { IfErr result (λ e. e.code ≢ Memory → formula_refused.IsOfFormula (expand (view tree.entry.now) (scope_of scopes.now) 0) read.Never e) }
+    ensures none { IfErr result (λ e. e.code ≢ Memory → (x : expr.Expr) → formulas.IsAction (scope_of scopes.now) (view tree.entry.now) x → ⊥) }
 {
     match scopes.expansion(alloc, tree, Primes::Never) {
         Ok(core) => Ok(core),
@@ -130,9 +129,9 @@ pub(crate) fn initial_predicate<'a>(
     scopes: &Scopes<'a>,
     meant: &Meant<'a>,
 ) -> Result<Core, DefsError>
-    ensures found { (i : Tree) → initial_tree «meant».now ≡ Some i → IfOk result (λ c. model.IsInitial (scope_of scopes.now) i (expr_of c)) }
-    ensures formula { (i : Tree) → initial_tree «meant».now ≡ Some i → IfErr result (λ e. e.code ≢ Memory → refused.IsOfFormula (expand i (scope_of scopes.now) 0) read.Once e) }
-    ensures none { (i : Tree) → initial_tree «meant».now ≡ Some i → IfErr result (λ e. e.code ≢ Memory → (x : expr.Expr) → model.IsInitial (scope_of scopes.now) i x → ⊥) }
+    ensures found { (i : Tree) → initial_tree «meant».now ≡ Some i → IfOk result (λ c. formulas.IsInitial (scope_of scopes.now) i (expr_of c)) }
+    ensures formula { (i : Tree) → initial_tree «meant».now ≡ Some i → IfErr result (λ e. e.code ≢ Memory → formula_refused.IsOfFormula (expand i (scope_of scopes.now) 0) read.Once e) }
+    ensures none { (i : Tree) → initial_tree «meant».now ≡ Some i → IfErr result (λ e. e.code ≢ Memory → (x : expr.Expr) → formulas.IsInitial (scope_of scopes.now) i x → ⊥) }
 {
     match meant {
         Meant::Named(name, _) => initial(alloc, places, scopes, name),
@@ -147,9 +146,9 @@ pub(crate) fn next_action<'a>(
     scopes: &Scopes<'a>,
     meant: &Meant<'a>,
 ) -> Result<Core, DefsError>
-    ensures found { IfOk result (λ c. model.IsAction (scope_of scopes.now) (action_tree «meant».now) (expr_of c)) }
-    ensures formula { IfErr result (λ e. e.code ≢ Memory → refused.IsOfFormula (expand (action_tree «meant».now) (scope_of scopes.now) 0) read.Never e) }
-    ensures none { IfErr result (λ e. e.code ≢ Memory → (x : expr.Expr) → model.IsAction (scope_of scopes.now) (action_tree «meant».now) x → ⊥) }
+    ensures found { IfOk result (λ c. formulas.IsAction (scope_of scopes.now) (action_tree «meant».now) (expr_of c)) }
+    ensures formula { IfErr result (λ e. e.code ≢ Memory → formula_refused.IsOfFormula (expand (action_tree «meant».now) (scope_of scopes.now) 0) read.Never e) }
+    ensures none { IfErr result (λ e. e.code ≢ Memory → (x : expr.Expr) → formulas.IsAction (scope_of scopes.now) (action_tree «meant».now) x → ⊥) }
 {
     match meant {
         Meant::Named(_, name) => action(alloc, places, scopes, name),

@@ -6,8 +6,8 @@ ghost use Rattle.tla_core.specs.Expr as expr;
 ghost use Rattle.tla_expand.specs.Names.{scope_of};
 ghost use Rattle.tla_tree.specs.UnitsView.{unit_view};
 ghost use Rattle.tla_tree.specs.View.{view};
+ghost use Rattle.tla_formulas.specs.Formulas as formulas;
 ghost use Rattle.tla_defs.specs.Private.Seen.{seen};
-ghost use Rattle.tla_defs.specs.Model as model;
 ghost use Rattle.tla_defs.specs.Refused as refused;
 ghost use Rattle.tla_names.specs.Refusal as refusal;
 ghost use Rattle.tla_defs.specs.Subscripts as subscripts;
@@ -65,7 +65,7 @@ fn of_state_level<'a>(
     place: Place,
 ) -> Result<(), DefsError>
     ensures refused { IfErr result (λ e. e.code ≢ Memory → refusal.refusal_at DefsCode.SpecificationForm Source.Configuration place ≡ e) }
-    ensures none { IfErr result (λ e. e.code ≢ Memory → (x : expr.Expr) → model.IsInitial (scope_of scopes.now) (view tree.entry.now) x → ⊥) }
+    ensures none { IfErr result (λ e. e.code ≢ Memory → (x : expr.Expr) → formulas.IsInitial (scope_of scopes.now) (view tree.entry.now) x → ⊥) }
 {
     match scopes.expansion(alloc, tree, Primes::Once) {
         Ok(_) | Err(Failure::TooLarge) => Ok(()),

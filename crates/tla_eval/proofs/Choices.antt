@@ -1,16 +1,13 @@
--- The values of a body for all choices from some lists, and what is kept of a list.
-use Rattle.std.proofs.Common.{◌≡◌, ℕ, zero, suc, ◌+◌, ◌<◌, Bool, true, false, cond, List, [], ◌∷◌, ◌++◌, map, length, drop, get_or, Option, Some, None, option_map, Ok, Err, ◌⊎◌, inl, inr, ⊎_elim, refl, sym, ap, ◌∙◌, add-one, drop-cons}
+-- The values of a body for all choices from some lists.
+use Rattle.std.proofs.Common.{◌≡◌, ℕ, zero, suc, ◌+◌, List, [], ◌∷◌, ◌++◌, length, drop, Option, Some, None, option_map, Ok, Err, ◌⊎◌, inl, inr, ⊎_elim, refl, sym, ap, ◌∙◌, add-one}
 use Rattle.std.specs.Prelude.{slice_get}
-use Rattle.std.proofs.lemmas.List.{map-append}
 use Rattle.tla_value.specs.Tree.{Tree}
-use Rattle.tla_value.specs.TreeOf.{tree_of}
-use Rattle.tla_value.specs.declared.value.Value.{Value}
 use Rattle.tla_value.specs.Choices.{choices}
 use Rattle.tla_core.specs.declared.fault.Place.{Place}
 use Rattle.tla_core.specs.declared.fault.Fault.{Fault}
 use Rattle.tla_core.specs.Fault.{Outcome, ◌>>=◌, out_of_memory}
 use Rattle.tla_core.specs.Kinds.{as_set, make_set}
-use Rattle.tla_core.specs.Lists.{each, passing}
+use Rattle.tla_core.specs.Lists.{each}
 use Rattle.tla_core.specs.Meaning.{Meaning, Bound, Present, Next}
 use Rattle.tla_core.specs.Functions.{function_on, means-image, means-function}
 use Rattle.tla_eval.specs.Gives.{nothing_of, values_for, then_more, chosen_rule, image_rule, function_rule, chosen_function_rule}
@@ -18,14 +15,14 @@ use Rattle.tla_eval.specs.declared.domain.Domain.TheVariants.{Refused}
 use Rattle.tla_eval.specs.Private.Chosen.{value_at, function_for_rule}
 use Rattle.tla_eval.specs.Private.Domain.{AreForChoices, IsDomain}
 use Rattle.tla_eval.proofs.Members.{bind-ok}
-use Rattle.tla_eval.proofs.Collected.{each_more, each_stop, passing_more}
+use Rattle.tla_eval.proofs.Collected.{each_more, each_stop}
 
 -- ---- lists of values, one by one
-none_more : (b : List Tree) → b ++ [] ≡ b
+pub none_more : (b : List Tree) → b ++ [] ≡ b
 none_more [] = refl
 none_more (y ∷ b) = ap (λ k. y ∷ k) (none_more b)
 
-drop_from : {A : Type 0} (xs : List A) (i : ℕ) (x : A) → slice_get xs i ≡ Some x → drop i xs ≡ x ∷ drop (suc i) xs
+pub drop_from : {A : Type 0} (xs : List A) (i : ℕ) (x : A) → slice_get xs i ≡ Some x → drop i xs ≡ x ∷ drop (suc i) xs
 drop_from {A} [] i x h = absurd (some_none h)
   where
     some_none : (let o : Option A = None in o ≡ Some x) → ⊥
@@ -36,7 +33,7 @@ drop_from {A} (y ∷ xs) zero x h = ap (λ z. z ∷ xs) (same_some h)
     same_some e = cc
 drop_from (y ∷ xs) (suc i) x h = drop_from xs i x h
 
-drop_past : {A : Type 0} (xs : List A) (i : ℕ) → slice_get xs i ≡ None → drop i xs ≡ []
+pub drop_past : {A : Type 0} (xs : List A) (i : ℕ) → slice_get xs i ≡ None → drop i xs ≡ []
 drop_past [] zero h = refl
 drop_past [] (suc i) h = refl
 drop_past {A} (y ∷ xs) zero h = absurd (none_some h)
@@ -211,19 +208,3 @@ module _ (p : Place) (e : Meaning) (b : Bound) (s : Present) (t : Next) (vs : Li
   function_passed u f h refuses =
       let r = bind-ok (values_for e b s t lists) (λ (ys : List Tree). Ok tt) u h in
       ⊎_elim (λ m. inl m) (λ k. inr (function_of_values r.0 r.1 ∙ k)) (refuses r.0 (for_choices r.0 r.1))
-
--- ---- filters
-module _ (test : Tree → Outcome Bool) (items : List Value) (i : ℕ) (x : Value) (old : List Value) where
-  from_here : x ≡ get_or items i x → i < length items → drop i items ≡ x ∷ drop (suc i) items
-  from_here is h = drop-cons items i x h ∙ ap (λ y. y ∷ drop (suc i) items) (sym is)
-
-  pub passing_step : (new : List Value) (keep : Bool) → x ≡ get_or items i x → i < length items → test (tree_of x) ≡ Ok keep → new ≡ cond keep (old ++ x ∷ []) old
-      → (passing test (map tree_of (drop i items)) >>= λ ys. Ok (map tree_of old ++ ys)) ≡ (passing test (map tree_of (drop (i + 1) items)) >>= λ ys. Ok (map tree_of new ++ ys))
-  passing_step new keep is h k kept =
-      rw add-one (ap (λ us. passing test (map tree_of us) >>= λ ys. Ok (map tree_of old ++ ys)) (from_here is h)
-      ∙ passing_more test (map tree_of old) (tree_of x) (map tree_of (drop (suc i) items)) keep k
-      ∙ ap (λ us. passing test (map tree_of (drop (suc i) items)) >>= λ ys. Ok (us ++ ys)) (go keep ∙ ap (map tree_of) (sym kept)))
-    where
-      go : (c : Bool) → cond c (map tree_of old ++ tree_of x ∷ []) (map tree_of old) ≡ map tree_of (cond c (old ++ x ∷ []) old)
-      go true = sym (map-append tree_of old (x ∷ []))
-      go false = refl

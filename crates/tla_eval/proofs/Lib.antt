@@ -13,6 +13,9 @@ pub mod Collected
 pub mod RecordSets
 pub mod Arguments
 pub mod Choices
+pub mod Ranges
+pub mod Tested
+pub mod Stands
 pub mod Chosen
 pub mod Domains
 pub mod Different

@@ -92,6 +92,9 @@ fn each_rises(sets: &[SetValue])
     }
 }
 
+/// Lets a value go whatever its kind, so that a loop has one way on and not one for each kind.
+fn let_go<T: Drop>(_value: T) {}
+
 /// Each of these values behind the argument at its place.
 fn paired(
     alloc: Global,
@@ -105,7 +108,7 @@ fn paired(
     for value in values {
         match arguments.get(pairs.len()) {
             Some(argument) => pairs.push((copied(alloc, argument)?, value))?,
-            None => {}
+            None => let_go(value),
         }
     }
     Ok(pairs)

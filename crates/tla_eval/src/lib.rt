@@ -2,7 +2,9 @@
 #![tactic(auto)]
 
 mod arithmetic;
+mod asked;
 mod domain;
+mod elements;
 mod environment;
 mod evaluation;
 mod fields;
@@ -16,6 +18,6 @@ mod rules;
 mod sequences;
 mod sets;
 
-pub use evaluation::{eval, member};
+pub use evaluation::{eval, member, set_members};
 pub use partial::Partial;
 pub use patterns::opened;

@@ -1,5 +1,5 @@
 //! Sets that are made of the values of parts, and membership in values.
-ghost use Rattle.std.specs.Prelude.{◌≡◌, ◌++◌, ◌∷◌, [], Ok, IfErr, OnOk, List, false, true, cond, filter, map, not, option_map};
+ghost use Rattle.std.specs.Prelude.{◌≡◌, ◌++◌, ◌∷◌, [], Ok, List, false, true, filter, map, not, option_map};
 ghost use Rattle.tla_value.specs.Tree.{Tree, truth, set, trees};
 ghost use Rattle.tla_value.specs.TreeOf.{tree_of, pair_of};
 ghost use Rattle.tla_value.specs.Order.{tree_eq};
@@ -7,7 +7,6 @@ ghost use Rattle.tla_value.specs.Funs.{arguments};
 ghost use Rattle.tla_value.specs.Sets.{is_member, MakesSet, MakesSetOfFunctions};
 ghost use Rattle.tla_core.specs.Kinds.{as_set, members_of, rising_set, sized_set, size_of_functions};
 ghost use Rattle.tla_value.specs.Choices.{range_of, functions_of};
-ghost use Rattle.tla_core.specs.Fault.{out_of_memory};
 ghost use Rattle.tla_core.specs.Expr.{Union};
 ghost use Rattle.tla_core.specs.Operators.{joined_sets, unary_rule};
 ghost use Rattle.tla_core.specs.Lists.{each};
@@ -18,7 +17,7 @@ ghost use Rattle.tla_eval.specs.Private.Gathered.{Gathers};
 
 use crate::environment::Evaluated;
 use crate::gathered::Gathered;
-use crate::rules::{copied, fault_at};
+use crate::rules::fault_at;
 use std::alloc::Global;
 use tla_core::{Fault, FaultCode, Place, memory};
 use tla_value::{FunValue, SetValue, Value, ValueError};
@@ -65,22 +64,6 @@ pub(crate) fn made_set(place: Place, made: Result<SetValue, ValueError>) -> Resu
         Ok(set) => Ok(Value::Set(set)),
         Err(error) => Err(refused(place, error)),
     }
-}
-
-/// Adds a copy of a value at the end, if it is to be kept.
-pub(crate) fn keep_copy(
-    alloc: Global,
-    kept: &mut Vec<Value>,
-    value: &Value,
-    keep: bool,
-) -> Result<(), Fault>
-    ensures ok { OnOk result (kept.new.items ≡ cond keep (kept.old.items ++ value.now ∷ []) kept.old.items) }
-    ensures err { IfErr result (λ f. f ≡ out_of_memory) }
-{
-    if keep {
-        kept.push(copied(alloc, value)?)?;
-    }
-    Ok(())
 }
 
 /// The members of one set and of another.

@@ -29,3 +29,5 @@ pub mod Fitting
 pub mod Apart
 pub mod Nameless
 pub mod Walking
+pub mod Hashes
+pub mod Indexed

@@ -1,10 +1,11 @@
 -- The scope that the names known so far make, and the one that was made before it.
 use Rattle.tla_expand.specs.declared.scopes.Scopes.{Scopes}
 use Rattle.tla_expand.specs.Meanings.{Scope}
+use Rattle.tla_expand.specs.Private.Listed.{listed}
 use Rattle.tla_expand.specs.Scopes.{scope_at}
 
 abbrev pub scope_of : Scopes → Scope
-scope_of s = scope_at s.entries.items s.current
+scope_of s = scope_at (listed s.entries) s.current
 
 abbrev pub outer_of : Scopes → Scope
-outer_of s = scope_at s.entries.items s.outer
+outer_of s = scope_at (listed s.entries) s.outer

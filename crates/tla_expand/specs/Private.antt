@@ -6,3 +6,6 @@ pub mod Known
 pub mod Binders
 pub mod Gives
 pub mod Walks
+pub mod Index
+pub mod IndexProps
+pub mod Listed

@@ -4,8 +4,11 @@ ghost use Rattle.std.specs.Prelude.{◌≡◌, ◌≤◌, ◌<◌, length, get_o
 ghost use Rattle.tla_expand.specs.declared.arena.Entry as arena_entry;
 ghost use Rattle.tla_expand.specs.Meanings.{standard, with_parameters};
 ghost use Rattle.tla_expand.specs.Scopes.{AreLinked, IsBelow, Extends, scope_at, entry_scope, meaning_of, arguments_in};
+ghost use Rattle.tla_expand.specs.Private.Listed.{listed, lent_count};
 
+use crate::entries::Entries;
 use crate::failure::Failure;
+use crate::index::{name_hash, slot};
 use crate::nodes::Builtin;
 use crate::primes::Primes;
 use tla_core::Place;
@@ -49,70 +52,72 @@ pub(crate) struct Entry<'a> {
 }
 
 /// The entry that a name has in a scope, by its number.
-pub(crate) fn position(entries: &[Entry<'_>], scope: usize, name: &[u8]) -> Option<usize>
-    requires linked { AreLinked entries.now }
-    requires within { scope ≤ length entries.now }
-    ensures found { IfSome result (λ k. (e : arena_entry.Entry) → e ≡ get_or entries.now k e → scope_at entries.now scope name.now ≡ meaning_of (scope_at entries.now) e.what) }
-    ensures there { IfSome result (λ k. k < length entries.now) }
-    ensures none { IfNone result (scope_at entries.now scope name.now ≡ standard name.now) }
+pub(crate) fn position(entries: &Entries<'_, '_>, scope: usize, name: &[u8]) -> Option<usize>
+    requires linked { AreLinked (listed entries.now) }
+    requires within { scope ≤ length (listed entries.now) }
+    ensures found { IfSome result (λ k. (e : arena_entry.Entry) → e ≡ get_or (listed entries.now) k e → scope_at (listed entries.now) scope name.now ≡ meaning_of (scope_at (listed entries.now)) e.what) }
+    ensures there { IfSome result (λ k. k < length (listed entries.now)) }
+    ensures none { IfNone result (scope_at (listed entries.now) scope name.now ≡ standard name.now) }
 {
+    let hash = name_hash(name);
     let mut at = scope;
     while at > 0 {
-        let entry = entries[at - 1];
-        if entry.name == name {
+        let node = entries.node(at - 1);
+        if node.entry.name == name {
             return Some(at - 1);
         }
-        at = entry.rest;
+        at = node.jumps[slot(node.hash, hash)];
     }
     None
 }
 
 /// What a name means in a scope.
-pub(crate) fn find<'a>(entries: &[Entry<'a>], scope: usize, name: &[u8]) -> Option<Entry<'a>>
-    requires linked { AreLinked entries.now }
-    requires within { scope ≤ length entries.now }
-    ensures found { IfSome result (λ e. scope_at entries.now scope name.now ≡ meaning_of (scope_at entries.now) e.what) }
-    ensures below { IfSome result (λ e. IsBelow (length entries.now) e.what e.rest) }
-    ensures none { IfNone result (scope_at entries.now scope name.now ≡ standard name.now) }
+pub(crate) fn find<'a>(entries: &Entries<'_, 'a>, scope: usize, name: &[u8]) -> Option<Entry<'a>>
+    requires linked { AreLinked (listed entries.now) }
+    requires within { scope ≤ length (listed entries.now) }
+    ensures found { IfSome result (λ e. scope_at (listed entries.now) scope name.now ≡ meaning_of (scope_at (listed entries.now)) e.what) }
+    ensures below { IfSome result (λ e. IsBelow (length (listed entries.now)) e.what e.rest) }
+    ensures none { IfNone result (scope_at (listed entries.now) scope name.now ≡ standard name.now) }
 {
     match position(entries, scope, name) {
-        Some(at) => Some(entries[at]),
+        Some(at) => Some(entries.node(at).entry),
         None => None,
     }
 }
 
 /// Adds an entry, and gives its scope. The only error is want of memory.
-pub(crate) fn enter<'a>(entries: &mut Vec<Entry<'a>>, entry: Entry<'a>) -> Result<usize, Failure>
-    requires linked { AreLinked entries.old.items }
-    requires below { IsBelow (length entries.old.items) entry.what entry.rest }
-    ensures linked { OnOk result (AreLinked entries.new.items) }
-    ensures added { OnOk result (entries.new.items ≡ entries.old.items ++ entry.entry ∷ []) }
-    ensures scope { IfOk result (λ s. scope_at entries.new.items s ≡ entry_scope (scope_at entries.old.items) entry.entry) }
-    ensures end { IfOk result (λ s. s ≡ length entries.new.items) }
+pub(crate) fn enter<'a>(entries: &mut Entries<'_, 'a>, entry: Entry<'a>) -> Result<usize, Failure>
+    requires linked { AreLinked (listed entries.old) }
+    requires below { IsBelow (length (listed entries.old)) entry.what entry.rest }
+    ensures linked { OnOk result (AreLinked (listed entries.new)) }
+    ensures added { OnOk result (listed entries.new ≡ listed entries.old ++ entry.entry ∷ []) }
+    ensures scope { IfOk result (λ s. scope_at (listed entries.new) s ≡ entry_scope (scope_at (listed entries.old)) entry.entry) }
+    ensures end { IfOk result (λ s. s ≡ length (listed entries.new)) }
+    ensures own { OnOk result (lent_count entries.new ≡ lent_count entries.old) }
     ensures err { IfErr result (λ e. e ≡ Failure.Memory) }
 {
     match entries.push(entry) {
         Ok(()) => Ok(entries.len()),
-        Err(_) => Err(Failure::Memory),
+        Err(failure) => Err(failure),
     }
 }
 
 /// The scope in which the parameters stand for the arguments. The only error is want of memory.
 pub(crate) fn bind<'a>(
-    entries: &mut Vec<Entry<'a>>,
+    entries: &mut Entries<'_, 'a>,
     parameters: &'a [Written],
     home: usize,
     arguments: &'a [Expr],
     scope: usize,
 ) -> Result<usize, Failure>
-    requires linked { AreLinked entries.old.items }
-    requires home { home ≤ length entries.old.items }
-    requires scope { scope ≤ length entries.old.items }
+    requires linked { AreLinked (listed entries.old) }
+    requires home { home ≤ length (listed entries.old) }
+    requires scope { scope ≤ length (listed entries.old) }
     requires same { length parameters.now ≡ length arguments.now }
-    ensures linked { OnOk result (AreLinked entries.new.items) }
-    ensures extends { OnOk result (Extends entries.new.items entries.old.items) }
-    ensures within { IfOk result (λ s. s ≤ length entries.new.items) }
-    ensures bound { IfOk result (λ s. with_parameters parameters.now (arguments_in arguments.now (scope_at entries.old.items scope)) (scope_at entries.old.items home) ≡ Some (scope_at entries.new.items s)) }
+    ensures linked { OnOk result (AreLinked (listed entries.new)) }
+    ensures extends { OnOk result (Extends (listed entries.new) (listed entries.old)) }
+    ensures within { IfOk result (λ s. s ≤ length (listed entries.new)) }
+    ensures bound { IfOk result (λ s. with_parameters parameters.now (arguments_in arguments.now (scope_at (listed entries.old) scope)) (scope_at (listed entries.old) home) ≡ Some (scope_at (listed entries.new) s)) }
     ensures err { IfErr result (λ e. e ≡ Failure.Memory) }
 {
     let mut at = home;

@@ -15,9 +15,10 @@ ghost use Rattle.tla_expand.specs.Private.Gives.{part_in, pointed, GivesMany};
 ghost use Rattle.tla_expand.specs.Maybe.{each_of};
 ghost use Rattle.tla_expand.specs.Primes.{with_primes};
 ghost use Rattle.tla_expand.specs.Scopes.{AreLinked, scope_at};
+ghost use Rattle.tla_expand.specs.Private.Listed.{listed};
 
-use crate::arena::Entry;
 use crate::builders::{many_core, place_of};
+use crate::entries::Entries;
 use crate::expand::{Setting, expand};
 use crate::expanded::Many as Parts;
 use crate::failure::Failure;
@@ -32,15 +33,15 @@ use tla_tree::Expr;
 /// Expressions of one scope that stand apart, with at most 199,999 nodes, of which at most 299 on a path.
 fn each_apart<'a>(
     alloc: Global,
-    entries: &mut Vec<Entry<'a>>,
+    entries: &mut Entries<'_, 'a>,
     trees: &[&'a Expr],
     scope: usize,
     primes: Primes,
     sought: Option<Primes>,
 ) -> Result<Parts, Failure>
-    requires linked { AreLinked entries.old.items }
-    requires scope { scope ≤ length entries.old.items }
-    ensures same { GivesMany 299 199999 result (each_of (part_in primes (scope_at entries.old.items scope) 0) (pointed trees.now)) }
+    requires linked { AreLinked (listed entries.old) }
+    requires scope { scope ≤ length (listed entries.old) }
+    ensures same { GivesMany 299 199999 result (each_of (part_in primes (scope_at (listed entries.old) scope) 0) (pointed trees.now)) }
 {
     let mut parts = Vec::new(alloc);
     let mut left = 199_999;
@@ -64,19 +65,19 @@ fn each_apart<'a>(
 /// a path.
 pub(crate) fn conjunction<'a>(
     alloc: Global,
-    entries: &mut Vec<Entry<'a>>,
+    entries: &mut Entries<'_, 'a>,
     place: Place,
     trees: &[&'a Expr],
     scope: usize,
     primes: Primes,
     sought: Option<Primes>,
 ) -> Result<Core, Failure>
-    requires linked { AreLinked entries.old.items }
-    requires scope { scope ≤ length entries.old.items }
-    ensures found { IfOk result (λ c. with_primes primes (expansion.expand (Junction place bullet.And (trees_of (map (λ (t : Bor syntax.Expr). view t.now) trees.now))) (scope_at entries.old.items scope) 0) ≡ Some (expr_of c)) }
+    requires linked { AreLinked (listed entries.old) }
+    requires scope { scope ≤ length (listed entries.old) }
+    ensures found { IfOk result (λ c. with_primes primes (expansion.expand (Junction place bullet.And (trees_of (map (λ (t : Bor syntax.Expr). view t.now) trees.now))) (scope_at (listed entries.old) scope) 0) ≡ Some (expr_of c)) }
     ensures limits { IfOk result (λ c. IsWithinLimits (expr_of c)) }
-    ensures gone { IfErr result (λ f. (p : fault.Place) → f ≡ Failure.NoExpansion p → with_primes primes (expansion.expand (Junction place bullet.And (trees_of (map (λ (t : Bor syntax.Expr). view t.now) trees.now))) (scope_at entries.old.items scope) 0) ≡ None) }
-    ensures none { IfErr result (λ f. f ≢ Failure.Memory → (e : expr.Expr) → with_primes primes (expansion.expand (Junction place bullet.And (trees_of (map (λ (t : Bor syntax.Expr). view t.now) trees.now))) (scope_at entries.old.items scope) 0) ≡ Some e → IsWithinLimits e → ⊥) }
+    ensures gone { IfErr result (λ f. (p : fault.Place) → f ≡ Failure.NoExpansion p → with_primes primes (expansion.expand (Junction place bullet.And (trees_of (map (λ (t : Bor syntax.Expr). view t.now) trees.now))) (scope_at (listed entries.old) scope) 0) ≡ None) }
+    ensures none { IfErr result (λ f. f ≢ Failure.Memory → (e : expr.Expr) → with_primes primes (expansion.expand (Junction place bullet.And (trees_of (map (λ (t : Bor syntax.Expr). view t.now) trees.now))) (scope_at (listed entries.old) scope) 0) ≡ Some e → IsWithinLimits e → ⊥) }
 {
     let many = each_apart(alloc, entries, trees, scope, primes, sought)?;
     Ok(many_core(place_of(place), Many::And, many.parts))

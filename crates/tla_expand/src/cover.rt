@@ -12,8 +12,10 @@ ghost use Rattle.tla_expand.specs.Private.Gives.{head_gives, step_gives, IsWithi
 ghost use Rattle.tla_expand.specs.Private.Walks as walks;
 ghost use Rattle.tla_expand.specs.Private.Walks.{IsNamed, IsAmong, IsAdded, IsInside, ArePushed, IsWalkTo, IsWalk, GoesOn, HasEach};
 ghost use Rattle.tla_expand.specs.Scopes.{AreLinked, scope_at};
+ghost use Rattle.tla_expand.specs.Private.Listed.{listed};
 
-use crate::arena::{Entry, position};
+use crate::arena::position;
+use crate::entries::Entries;
 use crate::failure::Failure;
 use crate::heads::{Head, Step, next_step};
 use crate::nodes::{Form, Many};
@@ -50,18 +52,18 @@ pub(crate) enum Piece<'a> {
 /// A walk over the parts of a nested tuple: what is left, the next one last; the entries that were gone through, and the
 /// variables that were met.
 #[derive(Drop)]
-pub(crate) struct Walk<'a> {
-    pub(crate) entries: Vec<Entry<'a>>,
+pub(crate) struct Walk<'s, 'a> {
+    pub(crate) entries: Entries<'s, 'a>,
     pub(crate) left: Vec<Left<'a>>,
     pub(crate) gone: IndexSet<Gone>,
     pub(crate) met: IndexSet<usize>,
 }
 
 /// The entry that a name stands for.
-fn named(entries: &[Entry<'_>], tree: &Expr, scope: usize) -> Option<usize>
-    requires linked { AreLinked entries.now }
-    requires within { scope ≤ length entries.now }
-    ensures { IfSome result (λ k. IsNamed entries.now (view tree.now) scope k) }
+fn named(entries: &Entries<'_, '_>, tree: &Expr, scope: usize) -> Option<usize>
+    requires linked { AreLinked (listed entries.now) }
+    requires within { scope ≤ length (listed entries.now) }
+    ensures { IfSome result (λ k. IsNamed (listed entries.now) (view tree.now) scope k) }
 {
     match tree {
         Expr::Name(name) => position(entries, scope, name.word.as_bytes()),
@@ -129,9 +131,9 @@ fn was_gone(gone: &IndexSet<Gone>, entry: Gone) -> bool
 }
 
 /// Goes on with a form; whether it is a variable or a tuple. The only error is want of memory.
-fn go_into<'a>(walk: &mut Walk<'a>, head: Head<'a>) -> Result<bool, Failure>
-    requires within { head.scope ≤ length walk.old.entries.items }
-    ensures goes { IfOk result (λ b. (whole : Option expr.Expr) → IsWalkTo whole walk.old.entries.items walk.old.left.items walk.old.gone.keys walk.old.met.keys (head_gives walk.old.entries.items head.entry 0) → GoesOn whole walk.new.entries.items walk.new.left.items walk.new.gone.keys walk.new.met.keys b) }
+fn go_into<'a>(walk: &mut Walk<'_, 'a>, head: Head<'a>) -> Result<bool, Failure>
+    requires within { head.scope ≤ length (listed walk.old.entries) }
+    ensures goes { IfOk result (λ b. (whole : Option expr.Expr) → IsWalkTo whole (listed walk.old.entries) walk.old.left.items walk.old.gone.keys walk.old.met.keys (head_gives (listed walk.old.entries) head.entry 0) → GoesOn whole (listed walk.new.entries) walk.new.left.items walk.new.gone.keys walk.new.met.keys b) }
     ensures err { IfErr result (λ f. f ≡ Failure.Memory) }
 {
     match piece_of(head) {
@@ -148,9 +150,9 @@ fn go_into<'a>(walk: &mut Walk<'a>, head: Head<'a>) -> Result<bool, Failure>
 }
 
 /// Goes on with a step; whether it may come to a part. The only error is want of memory.
-fn go_along<'a>(walk: &mut Walk<'a>, step: Step<'a>) -> Result<bool, Failure>
-    requires within { IsWithin walk.old.entries.items step }
-    ensures goes { IfOk result (λ b. (whole : Option expr.Expr) → IsWalkTo whole walk.old.entries.items walk.old.left.items walk.old.gone.keys walk.old.met.keys (step_gives walk.old.entries.items step.entry 0) → GoesOn whole walk.new.entries.items walk.new.left.items walk.new.gone.keys walk.new.met.keys b) }
+fn go_along<'a>(walk: &mut Walk<'_, 'a>, step: Step<'a>) -> Result<bool, Failure>
+    requires within { IsWithin (listed walk.old.entries) step }
+    ensures goes { IfOk result (λ b. (whole : Option expr.Expr) → IsWalkTo whole (listed walk.old.entries) walk.old.left.items walk.old.gone.keys walk.old.met.keys (step_gives (listed walk.old.entries) step.entry 0) → GoesOn whole (listed walk.new.entries) walk.new.left.items walk.new.gone.keys walk.new.met.keys b) }
     ensures err { IfErr result (λ f. f ≡ Failure.Memory) }
 {
     match step {
@@ -164,14 +166,14 @@ fn go_along<'a>(walk: &mut Walk<'a>, step: Step<'a>) -> Result<bool, Failure>
 
 /// Goes a step from an expression; whether it may be a part. The only error is want of memory.
 fn go_from<'a>(
-    walk: &mut Walk<'a>,
+    walk: &mut Walk<'_, 'a>,
     tree: &'a Expr,
     scope: usize,
     primes: Primes,
 ) -> Result<bool, Failure>
-    requires linked { AreLinked walk.old.entries.items }
-    requires within { scope ≤ length walk.old.entries.items }
-    ensures goes { IfOk result (λ b. (whole : Option expr.Expr) → IsWalkTo whole walk.old.entries.items walk.old.left.items walk.old.gone.keys walk.old.met.keys (with_primes primes (expansion.expand (view tree.entry.now) (scope_at walk.old.entries.items scope) 0)) → GoesOn whole walk.new.entries.items walk.new.left.items walk.new.gone.keys walk.new.met.keys b) }
+    requires linked { AreLinked (listed walk.old.entries) }
+    requires within { scope ≤ length (listed walk.old.entries) }
+    ensures goes { IfOk result (λ b. (whole : Option expr.Expr) → IsWalkTo whole (listed walk.old.entries) walk.old.left.items walk.old.gone.keys walk.old.met.keys (with_primes primes (expansion.expand (view tree.entry.now) (scope_at (listed walk.old.entries) scope) 0)) → GoesOn whole (listed walk.new.entries) walk.new.left.items walk.new.gone.keys walk.new.met.keys b) }
     ensures err { IfErr result (λ f. f ≡ Failure.Memory) }
 {
     match next_step(&mut walk.entries, tree, scope, primes) {
@@ -184,16 +186,16 @@ fn go_from<'a>(
 
 /// Looks at a name of an entry; whether it may be a part. The only error is want of memory.
 fn look_at_name<'a>(
-    walk: &mut Walk<'a>,
+    walk: &mut Walk<'_, 'a>,
     tree: &'a Expr,
     scope: usize,
     primes: Primes,
     entry: usize,
 ) -> Result<bool, Failure>
-    requires linked { AreLinked walk.old.entries.items }
-    requires within { scope ≤ length walk.old.entries.items }
-    requires named { IsNamed walk.old.entries.items (view tree.now) scope entry }
-    ensures goes { IfOk result (λ b. (whole : Option expr.Expr) → IsWalkTo whole walk.old.entries.items walk.old.left.items walk.old.gone.keys walk.old.met.keys (with_primes primes (expansion.expand (view tree.entry.now) (scope_at walk.old.entries.items scope) 0)) → GoesOn whole walk.new.entries.items walk.new.left.items walk.new.gone.keys walk.new.met.keys b) }
+    requires linked { AreLinked (listed walk.old.entries) }
+    requires within { scope ≤ length (listed walk.old.entries) }
+    requires named { IsNamed (listed walk.old.entries) (view tree.now) scope entry }
+    ensures goes { IfOk result (λ b. (whole : Option expr.Expr) → IsWalkTo whole (listed walk.old.entries) walk.old.left.items walk.old.gone.keys walk.old.met.keys (with_primes primes (expansion.expand (view tree.entry.now) (scope_at (listed walk.old.entries) scope) 0)) → GoesOn whole (listed walk.new.entries) walk.new.left.items walk.new.gone.keys walk.new.met.keys b) }
     ensures err { IfErr result (λ f. f ≡ Failure.Memory) }
 {
     let gone = Gone { entry, primes };
@@ -206,27 +208,27 @@ fn look_at_name<'a>(
 
 /// Looks at an expression; whether it may be a part. The only error is want of memory.
 fn look_at<'a>(
-    walk: &mut Walk<'a>,
+    walk: &mut Walk<'_, 'a>,
     tree: &'a Expr,
     scope: usize,
     primes: Primes,
 ) -> Result<bool, Failure>
-    requires linked { AreLinked walk.old.entries.items }
-    requires within { scope ≤ length walk.old.entries.items }
-    ensures goes { IfOk result (λ b. (whole : Option expr.Expr) → IsWalkTo whole walk.old.entries.items walk.old.left.items walk.old.gone.keys walk.old.met.keys (with_primes primes (expansion.expand (view tree.entry.now) (scope_at walk.old.entries.items scope) 0)) → GoesOn whole walk.new.entries.items walk.new.left.items walk.new.gone.keys walk.new.met.keys b) }
+    requires linked { AreLinked (listed walk.old.entries) }
+    requires within { scope ≤ length (listed walk.old.entries) }
+    ensures goes { IfOk result (λ b. (whole : Option expr.Expr) → IsWalkTo whole (listed walk.old.entries) walk.old.left.items walk.old.gone.keys walk.old.met.keys (with_primes primes (expansion.expand (view tree.entry.now) (scope_at (listed walk.old.entries) scope) 0)) → GoesOn whole (listed walk.new.entries) walk.new.left.items walk.new.gone.keys walk.new.met.keys b) }
     ensures err { IfErr result (λ f. f ≡ Failure.Memory) }
 {
-    match named(walk.entries.as_slice(), tree, scope) {
+    match named(&walk.entries, tree, scope) {
         Some(entry) => look_at_name(walk, tree, scope, primes, entry),
         None => go_from(walk, tree, scope, primes),
     }
 }
 
 /// Goes on with what is left, which was taken away; whether all may be parts. The only error is want of memory.
-fn go_on<'a>(walk: &mut Walk<'a>, left: Left<'a>) -> Result<bool, Failure>
-    requires linked { AreLinked walk.old.entries.items }
-    requires inside { IsInside walk.old.entries.items left }
-    ensures goes { IfOk result (λ b. (whole : Option expr.Expr) → IsWalk whole walk.old.entries.items (walk.old.left.items ++ left.entry ∷ []) walk.old.gone.keys walk.old.met.keys → GoesOn whole walk.new.entries.items walk.new.left.items walk.new.gone.keys walk.new.met.keys b) }
+fn go_on<'a>(walk: &mut Walk<'_, 'a>, left: Left<'a>) -> Result<bool, Failure>
+    requires linked { AreLinked (listed walk.old.entries) }
+    requires inside { IsInside (listed walk.old.entries) left }
+    ensures goes { IfOk result (λ b. (whole : Option expr.Expr) → IsWalk whole (listed walk.old.entries) (walk.old.left.items ++ left.entry ∷ []) walk.old.gone.keys walk.old.met.keys → GoesOn whole (listed walk.new.entries) walk.new.left.items walk.new.gone.keys walk.new.met.keys b) }
     ensures err { IfErr result (λ f. f ≡ Failure.Memory) }
 {
     match left {
@@ -257,15 +259,15 @@ fn has_each(met: &IndexSet<usize>, variables: usize) -> bool
 /// only error is want of memory.
 pub(crate) fn covers<'a>(
     alloc: Global,
-    entries: Vec<Entry<'a>>,
+    entries: Entries<'_, 'a>,
     tree: &'a Expr,
     scope: usize,
     variables: usize,
 ) -> Result<bool, Failure>
-    requires linked { AreLinked entries.items }
-    requires within { scope ≤ length entries.items }
-    ensures yes { IfOk result (λ b. b ≡ true → (e : expr.Expr) × (expansion.expand (view tree.entry.now) (scope_at entries.entry.items scope) 0 ≡ Some e) × (spec.covers variables e ≡ true)) }
-    ensures no { IfOk result (λ b. b ≡ false → (e : expr.Expr) → expansion.expand (view tree.entry.now) (scope_at entries.entry.items scope) 0 ≡ Some e → spec.covers variables e ≡ false) }
+    requires linked { AreLinked (listed entries) }
+    requires within { scope ≤ length (listed entries) }
+    ensures yes { IfOk result (λ b. b ≡ true → (e : expr.Expr) × (expansion.expand (view tree.entry.now) (scope_at (listed entries.entry) scope) 0 ≡ Some e) × (spec.covers variables e ≡ true)) }
+    ensures no { IfOk result (λ b. b ≡ false → (e : expr.Expr) → expansion.expand (view tree.entry.now) (scope_at (listed entries.entry) scope) 0 ≡ Some e → spec.covers variables e ≡ false) }
     ensures err { IfErr result (λ f. f ≡ Failure.Memory) }
 {
     let left = Vec::new(alloc);

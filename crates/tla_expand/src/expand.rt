@@ -14,6 +14,7 @@ ghost use Rattle.tla_expand.specs.Scopes.{AreLinked, scope_at};
 ghost use Rattle.tla_expand.specs.Private.Forms.{form_in};
 ghost use Rattle.tla_model.specs.Size.{IsWithinLimits};
 ghost use Rattle.tla_expand.specs.Private.Gives.{part_in, key_in, arm_in, field_in, both, made, Gives, GivesTwo};
+ghost use Rattle.tla_expand.specs.Private.Listed.{listed};
 
 mod binding;
 mod kept;
@@ -21,11 +22,11 @@ mod levels;
 mod lists;
 mod updates;
 
-use crate::arena::Entry;
 use crate::builders::{
     cases_core, cases_or_core, fielded_core, leaf_core, many_core, one_core, product_core,
     three_core, two_core,
 };
+use crate::entries::Entries;
 use crate::expanded::{Expanded, Two as Pair};
 use crate::failure::Failure;
 use crate::heads::find_head;
@@ -93,15 +94,15 @@ fn variable_of(place: Place, index: usize, primes: Primes, left: usize) -> Resul
 #[tactic(auto, using(crate::proofs::Sizes::no_room, crate::proofs::Sizes::none_left))]
 pub(crate) fn expand<'a>(
     alloc: Global,
-    entries: &mut Vec<Entry<'a>>,
+    entries: &mut Entries<'_, 'a>,
     tree: &'a Expr,
     at: Setting,
 ) -> Result<Expanded, Failure>
-    requires linked { AreLinked entries.old.items }
-    requires scope { at.scope ≤ length entries.old.items }
+    requires linked { AreLinked (listed entries.old) }
+    requires scope { at.scope ≤ length (listed entries.old) }
     requires small { at.bound + at.left ≤ 1000000 }
-    ensures kept { OnOk result (entries.new.items ≡ entries.old.items) }
-    ensures same { Gives at.room at.left result (part_in at.primes (scope_at entries.old.items at.scope) at.bound tree.now) }
+    ensures kept { OnOk result (listed entries.new ≡ listed entries.old) }
+    ensures same { Gives at.room at.left result (part_in at.primes (scope_at (listed entries.old) at.scope) at.bound tree.now) }
 {
     if at.room == 0 {
         return Err(Failure::TooLarge);
@@ -128,15 +129,15 @@ pub(crate) fn expand<'a>(
 #[cycle(expand)]
 pub(crate) fn node_of<'a>(
     alloc: Global,
-    entries: &mut Vec<Entry<'a>>,
+    entries: &mut Entries<'_, 'a>,
     form: Form<'a>,
     at: Setting,
 ) -> Result<Expanded, Failure>
-    requires linked { AreLinked entries.old.items }
-    requires scope { at.scope ≤ length entries.old.items }
+    requires linked { AreLinked (listed entries.old) }
+    requires scope { at.scope ≤ length (listed entries.old) }
     requires small { at.bound + at.left < 1000000 }
-    ensures kept { OnOk result (entries.new.items ≡ entries.old.items) }
-    ensures same { Gives (at.room + 1) (at.left + 1) result (with_primes at.primes (form_in form.entry (scope_at entries.old.items at.scope) at.bound)) }
+    ensures kept { OnOk result (listed entries.new ≡ listed entries.old) }
+    ensures same { Gives (at.room + 1) (at.left + 1) result (with_primes at.primes (form_in form.entry (scope_at (listed entries.old) at.scope) at.bound)) }
 {
     match form {
         Form::Leaf(place, node) => leaf_of(alloc, place, node, at.primes, at.left),
@@ -178,17 +179,17 @@ pub(crate) fn node_of<'a>(
 #[cycle(expand)]
 fn one_node<'a>(
     alloc: Global,
-    entries: &mut Vec<Entry<'a>>,
+    entries: &mut Entries<'_, 'a>,
     place: Place,
     node: One<'a>,
     part: &'a Expr,
     at: Setting,
 ) -> Result<Expanded, Failure>
-    requires linked { AreLinked entries.old.items }
-    requires scope { at.scope ≤ length entries.old.items }
+    requires linked { AreLinked (listed entries.old) }
+    requires scope { at.scope ≤ length (listed entries.old) }
     requires small { at.bound + at.left ≤ 1000000 }
-    ensures kept { OnOk result (entries.new.items ≡ entries.old.items) }
-    ensures same { Gives (at.room + 1) (at.left + 1) result (made (λ x. nodes.one node.entry place x) (part_in at.primes (scope_at entries.old.items at.scope) at.bound part.now)) }
+    ensures kept { OnOk result (listed entries.new ≡ listed entries.old) }
+    ensures same { Gives (at.room + 1) (at.left + 1) result (made (λ x. nodes.one node.entry place x) (part_in at.primes (scope_at (listed entries.old) at.scope) at.bound part.now)) }
 {
     let part = expand(alloc, entries, part, at)?;
     let core = one_core(alloc, place, node, part.core)?;
@@ -202,18 +203,18 @@ fn one_node<'a>(
 #[cycle(expand)]
 fn two_node<'a>(
     alloc: Global,
-    entries: &mut Vec<Entry<'a>>,
+    entries: &mut Entries<'_, 'a>,
     place: Place,
     node: Two,
     first: &'a Expr,
     second: &'a Expr,
     at: Setting,
 ) -> Result<Expanded, Failure>
-    requires linked { AreLinked entries.old.items }
-    requires scope { at.scope ≤ length entries.old.items }
+    requires linked { AreLinked (listed entries.old) }
+    requires scope { at.scope ≤ length (listed entries.old) }
     requires small { at.bound + at.left ≤ 1000000 }
-    ensures kept { OnOk result (entries.new.items ≡ entries.old.items) }
-    ensures same { Gives (at.room + 1) (at.left + 1) result (made (λ xy. nodes.two node place xy.0 xy.1) (both (part_in at.primes (scope_at entries.old.items at.scope) at.bound first.now) (part_in at.primes (scope_at entries.old.items at.scope) at.bound second.now))) }
+    ensures kept { OnOk result (listed entries.new ≡ listed entries.old) }
+    ensures same { Gives (at.room + 1) (at.left + 1) result (made (λ xy. nodes.two node place xy.0 xy.1) (both (part_in at.primes (scope_at (listed entries.old) at.scope) at.bound first.now) (part_in at.primes (scope_at (listed entries.old) at.scope) at.bound second.now))) }
 {
     let two = two_parts(alloc, entries, first, second, at.primes, at)?;
     let core = two_core(alloc, place, node, two.first, two.second)?;
@@ -227,7 +228,7 @@ fn two_node<'a>(
 #[cycle(expand)]
 fn three_node<'a>(
     alloc: Global,
-    entries: &mut Vec<Entry<'a>>,
+    entries: &mut Entries<'_, 'a>,
     place: Place,
     node: Three,
     first: &'a Expr,
@@ -235,11 +236,11 @@ fn three_node<'a>(
     third: &'a Expr,
     at: Setting,
 ) -> Result<Expanded, Failure>
-    requires linked { AreLinked entries.old.items }
-    requires scope { at.scope ≤ length entries.old.items }
+    requires linked { AreLinked (listed entries.old) }
+    requires scope { at.scope ≤ length (listed entries.old) }
     requires small { at.bound + at.left ≤ 1000000 }
-    ensures kept { OnOk result (entries.new.items ≡ entries.old.items) }
-    ensures same { Gives (at.room + 1) (at.left + 1) result (made (λ t. nodes.three node place t.0.0 t.0.1 t.1) (both (both (part_in at.primes (scope_at entries.old.items at.scope) at.bound first.now) (part_in at.primes (scope_at entries.old.items at.scope) at.bound second.now)) (part_in at.primes (scope_at entries.old.items at.scope) at.bound third.now))) }
+    ensures kept { OnOk result (listed entries.new ≡ listed entries.old) }
+    ensures same { Gives (at.room + 1) (at.left + 1) result (made (λ t. nodes.three node place t.0.0 t.0.1 t.1) (both (both (part_in at.primes (scope_at (listed entries.old) at.scope) at.bound first.now) (part_in at.primes (scope_at (listed entries.old) at.scope) at.bound second.now)) (part_in at.primes (scope_at (listed entries.old) at.scope) at.bound third.now))) }
 {
     let two = two_parts(alloc, entries, first, second, at.primes, at)?;
     let left = two.left;
@@ -255,17 +256,17 @@ fn three_node<'a>(
 #[cycle(expand)]
 fn many_node<'a>(
     alloc: Global,
-    entries: &mut Vec<Entry<'a>>,
+    entries: &mut Entries<'_, 'a>,
     place: Place,
     node: Many,
     items: &'a [Expr],
     at: Setting,
 ) -> Result<Expanded, Failure>
-    requires linked { AreLinked entries.old.items }
-    requires scope { at.scope ≤ length entries.old.items }
+    requires linked { AreLinked (listed entries.old) }
+    requires scope { at.scope ≤ length (listed entries.old) }
     requires small { at.bound + at.left ≤ 1000000 }
-    ensures kept { OnOk result (entries.new.items ≡ entries.old.items) }
-    ensures same { Gives (at.room + 1) (at.left + 1) result (made (λ xs. nodes.many node place (exprs xs)) (each_of (part_in at.primes (scope_at entries.old.items at.scope) at.bound) items.now)) }
+    ensures kept { OnOk result (listed entries.new ≡ listed entries.old) }
+    ensures same { Gives (at.room + 1) (at.left + 1) result (made (λ xs. nodes.many node place (exprs xs)) (each_of (part_in at.primes (scope_at (listed entries.old) at.scope) at.bound) items.now)) }
 {
     let many = each(alloc, entries, items, at)?;
     Ok(Expanded {
@@ -278,17 +279,17 @@ fn many_node<'a>(
 #[cycle(expand)]
 fn index_node<'a>(
     alloc: Global,
-    entries: &mut Vec<Entry<'a>>,
+    entries: &mut Entries<'_, 'a>,
     place: Place,
     function: &'a Expr,
     items: &'a [Expr],
     at: Setting,
 ) -> Result<Expanded, Failure>
-    requires linked { AreLinked entries.old.items }
-    requires scope { at.scope ≤ length entries.old.items }
+    requires linked { AreLinked (listed entries.old) }
+    requires scope { at.scope ≤ length (listed entries.old) }
     requires small { at.bound + at.left ≤ 1000000 }
-    ensures kept { OnOk result (entries.new.items ≡ entries.old.items) }
-    ensures same { Gives (at.room + 1) (at.left + 1) result (made (λ xy. nodes.two Two.Apply place xy.0 xy.1) (both (part_in at.primes (scope_at entries.old.items at.scope) at.bound function.now) (key_in at.primes (scope_at entries.old.items at.scope) at.bound items.now))) }
+    ensures kept { OnOk result (listed entries.new ≡ listed entries.old) }
+    ensures same { Gives (at.room + 1) (at.left + 1) result (made (λ xy. nodes.two Two.Apply place xy.0 xy.1) (both (part_in at.primes (scope_at (listed entries.old) at.scope) at.bound function.now) (key_in at.primes (scope_at (listed entries.old) at.scope) at.bound items.now))) }
 {
     let function = expand(alloc, entries, function, at)?;
     let left = function.left;
@@ -304,16 +305,16 @@ fn index_node<'a>(
 #[cycle(expand)]
 fn cases_node<'a>(
     alloc: Global,
-    entries: &mut Vec<Entry<'a>>,
+    entries: &mut Entries<'_, 'a>,
     place: Place,
     arms: &'a [Arm],
     at: Setting,
 ) -> Result<Expanded, Failure>
-    requires linked { AreLinked entries.old.items }
-    requires scope { at.scope ≤ length entries.old.items }
+    requires linked { AreLinked (listed entries.old) }
+    requires scope { at.scope ≤ length (listed entries.old) }
     requires small { at.bound + at.left ≤ 1000000 }
-    ensures kept { OnOk result (entries.new.items ≡ entries.old.items) }
-    ensures same { Gives (at.room + 1) (at.left + 1) result (made (λ xs. expr.cases place (arms_with xs expr.no_arms)) (each_of (arm_in at.primes (scope_at entries.old.items at.scope) at.bound) arms.now)) }
+    ensures kept { OnOk result (listed entries.new ≡ listed entries.old) }
+    ensures same { Gives (at.room + 1) (at.left + 1) result (made (λ xs. expr.cases place (arms_with xs expr.no_arms)) (each_of (arm_in at.primes (scope_at (listed entries.old) at.scope) at.bound) arms.now)) }
 {
     let made = arms_of(alloc, entries, arms, at)?;
     Ok(Expanded {
@@ -326,17 +327,17 @@ fn cases_node<'a>(
 #[cycle(expand)]
 fn cases_or_node<'a>(
     alloc: Global,
-    entries: &mut Vec<Entry<'a>>,
+    entries: &mut Entries<'_, 'a>,
     place: Place,
     arms: &'a [Arm],
     last: &'a Expr,
     at: Setting,
 ) -> Result<Expanded, Failure>
-    requires linked { AreLinked entries.old.items }
-    requires scope { at.scope ≤ length entries.old.items }
+    requires linked { AreLinked (listed entries.old) }
+    requires scope { at.scope ≤ length (listed entries.old) }
     requires small { at.bound + at.left ≤ 1000000 }
-    ensures kept { OnOk result (entries.new.items ≡ entries.old.items) }
-    ensures same { Gives (at.room + 1) (at.left + 1) result (made (λ xs. expr.cases place (arms_with xs.0 (expr.other xs.1))) (both (each_of (arm_in at.primes (scope_at entries.old.items at.scope) at.bound) arms.now) (part_in at.primes (scope_at entries.old.items at.scope) at.bound last.now))) }
+    ensures kept { OnOk result (listed entries.new ≡ listed entries.old) }
+    ensures same { Gives (at.room + 1) (at.left + 1) result (made (λ xs. expr.cases place (arms_with xs.0 (expr.other xs.1))) (both (each_of (arm_in at.primes (scope_at (listed entries.old) at.scope) at.bound) arms.now) (part_in at.primes (scope_at (listed entries.old) at.scope) at.bound last.now))) }
 {
     let made = arms_of(alloc, entries, arms, at)?;
     let left = made.left;
@@ -352,17 +353,17 @@ fn cases_or_node<'a>(
 #[cycle(expand)]
 fn product_node<'a>(
     alloc: Global,
-    entries: &mut Vec<Entry<'a>>,
+    entries: &mut Entries<'_, 'a>,
     place: Place,
     first: &'a Expr,
     others: &'a [Expr],
     at: Setting,
 ) -> Result<Expanded, Failure>
-    requires linked { AreLinked entries.old.items }
-    requires scope { at.scope ≤ length entries.old.items }
+    requires linked { AreLinked (listed entries.old) }
+    requires scope { at.scope ≤ length (listed entries.old) }
     requires small { at.bound + at.left ≤ 1000000 }
-    ensures kept { OnOk result (entries.new.items ≡ entries.old.items) }
-    ensures same { Gives (at.room + 1) (at.left + 1) result (made (λ xs. expr.product place (exprs (xs.0 ∷ xs.1))) (both (part_in at.primes (scope_at entries.old.items at.scope) at.bound first.now) (each_of (part_in at.primes (scope_at entries.old.items at.scope) at.bound) others.now))) }
+    ensures kept { OnOk result (listed entries.new ≡ listed entries.old) }
+    ensures same { Gives (at.room + 1) (at.left + 1) result (made (λ xs. expr.product place (exprs (xs.0 ∷ xs.1))) (both (part_in at.primes (scope_at (listed entries.old) at.scope) at.bound first.now) (each_of (part_in at.primes (scope_at (listed entries.old) at.scope) at.bound) others.now))) }
 {
     let first = expand(alloc, entries, first, at)?;
     let left = first.left;
@@ -378,17 +379,17 @@ fn product_node<'a>(
 #[cycle(expand)]
 fn fields_node<'a>(
     alloc: Global,
-    entries: &mut Vec<Entry<'a>>,
+    entries: &mut Entries<'_, 'a>,
     place: Place,
     node: Fielded,
     fields: &'a [Field],
     at: Setting,
 ) -> Result<Expanded, Failure>
-    requires linked { AreLinked entries.old.items }
-    requires scope { at.scope ≤ length entries.old.items }
+    requires linked { AreLinked (listed entries.old) }
+    requires scope { at.scope ≤ length (listed entries.old) }
     requires small { at.bound + at.left ≤ 1000000 }
-    ensures kept { OnOk result (entries.new.items ≡ entries.old.items) }
-    ensures same { Gives (at.room + 1) (at.left + 1) result (made (λ xs. nodes.fielded node place (fields_of xs)) (each_of (field_in at.primes (scope_at entries.old.items at.scope) at.bound) fields.now)) }
+    ensures kept { OnOk result (listed entries.new ≡ listed entries.old) }
+    ensures same { Gives (at.room + 1) (at.left + 1) result (made (λ xs. nodes.fielded node place (fields_of xs)) (each_of (field_in at.primes (scope_at (listed entries.old) at.scope) at.bound) fields.now)) }
 {
     let made = named_parts(alloc, entries, fields, at)?;
     Ok(Expanded {
@@ -401,17 +402,17 @@ fn fields_node<'a>(
 #[cycle(expand)]
 fn two_parts<'a>(
     alloc: Global,
-    entries: &mut Vec<Entry<'a>>,
+    entries: &mut Entries<'_, 'a>,
     first: &'a Expr,
     second: &'a Expr,
     primes: Primes,
     at: Setting,
 ) -> Result<Pair, Failure>
-    requires linked { AreLinked entries.old.items }
-    requires scope { at.scope ≤ length entries.old.items }
+    requires linked { AreLinked (listed entries.old) }
+    requires scope { at.scope ≤ length (listed entries.old) }
     requires small { at.bound + at.left ≤ 1000000 }
-    ensures kept { OnOk result (entries.new.items ≡ entries.old.items) }
-    ensures same { GivesTwo at.room at.left result (both (part_in primes (scope_at entries.old.items at.scope) at.bound first.now) (part_in at.primes (scope_at entries.old.items at.scope) at.bound second.now)) }
+    ensures kept { OnOk result (listed entries.new ≡ listed entries.old) }
+    ensures same { GivesTwo at.room at.left result (both (part_in primes (scope_at (listed entries.old) at.scope) at.bound first.now) (part_in at.primes (scope_at (listed entries.old) at.scope) at.bound second.now)) }
 {
     let first = expand(alloc, entries, first, Setting { primes, ..at })?;
     let left = first.left;
@@ -426,18 +427,18 @@ fn two_parts<'a>(
 /// The expansion of an expression in a scope, with at most 200,000 nodes, of which at most 300 on a path.
 pub(crate) fn expansion<'a>(
     alloc: Global,
-    entries: &mut Vec<Entry<'a>>,
+    entries: &mut Entries<'_, 'a>,
     tree: &'a Expr,
     scope: usize,
     primes: Primes,
     sought: Option<Primes>,
 ) -> Result<Core, Failure>
-    requires linked { AreLinked entries.old.items }
-    requires scope { scope ≤ length entries.old.items }
-    ensures found { IfOk result (λ c. with_primes primes (expansion.expand (view tree.now) (scope_at entries.old.items scope) 0) ≡ Some (expr_of c)) }
+    requires linked { AreLinked (listed entries.old) }
+    requires scope { scope ≤ length (listed entries.old) }
+    ensures found { IfOk result (λ c. with_primes primes (expansion.expand (view tree.now) (scope_at (listed entries.old) scope) 0) ≡ Some (expr_of c)) }
     ensures limits { IfOk result (λ c. IsWithinLimits (expr_of c)) }
-    ensures gone { IfErr result (λ f. (p : Place) → f ≡ Failure.NoExpansion p → with_primes primes (expansion.expand (view tree.now) (scope_at entries.old.items scope) 0) ≡ None) }
-    ensures none { IfErr result (λ f. f ≢ Failure.Memory → (e : expr.Expr) → with_primes primes (expansion.expand (view tree.now) (scope_at entries.old.items scope) 0) ≡ Some e → IsWithinLimits e → ⊥) }
+    ensures gone { IfErr result (λ f. (p : Place) → f ≡ Failure.NoExpansion p → with_primes primes (expansion.expand (view tree.now) (scope_at (listed entries.old) scope) 0) ≡ None) }
+    ensures none { IfErr result (λ f. f ≢ Failure.Memory → (e : expr.Expr) → with_primes primes (expansion.expand (view tree.now) (scope_at (listed entries.old) scope) 0) ≡ Some e → IsWithinLimits e → ⊥) }
 {
     let at = Setting {
         scope,

@@ -12,9 +12,11 @@ ghost use Rattle.tla_expand.specs.Private.Arguments as backs;
 ghost use Rattle.tla_expand.specs.declared.gives.Meant.TheVariants as meants;
 ghost use Rattle.tla_expand.specs.Private.Known.{IsSought, IsHit, IsGiven, IsMeant, IsOperator, IsTurn, ComesTo, GivesBack, defined_name};
 ghost use Rattle.tla_expand.specs.Scopes.{AreLinked, scope_at, arguments_in};
+ghost use Rattle.tla_expand.specs.Private.Listed.{listed};
 
-use crate::arena::{Entry, Given, What, find};
+use crate::arena::{Given, What, find};
 use crate::builders::place_of;
+use crate::entries::Entries;
 use crate::primes::{Primes, one_more};
 use crate::shortened::last_of;
 use tla_core::Place;
@@ -114,14 +116,14 @@ fn sought<'a>(known: &'a Known<'a>, name: &[u8]) -> &'a Known<'a>
 
 /// What an operator gives back.
 fn operator_of(
-    entries: &[Entry<'_>],
+    entries: &Entries<'_, '_>,
     scope: usize,
     known: &Known<'_>,
     name: &[u8],
 ) -> Option<(usize, Given)>
-    requires linked { AreLinked entries.now }
-    requires within { scope ≤ length entries.now }
-    ensures { IfSome result (λ g. IsGiven (scope_at entries.now scope) known.now name.now g.0 g.1) }
+    requires linked { AreLinked (listed entries.now) }
+    requires within { scope ≤ length (listed entries.now) }
+    ensures { IfSome result (λ g. IsGiven (scope_at (listed entries.now) scope) known.now name.now g.0 g.1) }
 {
     let mut at = known;
     loop {
@@ -144,10 +146,10 @@ fn operator_of(
 }
 
 /// What an operator of a scope gives back.
-fn entered(entries: &[Entry<'_>], scope: usize, name: &[u8]) -> Option<(usize, Given)>
-    requires linked { AreLinked entries.now }
-    requires within { scope ≤ length entries.now }
-    ensures { IfSome result (λ g. scope_at entries.now scope name.now ≡ backs.given g.0 g.1) }
+fn entered(entries: &Entries<'_, '_>, scope: usize, name: &[u8]) -> Option<(usize, Given)>
+    requires linked { AreLinked (listed entries.now) }
+    requires within { scope ≤ length (listed entries.now) }
+    ensures { IfSome result (λ g. scope_at (listed entries.now) scope name.now ≡ backs.given g.0 g.1) }
 {
     match find(entries, scope, name)?.what {
         What::Gives(count, given) => Some((count, given)),
@@ -193,16 +195,16 @@ fn named<'a>(part: Part<'a>, name: &Written) -> Turn<'a>
 
 /// The use of an operator.
 fn called<'a>(
-    entries: &[Entry<'_>],
+    entries: &Entries<'_, '_>,
     scope: usize,
     part: Part<'a>,
     name: &Written,
     arguments: &'a [Expr],
 ) -> Turn<'a>
-    requires linked { AreLinked entries.now }
-    requires within { scope ≤ length entries.now }
+    requires linked { AreLinked (listed entries.now) }
+    requires within { scope ≤ length (listed entries.now) }
     requires call { view part.tree.now ≡ Call name.now (trees (map view arguments.now)) }
-    ensures { IsTurn (scope_at entries.now scope) part.entry result }
+    ensures { IsTurn (scope_at (listed entries.now) scope) part.entry result }
 {
     let Some((count, given)) = operator_of(entries, scope, part.known, name.word.as_bytes()) else {
         return Turn::Stops;
@@ -219,10 +221,10 @@ fn called<'a>(
 }
 
 /// What a part of a body comes to by one step.
-fn one_turn<'a>(entries: &[Entry<'_>], scope: usize, part: Part<'a>) -> Turn<'a>
-    requires linked { AreLinked entries.now }
-    requires within { scope ≤ length entries.now }
-    ensures { IsTurn (scope_at entries.now scope) part.entry result }
+fn one_turn<'a>(entries: &Entries<'_, '_>, scope: usize, part: Part<'a>) -> Turn<'a>
+    requires linked { AreLinked (listed entries.now) }
+    requires within { scope ≤ length (listed entries.now) }
+    ensures { IsTurn (scope_at (listed entries.now) scope) part.entry result }
 {
     match part.tree {
         Expr::Name(name) => named(part, name),
@@ -242,10 +244,10 @@ fn one_turn<'a>(entries: &[Entry<'_>], scope: usize, part: Part<'a>) -> Turn<'a>
 }
 
 /// What a part of a body comes to: an argument, or where it goes no further.
-fn last<'a>(entries: &[Entry<'_>], scope: usize, start: Part<'a>) -> Turn<'a>
-    requires linked { AreLinked entries.now }
-    requires within { scope ≤ length entries.now }
-    ensures { IsTurn (scope_at entries.now scope) start.entry result }
+fn last<'a>(entries: &Entries<'_, '_>, scope: usize, start: Part<'a>) -> Turn<'a>
+    requires linked { AreLinked (listed entries.now) }
+    requires within { scope ≤ length (listed entries.now) }
+    ensures { IsTurn (scope_at (listed entries.now) scope) start.entry result }
 {
     let mut part = start;
     for _turn in 0..u64::MAX {
@@ -271,16 +273,16 @@ fn name_of<'a>(definition: &'a Definition) -> &'a [u8]
 /// What a part of a body gives back, inside a LET of these definitions from one on.
 #[cycle(gives)]
 fn given_in(
-    entries: &[Entry<'_>],
+    entries: &Entries<'_, '_>,
     scope: usize,
     part: Part<'_>,
     definitions: &[Definition],
     from: usize,
     left: usize,
 ) -> Option<Given>
-    requires linked { AreLinked entries.now }
-    requires within { scope ≤ length entries.now }
-    ensures { IfSome result (λ g. GivesBack (scope_at entries.now scope) part.entry (drop from definitions.now) g) }
+    requires linked { AreLinked (listed entries.now) }
+    requires within { scope ≤ length (listed entries.now) }
+    ensures { IfSome result (λ g. GivesBack (scope_at (listed entries.now) scope) part.entry (drop from definitions.now) g) }
 {
     if left == 0 {
         return None;
@@ -318,15 +320,15 @@ fn given_in(
 /// What is known of a definition.
 #[cycle(gives)]
 fn meant_by<'a>(
-    entries: &[Entry<'_>],
+    entries: &Entries<'_, '_>,
     scope: usize,
     known: &Known<'_>,
     definition: &'a Definition,
     left: usize,
 ) -> Meant<'a>
-    requires linked { AreLinked entries.now }
-    requires within { scope ≤ length entries.now }
-    ensures { IsMeant (scope_at entries.now scope) known.now (definition_view definition.now) result }
+    requires linked { AreLinked (listed entries.now) }
+    requires within { scope ≤ length (listed entries.now) }
+    ensures { IsMeant (scope_at (listed entries.now) scope) known.now (definition_view definition.now) result }
 {
     let Definition::Operator(_, parameters, body) = definition else {
         return Meant::Other;
@@ -343,16 +345,16 @@ fn meant_by<'a>(
 /// What an operator gives back.
 #[cycle(gives)]
 fn given_by(
-    entries: &[Entry<'_>],
+    entries: &Entries<'_, '_>,
     scope: usize,
     known: &Known<'_>,
     parameters: &[Written],
     body: &Expr,
     left: usize,
 ) -> Option<Given>
-    requires linked { AreLinked entries.now }
-    requires within { scope ≤ length entries.now }
-    ensures { IfSome result (λ g. IsOperator (scope_at entries.now scope) known.now parameters.now (view body.now) g) }
+    requires linked { AreLinked (listed entries.now) }
+    requires within { scope ≤ length (listed entries.now) }
+    ensures { IfSome result (λ g. IsOperator (scope_at (listed entries.now) scope) known.now parameters.now (view body.now) g) }
 {
     let inside = Known::Parameters(&*parameters, &*known);
     let part = Part {
@@ -366,14 +368,14 @@ fn given_by(
 
 /// What a definition gives back.
 pub(crate) fn gives(
-    entries: &[Entry<'_>],
+    entries: &Entries<'_, '_>,
     scope: usize,
     parameters: &[Written],
     body: &Expr,
 ) -> Option<Given>
-    requires linked { AreLinked entries.now }
-    requires within { scope ≤ length entries.now }
-    ensures { IfSome result (λ g. operator parameters.now (expand (view body.now)) (scope_at entries.now scope) ≡ backs.given (length parameters.now) g) }
+    requires linked { AreLinked (listed entries.now) }
+    requires within { scope ≤ length (listed entries.now) }
+    ensures { IfSome result (λ g. operator parameters.now (expand (view body.now)) (scope_at (listed entries.now) scope) ≡ backs.given (length parameters.now) g) }
 {
     if parameters.len() == 0 {
         return None;

@@ -9,9 +9,11 @@ ghost use Rattle.tla_expand.specs.Expand.{expand, definitions_in, definition_in}
 ghost use Rattle.tla_expand.specs.Scopes.{AreLinked, IsBelow, Extends, scope_at, entry_scope, meaning_of, arguments_in};
 ghost use Rattle.tla_expand.specs.Private.Gives.{step_gives, head_gives, IsWithin, Explains};
 ghost use Rattle.tla_expand.specs.Primes.{with_primes};
+ghost use Rattle.tla_expand.specs.Private.Listed.{listed};
 
 use crate::arena::{Entry, What, bind, enter, find};
 use crate::builders::place_of;
+use crate::entries::Entries;
 use crate::failure::Failure;
 use crate::forms::{builtin_form, form_of};
 use crate::gives::{given_argument, gives, later, with_more};
@@ -82,22 +84,22 @@ fn use_of_builtin<'a>(
 
 /// What the use of a name goes on with.
 pub(crate) fn use_of<'a>(
-    entries: &mut Vec<Entry<'a>>,
+    entries: &mut Entries<'_, 'a>,
     place: Place,
     name: &[u8],
     arguments: &'a [Expr],
     scope: usize,
     primes: Primes,
 ) -> Result<Step<'a>, Failure>
-    requires linked { AreLinked entries.old.items }
-    requires scope { scope ≤ length entries.old.items }
-    ensures linked { OnOk result (AreLinked entries.new.items) }
-    ensures extends { OnOk result (Extends entries.new.items entries.old.items) }
-    ensures within { IfOk result (λ s. IsWithin entries.new.items s) }
-    ensures same { IfOk result (λ s. (d : ℕ) → with_primes primes (scope_at entries.old.items scope name.now place (arguments_in arguments.now (scope_at entries.old.items scope)) d) ≡ step_gives entries.new.items s d) }
-    ensures err { IfErr result (λ e. Explains e (λ d. scope_at entries.old.items scope name.now place (arguments_in arguments.now (scope_at entries.old.items scope)) d)) }
+    requires linked { AreLinked (listed entries.old) }
+    requires scope { scope ≤ length (listed entries.old) }
+    ensures linked { OnOk result (AreLinked (listed entries.new)) }
+    ensures extends { OnOk result (Extends (listed entries.new) (listed entries.old)) }
+    ensures within { IfOk result (λ s. IsWithin (listed entries.new) s) }
+    ensures same { IfOk result (λ s. (d : ℕ) → with_primes primes (scope_at (listed entries.old) scope name.now place (arguments_in arguments.now (scope_at (listed entries.old) scope)) d) ≡ step_gives (listed entries.new) s d) }
+    ensures err { IfErr result (λ e. Explains e (λ d. scope_at (listed entries.old) scope name.now place (arguments_in arguments.now (scope_at (listed entries.old) scope)) d)) }
 {
-    let Some(entry) = find(entries.as_slice(), scope, name) else {
+    let Some(entry) = find(entries, scope, name) else {
         let head = use_of_module(place, name, arguments, scope, primes)?;
         return Ok(Step::Ends(head));
     };
@@ -147,21 +149,21 @@ pub(crate) fn use_of<'a>(
 
 /// The scope inside a LET. The only error is want of memory.
 fn define<'a>(
-    entries: &mut Vec<Entry<'a>>,
+    entries: &mut Entries<'_, 'a>,
     definitions: &'a [Definition],
     scope: usize,
 ) -> Result<usize, Failure>
-    requires linked { AreLinked entries.old.items }
-    requires scope { scope ≤ length entries.old.items }
-    ensures linked { OnOk result (AreLinked entries.new.items) }
-    ensures extends { OnOk result (Extends entries.new.items entries.old.items) }
-    ensures within { IfOk result (λ s. s ≤ length entries.new.items) }
-    ensures same { IfOk result (λ s. definitions_in (definitions_of (map definition_view definitions.now)) (scope_at entries.old.items scope) ≡ scope_at entries.new.items s) }
+    requires linked { AreLinked (listed entries.old) }
+    requires scope { scope ≤ length (listed entries.old) }
+    ensures linked { OnOk result (AreLinked (listed entries.new)) }
+    ensures extends { OnOk result (Extends (listed entries.new) (listed entries.old)) }
+    ensures within { IfOk result (λ s. s ≤ length (listed entries.new)) }
+    ensures same { IfOk result (λ s. definitions_in (definitions_of (map definition_view definitions.now)) (scope_at (listed entries.old) scope) ≡ scope_at (listed entries.new) s) }
     ensures err { IfErr result (λ e. e ≡ Failure.Memory) }
 {
     let mut at = scope;
     for i in 0..definitions.len() {
-        let entry = entry_of(entries.as_slice(), &definitions[i], at);
+        let entry = entry_of(entries, &definitions[i], at);
         at = enter(entries, entry)?;
     }
     Ok(at)
@@ -169,15 +171,15 @@ fn define<'a>(
 
 /// What the name of a definition means, by its parameters and its body.
 fn operator_of<'a>(
-    entries: &[Entry<'a>],
+    entries: &Entries<'_, 'a>,
     parameters: &'a [Written],
     body: &'a Expr,
     scope: usize,
 ) -> What<'a>
-    requires linked { AreLinked entries.now }
-    requires within { scope ≤ length entries.now }
+    requires linked { AreLinked (listed entries.now) }
+    requires within { scope ≤ length (listed entries.now) }
     ensures below { IsBelow scope result scope }
-    ensures same { meaning_of (scope_at entries.now) result ≡ operator parameters.now (expand (view body.now)) (scope_at entries.now scope) }
+    ensures same { meaning_of (scope_at (listed entries.now)) result ≡ operator parameters.now (expand (view body.now)) (scope_at (listed entries.now) scope) }
 {
     match gives(entries, scope, parameters, body) {
         Some(given) => What::Gives(parameters.len(), given),
@@ -190,15 +192,15 @@ fn operator_of<'a>(
 
 /// The entry of a definition behind a scope.
 pub(crate) fn entry_of<'a>(
-    entries: &[Entry<'a>],
+    entries: &Entries<'_, 'a>,
     definition: &'a Definition,
     scope: usize,
 ) -> Entry<'a>
-    requires linked { AreLinked entries.now }
-    requires within { scope ≤ length entries.now }
+    requires linked { AreLinked (listed entries.now) }
+    requires within { scope ≤ length (listed entries.now) }
     ensures rest { result.rest ≡ scope }
     ensures below { IsBelow scope result.what result.rest }
-    ensures scope { entry_scope (scope_at entries.now) result ≡ definition_in (definition_view definition.now) (scope_at entries.now scope) }
+    ensures scope { entry_scope (scope_at (listed entries.now)) result ≡ definition_in (definition_view definition.now) (scope_at (listed entries.now) scope) }
 {
     match definition {
         Definition::Operator(name, parameters, body) => {
@@ -219,18 +221,18 @@ pub(crate) fn entry_of<'a>(
 
 /// The next step towards the form of an expression that stands for another one.
 fn go<'a>(
-    entries: &mut Vec<Entry<'a>>,
+    entries: &mut Entries<'_, 'a>,
     tree: &'a Expr,
     scope: usize,
     primes: Primes,
 ) -> Result<Step<'a>, Failure>
-    requires linked { AreLinked entries.old.items }
-    requires scope { scope ≤ length entries.old.items }
-    ensures linked { OnOk result (AreLinked entries.new.items) }
-    ensures extends { OnOk result (Extends entries.new.items entries.old.items) }
-    ensures within { IfOk result (λ s. IsWithin entries.new.items s) }
-    ensures same { IfOk result (λ s. (d : ℕ) → with_primes primes (expand (view tree.now) (scope_at entries.old.items scope) d) ≡ step_gives entries.new.items s d) }
-    ensures err { IfErr result (λ e. Explains e (λ d. expand (view tree.now) (scope_at entries.old.items scope) d)) }
+    requires linked { AreLinked (listed entries.old) }
+    requires scope { scope ≤ length (listed entries.old) }
+    ensures linked { OnOk result (AreLinked (listed entries.new)) }
+    ensures extends { OnOk result (Extends (listed entries.new) (listed entries.old)) }
+    ensures within { IfOk result (λ s. IsWithin (listed entries.new) s) }
+    ensures same { IfOk result (λ s. (d : ℕ) → with_primes primes (expand (view tree.now) (scope_at (listed entries.old) scope) d) ≡ step_gives (listed entries.new) s d) }
+    ensures err { IfErr result (λ e. Explains e (λ d. expand (view tree.now) (scope_at (listed entries.old) scope) d)) }
 {
     match tree {
         Expr::Name(name) => {
@@ -255,18 +257,18 @@ fn go<'a>(
 
 /// The next step towards the form of an expression.
 pub(crate) fn next_step<'a>(
-    entries: &mut Vec<Entry<'a>>,
+    entries: &mut Entries<'_, 'a>,
     tree: &'a Expr,
     scope: usize,
     primes: Primes,
 ) -> Result<Step<'a>, Failure>
-    requires linked { AreLinked entries.old.items }
-    requires scope { scope ≤ length entries.old.items }
-    ensures linked { OnOk result (AreLinked entries.new.items) }
-    ensures extends { OnOk result (Extends entries.new.items entries.old.items) }
-    ensures within { IfOk result (λ s. IsWithin entries.new.items s) }
-    ensures same { IfOk result (λ s. (d : ℕ) → with_primes primes (expand (view tree.now) (scope_at entries.old.items scope) d) ≡ step_gives entries.new.items s d) }
-    ensures err { IfErr result (λ e. Explains e (λ d. expand (view tree.now) (scope_at entries.old.items scope) d)) }
+    requires linked { AreLinked (listed entries.old) }
+    requires scope { scope ≤ length (listed entries.old) }
+    ensures linked { OnOk result (AreLinked (listed entries.new)) }
+    ensures extends { OnOk result (Extends (listed entries.new) (listed entries.old)) }
+    ensures within { IfOk result (λ s. IsWithin (listed entries.new) s) }
+    ensures same { IfOk result (λ s. (d : ℕ) → with_primes primes (expand (view tree.now) (scope_at (listed entries.old) scope) d) ≡ step_gives (listed entries.new) s d) }
+    ensures err { IfErr result (λ e. Explains e (λ d. expand (view tree.now) (scope_at (listed entries.old) scope) d)) }
 {
     match form_of(tree) {
         Shape::Goes => go(entries, tree, scope, primes),
@@ -290,14 +292,14 @@ fn larger(first: usize, second: usize) -> usize
 }
 
 /// Gives back the entries behind a scope, and behind so many: what a call leaves behind that comes to one of its arguments.
-fn give_back<'a>(entries: &mut Vec<Entry<'a>>, kept: usize, scope: usize)
-    requires linked { AreLinked entries.old.items }
-    requires kept { kept ≤ length entries.old.items }
-    requires scope { scope ≤ length entries.old.items }
-    ensures linked { AreLinked entries.new.items }
-    ensures within { scope ≤ length entries.new.items }
-    ensures same { scope_at entries.new.items scope ≡ scope_at entries.old.items scope }
-    ensures extends { (es : List arena_entry.Entry) → length es ≤ kept → Extends entries.old.items es → Extends entries.new.items es }
+fn give_back<'a>(entries: &mut Entries<'_, 'a>, kept: usize, scope: usize)
+    requires linked { AreLinked (listed entries.old) }
+    requires kept { kept ≤ length (listed entries.old) }
+    requires scope { scope ≤ length (listed entries.old) }
+    ensures linked { AreLinked (listed entries.new) }
+    ensures within { scope ≤ length (listed entries.new) }
+    ensures same { scope_at (listed entries.new) scope ≡ scope_at (listed entries.old) scope }
+    ensures extends { (es : List arena_entry.Entry) → length es ≤ kept → Extends (listed entries.old) es → Extends (listed entries.new) es }
 {
     let end = larger(kept, scope);
     entries.truncate(end);
@@ -305,13 +307,13 @@ fn give_back<'a>(entries: &mut Vec<Entry<'a>>, kept: usize, scope: usize)
 
 /// Where the last prime stands, with that of an argument that a use gives back.
 fn last_given(
-    entries: &[Entry<'_>],
+    entries: &Entries<'_, '_>,
     scope: usize,
     name: &[u8],
     before: Option<Place>,
 ) -> Option<Place>
-    requires linked { AreLinked entries.now }
-    requires scope { scope ≤ length entries.now }
+    requires linked { AreLinked (listed entries.now) }
+    requires scope { scope ≤ length (listed entries.now) }
 {
     match find(entries, scope, name) {
         Some(entry) => match entry.what {
@@ -324,14 +326,14 @@ fn last_given(
 
 /// Where the last prime stands, with those that are passed from an expression, behind which there are so many.
 fn last_prime(
-    entries: &[Entry<'_>],
+    entries: &Entries<'_, '_>,
     scope: usize,
     tree: &Expr,
     primes: Primes,
     before: Option<Place>,
 ) -> Option<Place>
-    requires linked { AreLinked entries.now }
-    requires scope { scope ≤ length entries.now }
+    requires linked { AreLinked (listed entries.now) }
+    requires scope { scope ≤ length (listed entries.now) }
 {
     match tree {
         Expr::Prime(at, _) => Some(place_of(*at)),
@@ -347,18 +349,18 @@ fn last_prime(
 
 /// The form of an expression.
 pub(crate) fn find_head<'a>(
-    entries: &mut Vec<Entry<'a>>,
+    entries: &mut Entries<'_, 'a>,
     start: &'a Expr,
     scope: usize,
     primes: Primes,
 ) -> Result<Head<'a>, Failure>
-    requires linked { AreLinked entries.old.items }
-    requires scope { scope ≤ length entries.old.items }
-    ensures linked { OnOk result (AreLinked entries.new.items) }
-    ensures extends { OnOk result (Extends entries.new.items entries.old.items) }
-    ensures within { IfOk result (λ h. h.scope ≤ length entries.new.items) }
-    ensures same { IfOk result (λ h. (d : ℕ) → with_primes primes (expand (view start.now) (scope_at entries.old.items scope) d) ≡ head_gives entries.new.items h d) }
-    ensures err { IfErr result (λ e. Explains e (λ d. with_primes primes (expand (view start.now) (scope_at entries.old.items scope) d))) }
+    requires linked { AreLinked (listed entries.old) }
+    requires scope { scope ≤ length (listed entries.old) }
+    ensures linked { OnOk result (AreLinked (listed entries.new)) }
+    ensures extends { OnOk result (Extends (listed entries.new) (listed entries.old)) }
+    ensures within { IfOk result (λ h. h.scope ≤ length (listed entries.new)) }
+    ensures same { IfOk result (λ h. (d : ℕ) → with_primes primes (expand (view start.now) (scope_at (listed entries.old) scope) d) ≡ head_gives (listed entries.new) h d) }
+    ensures err { IfErr result (λ e. Explains e (λ d. with_primes primes (expand (view start.now) (scope_at (listed entries.old) scope) d))) }
 {
     let mark = entries.len();
     head_behind(entries, start, scope, primes, mark)
@@ -366,20 +368,20 @@ pub(crate) fn find_head<'a>(
 
 /// The form of an expression, where there are so many entries.
 fn head_behind<'a>(
-    entries: &mut Vec<Entry<'a>>,
+    entries: &mut Entries<'_, 'a>,
     start: &'a Expr,
     scope: usize,
     primes: Primes,
     mark: usize,
 ) -> Result<Head<'a>, Failure>
-    requires mark { mark ≡ length entries.old.items }
-    requires linked { AreLinked entries.old.items }
-    requires scope { scope ≤ length entries.old.items }
-    ensures linked { OnOk result (AreLinked entries.new.items) }
-    ensures extends { OnOk result (Extends entries.new.items entries.old.items) }
-    ensures within { IfOk result (λ h. h.scope ≤ length entries.new.items) }
-    ensures same { IfOk result (λ h. (d : ℕ) → with_primes primes (expand (view start.now) (scope_at entries.old.items scope) d) ≡ head_gives entries.new.items h d) }
-    ensures err { IfErr result (λ e. Explains e (λ d. with_primes primes (expand (view start.now) (scope_at entries.old.items scope) d))) }
+    requires mark { mark ≡ length (listed entries.old) }
+    requires linked { AreLinked (listed entries.old) }
+    requires scope { scope ≤ length (listed entries.old) }
+    ensures linked { OnOk result (AreLinked (listed entries.new)) }
+    ensures extends { OnOk result (Extends (listed entries.new) (listed entries.old)) }
+    ensures within { IfOk result (λ h. h.scope ≤ length (listed entries.new)) }
+    ensures same { IfOk result (λ h. (d : ℕ) → with_primes primes (expand (view start.now) (scope_at (listed entries.old) scope) d) ≡ head_gives (listed entries.new) h d) }
+    ensures err { IfErr result (λ e. Explains e (λ d. with_primes primes (expand (view start.now) (scope_at (listed entries.old) scope) d))) }
 {
     let mut tree = start;
     let mut at = scope;
@@ -389,7 +391,7 @@ fn head_behind<'a>(
         match next_step(entries, tree, at, with)? {
             Step::Ends(head) => return Ok(Head { primed, ..head }),
             Step::Goes(next, inner, more) => {
-                primed = last_prime(entries.as_slice(), at, tree, more, primed);
+                primed = last_prime(entries, at, tree, more, primed);
                 give_back(entries, mark, inner);
                 tree = next;
                 at = inner;

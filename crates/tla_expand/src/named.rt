@@ -9,9 +9,10 @@ ghost use Rattle.tla_tree.specs.Tree.{Name};
 ghost use Rattle.tla_expand.specs.Expand as expansion;
 ghost use Rattle.tla_expand.specs.Primes.{with_primes};
 ghost use Rattle.tla_expand.specs.Scopes.{AreLinked, scope_at};
+ghost use Rattle.tla_expand.specs.Private.Listed.{listed};
 
-use crate::arena::Entry;
 use crate::builders::place_of;
+use crate::entries::Entries;
 use crate::expand::{Setting, expand, node_of};
 use crate::failure::Failure;
 use crate::heads::{Step, use_of};
@@ -24,18 +25,18 @@ use tla_tree::Written;
 /// most 300 on a path.
 pub(crate) fn named_expansion<'a>(
     alloc: Global,
-    entries: &mut Vec<Entry<'a>>,
+    entries: &mut Entries<'_, 'a>,
     name: &Written,
     scope: usize,
     primes: Primes,
     sought: Option<Primes>,
 ) -> Result<Core, Failure>
-    requires linked { AreLinked entries.old.items }
-    requires scope { scope ≤ length entries.old.items }
-    ensures found { IfOk result (λ c. with_primes primes (expansion.expand (Name name.now) (scope_at entries.old.items scope) 0) ≡ Some (expr_of c)) }
+    requires linked { AreLinked (listed entries.old) }
+    requires scope { scope ≤ length (listed entries.old) }
+    ensures found { IfOk result (λ c. with_primes primes (expansion.expand (Name name.now) (scope_at (listed entries.old) scope) 0) ≡ Some (expr_of c)) }
     ensures limits { IfOk result (λ c. IsWithinLimits (expr_of c)) }
-    ensures gone { IfErr result (λ f. (p : fault.Place) → f ≡ Failure.NoExpansion p → with_primes primes (expansion.expand (Name name.now) (scope_at entries.old.items scope) 0) ≡ None) }
-    ensures none { IfErr result (λ f. f ≢ Failure.Memory → (e : expr.Expr) → with_primes primes (expansion.expand (Name name.now) (scope_at entries.old.items scope) 0) ≡ Some e → IsWithinLimits e → ⊥) }
+    ensures gone { IfErr result (λ f. (p : fault.Place) → f ≡ Failure.NoExpansion p → with_primes primes (expansion.expand (Name name.now) (scope_at (listed entries.old) scope) 0) ≡ None) }
+    ensures none { IfErr result (λ f. f ≢ Failure.Memory → (e : expr.Expr) → with_primes primes (expansion.expand (Name name.now) (scope_at (listed entries.old) scope) 0) ≡ Some e → IsWithinLimits e → ⊥) }
 {
     let at = place_of(name.place);
     let word = name.word.as_bytes();

@@ -18,10 +18,12 @@ ghost use Rattle.tla_expand.specs.Scopes.{AreLinked, IsBelow, entry_scope, scope
 ghost use Rattle.tla_expand.specs.Linked.{AreLinked-prop};
 ghost use Rattle.tla_expand.specs.declared.failure.Failure as failure;
 ghost use Rattle.tla_expand.specs.Primes.{with_primes};
+ghost use Rattle.tla_expand.specs.Private.Listed.{listed, lent_count};
 
 use crate::arena::{Entry, What, enter, find};
 use crate::conjunction::conjunction;
 use crate::cover::covers;
+use crate::entries::Entries;
 use crate::expand::expansion;
 use crate::failure::Failure;
 use crate::heads::entry_of;
@@ -50,12 +52,13 @@ fn still_refused(found: Result<Core, Failure>) -> Failure
 /// Round them stands the scope that was made before, if any.
 #[derive(Drop)]
 pub struct Scopes<'a> {
-    entries: Vec<Entry<'a>>,
+    entries: Entries<'a, 'a>,
     current: usize,
     outer: usize,
-    ghost linked: { AreLinked entries.items } by { AreLinked-prop entries.items },
-    ghost current_within: { current ≤ length entries.items },
-    ghost outer_within: { outer ≤ length entries.items },
+    ghost linked: { AreLinked (listed entries) } by { AreLinked-prop (listed entries) },
+    ghost own: { lent_count entries ≡ 0 },
+    ghost current_within: { current ≤ length (listed entries) },
+    ghost outer_within: { outer ≤ length (listed entries) },
 }
 
 impl<'a> Scopes<'a> {
@@ -67,7 +70,7 @@ impl<'a> Scopes<'a> {
         ensures outer { outer_of result ≡ standard }
     {
         Scopes {
-            entries: Vec::new(alloc),
+            entries: Entries::new(alloc),
             current: 0,
             outer: 0,
         }
@@ -87,8 +90,8 @@ impl<'a> Scopes<'a> {
 
     /// With an entry more. The only error is want of memory.
     fn with_entry(self, entry: Entry<'a>) -> Result<Scopes<'a>, Failure>
-        requires { IsBelow (length self.entries.items) entry.what entry.rest }
-        ensures ok { IfOk result (λ s. scope_of s ≡ entry_scope (scope_at self.entry.entries.items) entry.entry) }
+        requires { IsBelow (length (listed self.entries)) entry.what entry.rest }
+        ensures ok { IfOk result (λ s. scope_of s ≡ entry_scope (scope_at (listed self.entry.entries)) entry.entry) }
         ensures outer { IfOk result (λ s. outer_of s ≡ outer_of self.entry) }
         ensures err { IfErr result (λ e. e ≡ Failure.Memory) }
     {
@@ -136,7 +139,7 @@ impl<'a> Scopes<'a> {
         ensures outer { IfOk result (λ s. outer_of s ≡ outer_of self.entry) }
         ensures err { IfErr result (λ e. e ≡ Failure.Memory) }
     {
-        let what = match find(self.entries.as_slice(), self.outer, operator.as_bytes()) {
+        let what = match find(&self.entries, self.outer, operator.as_bytes()) {
             Some(entry) => entry.what,
             None => match builtin_for(operator.as_bytes()) {
                 Some(builtin) => What::Module(builtin),
@@ -172,7 +175,7 @@ impl<'a> Scopes<'a> {
         ensures err { IfErr result (λ e. e ≡ Failure.Memory) }
     {
         let rest = self.current;
-        let entry = entry_of(self.entries.as_slice(), definition, rest);
+        let entry = entry_of(&self.entries, definition, rest);
         self.with_entry(entry)
     }
 
@@ -189,13 +192,8 @@ impl<'a> Scopes<'a> {
         ensures gone { IfErr result (λ f. (p : Place) → f ≡ Failure.NoExpansion p → with_primes primes (expand (view tree.now) (scope_of self.now) 0) ≡ None) }
         ensures none { IfErr result (λ f. f ≢ Failure.Memory → (e : expr.Expr) → with_primes primes (expand (view tree.now) (scope_of self.now) 0) ≡ Some e → IsWithinLimits e → ⊥) }
     {
-        match Vec::from_slice(alloc, self.entries.as_slice()) {
-            Ok(mut entries) => {
-                let scope = self.current;
-                expansion(alloc, &mut entries, tree, scope, primes, sought)
-            }
-            Err(_) => Err(Failure::Memory),
-        }
+        let mut entries = self.entries.lent(alloc);
+        expansion(alloc, &mut entries, tree, self.current, primes, sought)
     }
 
     /// The expansion of an expression under these names, with at most 200,000 nodes, of which at most 300 on a path; or what
@@ -231,13 +229,8 @@ impl<'a> Scopes<'a> {
         ensures gone { IfErr result (λ f. (p : Place) → f ≡ Failure.NoExpansion p → with_primes primes (expand (Name name.now) (scope_of self.now) 0) ≡ None) }
         ensures none { IfErr result (λ f. f ≢ Failure.Memory → (e : expr.Expr) → with_primes primes (expand (Name name.now) (scope_of self.now) 0) ≡ Some e → IsWithinLimits e → ⊥) }
     {
-        match Vec::from_slice(alloc, self.entries.as_slice()) {
-            Ok(mut entries) => {
-                let scope = self.current;
-                named_expansion(alloc, &mut entries, name, scope, primes, sought)
-            }
-            Err(_) => Err(Failure::Memory),
-        }
+        let mut entries = self.entries.lent(alloc);
+        named_expansion(alloc, &mut entries, name, self.current, primes, sought)
     }
 
     /// The expansion of a name without arguments, within the same limits; or what is met first that refuses it.
@@ -272,13 +265,16 @@ impl<'a> Scopes<'a> {
         ensures gone { IfErr result (λ f. (p : Place) → f ≡ Failure.NoExpansion p → with_primes primes (expand (Junction place bullet.And (trees_of (map (λ (t : Bor syntax.Expr). view t.now) trees.now))) (scope_of self.now) 0) ≡ None) }
         ensures none { IfErr result (λ f. f ≢ Failure.Memory → (e : expr.Expr) → with_primes primes (expand (Junction place bullet.And (trees_of (map (λ (t : Bor syntax.Expr). view t.now) trees.now))) (scope_of self.now) 0) ≡ Some e → IsWithinLimits e → ⊥) }
     {
-        match Vec::from_slice(alloc, self.entries.as_slice()) {
-            Ok(mut entries) => {
-                let scope = self.current;
-                conjunction(alloc, &mut entries, place, trees, scope, primes, sought)
-            }
-            Err(_) => Err(Failure::Memory),
-        }
+        let mut entries = self.entries.lent(alloc);
+        conjunction(
+            alloc,
+            &mut entries,
+            place,
+            trees,
+            self.current,
+            primes,
+            sought,
+        )
     }
 
     /// The expansion of the conjunction of these expressions, at a place, within the same limits; or what is met first that
@@ -313,9 +309,7 @@ impl<'a> Scopes<'a> {
         ensures no { IfOk result (λ b. b ≡ false → (e : expr.Expr) → expand (view tree.now) (scope_of self.now) 0 ≡ Some e → cover.covers variables e ≡ false) }
         ensures err { IfErr result (λ f. f ≡ Failure.Memory) }
     {
-        match Vec::from_slice(alloc, self.entries.as_slice()) {
-            Ok(entries) => covers(alloc, entries, tree, self.current, variables),
-            Err(_) => Err(Failure::Memory),
-        }
+        let entries = self.entries.lent(alloc);
+        covers(alloc, entries, tree, self.current, variables)
     }
 }

@@ -8,8 +8,10 @@ ghost use Rattle.tla_expand.specs.Meanings.{Scope, Argument, with_parameters, op
 ghost use Rattle.tla_expand.specs.Expand.{expand};
 ghost use Rattle.tla_expand.specs.Private.Parameters.{IsAbsent, IsLast};
 ghost use Rattle.tla_expand.specs.Scopes.{AreLinked, scope_at, arguments_in};
+ghost use Rattle.tla_expand.specs.Private.Listed.{listed};
 
-use crate::arena::{Entry, What, find};
+use crate::arena::{What, find};
+use crate::entries::Entries;
 use crate::gives::given_argument;
 use crate::primes::Primes;
 use tla_tree::{Expr, Written};
@@ -32,14 +34,14 @@ pub(crate) fn last_of(parameters: &[Written], name: &[u8]) -> Option<usize>
 
 /// The argument that a use of a name comes to, where its definition gives it back without primes.
 fn chosen<'a>(
-    entries: &[Entry<'a>],
+    entries: &Entries<'_, 'a>,
     scope: usize,
     name: &[u8],
     arguments: &'a [Expr],
 ) -> Option<&'a Expr>
-    requires linked { AreLinked entries.now }
-    requires within { scope ≤ length entries.now }
-    ensures { IfSome result (λ e. (σ : Scope) (p : Place) (d : ℕ) → scope_at entries.now scope name.now p (arguments_in arguments.now σ) d ≡ expand (view e.now) σ d) }
+    requires linked { AreLinked (listed entries.now) }
+    requires within { scope ≤ length (listed entries.now) }
+    ensures { IfSome result (λ e. (σ : Scope) (p : Place) (d : ℕ) → scope_at (listed entries.now) scope name.now p (arguments_in arguments.now σ) d ≡ expand (view e.now) σ d) }
 {
     let entry = find(entries, scope, name)?;
     let What::Gives(count, given) = entry.what else {
@@ -53,14 +55,14 @@ fn chosen<'a>(
 
 /// The part that a body comes to by one step, whatever its parameters stand for.
 fn part_of<'a>(
-    entries: &[Entry<'a>],
+    entries: &Entries<'_, 'a>,
     scope: usize,
     parameters: &[Written],
     body: &'a Expr,
 ) -> Option<&'a Expr>
-    requires linked { AreLinked entries.now }
-    requires within { scope ≤ length entries.now }
-    ensures { IfSome result (λ e. (args : List Argument) (σ : Scope) (d : ℕ) → with_parameters parameters.now args (scope_at entries.now scope) ≡ Some σ → expand (view e.now) σ d ≡ expand (view body.now) σ d) }
+    requires linked { AreLinked (listed entries.now) }
+    requires within { scope ≤ length (listed entries.now) }
+    ensures { IfSome result (λ e. (args : List Argument) (σ : Scope) (d : ℕ) → with_parameters parameters.now args (scope_at (listed entries.now) scope) ≡ Some σ → expand (view e.now) σ d ≡ expand (view body.now) σ d) }
 {
     match body {
         Expr::Paren(_, inner) => Some(inner),
@@ -77,14 +79,14 @@ fn part_of<'a>(
 
 /// A part of a body that means the same for all arguments. It is sought for so many steps, more than a body is deep.
 pub(crate) fn shortened<'a>(
-    entries: &[Entry<'a>],
+    entries: &Entries<'_, 'a>,
     scope: usize,
     parameters: &[Written],
     body: &'a Expr,
 ) -> &'a Expr
-    requires linked { AreLinked entries.now }
-    requires within { scope ≤ length entries.now }
-    ensures { operator parameters.now (expand (view result.now)) (scope_at entries.now scope) ≡ operator parameters.now (expand (view body.now)) (scope_at entries.now scope) }
+    requires linked { AreLinked (listed entries.now) }
+    requires within { scope ≤ length (listed entries.now) }
+    ensures { operator parameters.now (expand (view result.now)) (scope_at (listed entries.now) scope) ≡ operator parameters.now (expand (view body.now)) (scope_at (listed entries.now) scope) }
 {
     let mut part = body;
     for _turn in 0..1000 {

@@ -19,6 +19,3 @@ pub use names::{Near, nearest};
 pub use places::is_before;
 pub use statements::STATEMENTS;
 pub use words::word_of;
-
-#[cfg(test)]
-mod tests;

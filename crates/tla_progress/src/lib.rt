@@ -5,8 +5,6 @@
 
 mod progress;
 mod seen;
-#[cfg(test)]
-mod tests;
 mod took;
 
 pub use progress::Progress;

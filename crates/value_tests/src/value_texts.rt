@@ -2,8 +2,8 @@
 use std::alloc::Global;
 use std::io;
 use std::io::{ErrorKind, Write};
-use std::test::*;
-use tla_value::{FunValue, Text, TextFault, Value};
+use std::test::Fail;
+use tla_value::{FunValue, Text, TextFault, Value, ValueError};
 
 // Takes at most `step` bytes a call while there is room, and then fails or takes nothing.
 #[derive(Drop)]
@@ -34,43 +34,46 @@ impl Write for Narrow {
     }
 }
 
-// (0 :> "A" @@ 1 :> "Done")
-fn steps(alloc: Global) -> Result<Value, Fail> {
+const TEXT: &[u8] = b"(0 :> \"A\" @@ 1 :> \"Done\")";
+
+// The value of the text.
+fn steps(alloc: Global) -> Result<Value, ValueError> {
     let mut pairs = Vec::new(alloc);
     for (key, name) in [(1, "Done"), (0, "A")] {
-        let text = Text::new(alloc, name)?;
-        pairs.push((Value::Int(key), Value::Text(text)))?;
+        pairs.push((Value::Int(key), Value::Text(Text::new(alloc, name)?)))?;
     }
     Ok(Value::Fun(FunValue::from_pairs(pairs)?))
+}
+
+// Whether so many bytes of the text go out, and it ends at the first refusal.
+fn ends_at_the_first(alloc: Global, value: &Value, step: usize, room: usize, fails: bool) -> bool {
+    let mut out = Narrow {
+        taken: Vec::new(alloc),
+        step,
+        room,
+        fails,
+        refusals: 0,
+    };
+    let result = value.write_text(&mut out);
+    if room < TEXT.len() {
+        let written = room as u64;
+        result == Err(TextFault { written })
+            && out.refusals == 1
+            && out.taken.as_slice() == &TEXT[..room]
+    } else {
+        result == Ok(()) && out.refusals == 0 && out.taken.as_slice() == TEXT
+    }
 }
 
 // Each count of bytes that go out, also where a value is cut.
 #[test]
 fn ends_at_the_first_refusal(rt: HostRuntime) -> Result<(), Fail> {
     let value = steps(rt.alloc())?;
-    let text = b"(0 :> \"A\" @@ 1 :> \"Done\")".as_slice();
     for fails in [true, false] {
         for step in [1, 3, 90] {
-            for room in 0..26 {
-                let taken = Vec::new(rt.alloc());
-                let mut out = Narrow {
-                    taken,
-                    step,
-                    room,
-                    fails,
-                    refusals: 0,
-                };
-                let result = value.write_text(&mut out);
-                let (expected, refusals) = match room {
-                    25 => (Ok(()), 0),
-                    _ => {
-                        let written = room as u64;
-                        (Err(TextFault { written }), 1)
-                    }
-                };
-                assert!(rt; result == expected, "{step} a call, {room} in all");
-                assert_eq!(rt; out.refusals, refusals);
-                assert_eq!(rt; out.taken.as_slice(), &text[..room]);
+            for room in 0..=TEXT.len() {
+                let ends = ends_at_the_first(rt.alloc(), &value, step, room, fails);
+                assert!(rt; ends, "{step} a call, {room} in all");
             }
         }
     }

@@ -7,7 +7,7 @@ use tla_check::{Gate, GatePlace, Pass};
 const TURNS: u64 = 1_000_000_000;
 
 /// Which pieces are held.
-#[derive(Clone, Copy, Debug, PartialEq, Eq)]
+#[derive(Clone, Copy)]
 pub enum Held {
     /// The first that is entered.
     First,
@@ -16,7 +16,7 @@ pub enum Held {
 }
 
 /// What lets the held pieces go.
-#[derive(Clone, Copy, Debug, PartialEq, Eq)]
+#[derive(Clone, Copy)]
 pub enum Until {
     /// So many of them were entered.
     Entered(u64),
@@ -32,16 +32,17 @@ pub struct Holds {
     pass: Pass,
     held: Held,
     until: Until,
-    /// How many pieces were entered, and how many held ones.
+    /// How many pieces were entered.
     entered: AtomicU64,
-    held_entered: AtomicU64,
-    left: AtomicU64,
     left_piece: AtomicU64,
+    /// How many held pieces were entered, and how many pieces were left.
+    pub held_entered: AtomicU64,
+    pub left: AtomicU64,
     /// How many held pieces were dropped, and how many others.
-    held_dropped: AtomicU64,
-    others_dropped: AtomicU64,
+    pub held_dropped: AtomicU64,
+    pub others_dropped: AtomicU64,
     /// How many pieces went on though nothing let them go.
-    late: AtomicU64,
+    pub late: AtomicU64,
 }
 
 impl Holds {
@@ -51,33 +52,13 @@ impl Holds {
             held,
             until,
             entered: AtomicU64::new(0),
+            left_piece: AtomicU64::new(0),
             held_entered: AtomicU64::new(0),
             left: AtomicU64::new(0),
-            left_piece: AtomicU64::new(0),
             held_dropped: AtomicU64::new(0),
             others_dropped: AtomicU64::new(0),
             late: AtomicU64::new(0),
         }
-    }
-
-    pub fn late(&self) -> u64 {
-        self.late.load(Ordering::SeqCst)
-    }
-
-    pub fn held_entered(&self) -> u64 {
-        self.held_entered.load(Ordering::SeqCst)
-    }
-
-    pub fn left(&self) -> u64 {
-        self.left.load(Ordering::SeqCst)
-    }
-
-    pub fn held_dropped(&self) -> u64 {
-        self.held_dropped.load(Ordering::SeqCst)
-    }
-
-    pub fn others_dropped(&self) -> u64 {
-        self.others_dropped.load(Ordering::SeqCst)
     }
 
     fn is_here(&self, place: &GatePlace) -> bool {
@@ -130,7 +111,7 @@ impl Gate for Holds {
         } else if dropped {
             self.others_dropped.fetch_add(1, Ordering::SeqCst);
         }
-        if self.until == Until::LeftPiece(place.piece) {
+        if matches!(self.until, Until::LeftPiece(piece) if piece == place.piece) {
             self.left_piece.store(1, Ordering::SeqCst);
         }
         self.left.fetch_add(1, Ordering::SeqCst);

@@ -21,6 +21,16 @@ State 1:
 Levels 1, states 10.
 ";
 
+/// Ten states on one level, of which eight are bad.
+pub const EIGHT_BAD: &str = "---- MODULE M ----
+EXTENDS Integers
+VARIABLE x
+Init == x \\in 0..9
+Next == x' = x
+Inv == x < 2
+====
+";
+
 /// Ten states on one level, of which none is bad.
 pub const NONE_BAD: &str = "---- MODULE M ----
 EXTENDS Integers
@@ -83,35 +93,4 @@ State 7:
 /\\ big = 4
 /\\ small = 3
 Levels 7, states 14.
-";
-
-pub const NO_DEADLOCK_CONFIG: &str = "INIT Init
-NEXT Next
-CHECK_DEADLOCK FALSE
-";
-
-/// A tree of numbers: six levels, each of twice as many states.
-pub const TREE: &str = "---- MODULE M ----
-EXTENDS Integers
-VARIABLE x
-Init == x = 0
-Next == x' \\in {2 * x + 1, 2 * x + 2} /\\ x' < 63
-====
-";
-
-pub const TREE_REPORT: &str = "No error.
-Levels 6, states 63.
-";
-
-/// A ring of numbers, all of them on one level.
-pub const RING: &str = "---- MODULE M ----
-EXTENDS Integers
-VARIABLE x
-Init == x \\in 0..65535
-Next == x' = (x + 1) % 65536
-====
-";
-
-pub const RING_REPORT: &str = "No error.
-Levels 1, states 65536.
 ";

@@ -15,7 +15,8 @@ use Rattle.tla_defs.specs.declared.meant.Meant.{Meant}
 use Rattle.tla_defs.specs.declared.meant.Meant.TheVariants as meant
 use Rattle.tla_defs.specs.declared.specification.Specified as declared
 use Rattle.tla_defs.specs.Private.Seen.{tree_at, seen}
-use Rattle.tla_defs.specs.Model.{IsInitial, initials_named, nexts_named, specifications_named}
+use Rattle.tla_formulas.specs.Formulas.{IsInitial}
+use Rattle.tla_defs.specs.Model.{initials_named, nexts_named, specifications_named}
 use Rattle.tla_defs.specs.Refused.{Behaviour, Named, Specified, NoForm, IsTooLarge}
 use Rattle.tla_defs.specs.Specification.{conjunction_of, IsSpecification}
 

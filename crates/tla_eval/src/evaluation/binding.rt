@@ -1,22 +1,24 @@
 //! Forms that bind names.
-ghost use Rattle.std.specs.Prelude.{◌++◌, ◌∷◌, [], map};
+ghost use Rattle.std.specs.Prelude.{◌++◌, ◌∷◌, [], map, slice_get};
 ghost use Rattle.tla_value.specs.TreeOf.{tree_of};
 ghost use Rattle.tla_core.specs.Lists.{all_hold, some_hold, first_passing, passing};
-ghost use Rattle.tla_core.specs.Meaning.{asks};
+ghost use Rattle.tla_core.specs.Meaning.{asks, elements};
 ghost use Rattle.tla_core.specs.Logic.{means-for_all, means-for_some, means-choose};
 ghost use Rattle.tla_core.specs.SetForms.{means-filtered};
 ghost use Rattle.tla_core.specs.Value.{means};
 ghost use Rattle.tla_core.specs.ExprOf.{expr_of};
-ghost use Rattle.tla_eval.specs.Gives.{Gives, GivesBy, GivesTruth, GivesBorrowed};
+ghost use Rattle.tla_eval.specs.Gives.{Gives, GivesBy, GivesTruth};
+ghost use Rattle.tla_eval.specs.Private.Elements.{elements_of, GivesElements, tested};
 ghost use Rattle.tla_eval.specs.Private.Environment.{Evaluates, bound_in, present_in, next_in};
 
+use crate::elements::{Elements, chosen_at, element_at, elements_of_two, keep_at, members_of};
 use crate::environment::{Environment, Evaluated, Scope};
 use crate::evaluation::patterns::body_value;
 use crate::evaluation::{ask, evaluate};
-use crate::rules::{copied, fault_at};
-use crate::sets::{keep_copy, made_set, members};
+use crate::rules::fault_at;
+use crate::sets::made_set;
 use std::alloc::Global;
-use tla_core::{Core, Fault, FaultCode, Place};
+use tla_core::{Core, Fault, FaultCode, Place, memory};
 use tla_value::{SetValue, Value};
 
 /// Whether a body is TRUE of each element of a set.
@@ -30,9 +32,8 @@ pub(super) fn for_all<'a>(
 ) -> Result<Evaluated<'a>, Fault>
     ensures { Evaluates result ((means-for_all place (means (expr_of set.now)) (means (expr_of body.now))).value (bound_in env.entry) (present_in env.entry) (next_in env.entry)) }
 {
-    let set = evaluate(alloc, set, env)?;
-    let values = members(place, set.value())?;
-    Ok(Evaluated::truth(each_holds(alloc, place, body, values, env)?))
+    let elements = elements_in(alloc, place, set, env)?;
+    Ok(Evaluated::truth(each_holds(alloc, place, body, &elements, env)?))
 }
 
 /// Whether a body is TRUE of some element of a set.
@@ -46,9 +47,8 @@ pub(super) fn for_some<'a>(
 ) -> Result<Evaluated<'a>, Fault>
     ensures { Evaluates result ((means-for_some place (means (expr_of set.now)) (means (expr_of body.now))).value (bound_in env.entry) (present_in env.entry) (next_in env.entry)) }
 {
-    let set = evaluate(alloc, set, env)?;
-    let values = members(place, set.value())?;
-    Ok(Evaluated::truth(some_holds(alloc, place, body, values, env)?))
+    let elements = elements_in(alloc, place, set, env)?;
+    Ok(Evaluated::truth(some_holds(alloc, place, body, &elements, env)?))
 }
 
 /// The least element of a set of which a body is TRUE.
@@ -62,66 +62,118 @@ pub(super) fn choose<'a>(
 ) -> Result<Evaluated<'a>, Fault>
     ensures { Evaluates result ((means-choose place (means (expr_of set.now)) (means (expr_of body.now))).value (bound_in env.entry) (present_in env.entry) (next_in env.entry)) }
 {
-    let set = evaluate(alloc, set, env)?;
-    let values = members(place, set.value())?;
-    Ok(Evaluated::Owned(copied(alloc, first_passing(alloc, place, body, values, env)?)?))
+    let elements = elements_in(alloc, place, set, env)?;
+    Ok(Evaluated::Owned(first_passing(alloc, place, body, &elements, env)?))
 }
 
-/// Whether a body is TRUE of each of these values, up to the first of which it is not.
+/// The elements of a set. A range is not made.
 #[cycle(evaluate)]
-pub(super) fn each_holds<'a>(
+pub(super) fn elements_in<'a>(
+    alloc: Global,
+    place: Place,
+    set: &'a Core,
+    env: Environment<'a>,
+) -> Result<Elements<'a>, Fault>
+    ensures { GivesElements result (elements place (means (expr_of set.now)) (bound_in env.entry) (present_in env.entry) (next_in env.entry)) }
+{
+    match set {
+        Core::Binary(at, operator, left, right) => {
+            let left = evaluate(alloc, left, env)?;
+            let right = evaluate(alloc, right, env)?;
+            elements_of_two(alloc, place, *at, *operator, left.value(), right.value())
+        }
+        _ => members_of(place, evaluate(alloc, set, env)?),
+    }
+}
+
+/// Whether a body is TRUE of the element with a number; none where there are fewer elements.
+#[cycle(evaluate)]
+fn holds_at<'e, 'a>(
     alloc: Global,
     place: Place,
     body: &'a Core,
-    values: &'a [Value],
+    elements: &'e Elements<'e>,
+    number: usize,
+    env: Environment<'a>,
+) -> Result<Option<bool>, Fault>
+    ensures { GivesBy (λ o. o) result (tested (λ v. asks place (means (expr_of body.now)) (bound_in env.entry ++ v ∷ []) (present_in env.entry) (next_in env.entry)) (slice_get (elements_of elements.now) number)) }
+{
+    match element_at(elements, number) {
+        Some(element) => Ok(Some(ask_with(alloc, place, body, element.value(), env)?)),
+        None => Ok(None),
+    }
+}
+
+/// Whether a body is TRUE of each of these elements, up to the first of which it is not.
+#[cycle(evaluate)]
+fn each_holds<'e, 'a>(
+    alloc: Global,
+    place: Place,
+    body: &'a Core,
+    elements: &'e Elements<'e>,
     env: Environment<'a>,
 ) -> Result<bool, Fault>
-    ensures { GivesTruth result (all_hold (λ v. asks place (means (expr_of body.now)) (bound_in env.entry ++ v ∷ []) (present_in env.entry) (next_in env.entry)) (map tree_of values.now)) }
+    ensures { GivesTruth result (all_hold (λ v. asks place (means (expr_of body.now)) (bound_in env.entry ++ v ∷ []) (present_in env.entry) (next_in env.entry)) (elements_of elements.now)) }
 {
-    for value in values {
-        if !ask_with(alloc, place, body, value, env)? {
-            return Ok(false);
+    for number in 0..usize::MAX {
+        match holds_at(alloc, place, body, elements, number, env)? {
+            Some(holds) => {
+                if !holds {
+                    return Ok(false);
+                }
+            }
+            None => return Ok(true),
         }
     }
-    Ok(true)
+    Err(memory())
 }
 
-/// Whether a body is TRUE of some of these values, up to the first of which it is.
+/// Whether a body is TRUE of some of these elements, up to the first of which it is.
 #[cycle(evaluate)]
-pub(super) fn some_holds<'a>(
+fn some_holds<'e, 'a>(
     alloc: Global,
     place: Place,
     body: &'a Core,
-    values: &'a [Value],
+    elements: &'e Elements<'e>,
     env: Environment<'a>,
 ) -> Result<bool, Fault>
-    ensures { GivesTruth result (some_hold (λ v. asks place (means (expr_of body.now)) (bound_in env.entry ++ v ∷ []) (present_in env.entry) (next_in env.entry)) (map tree_of values.now)) }
+    ensures { GivesTruth result (some_hold (λ v. asks place (means (expr_of body.now)) (bound_in env.entry ++ v ∷ []) (present_in env.entry) (next_in env.entry)) (elements_of elements.now)) }
 {
-    for value in values {
-        if ask_with(alloc, place, body, value, env)? {
-            return Ok(true);
+    for number in 0..usize::MAX {
+        match holds_at(alloc, place, body, elements, number, env)? {
+            Some(holds) => {
+                if holds {
+                    return Ok(true);
+                }
+            }
+            None => return Ok(false),
         }
     }
-    Ok(false)
+    Err(memory())
 }
 
-/// The first of these values of which a body is TRUE.
+/// The first of these elements of which a body is TRUE.
 #[cycle(evaluate)]
-pub(super) fn first_passing<'a>(
+fn first_passing<'e, 'a>(
     alloc: Global,
     place: Place,
     body: &'a Core,
-    values: &'a [Value],
+    elements: &'e Elements<'e>,
     env: Environment<'a>,
-) -> Result<&'a Value, Fault>
-    ensures { GivesBorrowed result (first_passing place (λ v. asks place (means (expr_of body.now)) (bound_in env.entry ++ v ∷ []) (present_in env.entry) (next_in env.entry)) (map tree_of values.now)) }
+) -> Result<Value, Fault>
+    ensures { Gives result (first_passing place (λ v. asks place (means (expr_of body.now)) (bound_in env.entry ++ v ∷ []) (present_in env.entry) (next_in env.entry)) (elements_of elements.now)) }
 {
-    for value in values {
-        if ask_with(alloc, place, body, value, env)? {
-            return Ok(value);
+    for number in 0..usize::MAX {
+        match holds_at(alloc, place, body, elements, number, env)? {
+            Some(holds) => {
+                if holds {
+                    return chosen_at(alloc, place, elements, number);
+                }
+            }
+            None => return Err(fault_at(FaultCode::NoChoice, place)),
         }
     }
-    Err(fault_at(FaultCode::NoChoice, place))
+    Err(memory())
 }
 
 /// Whether a body is TRUE with one more bound value.
@@ -174,27 +226,28 @@ pub(super) fn filter<'a>(
 ) -> Result<Evaluated<'a>, Fault>
     ensures { Evaluates result ((means-filtered place (means (expr_of set.now)) (means (expr_of body.now))).value (bound_in env.entry) (present_in env.entry) (next_in env.entry)) }
 {
-    let set = evaluate(alloc, set, env)?;
-    let values = members(place, set.value())?;
-    let kept = passing(alloc, place, body, values, env)?;
+    let elements = elements_in(alloc, place, set, env)?;
+    let kept = passing(alloc, place, body, &elements, env)?;
     Ok(Evaluated::Owned(made_set(place, SetValue::from_values(kept))?))
 }
 
-/// Copies of those of these values of which a body is TRUE.
+/// Copies of those of these elements of which a body is TRUE.
 #[cycle(evaluate)]
-pub(super) fn passing<'a>(
+fn passing<'e, 'a>(
     alloc: Global,
     place: Place,
     body: &'a Core,
-    values: &'a [Value],
+    elements: &'e Elements<'e>,
     env: Environment<'a>,
 ) -> Result<Vec<Value>, Fault>
-    ensures { GivesBy (λ v. map tree_of v.items) result (passing (λ v. asks place (means (expr_of body.now)) (bound_in env.entry ++ v ∷ []) (present_in env.entry) (next_in env.entry)) (map tree_of values.now)) }
+    ensures { GivesBy (λ v. map tree_of v.items) result (passing (λ v. asks place (means (expr_of body.now)) (bound_in env.entry ++ v ∷ []) (present_in env.entry) (next_in env.entry)) (elements_of elements.now)) }
 {
     let mut kept = Vec::new(alloc);
-    for value in values {
-        let holds = ask_with(alloc, place, body, value, env)?;
-        keep_copy(alloc, &mut kept, value, holds)?;
+    for number in 0..usize::MAX {
+        match holds_at(alloc, place, body, elements, number, env)? {
+            Some(holds) => keep_at(alloc, &mut kept, elements, number, holds)?,
+            None => return Ok(kept),
+        }
     }
-    Ok(kept)
+    Err(memory())
 }

@@ -5,15 +5,19 @@ ghost use Rattle.tla_core.specs.Lists.{all_hold};
 ghost use Rattle.tla_core.specs.Membership.{means-member, means-not_member, means-subset};
 ghost use Rattle.tla_core.specs.SetForms.{means-cup, means-cap, means-minus};
 ghost use Rattle.tla_core.specs.Value.{mem, means};
-ghost use Rattle.tla_core.specs.ExprOf.{expr_of};
+ghost use Rattle.tla_core.specs.Meaning.{means-binary};
+ghost use Rattle.tla_core.specs.ExprOf.{expr_of, binary_of, parts_of_cores};
 ghost use Rattle.tla_eval.specs.Gives.{GivesTruth};
+ghost use Rattle.tla_eval.specs.Private.Elements.{one_of_rule};
 ghost use Rattle.tla_eval.specs.Private.Environment.{Evaluates, bound_in, present_in, next_in};
 
+use crate::asked::{set_has, two_have};
 use crate::environment::{Environment, Evaluated};
+use crate::evaluation::choices::evaluated_each;
 use crate::evaluation::{evaluate, has};
 use crate::sets::{difference_of, intersection_of, members, union_of};
 use std::alloc::Global;
-use tla_core::{Core, Fault, Place};
+use tla_core::{Binary, Core, Fault, Place};
 use tla_value::Value;
 
 /// Whether a value is a member of an expression.
@@ -76,6 +80,39 @@ pub(super) fn has_all<'a>(
         }
     }
     Ok(true)
+}
+
+/// Whether what an operator on two values gives has a value as a member. A range is not made.
+#[cycle(evaluate)]
+pub(super) fn two_hold<'a>(
+    alloc: Global,
+    place: Place,
+    operator: Binary,
+    left: &'a Core,
+    right: &'a Core,
+    value: &'a Value,
+    env: Environment<'a>,
+) -> Result<bool, Fault>
+    ensures { GivesTruth result ((means-binary place (binary_of operator) (means (expr_of left.now)) (means (expr_of right.now))).has (tree_of value.now) (bound_in env.entry) (present_in env.entry) (next_in env.entry)) }
+{
+    let left = evaluate(alloc, left, env)?;
+    let right = evaluate(alloc, right, env)?;
+    two_have(alloc, place, operator, left.value(), right.value(), value)
+}
+
+/// Whether a value is one of those of some parts, where their set is within the limits.
+#[cycle(evaluate)]
+pub(super) fn is_one_of<'a>(
+    alloc: Global,
+    place: Place,
+    parts: &'a [Core],
+    value: &'a Value,
+    env: Environment<'a>,
+) -> Result<bool, Fault>
+    ensures { GivesTruth result (one_of_rule place (parts_of_cores parts.now) (tree_of value.now) (bound_in env.entry) (present_in env.entry) (next_in env.entry)) }
+{
+    let values = evaluated_each(alloc, parts, env)?;
+    set_has(alloc, place, values.as_slice(), value)
 }
 
 /// The members of one set and of another.

@@ -9,7 +9,7 @@ ghost use Rattle.tla_eval.specs.Private.Environment.{Evaluates, tree_of_evaluate
 use crate::environment::{Environment, Evaluated};
 use crate::evaluation::binding::value_with;
 use crate::evaluation::evaluate;
-use crate::functions::{into_function, made_fun};
+use crate::functions::{into_function, made_fun, unchanged};
 use std::alloc::Global;
 use tla_core::{Core, Fault, Place};
 use tla_value::Value;
@@ -82,7 +82,7 @@ fn updated_at<'a>(
     let function = into_function(alloc, place, value)?;
     let key = evaluate(alloc, key, env)?;
     match function.apply(key.value()) {
-        None => Ok(Value::Fun(function)),
+        None => unchanged(function),
         Some(old) => {
             let new = updated(alloc, place, rest, body, Evaluated::Borrowed(old), env)?;
             made_fun(place, function.with_value(key.value(), new))

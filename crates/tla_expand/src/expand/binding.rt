@@ -13,10 +13,12 @@ ghost use Rattle.tla_expand.specs.Private.Binders.{names_of, binds_in, opened_at
 ghost use Rattle.tla_expand.specs.Maybe.{each_of};
 ghost use Rattle.tla_expand.specs.Meanings.{Scope};
 ghost use Rattle.tla_expand.specs.Private.Gives.{Gives, GivesMany, set_in};
+ghost use Rattle.tla_expand.specs.Private.Listed.{listed};
 
 use crate::arena::{Entry, What, enter};
 use crate::binders::{Bind, Names, bind_list, bind_one};
 use crate::builders::{binding_core, gather_core, opened_core, tried_core};
+use crate::entries::Entries;
 use crate::expand::{Setting, expand};
 use crate::expanded::{Expanded, Many};
 use crate::failure::Failure;
@@ -39,18 +41,18 @@ struct Under<'a> {
 #[cycle(expand)]
 pub(super) fn bound_several<'a>(
     alloc: Global,
-    entries: &mut Vec<Entry<'a>>,
+    entries: &mut Entries<'_, 'a>,
     place: Place,
     node: Binding,
     groups: &'a [Binder],
     body: &'a Expr,
     at: Setting,
 ) -> Result<Expanded, Failure>
-    requires linked { AreLinked entries.old.items }
-    requires scope { at.scope ≤ length entries.old.items }
+    requires linked { AreLinked (listed entries.old) }
+    requires scope { at.scope ≤ length (listed entries.old) }
     requires small { at.bound + at.left < 1000000 }
-    ensures kept { OnOk result (entries.new.items ≡ entries.old.items) }
-    ensures same { Gives (at.room + 1) (at.left + 1) result (with_primes at.primes (bounds.nested node place (expansion.binds_of (binders (map group_view groups.now)) (scope_at entries.old.items at.scope)) (expansion.expand (view body.now)) (scope_at entries.old.items at.scope) at.bound)) }
+    ensures kept { OnOk result (listed entries.new ≡ listed entries.old) }
+    ensures same { Gives (at.room + 1) (at.left + 1) result (with_primes at.primes (bounds.nested node place (expansion.binds_of (binders (map group_view groups.now)) (scope_at (listed entries.old) at.scope)) (expansion.expand (view body.now)) (scope_at (listed entries.old) at.scope) at.bound)) }
 {
     let binds = bind_list(alloc, groups)?;
     let [first, rest @ ..] = binds.as_slice() else {
@@ -69,7 +71,7 @@ pub(super) fn bound_several<'a>(
 #[cycle(expand)]
 pub(super) fn bound_one<'a>(
     alloc: Global,
-    entries: &mut Vec<Entry<'a>>,
+    entries: &mut Entries<'_, 'a>,
     place: Place,
     node: Binding,
     pattern: &'a Pattern,
@@ -77,11 +79,11 @@ pub(super) fn bound_one<'a>(
     body: &'a Expr,
     at: Setting,
 ) -> Result<Expanded, Failure>
-    requires linked { AreLinked entries.old.items }
-    requires scope { at.scope ≤ length entries.old.items }
+    requires linked { AreLinked (listed entries.old) }
+    requires scope { at.scope ≤ length (listed entries.old) }
     requires small { at.bound + at.left < 1000000 }
-    ensures kept { OnOk result (entries.new.items ≡ entries.old.items) }
-    ensures same { Gives (at.room + 1) (at.left + 1) result (with_primes at.primes (bounds.nested node place (bind_entry (pattern_view pattern.now) (expansion.expand (view set.now) (scope_at entries.old.items at.scope)) []) (expansion.expand (view body.now)) (scope_at entries.old.items at.scope) at.bound)) }
+    ensures kept { OnOk result (listed entries.new ≡ listed entries.old) }
+    ensures same { Gives (at.room + 1) (at.left + 1) result (with_primes at.primes (bounds.nested node place (bind_entry (pattern_view pattern.now) (expansion.expand (view set.now) (scope_at (listed entries.old) at.scope)) []) (expansion.expand (view body.now)) (scope_at (listed entries.old) at.scope) at.bound)) }
 {
     let binds = bind_one(alloc, pattern, set)?;
     let [first, rest @ ..] = binds.as_slice() else {
@@ -100,18 +102,18 @@ pub(super) fn bound_one<'a>(
 #[cycle(expand)]
 fn nested<'a>(
     alloc: Global,
-    entries: &mut Vec<Entry<'a>>,
+    entries: &mut Entries<'_, 'a>,
     under: Under<'a>,
     first: Bind<'a>,
     rest: &[Bind<'a>],
     at: Setting,
 ) -> Result<Expanded, Failure>
-    requires linked { AreLinked entries.old.items }
-    requires home { under.home ≤ length entries.old.items }
-    requires scope { at.scope ≤ length entries.old.items }
+    requires linked { AreLinked (listed entries.old) }
+    requires home { under.home ≤ length (listed entries.old) }
+    requires scope { at.scope ≤ length (listed entries.old) }
     requires small { at.bound + at.left < 1000000 }
-    ensures kept { OnOk result (entries.new.items ≡ entries.old.items) }
-    ensures same { Gives (at.room + 1) (at.left + 1) result (with_primes at.primes (bounds.nested under.entry.node under.entry.place (binds_in (first.entry ∷ rest.now) (scope_at entries.old.items under.entry.home)) (expansion.expand (view under.entry.body.now)) (scope_at entries.old.items at.scope) at.bound)) }
+    ensures kept { OnOk result (listed entries.new ≡ listed entries.old) }
+    ensures same { Gives (at.room + 1) (at.left + 1) result (with_primes at.primes (bounds.nested under.entry.node under.entry.place (binds_in (first.entry ∷ rest.now) (scope_at (listed entries.old) under.entry.home)) (expansion.expand (view under.entry.body.now)) (scope_at (listed entries.old) at.scope) at.bound)) }
 {
     let home = Setting {
         scope: under.home,
@@ -134,18 +136,18 @@ fn nested<'a>(
 #[cycle(expand)]
 fn under_element<'a>(
     alloc: Global,
-    entries: &mut Vec<Entry<'a>>,
+    entries: &mut Entries<'_, 'a>,
     under: Under<'a>,
     names: Names<'a>,
     rest: &[Bind<'a>],
     at: Setting,
 ) -> Result<Expanded, Failure>
-    requires linked { AreLinked entries.old.items }
-    requires home { under.home ≤ length entries.old.items }
-    requires scope { at.scope ≤ length entries.old.items }
+    requires linked { AreLinked (listed entries.old) }
+    requires home { under.home ≤ length (listed entries.old) }
+    requires scope { at.scope ≤ length (listed entries.old) }
     requires small { at.bound + at.left < 1000000 }
-    ensures kept { OnOk result (entries.new.items ≡ entries.old.items) }
-    ensures same { Gives at.room at.left result (with_primes at.primes (bounds.under under.entry.place (names_of names.entry) (last_or (binds_in rest.now (scope_at entries.old.items under.entry.home)) (expansion.expand (view under.entry.body.now)) (bounds.nested under.entry.node under.entry.place (binds_in rest.now (scope_at entries.old.items under.entry.home)) (expansion.expand (view under.entry.body.now)))) (scope_at entries.old.items at.scope) at.bound)) }
+    ensures kept { OnOk result (listed entries.new ≡ listed entries.old) }
+    ensures same { Gives at.room at.left result (with_primes at.primes (bounds.under under.entry.place (names_of names.entry) (last_or (binds_in rest.now (scope_at (listed entries.old) under.entry.home)) (expansion.expand (view under.entry.body.now)) (bounds.nested under.entry.node under.entry.place (binds_in rest.now (scope_at (listed entries.old) under.entry.home)) (expansion.expand (view under.entry.body.now)))) (scope_at (listed entries.old) at.scope) at.bound)) }
 {
     match names {
         Names::Name(name) => under_name(alloc, entries, under, name, rest, at),
@@ -157,18 +159,18 @@ fn under_element<'a>(
 #[cycle(expand)]
 fn under_name<'a>(
     alloc: Global,
-    entries: &mut Vec<Entry<'a>>,
+    entries: &mut Entries<'_, 'a>,
     under: Under<'a>,
     name: &'a Written,
     rest: &[Bind<'a>],
     at: Setting,
 ) -> Result<Expanded, Failure>
-    requires linked { AreLinked entries.old.items }
-    requires home { under.home ≤ length entries.old.items }
-    requires scope { at.scope ≤ length entries.old.items }
+    requires linked { AreLinked (listed entries.old) }
+    requires home { under.home ≤ length (listed entries.old) }
+    requires scope { at.scope ≤ length (listed entries.old) }
     requires small { at.bound + at.left < 1000000 }
-    ensures kept { OnOk result (entries.new.items ≡ entries.old.items) }
-    ensures same { Gives at.room at.left result (with_primes at.primes (bounds.under under.entry.place (bounds.named name.now.word) (last_or (binds_in rest.now (scope_at entries.old.items under.entry.home)) (expansion.expand (view under.entry.body.now)) (bounds.nested under.entry.node under.entry.place (binds_in rest.now (scope_at entries.old.items under.entry.home)) (expansion.expand (view under.entry.body.now)))) (scope_at entries.old.items at.scope) at.bound)) }
+    ensures kept { OnOk result (listed entries.new ≡ listed entries.old) }
+    ensures same { Gives at.room at.left result (with_primes at.primes (bounds.under under.entry.place (bounds.named name.now.word) (last_or (binds_in rest.now (scope_at (listed entries.old) under.entry.home)) (expansion.expand (view under.entry.body.now)) (bounds.nested under.entry.node under.entry.place (binds_in rest.now (scope_at (listed entries.old) under.entry.home)) (expansion.expand (view under.entry.body.now)))) (scope_at (listed entries.old) at.scope) at.bound)) }
 {
     let mark = entries.len();
     let entry = Entry {
@@ -191,18 +193,18 @@ fn under_name<'a>(
 #[cycle(expand)]
 fn under_tuple<'a>(
     alloc: Global,
-    entries: &mut Vec<Entry<'a>>,
+    entries: &mut Entries<'_, 'a>,
     under: Under<'a>,
     names: &'a [Written],
     rest: &[Bind<'a>],
     at: Setting,
 ) -> Result<Expanded, Failure>
-    requires linked { AreLinked entries.old.items }
-    requires home { under.home ≤ length entries.old.items }
-    requires scope { at.scope ≤ length entries.old.items }
+    requires linked { AreLinked (listed entries.old) }
+    requires home { under.home ≤ length (listed entries.old) }
+    requires scope { at.scope ≤ length (listed entries.old) }
     requires small { at.bound + at.left < 1000000 }
-    ensures kept { OnOk result (entries.new.items ≡ entries.old.items) }
-    ensures same { Gives at.room at.left result (with_primes at.primes (bounds.under under.entry.place (bounds.tupled names.now) (last_or (binds_in rest.now (scope_at entries.old.items under.entry.home)) (expansion.expand (view under.entry.body.now)) (bounds.nested under.entry.node under.entry.place (binds_in rest.now (scope_at entries.old.items under.entry.home)) (expansion.expand (view under.entry.body.now)))) (scope_at entries.old.items at.scope) at.bound)) }
+    ensures kept { OnOk result (listed entries.new ≡ listed entries.old) }
+    ensures same { Gives at.room at.left result (with_primes at.primes (bounds.under under.entry.place (bounds.tupled names.now) (last_or (binds_in rest.now (scope_at (listed entries.old) under.entry.home)) (expansion.expand (view under.entry.body.now)) (bounds.nested under.entry.node under.entry.place (binds_in rest.now (scope_at (listed entries.old) under.entry.home)) (expansion.expand (view under.entry.body.now)))) (scope_at (listed entries.old) at.scope) at.bound)) }
 {
     let count = names.len();
     if count > at.left {
@@ -231,17 +233,17 @@ fn under_tuple<'a>(
 #[tactic(auto, using(crate::proofs::Sizes::no_room, crate::proofs::Sizes::none_left))]
 fn within<'a>(
     alloc: Global,
-    entries: &mut Vec<Entry<'a>>,
+    entries: &mut Entries<'_, 'a>,
     under: Under<'a>,
     binds: &[Bind<'a>],
     at: Setting,
 ) -> Result<Expanded, Failure>
-    requires linked { AreLinked entries.old.items }
-    requires home { under.home ≤ length entries.old.items }
-    requires scope { at.scope ≤ length entries.old.items }
+    requires linked { AreLinked (listed entries.old) }
+    requires home { under.home ≤ length (listed entries.old) }
+    requires scope { at.scope ≤ length (listed entries.old) }
     requires small { at.bound + at.left ≤ 1000000 }
-    ensures kept { OnOk result (entries.new.items ≡ entries.old.items) }
-    ensures same { Gives at.room at.left result (with_primes at.primes (last_or (binds_in binds.now (scope_at entries.old.items under.entry.home)) (expansion.expand (view under.entry.body.now)) (bounds.nested under.entry.node under.entry.place (binds_in binds.now (scope_at entries.old.items under.entry.home)) (expansion.expand (view under.entry.body.now))) (scope_at entries.old.items at.scope) at.bound)) }
+    ensures kept { OnOk result (listed entries.new ≡ listed entries.old) }
+    ensures same { Gives at.room at.left result (with_primes at.primes (last_or (binds_in binds.now (scope_at (listed entries.old) under.entry.home)) (expansion.expand (view under.entry.body.now)) (bounds.nested under.entry.node under.entry.place (binds_in binds.now (scope_at (listed entries.old) under.entry.home)) (expansion.expand (view under.entry.body.now))) (scope_at (listed entries.old) at.scope) at.bound)) }
 {
     let [first, rest @ ..] = binds else {
         return expand(alloc, entries, under.body, at);
@@ -264,18 +266,18 @@ fn within<'a>(
 #[cycle(expand)]
 pub(super) fn gather_node<'a>(
     alloc: Global,
-    entries: &mut Vec<Entry<'a>>,
+    entries: &mut Entries<'_, 'a>,
     place: Place,
     node: Gather,
     groups: &'a [Binder],
     body: &'a Expr,
     at: Setting,
 ) -> Result<Expanded, Failure>
-    requires linked { AreLinked entries.old.items }
-    requires scope { at.scope ≤ length entries.old.items }
+    requires linked { AreLinked (listed entries.old) }
+    requires scope { at.scope ≤ length (listed entries.old) }
     requires small { at.bound + at.left ≤ 1000000 }
-    ensures kept { OnOk result (entries.new.items ≡ entries.old.items) }
-    ensures same { Gives (at.room + 1) (at.left + 1) result (with_primes at.primes (bounds.gathered node place (expansion.binds_of (binders (map group_view groups.now)) (scope_at entries.old.items at.scope)) (expansion.expand (view body.now)) (scope_at entries.old.items at.scope) at.bound)) }
+    ensures kept { OnOk result (listed entries.new ≡ listed entries.old) }
+    ensures same { Gives (at.room + 1) (at.left + 1) result (with_primes at.primes (bounds.gathered node place (expansion.binds_of (binders (map group_view groups.now)) (scope_at (listed entries.old) at.scope)) (expansion.expand (view body.now)) (scope_at (listed entries.old) at.scope) at.bound)) }
 {
     let binds = bind_list(alloc, groups)?;
     let binds = binds.as_slice();
@@ -305,16 +307,16 @@ pub(super) fn gather_node<'a>(
 #[cycle(expand)]
 fn set_for<'a>(
     alloc: Global,
-    entries: &mut Vec<Entry<'a>>,
+    entries: &mut Entries<'_, 'a>,
     place: Place,
     bind: Bind<'a>,
     at: Setting,
 ) -> Result<Expanded, Failure>
-    requires linked { AreLinked entries.old.items }
-    requires scope { at.scope ≤ length entries.old.items }
+    requires linked { AreLinked (listed entries.old) }
+    requires scope { at.scope ≤ length (listed entries.old) }
     requires small { at.bound + at.left ≤ 1000000 }
-    ensures kept { OnOk result (entries.new.items ≡ entries.old.items) }
-    ensures same { Gives at.room at.left result (set_in place at.primes (scope_at entries.old.items at.scope) at.bound bind.entry) }
+    ensures kept { OnOk result (listed entries.new ≡ listed entries.old) }
+    ensures same { Gives at.room at.left result (set_in place at.primes (scope_at (listed entries.old) at.scope) at.bound bind.entry) }
 {
     let set = expand(alloc, entries, bind.set, at)?;
     match bind.names {
@@ -333,16 +335,16 @@ fn set_for<'a>(
 #[cycle(expand)]
 fn sets_of<'a>(
     alloc: Global,
-    entries: &mut Vec<Entry<'a>>,
+    entries: &mut Entries<'_, 'a>,
     place: Place,
     binds: &[Bind<'a>],
     at: Setting,
 ) -> Result<Many, Failure>
-    requires linked { AreLinked entries.old.items }
-    requires scope { at.scope ≤ length entries.old.items }
+    requires linked { AreLinked (listed entries.old) }
+    requires scope { at.scope ≤ length (listed entries.old) }
     requires small { at.bound + at.left ≤ 1000000 }
-    ensures kept { OnOk result (entries.new.items ≡ entries.old.items) }
-    ensures same { GivesMany at.room at.left result (each_of (set_in place at.primes (scope_at entries.old.items at.scope) at.bound) binds.now) }
+    ensures kept { OnOk result (listed entries.new ≡ listed entries.old) }
+    ensures same { GivesMany at.room at.left result (each_of (set_in place at.primes (scope_at (listed entries.old) at.scope) at.bound) binds.now) }
 {
     let mut parts = Vec::new(alloc);
     let mut left = at.left;
@@ -416,18 +418,18 @@ fn count_items(openings: &[Opening], left: usize) -> Result<usize, Failure>
 
 /// The scope with names that are numbered from this number on. The only error is want of memory.
 fn name_each<'a>(
-    entries: &mut Vec<Entry<'a>>,
+    entries: &mut Entries<'_, 'a>,
     names: &'a [Written],
     bound: usize,
     scope: usize,
 ) -> Result<usize, Failure>
-    requires linked { AreLinked entries.old.items }
-    requires scope { scope ≤ length entries.old.items }
+    requires linked { AreLinked (listed entries.old) }
+    requires scope { scope ≤ length (listed entries.old) }
     requires small { bound + length names.now ≤ 1000000 }
-    ensures linked { OnOk result (AreLinked entries.new.items) }
-    ensures extends { OnOk result (Extends entries.new.items entries.old.items) }
-    ensures within { IfOk result (λ s. s ≤ length entries.new.items) }
-    ensures same { IfOk result (λ s. with_each names.now bound (scope_at entries.old.items scope) ≡ scope_at entries.new.items s) }
+    ensures linked { OnOk result (AreLinked (listed entries.new)) }
+    ensures extends { OnOk result (Extends (listed entries.new) (listed entries.old)) }
+    ensures within { IfOk result (λ s. s ≤ length (listed entries.new)) }
+    ensures same { IfOk result (λ s. with_each names.now bound (scope_at (listed entries.old) scope) ≡ scope_at (listed entries.new) s) }
     ensures err { IfErr result (λ e. e ≡ Failure.Memory) }
 {
     let mut at = scope;
@@ -444,18 +446,18 @@ fn name_each<'a>(
 
 /// The scope with all names: those of elements, and then those of items. The only error is want of memory.
 fn name_all<'a>(
-    entries: &mut Vec<Entry<'a>>,
+    entries: &mut Entries<'_, 'a>,
     binds: &[Bind<'a>],
     bound: usize,
     scope: usize,
 ) -> Result<usize, Failure>
-    requires linked { AreLinked entries.old.items }
-    requires scope { scope ≤ length entries.old.items }
+    requires linked { AreLinked (listed entries.old) }
+    requires scope { scope ≤ length (listed entries.old) }
     requires small { (σ : Scope) (d : ℕ) → bound + length binds.now + items_in (bounds.openings (binds_in binds.now σ) d) ≤ 1000000 }
-    ensures linked { OnOk result (AreLinked entries.new.items) }
-    ensures extends { OnOk result (Extends entries.new.items entries.old.items) }
-    ensures within { IfOk result (λ s. s ≤ length entries.new.items) }
-    ensures same { IfOk result (λ s. (σ : Scope) → bounds.with_items (binds_in binds.now σ) (bound + length binds.now) (bounds.with_elements (binds_in binds.now σ) bound (scope_at entries.old.items scope)) ≡ scope_at entries.new.items s) }
+    ensures linked { OnOk result (AreLinked (listed entries.new)) }
+    ensures extends { OnOk result (Extends (listed entries.new) (listed entries.old)) }
+    ensures within { IfOk result (λ s. s ≤ length (listed entries.new)) }
+    ensures same { IfOk result (λ s. (σ : Scope) → bounds.with_items (binds_in binds.now σ) (bound + length binds.now) (bounds.with_elements (binds_in binds.now σ) bound (scope_at (listed entries.old) scope)) ≡ scope_at (listed entries.new) s) }
     ensures err { IfErr result (λ e. e ≡ Failure.Memory) }
 {
     let scope = name_elements(entries, binds, bound, scope)?;
@@ -464,17 +466,17 @@ fn name_all<'a>(
 
 /// The scope with the name of an element, if it has one. The only error is want of memory.
 fn name_element<'a>(
-    entries: &mut Vec<Entry<'a>>,
+    entries: &mut Entries<'_, 'a>,
     names: Names<'a>,
     bound: usize,
     scope: usize,
 ) -> Result<usize, Failure>
-    requires linked { AreLinked entries.old.items }
-    requires scope { scope ≤ length entries.old.items }
-    ensures linked { OnOk result (AreLinked entries.new.items) }
-    ensures extends { OnOk result (Extends entries.new.items entries.old.items) }
-    ensures within { IfOk result (λ s. s ≤ length entries.new.items) }
-    ensures same { IfOk result (λ s. scope_at entries.new.items s ≡ with_element (names_of names.entry) bound (scope_at entries.old.items scope)) }
+    requires linked { AreLinked (listed entries.old) }
+    requires scope { scope ≤ length (listed entries.old) }
+    ensures linked { OnOk result (AreLinked (listed entries.new)) }
+    ensures extends { OnOk result (Extends (listed entries.new) (listed entries.old)) }
+    ensures within { IfOk result (λ s. s ≤ length (listed entries.new)) }
+    ensures same { IfOk result (λ s. scope_at (listed entries.new) s ≡ with_element (names_of names.entry) bound (scope_at (listed entries.old) scope)) }
     ensures err { IfErr result (λ e. e ≡ Failure.Memory) }
 {
     match names {
@@ -492,18 +494,18 @@ fn name_element<'a>(
 
 /// The scope with the names of elements. The only error is want of memory.
 fn name_elements<'a>(
-    entries: &mut Vec<Entry<'a>>,
+    entries: &mut Entries<'_, 'a>,
     binds: &[Bind<'a>],
     bound: usize,
     scope: usize,
 ) -> Result<usize, Failure>
-    requires linked { AreLinked entries.old.items }
-    requires scope { scope ≤ length entries.old.items }
+    requires linked { AreLinked (listed entries.old) }
+    requires scope { scope ≤ length (listed entries.old) }
     requires small { bound + length binds.now ≤ 1000000 }
-    ensures linked { OnOk result (AreLinked entries.new.items) }
-    ensures extends { OnOk result (Extends entries.new.items entries.old.items) }
-    ensures within { IfOk result (λ s. s ≤ length entries.new.items) }
-    ensures same { IfOk result (λ s. (σ : Scope) → bounds.with_elements (binds_in binds.now σ) bound (scope_at entries.old.items scope) ≡ scope_at entries.new.items s) }
+    ensures linked { OnOk result (AreLinked (listed entries.new)) }
+    ensures extends { OnOk result (Extends (listed entries.new) (listed entries.old)) }
+    ensures within { IfOk result (λ s. s ≤ length (listed entries.new)) }
+    ensures same { IfOk result (λ s. (σ : Scope) → bounds.with_elements (binds_in binds.now σ) bound (scope_at (listed entries.old) scope) ≡ scope_at (listed entries.new) s) }
     ensures err { IfErr result (λ e. e ≡ Failure.Memory) }
 {
     let mut at = scope;
@@ -526,18 +528,18 @@ fn names_for_items<'a>(names: Names<'a>) -> &'a [Written]
 
 /// The scope with the names of items. The only error is want of memory.
 fn name_items<'a>(
-    entries: &mut Vec<Entry<'a>>,
+    entries: &mut Entries<'_, 'a>,
     binds: &[Bind<'a>],
     bound: usize,
     scope: usize,
 ) -> Result<usize, Failure>
-    requires linked { AreLinked entries.old.items }
-    requires scope { scope ≤ length entries.old.items }
+    requires linked { AreLinked (listed entries.old) }
+    requires scope { scope ≤ length (listed entries.old) }
     requires small { (σ : Scope) (d : ℕ) → bound + items_in (bounds.openings (binds_in binds.now σ) d) ≤ 1000000 }
-    ensures linked { OnOk result (AreLinked entries.new.items) }
-    ensures extends { OnOk result (Extends entries.new.items entries.old.items) }
-    ensures within { IfOk result (λ s. s ≤ length entries.new.items) }
-    ensures same { IfOk result (λ s. (σ : Scope) → bounds.with_items (binds_in binds.now σ) bound (scope_at entries.old.items scope) ≡ scope_at entries.new.items s) }
+    ensures linked { OnOk result (AreLinked (listed entries.new)) }
+    ensures extends { OnOk result (Extends (listed entries.new) (listed entries.old)) }
+    ensures within { IfOk result (λ s. s ≤ length (listed entries.new)) }
+    ensures same { IfOk result (λ s. (σ : Scope) → bounds.with_items (binds_in binds.now σ) bound (scope_at (listed entries.old) scope) ≡ scope_at (listed entries.new) s) }
     ensures err { IfErr result (λ e. e ≡ Failure.Memory) }
 {
     let mut at = scope;

@@ -7,9 +7,10 @@ ghost use Rattle.tla_expand.specs.Primes.{settled_primes};
 ghost use Rattle.tla_expand.specs.Scopes.{AreLinked, scope_at};
 ghost use Rattle.tla_expand.specs.Private.Forms.{tuple_parts};
 ghost use Rattle.tla_expand.specs.Private.Gives.{kept_part, changed_in, part_in, both, made, Gives, GivesMany};
+ghost use Rattle.tla_expand.specs.Private.Listed.{listed};
 
-use crate::arena::Entry;
 use crate::builders::{kept_core, two_core};
+use crate::entries::Entries;
 use crate::expand::levels::{changed_subscript, kept_parts, kept_subscript, told_at};
 use crate::expand::{Setting, expand, two_parts};
 use crate::expanded::{Expanded, Many as Parts};
@@ -46,16 +47,16 @@ pub(super) fn tuple_items<'a>(form: Form<'a>) -> Option<&'a [Expr]>
 #[cycle(expand)]
 pub(super) fn kept<'a>(
     alloc: Global,
-    entries: &mut Vec<Entry<'a>>,
+    entries: &mut Entries<'_, 'a>,
     place: Place,
     tree: &'a Expr,
     at: Setting,
 ) -> Result<Expanded, Failure>
-    requires linked { AreLinked entries.old.items }
-    requires scope { at.scope ≤ length entries.old.items }
+    requires linked { AreLinked (listed entries.old) }
+    requires scope { at.scope ≤ length (listed entries.old) }
     requires small { at.bound + at.left < 1000000 }
-    ensures kept { OnOk result (entries.new.items ≡ entries.old.items) }
-    ensures same { Gives (at.room + 1) (at.left + 1) result (kept_part at.primes place (scope_at entries.old.items at.scope) at.bound tree.now) }
+    ensures kept { OnOk result (listed entries.new ≡ listed entries.old) }
+    ensures same { Gives (at.room + 1) (at.left + 1) result (kept_part at.primes place (scope_at (listed entries.old) at.scope) at.bound tree.now) }
 {
     let mark = entries.len();
     let found = find_head(entries, tree, at.scope, at.primes)?;
@@ -91,16 +92,16 @@ pub(super) fn kept<'a>(
 #[cycle(expand)]
 fn kept_each<'a>(
     alloc: Global,
-    entries: &mut Vec<Entry<'a>>,
+    entries: &mut Entries<'_, 'a>,
     place: Place,
     trees: &'a [Expr],
     at: Setting,
 ) -> Result<Parts, Failure>
-    requires linked { AreLinked entries.old.items }
-    requires scope { at.scope ≤ length entries.old.items }
+    requires linked { AreLinked (listed entries.old) }
+    requires scope { at.scope ≤ length (listed entries.old) }
     requires small { at.bound + at.left ≤ 1000000 }
-    ensures kept { OnOk result (entries.new.items ≡ entries.old.items) }
-    ensures same { GivesMany at.room at.left result (each_of (kept_part at.primes place (scope_at entries.old.items at.scope) at.bound) trees.now) }
+    ensures kept { OnOk result (listed entries.new ≡ listed entries.old) }
+    ensures same { GivesMany at.room at.left result (each_of (kept_part at.primes place (scope_at (listed entries.old) at.scope) at.bound) trees.now) }
 {
     let mut parts = Vec::new(alloc);
     let mut left = at.left;
@@ -117,16 +118,16 @@ fn kept_each<'a>(
 #[tactic(auto, using(crate::proofs::Sizes::no_room, crate::proofs::Sizes::none_left))]
 pub(super) fn kept_one<'a>(
     alloc: Global,
-    entries: &mut Vec<Entry<'a>>,
+    entries: &mut Entries<'_, 'a>,
     place: Place,
     tree: &'a Expr,
     at: Setting,
 ) -> Result<Expanded, Failure>
-    requires linked { AreLinked entries.old.items }
-    requires scope { at.scope ≤ length entries.old.items }
+    requires linked { AreLinked (listed entries.old) }
+    requires scope { at.scope ≤ length (listed entries.old) }
     requires small { at.bound + at.left ≤ 1000000 }
-    ensures kept { OnOk result (entries.new.items ≡ entries.old.items) }
-    ensures same { Gives at.room at.left result (kept_part at.primes place (scope_at entries.old.items at.scope) at.bound tree.now) }
+    ensures kept { OnOk result (listed entries.new ≡ listed entries.old) }
+    ensures same { Gives at.room at.left result (kept_part at.primes place (scope_at (listed entries.old) at.scope) at.bound tree.now) }
 {
     if at.room == 0 {
         return Err(Failure::TooLarge);
@@ -146,16 +147,16 @@ pub(super) fn kept_one<'a>(
 #[cycle(expand)]
 pub(super) fn changed<'a>(
     alloc: Global,
-    entries: &mut Vec<Entry<'a>>,
+    entries: &mut Entries<'_, 'a>,
     place: Place,
     tree: &'a Expr,
     at: Setting,
 ) -> Result<Expanded, Failure>
-    requires linked { AreLinked entries.old.items }
-    requires scope { at.scope ≤ length entries.old.items }
+    requires linked { AreLinked (listed entries.old) }
+    requires scope { at.scope ≤ length (listed entries.old) }
     requires small { at.bound + at.left ≤ 1000000 }
-    ensures kept { OnOk result (entries.new.items ≡ entries.old.items) }
-    ensures same { Gives at.room at.left result (changed_in at.primes place (scope_at entries.old.items at.scope) at.bound tree.now) }
+    ensures kept { OnOk result (listed entries.new ≡ listed entries.old) }
+    ensures same { Gives at.room at.left result (changed_in at.primes place (scope_at (listed entries.old) at.scope) at.bound tree.now) }
 {
     if at.room == 0 {
         return Err(Failure::TooLarge);
@@ -187,18 +188,18 @@ pub(super) fn changed<'a>(
 #[cycle(expand)]
 pub(super) fn square_node<'a>(
     alloc: Global,
-    entries: &mut Vec<Entry<'a>>,
+    entries: &mut Entries<'_, 'a>,
     place: Place,
     action: &'a Expr,
     place_v: Place,
     v: &'a Expr,
     at: Setting,
 ) -> Result<Expanded, Failure>
-    requires linked { AreLinked entries.old.items }
-    requires scope { at.scope ≤ length entries.old.items }
+    requires linked { AreLinked (listed entries.old) }
+    requires scope { at.scope ≤ length (listed entries.old) }
     requires small { at.bound + at.left ≤ 1000000 }
-    ensures kept { OnOk result (entries.new.items ≡ entries.old.items) }
-    ensures same { Gives (at.room + 1) (at.left + 1) result (made (λ xy. nodes.two Two.Or place xy.0 xy.1) (both (part_in at.primes (scope_at entries.old.items at.scope) at.bound action.now) (kept_part (settled_primes at.primes) place_v (scope_at entries.old.items at.scope) at.bound v.now))) }
+    ensures kept { OnOk result (listed entries.new ≡ listed entries.old) }
+    ensures same { Gives (at.room + 1) (at.left + 1) result (made (λ xy. nodes.two Two.Or place xy.0 xy.1) (both (part_in at.primes (scope_at (listed entries.old) at.scope) at.bound action.now) (kept_part (settled_primes at.primes) place_v (scope_at (listed entries.old) at.scope) at.bound v.now))) }
 {
     let action = expand(alloc, entries, action, at)?;
     let left = action.left;
@@ -214,18 +215,18 @@ pub(super) fn square_node<'a>(
 #[cycle(expand)]
 pub(super) fn angle_node<'a>(
     alloc: Global,
-    entries: &mut Vec<Entry<'a>>,
+    entries: &mut Entries<'_, 'a>,
     place: Place,
     action: &'a Expr,
     place_v: Place,
     v: &'a Expr,
     at: Setting,
 ) -> Result<Expanded, Failure>
-    requires linked { AreLinked entries.old.items }
-    requires scope { at.scope ≤ length entries.old.items }
+    requires linked { AreLinked (listed entries.old) }
+    requires scope { at.scope ≤ length (listed entries.old) }
     requires small { at.bound + at.left ≤ 1000000 }
-    ensures kept { OnOk result (entries.new.items ≡ entries.old.items) }
-    ensures same { Gives (at.room + 1) (at.left + 1) result (made (λ xy. nodes.two Two.And place xy.0 xy.1) (both (part_in at.primes (scope_at entries.old.items at.scope) at.bound action.now) (changed_in at.primes place_v (scope_at entries.old.items at.scope) at.bound v.now))) }
+    ensures kept { OnOk result (listed entries.new ≡ listed entries.old) }
+    ensures same { Gives (at.room + 1) (at.left + 1) result (made (λ xy. nodes.two Two.And place xy.0 xy.1) (both (part_in at.primes (scope_at (listed entries.old) at.scope) at.bound action.now) (changed_in at.primes place_v (scope_at (listed entries.old) at.scope) at.bound v.now))) }
 {
     let action = expand(alloc, entries, action, at)?;
     let left = action.left;

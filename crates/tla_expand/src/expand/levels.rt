@@ -9,8 +9,9 @@ ghost use Rattle.tla_expand.specs.Scopes.{AreLinked, scope_at};
 ghost use Rattle.tla_expand.specs.Private.Forms.{form_in, tuple_parts};
 ghost use Rattle.tla_expand.specs.Private.Gives.{kept_part, changed_in, part_in, both, total, highest, Fails, FailsBy, Gives, GivesTwo, SaysNone};
 ghost use Rattle.tla_model.specs.Size.{nodes, depth};
+ghost use Rattle.tla_expand.specs.Private.Listed.{listed};
 
-use crate::arena::Entry;
+use crate::entries::Entries;
 use crate::expand::kept::{changed, kept, settled, tuple_items};
 use crate::expand::lists::each;
 use crate::expand::{Setting, expand, node_of, two_parts};
@@ -54,15 +55,15 @@ fn primed_at(head: Head<'_>, outer: Primes) -> Place {
 #[cycle(expand)]
 fn look_at_form<'a>(
     alloc: Global,
-    entries: &mut Vec<Entry<'a>>,
+    entries: &mut Entries<'_, 'a>,
     form: Form<'a>,
     at: Setting,
 ) -> Result<(), Failure>
-    requires linked { AreLinked entries.old.items }
-    requires scope { at.scope ≤ length entries.old.items }
+    requires linked { AreLinked (listed entries.old) }
+    requires scope { at.scope ≤ length (listed entries.old) }
     requires small { at.bound + at.left < 1000000 }
-    ensures kept { OnOk result (entries.new.items ≡ entries.old.items) }
-    ensures fails { IfErr result (λ f. Fails (at.room + 1) (at.left + 1) f (with_primes at.primes (form_in form.entry (scope_at entries.old.items at.scope) at.bound))) }
+    ensures kept { OnOk result (listed entries.new ≡ listed entries.old) }
+    ensures fails { IfErr result (λ f. Fails (at.room + 1) (at.left + 1) f (with_primes at.primes (form_in form.entry (scope_at (listed entries.old) at.scope) at.bound))) }
 {
     match node_of(alloc, entries, form, at) {
         Ok(_) => Ok(()),
@@ -74,15 +75,15 @@ fn look_at_form<'a>(
 #[cycle(expand)]
 fn look_at_each<'a>(
     alloc: Global,
-    entries: &mut Vec<Entry<'a>>,
+    entries: &mut Entries<'_, 'a>,
     trees: &'a [Expr],
     at: Setting,
 ) -> Result<(), Failure>
-    requires linked { AreLinked entries.old.items }
-    requires scope { at.scope ≤ length entries.old.items }
+    requires linked { AreLinked (listed entries.old) }
+    requires scope { at.scope ≤ length (listed entries.old) }
     requires small { at.bound + at.left ≤ 1000000 }
-    ensures kept { OnOk result (entries.new.items ≡ entries.old.items) }
-    ensures fails { IfErr result (λ f. FailsBy (total nodes) (highest depth) at.room at.left f (each_of (part_in at.primes (scope_at entries.old.items at.scope) at.bound) trees.now)) }
+    ensures kept { OnOk result (listed entries.new ≡ listed entries.old) }
+    ensures fails { IfErr result (λ f. FailsBy (total nodes) (highest depth) at.room at.left f (each_of (part_in at.primes (scope_at (listed entries.old) at.scope) at.bound) trees.now)) }
 {
     match each(alloc, entries, trees, at) {
         Ok(_) => Ok(()),
@@ -95,18 +96,18 @@ fn look_at_each<'a>(
 #[cycle(expand)]
 fn look_at_tuple<'a>(
     alloc: Global,
-    entries: &mut Vec<Entry<'a>>,
+    entries: &mut Entries<'_, 'a>,
     head: Head<'a>,
     items: &'a [Expr],
     outer: Primes,
     at: Setting,
 ) -> Result<(), Failure>
-    requires linked { AreLinked entries.old.items }
-    requires scope { at.scope ≤ length entries.old.items }
+    requires linked { AreLinked (listed entries.old) }
+    requires scope { at.scope ≤ length (listed entries.old) }
     requires small { at.bound + at.left ≤ 1000000 }
     requires tuple { tuple_parts head.form ≡ Some items }
-    ensures kept { OnOk result (entries.new.items ≡ entries.old.items) }
-    ensures fails { IfErr result (λ f. Fails (at.room + 1) (at.left + 1) f (with_primes at.primes (form_in head.entry.form (scope_at entries.old.items at.scope) at.bound))) }
+    ensures kept { OnOk result (listed entries.new ≡ listed entries.old) }
+    ensures fails { IfErr result (λ f. Fails (at.room + 1) (at.left + 1) f (with_primes at.primes (form_in head.entry.form (scope_at (listed entries.old) at.scope) at.bound))) }
 {
     if !are_fewer(outer, at.primes) {
         return look_at_each(alloc, entries, items, at);
@@ -127,15 +128,15 @@ fn look_at_tuple<'a>(
 #[cycle(expand)]
 fn look_at<'a>(
     alloc: Global,
-    entries: &mut Vec<Entry<'a>>,
+    entries: &mut Entries<'_, 'a>,
     tree: &'a Expr,
     at: Setting,
 ) -> Result<(), Failure>
-    requires linked { AreLinked entries.old.items }
-    requires scope { at.scope ≤ length entries.old.items }
+    requires linked { AreLinked (listed entries.old) }
+    requires scope { at.scope ≤ length (listed entries.old) }
     requires small { at.bound + at.left ≤ 1000000 }
-    ensures kept { OnOk result (entries.new.items ≡ entries.old.items) }
-    ensures fails { IfErr result (λ f. Fails at.room at.left f (part_in at.primes (scope_at entries.old.items at.scope) at.bound tree.now)) }
+    ensures kept { OnOk result (listed entries.new ≡ listed entries.old) }
+    ensures fails { IfErr result (λ f. Fails at.room at.left f (part_in at.primes (scope_at (listed entries.old) at.scope) at.bound tree.now)) }
 {
     if !is_sought(at.sought, at.primes) {
         return Ok(());
@@ -151,15 +152,15 @@ fn look_at<'a>(
 #[cycle(expand)]
 fn look_at_operand<'a>(
     alloc: Global,
-    entries: &mut Vec<Entry<'a>>,
+    entries: &mut Entries<'_, 'a>,
     tree: &'a Expr,
     at: Setting,
 ) -> Result<(), Failure>
-    requires linked { AreLinked entries.old.items }
-    requires scope { at.scope ≤ length entries.old.items }
+    requires linked { AreLinked (listed entries.old) }
+    requires scope { at.scope ≤ length (listed entries.old) }
     requires small { at.bound + at.left ≤ 1000000 }
-    ensures kept { OnOk result (entries.new.items ≡ entries.old.items) }
-    ensures fails { IfErr result (λ f. (p : fault.Place) → Fails (at.room + 1) (at.left + 1) f (kept_part (settled_primes at.primes) p (scope_at entries.old.items at.scope) at.bound tree.now)) }
+    ensures kept { OnOk result (listed entries.new ≡ listed entries.old) }
+    ensures fails { IfErr result (λ f. (p : fault.Place) → Fails (at.room + 1) (at.left + 1) f (kept_part (settled_primes at.primes) p (scope_at (listed entries.old) at.scope) at.bound tree.now)) }
 {
     if !is_sought(at.sought, at.primes) {
         return Ok(());
@@ -188,16 +189,16 @@ fn look_at_operand<'a>(
 #[cycle(expand)]
 pub(super) fn node_behind<'a>(
     alloc: Global,
-    entries: &mut Vec<Entry<'a>>,
+    entries: &mut Entries<'_, 'a>,
     head: Head<'a>,
     outer: Primes,
     at: Setting,
 ) -> Result<Expanded, Failure>
-    requires linked { AreLinked entries.old.items }
-    requires scope { at.scope ≤ length entries.old.items }
+    requires linked { AreLinked (listed entries.old) }
+    requires scope { at.scope ≤ length (listed entries.old) }
     requires small { at.bound + at.left < 1000000 }
-    ensures kept { OnOk result (entries.new.items ≡ entries.old.items) }
-    ensures same { Gives (at.room + 1) (at.left + 1) result (with_primes at.primes (form_in head.entry.form (scope_at entries.old.items at.scope) at.bound)) }
+    ensures kept { OnOk result (listed entries.new ≡ listed entries.old) }
+    ensures same { Gives (at.room + 1) (at.left + 1) result (with_primes at.primes (form_in head.entry.form (scope_at (listed entries.old) at.scope) at.bound)) }
 {
     if !is_sought(at.sought, outer) {
         return node_of(alloc, entries, head.form, at);
@@ -220,16 +221,16 @@ pub(super) fn node_behind<'a>(
 #[cycle(expand)]
 pub(super) fn unchanged_node<'a>(
     alloc: Global,
-    entries: &mut Vec<Entry<'a>>,
+    entries: &mut Entries<'_, 'a>,
     place: Place,
     tree: &'a Expr,
     at: Setting,
 ) -> Result<Expanded, Failure>
-    requires linked { AreLinked entries.old.items }
-    requires scope { at.scope ≤ length entries.old.items }
+    requires linked { AreLinked (listed entries.old) }
+    requires scope { at.scope ≤ length (listed entries.old) }
     requires small { at.bound + at.left < 1000000 }
-    ensures kept { OnOk result (entries.new.items ≡ entries.old.items) }
-    ensures same { Gives (at.room + 1) (at.left + 1) result (kept_part (settled_primes at.primes) place (scope_at entries.old.items at.scope) at.bound tree.now) }
+    ensures kept { OnOk result (listed entries.new ≡ listed entries.old) }
+    ensures same { Gives (at.room + 1) (at.left + 1) result (kept_part (settled_primes at.primes) place (scope_at (listed entries.old) at.scope) at.bound tree.now) }
 {
     look_at_operand(alloc, entries, tree, at)?;
     let primes = settled(at.primes);
@@ -240,17 +241,17 @@ pub(super) fn unchanged_node<'a>(
 #[cycle(expand)]
 pub(super) fn kept_parts<'a>(
     alloc: Global,
-    entries: &mut Vec<Entry<'a>>,
+    entries: &mut Entries<'_, 'a>,
     tree: &'a Expr,
     primes: Primes,
     told: Place,
     at: Setting,
 ) -> Result<Pair, Failure>
-    requires linked { AreLinked entries.old.items }
-    requires scope { at.scope ≤ length entries.old.items }
+    requires linked { AreLinked (listed entries.old) }
+    requires scope { at.scope ≤ length (listed entries.old) }
     requires small { at.bound + at.left ≤ 1000000 }
-    ensures kept { OnOk result (entries.new.items ≡ entries.old.items) }
-    ensures same { GivesTwo at.room at.left result (both (part_in primes (scope_at entries.old.items at.scope) at.bound tree.now) (part_in at.primes (scope_at entries.old.items at.scope) at.bound tree.now)) }
+    ensures kept { OnOk result (listed entries.new ≡ listed entries.old) }
+    ensures same { GivesTwo at.room at.left result (both (part_in primes (scope_at (listed entries.old) at.scope) at.bound tree.now) (part_in at.primes (scope_at (listed entries.old) at.scope) at.bound tree.now)) }
 {
     match two_parts(alloc, entries, tree, tree, primes, at) {
         Err(Failure::NoExpansion(_)) => Err(Failure::NoExpansion(told)),
@@ -263,16 +264,16 @@ pub(super) fn kept_parts<'a>(
 #[tactic(auto, using(crate::proofs::Sizes::no_room, crate::proofs::Sizes::none_left))]
 pub(super) fn kept_subscript<'a>(
     alloc: Global,
-    entries: &mut Vec<Entry<'a>>,
+    entries: &mut Entries<'_, 'a>,
     place: Place,
     tree: &'a Expr,
     at: Setting,
 ) -> Result<Expanded, Failure>
-    requires linked { AreLinked entries.old.items }
-    requires scope { at.scope ≤ length entries.old.items }
+    requires linked { AreLinked (listed entries.old) }
+    requires scope { at.scope ≤ length (listed entries.old) }
     requires small { at.bound + at.left ≤ 1000000 }
-    ensures kept { OnOk result (entries.new.items ≡ entries.old.items) }
-    ensures same { Gives at.room at.left result (kept_part (settled_primes at.primes) place (scope_at entries.old.items at.scope) at.bound tree.now) }
+    ensures kept { OnOk result (listed entries.new ≡ listed entries.old) }
+    ensures same { Gives at.room at.left result (kept_part (settled_primes at.primes) place (scope_at (listed entries.old) at.scope) at.bound tree.now) }
 {
     if at.room == 0 {
         return Err(Failure::TooLarge);
@@ -290,15 +291,15 @@ pub(super) fn kept_subscript<'a>(
 
 /// Where a subscript that changes is told: in an action at its form, in a state at this place.
 fn changed_at<'a>(
-    entries: &mut Vec<Entry<'a>>,
+    entries: &mut Entries<'_, 'a>,
     tree: &'a Expr,
     place: Place,
     at: Setting,
 ) -> Result<Place, Failure>
-    requires linked { AreLinked entries.old.items }
-    requires scope { at.scope ≤ length entries.old.items }
-    ensures kept { OnOk result (entries.new.items ≡ entries.old.items) }
-    ensures none { IfErr result (λ f. SaysNone f (part_in at.primes (scope_at entries.old.items at.scope) at.bound tree.now)) }
+    requires linked { AreLinked (listed entries.old) }
+    requires scope { at.scope ≤ length (listed entries.old) }
+    ensures kept { OnOk result (listed entries.new ≡ listed entries.old) }
+    ensures none { IfErr result (λ f. SaysNone f (part_in at.primes (scope_at (listed entries.old) at.scope) at.bound tree.now)) }
 {
     let mark = entries.len();
     let found = find_head(entries, tree, at.scope, at.primes)?;
@@ -310,16 +311,16 @@ fn changed_at<'a>(
 #[cycle(expand)]
 pub(super) fn changed_subscript<'a>(
     alloc: Global,
-    entries: &mut Vec<Entry<'a>>,
+    entries: &mut Entries<'_, 'a>,
     place: Place,
     tree: &'a Expr,
     at: Setting,
 ) -> Result<Expanded, Failure>
-    requires linked { AreLinked entries.old.items }
-    requires scope { at.scope ≤ length entries.old.items }
+    requires linked { AreLinked (listed entries.old) }
+    requires scope { at.scope ≤ length (listed entries.old) }
     requires small { at.bound + at.left ≤ 1000000 }
-    ensures kept { OnOk result (entries.new.items ≡ entries.old.items) }
-    ensures same { Gives at.room at.left result (changed_in at.primes place (scope_at entries.old.items at.scope) at.bound tree.now) }
+    ensures kept { OnOk result (listed entries.new ≡ listed entries.old) }
+    ensures same { Gives at.room at.left result (changed_in at.primes place (scope_at (listed entries.old) at.scope) at.bound tree.now) }
 {
     look_at(alloc, entries, tree, at)?;
     let told = changed_at(entries, tree, place, at)?;

@@ -6,9 +6,10 @@ ghost use Rattle.tla_expand.specs.Maybe.{each_of};
 ghost use Rattle.tla_expand.specs.Lists.{exprs};
 ghost use Rattle.tla_expand.specs.Scopes.{AreLinked, scope_at};
 ghost use Rattle.tla_expand.specs.Private.Gives.{part_in, key_in, arm_in, field_in, made, Gives, GivesMany, GivesArms, GivesFields};
+ghost use Rattle.tla_expand.specs.Private.Listed.{listed};
 
-use crate::arena::Entry;
 use crate::builders::{place_of, text_of, tuple};
+use crate::entries::Entries;
 use crate::expand::{Setting, expand, two_parts};
 use crate::expanded::{Arms, Expanded, Fields, Many};
 use crate::failure::Failure;
@@ -22,15 +23,15 @@ use tla_value::Text;
 #[cycle(expand)]
 pub(super) fn each<'a>(
     alloc: Global,
-    entries: &mut Vec<Entry<'a>>,
+    entries: &mut Entries<'_, 'a>,
     trees: &'a [Expr],
     at: Setting,
 ) -> Result<Many, Failure>
-    requires linked { AreLinked entries.old.items }
-    requires scope { at.scope ≤ length entries.old.items }
+    requires linked { AreLinked (listed entries.old) }
+    requires scope { at.scope ≤ length (listed entries.old) }
     requires small { at.bound + at.left ≤ 1000000 }
-    ensures kept { OnOk result (entries.new.items ≡ entries.old.items) }
-    ensures same { GivesMany at.room at.left result (each_of (part_in at.primes (scope_at entries.old.items at.scope) at.bound) trees.now) }
+    ensures kept { OnOk result (listed entries.new ≡ listed entries.old) }
+    ensures same { GivesMany at.room at.left result (each_of (part_in at.primes (scope_at (listed entries.old) at.scope) at.bound) trees.now) }
 {
     let mut parts = Vec::new(alloc);
     let mut left = at.left;
@@ -46,16 +47,16 @@ pub(super) fn each<'a>(
 #[cycle(expand)]
 pub(super) fn key<'a>(
     alloc: Global,
-    entries: &mut Vec<Entry<'a>>,
+    entries: &mut Entries<'_, 'a>,
     place: Place,
     items: &'a [Expr],
     at: Setting,
 ) -> Result<Expanded, Failure>
-    requires linked { AreLinked entries.old.items }
-    requires scope { at.scope ≤ length entries.old.items }
+    requires linked { AreLinked (listed entries.old) }
+    requires scope { at.scope ≤ length (listed entries.old) }
     requires small { at.bound + at.left ≤ 1000000 }
-    ensures kept { OnOk result (entries.new.items ≡ entries.old.items) }
-    ensures same { Gives at.room at.left result (key_in at.primes (scope_at entries.old.items at.scope) at.bound items.now) }
+    ensures kept { OnOk result (listed entries.new ≡ listed entries.old) }
+    ensures same { Gives at.room at.left result (key_in at.primes (scope_at (listed entries.old) at.scope) at.bound items.now) }
 {
     match items {
         [] => Err(Failure::NoExpansion(place)),
@@ -71,16 +72,16 @@ pub(super) fn key<'a>(
 #[cycle(expand)]
 fn tuple_of<'a>(
     alloc: Global,
-    entries: &mut Vec<Entry<'a>>,
+    entries: &mut Entries<'_, 'a>,
     place: Place,
     items: &'a [Expr],
     at: Setting,
 ) -> Result<Expanded, Failure>
-    requires linked { AreLinked entries.old.items }
-    requires scope { at.scope ≤ length entries.old.items }
+    requires linked { AreLinked (listed entries.old) }
+    requires scope { at.scope ≤ length (listed entries.old) }
     requires small { at.bound + at.left ≤ 1000000 }
-    ensures kept { OnOk result (entries.new.items ≡ entries.old.items) }
-    ensures same { Gives at.room at.left result (made (λ xs. expr.tuple place (exprs xs)) (each_of (part_in at.primes (scope_at entries.old.items at.scope) at.bound) items.now)) }
+    ensures kept { OnOk result (listed entries.new ≡ listed entries.old) }
+    ensures same { Gives at.room at.left result (made (λ xs. expr.tuple place (exprs xs)) (each_of (part_in at.primes (scope_at (listed entries.old) at.scope) at.bound) items.now)) }
 {
     if at.room == 0 {
         return Err(Failure::TooLarge);
@@ -104,15 +105,15 @@ fn tuple_of<'a>(
 #[cycle(expand)]
 pub(super) fn arms_of<'a>(
     alloc: Global,
-    entries: &mut Vec<Entry<'a>>,
+    entries: &mut Entries<'_, 'a>,
     arms: &'a [Arm],
     at: Setting,
 ) -> Result<Arms, Failure>
-    requires linked { AreLinked entries.old.items }
-    requires scope { at.scope ≤ length entries.old.items }
+    requires linked { AreLinked (listed entries.old) }
+    requires scope { at.scope ≤ length (listed entries.old) }
     requires small { at.bound + at.left ≤ 1000000 }
-    ensures kept { OnOk result (entries.new.items ≡ entries.old.items) }
-    ensures same { GivesArms at.room at.left result (each_of (arm_in at.primes (scope_at entries.old.items at.scope) at.bound) arms.now) }
+    ensures kept { OnOk result (listed entries.new ≡ listed entries.old) }
+    ensures same { GivesArms at.room at.left result (each_of (arm_in at.primes (scope_at (listed entries.old) at.scope) at.bound) arms.now) }
 {
     let mut made = Vec::new(alloc);
     let mut left = at.left;
@@ -130,15 +131,15 @@ pub(super) fn arms_of<'a>(
 #[cycle(expand)]
 pub(super) fn named_parts<'a>(
     alloc: Global,
-    entries: &mut Vec<Entry<'a>>,
+    entries: &mut Entries<'_, 'a>,
     fields: &'a [Field],
     at: Setting,
 ) -> Result<Fields, Failure>
-    requires linked { AreLinked entries.old.items }
-    requires scope { at.scope ≤ length entries.old.items }
+    requires linked { AreLinked (listed entries.old) }
+    requires scope { at.scope ≤ length (listed entries.old) }
     requires small { at.bound + at.left ≤ 1000000 }
-    ensures kept { OnOk result (entries.new.items ≡ entries.old.items) }
-    ensures same { GivesFields at.room at.left result (each_of (field_in at.primes (scope_at entries.old.items at.scope) at.bound) fields.now) }
+    ensures kept { OnOk result (listed entries.new ≡ listed entries.old) }
+    ensures same { GivesFields at.room at.left result (each_of (field_in at.primes (scope_at (listed entries.old) at.scope) at.bound) fields.now) }
 {
     let mut made = Vec::new(alloc);
     let mut left = at.left;

@@ -8,9 +8,11 @@ ghost use Rattle.tla_expand.specs.Maybe.{each_of};
 ghost use Rattle.tla_expand.specs.Lists.{updates_of};
 ghost use Rattle.tla_expand.specs.Scopes.{AreLinked, scope_at};
 ghost use Rattle.tla_expand.specs.Private.Gives.{both, made, part_in, step_in, update_in, value_in, Gives, GivesMany, GivesChange, GivesChanges};
+ghost use Rattle.tla_expand.specs.Private.Listed.{listed};
 
 use crate::arena::{Entry, What, enter};
 use crate::builders::{except_core, place_of};
+use crate::entries::Entries;
 use crate::expand::lists::key;
 use crate::expand::{Setting, expand, leaf_of};
 use crate::expanded::{Change, Changes, Expanded, Many};
@@ -25,17 +27,17 @@ use tla_tree::{Expr, Key, Update, Written};
 #[cycle(expand)]
 pub(super) fn except_node<'a>(
     alloc: Global,
-    entries: &mut Vec<Entry<'a>>,
+    entries: &mut Entries<'_, 'a>,
     place: Place,
     function: &'a Expr,
     updates: &'a [Update],
     at: Setting,
 ) -> Result<Expanded, Failure>
-    requires linked { AreLinked entries.old.items }
-    requires scope { at.scope ≤ length entries.old.items }
+    requires linked { AreLinked (listed entries.old) }
+    requires scope { at.scope ≤ length (listed entries.old) }
     requires small { at.bound + at.left < 1000000 }
-    ensures kept { OnOk result (entries.new.items ≡ entries.old.items) }
-    ensures same { Gives (at.room + 1) (at.left + 1) result (made (λ xs. expr.except place xs.0 (updates_of xs.1)) (both (part_in at.primes (scope_at entries.old.items at.scope) at.bound function.now) (each_of (update_in at.primes (scope_at entries.old.items at.scope) at.bound) updates.now))) }
+    ensures kept { OnOk result (listed entries.new ≡ listed entries.old) }
+    ensures same { Gives (at.room + 1) (at.left + 1) result (made (λ xs. expr.except place xs.0 (updates_of xs.1)) (both (part_in at.primes (scope_at (listed entries.old) at.scope) at.bound function.now) (each_of (update_in at.primes (scope_at (listed entries.old) at.scope) at.bound) updates.now))) }
 {
     let function = expand(alloc, entries, function, at)?;
     let left = function.left;
@@ -51,16 +53,16 @@ pub(super) fn except_node<'a>(
 #[cycle(expand)]
 fn changes<'a>(
     alloc: Global,
-    entries: &mut Vec<Entry<'a>>,
+    entries: &mut Entries<'_, 'a>,
     place: Place,
     updates: &'a [Update],
     at: Setting,
 ) -> Result<Changes, Failure>
-    requires linked { AreLinked entries.old.items }
-    requires scope { at.scope ≤ length entries.old.items }
+    requires linked { AreLinked (listed entries.old) }
+    requires scope { at.scope ≤ length (listed entries.old) }
     requires small { at.bound + at.left < 1000000 }
-    ensures kept { OnOk result (entries.new.items ≡ entries.old.items) }
-    ensures same { GivesChanges at.room at.left result (each_of (update_in at.primes (scope_at entries.old.items at.scope) at.bound) updates.now) }
+    ensures kept { OnOk result (listed entries.new ≡ listed entries.old) }
+    ensures same { GivesChanges at.room at.left result (each_of (update_in at.primes (scope_at (listed entries.old) at.scope) at.bound) updates.now) }
 {
     let mut made = Vec::new(alloc);
     let mut left = at.left;
@@ -79,16 +81,16 @@ fn changes<'a>(
 #[cycle(expand)]
 fn change<'a>(
     alloc: Global,
-    entries: &mut Vec<Entry<'a>>,
+    entries: &mut Entries<'_, 'a>,
     place: Place,
     update: &'a Update,
     at: Setting,
 ) -> Result<Change, Failure>
-    requires linked { AreLinked entries.old.items }
-    requires scope { at.scope ≤ length entries.old.items }
+    requires linked { AreLinked (listed entries.old) }
+    requires scope { at.scope ≤ length (listed entries.old) }
     requires small { at.bound + at.left < 1000000 }
-    ensures kept { OnOk result (entries.new.items ≡ entries.old.items) }
-    ensures same { GivesChange at.room at.left result (update_in at.primes (scope_at entries.old.items at.scope) at.bound update.now) }
+    ensures kept { OnOk result (listed entries.new ≡ listed entries.old) }
+    ensures same { GivesChange at.room at.left result (update_in at.primes (scope_at (listed entries.old) at.scope) at.bound update.now) }
 {
     let path = path_of(alloc, entries, place, update.path.as_slice(), at)?;
     let left = path.left;
@@ -104,15 +106,15 @@ fn change<'a>(
 #[cycle(expand)]
 fn new_value<'a>(
     alloc: Global,
-    entries: &mut Vec<Entry<'a>>,
+    entries: &mut Entries<'_, 'a>,
     value: &'a Expr,
     at: Setting,
 ) -> Result<Expanded, Failure>
-    requires linked { AreLinked entries.old.items }
-    requires scope { at.scope ≤ length entries.old.items }
+    requires linked { AreLinked (listed entries.old) }
+    requires scope { at.scope ≤ length (listed entries.old) }
     requires small { at.bound + at.left < 1000000 }
-    ensures kept { OnOk result (entries.new.items ≡ entries.old.items) }
-    ensures same { Gives at.room at.left result (value_in at.primes (scope_at entries.old.items at.scope) at.bound value.now) }
+    ensures kept { OnOk result (listed entries.new ≡ listed entries.old) }
+    ensures same { Gives at.room at.left result (value_in at.primes (scope_at (listed entries.old) at.scope) at.bound value.now) }
 {
     let mark = entries.len();
     let entry = Entry {
@@ -135,16 +137,16 @@ fn new_value<'a>(
 #[cycle(expand)]
 fn path_of<'a>(
     alloc: Global,
-    entries: &mut Vec<Entry<'a>>,
+    entries: &mut Entries<'_, 'a>,
     place: Place,
     keys: &'a [Key],
     at: Setting,
 ) -> Result<Many, Failure>
-    requires linked { AreLinked entries.old.items }
-    requires scope { at.scope ≤ length entries.old.items }
+    requires linked { AreLinked (listed entries.old) }
+    requires scope { at.scope ≤ length (listed entries.old) }
     requires small { at.bound + at.left ≤ 1000000 }
-    ensures kept { OnOk result (entries.new.items ≡ entries.old.items) }
-    ensures same { GivesMany at.room at.left result (each_of (step_in at.primes (scope_at entries.old.items at.scope) at.bound) keys.now) }
+    ensures kept { OnOk result (listed entries.new ≡ listed entries.old) }
+    ensures same { GivesMany at.room at.left result (each_of (step_in at.primes (scope_at (listed entries.old) at.scope) at.bound) keys.now) }
 {
     let mut parts = Vec::new(alloc);
     let mut left = at.left;
@@ -160,16 +162,16 @@ fn path_of<'a>(
 #[cycle(expand)]
 fn step_of<'a>(
     alloc: Global,
-    entries: &mut Vec<Entry<'a>>,
+    entries: &mut Entries<'_, 'a>,
     place: Place,
     step: &'a Key,
     at: Setting,
 ) -> Result<Expanded, Failure>
-    requires linked { AreLinked entries.old.items }
-    requires scope { at.scope ≤ length entries.old.items }
+    requires linked { AreLinked (listed entries.old) }
+    requires scope { at.scope ≤ length (listed entries.old) }
     requires small { at.bound + at.left ≤ 1000000 }
-    ensures kept { OnOk result (entries.new.items ≡ entries.old.items) }
-    ensures same { Gives at.room at.left result (step_in at.primes (scope_at entries.old.items at.scope) at.bound step.now) }
+    ensures kept { OnOk result (listed entries.new ≡ listed entries.old) }
+    ensures same { Gives at.room at.left result (step_in at.primes (scope_at (listed entries.old) at.scope) at.bound step.now) }
 {
     match step {
         Key::Index(items) => key(alloc, entries, place, items.as_slice(), at),

@@ -10,7 +10,8 @@ use Rattle.tla_tree.specs.UnitsView.{unit_view}
 use Rattle.tla_defs.specs.Global.{global}
 use Rattle.tla_defs.specs.Private.Mentions.{behaviour_of}
 use Rattle.tla_defs.specs.Model.{assumptions_of, invariants_named, constraints_named}
-use Rattle.tla_defs.specs.Refused.{IsOfFormula, IsOfAssumption, IsOfPredicate, of_assumption, of_initial, of_action, of_invariant, of_constraint}
+use Rattle.tla_formulas.specs.Refused.{IsOfFormula}
+use Rattle.tla_defs.specs.Refused.{IsOfAssumption, IsOfPredicate, of_assumption, of_initial, of_action, of_invariant, of_constraint}
 use Rattle.tla_defs.specs.Private.Specified.{action_tree}
 use Rattle.tla_defs.proofs.Found.{parts_model}
 use Rattle.tla_defs.proofs.Means.{meaning_behaviour, no_meaning}

@@ -4,7 +4,8 @@ use Rattle.tla_tree.specs.UnitsView.{unit_view}
 use Rattle.tla_config.specs.Statements.{items_of}
 use Rattle.tla_defs.specs.Private.Mentions.{behaviour_of}
 use Rattle.tla_defs.proofs.Behaviours.{behaviour_only}
-use Rattle.tla_defs.proofs.Nones.{no_behaviour, no_items, no_names, no_circle, name_refusal, circle_refusal, last_refusal, last_same, if_err}
+use Rattle.tla_formulas.proofs.Found.{if_err}
+use Rattle.tla_defs.proofs.Nones.{no_behaviour, no_items, no_names, no_circle, name_refusal, circle_refusal, last_refusal, last_same}
 use Rattle.tla_defs.proofs.builder.model_or_refusal.Goals as goal
 
 pub model-requires-clause-only : goal.model-requires-clause-only

@@ -5,7 +5,7 @@ use Rattle.tla_expand.specs.Names.{scope_of}
 use Rattle.tla_tree.specs.declared.tree.Bullet.TheVariants as bullet
 use Rattle.tla_tree.specs.Tree.{Junction, trees}
 use Rattle.tla_defs.specs.Private.Seen.{seen}
-use Rattle.tla_defs.proofs.Found.{found_initial, no_initial}
+use Rattle.tla_formulas.proofs.Found.{found_initial, no_initial}
 use Rattle.tla_defs.proofs.meant.several_conjuncts.Goals as goal
 
 pub returns-in-Ok-clause-found : goal.returns-in-Ok-clause-found

@@ -3,7 +3,7 @@ use Rattle.tla_expand.specs.declared.primes.Primes.TheVariants as read
 use Rattle.tla_expand.specs.Expand.{expand}
 use Rattle.tla_expand.specs.Names.{scope_of}
 use Rattle.tla_tree.specs.View.{view}
-use Rattle.tla_defs.proofs.Found.{found_action, no_action}
+use Rattle.tla_formulas.proofs.Found.{found_action, no_action}
 use Rattle.tla_defs.proofs.meant.specified_action.Goals as goal
 
 pub returns-in-Ok-clause-found : goal.returns-in-Ok-clause-found

@@ -6,8 +6,8 @@ use Rattle.tla_expand.specs.declared.primes.Primes.TheVariants as read
 use Rattle.tla_expand.specs.Expand.{expand}
 use Rattle.tla_expand.specs.Names.{scope_of}
 use Rattle.tla_tree.specs.Tree.{Tree}
-use Rattle.tla_defs.specs.Model.{IsInitial}
-use Rattle.tla_defs.specs.Refused.{IsOfFormula}
+use Rattle.tla_formulas.specs.Formulas.{IsInitial}
+use Rattle.tla_formulas.specs.Refused.{IsOfFormula}
 use Rattle.tla_defs.proofs.Forms.{of_one_item, of_items}
 use Rattle.tla_defs.proofs.meant.specified_initial.Goals as goal
 

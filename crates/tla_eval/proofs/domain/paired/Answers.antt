@@ -13,31 +13,6 @@ pub loop-value-preserved-in_ok-push-in-Some-get : goal.loop-value-preserved-in_o
 loop-value-preserved-in_ok-push-in-Some-get c =
     (paired_more c.args.arguments.now c.loop-value.yielded c.loop-value.pairs.items c.push.new.self.items c.in-Some-get.argument.now c.in_ok-copied-in-Some-get.field-0 c.in-Some.value c.len-in-loop-value.result c.in_ok-push-in-Some-get.ensures.items c.in_ok-copied-in-Some-get.ensures.ok c.loop-value.invariant.0 (c.len-in-loop-value.ensures ∙ c.loop-value.pairs.ok.0) c.in-Some-get.ensures.lookup.3.0 c.in-Some-get.ensures.lookup.1, tt, tt)
 
--- the value that is left out is dropped, by its kind
-pub loop-value-preserved-in-None-get : goal.loop-value-preserved-in-None-get
-loop-value-preserved-in-None-get c =
-    (paired_done c.args.arguments.now c.loop-value.yielded c.loop-value.pairs.items c.in-Some.value c.len-in-loop-value.result c.loop-value.invariant.0 (c.len-in-loop-value.ensures ∙ c.loop-value.pairs.ok.0) c.in-None-get.ensures.lookup.3, tt, tt)
-
-pub loop-value-preserved-in-None-get-2 : goal.loop-value-preserved-in-None-get-2
-loop-value-preserved-in-None-get-2 c =
-    (paired_done c.args.arguments.now c.loop-value.yielded c.loop-value.pairs.items c.in-Some.value c.len-in-loop-value.result c.loop-value.invariant.0 (c.len-in-loop-value.ensures ∙ c.loop-value.pairs.ok.0) c.in-None-get.ensures.lookup.3, tt, tt)
-
-pub loop-value-preserved-in-None-get-3 : goal.loop-value-preserved-in-None-get-3
-loop-value-preserved-in-None-get-3 c =
-    (paired_done c.args.arguments.now c.loop-value.yielded c.loop-value.pairs.items c.in-Some.value c.len-in-loop-value.result c.loop-value.invariant.0 (c.len-in-loop-value.ensures ∙ c.loop-value.pairs.ok.0) c.in-None-get.ensures.lookup.3, tt, tt)
-
-pub loop-value-preserved-in-None-get-4 : goal.loop-value-preserved-in-None-get-4
-loop-value-preserved-in-None-get-4 c =
-    (paired_done c.args.arguments.now c.loop-value.yielded c.loop-value.pairs.items c.in-Some.value c.len-in-loop-value.result c.loop-value.invariant.0 (c.len-in-loop-value.ensures ∙ c.loop-value.pairs.ok.0) c.in-None-get.ensures.lookup.3, tt, tt)
-
-pub loop-value-preserved-in-None-get-5 : goal.loop-value-preserved-in-None-get-5
-loop-value-preserved-in-None-get-5 c =
-    (paired_done c.args.arguments.now c.loop-value.yielded c.loop-value.pairs.items c.in-Some.value c.len-in-loop-value.result c.loop-value.invariant.0 (c.len-in-loop-value.ensures ∙ c.loop-value.pairs.ok.0) c.in-None-get.ensures.lookup.3, tt, tt)
-
-pub loop-value-preserved-in-None-get-6 : goal.loop-value-preserved-in-None-get-6
-loop-value-preserved-in-None-get-6 c =
-    (paired_done c.args.arguments.now c.loop-value.yielded c.loop-value.pairs.items c.in-Some.value c.len-in-loop-value.result c.loop-value.invariant.0 (c.len-in-loop-value.ensures ∙ c.loop-value.pairs.ok.0) c.in-None-get.ensures.lookup.3, tt, tt)
-
 pub loop-value-preserved : goal.loop-value-preserved
 loop-value-preserved c =
     (paired_done c.args.arguments.now c.loop-value.yielded c.loop-value.pairs.items c.in-Some.value c.len-in-loop-value.result c.loop-value.invariant.0 (c.len-in-loop-value.ensures ∙ c.loop-value.pairs.ok.0) c.in-None-get.ensures.lookup.3, tt, tt)

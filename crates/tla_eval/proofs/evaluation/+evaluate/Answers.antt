@@ -1,32 +1,40 @@
-use Rattle.std.proofs.Common.{◌≡◌, rules, arith, Vec, Global, map, zip, length, option_map, Option, Bor, List, ◌++◌, ◌∷◌, [], Bool, Some, None, Ok, ap, sym, ◌∙◌, refl, subst}
+use Rattle.std.proofs.Common.{◌≡◌, rules, arith, Vec, Global, map, zip, length, option_map, Option, Bor, List, ◌++◌, ◌∷◌, [], Bool, Some, None, Ok, Err, inr, ap, sym, ◌∙◌, refl, subst}
 use Rattle.std.proofs.lemmas.List.{map-append}
 use Rattle.tla_value.specs.Choices.{choices}
 use Rattle.tla_core.specs.Logic.{means-conjunction, means-disjunction, means-cases}
-use Rattle.tla_core.specs.Meaning.{Meaning, asks, means-enumerated, means-tuple}
+use Rattle.tla_core.specs.Meaning.{Meaning, asks, elements, means-enumerated, means-tuple}
 use Rattle.tla_core.specs.Functions.{means-except}
 use Rattle.tla_core.specs.Patterns.{means-opened}
 use Rattle.tla_core.specs.Value.{means, mem}
-use Rattle.tla_core.specs.ExprOf.{expr_of, parts_of_cores, fields_of_cores, arms_of_cores, updates_of_cores}
+use Rattle.tla_core.specs.ExprOf.{expr_of, binary_of, parts_of_cores, fields_of_cores, arms_of_cores, updates_of_cores}
 use Rattle.tla_value.specs.Tree.{Tree}
 use Rattle.tla_core.specs.Fault.{Outcome}
+use Rattle.tla_core.specs.declared.fault.Place.{Place}
+use Rattle.tla_core.specs.declared.fault.Fault.{Fault}
 use Rattle.tla_eval.specs.Gives.{Gives, GivesBy, GivesTruth, record_rule, image_rule, function_rule, chosen_function_rule, product_rule, record_set_rule, values_for, values_of}
+use Rattle.tla_eval.specs.declared.environment.Environment.{Environment}
 use Rattle.tla_eval.specs.declared.environment.Evaluated.{Evaluated}
 use Rattle.tla_eval.specs.Private.Chosen.{value_at}
 use Rattle.tla_eval.specs.Private.Domain.{AreForChoices, IsDomain}
+use Rattle.tla_eval.specs.Private.Elements.{elements_of, GivesElements, tested, one_of_rule}
 use Rattle.tla_eval.specs.Private.Gathered.{Gathers}
 use Rattle.tla_value.specs.TreeOf.{tree_of, pair_of}
 use Rattle.tla_core.specs.declared.expression.Core.{Core}
 use Rattle.tla_value.specs.declared.value.Value.{Value}
 use Rattle.tla_eval.specs.Private.Environment.{Evaluates, tree_of_evaluated, bound_in, present_in, next_in}
-use Rattle.tla_core.proofs.Loops.{all_hold_step, some_hold_step, first_passing_step}
+use Rattle.std.specs.Prelude.{slice_get}
+use Rattle.tla_core.proofs.Loops.{all_hold_step}
 use Rattle.tla_eval.proofs.Collected.{record_is}
-use Rattle.tla_eval.proofs.Choices.{image_is, image_step, function_is, passing_step, one_choice, value_here, value_more, value_first, value_end, pass_more, pass_first, pass_end, for_choices, function_of_values, function_first, function_passed}
+use Rattle.tla_eval.proofs.Choices.{image_is, image_step, function_is, one_choice, value_here, value_more, value_first, value_end, pass_more, pass_first, pass_end, for_choices, function_of_values, function_first, function_passed}
 use Rattle.tla_eval.proofs.Chosen.{trees_in}
+use Rattle.tla_eval.proofs.Tested.{two_gone, two_asked, tested_there, all_more, all_stop, all_first, all_end, some_more, some_stop, some_first, some_end, least_more, least_stop, least_first, least_end, kept_more, kept_first, kept_end}
+use Rattle.tla_eval.proofs.Stands.{one_of_is}
 use Rattle.tla_eval.proofs.Different.{more_none}
 use Rattle.tla_core.proofs.Parts.{means_conjunction, means_disjunction, means_enumerated, means_tuple, means_record, means_image, means_function, means_except, means_cases, means_cases_or, means_records, means_product}
 use Rattle.tla_eval.proofs.RecordSets.{product_is, record_set_is, fields_long, tuple_long, tuple_other, same_number, number_same}
 use Rattle.tla_core.specs.Kinds.{items, as_set, make_fun}
 use Rattle.tla_core.specs.Lists.{each}
+use Rattle.tla_core.specs.Operators.{binary_rule}
 use Rattle.tla_core.specs.SetForms.{means-records, means-product}
 use Rattle.tla_eval.proofs.evaluation.+evaluate.Goals as goal
 
@@ -42,20 +50,127 @@ evaluate-returns-in-Disjunction t c =
     let e = means_disjunction c.args.core.now n.place n.parts n.is ∙ ap (λ us. means-disjunction n.place (parts_of_cores us)) (sym c.deref-in-Disjunction.ensures.value) in
     subst (λ (m : Meaning). Evaluates c.disjunction.result (m.value (bound_in c.args.env) (present_in c.args.env) (next_in c.args.env))) (sym e) c.disjunction.ensures
 
-pub binding::each_holds-loop-value-preserved : goal.binding::each_holds-loop-value-preserved
-binding::each_holds-loop-value-preserved t c =
-    c.loop-value.invariant
-    ∙ all_hold_step (λ v. asks c.args.place (means (expr_of c.args.body.now)) (bound_in c.args.env ++ v ∷ []) (present_in c.args.env) (next_in c.args.env)) c.args.values.now c.loop-value.value-index c.value-item.result c.value-item.is c.loop-value-test.true (c.in_ok-ask_with.ensures ∙ ap (λ (x : Bool). Ok x) c.if-not-branch.false)
+-- whether a body is TRUE of an element
+abbrev body_of : Place → Core → Environment → Tree → Outcome Bool
+body_of p body env v = asks p (means (expr_of body)) (bound_in env ++ v ∷ []) (present_in env) (next_in env)
 
-pub binding::some_holds-loop-value-preserved : goal.binding::some_holds-loop-value-preserved
-binding::some_holds-loop-value-preserved t c =
-    c.loop-value.invariant
-    ∙ some_hold_step (λ v. asks c.args.place (means (expr_of c.args.body.now)) (bound_in c.args.env ++ v ∷ []) (present_in c.args.env) (next_in c.args.env)) c.args.values.now c.loop-value.value-index c.value-item.result c.value-item.is c.loop-value-test.true (c.in_ok-ask_with.ensures ∙ ap (λ (x : Bool). Ok x) c.if-branch.false)
+pub binding::holds_at-returns-in_ok-ask_with-in-Some : goal.binding::holds_at-returns-in_ok-ask_with-in-Some
+binding::holds_at-returns-in_ok-ask_with-in-Some t c =
+    let at : Some (tree_of_evaluated c.in-Some.element) ≡ slice_get (elements_of c.args.elements.now) c.args.number = sym (ap (option_map tree_of_evaluated) c.in-Some.is) ∙ c.element_at.ensures in
+    let e : slice_get (elements_of c.args.elements.now) c.args.number ≡ Some (tree_of c.value.result.now) = sym at ∙ ap (λ v. Some v) (sym c.value.ensures) in
+    tested_there (body_of c.args.place c.args.body.now c.args.env) (slice_get (elements_of c.args.elements.now) c.args.number) (tree_of c.value.result.now) c.in_ok-ask_with-in-Some.field-0 e c.in_ok-ask_with-in-Some.ensures
 
-pub binding::first_passing-loop-value-preserved : goal.binding::first_passing-loop-value-preserved
-binding::first_passing-loop-value-preserved t c =
-    c.loop-value.invariant
-    ∙ first_passing_step (λ v. asks c.args.place (means (expr_of c.args.body.now)) (bound_in c.args.env ++ v ∷ []) (present_in c.args.env) (next_in c.args.env)) c.args.values.now c.loop-value.value-index c.value-item.result c.args.place c.value-item.is c.loop-value-test.true (c.in_ok-ask_with.ensures ∙ ap (λ (x : Bool). Ok x) c.if-branch.false)
+pub binding::holds_at-returns-in_err-ask_with-in-Some : goal.binding::holds_at-returns-in_err-ask_with-in-Some
+binding::holds_at-returns-in_err-ask_with-in-Some t c =
+    let at : Some (tree_of_evaluated c.in-Some.element) ≡ slice_get (elements_of c.args.elements.now) c.args.number = sym (ap (option_map tree_of_evaluated) c.in-Some.is) ∙ c.element_at.ensures in
+    let e : slice_get (elements_of c.args.elements.now) c.args.number ≡ Some (tree_of c.value.result.now) = sym at ∙ ap (λ v. Some v) (sym c.value.ensures) in
+    subst (λ o. GivesBy (λ (r : Option Bool). r) c.from_residual.result o) (sym (ap (tested (body_of c.args.place c.args.body.now c.args.env)) e)) (search rules)
+
+pub binding::holds_at-returns-in-None : goal.binding::holds_at-returns-in-None
+binding::holds_at-returns-in-None t c =
+    ap (tested (body_of c.args.place c.args.body.now c.args.env)) (sym c.element_at.ensures ∙ ap (option_map tree_of_evaluated) c.in-None.is)
+
+pub binding::each_holds-loop-number-preserved : goal.binding::each_holds-loop-number-preserved
+binding::each_holds-loop-number-preserved t c =
+    c.loop-number.invariant
+    ∙ all_more (body_of c.args.place c.args.body.now c.args.env) (elements_of c.args.elements.now) c.loop-number.number c.in-Some.holds (c.in_ok-holds.ensures ∙ ap (λ (o : Option Bool). Ok o) c.in-Some.is) c.if-not-holds.false
+
+pub binding::each_holds-returns-then-not-holds : goal.binding::each_holds-returns-then-not-holds
+binding::each_holds-returns-then-not-holds t c =
+    c.loop-number.invariant
+    ∙ all_stop (body_of c.args.place c.args.body.now c.args.env) (elements_of c.args.elements.now) c.loop-number.number c.in-Some.holds (c.in_ok-holds.ensures ∙ ap (λ (o : Option Bool). Ok o) c.in-Some.is) c.if-not-holds.true
+
+pub binding::each_holds-returns-in-None : goal.binding::each_holds-returns-in-None
+binding::each_holds-returns-in-None t c =
+    c.loop-number.invariant ∙ all_end (body_of c.args.place c.args.body.now c.args.env) (elements_of c.args.elements.now) c.loop-number.number (c.in_ok-holds.ensures ∙ ap (λ (o : Option Bool). Ok o) c.in-None.is)
+
+pub binding::each_holds-returns-in_err-holds : goal.binding::each_holds-returns-in_err-holds
+binding::each_holds-returns-in_err-holds t c =
+    let e = c.loop-number.invariant ∙ all_first (body_of c.args.place c.args.body.now c.args.env) (elements_of c.args.elements.now) c.loop-number.number in
+    subst (λ (o : Outcome Bool). GivesTruth c.from_residual.result o) (sym e) (search rules)
+
+pub binding::some_holds-loop-number-preserved : goal.binding::some_holds-loop-number-preserved
+binding::some_holds-loop-number-preserved t c =
+    c.loop-number.invariant
+    ∙ some_more (body_of c.args.place c.args.body.now c.args.env) (elements_of c.args.elements.now) c.loop-number.number c.in-Some.holds (c.in_ok-holds.ensures ∙ ap (λ (o : Option Bool). Ok o) c.in-Some.is) c.if-holds.false
+
+pub binding::some_holds-returns-then-holds : goal.binding::some_holds-returns-then-holds
+binding::some_holds-returns-then-holds t c =
+    c.loop-number.invariant
+    ∙ some_stop (body_of c.args.place c.args.body.now c.args.env) (elements_of c.args.elements.now) c.loop-number.number c.in-Some.holds (c.in_ok-holds.ensures ∙ ap (λ (o : Option Bool). Ok o) c.in-Some.is) c.if-holds.true
+
+pub binding::some_holds-returns-in-None : goal.binding::some_holds-returns-in-None
+binding::some_holds-returns-in-None t c =
+    c.loop-number.invariant ∙ some_end (body_of c.args.place c.args.body.now c.args.env) (elements_of c.args.elements.now) c.loop-number.number (c.in_ok-holds.ensures ∙ ap (λ (o : Option Bool). Ok o) c.in-None.is)
+
+pub binding::some_holds-returns-in_err-holds : goal.binding::some_holds-returns-in_err-holds
+binding::some_holds-returns-in_err-holds t c =
+    let e = c.loop-number.invariant ∙ some_first (body_of c.args.place c.args.body.now c.args.env) (elements_of c.args.elements.now) c.loop-number.number in
+    subst (λ (o : Outcome Bool). GivesTruth c.from_residual.result o) (sym e) (search rules)
+
+pub binding::first_passing-loop-number-preserved : goal.binding::first_passing-loop-number-preserved
+binding::first_passing-loop-number-preserved t c =
+    c.loop-number.invariant
+    ∙ least_more (body_of c.args.place c.args.body.now c.args.env) (elements_of c.args.elements.now) c.loop-number.number c.args.place c.in-Some.holds (c.in_ok-holds.ensures ∙ ap (λ (o : Option Bool). Ok o) c.in-Some.is) c.if-holds.false
+
+pub binding::first_passing-returns-then-holds : goal.binding::first_passing-returns-then-holds
+binding::first_passing-returns-then-holds t c =
+    let e = c.loop-number.invariant
+    ∙ least_stop (body_of c.args.place c.args.body.now c.args.env) (elements_of c.args.elements.now) c.loop-number.number c.args.place c.in-Some.holds (c.in_ok-holds.ensures ∙ ap (λ (o : Option Bool). Ok o) c.in-Some.is) c.if-holds.true in
+    subst (λ (o : Outcome Tree). Gives c.chosen_at.result o) (sym e) c.chosen_at.ensures
+
+pub binding::first_passing-returns-in-None : goal.binding::first_passing-returns-in-None
+binding::first_passing-returns-in-None t c =
+    inr (c.loop-number.invariant ∙ least_end (body_of c.args.place c.args.body.now c.args.env) (elements_of c.args.elements.now) c.loop-number.number c.args.place (c.in_ok-holds.ensures ∙ ap (λ (o : Option Bool). Ok o) c.in-None.is) ∙ ap (λ (f : Fault). Err f) (sym c.fault_at.ensures))
+
+pub binding::first_passing-returns-in_err-holds : goal.binding::first_passing-returns-in_err-holds
+binding::first_passing-returns-in_err-holds t c =
+    let e = c.loop-number.invariant ∙ least_first (body_of c.args.place c.args.body.now c.args.env) (elements_of c.args.elements.now) c.loop-number.number c.args.place in
+    subst (λ (o : Outcome Tree). Gives c.from_residual.result o) (sym e) (search rules)
+
+pub binding::passing-loop-number-preserved : goal.binding::passing-loop-number-preserved
+binding::passing-loop-number-preserved t c =
+    c.loop-number.invariant
+    ∙ kept_more (body_of c.args.place c.args.body.now c.args.env) (elements_of c.args.elements.now) c.loop-number.number (map tree_of c.loop-number.kept.items) (map tree_of c.keep_at.new.kept.items) c.in-Some.holds (c.in_ok-holds.ensures ∙ ap (λ (o : Option Bool). Ok o) c.in-Some.is) c.in_ok-keep_at-in-Some.ensures.ok
+
+pub binding::passing-returns-in-None : goal.binding::passing-returns-in-None
+binding::passing-returns-in-None t c =
+    c.loop-number.invariant ∙ kept_end (body_of c.args.place c.args.body.now c.args.env) (elements_of c.args.elements.now) c.loop-number.number (map tree_of c.loop-number.kept.items) (c.in_ok-holds.ensures ∙ ap (λ (o : Option Bool). Ok o) c.in-None.is)
+
+pub binding::passing-returns-in_err-holds : goal.binding::passing-returns-in_err-holds
+binding::passing-returns-in_err-holds t c =
+    let e = c.loop-number.invariant ∙ kept_first (body_of c.args.place c.args.body.now c.args.env) (elements_of c.args.elements.now) c.loop-number.number (map tree_of c.loop-number.kept.items) in
+    subst (λ (o : Outcome (List Tree)). GivesBy (λ (v : Vec Value Global). map tree_of v.items) c.from_residual.result o) (sym e) (search rules)
+
+pub binding::elements_in-returns-in_ok-right-in-Binary : goal.binding::elements_in-returns-in_ok-right-in-Binary
+binding::elements_in-returns-in_ok-right-in-Binary t c =
+    let n = c.in-Binary in
+    let b = bound_in c.args.env in let s = present_in c.args.env in let q = next_in c.args.env in
+    let left = ap (λ (k : Core). (means (expr_of k)).value b s q) (sym c.deref.ensures) ∙ c.in_ok-left-in-Binary.ensures in
+    let right = ap (λ (k : Core). (means (expr_of k)).value b s q) (sym c.deref-in-Binary.ensures) ∙ c.in_ok-right-in-Binary.ensures in
+    let e = ap (λ (k : Core). elements c.args.place (means (expr_of k)) b s q) n.is
+    ∙ two_gone c.args.place (binary_rule (binary_of n.operator) n.at) ((means (expr_of n.left.value)).value b s q) ((means (expr_of n.right.value)).value b s q)
+    (tree_of_evaluated c.in_ok-left-in-Binary.left) (tree_of_evaluated c.in_ok-right-in-Binary.right) (tree_of c.value.result.now) (tree_of c.value-in-Binary.result.now)
+    left right c.value.ensures c.value-in-Binary.ensures in
+    subst (λ (o : Outcome (List Tree)). GivesElements c.elements_of_two.result o) (sym e) c.elements_of_two.ensures
+
+pub membership::two_hold-returns : goal.membership::two_hold-returns
+membership::two_hold-returns t c =
+    let b = bound_in c.args.env in let s = present_in c.args.env in let q = next_in c.args.env in
+    let e = two_asked c.args.place (binary_rule (binary_of c.args.operator) c.args.place) ((means (expr_of c.args.left.now)).value b s q) ((means (expr_of c.args.right.now)).value b s q)
+    (tree_of_evaluated c.in_ok-left.left) (tree_of_evaluated c.in_ok-right.right) (tree_of c.value.result.now) (tree_of c.value-2.result.now)
+    c.in_ok-left.ensures c.in_ok-right.ensures c.value.ensures c.value-2.ensures (tree_of c.args.value.now) in
+    subst (λ (o : Outcome Bool). GivesTruth c.two_have.result o) (sym e) c.two_have.ensures
+
+pub has-returns-in-Enumerated : goal.has-returns-in-Enumerated
+has-returns-in-Enumerated t c =
+    let n = c.in-Enumerated in
+    let b = bound_in c.args.env in let s = present_in c.args.env in let q = next_in c.args.env in
+    let v = tree_of c.args.value.now in
+    let e = ap (λ (m : Meaning). m.has v b s q) (means_enumerated c.args.core.now n.place n.parts n.is)
+    ∙ one_of_is n.place (parts_of_cores n.parts.items) v b s q
+    ∙ ap (λ us. one_of_rule n.place (parts_of_cores us) v b s q) (sym c.deref-in-Enumerated.ensures.value) in
+    subst (λ (o : Outcome Bool). GivesTruth c.is_one_of.result o) (sym e) c.is_one_of.ensures
 
 pub membership::has_all-loop-value-preserved : goal.membership::has_all-loop-value-preserved
 membership::has_all-loop-value-preserved t c =
@@ -176,11 +291,6 @@ has-returns-in-Product t c =
     let n = c.in-Product in
     let e = means_product c.args.core.now n.field-0 n.parts n.is ∙ ap (λ us. means-product n.field-0 (parts_of_cores us)) (sym c.deref-in-Product.ensures.value) in
     subst (λ (m : Meaning). GivesTruth c.is_tuple_of.result (m.has (tree_of c.args.value.now) (bound_in c.args.env) (present_in c.args.env) (next_in c.args.env))) (sym e) (c.is_tuple_of.ensures n.field-0)
-
-pub binding::passing-loop-value-preserved : goal.binding::passing-loop-value-preserved
-binding::passing-loop-value-preserved t c =
-    c.loop-value.invariant
-    ∙ passing_step (λ v. asks c.args.place (means (expr_of c.args.body.now)) (bound_in c.args.env ++ v ∷ []) (present_in c.args.env) (next_in c.args.env)) c.args.values.now c.loop-value.value-index c.value-item.result c.loop-value.kept.items c.keep_copy.new.kept.items c.in_ok-holds.holds c.value-item.is c.loop-value-test.true c.in_ok-holds.ensures c.in_ok-keep_copy.ensures.ok
 
 pub choices::image-returns : goal.choices::image-returns
 choices::image-returns t c =

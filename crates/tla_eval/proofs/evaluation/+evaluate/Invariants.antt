@@ -13,6 +13,7 @@ use Rattle.tla_value.specs.declared.value.Value.{Value}
 use Rattle.tla_core.specs.Value.{means, mem}
 use Rattle.tla_core.specs.ExprOf.{expr_of, parts_of_cores, fields_of_cores, arms_of_cores, updates_of_cores}
 use Rattle.tla_eval.specs.Private.Environment.{tree_of_evaluated, bound_in, present_in, next_in}
+use Rattle.tla_eval.specs.Private.Elements.{elements_of}
 use Rattle.tla_eval.specs.Private.Gathered.{IsGathered}
 use Rattle.tla_core.specs.declared.expression.Core.{Core, size-Core}
 use Rattle.tla_eval.proofs.evaluation.+evaluate.Given as goal
@@ -37,14 +38,20 @@ decreases-membership::has_all l = 2 ^ 66 * size-Core l.core.now + 2
 abbrev pub decreases-binding::ask_with : goal.decreases-binding::ask_with
 decreases-binding::ask_with l = 2 ^ 66 * size-Core l.body.now + 3
 
+abbrev pub decreases-binding::elements_in : goal.decreases-binding::elements_in
+decreases-binding::elements_in l = 2 ^ 66 * size-Core l.set.now + 1
+
+abbrev pub decreases-binding::holds_at : goal.decreases-binding::holds_at
+decreases-binding::holds_at l = 2 ^ 66 * size-Core l.body.now + 4
+
 abbrev pub decreases-binding::each_holds : goal.decreases-binding::each_holds
-decreases-binding::each_holds l = 2 ^ 66 * size-Core l.body.now + 4
+decreases-binding::each_holds l = 2 ^ 66 * size-Core l.body.now + 5
 
 abbrev pub decreases-binding::some_holds : goal.decreases-binding::some_holds
-decreases-binding::some_holds l = 2 ^ 66 * size-Core l.body.now + 4
+decreases-binding::some_holds l = 2 ^ 66 * size-Core l.body.now + 5
 
 abbrev pub decreases-binding::first_passing : goal.decreases-binding::first_passing
-decreases-binding::first_passing l = 2 ^ 66 * size-Core l.body.now + 4
+decreases-binding::first_passing l = 2 ^ 66 * size-Core l.body.now + 5
 
 abbrev pub decreases-patterns::body_value : goal.decreases-patterns::body_value
 decreases-patterns::body_value l = 2 ^ 66 * size-Core l.body.now + 1
@@ -74,13 +81,13 @@ abbrev pub decreases-logic::implies : goal.decreases-logic::implies
 decreases-logic::implies l = 2 ^ 66 * max (size-Core l.left.now) (size-Core l.right.now) + 4
 
 abbrev pub decreases-binding::for_all : goal.decreases-binding::for_all
-decreases-binding::for_all l = 2 ^ 66 * max (size-Core l.set.now) (size-Core l.body.now) + 5
+decreases-binding::for_all l = 2 ^ 66 * max (size-Core l.set.now) (size-Core l.body.now) + 6
 
 abbrev pub decreases-binding::for_some : goal.decreases-binding::for_some
-decreases-binding::for_some l = 2 ^ 66 * max (size-Core l.set.now) (size-Core l.body.now) + 5
+decreases-binding::for_some l = 2 ^ 66 * max (size-Core l.set.now) (size-Core l.body.now) + 6
 
 abbrev pub decreases-binding::choose : goal.decreases-binding::choose
-decreases-binding::choose l = 2 ^ 66 * max (size-Core l.set.now) (size-Core l.body.now) + 5
+decreases-binding::choose l = 2 ^ 66 * max (size-Core l.set.now) (size-Core l.body.now) + 6
 
 abbrev pub decreases-membership::is_member : goal.decreases-membership::is_member
 decreases-membership::is_member l = 2 ^ 66 * max (size-Core l.element.now) (size-Core l.set.now) + 4
@@ -90,6 +97,12 @@ decreases-membership::is_no_member l = 2 ^ 66 * max (size-Core l.element.now) (s
 
 abbrev pub decreases-membership::is_subset : goal.decreases-membership::is_subset
 decreases-membership::is_subset l = 2 ^ 66 * max (size-Core l.left.now) (size-Core l.right.now) + 4
+
+abbrev pub decreases-membership::two_hold : goal.decreases-membership::two_hold
+decreases-membership::two_hold l = 2 ^ 66 * max (size-Core l.left.now) (size-Core l.right.now) + 4
+
+abbrev pub decreases-membership::is_one_of : goal.decreases-membership::is_one_of
+decreases-membership::is_one_of l = 2 ^ 66 * goal.size-membership::is_one_of l + 4
 
 abbrev pub decreases-membership::cup : goal.decreases-membership::cup
 decreases-membership::cup l = 2 ^ 66 * max (size-Core l.left.now) (size-Core l.right.now) + 4
@@ -137,10 +150,10 @@ abbrev pub decreases-binding::value_with : goal.decreases-binding::value_with
 decreases-binding::value_with l = 2 ^ 66 * size-Core l.body.now + 2
 
 abbrev pub decreases-binding::filter : goal.decreases-binding::filter
-decreases-binding::filter l = 2 ^ 66 * max (size-Core l.set.now) (size-Core l.body.now) + 5
+decreases-binding::filter l = 2 ^ 66 * max (size-Core l.set.now) (size-Core l.body.now) + 6
 
 abbrev pub decreases-binding::passing : goal.decreases-binding::passing
-decreases-binding::passing l = 2 ^ 66 * size-Core l.body.now + 4
+decreases-binding::passing l = 2 ^ 66 * size-Core l.body.now + 5
 
 -- several names
 abbrev pub decreases-choices::image : goal.decreases-choices::image
@@ -249,10 +262,10 @@ invariant-products::parts_have-loop-i l =
     parts_have (parts_of_cores l.parts) (values_of (map pair_of l.pairs)) (bound_in l.env) (present_in l.env) (next_in l.env)
     ≡ parts_have (parts_of_cores (drop l.i l.parts)) (values_of (map pair_of (drop l.i l.pairs))) (bound_in l.env) (present_in l.env) (next_in l.env)
 
-abbrev pub invariant-binding::passing-loop-value : goal.invariant-binding::passing-loop-value
-invariant-binding::passing-loop-value l =
-    passing (λ v. asks l.place (means (expr_of l.body)) (bound_in l.env ++ v ∷ []) (present_in l.env) (next_in l.env)) (map tree_of l.values)
-    ≡ (passing (λ v. asks l.place (means (expr_of l.body)) (bound_in l.env ++ v ∷ []) (present_in l.env) (next_in l.env)) (map tree_of (drop l.value-index l.values)) >>= λ ys. Ok (map tree_of l.kept.items ++ ys))
+abbrev pub invariant-binding::passing-loop-number : goal.invariant-binding::passing-loop-number
+invariant-binding::passing-loop-number l =
+    passing (λ v. asks l.place (means (expr_of l.body)) (bound_in l.env ++ v ∷ []) (present_in l.env) (next_in l.env)) (elements_of l.elements)
+    ≡ (passing (λ v. asks l.place (means (expr_of l.body)) (bound_in l.env ++ v ∷ []) (present_in l.env) (next_in l.env)) (drop l.number (elements_of l.elements)) >>= λ ys. Ok (map tree_of l.kept.items ++ ys))
 
 abbrev pub invariant-choices::evaluated_each-loop-core : goal.invariant-choices::evaluated_each-loop-core
 invariant-choices::evaluated_each-loop-core l =
@@ -320,20 +333,20 @@ invariant-logic::disjunction-loop-part l =
     some_hold (λ m. asks l.place m (bound_in l.env) (present_in l.env) (next_in l.env)) (parts_of_cores l.parts)
     ≡ some_hold (λ m. asks l.place m (bound_in l.env) (present_in l.env) (next_in l.env)) (parts_of_cores (drop l.part-index l.parts))
 
-abbrev pub invariant-binding::each_holds-loop-value : goal.invariant-binding::each_holds-loop-value
-invariant-binding::each_holds-loop-value l =
-    all_hold (λ v. asks l.place (means (expr_of l.body)) (bound_in l.env ++ v ∷ []) (present_in l.env) (next_in l.env)) (map tree_of l.values)
-    ≡ all_hold (λ v. asks l.place (means (expr_of l.body)) (bound_in l.env ++ v ∷ []) (present_in l.env) (next_in l.env)) (map tree_of (drop l.value-index l.values))
+abbrev pub invariant-binding::each_holds-loop-number : goal.invariant-binding::each_holds-loop-number
+invariant-binding::each_holds-loop-number l =
+    all_hold (λ v. asks l.place (means (expr_of l.body)) (bound_in l.env ++ v ∷ []) (present_in l.env) (next_in l.env)) (elements_of l.elements)
+    ≡ all_hold (λ v. asks l.place (means (expr_of l.body)) (bound_in l.env ++ v ∷ []) (present_in l.env) (next_in l.env)) (drop l.number (elements_of l.elements))
 
-abbrev pub invariant-binding::some_holds-loop-value : goal.invariant-binding::some_holds-loop-value
-invariant-binding::some_holds-loop-value l =
-    some_hold (λ v. asks l.place (means (expr_of l.body)) (bound_in l.env ++ v ∷ []) (present_in l.env) (next_in l.env)) (map tree_of l.values)
-    ≡ some_hold (λ v. asks l.place (means (expr_of l.body)) (bound_in l.env ++ v ∷ []) (present_in l.env) (next_in l.env)) (map tree_of (drop l.value-index l.values))
+abbrev pub invariant-binding::some_holds-loop-number : goal.invariant-binding::some_holds-loop-number
+invariant-binding::some_holds-loop-number l =
+    some_hold (λ v. asks l.place (means (expr_of l.body)) (bound_in l.env ++ v ∷ []) (present_in l.env) (next_in l.env)) (elements_of l.elements)
+    ≡ some_hold (λ v. asks l.place (means (expr_of l.body)) (bound_in l.env ++ v ∷ []) (present_in l.env) (next_in l.env)) (drop l.number (elements_of l.elements))
 
-abbrev pub invariant-binding::first_passing-loop-value : goal.invariant-binding::first_passing-loop-value
-invariant-binding::first_passing-loop-value l =
-    first_passing l.place (λ v. asks l.place (means (expr_of l.body)) (bound_in l.env ++ v ∷ []) (present_in l.env) (next_in l.env)) (map tree_of l.values)
-    ≡ first_passing l.place (λ v. asks l.place (means (expr_of l.body)) (bound_in l.env ++ v ∷ []) (present_in l.env) (next_in l.env)) (map tree_of (drop l.value-index l.values))
+abbrev pub invariant-binding::first_passing-loop-number : goal.invariant-binding::first_passing-loop-number
+invariant-binding::first_passing-loop-number l =
+    first_passing l.place (λ v. asks l.place (means (expr_of l.body)) (bound_in l.env ++ v ∷ []) (present_in l.env) (next_in l.env)) (elements_of l.elements)
+    ≡ first_passing l.place (λ v. asks l.place (means (expr_of l.body)) (bound_in l.env ++ v ∷ []) (present_in l.env) (next_in l.env)) (drop l.number (elements_of l.elements))
 
 abbrev pub invariant-membership::has_all-loop-value : goal.invariant-membership::has_all-loop-value
 invariant-membership::has_all-loop-value l =

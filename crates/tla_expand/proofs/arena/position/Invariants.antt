@@ -1,11 +1,12 @@
 use Rattle.std.proofs.Common.{◌≡◌, ◌≤◌, length}
-use Rattle.tla_expand.specs.Scopes.{scope_at}
+use Rattle.tla_expand.specs.Private.Index.{found_at}
+use Rattle.tla_expand.specs.Private.Listed.{listed}
 use Rattle.tla_expand.proofs.arena.position.Given as goal
 
 abbrev pub invariant-loop-at : goal.invariant-loop-at
 invariant-loop-at l = record {
-  within : l.at ≤ length l.entries;
-  same : scope_at l.entries l.at l.name ≡ scope_at l.entries l.fn.scope l.name;
+  within : l.at ≤ length (listed l.entries);
+  same : found_at (listed l.entries) l.at l.name ≡ found_at (listed l.entries) l.fn.scope l.name;
 }
 
 abbrev pub decreases-loop-at : goal.decreases-loop-at

@@ -9,6 +9,7 @@ use Rattle.tla_expand.specs.Scopes.{scope_at}
 use Rattle.tla_expand.specs.Private.Gives.{part_in, pointed}
 use Rattle.tla_expand.proofs.Lists.{part_done, part_fails, all_done, total_more, highest_more}
 use Rattle.tla_expand.proofs.Apart.{pointed_at}
+use Rattle.tla_expand.specs.Private.Listed.{listed}
 use Rattle.tla_expand.proofs.conjunction.each_apart.Goals as goal
 
 pub returns-in_err-part : goal.returns-in_err-part
@@ -17,7 +18,7 @@ returns-in_err-part c =
     let f = rw c.loop-i.invariant.kept at c.in_err-part.ensures.same in
     let n = length-map c.args.trees.now (λ (t : Bor syntax.Expr). t.now) in
     record {
-      same = rw (e.1, e.2) (part_fails (part_in c.args.primes (scope_at c.args.entries.now.items c.args.scope) 0) (pointed c.args.trees.now) nodes depth c.in_err-part.field-0.0
+      same = rw (e.1, e.2) (part_fails (part_in c.args.primes (scope_at (listed c.args.entries.now) c.args.scope) 0) (pointed c.args.trees.now) nodes depth c.in_err-part.field-0.0
           (map expr_of c.loop-i.parts.items) c.loop-i.i c.index-trees-i.result.now 299 199999 c.loop-i.left
           c.loop-i.invariant.so_far (omega (arith, n)) (pointed_at c.args.trees.now c.loop-i.i c.index-trees-i.result (omega arith) c.index-trees-i.is) c.loop-i.invariant.left f);
     }
@@ -32,7 +33,7 @@ loop-i-preserved c =
     let n = total_more nodes old (map expr_of c.push.new.items.items) x p in
     record {
       kept = c.in_ok-part.ensures.kept ∙ c.loop-i.invariant.kept;
-      so_far = part_done (part_in c.args.primes (scope_at c.args.entries.now.items c.args.scope) 0) (pointed c.args.trees.now)
+      so_far = part_done (part_in c.args.primes (scope_at (listed c.args.entries.now) c.args.scope) 0) (pointed c.args.trees.now)
           old (map expr_of c.push.new.items.items) c.loop-i.i c.index-trees-i.result.now x
           c.loop-i.invariant.so_far (omega (arith, k)) (pointed_at c.args.trees.now c.loop-i.i c.index-trees-i.result (omega arith) c.index-trees-i.is) f.0 p;
       left = omega (arith, f.1, c.loop-i.invariant.left, n);
@@ -45,7 +46,7 @@ returns c =
     let z : drop c.loop-i.i (pointed c.args.trees.now) ≡ [] = drop_all c.loop-i.i (pointed c.args.trees.now) (omega (arith, k)) in
     record {
       same = (
-        all_done (part_in c.args.primes (scope_at c.args.entries.now.items c.args.scope) 0) (pointed c.args.trees.now) (map expr_of c.loop-i.parts.items) c.loop-i.i z c.loop-i.invariant.so_far,
+        all_done (part_in c.args.primes (scope_at (listed c.args.entries.now) c.args.scope) 0) (pointed c.args.trees.now) (map expr_of c.loop-i.parts.items) c.loop-i.i z c.loop-i.invariant.so_far,
         c.loop-i.invariant.left,
         c.loop-i.invariant.depth,
       );

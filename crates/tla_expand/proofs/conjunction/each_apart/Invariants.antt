@@ -4,12 +4,13 @@ use Rattle.tla_core.specs.ExprOf.{expr_of}
 use Rattle.tla_expand.specs.Scopes.{scope_at}
 use Rattle.tla_expand.specs.Private.Gives.{part_in, pointed, total, highest}
 use Rattle.tla_expand.proofs.Lists.{so_far}
+use Rattle.tla_expand.specs.Private.Listed.{listed}
 use Rattle.tla_expand.proofs.conjunction.each_apart.Given as goal
 
 abbrev pub invariant-loop-i : goal.invariant-loop-i
 invariant-loop-i l = record {
-  kept : l.entries.items ≡ l.fn.entries.items;
-  so_far : so_far (part_in l.primes (scope_at l.fn.entries.items l.scope) 0) (pointed l.trees) (map expr_of l.parts.items) l.i;
+  kept : listed l.entries ≡ listed l.fn.entries;
+  so_far : so_far (part_in l.primes (scope_at (listed l.fn.entries) l.scope) 0) (pointed l.trees) (map expr_of l.parts.items) l.i;
   left : l.left + total nodes (map expr_of l.parts.items) ≡ 199999;
   depth : highest depth (map expr_of l.parts.items) ≤ 299;
 }

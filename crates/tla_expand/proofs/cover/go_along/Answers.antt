@@ -1,20 +1,21 @@
 use Rattle.tla_expand.specs.Private.Gives.{head_gives, step_gives}
 use Rattle.tla_expand.specs.Private.Walks.{IsWalkTo, GoesOn}
 use Rattle.tla_expand.proofs.Walking.{put_part, goes_by}
+use Rattle.tla_expand.specs.Private.Listed.{listed}
 use Rattle.tla_expand.proofs.cover.go_along.Goals as goal
 
 pub returns-in_ok-push-in-Goes-clause-goes : goal.returns-in_ok-push-in-Goes-clause-goes
 returns-in_ok-push-in-Goes-clause-goes c = λ whole w.
     let walk = c.args.walk.now in
     let m = c.in-Goes in
-    rw c.in_ok-push-in-Goes.ensures.ok (put_part whole walk.entries.items walk.left.items walk.gone.keys walk.met.keys m.tree m.scope m.primes (rw m.is at c.requires.within) (rw m.is at w))
+    rw c.in_ok-push-in-Goes.ensures.ok (put_part whole (listed walk.entries) walk.left.items walk.gone.keys walk.met.keys m.tree m.scope m.primes (rw m.is at c.requires.within) (rw m.is at w))
 
 pub returns-in-Ends-clause-goes : goal.returns-in-Ends-clause-goes
 returns-in-Ends-clause-goes c =
     let walk = c.args.walk.now in
-    let es = walk.entries.items in
+    let es = listed walk.entries in
     let new = c.go_into.new.walk in
-    goes_by c.go_into.result (λ whole b. GoesOn whole new.entries.items new.left.items new.gone.keys new.met.keys b)
+    goes_by c.go_into.result (λ whole b. GoesOn whole (listed new.entries) new.left.items new.gone.keys new.met.keys b)
     (λ whole. IsWalkTo whole es walk.left.items walk.gone.keys walk.met.keys (head_gives es c.in-Ends.head 0))
     (λ whole. IsWalkTo whole es walk.left.items walk.gone.keys walk.met.keys (step_gives es c.args.step 0))
     c.go_into.ensures.goes (λ whole w. rw c.in-Ends.is at w)

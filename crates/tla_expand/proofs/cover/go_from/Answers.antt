@@ -6,17 +6,18 @@ use Rattle.tla_expand.specs.Private.Gives.{step_gives}
 use Rattle.tla_expand.specs.Private.Walks.{IsWalkTo, GoesOn}
 use Rattle.tla_expand.specs.Scopes.{scope_at}
 use Rattle.tla_expand.proofs.Walking.{walk_grown, walk_same, put_nothing, goes_by}
+use Rattle.tla_expand.specs.Private.Listed.{listed}
 use Rattle.tla_expand.proofs.cover.go_from.Goals as goal
 
 pub returns-in-Ok-clause-goes : goal.returns-in-Ok-clause-goes
 returns-in-Ok-clause-goes c =
     let walk = c.args.walk.now in
-    let es = walk.entries.items in
-    let mid = c.next_step.new.entries.items in
+    let es = listed walk.entries in
+    let mid = listed c.next_step.new.entries in
     let new = c.go_along.new.walk in
     let e = c.in-Ok.ensures in
     let o = with_primes c.args.primes (expand (view c.args.tree.now) (scope_at es c.args.scope) 0) in
-    goes_by c.go_along.result (λ whole b. GoesOn whole new.entries.items new.left.items new.gone.keys new.met.keys b)
+    goes_by c.go_along.result (λ whole b. GoesOn whole (listed new.entries) new.left.items new.gone.keys new.met.keys b)
     (λ whole. IsWalkTo whole mid walk.left.items walk.gone.keys walk.met.keys (step_gives mid c.in-Ok.step 0))
     (λ whole. IsWalkTo whole es walk.left.items walk.gone.keys walk.met.keys o)
     c.go_along.ensures.goes
@@ -27,7 +28,7 @@ returns-in-Ok-clause-goes c =
 pub returns-in-Err-NoExpansion-clause-goes : goal.returns-in-Err-NoExpansion-clause-goes
 returns-in-Err-NoExpansion-clause-goes c = λ whole w.
     let walk = c.args.walk.now in
-    let o = expand (view c.args.tree.now) (scope_at walk.entries.items c.args.scope) 0 in
+    let o = expand (view c.args.tree.now) (scope_at (listed walk.entries) c.args.scope) 0 in
     let f = rw c.in-Err-NoExpansion.field-0-is at c.in-Err-NoExpansion.ensures.err in
     let h : o ≡ None = f 0 in
-    put_nothing whole walk.entries.items walk.left.items walk.gone.keys walk.met.keys c.args.primes o h w
+    put_nothing whole (listed walk.entries) walk.left.items walk.gone.keys walk.met.keys c.args.primes o h w

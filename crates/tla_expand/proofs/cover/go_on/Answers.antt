@@ -5,15 +5,16 @@ use Rattle.tla_expand.specs.Primes.{with_primes}
 use Rattle.tla_expand.specs.Private.Walks.{IsWalk, IsWalkTo, GoesOn}
 use Rattle.tla_expand.specs.Scopes.{scope_at}
 use Rattle.tla_expand.proofs.Walking.{take_part, take_end, goes_by}
+use Rattle.tla_expand.specs.Private.Listed.{listed}
 use Rattle.tla_expand.proofs.cover.go_on.Goals as goal
 
 pub returns-in-Part-clause-goes : goal.returns-in-Part-clause-goes
 returns-in-Part-clause-goes c =
     let walk = c.args.walk.now in
-    let es = walk.entries.items in
+    let es = listed walk.entries in
     let new = c.look_at.new.walk in
     let m = c.in-Part in
-    goes_by c.look_at.result (λ whole b. GoesOn whole new.entries.items new.left.items new.gone.keys new.met.keys b)
+    goes_by c.look_at.result (λ whole b. GoesOn whole (listed new.entries) new.left.items new.gone.keys new.met.keys b)
     (λ whole. IsWalkTo whole es walk.left.items walk.gone.keys walk.met.keys (with_primes m.primes (expand (view m.tree.now) (scope_at es m.scope) 0)))
     (λ whole. IsWalk whole es (walk.left.items ++ c.args.left ∷ []) walk.gone.keys walk.met.keys)
     c.look_at.ensures.goes
@@ -22,4 +23,4 @@ returns-in-Part-clause-goes c =
 pub returns-in_ok-go_by-in-End-clause-goes : goal.returns-in_ok-go_by-in-End-clause-goes
 returns-in_ok-go_by-in-End-clause-goes c = λ whole w.
     let walk = c.args.walk.now in
-    take_end whole walk.entries.items walk.left.items walk.gone.keys walk.met.keys c.in-End.entry c.go_by.new.gone.keys c.in_ok-go_by-in-End.ensures.ok (rw c.in-End.is at w)
+    take_end whole (listed walk.entries) walk.left.items walk.gone.keys walk.met.keys c.in-End.entry c.go_by.new.gone.keys c.in_ok-go_by-in-End.ensures.ok (rw c.in-End.is at w)

@@ -5,22 +5,23 @@ use Rattle.tla_expand.specs.Scopes.{scope_at}
 use Rattle.tla_expand.specs.declared.cover.Gone.{Gone}
 use Rattle.tla_expand.specs.Private.Walks.{IsWalkTo, GoesOn}
 use Rattle.tla_expand.proofs.Walking.{put_gone, put_end, name_gone, goes_by}
+use Rattle.tla_expand.specs.Private.Listed.{listed}
 use Rattle.tla_expand.proofs.cover.look_at_name.Goals as goal
 
 pub returns-then-was_gone-clause-goes : goal.returns-then-was_gone-clause-goes
 returns-then-was_gone-clause-goes c = λ whole w.
     let walk = c.args.walk.now in
     let g : Gone = record { entry = c.args.entry; primes = c.args.primes } in
-    put_gone whole walk.entries.items walk.left.items walk.gone.keys walk.met.keys (view c.args.tree.now) c.args.scope g c.requires.named (c.was_gone.ensures c.if-was_gone.true) w
+    put_gone whole (listed walk.entries) walk.left.items walk.gone.keys walk.met.keys (view c.args.tree.now) c.args.scope g c.requires.named (c.was_gone.ensures c.if-was_gone.true) w
 
 pub returns-clause-goes : goal.returns-clause-goes
 returns-clause-goes c =
     let walk = c.args.walk.now in
-    let es = walk.entries.items in
+    let es = listed walk.entries in
     let g : Gone = record { entry = c.args.entry; primes = c.args.primes } in
     let o = with_primes c.args.primes (expand (view c.args.tree.now) (scope_at es c.args.scope) 0) in
     let new = c.go_from.new.walk in
-    goes_by c.go_from.result (λ whole b. GoesOn whole new.entries.items new.left.items new.gone.keys new.met.keys b)
+    goes_by c.go_from.result (λ whole b. GoesOn whole (listed new.entries) new.left.items new.gone.keys new.met.keys b)
     (λ whole. IsWalkTo whole es c.push.new.items.items walk.gone.keys walk.met.keys o)
     (λ whole. IsWalkTo whole es walk.left.items walk.gone.keys walk.met.keys o)
     c.go_from.ensures.goes

@@ -37,42 +37,43 @@ use Rattle.tla_expand.proofs.NamedParts.{field_some, field_fails}
 use Rattle.tla_expand.proofs.Gathered.{names_small, sets_fail, body_fails, gather_gives}
 use Rattle.tla_expand.proofs.Keys.{one_key, several_keys}
 use Rattle.tla_expand.proofs.Arms.{two_form, many_form, index_form, cases_form, cases_or_form, unchanged_form, fields_form, product_form, except_form, square_form, angle_form}
+use Rattle.tla_expand.specs.Private.Listed.{listed}
 use Rattle.tla_expand.proofs.expand.+expand.Goals as goal
 
 pub expand-returns-then-at-eq0-clause-same : goal.expand-returns-then-at-eq0-clause-same
 expand-returns-then-at-eq0-clause-same t c =
-    no_room (part_in c.args.at.primes (scope_at c.args.entries.now.items c.args.at.scope) c.args.at.bound c.args.tree.now) c.args.at.room c.args.at.left c.if-at-eq0.true
+    no_room (part_in c.args.at.primes (scope_at (listed c.args.entries.now) c.args.at.scope) c.args.at.bound c.args.tree.now) c.args.at.room c.args.at.left c.if-at-eq0.true
 
 pub expand-returns-then-at-eq0-2-clause-same : goal.expand-returns-then-at-eq0-2-clause-same
 expand-returns-then-at-eq0-2-clause-same t c =
-    none_left (part_in c.args.at.primes (scope_at c.args.entries.now.items c.args.at.scope) c.args.at.bound c.args.tree.now) c.args.at.room c.args.at.left c.if-at-eq0-2.true
+    none_left (part_in c.args.at.primes (scope_at (listed c.args.entries.now) c.args.at.scope) c.args.at.bound c.args.tree.now) c.args.at.room c.args.at.left c.if-at-eq0-2.true
 
 pub node_of-returns-in-Two-clause-same : goal.node_of-returns-in-Two-clause-same
 node_of-returns-in-Two-clause-same t c =
     let m = c.in-Two in
-    rw (two_form c.args.form (scope_at c.args.entries.now.items c.args.at.scope) c.args.at.bound c.args.at.primes m.place m.node m.a m.b m.is) c.two_node.ensures.same
+    rw (two_form c.args.form (scope_at (listed c.args.entries.now) c.args.at.scope) c.args.at.bound c.args.at.primes m.place m.node m.a m.b m.is) c.two_node.ensures.same
 
 pub node_of-returns-in-Many-clause-same : goal.node_of-returns-in-Many-clause-same
 node_of-returns-in-Many-clause-same t c =
     let m = c.in-Many in
-    rw (many_form c.args.form (scope_at c.args.entries.now.items c.args.at.scope) c.args.at.bound c.args.at.primes m.place m.node m.items m.is) c.many_node.ensures.same
+    rw (many_form c.args.form (scope_at (listed c.args.entries.now) c.args.at.scope) c.args.at.bound c.args.at.primes m.place m.node m.items m.is) c.many_node.ensures.same
 
 pub node_of-returns-in-Unchanged-clause-same : goal.node_of-returns-in-Unchanged-clause-same
 node_of-returns-in-Unchanged-clause-same t c =
     let m = c.in-Unchanged in
-    rw (unchanged_form c.args.form (scope_at c.args.entries.now.items c.args.at.scope) c.args.at.bound c.args.at.primes m.place m.operand m.is) c.unchanged_node.ensures.same
+    rw (unchanged_form c.args.form (scope_at (listed c.args.entries.now) c.args.at.scope) c.args.at.bound c.args.at.primes m.place m.operand m.is) c.unchanged_node.ensures.same
 
 pub two_node-returns-in_err-two-clause-same : goal.two_node-returns-in_err-two-clause-same
 two_node-returns-in_err-two-clause-same t c =
     let r = err_from_is_err_and c.from_residual.result c.from_residual.ensures.1 in
-    let σ = scope_at c.args.entries.now.items c.args.at.scope in
+    let σ = scope_at (listed c.args.entries.now) c.args.at.scope in
     rw (r.1, r.2) (node_fails (sum_of nodes nodes) (larger_of depth depth) (λ (xy : Expr × Expr). two c.args.node c.args.place xy.0 xy.1) c.in_err-two.field-0.0
     (both (part_in c.args.at.primes σ c.args.at.bound c.args.first.now) (part_in c.args.at.primes σ c.args.at.bound c.args.second.now)) c.args.at.room c.args.at.left (two_larger c.args.node c.args.place) c.in_err-two.ensures.same)
 
 pub three_node-returns-in_err-two-clause-same : goal.three_node-returns-in_err-two-clause-same
 three_node-returns-in_err-two-clause-same t c =
     let r = err_from_is_err_and c.from_residual.result c.from_residual.ensures.1 in
-    let σ = scope_at c.args.entries.now.items c.args.at.scope in
+    let σ = scope_at (listed c.args.entries.now) c.args.at.scope in
     let ab = both (part_in c.args.at.primes σ c.args.at.bound c.args.first.now) (part_in c.args.at.primes σ c.args.at.bound c.args.second.now) in
     let last = part_in c.args.at.primes σ c.args.at.bound c.args.third.now in
     rw (r.1, r.2) (node_fails (sum_of (sum_of nodes nodes) nodes) (larger_of (larger_of depth depth) depth) (λ (x : Triple). three c.args.node c.args.place x.0.0 x.0.1 x.1) c.in_err-two.field-0.0
@@ -82,7 +83,7 @@ three_node-returns-in_err-two-clause-same t c =
 pub three_node-returns-in_err-third-clause-same : goal.three_node-returns-in_err-third-clause-same
 three_node-returns-in_err-third-clause-same t c =
     let r = err_from_is_err_and c.from_residual-in_err-third.result c.from_residual-in_err-third.ensures.1 in
-    let σ = scope_at c.args.entries.now.items c.args.at.scope in
+    let σ = scope_at (listed c.args.entries.now) c.args.at.scope in
     let ab = both (part_in c.args.at.primes σ c.args.at.bound c.args.first.now) (part_in c.args.at.primes σ c.args.at.bound c.args.second.now) in
     let last = part_in c.args.at.primes σ c.args.at.bound c.args.third.now in
     let g = c.in_ok-two.ensures.same in
@@ -94,33 +95,33 @@ three_node-returns-in_err-third-clause-same t c =
 pub many_node-returns-in_err-many-clause-same : goal.many_node-returns-in_err-many-clause-same
 many_node-returns-in_err-many-clause-same t c =
     let r = err_from_is_err_and c.from_residual.result c.from_residual.ensures.1 in
-    let σ = scope_at c.args.entries.now.items c.args.at.scope in
+    let σ = scope_at (listed c.args.entries.now) c.args.at.scope in
     rw (r.1, r.2) (node_fails (total nodes) (highest depth) (λ xs. many c.args.node c.args.place (exprs xs)) c.in_err-many.field-0.0
     (each_of (part_in c.args.at.primes σ c.args.at.bound) c.args.items.now) c.args.at.room c.args.at.left (many_larger c.args.node c.args.place) c.in_err-many.ensures.same)
 
 pub many_node-returns-clause-same : goal.many_node-returns-clause-same
 many_node-returns-clause-same t c =
-    let σ = scope_at c.args.entries.now.items c.args.at.scope in
+    let σ = scope_at (listed c.args.entries.now) c.args.at.scope in
     node_gives (total nodes) (highest depth) (λ xs. many c.args.node c.args.place (exprs xs)) (each_of (part_in c.args.at.primes σ c.args.at.bound) c.args.items.now)
     (map expr_of c.in_ok-many.many.parts.items) (expr_of c.many_core.result) c.args.at.room c.args.at.left c.in_ok-many.many.left (many_larger c.args.node c.args.place) c.in_ok-many.ensures.same c.many_core.ensures
 
 pub cases_node-returns-in_err-made-clause-same : goal.cases_node-returns-in_err-made-clause-same
 cases_node-returns-in_err-made-clause-same t c =
     let r = err_from_is_err_and c.from_residual.result c.from_residual.ensures.1 in
-    let σ = scope_at c.args.entries.now.items c.args.at.scope in
+    let σ = scope_at (listed c.args.entries.now) c.args.at.scope in
     rw (r.1, r.2) (node_fails (total (sum_of nodes nodes)) (highest (larger_of depth depth)) (λ xs. cases c.args.place (arms_with xs e.no_arms)) c.in_err-made.field-0.0
     (each_of (arm_in c.args.at.primes σ c.args.at.bound) c.args.arms.now) c.args.at.room c.args.at.left (cases_larger c.args.place) c.in_err-made.ensures.same)
 
 pub cases_node-returns-clause-same : goal.cases_node-returns-clause-same
 cases_node-returns-clause-same t c =
-    let σ = scope_at c.args.entries.now.items c.args.at.scope in
+    let σ = scope_at (listed c.args.entries.now) c.args.at.scope in
     node_gives (total (sum_of nodes nodes)) (highest (larger_of depth depth)) (λ xs. cases c.args.place (arms_with xs e.no_arms)) (each_of (arm_in c.args.at.primes σ c.args.at.bound) c.args.arms.now)
     (map exprs_of_arm c.in_ok-made.made.arms.items) (expr_of c.cases_core.result) c.args.at.room c.args.at.left c.in_ok-made.made.left (cases_larger c.args.place) c.in_ok-made.ensures.same c.cases_core.ensures
 
 pub cases_or_node-returns-in_err-made-clause-same : goal.cases_or_node-returns-in_err-made-clause-same
 cases_or_node-returns-in_err-made-clause-same t c =
     let r = err_from_is_err_and c.from_residual.result c.from_residual.ensures.1 in
-    let σ = scope_at c.args.entries.now.items c.args.at.scope in
+    let σ = scope_at (listed c.args.entries.now) c.args.at.scope in
     let arms = each_of (arm_in c.args.at.primes σ c.args.at.bound) c.args.arms.now in
     let last = part_in c.args.at.primes σ c.args.at.bound c.args.last.now in
     rw (r.1, r.2) (node_fails (sum_of (total (sum_of nodes nodes)) nodes) (larger_of (highest (larger_of depth depth)) depth) (λ (xs : List (Expr × Expr) × Expr). cases c.args.place (arms_with xs.0 (e.other xs.1))) c.in_err-made.field-0.0
@@ -130,7 +131,7 @@ cases_or_node-returns-in_err-made-clause-same t c =
 pub cases_or_node-returns-in_err-last-clause-same : goal.cases_or_node-returns-in_err-last-clause-same
 cases_or_node-returns-in_err-last-clause-same t c =
     let r = err_from_is_err_and c.from_residual-in_err-last.result c.from_residual-in_err-last.ensures.1 in
-    let σ = scope_at c.args.entries.now.items c.args.at.scope in
+    let σ = scope_at (listed c.args.entries.now) c.args.at.scope in
     let arms = each_of (arm_in c.args.at.primes σ c.args.at.bound) c.args.arms.now in
     let last = part_in c.args.at.primes σ c.args.at.bound c.args.last.now in
     let g = c.in_ok-made.ensures.same in
@@ -141,7 +142,7 @@ cases_or_node-returns-in_err-last-clause-same t c =
 
 pub cases_or_node-returns-clause-same : goal.cases_or_node-returns-clause-same
 cases_or_node-returns-clause-same t c =
-    let σ = scope_at c.args.entries.now.items c.args.at.scope in
+    let σ = scope_at (listed c.args.entries.now) c.args.at.scope in
     let arms = each_of (arm_in c.args.at.primes σ c.args.at.bound) c.args.arms.now in
     let last = part_in c.args.at.primes σ c.args.at.bound c.args.last.now in
     let h = rw c.in_ok-made.ensures.kept at c.in_ok-last.ensures.same in
@@ -154,7 +155,7 @@ pub lists::each-returns-in_err-part-clause-same : goal.lists::each-returns-in_er
 lists::each-returns-in_err-part-clause-same t c =
     let r = err_from_is_err_and c.from_residual.result c.from_residual.ensures.1 in
     let f = rw c.loop-i.invariant.kept at c.in_err-part.ensures.same in
-    rw (r.1, r.2) (part_fails (part_in c.args.at.primes (scope_at c.args.entries.now.items c.args.at.scope) c.args.at.bound) c.args.trees.now nodes depth c.in_err-part.field-0.0
+    rw (r.1, r.2) (part_fails (part_in c.args.at.primes (scope_at (listed c.args.entries.now) c.args.at.scope) c.args.at.bound) c.args.trees.now nodes depth c.in_err-part.field-0.0
     (map expr_of c.loop-i.parts.items) c.loop-i.i c.index-trees-i.result c.args.at.room c.args.at.left c.loop-i.left
     c.loop-i.invariant.so_far (omega arith) c.index-trees-i.is c.loop-i.invariant.left f)
 
@@ -167,7 +168,7 @@ lists::each-loop-i-preserved t c =
     let n = total_more nodes old (map expr_of c.push.new.items.items) x p in
     record {
       kept = c.in_ok-part.ensures.kept ∙ c.loop-i.invariant.kept;
-      so_far = part_done (part_in c.args.at.primes (scope_at c.args.entries.now.items c.args.at.scope) c.args.at.bound) c.args.trees.now
+      so_far = part_done (part_in c.args.at.primes (scope_at (listed c.args.entries.now) c.args.at.scope) c.args.at.bound) c.args.trees.now
           old (map expr_of c.push.new.items.items) c.loop-i.i c.index-trees-i.result x c.loop-i.invariant.so_far (omega arith) c.index-trees-i.is f.0 p;
       left = omega (arith, f.1, c.loop-i.invariant.left, n);
       depth = highest_more depth old (map expr_of c.push.new.items.items) x c.args.at.room p c.loop-i.invariant.depth f.2;
@@ -176,7 +177,7 @@ lists::each-loop-i-preserved t c =
 pub lists::each-returns-clause-same : goal.lists::each-returns-clause-same
 lists::each-returns-clause-same t c =
     let z : drop c.loop-i.i c.args.trees.now ≡ [] = drop_all c.loop-i.i c.args.trees.now (omega arith) in (
-      all_done (part_in c.args.at.primes (scope_at c.args.entries.now.items c.args.at.scope) c.args.at.bound) c.args.trees.now (map expr_of c.loop-i.parts.items) c.loop-i.i z c.loop-i.invariant.so_far,
+      all_done (part_in c.args.at.primes (scope_at (listed c.args.entries.now) c.args.at.scope) c.args.at.bound) c.args.trees.now (map expr_of c.loop-i.parts.items) c.loop-i.i z c.loop-i.invariant.so_far,
       c.loop-i.invariant.left,
       c.loop-i.invariant.depth,
     )
@@ -185,7 +186,7 @@ pub lists::arms_of-returns-in_err-two-clause-same : goal.lists::arms_of-returns-
 lists::arms_of-returns-in_err-two-clause-same t c =
     let r = err_from_is_err_and c.from_residual.result c.from_residual.ensures.1 in
     let f = rw c.loop-i.invariant.kept at c.in_err-two.ensures.same in
-    rw (r.1, r.2) (part_fails (arm_in c.args.at.primes (scope_at c.args.entries.now.items c.args.at.scope) c.args.at.bound) c.args.arms.now (sum_of nodes nodes) (larger_of depth depth) c.in_err-two.field-0.0
+    rw (r.1, r.2) (part_fails (arm_in c.args.at.primes (scope_at (listed c.args.entries.now) c.args.at.scope) c.args.at.bound) c.args.arms.now (sum_of nodes nodes) (larger_of depth depth) c.in_err-two.field-0.0
     (map exprs_of_arm c.loop-i.made.items) c.loop-i.i c.index-arms-i.result c.args.at.room c.args.at.left c.loop-i.left
     c.loop-i.invariant.so_far (omega arith) c.index-arms-i.is c.loop-i.invariant.left f)
 
@@ -199,7 +200,7 @@ lists::arms_of-loop-i-preserved t c =
     let n = total_more (sum_of nodes nodes) old new x p in
     record {
       kept = c.in_ok-two.ensures.kept ∙ c.loop-i.invariant.kept;
-      so_far = part_done (arm_in c.args.at.primes (scope_at c.args.entries.now.items c.args.at.scope) c.args.at.bound) c.args.arms.now
+      so_far = part_done (arm_in c.args.at.primes (scope_at (listed c.args.entries.now) c.args.at.scope) c.args.at.bound) c.args.arms.now
           old new c.loop-i.i c.index-arms-i.result x c.loop-i.invariant.so_far (omega arith) c.index-arms-i.is f.0 p;
       left = omega (arith, f.1, c.loop-i.invariant.left, n);
       depth = highest_more (larger_of depth depth) old new x c.args.at.room p c.loop-i.invariant.depth f.2;
@@ -208,7 +209,7 @@ lists::arms_of-loop-i-preserved t c =
 pub lists::arms_of-returns-clause-same : goal.lists::arms_of-returns-clause-same
 lists::arms_of-returns-clause-same t c =
     let z : drop c.loop-i.i c.args.arms.now ≡ [] = drop_all c.loop-i.i c.args.arms.now (omega arith) in (
-      all_done (arm_in c.args.at.primes (scope_at c.args.entries.now.items c.args.at.scope) c.args.at.bound) c.args.arms.now (map exprs_of_arm c.loop-i.made.items) c.loop-i.i z c.loop-i.invariant.so_far,
+      all_done (arm_in c.args.at.primes (scope_at (listed c.args.entries.now) c.args.at.scope) c.args.at.bound) c.args.arms.now (map exprs_of_arm c.loop-i.made.items) c.loop-i.i z c.loop-i.invariant.so_far,
       c.loop-i.invariant.left,
       c.loop-i.invariant.depth,
     )
@@ -216,13 +217,13 @@ lists::arms_of-returns-clause-same t c =
 pub lists::tuple_of-returns-in_err-many-clause-same : goal.lists::tuple_of-returns-in_err-many-clause-same
 lists::tuple_of-returns-in_err-many-clause-same t c =
     let r = err_from_is_err_and c.from_residual.result c.from_residual.ensures.1 in
-    let o = each_of (part_in c.args.at.primes (scope_at c.args.entries.now.items c.args.at.scope) c.args.at.bound) c.args.items.now in
+    let o = each_of (part_in c.args.at.primes (scope_at (listed c.args.entries.now) c.args.at.scope) c.args.at.bound) c.args.items.now in
     rw (r.1, r.2) (same_limits c.in_err-many.field-0.0 (o >>= λ xs. Some (tuple c.args.place (exprs xs))) c.args.at.room c.args.at.left c.if-at-eq0.false c.if-at-eq0-2.false
     (node_fails (total nodes) (highest depth) (λ xs. tuple c.args.place (exprs xs)) c.in_err-many.field-0.0 o (c.args.at.room - 1) (c.args.at.left - 1) (many_larger manies.Tuple c.args.place) c.in_err-many.ensures.same))
 
 pub lists::tuple_of-returns-clause-same : goal.lists::tuple_of-returns-clause-same
 lists::tuple_of-returns-clause-same t c =
-    let o = each_of (part_in c.args.at.primes (scope_at c.args.entries.now.items c.args.at.scope) c.args.at.bound) c.args.items.now in
+    let o = each_of (part_in c.args.at.primes (scope_at (listed c.args.entries.now) c.args.at.scope) c.args.at.bound) c.args.items.now in
     let l = limits_are c.args.at.room c.args.at.left c.if-at-eq0.false c.if-at-eq0-2.false in
     let g = node_gives (total nodes) (highest depth) (λ xs. tuple c.args.place (exprs xs)) o (map expr_of c.in_ok-many.many.parts.items) (expr_of c.tuple.result) (c.args.at.room - 1) (c.args.at.left - 1) c.in_ok-many.many.left
     (many_larger manies.Tuple c.args.place) c.in_ok-many.ensures.same c.tuple.ensures in
@@ -230,23 +231,23 @@ lists::tuple_of-returns-clause-same t c =
 
 pub kept::kept_one-returns-then-at-eq0-clause-same : goal.kept::kept_one-returns-then-at-eq0-clause-same
 kept::kept_one-returns-then-at-eq0-clause-same t c =
-    no_room (kept_part c.args.at.primes c.args.place (scope_at c.args.entries.now.items c.args.at.scope) c.args.at.bound c.args.tree.now) c.args.at.room c.args.at.left c.if-at-eq0.true
+    no_room (kept_part c.args.at.primes c.args.place (scope_at (listed c.args.entries.now) c.args.at.scope) c.args.at.bound c.args.tree.now) c.args.at.room c.args.at.left c.if-at-eq0.true
 
 pub levels::node_behind-returns-in_err-look_at_form-clause-same : goal.levels::node_behind-returns-in_err-look_at_form-clause-same
 levels::node_behind-returns-in_err-look_at_form-clause-same t c =
     let r = err_from_is_err_and c.from_residual.result c.from_residual.ensures.1 in
-    let o = form_in c.args.head.form (scope_at c.args.entries.now.items c.args.at.scope) c.args.at.bound in
+    let o = form_in c.args.head.form (scope_at (listed c.args.entries.now) c.args.at.scope) c.args.at.bound in
     rw (r.1, r.2) (look_fails c.args.outer c.args.at.primes c.in_err-look_at_form.field-0.0 o (c.args.at.room + 1) (c.args.at.left + 1) (sym c.are_fewer.ensures ∙ c.if-not-are_fewer.false) c.in_err-look_at_form.ensures.fails)
 
 pub levels::look_at_tuple-returns-then-not-are_fewer-clause-fails : goal.levels::look_at_tuple-returns-then-not-are_fewer-clause-fails
 levels::look_at_tuple-returns-then-not-are_fewer-clause-fails t c =
-    let σ = scope_at c.args.entries.now.items c.args.at.scope in
+    let σ = scope_at (listed c.args.entries.now) c.args.at.scope in
     if_fails c.look_at_each.result (λ f h. tuple_looked c.args.head.form c.args.items σ c.args.at.bound c.args.at.primes f c.args.at.room c.args.at.left c.requires.tuple h) c.look_at_each.ensures.fails
 
 pub levels::look_at_tuple-returns-in_err-look_at_each-clause-fails : goal.levels::look_at_tuple-returns-in_err-look_at_each-clause-fails
 levels::look_at_tuple-returns-in_err-look_at_each-clause-fails t c =
     let r = err_from_is_err_and c.from_residual.result c.from_residual.ensures.1 in
-    let σ = scope_at c.args.entries.now.items c.args.at.scope in
+    let σ = scope_at (listed c.args.entries.now) c.args.at.scope in
     let f = c.in_err-look_at_each.field-0.0 in
     rw (r.1, r.2) (look_fails c.args.outer c.args.at.primes f (form_in c.args.head.form σ c.args.at.bound) (c.args.at.room + 1) (c.args.at.left + 1) (sym c.are_fewer.ensures ∙ c.if-not-are_fewer.false)
     (tuple_looked c.args.head.form c.args.items σ c.args.at.bound c.args.outer f c.args.at.room c.args.at.left c.requires.tuple c.in_err-look_at_each.ensures.fails))
@@ -254,19 +255,19 @@ levels::look_at_tuple-returns-in_err-look_at_each-clause-fails t c =
 pub levels::look_at_tuple-returns-in-Err-NoExpansion-clause-fails : goal.levels::look_at_tuple-returns-in-Err-NoExpansion-clause-fails
 levels::look_at_tuple-returns-in-Err-NoExpansion-clause-fails t c =
     let m = c.in-Err-NoExpansion in
-    tuple_looked c.args.head.form c.args.items (scope_at c.args.entries.now.items c.args.at.scope) c.args.at.bound c.args.at.primes (NoExpansion c.primed_at.result) c.args.at.room c.args.at.left c.requires.tuple
+    tuple_looked c.args.head.form c.args.items (scope_at (listed c.args.entries.now) c.args.at.scope) c.args.at.bound c.args.at.primes (NoExpansion c.primed_at.result) c.args.at.room c.args.at.left c.requires.tuple
     (rw c.in_ok-look_at_each.ensures.kept at (rw m.field-0-is at m.ensures.fails))
 
 pub levels::look_at_tuple-returns-in-Err-clause-fails : goal.levels::look_at_tuple-returns-in-Err-clause-fails
 levels::look_at_tuple-returns-in-Err-clause-fails t c =
-    tuple_looked c.args.head.form c.args.items (scope_at c.args.entries.now.items c.args.at.scope) c.args.at.bound c.args.at.primes c.in-Err.failure c.args.at.room c.args.at.left c.requires.tuple
+    tuple_looked c.args.head.form c.args.items (scope_at (listed c.args.entries.now) c.args.at.scope) c.args.at.bound c.args.at.primes c.in-Err.failure c.args.at.room c.args.at.left c.requires.tuple
     (rw c.in_ok-look_at_each.ensures.kept at c.in-Err.ensures.fails)
 
 pub levels::look_at_operand-returns-in_err-found-clause-fails : goal.levels::look_at_operand-returns-in_err-found-clause-fails
 levels::look_at_operand-returns-in_err-found-clause-fails t c =
     let r = err_from_is_err_and c.from_residual.result c.from_residual.ensures.1 in
     let k = c.args.at.primes in
-    let e = expand (view c.args.tree.now) (scope_at c.args.entries.now.items c.args.at.scope) in
+    let e = expand (view c.args.tree.now) (scope_at (listed c.args.entries.now) c.args.at.scope) in
     let f = c.in_err-found.field-0.0 in
     rw (r.1, r.2) (λ p. unchanged_fails k f p (e c.args.at.bound) (c.args.at.room + 1) (c.args.at.left + 1) (explains_none f (λ d. with_primes k (e d)) c.args.at.bound c.in_err-found.ensures.err))
 
@@ -274,19 +275,19 @@ pub levels::look_at_operand-returns-in_err-look_at_tuple-in-Some-clause-fails : 
 levels::look_at_operand-returns-in_err-look_at_tuple-in-Some-clause-fails t c =
     let r = err_from_is_err_and c.from_residual-in_err-look_at_tuple-in-Some.result c.from_residual-in_err-look_at_tuple-in-Some.ensures.1 in
     let k = c.args.at.primes in
-    let o = expand (view c.args.tree.now) (scope_at c.args.entries.now.items c.args.at.scope) c.args.at.bound in
+    let o = expand (view c.args.tree.now) (scope_at (listed c.args.entries.now) c.args.at.scope) c.args.at.bound in
     let f = c.in_err-look_at_tuple-in-Some.field-0.0 in
     rw (r.1, r.2) (λ p. tuple_operand_fails k f p o (c.args.at.room + 1) (c.args.at.left + 1)
     (subst (λ x. Fails (c.args.at.room + 1) (c.args.at.left + 1) f x) (sym (c.in_ok-found.ensures.same c.args.at.bound)) c.in_err-look_at_tuple-in-Some.ensures.fails))
 
 pub levels::look_at_operand-returns-in-None-clause-fails : goal.levels::look_at_operand-returns-in-None-clause-fails
 levels::look_at_operand-returns-in-None-clause-fails t c =
-    let old = c.args.entries.now.items in
+    let old = listed c.args.entries.now in
     let m : c.len-mark.result ≡ length old = search rules in
-    let q : c.truncate-in-None.new.self.items ≡ old = cut_back old c.find_head.new.entries.items c.truncate-in-None.new.self.items c.len-mark.result c.in_ok-found.ensures.extends m c.truncate-in-None.ensures.items in
+    let q : listed c.truncate-in-None.new.self ≡ old = cut_back old (listed c.find_head.new.entries) (listed c.truncate-in-None.new.self) c.len-mark.result c.in_ok-found.ensures.extends m c.truncate-in-None.ensures.items in
     let k = c.args.at.primes in
     let o = expand (view c.args.tree.now) (scope_at old c.args.at.scope) c.args.at.bound in
-    let plain = plain_head (with_primes k o) c.in_ok-found.found.form (scope_at c.find_head.new.entries.items c.in_ok-found.found.scope) c.args.at.bound c.in_ok-found.found.primes (c.in_ok-found.ensures.same c.args.at.bound) (sym c.tuple_items.ensures ∙ c.in-None.is) in
+    let plain = plain_head (with_primes k o) c.in_ok-found.found.form (scope_at (listed c.find_head.new.entries) c.in_ok-found.found.scope) c.args.at.bound c.in_ok-found.found.primes (c.in_ok-found.ensures.same c.args.at.bound) (sym c.tuple_items.ensures ∙ c.in-None.is) in
     if_fails c.look_at.result (λ f h p. plain_operand_fails k f p o c.args.at.room c.args.at.left plain h) (rw q at c.look_at.ensures.fails)
 
 pub levels::unchanged_node-returns-in_err-look_at_operand-clause-same : goal.levels::unchanged_node-returns-in_err-look_at_operand-clause-same
@@ -297,18 +298,18 @@ levels::unchanged_node-returns-in_err-look_at_operand-clause-same t c =
 pub levels::changed_subscript-returns-in_err-look_at-clause-same : goal.levels::changed_subscript-returns-in_err-look_at-clause-same
 levels::changed_subscript-returns-in_err-look_at-clause-same t c =
     let r = err_from_is_err_and c.from_residual.result c.from_residual.ensures.1 in
-    let o = expand (view c.args.tree.now) (scope_at c.args.entries.now.items c.args.at.scope) c.args.at.bound in
+    let o = expand (view c.args.tree.now) (scope_at (listed c.args.entries.now) c.args.at.scope) c.args.at.bound in
     rw (r.1, r.2) (changed_fails c.args.at.primes c.in_err-look_at.field-0.0 c.args.place o c.args.at.room c.args.at.left c.in_err-look_at.ensures.fails)
 
 pub levels::kept_subscript-returns-then-at-eq0-clause-same : goal.levels::kept_subscript-returns-then-at-eq0-clause-same
 levels::kept_subscript-returns-then-at-eq0-clause-same t c =
-    no_room (kept_part (settled_primes c.args.at.primes) c.args.place (scope_at c.args.entries.now.items c.args.at.scope) c.args.at.bound c.args.tree.now) c.args.at.room c.args.at.left c.if-at-eq0.true
+    no_room (kept_part (settled_primes c.args.at.primes) c.args.place (scope_at (listed c.args.entries.now) c.args.at.scope) c.args.at.bound c.args.tree.now) c.args.at.room c.args.at.left c.if-at-eq0.true
 
 pub kept::kept_each-returns-in_err-part-clause-same : goal.kept::kept_each-returns-in_err-part-clause-same
 kept::kept_each-returns-in_err-part-clause-same t c =
     let r = err_from_is_err_and c.from_residual.result c.from_residual.ensures.1 in
     let f = rw c.loop-i.invariant.kept at c.in_err-part.ensures.same in
-    rw (r.1, r.2) (part_fails (kept_part c.args.at.primes c.args.place (scope_at c.args.entries.now.items c.args.at.scope) c.args.at.bound) c.args.trees.now nodes depth c.in_err-part.field-0.0
+    rw (r.1, r.2) (part_fails (kept_part c.args.at.primes c.args.place (scope_at (listed c.args.entries.now) c.args.at.scope) c.args.at.bound) c.args.trees.now nodes depth c.in_err-part.field-0.0
     (map expr_of c.loop-i.parts.items) c.loop-i.i c.index-trees-i.result c.args.at.room c.args.at.left c.loop-i.left
     c.loop-i.invariant.so_far (omega arith) c.index-trees-i.is c.loop-i.invariant.left f)
 
@@ -321,7 +322,7 @@ kept::kept_each-loop-i-preserved t c =
     let n = total_more nodes old (map expr_of c.push.new.items.items) x p in
     record {
       kept = c.in_ok-part.ensures.kept ∙ c.loop-i.invariant.kept;
-      so_far = part_done (kept_part c.args.at.primes c.args.place (scope_at c.args.entries.now.items c.args.at.scope) c.args.at.bound) c.args.trees.now
+      so_far = part_done (kept_part c.args.at.primes c.args.place (scope_at (listed c.args.entries.now) c.args.at.scope) c.args.at.bound) c.args.trees.now
           old (map expr_of c.push.new.items.items) c.loop-i.i c.index-trees-i.result x c.loop-i.invariant.so_far (omega arith) c.index-trees-i.is f.0 p;
       left = omega (arith, f.1, c.loop-i.invariant.left, n);
       depth = highest_more depth old (map expr_of c.push.new.items.items) x c.args.at.room p c.loop-i.invariant.depth f.2;
@@ -330,29 +331,29 @@ kept::kept_each-loop-i-preserved t c =
 pub kept::kept_each-returns-clause-same : goal.kept::kept_each-returns-clause-same
 kept::kept_each-returns-clause-same t c =
     let z : drop c.loop-i.i c.args.trees.now ≡ [] = drop_all c.loop-i.i c.args.trees.now (omega arith) in (
-      all_done (kept_part c.args.at.primes c.args.place (scope_at c.args.entries.now.items c.args.at.scope) c.args.at.bound) c.args.trees.now (map expr_of c.loop-i.parts.items) c.loop-i.i z c.loop-i.invariant.so_far,
+      all_done (kept_part c.args.at.primes c.args.place (scope_at (listed c.args.entries.now) c.args.at.scope) c.args.at.bound) c.args.trees.now (map expr_of c.loop-i.parts.items) c.loop-i.i z c.loop-i.invariant.so_far,
       c.loop-i.invariant.left,
       c.loop-i.invariant.depth,
     )
 
 pub kept::kept-returns-in_err-two-in-None-clause-same : goal.kept::kept-returns-in_err-two-in-None-clause-same
 kept::kept-returns-in_err-two-in-None-clause-same t c =
-    let old = c.args.entries.now.items in
+    let old = listed c.args.entries.now in
     let m : c.len-mark.result ≡ length old = search rules in
-    let p : c.truncate-in-None.new.self.items ≡ old = cut_back old c.find_head.new.entries.items c.truncate-in-None.new.self.items c.len-mark.result c.in_ok-found.ensures.extends m c.truncate-in-None.ensures.items in
+    let p : listed c.truncate-in-None.new.self ≡ old = cut_back old (listed c.find_head.new.entries) (listed c.truncate-in-None.new.self) c.len-mark.result c.in_ok-found.ensures.extends m c.truncate-in-None.ensures.items in
     let o = expand (view c.args.tree.now) (scope_at old c.args.at.scope) c.args.at.bound in
-    let h = plain_head (with_primes c.args.at.primes o) c.in_ok-found.found.form (scope_at c.find_head.new.entries.items c.in_ok-found.found.scope) c.args.at.bound c.in_ok-found.found.primes (c.in_ok-found.ensures.same c.args.at.bound) (sym c.tuple_items.ensures ∙ c.in-None.is) in
+    let h = plain_head (with_primes c.args.at.primes o) c.in_ok-found.found.form (scope_at (listed c.find_head.new.entries) c.in_ok-found.found.scope) c.args.at.bound c.in_ok-found.found.primes (c.in_ok-found.ensures.same c.args.at.bound) (sym c.tuple_items.ensures ∙ c.in-None.is) in
     let r = err_from_is_err_and c.from_residual-in_err-two-in-None.result c.from_residual-in_err-two-in-None.ensures.1 in
     let f = rw p at c.in_err-two-in-None.ensures.same in
     rw (r.1, r.2) (equal_fails o c.args.at.primes c.one_more-more.result c.args.place c.in_err-two-in-None.field-0.0 c.args.at.room c.args.at.left h c.one_more-more.ensures f)
 
 pub kept::kept-returns-in_ok-core-in-None-clause-same : goal.kept::kept-returns-in_ok-core-in-None-clause-same
 kept::kept-returns-in_ok-core-in-None-clause-same t c =
-    let old = c.args.entries.now.items in
+    let old = listed c.args.entries.now in
     let m : c.len-mark.result ≡ length old = search rules in
-    let p : c.truncate-in-None.new.self.items ≡ old = cut_back old c.find_head.new.entries.items c.truncate-in-None.new.self.items c.len-mark.result c.in_ok-found.ensures.extends m c.truncate-in-None.ensures.items in
+    let p : listed c.truncate-in-None.new.self ≡ old = cut_back old (listed c.find_head.new.entries) (listed c.truncate-in-None.new.self) c.len-mark.result c.in_ok-found.ensures.extends m c.truncate-in-None.ensures.items in
     let o = expand (view c.args.tree.now) (scope_at old c.args.at.scope) c.args.at.bound in
-    let h = plain_head (with_primes c.args.at.primes o) c.in_ok-found.found.form (scope_at c.find_head.new.entries.items c.in_ok-found.found.scope) c.args.at.bound c.in_ok-found.found.primes (c.in_ok-found.ensures.same c.args.at.bound) (sym c.tuple_items.ensures ∙ c.in-None.is) in
+    let h = plain_head (with_primes c.args.at.primes o) c.in_ok-found.found.form (scope_at (listed c.find_head.new.entries) c.in_ok-found.found.scope) c.args.at.bound c.in_ok-found.found.primes (c.in_ok-found.ensures.same c.args.at.bound) (sym c.tuple_items.ensures ∙ c.in-None.is) in
     let g = rw p at c.in_ok-two-in-None.ensures.same in
     equal_gives o c.args.at.primes c.one_more-more.result c.args.place (parts_of c.in_ok-two-in-None.two) (expr_of c.in_ok-core-in-None.core)
     c.in_ok-two-in-None.two.left c.args.at.room c.args.at.left h c.one_more-more.ensures g c.in_ok-core-in-None.ensures.ok
@@ -360,41 +361,41 @@ kept::kept-returns-in_ok-core-in-None-clause-same t c =
 pub kept::kept-returns-in_err-many-in-Some-clause-same : goal.kept::kept-returns-in_err-many-in-Some-clause-same
 kept::kept-returns-in_err-many-in-Some-clause-same t c =
     let r = err_from_is_err_and c.from_residual-in_err-many-in-Some.result c.from_residual-in_err-many-in-Some.ensures.1 in
-    rw (r.1, r.2) (tuple_fails (part_in c.args.at.primes (scope_at c.args.entries.now.items c.args.at.scope) c.args.at.bound c.args.tree.now) c.in_ok-found.found.form c.in-Some.items
-    (scope_at c.find_head.new.entries.items c.in_ok-found.found.scope) c.args.at.bound c.in_ok-found.found.primes c.args.place c.in_err-many-in-Some.field-0.0 c.args.at.room c.args.at.left
+    rw (r.1, r.2) (tuple_fails (part_in c.args.at.primes (scope_at (listed c.args.entries.now) c.args.at.scope) c.args.at.bound c.args.tree.now) c.in_ok-found.found.form c.in-Some.items
+    (scope_at (listed c.find_head.new.entries) c.in_ok-found.found.scope) c.args.at.bound c.in_ok-found.found.primes c.args.place c.in_err-many-in-Some.field-0.0 c.args.at.room c.args.at.left
     (c.in_ok-found.ensures.same c.args.at.bound) (sym c.tuple_items.ensures ∙ c.in-Some.is) c.in_err-many-in-Some.ensures.same)
 
 pub kept::kept-returns-in_ok-many-in-Some-clause-same : goal.kept::kept-returns-in_ok-many-in-Some-clause-same
 kept::kept-returns-in_ok-many-in-Some-clause-same t c =
-    tuple_gives (part_in c.args.at.primes (scope_at c.args.entries.now.items c.args.at.scope) c.args.at.bound c.args.tree.now) c.in_ok-found.found.form c.in-Some.items
-    (scope_at c.find_head.new.entries.items c.in_ok-found.found.scope) c.args.at.bound c.in_ok-found.found.primes c.args.place (map expr_of c.in_ok-many-in-Some.many.parts.items) (expr_of c.kept_core.result) c.in_ok-many-in-Some.many.left c.args.at.room c.args.at.left
+    tuple_gives (part_in c.args.at.primes (scope_at (listed c.args.entries.now) c.args.at.scope) c.args.at.bound c.args.tree.now) c.in_ok-found.found.form c.in-Some.items
+    (scope_at (listed c.find_head.new.entries) c.in_ok-found.found.scope) c.args.at.bound c.in_ok-found.found.primes c.args.place (map expr_of c.in_ok-many-in-Some.many.parts.items) (expr_of c.kept_core.result) c.in_ok-many-in-Some.many.left c.args.at.room c.args.at.left
     (c.in_ok-found.ensures.same c.args.at.bound) (sym c.tuple_items.ensures ∙ c.in-Some.is) c.in_ok-many-in-Some.ensures.same c.kept_core.ensures
 
 pub binding::nested-returns-in_err-inner-clause-same : goal.binding::nested-returns-in_err-inner-clause-same
 binding::nested-returns-in_err-inner-clause-same t c =
     let u = c.args.under in
     let b = c.args.first in
-    let σ = scope_at c.args.entries.now.items u.home in
+    let σ = scope_at (listed c.args.entries.now) u.home in
     let r = err_from_is_err_and c.from_residual-in_err-inner.result c.from_residual-in_err-inner.ensures.1 in
     let f = rw c.in_ok-set.ensures.kept at c.in_err-inner.ensures.same in
     rw (r.1, r.2) (inner_fails u.node u.place (binds_in (b ∷ c.args.rest.now) σ) (names_of b.names, expand (view b.set.now) σ) (binds_in c.args.rest.now σ) (expand (view u.body.now))
-    (scope_at c.args.entries.now.items c.args.at.scope) c.args.at.bound c.args.at.primes refl
+    (scope_at (listed c.args.entries.now) c.args.at.scope) c.args.at.bound c.args.at.primes refl
     c.in_err-inner.field-0.0 c.args.at.room c.args.at.left c.in_ok-set.set.left (expr_of c.in_ok-set.set.core) c.in_ok-set.ensures.same.0 c.in_ok-set.ensures.same.1 f)
 
 pub binding::nested-returns-clause-same : goal.binding::nested-returns-clause-same
 binding::nested-returns-clause-same t c =
     let u = c.args.under in
     let b = c.args.first in
-    let σ = scope_at c.args.entries.now.items u.home in
+    let σ = scope_at (listed c.args.entries.now) u.home in
     let g = rw c.in_ok-set.ensures.kept at c.in_ok-inner.ensures.same in
     nested_gives u.node u.place (binds_in (b ∷ c.args.rest.now) σ) (names_of b.names, expand (view b.set.now) σ) (binds_in c.args.rest.now σ) (expand (view u.body.now))
-    (scope_at c.args.entries.now.items c.args.at.scope) c.args.at.bound c.args.at.primes refl
+    (scope_at (listed c.args.entries.now) c.args.at.scope) c.args.at.bound c.args.at.primes refl
     c.args.at.room c.args.at.left c.in_ok-set.set.left c.in_ok-inner.inner.left (expr_of c.in_ok-set.set.core) (expr_of c.in_ok-inner.inner.core) (expr_of c.in_ok-core.core) c.in_ok-set.ensures.same g c.in_ok-core.ensures.ok
 
 pub binding::under_name-returns-in_err-inner-clause-same : goal.binding::under_name-returns-in_err-inner-clause-same
 binding::under_name-returns-in_err-inner-clause-same t c =
-    let old = c.args.entries.now.items in
-    let new = c.enter.new.entries.items in
+    let old = listed c.args.entries.now in
+    let new = listed c.enter.new.entries in
     let r = err_from_is_err_and c.from_residual-in_err-inner.result c.from_residual-in_err-inner.ensures.1 in
     let h : scope_at new c.args.under.home ≡ scope_at old c.args.under.home = home_keep old old new _ c.args.under.home c.in_ok-scope.ensures.added refl c.requires.home in
     let s = bind_scope old old (scope_at new c.in_ok-scope.scope) c.args.at.scope c.as_bytes.result.now c.args.name.now.word c.args.at.bound c.in_ok-scope.ensures.scope refl c.as_bytes.ensures in
@@ -402,8 +403,8 @@ binding::under_name-returns-in_err-inner-clause-same t c =
 
 pub binding::under_name-returns-clause-same : goal.binding::under_name-returns-clause-same
 binding::under_name-returns-clause-same t c =
-    let old = c.args.entries.now.items in
-    let new = c.enter.new.entries.items in
+    let old = listed c.args.entries.now in
+    let new = listed c.enter.new.entries in
     let h : scope_at new c.args.under.home ≡ scope_at old c.args.under.home = home_keep old old new _ c.args.under.home c.in_ok-scope.ensures.added refl c.requires.home in
     let s = bind_scope old old (scope_at new c.in_ok-scope.scope) c.args.at.scope c.as_bytes.result.now c.args.name.now.word c.args.at.bound c.in_ok-scope.ensures.scope refl c.as_bytes.ensures in
     rw (h, s) at c.in_ok-inner.ensures.same
@@ -411,13 +412,13 @@ binding::under_name-returns-clause-same t c =
 pub binding::under_tuple-within-requires : goal.binding::under_tuple-within-requires
 binding::under_tuple-within-requires t c =
     let e = c.in_ok-scope.ensures in
-    let longer = extends_length c.args.entries.now.items c.name_each.new.entries.items e.extends in
+    let longer = extends_length (listed c.args.entries.now) (listed c.name_each.new.entries) e.extends in
     (omega arith, (e.linked, (omega (arith, longer, c.requires.home), (e.within, omega arith))))
 
 pub binding::under_tuple-returns-in_err-inner-clause-same : goal.binding::under_tuple-returns-in_err-inner-clause-same
 binding::under_tuple-returns-in_err-inner-clause-same t c =
-    let old = c.args.entries.now.items in
-    let new = c.name_each.new.entries.items in
+    let old = listed c.args.entries.now in
+    let new = listed c.name_each.new.entries in
     let u = c.args.under in
     let ws = c.args.names.now in
     let r = err_from_is_err_and c.from_residual-in_err-inner.result c.from_residual-in_err-inner.ensures.1 in
@@ -431,8 +432,8 @@ binding::under_tuple-returns-in_err-inner-clause-same t c =
 
 pub binding::under_tuple-returns-clause-same : goal.binding::under_tuple-returns-clause-same
 binding::under_tuple-returns-clause-same t c =
-    let old = c.args.entries.now.items in
-    let new = c.name_each.new.entries.items in
+    let old = listed c.args.entries.now in
+    let new = listed c.name_each.new.entries in
     let u = c.args.under in
     let ws = c.args.names.now in
     let h : scope_at new u.home ≡ scope_at old u.home = scope_extends old new u.home c.in_ok-scope.ensures.extends c.requires.home in
@@ -449,25 +450,25 @@ binding::set_for-returns-in-Name-clause-same t c = rw c.in-Name.is c.in_ok-set.e
 pub fields_node-returns-in_err-made-clause-same : goal.fields_node-returns-in_err-made-clause-same
 fields_node-returns-in_err-made-clause-same t c =
     let r = err_from_is_err_and c.from_residual.result c.from_residual.ensures.1 in
-    rw (r.1, r.2) (node_fails (total field_nodes) (highest field_depth) (λ xs. fielded c.args.node c.args.place (fields_of xs)) c.in_err-made.field-0.0 (each_of (field_in c.args.at.primes (scope_at c.args.entries.now.items c.args.at.scope) c.args.at.bound) c.args.fields.now) c.args.at.room c.args.at.left (fielded_larger c.args.node c.args.place) c.in_err-made.ensures.same)
+    rw (r.1, r.2) (node_fails (total field_nodes) (highest field_depth) (λ xs. fielded c.args.node c.args.place (fields_of xs)) c.in_err-made.field-0.0 (each_of (field_in c.args.at.primes (scope_at (listed c.args.entries.now) c.args.at.scope) c.args.at.bound) c.args.fields.now) c.args.at.room c.args.at.left (fielded_larger c.args.node c.args.place) c.in_err-made.ensures.same)
 
 pub fields_node-returns-clause-same : goal.fields_node-returns-clause-same
 fields_node-returns-clause-same t c =
-    node_gives (total field_nodes) (highest field_depth) (λ xs. fielded c.args.node c.args.place (fields_of xs)) (each_of (field_in c.args.at.primes (scope_at c.args.entries.now.items c.args.at.scope) c.args.at.bound) c.args.fields.now) (map named_part c.in_ok-made.made.fields.items) (expr_of c.fielded_core.result) c.args.at.room c.args.at.left c.in_ok-made.made.left (fielded_larger c.args.node c.args.place) c.in_ok-made.ensures.same c.fielded_core.ensures
+    node_gives (total field_nodes) (highest field_depth) (λ xs. fielded c.args.node c.args.place (fields_of xs)) (each_of (field_in c.args.at.primes (scope_at (listed c.args.entries.now) c.args.at.scope) c.args.at.bound) c.args.fields.now) (map named_part c.in_ok-made.made.fields.items) (expr_of c.fielded_core.result) c.args.at.room c.args.at.left c.in_ok-made.made.left (fielded_larger c.args.node c.args.place) c.in_ok-made.ensures.same c.fielded_core.ensures
 
 pub product_node-returns-in_err-first-clause-same : goal.product_node-returns-in_err-first-clause-same
 product_node-returns-in_err-first-clause-same t c =
     let r = err_from_is_err_and c.from_residual.result c.from_residual.ensures.1 in
-    let a = (part_in c.args.at.primes (scope_at c.args.entries.now.items c.args.at.scope) c.args.at.bound c.args.first.now) in
-    let b = each_of (part_in c.args.at.primes (scope_at c.args.entries.now.items c.args.at.scope) c.args.at.bound) c.args.others.now in
+    let a = (part_in c.args.at.primes (scope_at (listed c.args.entries.now) c.args.at.scope) c.args.at.bound c.args.first.now) in
+    let b = each_of (part_in c.args.at.primes (scope_at (listed c.args.entries.now) c.args.at.scope) c.args.at.bound) c.args.others.now in
     rw (r.1, r.2) (node_fails (sum_of nodes (total nodes)) (larger_of depth (highest depth)) (λ (xs : Expr × List Expr). product c.args.place (exprs (xs.0 ∷ xs.1))) c.in_err-first.field-0.0 (both a b) c.args.at.room c.args.at.left (product_larger c.args.place)
     (first_fails nodes depth (total nodes) (highest depth) c.in_err-first.field-0.0 a b c.args.at.room c.args.at.left c.in_err-first.ensures.same))
 
 pub product_node-returns-in_err-others-clause-same : goal.product_node-returns-in_err-others-clause-same
 product_node-returns-in_err-others-clause-same t c =
     let r = err_from_is_err_and c.from_residual-in_err-others.result c.from_residual-in_err-others.ensures.1 in
-    let a = (part_in c.args.at.primes (scope_at c.args.entries.now.items c.args.at.scope) c.args.at.bound c.args.first.now) in
-    let b = each_of (part_in c.args.at.primes (scope_at c.args.entries.now.items c.args.at.scope) c.args.at.bound) c.args.others.now in
+    let a = (part_in c.args.at.primes (scope_at (listed c.args.entries.now) c.args.at.scope) c.args.at.bound c.args.first.now) in
+    let b = each_of (part_in c.args.at.primes (scope_at (listed c.args.entries.now) c.args.at.scope) c.args.at.bound) c.args.others.now in
     let g = c.in_ok-first.ensures.same in
     let f = rw c.in_ok-first.ensures.kept at c.in_err-others.ensures.same in
     rw (r.1, r.2) (node_fails (sum_of nodes (total nodes)) (larger_of depth (highest depth)) (λ (xs : Expr × List Expr). product c.args.place (exprs (xs.0 ∷ xs.1))) c.in_err-others.field-0.0 (both a b) c.args.at.room c.args.at.left (product_larger c.args.place)
@@ -475,8 +476,8 @@ product_node-returns-in_err-others-clause-same t c =
 
 pub product_node-returns-clause-same : goal.product_node-returns-clause-same
 product_node-returns-clause-same t c =
-    let a = (part_in c.args.at.primes (scope_at c.args.entries.now.items c.args.at.scope) c.args.at.bound c.args.first.now) in
-    let b = each_of (part_in c.args.at.primes (scope_at c.args.entries.now.items c.args.at.scope) c.args.at.bound) c.args.others.now in
+    let a = (part_in c.args.at.primes (scope_at (listed c.args.entries.now) c.args.at.scope) c.args.at.bound c.args.first.now) in
+    let b = each_of (part_in c.args.at.primes (scope_at (listed c.args.entries.now) c.args.at.scope) c.args.at.bound) c.args.others.now in
     let h = rw c.in_ok-first.ensures.kept at c.in_ok-others.ensures.same in
     node_gives (sum_of nodes (total nodes)) (larger_of depth (highest depth)) (λ (xs : Expr × List Expr). product c.args.place (exprs (xs.0 ∷ xs.1))) (both a b) ((expr_of c.in_ok-first.first.core), (map expr_of c.in_ok-others.others.parts.items)) (expr_of c.in_ok-core.core) c.args.at.room c.args.at.left c.in_ok-others.others.left (product_larger c.args.place)
     (two_give nodes depth (total nodes) (highest depth) a b (expr_of c.in_ok-first.first.core) (map expr_of c.in_ok-others.others.parts.items) c.args.at.room c.args.at.left c.in_ok-first.first.left c.in_ok-others.others.left c.in_ok-first.ensures.same h) c.in_ok-core.ensures.ok
@@ -484,16 +485,16 @@ product_node-returns-clause-same t c =
 pub updates::except_node-returns-in_err-function-clause-same : goal.updates::except_node-returns-in_err-function-clause-same
 updates::except_node-returns-in_err-function-clause-same t c =
     let r = err_from_is_err_and c.from_residual.result c.from_residual.ensures.1 in
-    let a = (part_in c.args.at.primes (scope_at c.args.entries.now.items c.args.at.scope) c.args.at.bound c.args.function.now) in
-    let b = each_of (update_in c.args.at.primes (scope_at c.args.entries.now.items c.args.at.scope) c.args.at.bound) c.args.updates.now in
+    let a = (part_in c.args.at.primes (scope_at (listed c.args.entries.now) c.args.at.scope) c.args.at.bound c.args.function.now) in
+    let b = each_of (update_in c.args.at.primes (scope_at (listed c.args.entries.now) c.args.at.scope) c.args.at.bound) c.args.updates.now in
     rw (r.1, r.2) (node_fails (sum_of nodes (total update_nodes)) (larger_of depth (highest update_depth)) (λ (xs : Expr × List (List Expr × Expr)). except c.args.place xs.0 (updates_of xs.1)) c.in_err-function.field-0.0 (both a b) c.args.at.room c.args.at.left (except_larger c.args.place)
     (first_fails nodes depth (total update_nodes) (highest update_depth) c.in_err-function.field-0.0 a b c.args.at.room c.args.at.left c.in_err-function.ensures.same))
 
 pub updates::except_node-returns-in_err-made-clause-same : goal.updates::except_node-returns-in_err-made-clause-same
 updates::except_node-returns-in_err-made-clause-same t c =
     let r = err_from_is_err_and c.from_residual-in_err-made.result c.from_residual-in_err-made.ensures.1 in
-    let a = (part_in c.args.at.primes (scope_at c.args.entries.now.items c.args.at.scope) c.args.at.bound c.args.function.now) in
-    let b = each_of (update_in c.args.at.primes (scope_at c.args.entries.now.items c.args.at.scope) c.args.at.bound) c.args.updates.now in
+    let a = (part_in c.args.at.primes (scope_at (listed c.args.entries.now) c.args.at.scope) c.args.at.bound c.args.function.now) in
+    let b = each_of (update_in c.args.at.primes (scope_at (listed c.args.entries.now) c.args.at.scope) c.args.at.bound) c.args.updates.now in
     let g = c.in_ok-function.ensures.same in
     let f = rw c.in_ok-function.ensures.kept at c.in_err-made.ensures.same in
     rw (r.1, r.2) (node_fails (sum_of nodes (total update_nodes)) (larger_of depth (highest update_depth)) (λ (xs : Expr × List (List Expr × Expr)). except c.args.place xs.0 (updates_of xs.1)) c.in_err-made.field-0.0 (both a b) c.args.at.room c.args.at.left (except_larger c.args.place)
@@ -501,8 +502,8 @@ updates::except_node-returns-in_err-made-clause-same t c =
 
 pub updates::except_node-returns-clause-same : goal.updates::except_node-returns-clause-same
 updates::except_node-returns-clause-same t c =
-    let a = (part_in c.args.at.primes (scope_at c.args.entries.now.items c.args.at.scope) c.args.at.bound c.args.function.now) in
-    let b = each_of (update_in c.args.at.primes (scope_at c.args.entries.now.items c.args.at.scope) c.args.at.bound) c.args.updates.now in
+    let a = (part_in c.args.at.primes (scope_at (listed c.args.entries.now) c.args.at.scope) c.args.at.bound c.args.function.now) in
+    let b = each_of (update_in c.args.at.primes (scope_at (listed c.args.entries.now) c.args.at.scope) c.args.at.bound) c.args.updates.now in
     let h = rw c.in_ok-function.ensures.kept at c.in_ok-made.ensures.same in
     node_gives (sum_of nodes (total update_nodes)) (larger_of depth (highest update_depth)) (λ (xs : Expr × List (List Expr × Expr)). except c.args.place xs.0 (updates_of xs.1)) (both a b) ((expr_of c.in_ok-function.function.core), (map changed_part c.in_ok-made.made.updates.items)) (expr_of c.in_ok-core.core) c.args.at.room c.args.at.left c.in_ok-made.made.left (except_larger c.args.place)
     (two_give nodes depth (total update_nodes) (highest update_depth) a b (expr_of c.in_ok-function.function.core) (map changed_part c.in_ok-made.made.updates.items) c.args.at.room c.args.at.left c.in_ok-function.function.left c.in_ok-made.made.left c.in_ok-function.ensures.same h) c.in_ok-core.ensures.ok
@@ -511,7 +512,7 @@ pub binding::sets_of-returns-in_err-part-clause-same : goal.binding::sets_of-ret
 binding::sets_of-returns-in_err-part-clause-same t c =
     let r = err_from_is_err_and c.from_residual.result c.from_residual.ensures.1 in
     let f = rw c.loop-i.invariant.kept at c.in_err-part.ensures.same in
-    rw (r.1, r.2) (part_fails (set_in c.args.place c.args.at.primes (scope_at c.args.entries.now.items c.args.at.scope) c.args.at.bound) c.args.binds.now nodes depth c.in_err-part.field-0.0
+    rw (r.1, r.2) (part_fails (set_in c.args.place c.args.at.primes (scope_at (listed c.args.entries.now) c.args.at.scope) c.args.at.bound) c.args.binds.now nodes depth c.in_err-part.field-0.0
     (map expr_of c.loop-i.parts.items) c.loop-i.i c.index-binds-i.result c.args.at.room c.args.at.left c.loop-i.left
     c.loop-i.invariant.so_far (omega arith) c.index-binds-i.is c.loop-i.invariant.left f)
 
@@ -525,7 +526,7 @@ binding::sets_of-loop-i-preserved t c =
     let n = total_more nodes old new x p in
     record {
       kept = c.in_ok-part.ensures.kept ∙ c.loop-i.invariant.kept;
-      so_far = part_done (set_in c.args.place c.args.at.primes (scope_at c.args.entries.now.items c.args.at.scope) c.args.at.bound) c.args.binds.now old new c.loop-i.i c.index-binds-i.result x c.loop-i.invariant.so_far (omega arith) c.index-binds-i.is f.0 p;
+      so_far = part_done (set_in c.args.place c.args.at.primes (scope_at (listed c.args.entries.now) c.args.at.scope) c.args.at.bound) c.args.binds.now old new c.loop-i.i c.index-binds-i.result x c.loop-i.invariant.so_far (omega arith) c.index-binds-i.is f.0 p;
       left = omega (arith, f.1, c.loop-i.invariant.left, n);
       depth = highest_more depth old new x c.args.at.room p c.loop-i.invariant.depth f.2;
     }
@@ -533,7 +534,7 @@ binding::sets_of-loop-i-preserved t c =
 pub binding::sets_of-returns-clause-same : goal.binding::sets_of-returns-clause-same
 binding::sets_of-returns-clause-same t c =
     let z : drop c.loop-i.i c.args.binds.now ≡ [] = drop_all c.loop-i.i c.args.binds.now (omega arith) in (
-      all_done (set_in c.args.place c.args.at.primes (scope_at c.args.entries.now.items c.args.at.scope) c.args.at.bound) c.args.binds.now (map expr_of c.loop-i.parts.items) c.loop-i.i z c.loop-i.invariant.so_far,
+      all_done (set_in c.args.place c.args.at.primes (scope_at (listed c.args.entries.now) c.args.at.scope) c.args.at.bound) c.args.binds.now (map expr_of c.loop-i.parts.items) c.loop-i.i z c.loop-i.invariant.so_far,
       c.loop-i.invariant.left,
       c.loop-i.invariant.depth,
     )
@@ -542,7 +543,7 @@ pub updates::path_of-returns-in_err-part-clause-same : goal.updates::path_of-ret
 updates::path_of-returns-in_err-part-clause-same t c =
     let r = err_from_is_err_and c.from_residual.result c.from_residual.ensures.1 in
     let f = rw c.loop-i.invariant.kept at c.in_err-part.ensures.same in
-    rw (r.1, r.2) (part_fails (step_in c.args.at.primes (scope_at c.args.entries.now.items c.args.at.scope) c.args.at.bound) c.args.keys.now nodes depth c.in_err-part.field-0.0
+    rw (r.1, r.2) (part_fails (step_in c.args.at.primes (scope_at (listed c.args.entries.now) c.args.at.scope) c.args.at.bound) c.args.keys.now nodes depth c.in_err-part.field-0.0
     (map expr_of c.loop-i.parts.items) c.loop-i.i c.index-keys-i.result c.args.at.room c.args.at.left c.loop-i.left
     c.loop-i.invariant.so_far (omega arith) c.index-keys-i.is c.loop-i.invariant.left f)
 
@@ -556,7 +557,7 @@ updates::path_of-loop-i-preserved t c =
     let n = total_more nodes old new x p in
     record {
       kept = c.in_ok-part.ensures.kept ∙ c.loop-i.invariant.kept;
-      so_far = part_done (step_in c.args.at.primes (scope_at c.args.entries.now.items c.args.at.scope) c.args.at.bound) c.args.keys.now old new c.loop-i.i c.index-keys-i.result x c.loop-i.invariant.so_far (omega arith) c.index-keys-i.is f.0 p;
+      so_far = part_done (step_in c.args.at.primes (scope_at (listed c.args.entries.now) c.args.at.scope) c.args.at.bound) c.args.keys.now old new c.loop-i.i c.index-keys-i.result x c.loop-i.invariant.so_far (omega arith) c.index-keys-i.is f.0 p;
       left = omega (arith, f.1, c.loop-i.invariant.left, n);
       depth = highest_more depth old new x c.args.at.room p c.loop-i.invariant.depth f.2;
     }
@@ -564,7 +565,7 @@ updates::path_of-loop-i-preserved t c =
 pub updates::path_of-returns-clause-same : goal.updates::path_of-returns-clause-same
 updates::path_of-returns-clause-same t c =
     let z : drop c.loop-i.i c.args.keys.now ≡ [] = drop_all c.loop-i.i c.args.keys.now (omega arith) in (
-      all_done (step_in c.args.at.primes (scope_at c.args.entries.now.items c.args.at.scope) c.args.at.bound) c.args.keys.now (map expr_of c.loop-i.parts.items) c.loop-i.i z c.loop-i.invariant.so_far,
+      all_done (step_in c.args.at.primes (scope_at (listed c.args.entries.now) c.args.at.scope) c.args.at.bound) c.args.keys.now (map expr_of c.loop-i.parts.items) c.loop-i.i z c.loop-i.invariant.so_far,
       c.loop-i.invariant.left,
       c.loop-i.invariant.depth,
     )
@@ -573,7 +574,7 @@ pub updates::changes-returns-in_err-change-clause-same : goal.updates::changes-r
 updates::changes-returns-in_err-change-clause-same t c =
     let r = err_from_is_err_and c.from_residual.result c.from_residual.ensures.1 in
     let f = rw c.loop-i.invariant.kept at c.in_err-change.ensures.same in
-    rw (r.1, r.2) (part_fails (update_in c.args.at.primes (scope_at c.args.entries.now.items c.args.at.scope) c.args.at.bound) c.args.updates.now update_nodes update_depth c.in_err-change.field-0.0
+    rw (r.1, r.2) (part_fails (update_in c.args.at.primes (scope_at (listed c.args.entries.now) c.args.at.scope) c.args.at.bound) c.args.updates.now update_nodes update_depth c.in_err-change.field-0.0
     (map changed_part c.loop-i.made.items) c.loop-i.i c.index-updates-i.result c.args.at.room c.args.at.left c.loop-i.left
     c.loop-i.invariant.so_far (omega arith) c.index-updates-i.is c.loop-i.invariant.left f)
 
@@ -587,7 +588,7 @@ updates::changes-loop-i-preserved t c =
     let n = total_more update_nodes old new x p in
     record {
       kept = c.in_ok-change.ensures.kept ∙ c.loop-i.invariant.kept;
-      so_far = part_done (update_in c.args.at.primes (scope_at c.args.entries.now.items c.args.at.scope) c.args.at.bound) c.args.updates.now old new c.loop-i.i c.index-updates-i.result x c.loop-i.invariant.so_far (omega arith) c.index-updates-i.is f.0 p;
+      so_far = part_done (update_in c.args.at.primes (scope_at (listed c.args.entries.now) c.args.at.scope) c.args.at.bound) c.args.updates.now old new c.loop-i.i c.index-updates-i.result x c.loop-i.invariant.so_far (omega arith) c.index-updates-i.is f.0 p;
       left = omega (arith, f.1, c.loop-i.invariant.left, n);
       depth = highest_more update_depth old new x c.args.at.room p c.loop-i.invariant.depth f.2;
     }
@@ -595,7 +596,7 @@ updates::changes-loop-i-preserved t c =
 pub updates::changes-returns-clause-same : goal.updates::changes-returns-clause-same
 updates::changes-returns-clause-same t c =
     let z : drop c.loop-i.i c.args.updates.now ≡ [] = drop_all c.loop-i.i c.args.updates.now (omega arith) in (
-      all_done (update_in c.args.at.primes (scope_at c.args.entries.now.items c.args.at.scope) c.args.at.bound) c.args.updates.now (map changed_part c.loop-i.made.items) c.loop-i.i z c.loop-i.invariant.so_far,
+      all_done (update_in c.args.at.primes (scope_at (listed c.args.entries.now) c.args.at.scope) c.args.at.bound) c.args.updates.now (map changed_part c.loop-i.made.items) c.loop-i.i z c.loop-i.invariant.so_far,
       c.loop-i.invariant.left,
       c.loop-i.invariant.depth,
     )
@@ -604,9 +605,9 @@ pub lists::named_parts-returns-in_err-part-clause-same : goal.lists::named_parts
 lists::named_parts-returns-in_err-part-clause-same t c =
     let r = err_from_is_err_and c.from_residual.result c.from_residual.ensures.1 in
     let f = rw c.loop-i.invariant.kept at c.in_err-part.ensures.same in
-    rw (r.1, r.2) (part_fails (field_in c.args.at.primes (scope_at c.args.entries.now.items c.args.at.scope) c.args.at.bound) c.args.fields.now field_nodes field_depth c.in_err-part.field-0.0
+    rw (r.1, r.2) (part_fails (field_in c.args.at.primes (scope_at (listed c.args.entries.now) c.args.at.scope) c.args.at.bound) c.args.fields.now field_nodes field_depth c.in_err-part.field-0.0
     (map named_part c.loop-i.made.items) c.loop-i.i c.index-fields-i.result c.args.at.room c.args.at.left c.loop-i.left
-    c.loop-i.invariant.so_far (omega arith) c.index-fields-i.is c.loop-i.invariant.left (field_fails c.in_err-part.field-0.0 (part_in c.args.at.primes (scope_at c.args.entries.now.items c.args.at.scope) c.args.at.bound c.index-fields-i.result.value) c.index-fields-i.result.name.word c.args.at.room c.loop-i.left f))
+    c.loop-i.invariant.so_far (omega arith) c.index-fields-i.is c.loop-i.invariant.left (field_fails c.in_err-part.field-0.0 (part_in c.args.at.primes (scope_at (listed c.args.entries.now) c.args.at.scope) c.args.at.bound c.index-fields-i.result.value) c.index-fields-i.result.name.word c.args.at.room c.loop-i.left f))
 
 pub lists::named_parts-loop-i-preserved : goal.lists::named_parts-loop-i-preserved
 lists::named_parts-loop-i-preserved t c =
@@ -618,7 +619,7 @@ lists::named_parts-loop-i-preserved t c =
     let n = total_more field_nodes old new x p in
     record {
       kept = c.in_ok-part.ensures.kept ∙ c.loop-i.invariant.kept;
-      so_far = part_done (field_in c.args.at.primes (scope_at c.args.entries.now.items c.args.at.scope) c.args.at.bound) c.args.fields.now old new c.loop-i.i c.index-fields-i.result x c.loop-i.invariant.so_far (omega arith) c.index-fields-i.is (field_some c.args.at.primes (scope_at c.args.entries.now.items c.args.at.scope) c.args.at.bound c.index-fields-i.result (expr_of c.in_ok-part.part.core) c.in_ok-name.name f.0 c.in_ok-name.ensures.ok) p;
+      so_far = part_done (field_in c.args.at.primes (scope_at (listed c.args.entries.now) c.args.at.scope) c.args.at.bound) c.args.fields.now old new c.loop-i.i c.index-fields-i.result x c.loop-i.invariant.so_far (omega arith) c.index-fields-i.is (field_some c.args.at.primes (scope_at (listed c.args.entries.now) c.args.at.scope) c.args.at.bound c.index-fields-i.result (expr_of c.in_ok-part.part.core) c.in_ok-name.name f.0 c.in_ok-name.ensures.ok) p;
       left = omega (arith, f.1, c.loop-i.invariant.left, n);
       depth = highest_more field_depth old new x c.args.at.room p c.loop-i.invariant.depth f.2;
     }
@@ -626,7 +627,7 @@ lists::named_parts-loop-i-preserved t c =
 pub lists::named_parts-returns-clause-same : goal.lists::named_parts-returns-clause-same
 lists::named_parts-returns-clause-same t c =
     let z : drop c.loop-i.i c.args.fields.now ≡ [] = drop_all c.loop-i.i c.args.fields.now (omega arith) in (
-      all_done (field_in c.args.at.primes (scope_at c.args.entries.now.items c.args.at.scope) c.args.at.bound) c.args.fields.now (map named_part c.loop-i.made.items) c.loop-i.i z c.loop-i.invariant.so_far,
+      all_done (field_in c.args.at.primes (scope_at (listed c.args.entries.now) c.args.at.scope) c.args.at.bound) c.args.fields.now (map named_part c.loop-i.made.items) c.loop-i.i z c.loop-i.invariant.so_far,
       c.loop-i.invariant.left,
       c.loop-i.invariant.depth,
     )
@@ -634,24 +635,24 @@ lists::named_parts-returns-clause-same t c =
 pub updates::change-returns-in_err-path-clause-same : goal.updates::change-returns-in_err-path-clause-same
 updates::change-returns-in_err-path-clause-same t c =
     let r = err_from_is_err_and c.from_residual.result c.from_residual.ensures.1 in
-    let a = each_of (step_in c.args.at.primes (scope_at c.args.entries.now.items c.args.at.scope) c.args.at.bound) c.args.update.now.path.items in
-    let b = value_in c.args.at.primes (scope_at c.args.entries.now.items c.args.at.scope) c.args.at.bound c.args.update.now.value in
+    let a = each_of (step_in c.args.at.primes (scope_at (listed c.args.entries.now) c.args.at.scope) c.args.at.bound) c.args.update.now.path.items in
+    let b = value_in c.args.at.primes (scope_at (listed c.args.entries.now) c.args.at.scope) c.args.at.bound c.args.update.now.value in
     let f = rw c.as_slice.ensures.value at c.in_err-path.ensures.same in
     rw (r.1, r.2) (first_fails (total nodes) (highest depth) nodes depth c.in_err-path.field-0.0 a b c.args.at.room c.args.at.left f)
 
 pub updates::change-returns-in_err-value-clause-same : goal.updates::change-returns-in_err-value-clause-same
 updates::change-returns-in_err-value-clause-same t c =
     let r = err_from_is_err_and c.from_residual-in_err-value.result c.from_residual-in_err-value.ensures.1 in
-    let a = each_of (step_in c.args.at.primes (scope_at c.args.entries.now.items c.args.at.scope) c.args.at.bound) c.args.update.now.path.items in
-    let b = value_in c.args.at.primes (scope_at c.args.entries.now.items c.args.at.scope) c.args.at.bound c.args.update.now.value in
+    let a = each_of (step_in c.args.at.primes (scope_at (listed c.args.entries.now) c.args.at.scope) c.args.at.bound) c.args.update.now.path.items in
+    let b = value_in c.args.at.primes (scope_at (listed c.args.entries.now) c.args.at.scope) c.args.at.bound c.args.update.now.value in
     let g = rw c.as_slice.ensures.value at c.in_ok-path.ensures.same in
     let f = rw c.in_ok-path.ensures.kept at c.in_err-value.ensures.same in
     rw (r.1, r.2) (second_fails (total nodes) (highest depth) nodes depth c.in_err-value.field-0.0 a b (map expr_of c.in_ok-path.path.parts.items) c.args.at.room c.args.at.left c.in_ok-path.path.left g.0 g.1 f)
 
 pub updates::change-returns-clause-same : goal.updates::change-returns-clause-same
 updates::change-returns-clause-same t c =
-    let a = each_of (step_in c.args.at.primes (scope_at c.args.entries.now.items c.args.at.scope) c.args.at.bound) c.args.update.now.path.items in
-    let b = value_in c.args.at.primes (scope_at c.args.entries.now.items c.args.at.scope) c.args.at.bound c.args.update.now.value in
+    let a = each_of (step_in c.args.at.primes (scope_at (listed c.args.entries.now) c.args.at.scope) c.args.at.bound) c.args.update.now.path.items in
+    let b = value_in c.args.at.primes (scope_at (listed c.args.entries.now) c.args.at.scope) c.args.at.bound c.args.update.now.value in
     let g = rw c.as_slice.ensures.value at c.in_ok-path.ensures.same in
     let h = rw c.in_ok-path.ensures.kept at c.in_ok-value.ensures.same in
     two_give (total nodes) (highest depth) nodes depth a b (map expr_of c.in_ok-path.path.parts.items) (expr_of c.in_ok-value.value.core) c.args.at.room c.args.at.left c.in_ok-path.path.left c.in_ok-value.value.left g h
@@ -659,14 +660,14 @@ updates::change-returns-clause-same t c =
 pub kept::changed-returns-in_err-two-clause-same : goal.kept::changed-returns-in_err-two-clause-same
 kept::changed-returns-in_err-two-clause-same t c =
     let r = err_from_is_err_and c.from_residual.result c.from_residual.ensures.1 in
-    let o = both (part_in (one_more c.args.at.primes) (scope_at c.args.entries.now.items c.args.at.scope) c.args.at.bound c.args.tree.now) (part_in c.args.at.primes (scope_at c.args.entries.now.items c.args.at.scope) c.args.at.bound c.args.tree.now) in
+    let o = both (part_in (one_more c.args.at.primes) (scope_at (listed c.args.entries.now) c.args.at.scope) c.args.at.bound c.args.tree.now) (part_in c.args.at.primes (scope_at (listed c.args.entries.now) c.args.at.scope) c.args.at.bound c.args.tree.now) in
     let f = rw c.one_more-more.ensures at c.in_err-two.ensures.same in
     rw (r.1, r.2) (same_limits c.in_err-two.field-0.0 (o >>= λ xy. Some (two (twos.Binary Unequal) c.args.place xy.0 xy.1)) c.args.at.room c.args.at.left c.if-at-eq0.false c.if-at-eq0-2.false
     (node_fails (sum_of nodes nodes) (larger_of depth depth) (λ (xy : Expr × Expr). two (twos.Binary Unequal) c.args.place xy.0 xy.1) c.in_err-two.field-0.0 o (c.args.at.room - 1) (c.args.at.left - 1) (two_larger (twos.Binary Unequal) c.args.place) f))
 
 pub kept::changed-returns-clause-same : goal.kept::changed-returns-clause-same
 kept::changed-returns-clause-same t c =
-    let o = both (part_in (one_more c.args.at.primes) (scope_at c.args.entries.now.items c.args.at.scope) c.args.at.bound c.args.tree.now) (part_in c.args.at.primes (scope_at c.args.entries.now.items c.args.at.scope) c.args.at.bound c.args.tree.now) in
+    let o = both (part_in (one_more c.args.at.primes) (scope_at (listed c.args.entries.now) c.args.at.scope) c.args.at.bound c.args.tree.now) (part_in c.args.at.primes (scope_at (listed c.args.entries.now) c.args.at.scope) c.args.at.bound c.args.tree.now) in
     let l = limits_are c.args.at.room c.args.at.left c.if-at-eq0.false c.if-at-eq0-2.false in
     let f = rw c.one_more-more.ensures at c.in_ok-two.ensures.same in
     let g = node_gives (sum_of nodes nodes) (larger_of depth depth) (λ (xy : Expr × Expr). two (twos.Binary Unequal) c.args.place xy.0 xy.1) o (parts_of c.in_ok-two.two) (expr_of c.in_ok-core.core) (c.args.at.room - 1) (c.args.at.left - 1) c.in_ok-two.two.left
@@ -676,23 +677,23 @@ kept::changed-returns-clause-same t c =
 pub node_of-returns-in-Fields-clause-same : goal.node_of-returns-in-Fields-clause-same
 node_of-returns-in-Fields-clause-same t c =
     let m = c.in-Fields in
-    rw (fields_form c.args.form (scope_at c.args.entries.now.items c.args.at.scope) c.args.at.bound c.args.at.primes m.place m.node m.fields m.is) c.fields_node.ensures.same
+    rw (fields_form c.args.form (scope_at (listed c.args.entries.now) c.args.at.scope) c.args.at.bound c.args.at.primes m.place m.node m.fields m.is) c.fields_node.ensures.same
 
 pub node_of-returns-in-Except-clause-same : goal.node_of-returns-in-Except-clause-same
 node_of-returns-in-Except-clause-same t c =
     let m = c.in-Except in
-    rw (except_form c.args.form (scope_at c.args.entries.now.items c.args.at.scope) c.args.at.bound c.args.at.primes m.place m.function m.updates m.is) c.except_node.ensures.same
+    rw (except_form c.args.form (scope_at (listed c.args.entries.now) c.args.at.scope) c.args.at.bound c.args.at.primes m.place m.function m.updates m.is) c.except_node.ensures.same
 
 pub updates::step_of-returns-in-Index-clause-same : goal.updates::step_of-returns-in-Index-clause-same
 updates::step_of-returns-in-Index-clause-same t c =
     let m = c.in-Index in
     let same : key_view c.args.step.now ≡ tree.AtIndex (tree.trees (map view c.as_slice.result.now)) = rw (m.is, c.as_slice.ensures.value) (ap (λ x. tree.AtIndex x) (views_items m.items)) in
-    subst (λ x. Gives c.args.at.room c.args.at.left c.key.result (with_primes c.args.at.primes (expand_step x (scope_at c.args.entries.now.items c.args.at.scope) c.args.at.bound))) (sym same) c.key.ensures.same
+    subst (λ x. Gives c.args.at.room c.args.at.left c.key.result (with_primes c.args.at.primes (expand_step x (scope_at (listed c.args.entries.now) c.args.at.scope) c.args.at.bound))) (sym same) c.key.ensures.same
 
 pub binding::gather_node-returns-in_err-sets-clause-same : goal.binding::gather_node-returns-in_err-sets-clause-same
 binding::gather_node-returns-in_err-sets-clause-same t c =
     let r = err_from_is_err_and c.from_residual-in_err-sets.result c.from_residual-in_err-sets.ensures.1 in
-    let σ = scope_at c.args.entries.now.items c.args.at.scope in
+    let σ = scope_at (listed c.args.entries.now) c.args.at.scope in
     let d = c.args.at.bound in
     let binds = c.as_slice-binds.result.now in
     let bs = binds_of (binders (map group_view c.args.groups.now)) σ in
@@ -704,7 +705,7 @@ binding::gather_node-returns-in_err-sets-clause-same t c =
 pub binding::gather_node-returns-in_err-items-clause-same : goal.binding::gather_node-returns-in_err-items-clause-same
 binding::gather_node-returns-in_err-items-clause-same t c =
     let r = err_from_is_err_and c.from_residual-in_err-items.result c.from_residual-in_err-items.ensures.1 in
-    let σ = scope_at c.args.entries.now.items c.args.at.scope in
+    let σ = scope_at (listed c.args.entries.now) c.args.at.scope in
     let d = c.args.at.bound in
     let binds = c.as_slice-binds.result.now in
     let bs = binds_of (binders (map group_view c.args.groups.now)) σ in
@@ -722,7 +723,7 @@ binding::gather_node-returns-in_err-items-clause-same t c =
 pub binding::gather_node-returns-in_err-body-clause-same : goal.binding::gather_node-returns-in_err-body-clause-same
 binding::gather_node-returns-in_err-body-clause-same t c =
     let r = err_from_is_err_and c.from_residual-in_err-body.result c.from_residual-in_err-body.ensures.1 in
-    let σ = scope_at c.args.entries.now.items c.args.at.scope in
+    let σ = scope_at (listed c.args.entries.now) c.args.at.scope in
     let d = c.args.at.bound in
     let binds = c.as_slice-binds.result.now in
     let bs = binds_of (binders (map group_view c.args.groups.now)) σ in
@@ -731,7 +732,7 @@ binding::gather_node-returns-in_err-body-clause-same t c =
     let body = expand (view c.args.body.now) in
     let opened : c.in_ok-openings.openings.items ≡ os = rw (← is) (c.in_ok-openings.ensures.ok σ) in
     let count : items_in os ≡ c.in_ok-items.items = rw (← opened, ← c.as_slice-opened.ensures.value) (sym c.in_ok-items.ensures.ok.0) in
-    let τ = scope_at c.name_all.new.entries.items c.in_ok-scope.scope in
+    let τ = scope_at (listed c.name_all.new.entries) c.in_ok-scope.scope in
     let named : with_items bs (d + length binds) (with_elements bs d σ) ≡ τ = rw (← is) (rw c.in_ok-sets.ensures.kept at (c.in_ok-scope.ensures.same σ)) in
     let o = body τ (d + length binds + items_in os) in
     let f = rw (← count) at c.in_err-body.ensures.same in
@@ -741,7 +742,7 @@ binding::gather_node-returns-in_err-body-clause-same t c =
 
 pub binding::gather_node-returns-clause-same : goal.binding::gather_node-returns-clause-same
 binding::gather_node-returns-clause-same t c =
-    let σ = scope_at c.args.entries.now.items c.args.at.scope in
+    let σ = scope_at (listed c.args.entries.now) c.args.at.scope in
     let d = c.args.at.bound in
     let binds = c.as_slice-binds.result.now in
     let bs = binds_of (binders (map group_view c.args.groups.now)) σ in
@@ -750,7 +751,7 @@ binding::gather_node-returns-clause-same t c =
     let body = expand (view c.args.body.now) in
     let opened : c.in_ok-openings.openings.items ≡ os = rw (← is) (c.in_ok-openings.ensures.ok σ) in
     let count : items_in os ≡ c.in_ok-items.items = rw (← opened, ← c.as_slice-opened.ensures.value) (sym c.in_ok-items.ensures.ok.0) in
-    let τ = scope_at c.name_all.new.entries.items c.in_ok-scope.scope in
+    let τ = scope_at (listed c.name_all.new.entries) c.in_ok-scope.scope in
     let named : with_items bs (d + length binds) (with_elements bs d σ) ≡ τ = rw (← is) (rw c.in_ok-sets.ensures.kept at (c.in_ok-scope.ensures.same σ)) in
     let o = body τ (d + length binds + items_in os) in
     let g = rw (← count) at c.in_ok-body.ensures.same in
@@ -764,8 +765,8 @@ binding::gather_node-returns-clause-same t c =
 pub kept::angle_node-returns-in_err-changed-clause-same : goal.kept::angle_node-returns-in_err-changed-clause-same
 kept::angle_node-returns-in_err-changed-clause-same t c =
     let r = err_from_is_err_and c.from_residual-in_err-changed.result c.from_residual-in_err-changed.ensures.1 in
-    let a = part_in c.args.at.primes (scope_at c.args.entries.now.items c.args.at.scope) c.args.at.bound c.args.action.now in
-    let b = changed_in c.args.at.primes c.args.place_v (scope_at c.args.entries.now.items c.args.at.scope) c.args.at.bound c.args.v.now in
+    let a = part_in c.args.at.primes (scope_at (listed c.args.entries.now) c.args.at.scope) c.args.at.bound c.args.action.now in
+    let b = changed_in c.args.at.primes c.args.place_v (scope_at (listed c.args.entries.now) c.args.at.scope) c.args.at.bound c.args.v.now in
     let g = c.in_ok-action.ensures.same in
     let f = rw (c.in_ok-action.ensures.kept) at c.in_err-changed.ensures.same in
     rw (r.1, r.2) (node_fails (sum_of nodes nodes) (larger_of depth depth) (λ (xy : Expr × Expr). two twos.And c.args.place xy.0 xy.1) c.in_err-changed.field-0.0 (both a b) c.args.at.room c.args.at.left (two_larger twos.And c.args.place)
@@ -774,8 +775,8 @@ kept::angle_node-returns-in_err-changed-clause-same t c =
 pub kept::square_node-returns-in_err-kept-clause-same : goal.kept::square_node-returns-in_err-kept-clause-same
 kept::square_node-returns-in_err-kept-clause-same t c =
     let r = err_from_is_err_and c.from_residual-in_err-kept.result c.from_residual-in_err-kept.ensures.1 in
-    let a = part_in c.args.at.primes (scope_at c.args.entries.now.items c.args.at.scope) c.args.at.bound c.args.action.now in
-    let b = kept_part (settled_primes c.args.at.primes) c.args.place_v (scope_at c.args.entries.now.items c.args.at.scope) c.args.at.bound c.args.v.now in
+    let a = part_in c.args.at.primes (scope_at (listed c.args.entries.now) c.args.at.scope) c.args.at.bound c.args.action.now in
+    let b = kept_part (settled_primes c.args.at.primes) c.args.place_v (scope_at (listed c.args.entries.now) c.args.at.scope) c.args.at.bound c.args.v.now in
     let g = c.in_ok-action.ensures.same in
     let f = rw c.in_ok-action.ensures.kept at c.in_err-kept.ensures.same in
     rw (r.1, r.2) (node_fails (sum_of nodes nodes) (larger_of depth depth) (λ (xy : Expr × Expr). two twos.Or c.args.place xy.0 xy.1) c.in_err-kept.field-0.0 (both a b) c.args.at.room c.args.at.left (two_larger twos.Or c.args.place)
@@ -783,58 +784,58 @@ kept::square_node-returns-in_err-kept-clause-same t c =
 
 pub lists::key-returns-in-len1-clause-same : goal.lists::key-returns-in-len1-clause-same
 lists::key-returns-in-len1-clause-same t c =
-    rw (one_key c.args.at.primes (scope_at c.args.entries.now.items c.args.at.scope) c.args.at.bound c.args.items.now c.item-item.result (omega arith) c.item-item.is) c.expand.ensures.same
+    rw (one_key c.args.at.primes (scope_at (listed c.args.entries.now) c.args.at.scope) c.args.at.bound c.args.items.now c.item-item.result (omega arith) c.item-item.is) c.expand.ensures.same
 
 pub lists::key-returns-in-len1-up-clause-same : goal.lists::key-returns-in-len1-up-clause-same
 lists::key-returns-in-len1-up-clause-same t c =
-    rw (several_keys c.args.at.primes (scope_at c.args.entries.now.items c.args.at.scope) c.args.at.bound c.args.items.now c.first-item.result c.place_of-place.result (omega arith) c.first-item.is (c.place_of-place.ensures ∙ ap place_of c.place.ensures)) c.tuple_of.ensures.same
+    rw (several_keys c.args.at.primes (scope_at (listed c.args.entries.now) c.args.at.scope) c.args.at.bound c.args.items.now c.first-item.result c.place_of-place.result (omega arith) c.first-item.is (c.place_of-place.ensures ∙ ap place_of c.place.ensures)) c.tuple_of.ensures.same
 
 pub node_of-returns-in-Index-clause-same : goal.node_of-returns-in-Index-clause-same
 node_of-returns-in-Index-clause-same t c =
     let m = c.in-Headed in
-    rw (index_form c.args.form (scope_at c.args.entries.now.items c.args.at.scope) c.args.at.bound c.args.at.primes m.place m.first m.others (rw c.in-Index.is at m.is)) c.index_node.ensures.same
+    rw (index_form c.args.form (scope_at (listed c.args.entries.now) c.args.at.scope) c.args.at.bound c.args.at.primes m.place m.first m.others (rw c.in-Index.is at m.is)) c.index_node.ensures.same
 
 pub node_of-returns-in-Product-clause-same : goal.node_of-returns-in-Product-clause-same
 node_of-returns-in-Product-clause-same t c =
     let m = c.in-Headed in
-    rw (product_form c.args.form (scope_at c.args.entries.now.items c.args.at.scope) c.args.at.bound c.args.at.primes m.place m.first m.others (rw c.in-Product.is at m.is)) c.product_node.ensures.same
+    rw (product_form c.args.form (scope_at (listed c.args.entries.now) c.args.at.scope) c.args.at.bound c.args.at.primes m.place m.first m.others (rw c.in-Product.is at m.is)) c.product_node.ensures.same
 
 pub node_of-returns-in-None-clause-same : goal.node_of-returns-in-None-clause-same
 node_of-returns-in-None-clause-same t c =
     let m = c.in-Cases in
-    rw (cases_form c.args.form (scope_at c.args.entries.now.items c.args.at.scope) c.args.at.bound c.args.at.primes m.place m.arms (rw c.in-None.is at m.is)) c.cases_node.ensures.same
+    rw (cases_form c.args.form (scope_at (listed c.args.entries.now) c.args.at.scope) c.args.at.bound c.args.at.primes m.place m.arms (rw c.in-None.is at m.is)) c.cases_node.ensures.same
 
 pub node_of-returns-in-Some-clause-same : goal.node_of-returns-in-Some-clause-same
 node_of-returns-in-Some-clause-same t c =
     let m = c.in-Cases in
-    rw (cases_or_form c.args.form (scope_at c.args.entries.now.items c.args.at.scope) c.args.at.bound c.args.at.primes m.place m.arms c.in-Some.last (rw c.in-Some.is at m.is)) c.cases_or_node.ensures.same
+    rw (cases_or_form c.args.form (scope_at (listed c.args.entries.now) c.args.at.scope) c.args.at.bound c.args.at.primes m.place m.arms c.in-Some.last (rw c.in-Some.is at m.is)) c.cases_or_node.ensures.same
 
 pub node_of-returns-in-Box-clause-same : goal.node_of-returns-in-Box-clause-same
 node_of-returns-in-Box-clause-same t c =
     let m = c.in-Action in
-    rw (square_form c.args.form (scope_at c.args.entries.now.items c.args.at.scope) c.args.at.bound c.args.at.primes m.place m.place_v m.action m.v (rw c.in-Box.is at m.is)) c.square_node.ensures.same
+    rw (square_form c.args.form (scope_at (listed c.args.entries.now) c.args.at.scope) c.args.at.bound c.args.at.primes m.place m.place_v m.action m.v (rw c.in-Box.is at m.is)) c.square_node.ensures.same
 
 pub node_of-returns-in-Angle-clause-same : goal.node_of-returns-in-Angle-clause-same
 node_of-returns-in-Angle-clause-same t c =
     let m = c.in-Action in
-    rw (angle_form c.args.form (scope_at c.args.entries.now.items c.args.at.scope) c.args.at.bound c.args.at.primes m.place m.place_v m.action m.v (rw c.in-Angle.is at m.is)) c.angle_node.ensures.same
+    rw (angle_form c.args.form (scope_at (listed c.args.entries.now) c.args.at.scope) c.args.at.bound c.args.at.primes m.place m.place_v m.action m.v (rw c.in-Angle.is at m.is)) c.angle_node.ensures.same
 
 pub binding::gather_node-openings_of-requires : goal.binding::gather_node-openings_of-requires
 binding::gather_node-openings_of-requires t c =
     let s = c.in_ok-sets.ensures.same in
-    let n = names_small (set_in c.args.place c.args.at.primes (scope_at c.args.entries.now.items c.args.at.scope) c.args.at.bound) c.as_slice-binds.result.now (map expr_of c.in_ok-sets.sets.parts.items) c.in_ok-sets.sets.left c.args.at.left s.0 s.1 in
+    let n = names_small (set_in c.args.place c.args.at.primes (scope_at (listed c.args.entries.now) c.args.at.scope) c.args.at.bound) c.as_slice-binds.result.now (map expr_of c.in_ok-sets.sets.parts.items) c.in_ok-sets.sets.left c.args.at.left s.0 s.1 in
     omega (arith, n)
 
 -- as many items as are left, for every number of the first element
 pub binding::gather_node-name_all-requires-clause-small : goal.binding::gather_node-name_all-requires-clause-small
 binding::gather_node-name_all-requires-clause-small t c =
     let s = c.in_ok-sets.ensures.same in
-    let n = names_small (set_in c.args.place c.args.at.primes (scope_at c.args.entries.now.items c.args.at.scope) c.args.at.bound) c.as_slice-binds.result.now (map expr_of c.in_ok-sets.sets.parts.items) c.in_ok-sets.sets.left c.args.at.left s.0 s.1 in
+    let n = names_small (set_in c.args.place c.args.at.primes (scope_at (listed c.args.entries.now) c.args.at.scope) c.args.at.bound) c.as_slice-binds.result.now (map expr_of c.in_ok-sets.sets.parts.items) c.in_ok-sets.sets.left c.args.at.left s.0 s.1 in
     let count = c.in_ok-items.ensures.ok in
     λ σ d. omega (arith, n, count.0, count.1, ap items_in (c.as_slice-opened.ensures.value ∙ c.in_ok-openings.ensures.ok σ), items_same (binds_in c.as_slice-binds.result.now σ) d c.args.at.bound)
 
 pub binding::gather_node-expand-requires : goal.binding::gather_node-expand-requires
 binding::gather_node-expand-requires t c =
     let s = c.in_ok-sets.ensures.same in
-    let n = names_small (set_in c.args.place c.args.at.primes (scope_at c.args.entries.now.items c.args.at.scope) c.args.at.bound) c.as_slice-binds.result.now (map expr_of c.in_ok-sets.sets.parts.items) c.in_ok-sets.sets.left c.args.at.left s.0 s.1 in
+    let n = names_small (set_in c.args.place c.args.at.primes (scope_at (listed c.args.entries.now) c.args.at.scope) c.args.at.bound) c.as_slice-binds.result.now (map expr_of c.in_ok-sets.sets.parts.items) c.in_ok-sets.sets.left c.args.at.left s.0 s.1 in
     (omega arith, (c.in_ok-scope.ensures.linked, (c.in_ok-scope.ensures.within, omega (arith, n, c.in_ok-items.ensures.ok.1))))

@@ -5,6 +5,7 @@ use Rattle.tla_expand.specs.Scopes.{scope_at}
 use Rattle.tla_expand.specs.Private.Gives.{part_in, arm_in, field_in, set_in, step_in, update_in, kept_part, total, highest, sum_of, larger_of, field_nodes, field_depth, update_nodes, update_depth}
 use Rattle.tla_expand.specs.Lists.{named_part, changed_part}
 use Rattle.tla_expand.proofs.Lists.{so_far}
+use Rattle.tla_expand.specs.Private.Listed.{listed}
 use Rattle.tla_expand.proofs.expand.+expand.Given as goal
 
 abbrev pub decreases-expand : goal.decreases-expand
@@ -156,56 +157,56 @@ decreases-updates::step_of l = 12 * l.at.room + 3
 
 abbrev pub invariant-lists::each-loop-i : goal.invariant-lists::each-loop-i
 invariant-lists::each-loop-i l = record {
-  kept : l.entries.items ≡ l.fn.entries.items;
-  so_far : so_far (part_in l.at.primes (scope_at l.fn.entries.items l.at.scope) l.at.bound) l.trees (map expr_of l.parts.items) l.i;
+  kept : listed l.entries ≡ listed l.fn.entries;
+  so_far : so_far (part_in l.at.primes (scope_at (listed l.fn.entries) l.at.scope) l.at.bound) l.trees (map expr_of l.parts.items) l.i;
   left : l.left + total nodes (map expr_of l.parts.items) ≡ l.at.left;
   depth : highest depth (map expr_of l.parts.items) ≤ l.at.room;
 }
 
 abbrev pub invariant-lists::arms_of-loop-i : goal.invariant-lists::arms_of-loop-i
 invariant-lists::arms_of-loop-i l = record {
-  kept : l.entries.items ≡ l.fn.entries.items;
-  so_far : so_far (arm_in l.at.primes (scope_at l.fn.entries.items l.at.scope) l.at.bound) l.arms (map exprs_of_arm l.made.items) l.i;
+  kept : listed l.entries ≡ listed l.fn.entries;
+  so_far : so_far (arm_in l.at.primes (scope_at (listed l.fn.entries) l.at.scope) l.at.bound) l.arms (map exprs_of_arm l.made.items) l.i;
   left : l.left + total (sum_of nodes nodes) (map exprs_of_arm l.made.items) ≡ l.at.left;
   depth : highest (larger_of depth depth) (map exprs_of_arm l.made.items) ≤ l.at.room;
 }
 
 abbrev pub invariant-kept::kept_each-loop-i : goal.invariant-kept::kept_each-loop-i
 invariant-kept::kept_each-loop-i l = record {
-  kept : l.entries.items ≡ l.fn.entries.items;
-  so_far : so_far (kept_part l.at.primes l.place (scope_at l.fn.entries.items l.at.scope) l.at.bound) l.trees (map expr_of l.parts.items) l.i;
+  kept : listed l.entries ≡ listed l.fn.entries;
+  so_far : so_far (kept_part l.at.primes l.place (scope_at (listed l.fn.entries) l.at.scope) l.at.bound) l.trees (map expr_of l.parts.items) l.i;
   left : l.left + total nodes (map expr_of l.parts.items) ≡ l.at.left;
   depth : highest depth (map expr_of l.parts.items) ≤ l.at.room;
 }
 
 abbrev pub invariant-lists::named_parts-loop-i : goal.invariant-lists::named_parts-loop-i
 invariant-lists::named_parts-loop-i l = record {
-  kept : l.entries.items ≡ l.fn.entries.items;
-  so_far : so_far (field_in l.at.primes (scope_at l.fn.entries.items l.at.scope) l.at.bound) l.fields (map named_part l.made.items) l.i;
+  kept : listed l.entries ≡ listed l.fn.entries;
+  so_far : so_far (field_in l.at.primes (scope_at (listed l.fn.entries) l.at.scope) l.at.bound) l.fields (map named_part l.made.items) l.i;
   left : l.left + total field_nodes (map named_part l.made.items) ≡ l.at.left;
   depth : highest field_depth (map named_part l.made.items) ≤ l.at.room;
 }
 
 abbrev pub invariant-binding::sets_of-loop-i : goal.invariant-binding::sets_of-loop-i
 invariant-binding::sets_of-loop-i l = record {
-  kept : l.entries.items ≡ l.fn.entries.items;
-  so_far : so_far (set_in l.place l.at.primes (scope_at l.fn.entries.items l.at.scope) l.at.bound) l.binds (map expr_of l.parts.items) l.i;
+  kept : listed l.entries ≡ listed l.fn.entries;
+  so_far : so_far (set_in l.place l.at.primes (scope_at (listed l.fn.entries) l.at.scope) l.at.bound) l.binds (map expr_of l.parts.items) l.i;
   left : l.left + total nodes (map expr_of l.parts.items) ≡ l.at.left;
   depth : highest depth (map expr_of l.parts.items) ≤ l.at.room;
 }
 
 abbrev pub invariant-updates::path_of-loop-i : goal.invariant-updates::path_of-loop-i
 invariant-updates::path_of-loop-i l = record {
-  kept : l.entries.items ≡ l.fn.entries.items;
-  so_far : so_far (step_in l.at.primes (scope_at l.fn.entries.items l.at.scope) l.at.bound) l.keys (map expr_of l.parts.items) l.i;
+  kept : listed l.entries ≡ listed l.fn.entries;
+  so_far : so_far (step_in l.at.primes (scope_at (listed l.fn.entries) l.at.scope) l.at.bound) l.keys (map expr_of l.parts.items) l.i;
   left : l.left + total nodes (map expr_of l.parts.items) ≡ l.at.left;
   depth : highest depth (map expr_of l.parts.items) ≤ l.at.room;
 }
 
 abbrev pub invariant-updates::changes-loop-i : goal.invariant-updates::changes-loop-i
 invariant-updates::changes-loop-i l = record {
-  kept : l.entries.items ≡ l.fn.entries.items;
-  so_far : so_far (update_in l.at.primes (scope_at l.fn.entries.items l.at.scope) l.at.bound) l.updates (map changed_part l.made.items) l.i;
+  kept : listed l.entries ≡ listed l.fn.entries;
+  so_far : so_far (update_in l.at.primes (scope_at (listed l.fn.entries) l.at.scope) l.at.bound) l.updates (map changed_part l.made.items) l.i;
   left : l.left + total update_nodes (map changed_part l.made.items) ≡ l.at.left;
   depth : highest update_depth (map changed_part l.made.items) ≤ l.at.room;
 }

@@ -12,11 +12,12 @@ use Rattle.tla_expand.specs.Private.Arguments.{argument_of}
 use Rattle.tla_expand.specs.Private.Known.{Holds, IsMeant, IsOperator, GivesBack}
 use Rattle.tla_expand.proofs.Shorter.{some_map}
 use Rattle.tla_expand.proofs.GivenWalk.{comes_back, back_more, back_none, back_let, expression_meant, operator_meant, other_meant, operator_back}
+use Rattle.tla_expand.specs.Private.Listed.{listed}
 use Rattle.tla_expand.proofs.gives.+gives.Goals as goal
 
 pub given_in-returns-then-from-definitions : goal.given_in-returns-then-from-definitions
 given_in-returns-then-from-definitions t c =
-    let ρ = scope_at c.args.entries.now c.args.scope in
+    let ρ = scope_at (listed c.args.entries.now) c.args.scope in
     let a = c.args.part in
     let x = c.name_of.result in
     let w = c.meant_by-meant.result in
@@ -26,11 +27,11 @@ given_in-returns-then-from-definitions t c =
     some_map c.given_in.result _ _ (λ g h. back_more ρ a def c.args.definitions.now c.args.from x w g (omega arith) c.index-definitions-from.is c.name_of.ensures i h) f
 
 pub given_in-returns-in-Ends : goal.given_in-returns-in-Ends
-given_in-returns-in-Ends t c = back_none (scope_at c.args.entries.now c.args.scope) c.args.part c.args.definitions.now c.args.from c.in-Ends.given (omega arith) c.in-Ends.ensures
+given_in-returns-in-Ends t c = back_none (scope_at (listed c.args.entries.now) c.args.scope) c.args.part c.args.definitions.now c.args.from c.in-Ends.given (omega arith) c.in-Ends.ensures
 
 pub given_in-returns-in-Let : goal.given_in-returns-in-Let
 given_in-returns-in-Let t c =
-    let ρ = scope_at c.args.entries.now c.args.scope in
+    let ρ = scope_at (listed c.args.entries.now) c.args.scope in
     let a = c.args.part in
     let e = c.in-Goes.end in
     let m = c.in-Let in
@@ -41,28 +42,28 @@ given_in-returns-in-Let t c =
     some_map c.given_in-in-Let.result _ _ (λ g h. back_none ρ a c.args.definitions.now c.args.from g (omega arith) (comes_back ρ a e g c.in-Goes.ensures (back_let ρ e b m.field-0 c.as_slice.result.now g v refl refl h))) f
 
 pub meant_by-returns-in_default : goal.meant_by-returns-in_default
-meant_by-returns-in_default t c = other_meant (scope_at c.args.entries.now c.args.scope) c.args.known.now (definition_view c.args.definition.now)
+meant_by-returns-in_default t c = other_meant (scope_at (listed c.args.entries.now) c.args.scope) c.args.known.now (definition_view c.args.definition.now)
 
 pub meant_by-returns-then-len-eq0 : goal.meant_by-returns-then-len-eq0
 meant_by-returns-then-len-eq0 t c =
     let m = c.in-Operator in
     let n : length m.parameters.items ≡ 0 = search rules in
-    expression_meant (scope_at c.args.entries.now c.args.scope) c.args.known.now (definition_view c.args.definition.now) m.field-0 m.parameters.items m.body (rw m.is refl) n
+    expression_meant (scope_at (listed c.args.entries.now) c.args.scope) c.args.known.now (definition_view c.args.definition.now) m.field-0 m.parameters.items m.body (rw m.is refl) n
 
 pub meant_by-returns-in-Some : goal.meant_by-returns-in-Some
 meant_by-returns-in-Some t c =
-    let ρ = scope_at c.args.entries.now c.args.scope in
+    let ρ = scope_at (listed c.args.entries.now) c.args.scope in
     let m = c.in-Operator in
     let n : c.len-in-Some.result ≡ length m.parameters.items = search rules in
     let i : IsOperator ρ c.args.known.now m.parameters.items (view m.body) c.in-Some.given = rw (sym c.as_slice.ensures.value) c.in-Some.ensures in
     operator_meant ρ c.args.known.now (definition_view c.args.definition.now) m.field-0 m.parameters.items (view m.body) c.len-in-Some.result c.in-Some.given (rw m.is refl) n i
 
 pub meant_by-returns-in-None : goal.meant_by-returns-in-None
-meant_by-returns-in-None t c = other_meant (scope_at c.args.entries.now c.args.scope) c.args.known.now (definition_view c.args.definition.now)
+meant_by-returns-in-None t c = other_meant (scope_at (listed c.args.entries.now) c.args.scope) c.args.known.now (definition_view c.args.definition.now)
 
 pub given_by-returns : goal.given_by-returns
 given_by-returns t c =
-    let ρ = scope_at c.args.entries.now c.args.scope in
+    let ρ = scope_at (listed c.args.entries.now) c.args.scope in
     let body = c.args.body.now in
     let f : IfSome c.given_in.result (λ g. (args : List Argument) (τ : Scope) → Holds ρ (views.Parameters c.args.parameters c.args.known) args τ → (d : ℕ) → with_primes Never (expand (view body) τ d) ≡ argument_of g args d) = c.given_in.ensures in
     some_map c.given_in.result _ _ (λ g h. operator_back ρ c.args.known c.args.parameters body g h) f

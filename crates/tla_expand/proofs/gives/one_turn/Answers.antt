@@ -5,10 +5,11 @@ use Rattle.tla_expand.specs.Expand.{expand}
 use Rattle.tla_expand.specs.Scopes.{scope_at}
 use Rattle.tla_expand.proofs.Steps.{shown_once}
 use Rattle.tla_expand.proofs.GivenWalk.{comes_here}
+use Rattle.tla_expand.specs.Private.Listed.{listed}
 use Rattle.tla_expand.proofs.gives.one_turn.Goals as goal
 
 pub returns-in-Name : goal.returns-in-Name
-returns-in-Name c = c.named.ensures (scope_at c.args.entries.now c.args.scope) (rw c.in-Name.is refl)
+returns-in-Name c = c.named.ensures (scope_at (listed c.args.entries.now) c.args.scope) (rw c.in-Name.is refl)
 
 pub called-requires-clause-call : goal.called-requires-clause-call
 called-requires-clause-call c =
@@ -18,10 +19,10 @@ called-requires-clause-call c =
 pub returns-in-Paren : goal.returns-in-Paren
 returns-in-Paren c =
     let a = c.args.part in
-    comes_here (scope_at c.args.entries.now c.args.scope) a (record { known = a.known; tree = c.deref.result; primes = a.primes; primed = a.primed }) refl (λ args τ d h. rw (c.in-Paren.is, c.deref.ensures) refl)
+    comes_here (scope_at (listed c.args.entries.now) c.args.scope) a (record { known = a.known; tree = c.deref.result; primes = a.primes; primed = a.primed }) refl (λ args τ d h. rw (c.in-Paren.is, c.deref.ensures) refl)
 
 pub returns-in-Prime : goal.returns-in-Prime
 returns-in-Prime c =
     let a = c.args.part in
-    comes_here (scope_at c.args.entries.now c.args.scope) a (record { known = a.known; tree = c.deref-in-Prime.result; primes = c.one_more.result; primed = Some c.place_of.result }) refl
+    comes_here (scope_at (listed c.args.entries.now) c.args.scope) a (record { known = a.known; tree = c.deref-in-Prime.result; primes = c.one_more.result; primed = Some c.place_of.result }) refl
     (λ args τ d h. rw (c.one_more.ensures, c.deref-in-Prime.ensures, c.in-Prime.is) (shown_once a.primes (expand (view c.in-Prime.inner.value) τ d)))

@@ -7,24 +7,25 @@ use Rattle.tla_expand.specs.Scopes.{entry_scope, scope_at}
 use Rattle.tla_expand.proofs.Links.{below_more}
 use Rattle.tla_expand.proofs.Binds.{extends_more}
 use Rattle.tla_expand.proofs.Steps.{define_more}
+use Rattle.tla_expand.specs.Private.Listed.{listed}
 use Rattle.tla_expand.proofs.heads.define.Goals as goal
 
 pub enter-requires-clause-below : goal.enter-requires-clause-below
 enter-requires-clause-below c =
-    below_more c.loop-i.at (length c.loop-i.entries.items) c.entry_of-entry.result.what c.entry_of-entry.result.rest (omega arith) c.entry_of-entry.ensures.below
+    below_more c.loop-i.at (length (listed c.loop-i.entries)) c.entry_of-entry.result.what c.entry_of-entry.result.rest (omega arith) c.entry_of-entry.ensures.below
 
 pub loop-i-preserved : goal.loop-i-preserved
 loop-i-preserved c =
     let e = c.in_ok-at.ensures in
-    let defined : entry_scope (scope_at c.loop-i.entries.items) c.entry_of-entry.result ≡ definition_in (definition_view c.index-definitions-i.result) (scope_at c.loop-i.entries.items c.loop-i.at) = rw c.as_slice.ensures.value at c.entry_of-entry.ensures.scope in
+    let defined : entry_scope (scope_at (listed c.loop-i.entries)) c.entry_of-entry.result ≡ definition_in (definition_view c.index-definitions-i.result) (scope_at (listed c.loop-i.entries) c.loop-i.at) = c.entry_of-entry.ensures.scope in
     record {
       linked = e.linked;
-      extends = extends_more c.args.entries.now.items c.loop-i.entries.items c.enter.new.entries.items _ c.loop-i.invariant.extends e.added;
+      extends = extends_more (listed c.args.entries.now) (listed c.loop-i.entries) (listed c.enter.new.entries) _ c.loop-i.invariant.extends e.added;
       within = omega arith;
-      same = c.loop-i.invariant.same ∙ define_more (scope_at c.loop-i.entries.items c.loop-i.at) (scope_at c.enter.new.entries.items c.in_ok-at.at) c.args.definitions.now c.loop-i.i c.index-definitions-i.result (omega arith) c.index-definitions-i.is (e.scope ∙ defined);
+      same = c.loop-i.invariant.same ∙ define_more (scope_at (listed c.loop-i.entries) c.loop-i.at) (scope_at (listed c.enter.new.entries) c.in_ok-at.at) c.args.definitions.now c.loop-i.i c.index-definitions-i.result (omega arith) c.index-definitions-i.is (e.scope ∙ defined);
     }
 
 pub returns-clause-same : goal.returns-clause-same
 returns-clause-same c =
     c.loop-i.invariant.same
-    ∙ ap (λ ds. definitions_in (definitions (map definition_view ds)) (scope_at c.loop-i.entries.items c.loop-i.at)) (drop_all c.loop-i.i c.args.definitions.now (omega arith))
+    ∙ ap (λ ds. definitions_in (definitions (map definition_view ds)) (scope_at (listed c.loop-i.entries) c.loop-i.at)) (drop_all c.loop-i.i c.args.definitions.now (omega arith))

@@ -7,20 +7,21 @@ use Rattle.tla_expand.specs.Scopes.{scope_at, arguments_in}
 use Rattle.tla_expand.specs.Private.Gives.{step_gives, Explains}
 use Rattle.tla_expand.specs.Primes.{with_primes}
 use Rattle.tla_expand.proofs.Steps.{expand_call, shown_once}
+use Rattle.tla_expand.specs.Private.Listed.{listed}
 use Rattle.tla_expand.proofs.heads.go.Goals as goal
 
 pub returns-in-Call-clause-same : goal.returns-in-Call-clause-same
 returns-in-Call-clause-same c =
-    let σ = scope_at c.args.entries.now.items c.args.scope in
+    let σ = scope_at (listed c.args.entries.now) c.args.scope in
     let m = c.in-Call in
     let same : view c.args.tree.now ≡ t.Call m.name (t.trees (map view c.as_slice-arguments.result.now)) = rw (m.is, c.as_slice-arguments.ensures.value) (ap (λ x. t.Call m.name x) (views_items m.arguments)) in
     let e : expand (view c.args.tree.now) σ ≡ (λ (d : ℕ). σ c.as_bytes-in-Call.result.now c.place_of-at-in-Call.result (arguments_in c.as_slice-arguments.result.now σ) d) =
     rw (same, c.as_bytes-in-Call.ensures, c.place_of-at-in-Call.ensures) (expand_call m.name c.as_slice-arguments.result.now σ) in
-    subst (λ (f : Argument). IfOk c.use_of-in-Call.result (λ s. (d : ℕ) → with_primes c.args.primes (f d) ≡ step_gives c.use_of-in-Call.new.entries.items s d)) (sym e) c.use_of-in-Call.ensures.same
+    subst (λ (f : Argument). IfOk c.use_of-in-Call.result (λ s. (d : ℕ) → with_primes c.args.primes (f d) ≡ step_gives (listed c.use_of-in-Call.new.entries) s d)) (sym e) c.use_of-in-Call.ensures.same
 
 pub returns-in-Call-clause-err : goal.returns-in-Call-clause-err
 returns-in-Call-clause-err c =
-    let σ = scope_at c.args.entries.now.items c.args.scope in
+    let σ = scope_at (listed c.args.entries.now) c.args.scope in
     let m = c.in-Call in
     let same : view c.args.tree.now ≡ t.Call m.name (t.trees (map view c.as_slice-arguments.result.now)) = rw (m.is, c.as_slice-arguments.ensures.value) (ap (λ x. t.Call m.name x) (views_items m.arguments)) in
     let e : expand (view c.args.tree.now) σ ≡ (λ (d : ℕ). σ c.as_bytes-in-Call.result.now c.place_of-at-in-Call.result (arguments_in c.as_slice-arguments.result.now σ) d) =
@@ -29,7 +30,7 @@ returns-in-Call-clause-err c =
 
 pub returns-in-Prime-clause-same : goal.returns-in-Prime-clause-same
 returns-in-Prime-clause-same c =
-    λ d. rw (c.one_more.ensures, c.deref-in-Prime.ensures, c.in-Prime.is) (shown_once c.args.primes (expand (view c.in-Prime.inner.value) (scope_at c.args.entries.now.items c.args.scope) d))
+    λ d. rw (c.one_more.ensures, c.deref-in-Prime.ensures, c.in-Prime.is) (shown_once c.args.primes (expand (view c.in-Prime.inner.value) (scope_at (listed c.args.entries.now) c.args.scope) d))
 
 pub returns-in_ok-inside-in-Let-clause-same : goal.returns-in_ok-inside-in-Let-clause-same
 returns-in_ok-inside-in-Let-clause-same c =

@@ -7,25 +7,26 @@ use Rattle.tla_expand.specs.Primes.{with_primes}
 use Rattle.tla_tree.specs.View.{view}
 use Rattle.tla_expand.proofs.Binds.{extends_trans, extends_length}
 use Rattle.tla_expand.proofs.Steps.{explains_by}
+use Rattle.tla_expand.specs.Private.Listed.{listed}
 use Rattle.tla_expand.proofs.heads.head_behind.Goals as goal
 
 pub returns-in_err-head-clause-err : goal.returns-in_err-head-clause-err
 returns-in_err-head-clause-err c =
     let e = err_from_is_err_and c.from_residual.result c.from_residual.ensures.1 in
     rw (e.1, e.2) (explains_by c.in_err-head.field-0.0 c.loop-turn.with
-    (λ d. expand (view c.loop-turn.tree.now) (scope_at c.loop-turn.entries.items c.loop-turn.at) d)
-    (λ d. with_primes c.args.primes (expand (view c.args.start.now) (scope_at c.args.entries.now.items c.args.scope) d))
+    (λ d. expand (view c.loop-turn.tree.now) (scope_at (listed c.loop-turn.entries) c.loop-turn.at) d)
+    (λ d. with_primes c.args.primes (expand (view c.args.start.now) (scope_at (listed c.args.entries.now) c.args.scope) d))
     c.loop-turn.invariant.same c.in_err-head.ensures.err)
 
 pub loop-turn-preserved : goal.loop-turn-preserved
 loop-turn-preserved c =
     let e = c.in_ok-head.ensures in
     let same = e.same in
-    let extends = extends_trans c.args.entries.now.items c.loop-turn.entries.items c.next_step.new.entries.items c.loop-turn.invariant.extends e.extends in
+    let extends = extends_trans (listed c.args.entries.now) (listed c.loop-turn.entries) (listed c.next_step.new.entries) c.loop-turn.invariant.extends e.extends in
     let g = c.give_back.ensures in
     record {
       linked = g.linked;
-      extends = g.extends c.args.entries.now.items (omega (arith, c.requires.mark)) extends;
+      extends = g.extends (listed c.args.entries.now) (omega (arith, c.requires.mark)) extends;
       within = g.within;
       same = λ d. c.loop-turn.invariant.same d ∙ (rw c.in-Goes.is at (same d)) ∙ ap (λ (σ : Scope). with_primes c.in-Goes.more (expand (view c.in-Goes.next.now) σ d)) (sym g.same);
     }
@@ -33,7 +34,7 @@ loop-turn-preserved c =
 pub give_back-requires-clause-kept : goal.give_back-requires-clause-kept
 give_back-requires-clause-kept c =
     let e = c.in_ok-head.ensures in
-    let n = extends_length c.args.entries.now.items c.next_step.new.entries.items (extends_trans c.args.entries.now.items c.loop-turn.entries.items c.next_step.new.entries.items c.loop-turn.invariant.extends e.extends) in
+    let n = extends_length (listed c.args.entries.now) (listed c.next_step.new.entries) (extends_trans (listed c.args.entries.now) (listed c.loop-turn.entries) (listed c.next_step.new.entries) c.loop-turn.invariant.extends e.extends) in
     omega (arith, c.requires.mark, n)
 
 pub give_back-requires-clause-scope : goal.give_back-requires-clause-scope
@@ -41,6 +42,5 @@ give_back-requires-clause-scope c = let e = c.in_ok-head.ensures in rw c.in-Goes
 
 pub last_prime-primed-requires-clause-scope : goal.last_prime-primed-requires-clause-scope
 last_prime-primed-requires-clause-scope c =
-    let x = extends_length c.loop-turn.entries.items c.next_step.new.entries.items c.in_ok-head.ensures.extends in
-    let n = ap length c.as_slice.ensures.value in
-    omega (arith, x, n, c.loop-turn.invariant.within)
+    let x = extends_length (listed c.loop-turn.entries) (listed c.next_step.new.entries) c.in_ok-head.ensures.extends in
+    omega (arith, x, c.loop-turn.invariant.within)

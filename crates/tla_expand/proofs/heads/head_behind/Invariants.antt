@@ -3,12 +3,13 @@ use Rattle.tla_expand.specs.Scopes.{scope_at, AreLinked, Extends}
 use Rattle.tla_expand.specs.Expand.{expand}
 use Rattle.tla_expand.specs.Primes.{with_primes}
 use Rattle.tla_tree.specs.View.{view}
+use Rattle.tla_expand.specs.Private.Listed.{listed}
 use Rattle.tla_expand.proofs.heads.head_behind.Given as goal
 
 abbrev pub invariant-loop-turn : goal.invariant-loop-turn
 invariant-loop-turn l = record {
-  linked : AreLinked l.entries.items;
-  extends : Extends l.entries.items l.fn.entries.items;
-  within : l.at ≤ length l.entries.items;
-  same : (d : ℕ) → with_primes l.fn.primes (expand (view l.fn.start) (scope_at l.fn.entries.items l.fn.scope) d) ≡ with_primes l.with (expand (view l.tree) (scope_at l.entries.items l.at) d);
+  linked : AreLinked (listed l.entries);
+  extends : Extends (listed l.entries) (listed l.fn.entries);
+  within : l.at ≤ length (listed l.entries);
+  same : (d : ℕ) → with_primes l.fn.primes (expand (view l.fn.start) (scope_at (listed l.fn.entries) l.fn.scope) d) ≡ with_primes l.with (expand (view l.tree) (scope_at (listed l.entries) l.at) d);
 }

@@ -1,24 +1,25 @@
 use Rattle.tla_expand.specs.Scopes.{scope_at}
 use Rattle.tla_expand.proofs.Binds.{mismatch}
 use Rattle.tla_expand.proofs.GivenBack.{use_gives, use_gives_none}
+use Rattle.tla_expand.specs.Private.Listed.{listed}
 use Rattle.tla_expand.proofs.heads.use_of.Goals as goal
 
 pub returns-then-parameters-arguments-clause-err :
     goal.returns-then-parameters-arguments-clause-err
 returns-then-parameters-arguments-clause-err c =
-    let f = rw c.as_slice.ensures.value at c.in-Some.ensures.found in
-    λ d. mismatch (scope_at c.args.entries.now.items) c.args.arguments.now (scope_at c.args.entries.now.items c.args.scope) c.args.place d (scope_at c.args.entries.now.items c.args.scope c.args.name.now) c.in-Some.entry c.in-Definition.parameters c.in-Definition.body c.in-Definition.home f c.in-Definition.is c.if-parameters-arguments.true
+    let f = c.in-Some.ensures.found in
+    λ d. mismatch (scope_at (listed c.args.entries.now)) c.args.arguments.now (scope_at (listed c.args.entries.now) c.args.scope) c.args.place d (scope_at (listed c.args.entries.now) c.args.scope c.args.name.now) c.in-Some.entry c.in-Definition.parameters c.in-Definition.body c.in-Definition.home f c.in-Definition.is c.if-parameters-arguments.true
 
 pub returns-in-Some-given_argument-clause-same : goal.returns-in-Some-given_argument-clause-same
 returns-in-Some-given_argument-clause-same c =
-    let at = scope_at c.args.entries.now.items in
-    let f = rw c.as_slice.ensures.value at c.in-Some.ensures.found in
+    let at = scope_at (listed c.args.entries.now) in
+    let f = c.in-Some.ensures.found in
     let m = c.in-Gives in
     rw c.with_more.ensures (use_gives c.args.primes at (at c.args.scope c.args.name.now) c.in-Some.entry m.count m.given c.args.arguments.now c.in-Some-given_argument.argument.now (at c.args.scope) c.args.place f m.is c.in-Some-given_argument.ensures.some)
 
 pub returns-in-None-clause-err : goal.returns-in-None-clause-err
 returns-in-None-clause-err c =
-    let at = scope_at c.args.entries.now.items in
-    let f = rw c.as_slice.ensures.value at c.in-Some.ensures.found in
+    let at = scope_at (listed c.args.entries.now) in
+    let f = c.in-Some.ensures.found in
     let m = c.in-Gives in
     use_gives_none at (at c.args.scope c.args.name.now) c.in-Some.entry m.count m.given c.args.arguments.now (at c.args.scope) c.args.place f m.is c.in-None.ensures.none

@@ -1,10 +1,11 @@
 use Rattle.tla_expand.specs.Scopes.{scope_at}
 use Rattle.tla_expand.proofs.Shorter.{some_map}
 use Rattle.tla_expand.proofs.GivenBack.{use_never}
+use Rattle.tla_expand.specs.Private.Listed.{listed}
 use Rattle.tla_expand.proofs.shortened.chosen.Goals as goal
 
 pub returns-in-Never : goal.returns-in-Never
 returns-in-Never c =
     let e = c.in_ok-entry in
     let m = c.in-Gives in
-    some_map c.given_argument.result _ _ (λ x h. use_never (scope_at c.args.entries.now) (scope_at c.args.entries.now c.args.scope c.args.name.now) e.entry m.count m.given c.args.arguments.now x.now e.ensures.found m.is c.in-Never.is h) c.given_argument.ensures.some
+    some_map c.given_argument.result _ _ (λ x h. use_never (scope_at (listed c.args.entries.now)) (scope_at (listed c.args.entries.now) c.args.scope c.args.name.now) e.entry m.count m.given c.args.arguments.now x.now e.ensures.found m.is c.in-Never.is h) c.given_argument.ensures.some

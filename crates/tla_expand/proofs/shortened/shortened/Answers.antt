@@ -2,10 +2,11 @@ use Rattle.tla_tree.specs.View.{view}
 use Rattle.tla_expand.specs.Expand.{expand}
 use Rattle.tla_expand.specs.Scopes.{scope_at}
 use Rattle.tla_expand.proofs.Shorter.{operator_same}
+use Rattle.tla_expand.specs.Private.Listed.{listed}
 use Rattle.tla_expand.proofs.shortened.shortened.Goals as goal
 
 pub returns-in-None : goal.returns-in-None
-returns-in-None c = operator_same c.args.parameters.now (scope_at c.args.entries.now c.args.scope) (expand (view c.loop-turn.part.now)) (expand (view c.args.body.now)) c.loop-turn.invariant.same
+returns-in-None c = operator_same c.args.parameters.now (scope_at (listed c.args.entries.now) c.args.scope) (expand (view c.loop-turn.part.now)) (expand (view c.args.body.now)) c.loop-turn.invariant.same
 
 pub returns : goal.returns
-returns c = operator_same c.args.parameters.now (scope_at c.args.entries.now c.args.scope) (expand (view c.loop-turn.part.now)) (expand (view c.args.body.now)) c.loop-turn.invariant.same
+returns c = operator_same c.args.parameters.now (scope_at (listed c.args.entries.now) c.args.scope) (expand (view c.loop-turn.part.now)) (expand (view c.args.body.now)) c.loop-turn.invariant.same

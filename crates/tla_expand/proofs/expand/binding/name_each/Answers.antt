@@ -3,6 +3,7 @@ use Rattle.tla_tree.specs.declared.word.Written.{Written}
 use Rattle.tla_expand.specs.Scopes.{scope_at}
 use Rattle.tla_expand.proofs.Binds.{extends_more}
 use Rattle.tla_expand.proofs.Groups.{each_more}
+use Rattle.tla_expand.specs.Private.Listed.{listed}
 use Rattle.tla_expand.proofs.expand.binding.name_each.Goals as goal
 
 pub loop-i-preserved : goal.loop-i-preserved
@@ -10,7 +11,7 @@ loop-i-preserved c =
     let e = c.in_ok-at.ensures in
     record {
       linked = e.linked;
-      extends = extends_more c.args.entries.now.items c.loop-i.entries.items c.enter.new.entries.items _ c.loop-i.invariant.extends e.added;
+      extends = extends_more (listed c.args.entries.now) (listed c.loop-i.entries) (listed c.enter.new.entries) _ c.loop-i.invariant.extends e.added;
       within = omega arith;
-      same = c.loop-i.invariant.same ∙ each_more c.args.names.now c.loop-i.i c.args.bound c.index-names-i.result c.as_bytes.result.now (scope_at c.loop-i.entries.items c.loop-i.at) (scope_at c.enter.new.entries.items c.in_ok-at.at) (omega arith) c.index-names-i.is (c.as_bytes.ensures ∙ ap (λ (w : Written). w.word) (sym c.index-names-i.is)) e.scope;
+      same = c.loop-i.invariant.same ∙ each_more c.args.names.now c.loop-i.i c.args.bound c.index-names-i.result c.as_bytes.result.now (scope_at (listed c.loop-i.entries) c.loop-i.at) (scope_at (listed c.enter.new.entries) c.in_ok-at.at) (omega arith) c.index-names-i.is (c.as_bytes.ensures ∙ ap (λ (w : Written). w.word) (sym c.index-names-i.is)) e.scope;
     }

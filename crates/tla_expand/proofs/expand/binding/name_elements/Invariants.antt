@@ -3,12 +3,13 @@ use Rattle.tla_expand.specs.Scopes.{scope_at, AreLinked, Extends}
 use Rattle.tla_expand.specs.Meanings.{Scope}
 use Rattle.tla_expand.specs.Bound.{with_elements}
 use Rattle.tla_expand.specs.Private.Binders.{binds_in}
+use Rattle.tla_expand.specs.Private.Listed.{listed}
 use Rattle.tla_expand.proofs.expand.binding.name_elements.Given as goal
 
 abbrev pub invariant-loop-i : goal.invariant-loop-i
 invariant-loop-i l = record {
-  linked : AreLinked l.entries.items;
-  extends : Extends l.entries.items l.fn.entries.items;
-  within : l.at ≤ length l.entries.items;
-  same : (σ : Scope) → with_elements (binds_in l.binds σ) l.bound (scope_at l.fn.entries.items l.scope) ≡ with_elements (binds_in (drop l.i l.binds) σ) (l.bound + l.i) (scope_at l.entries.items l.at);
+  linked : AreLinked (listed l.entries);
+  extends : Extends (listed l.entries) (listed l.fn.entries);
+  within : l.at ≤ length (listed l.entries);
+  same : (σ : Scope) → with_elements (binds_in l.binds σ) l.bound (scope_at (listed l.fn.entries) l.scope) ≡ with_elements (binds_in (drop l.i l.binds) σ) (l.bound + l.i) (scope_at (listed l.entries) l.at);
 }

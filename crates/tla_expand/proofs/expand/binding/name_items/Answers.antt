@@ -6,6 +6,7 @@ use Rattle.tla_expand.specs.Meanings.{Scope, standard}
 use Rattle.tla_expand.specs.Scopes.{scope_at}
 use Rattle.tla_expand.proofs.Binds.{extends_trans}
 use Rattle.tla_expand.proofs.Groups.{item_step, left_step}
+use Rattle.tla_expand.specs.Private.Listed.{listed}
 use Rattle.tla_expand.proofs.expand.binding.name_items.Goals as goal
 
 pub name_each-requires-clause-small : goal.name_each-requires-clause-small
@@ -25,8 +26,8 @@ loop-i-preserved c =
     let w = c.names_for_items-names.ensures ∙ ap (λ (b : Bind). item_names (names_of b.names)) (sym c.index-binds-i.is) in
     record {
       linked = e.linked;
-      extends = extends_trans c.args.entries.now.items c.loop-i.entries.items c.name_each.new.entries.items c.loop-i.invariant.extends e.extends;
+      extends = extends_trans (listed c.args.entries.now) (listed c.loop-i.entries) (listed c.name_each.new.entries) c.loop-i.invariant.extends e.extends;
       within = e.within;
       small = λ σ d. left_step c.args.binds.now c.loop-i.i c.loop-i.next c.index-binds-i.result ws σ d (omega arith) c.index-binds-i.is w (c.loop-i.invariant.small σ d);
-      same = λ σ. c.loop-i.invariant.same σ ∙ item_step c.args.binds.now c.loop-i.i c.loop-i.next c.index-binds-i.result ws σ (scope_at c.loop-i.entries.items c.loop-i.at) (scope_at c.name_each.new.entries.items c.in_ok-at.at) (omega arith) c.index-binds-i.is w e.same;
+      same = λ σ. c.loop-i.invariant.same σ ∙ item_step c.args.binds.now c.loop-i.i c.loop-i.next c.index-binds-i.result ws σ (scope_at (listed c.loop-i.entries) c.loop-i.at) (scope_at (listed c.name_each.new.entries) c.in_ok-at.at) (omega arith) c.index-binds-i.is w e.same;
     }

@@ -4,13 +4,14 @@ use Rattle.tla_expand.specs.Scopes.{scope_at, AreLinked, Extends}
 use Rattle.tla_expand.specs.Meanings.{Scope}
 use Rattle.tla_expand.specs.Bound.{with_items, openings}
 use Rattle.tla_expand.specs.Private.Binders.{binds_in}
+use Rattle.tla_expand.specs.Private.Listed.{listed}
 use Rattle.tla_expand.proofs.expand.binding.name_items.Given as goal
 
 abbrev pub invariant-loop-i : goal.invariant-loop-i
 invariant-loop-i l = record {
-  linked : AreLinked l.entries.items;
-  extends : Extends l.entries.items l.fn.entries.items;
-  within : l.at ≤ length l.entries.items;
+  linked : AreLinked (listed l.entries);
+  extends : Extends (listed l.entries) (listed l.fn.entries);
+  within : l.at ≤ length (listed l.entries);
   small : (σ : Scope) (d : ℕ) → l.next + items_in (openings (binds_in (drop l.i l.binds) σ) d) ≤ 1000000;
-  same : (σ : Scope) → with_items (binds_in l.binds σ) l.bound (scope_at l.fn.entries.items l.scope) ≡ with_items (binds_in (drop l.i l.binds) σ) l.next (scope_at l.entries.items l.at);
+  same : (σ : Scope) → with_items (binds_in l.binds σ) l.bound (scope_at (listed l.fn.entries) l.scope) ≡ with_items (binds_in (drop l.i l.binds) σ) l.next (scope_at (listed l.entries) l.at);
 }

@@ -1,5 +1,6 @@
 use Rattle.tla_expand.proofs.Links.{scope_zero}
+use Rattle.tla_expand.specs.Private.Listed.{listed}
 use Rattle.tla_expand.proofs.scopes.Scopes.anew.Goals as goal
 
 pub returns-clause-current : goal.returns-clause-current
-returns-clause-current c = scope_zero c.args.self.entries.items
+returns-clause-current c = scope_zero (listed c.args.self.entries)

@@ -1,0 +1,168 @@
+-- A test of each element of a set, one by one.
+use Rattle.std.proofs.Common.{◌≡◌, ℕ, suc, ◌+◌, Bool, true, false, cond, List, [], ◌∷◌, ◌++◌, drop, Option, Some, None, Ok, Err, refl, sym, ap, ◌∙◌, add-one, append_assoc}
+use Rattle.std.specs.Prelude.{slice_get}
+use Rattle.std.specs.Option.{option_to_list}
+use Rattle.tla_value.specs.Tree.{Tree, set, trees, members-trees}
+use Rattle.tla_value.specs.Sets.{is_member}
+use Rattle.tla_core.specs.declared.fault.Place.{Place}
+use Rattle.tla_core.specs.declared.fault.Fault.{Fault}
+use Rattle.tla_core.specs.declared.fault.FaultCode.TheVariants.{NoChoice}
+use Rattle.tla_core.specs.Fault.{Outcome, ◌>>=◌, fault}
+use Rattle.tla_core.specs.Kinds.{as_set, or_fault}
+use Rattle.tla_core.specs.Lists.{all_hold, some_hold, first_passing, passing}
+use Rattle.tla_eval.specs.Private.Elements.{elements_rule, has_rule, tested}
+use Rattle.tla_eval.proofs.Members.{bind-ok}
+use Rattle.tla_eval.proofs.Collected.{passing_more}
+use Rattle.tla_eval.proofs.Choices.{drop_from, drop_past, none_more}
+
+-- ---- a set that is known
+pub elements_known : (p : Place) (o : Outcome Tree) (ts : List Tree) → o ≡ Ok (set (trees ts)) → elements_rule p o ≡ Ok ts
+elements_known p o ts e = ap (λ (q : Outcome Tree). elements_rule p q) e ∙ ap (λ us. Ok us) (members-trees ts)
+
+pub has_known : (p : Place) (v : Tree) (o : Outcome Tree) (ts : List Tree) → o ≡ Ok (set (trees ts)) → has_rule p v o ≡ Ok (is_member v ts)
+has_known p v o ts e = ap (λ (q : Outcome Tree). has_rule p v q) e ∙ ap (λ us. Ok (is_member v us)) (members-trees ts)
+
+-- ---- an operator on two values that are known
+module _ (p : Place) (rule : Tree → Tree → Outcome Tree) (o o' : Outcome Tree) (x y x' y' : Tree) (e : o ≡ Ok x) (e' : o' ≡ Ok y) (f : x' ≡ x) (f' : y' ≡ y) where
+  pub two_gone : ((o >>= λ a. o' >>= λ c. rule a c) >>= λ z. as_set p z) ≡ elements_rule p (rule x' y')
+  two_gone =
+      ap (λ (q : Outcome Tree). elements_rule p (q >>= λ a. o' >>= λ c. rule a c)) e
+      ∙ ap (λ (q : Outcome Tree). elements_rule p (q >>= λ c. rule x c)) e'
+      ∙ ap (λ a. elements_rule p (rule a y)) (sym f)
+      ∙ ap (λ c. elements_rule p (rule x' c)) (sym f')
+
+  pub two_asked : (v : Tree) → ((o >>= λ a. o' >>= λ c. rule a c) >>= λ z. as_set p z >>= λ xs. Ok (is_member v xs)) ≡ has_rule p v (rule x' y')
+  two_asked v =
+      ap (λ (q : Outcome Tree). has_rule p v (q >>= λ a. o' >>= λ c. rule a c)) e
+      ∙ ap (λ (q : Outcome Tree). has_rule p v (q >>= λ c. rule x c)) e'
+      ∙ ap (λ a. has_rule p v (rule a y)) (sym f)
+      ∙ ap (λ c. has_rule p v (rule x' c)) (sym f')
+
+-- ---- what a test said of an element
+there : (test : Tree → Outcome Bool) (o : Option Tree) (b : Bool) → tested test o ≡ Ok (Some b) → (v : Tree) × (o ≡ Some v) × (test v ≡ Ok b)
+there test None b h = absurd (none_some h)
+  where
+    none_some : (let r : Outcome (Option Bool) = Ok None in r ≡ Ok (Some b)) → ⊥
+    none_some k = cc
+there test (Some v) b h =
+    let r = bind-ok (test v) (λ x. Ok (Some x)) (Some b) h in
+    (v, refl, r.1 ∙ ap (λ x. Ok x) (same r.0 r.2))
+  where
+    same : (x : Bool) → (let r : Outcome (Option Bool) = Ok (Some x) in r ≡ Ok (Some b)) → x ≡ b
+    same x k = cc
+
+gone : (test : Tree → Outcome Bool) (o : Option Tree) → tested test o ≡ Ok None → o ≡ None
+gone test None h = refl
+gone test (Some v) h = let r = bind-ok (test v) (λ x. Ok (Some x)) None h in absurd (some_none r.0 r.2)
+  where
+    some_none : (x : Bool) → (let r : Outcome (Option Bool) = Ok (Some x) in r ≡ Ok None) → ⊥
+    some_none x k = cc
+
+faults : (test : Tree → Outcome Bool) (o : Option Tree) (g : Fault) → tested test o ≡ Err g → (v : Tree) × (o ≡ Some v) × (test v ≡ Err g)
+faults test None g h = absurd (ok_err h)
+  where
+    ok_err : (let r : Outcome (Option Bool) = Ok None in r ≡ Err g) → ⊥
+    ok_err k = cc
+faults test (Some v) g h = (v, refl, go (test v) h)
+  where
+    go : (r : Outcome Bool) → (r >>= λ x. Ok (Some x)) ≡ Err g → r ≡ Err g
+    go (Ok x) k = cc
+    go (Err f) k = cc
+
+pub tested_there : (test : Tree → Outcome Bool) (o : Option Tree) (v : Tree) (b : Bool) → o ≡ Some v → test v ≡ Ok b → tested test o ≡ Ok (Some b)
+tested_there test o v b h k = ap (tested test) h ∙ ap (λ (r : Outcome Bool). r >>= λ x. Ok (Some x)) k
+
+-- ---- what goes over elements one by one, from one of them on
+module _ {A : Type 0} (test : Tree → Outcome Bool) (over : List Tree → Outcome A) (next : Tree → Bool → Outcome A → Outcome A) (turn : (v : Tree) (vs : List Tree) → over (v ∷ vs) ≡ (test v >>= λ b. next v b (over vs))) (xs : List Tree) (i : ℕ) where
+  from_here : (v : Tree) → slice_get xs i ≡ Some v → over (drop i xs) ≡ (test v >>= λ b. next v b (over (drop (i + 1) xs)))
+  from_here v h = rw add-one (ap over (drop_from xs i v h) ∙ turn v (drop (suc i) xs))
+
+  pub over_tested : (v : Tree) (b : Bool) → slice_get xs i ≡ Some v → test v ≡ Ok b → over (drop i xs) ≡ next v b (over (drop (i + 1) xs))
+  over_tested v b h e = from_here v h ∙ ap (λ (o : Outcome Bool). o >>= λ b. next v b (over (drop (i + 1) xs))) e
+
+  over_stopped : (g : Fault) → tested test (slice_get xs i) ≡ Err g → over (drop i xs) ≡ Err g
+  over_stopped g h = let r = faults test (slice_get xs i) g h in from_here r.0 r.1 ∙ ap (λ (o : Outcome Bool). o >>= λ b. next r.0 b (over (drop (i + 1) xs))) r.2
+
+  pub over_first : over (drop i xs) ≡ (tested test (slice_get xs i) >>= λ o. over (drop i xs))
+  over_first = go (tested test (slice_get xs i)) refl
+    where
+      go : (r : Outcome (Option Bool)) → tested test (slice_get xs i) ≡ r → over (drop i xs) ≡ (r >>= λ o. over (drop i xs))
+      go (Ok o) h = refl
+      go (Err g) h = over_stopped g h
+
+module _ (test : Tree → Outcome Bool) (xs : List Tree) (i : ℕ) where
+  past : tested test (slice_get xs i) ≡ Ok None → drop i xs ≡ []
+  past h = drop_past xs i (gone test (slice_get xs i) h)
+
+  -- up to the first that is FALSE
+  pub all_more : (b : Bool) → tested test (slice_get xs i) ≡ Ok (Some b) → b ≡ true → all_hold test (drop i xs) ≡ all_hold test (drop (i + 1) xs)
+  all_more b h e = let r = there test (slice_get xs i) b h in over_tested test (all_hold test) (λ v b o. cond b o (Ok false)) (λ v vs. refl) xs i r.0 true r.1 (r.2 ∙ ap (λ x. Ok x) e)
+
+  pub all_stop : (b : Bool) → tested test (slice_get xs i) ≡ Ok (Some b) → b ≡ false → all_hold test (drop i xs) ≡ Ok false
+  all_stop b h e = let r = there test (slice_get xs i) b h in over_tested test (all_hold test) (λ v b o. cond b o (Ok false)) (λ v vs. refl) xs i r.0 false r.1 (r.2 ∙ ap (λ x. Ok x) e)
+
+  pub all_first : all_hold test (drop i xs) ≡ (tested test (slice_get xs i) >>= λ o. all_hold test (drop i xs))
+  all_first = over_first test (all_hold test) (λ v b o. cond b o (Ok false)) (λ v vs. refl) xs i
+
+  pub all_end : tested test (slice_get xs i) ≡ Ok None → all_hold test (drop i xs) ≡ Ok true
+  all_end h = ap (all_hold test) (past h)
+
+  -- up to the first that is TRUE
+  pub some_more : (b : Bool) → tested test (slice_get xs i) ≡ Ok (Some b) → b ≡ false → some_hold test (drop i xs) ≡ some_hold test (drop (i + 1) xs)
+  some_more b h e = let r = there test (slice_get xs i) b h in over_tested test (some_hold test) (λ v b o. cond b (Ok true) o) (λ v vs. refl) xs i r.0 false r.1 (r.2 ∙ ap (λ x. Ok x) e)
+
+  pub some_stop : (b : Bool) → tested test (slice_get xs i) ≡ Ok (Some b) → b ≡ true → some_hold test (drop i xs) ≡ Ok true
+  some_stop b h e = let r = there test (slice_get xs i) b h in over_tested test (some_hold test) (λ v b o. cond b (Ok true) o) (λ v vs. refl) xs i r.0 true r.1 (r.2 ∙ ap (λ x. Ok x) e)
+
+  pub some_first : some_hold test (drop i xs) ≡ (tested test (slice_get xs i) >>= λ o. some_hold test (drop i xs))
+  some_first = over_first test (some_hold test) (λ v b o. cond b (Ok true) o) (λ v vs. refl) xs i
+
+  pub some_end : tested test (slice_get xs i) ≡ Ok None → some_hold test (drop i xs) ≡ Ok false
+  some_end h = ap (some_hold test) (past h)
+
+  -- the first that is TRUE
+  pub least_more : (p : Place) (b : Bool) → tested test (slice_get xs i) ≡ Ok (Some b) → b ≡ false → first_passing p test (drop i xs) ≡ first_passing p test (drop (i + 1) xs)
+  least_more p b h e = let r = there test (slice_get xs i) b h in over_tested test (first_passing p test) (λ v b o. cond b (Ok v) o) (λ v vs. refl) xs i r.0 false r.1 (r.2 ∙ ap (λ x. Ok x) e)
+
+  pub least_stop : (p : Place) (b : Bool) → tested test (slice_get xs i) ≡ Ok (Some b) → b ≡ true → first_passing p test (drop i xs) ≡ or_fault NoChoice p (slice_get xs i)
+  least_stop p b h e =
+      let r = there test (slice_get xs i) b h in
+      over_tested test (first_passing p test) (λ v b o. cond b (Ok v) o) (λ v vs. refl) xs i r.0 true r.1 (r.2 ∙ ap (λ x. Ok x) e)
+      ∙ sym (ap (or_fault NoChoice p) r.1)
+
+  pub least_first : (p : Place) → first_passing p test (drop i xs) ≡ (tested test (slice_get xs i) >>= λ o. first_passing p test (drop i xs))
+  least_first p = over_first test (first_passing p test) (λ v b o. cond b (Ok v) o) (λ v vs. refl) xs i
+
+  pub least_end : (p : Place) → tested test (slice_get xs i) ≡ Ok None → first_passing p test (drop i xs) ≡ fault NoChoice p
+  least_end p h = ap (first_passing p test) (past h)
+
+  -- those that are TRUE, behind those that are kept
+  pub kept_more : (old new : List Tree) (b : Bool) → tested test (slice_get xs i) ≡ Ok (Some b) → new ≡ cond b (old ++ option_to_list (slice_get xs i)) old
+      → (passing test (drop i xs) >>= λ ys. Ok (old ++ ys)) ≡ (passing test (drop (i + 1) xs) >>= λ ys. Ok (new ++ ys))
+  kept_more old new b h e =
+      let r = there test (slice_get xs i) b h in
+      let k : cond b (old ++ r.0 ∷ []) old ≡ new = sym (e ∙ ap (λ o. cond b (old ++ option_to_list o) old) r.1) in
+      rw add-one (ap (λ us. passing test us >>= λ ys. Ok (old ++ ys)) (drop_from xs i r.0 r.1)
+      ∙ passing_more test old r.0 (drop (suc i) xs) b r.2
+      ∙ ap (λ us. passing test (drop (suc i) xs) >>= λ ys. Ok (us ++ ys)) k)
+
+  pub kept_first : (old : List Tree) → (passing test (drop i xs) >>= λ ys. Ok (old ++ ys)) ≡ (tested test (slice_get xs i) >>= λ o. passing test (drop i xs) >>= λ ys. Ok (old ++ ys))
+  kept_first old = ap (λ o. o >>= λ ys. Ok (old ++ ys)) (over_first test (passing test) (λ v b o. o >>= λ ys. Ok (cond b (v ∷ ys) ys)) (λ v vs. refl) xs i) ∙ go (tested test (slice_get xs i))
+    where
+      go : (o : Outcome (Option Bool)) → ((o >>= λ x. passing test (drop i xs)) >>= λ ys. Ok (old ++ ys)) ≡ (o >>= λ x. passing test (drop i xs) >>= λ ys. Ok (old ++ ys))
+      go (Ok x) = refl
+      go (Err g) = refl
+
+  pub kept_end : (old : List Tree) → tested test (slice_get xs i) ≡ Ok None → (passing test (drop i xs) >>= λ ys. Ok (old ++ ys)) ≡ Ok old
+  kept_end old h = ap (λ us. passing test us >>= λ ys. Ok (old ++ ys)) (past h) ∙ ap (λ us. Ok us) (none_more old)
+
+-- ---- what is listed of them, one by one
+behind : (old : List Tree) (x : Tree) (rest : List Tree) → old ++ x ∷ rest ≡ (old ++ x ∷ []) ++ rest
+behind old x rest = simp append_assoc
+
+pub listed_more : (xs : List Tree) (i : ℕ) (old new : List Tree) (x : Tree) → xs ≡ old ++ drop i xs → slice_get xs i ≡ Some x → new ≡ old ++ x ∷ [] → xs ≡ new ++ drop (i + 1) xs
+listed_more xs i old new x e h k =
+    rw add-one (e ∙ ap (λ us. old ++ us) (drop_from xs i x h) ∙ behind old x (drop (suc i) xs) ∙ ap (λ us. us ++ drop (suc i) xs) (sym k))
+
+pub listed_end : (xs : List Tree) (i : ℕ) (old : List Tree) → xs ≡ old ++ drop i xs → slice_get xs i ≡ None → old ≡ xs
+listed_end xs i old e h = sym (e ∙ ap (λ us. old ++ us) (drop_past xs i h) ∙ none_more old)

@@ -1,0 +1,23 @@
+-- Why a formula of a model is refused (this project's own choice).
+use Rattle.std.specs.Prelude.{◌≡◌, true, is_some, Option, Some, None}
+use Rattle.tla_core.specs.Expr.{Expr}
+use Rattle.tla_config.specs.declared.error.DefsCode.{DefsCode}
+use Rattle.tla_config.specs.declared.error.DefsCode.TheVariants as c
+use Rattle.tla_config.specs.declared.error.DefsError.{DefsError}
+use Rattle.tla_config.specs.declared.error.Source.TheVariants as source
+use Rattle.tla_expand.specs.declared.primes.Primes.{Primes}
+use Rattle.tla_expand.specs.Primes.{with_primes}
+use Rattle.tla_model.specs.Size.{IsWithinLimits}
+
+-- Why a formula is refused that has this expansion and, by its level, is read with these primes: nothing of it is of the level (C5), or it is not within the limits (C11).
+abbrev pub IsCause : DefsCode → Option Expr → Primes → Type 0
+IsCause c.Level o k = with_primes k o ≡ None
+IsCause c.ExpansionTooLarge o k = (x : Expr) → o ≡ Some x → IsWithinLimits x → ⊥
+IsCause _ o k = ⊥
+
+-- what is told of such a formula: some place of the module (where, is not said here)
+pub record IsOfFormula (o : Option Expr) (k : Primes) (e : DefsError) : Type 0 where
+  pub cause : IsCause e.code o k
+  pub source : e.source ≡ source.Module
+  pub place : is_some e.place ≡ true
+  pub name : e.name ≡ None

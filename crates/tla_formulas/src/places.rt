@@ -1,0 +1,59 @@
+//! Where the formulas begin that names of a configuration stand for.
+
+use tla_lex::Place;
+use tla_names::Items;
+use tla_tree::{Definition, Unit, Written};
+
+/// The units of a module, and the items by which names stand for others.
+#[derive(Clone, Copy)]
+pub struct Places<'t, 'a> {
+    units: &'a [Unit],
+    items: &'t Items<'a>,
+}
+
+/// Where the body of a definition begins, if this unit is the one of this name.
+fn begins_in(unit: &Unit, name: &[u8]) -> Option<Place> {
+    match unit {
+        Unit::Operator(written, body)
+        | Unit::Assume(_, Some(written), body)
+        | Unit::Defines(Definition::Operator(written, _, body))
+        | Unit::Local(_, Definition::Operator(written, _, body)) => {
+            if written.word.as_bytes() == name {
+                Some(body.place())
+            } else {
+                None
+            }
+        }
+        Unit::Defines(Definition::Function(written, _, _))
+        | Unit::Local(_, Definition::Function(written, _, _)) => {
+            if written.word.as_bytes() == name {
+                Some(written.place)
+            } else {
+                None
+            }
+        }
+        _ => None,
+    }
+}
+
+impl<'t, 'a> Places<'t, 'a> {
+    /// Where formulas begin in these units, where the configuration has these items.
+    pub fn of(units: &'a [Unit], items: &'t Items<'a>) -> Places<'t, 'a> {
+        Places { units, items }
+    }
+
+    /// Where the formula that a name of the configuration stands for begins.
+    pub fn begins(&self, name: &Written) -> Place {
+        let Some(meant) = self.items.meant(name.word.as_bytes()) else {
+            return name.place;
+        };
+        let mut left = self.units;
+        while let [first, rest @ ..] = left {
+            if let Some(place) = begins_in(first, meant) {
+                return place;
+            }
+            left = rest;
+        }
+        name.place
+    }
+}
