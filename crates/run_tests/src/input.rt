@@ -29,7 +29,8 @@ impl Read for Source {
 }
 
 /// How many bytes a source gives, how many at a read, whether it fails then, what is answered, and after how many reads.
-static SOURCES: [(usize, usize, bool, Result<usize, ReadFault>, usize); 5] = [
+static SOURCES: [(usize, usize, bool, Result<usize, ReadFault>, usize); 6] = [
+    (0, 3, false, Ok(0), 1),
     (10, 3, false, Ok(10), 5),
     (200_000, 100_000, false, Ok(200_000), 5),
     (10, 3, true, Err(ReadFault::Failed), 5),

@@ -40,7 +40,7 @@ fn names(rt: HostRuntime) -> Result<(), Fail> {
     let known = STATEMENTS.as_slice();
     let index = known.iter().position(|name| *name == "INVARIANTS");
     let index = index.ok_or("no such statement")?;
-    assert!(rt; is_nearest(rt.alloc(), "INVARIANTS", known, index, 0)?);
+    assert!(rt; is_nearest(rt.alloc(), "INVARIENTS", known, index, 1)?);
     assert!(rt; module_with(b"Cardinality") == Some("FiniteSets"));
     assert!(rt; module_with(b"Bags").is_none());
     Ok(())
