@@ -1,5 +1,8 @@
 // Checks of small modules with their reports. The reports were worked out by hand.
-use crate::texts::{COUNTER, COUNTER_REPORT, WITH_INVARIANT};
+use crate::texts::{COUNTER, COUNTER_REPORT, JUGS, JUGS_REPORT, NOT_FOUR, WITH_INVARIANT};
+use std::alloc::Global;
+use std::sync::Wait;
+use std::thread::Threads;
 use tla_check::{NoGate, Options, check_and_report};
 
 const LINE: &str = "---- MODULE M ----
@@ -64,24 +67,48 @@ static CHECKS: [(&str, &str, u64, u8, &str); 7] = [
     ),
 ];
 
+/// Whether the check of these texts ends with this status and writes this report.
+fn ends_so<R: Threads + Wait + Sync>(
+    rt: &R,
+    alloc: Global,
+    texts: (&str, &str),
+    options: &Options,
+    status: u8,
+    report: &str,
+) -> bool {
+    let mut out = Vec::new(alloc);
+    let answer = check_and_report(
+        rt,
+        alloc,
+        texts.0.as_bytes(),
+        texts.1.as_bytes(),
+        options,
+        &NoGate,
+        &mut out,
+    );
+    answer == Ok(status) && out.as_slice() == report.as_bytes()
+}
+
 #[test]
 fn answers_and_refusals(rt: HostRuntime) {
     for &(module, config, limit, status, report) in &CHECKS {
         let options = Options::new(1, 1024, limit);
         assert!(rt; options.is_some());
         if let Some(options) = options {
-            let mut out = Vec::new(rt.alloc());
-            let answer = check_and_report(
-                &rt,
-                rt.alloc(),
-                module.as_bytes(),
-                config.as_bytes(),
-                &options,
-                &NoGate,
-                &mut out,
-            );
-            assert!(rt; answer == Ok(status), "{report}");
-            assert!(rt; out.as_slice() == report.as_bytes(), "{report}");
+            let ends = ends_so(&rt, rt.alloc(), (module, config), &options, status, report);
+            assert!(rt; ends, "{report}");
+        }
+    }
+}
+
+#[test]
+fn a_thousand_runs_give_the_same_bytes(rt: HostRuntime) {
+    let options = Options::new(8, 1, 100_000);
+    assert!(rt; options.is_some());
+    if let Some(options) = options {
+        for run in 0..1000u64 {
+            let ends = ends_so(&rt, rt.alloc(), (JUGS, NOT_FOUR), &options, 10, JUGS_REPORT);
+            assert!(rt; ends, "{run}");
         }
     }
 }

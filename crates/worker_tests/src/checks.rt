@@ -1,9 +1,8 @@
 // A check by workers.
-use crate::texts::{FOUR_GALLONS, JUGS, JUGS_CONFIG};
 use std::process::Abort;
 use std::sync::Wait;
 use std::thread::Threads;
-use tla_check::{Gate, NoGate, Options, check_and_report};
+use tla_check::{Gate, Options, check_and_report};
 
 /// The workers of a check, and how many states a piece has.
 #[derive(Clone, Copy)]
@@ -39,13 +38,4 @@ pub fn report_of<G: Gate, R: AllocGlobal + Abort + Threads + Wait + Sync>(
         assert!(rt; answer.is_ok());
     }
     out
-}
-
-#[test]
-fn a_thousand_runs_give_the_same_bytes(rt: HostRuntime) {
-    let crew = Crew { workers: 8, cut: 1 };
-    for _ in 0..1000 {
-        let told = report_of(&rt, JUGS, JUGS_CONFIG, crew, &NoGate);
-        assert!(rt; told.as_slice() == FOUR_GALLONS.as_bytes());
-    }
 }
