@@ -12,7 +12,7 @@ mod status;
 pub use checked::{Answered, Checked, Names, Refusal, RefusalCode, RefusalName};
 pub use checking::{check, check_and_report};
 pub use input::{ReadFault, read_whole};
-pub use report::{WriteFault, write_report};
+pub use report::{WriteFault, refusal_code_text, write_report};
 pub use tla_config::Source;
 pub use tla_line::{Line, LineFault, read_line};
 pub use tla_search::{

@@ -349,7 +349,8 @@ fn source_name(source: Source) -> &'static str
     }
 }
 
-fn refusal_code_text(code: RefusalCode) -> &'static str
+/// A code as the report of a refusal has it.
+pub fn refusal_code_text(code: RefusalCode) -> &'static str
     ensures { result.now ≡ refusal_code code }
 {
     match code {

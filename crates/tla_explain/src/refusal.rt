@@ -3,9 +3,9 @@
 use crate::names::{meant, names_before};
 use crate::page::Page;
 use crate::places::{Sources, first_place, source_text, token_place, tokens_of, word};
-use crate::refusal_text::{code_of, title_of};
+use crate::refusal_text::title_of;
 use std::alloc::AllocError;
-use tla_check::{Refusal, RefusalCode, Source};
+use tla_check::{Refusal, RefusalCode, Source, refusal_code_text};
 use tla_hints::{STATEMENTS, closing_of, innermost_open, is_before, module_with};
 use tla_lex::{Place, Token};
 
@@ -15,7 +15,7 @@ pub(crate) fn tell(
     sources: &Sources<'_>,
     refusal: &Refusal,
 ) -> Result<(), AllocError> {
-    let code = code_of(refusal.code);
+    let code = refusal_code_text(refusal.code);
     page.put_place(sources, refusal.source, refusal.place)?;
     page.put(&[title_of(refusal.code)])?;
     let name = name_of(refusal);

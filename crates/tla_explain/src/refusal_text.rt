@@ -1,35 +1,6 @@
-//! The codes of refusals, and what they are called.
+//! What refusals are called.
 
 use tla_check::RefusalCode;
-
-/// The code of a refusal in a report.
-pub(crate) fn code_of(code: RefusalCode) -> &'static str {
-    match code {
-        RefusalCode::NotUtf8 => "L1",
-        RefusalCode::UnknownCharacter => "L2",
-        RefusalCode::OpenString => "L3",
-        RefusalCode::OpenComment => "L4",
-        RefusalCode::NumberTooLarge => "L5",
-        RefusalCode::NoHeader => "L6",
-        RefusalCode::NoClosingLine => "L7",
-        RefusalCode::UnexpectedToken => "P1",
-        RefusalCode::PrecedenceConflict => "P2",
-        RefusalCode::LeftOfJunction => "P3",
-        RefusalCode::NestedTooDeep => "P4",
-        RefusalCode::FormLeftOut => "P5",
-        RefusalCode::ConfigurationText => "C1",
-        RefusalCode::UnknownName => "C2",
-        RefusalCode::DefinedTwice => "C3",
-        RefusalCode::ArgumentCount => "C4",
-        RefusalCode::Level => "C5",
-        RefusalCode::ConstantWithoutValue => "C6",
-        RefusalCode::CircularReplacement => "C7",
-        RefusalCode::SpecificationForm => "C8",
-        RefusalCode::BehaviourCount => "C9",
-        RefusalCode::StatementLeftOut => "C10",
-        RefusalCode::ExpansionTooLarge => "C11",
-    }
-}
 
 /// What a refusal is called; the name that it carries stands behind it.
 pub(crate) fn title_of(code: RefusalCode) -> &'static str {
