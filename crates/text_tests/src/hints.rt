@@ -3,7 +3,8 @@
 use std::alloc::{AllocError, Global};
 use std::test::Fail;
 use tla_hints::{
-    STATEMENTS, blanks, front, innermost_open, line_of, module_with, nearest, word_of,
+    STATEMENTS, blanks, closes_bracket, closing_of, front, innermost_open, is_before, line_of,
+    module_with, nearest, opens_bracket, word_of,
 };
 use tla_lex::{Kind, Place, tokens};
 
@@ -50,10 +51,17 @@ fn names(rt: HostRuntime) -> Result<(), Fail> {
 fn open_brackets(rt: HostRuntime) -> Result<(), Fail> {
     let text = b"---- MODULE M ----\nA == (1 + {2}\n====\n";
     let tokens = tokens(rt.alloc(), text)?;
-    let open = innermost_open(rt.alloc(), &tokens, Place { line: 3, column: 1 })?;
+    let end = Place { line: 3, column: 1 };
+    let open = innermost_open(rt.alloc(), &tokens, end)?;
     let place = Place { line: 2, column: 6 };
     assert!(rt;
         matches!(open, Some(token) if token.kind == Kind::LeftParen && token.place == place)
     );
+    assert!(rt; is_before(place, end));
+    assert!(rt; closing_of(Kind::LeftParen) == Some(")"));
+    assert!(rt; opens_bracket(Kind::LeftBrace));
+    assert!(rt; !opens_bracket(Kind::Let));
+    assert!(rt; closes_bracket(Kind::RightBrace));
+    assert!(rt; !closes_bracket(Kind::In));
     Ok(())
 }

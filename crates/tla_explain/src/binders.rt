@@ -1,6 +1,7 @@
 //! The names that a quantifier binds.
 
 use crate::places::word;
+use tla_hints::{closes_bracket, opens_bracket};
 use tla_lex::{Kind, Place, Token};
 
 /// The name that the quantifier at a place binds as its nth, from 0. Each name of a pattern `<<x, y>>` counts as one.
@@ -18,9 +19,9 @@ pub(crate) fn bound_name<'a>(
         let [before, token, behind] = three else {
             return None;
         };
-        if opens(before.kind) {
+        if opens_bracket(before.kind) {
             depth = depth.saturating_add(1);
-        } else if closes(before.kind) {
+        } else if closes_bracket(before.kind) {
             depth = depth.saturating_sub(1);
         } else if depth == 0 && before.kind == Kind::Colon {
             return None;
@@ -47,23 +48,4 @@ fn begins_entry(before: Kind) -> bool {
 /// Whether a token stands behind a name that is bound.
 fn ends_name(behind: Kind) -> bool {
     matches!(behind, Kind::Comma | Kind::Member)
-}
-
-fn opens(kind: Kind) -> bool {
-    matches!(
-        kind,
-        Kind::LeftParen | Kind::LeftBracket | Kind::LeftBrace | Kind::LeftTuple
-    )
-}
-
-fn closes(kind: Kind) -> bool {
-    matches!(
-        kind,
-        Kind::RightParen
-            | Kind::RightBracket
-            | Kind::RightBracketSubscript
-            | Kind::RightBrace
-            | Kind::RightTuple
-            | Kind::RightTupleSubscript
-    )
 }

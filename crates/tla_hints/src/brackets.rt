@@ -4,21 +4,16 @@ use crate::places::is_before;
 use std::alloc::{AllocError, Global};
 use tla_lex::{Kind, Place, Token};
 
-/// Whether a token opens what another has to close.
-fn opens(kind: Kind) -> bool {
+/// Whether a token opens a bracket.
+pub fn opens_bracket(kind: Kind) -> bool {
     matches!(
         kind,
-        Kind::LeftParen
-            | Kind::LeftBracket
-            | Kind::LeftBrace
-            | Kind::LeftTuple
-            | Kind::If
-            | Kind::Let
+        Kind::LeftParen | Kind::LeftBracket | Kind::LeftBrace | Kind::LeftTuple
     )
 }
 
-/// Whether a token closes what another opened.
-fn closes(kind: Kind) -> bool {
+/// Whether a token closes a bracket.
+pub fn closes_bracket(kind: Kind) -> bool {
     matches!(
         kind,
         Kind::RightParen
@@ -27,9 +22,17 @@ fn closes(kind: Kind) -> bool {
             | Kind::RightBrace
             | Kind::RightTuple
             | Kind::RightTupleSubscript
-            | Kind::Else
-            | Kind::In
     )
+}
+
+/// Whether a token opens what another has to close.
+fn opens(kind: Kind) -> bool {
+    opens_bracket(kind) || matches!(kind, Kind::If | Kind::Let)
+}
+
+/// Whether a token closes what another opened.
+fn closes(kind: Kind) -> bool {
+    closes_bracket(kind) || matches!(kind, Kind::Else | Kind::In)
 }
 
 /// What closes a bracket, an IF or a LET, as it is written.

@@ -11,7 +11,7 @@ mod places;
 mod statements;
 mod words;
 
-pub use brackets::{closing_of, innermost_open};
+pub use brackets::{closes_bracket, closing_of, innermost_open, opens_bracket};
 pub use columns::{blanks, front};
 pub use lines::line_of;
 pub use modules::module_with;
