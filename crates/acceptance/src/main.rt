@@ -23,14 +23,14 @@ mod told;
 use case::{Case, Wanted};
 use codes::is_in;
 use outcome::{
-    CaseFiles, is_as_wanted, lines_are_as_wanted, prefixes_are_as_wanted, texts_are_as_wanted,
+    CaseFiles, is_as_wanted, lines_are_as_wanted, options_of, prefixes_are_as_wanted,
+    texts_are_as_wanted,
 };
 use std::io::Write;
 use std::rt::Files;
 use std::sync::Wait;
 use std::thread::Threads;
 use std::{fs, io};
-use tla_check::read_line;
 use tla_explain::CODES;
 use told::is_told_as_wanted;
 
@@ -55,19 +55,10 @@ fn tells<R: AllocGlobal + Files + Threads + Wait + Sync>(
     let module = bytes_of(rt, case.name, "module.tla")?;
     let configuration = bytes_of(rt, case.name, "model.cfg")?;
     let wanted = bytes_of(rt, case.name, "told")?;
-    let mut words = vec![in rt.alloc(); "tlacheck", "MODULE", "CONFIG"]?;
-    words.extend_from_slice(case.options.as_slice())?;
-    let Ok(line) = read_line(rt.alloc(), words.as_slice()) else {
+    let Some(options) = options_of(rt.alloc(), case.options.as_slice())? else {
         return Ok(false);
     };
-    is_told_as_wanted(
-        rt,
-        rt.alloc(),
-        &module,
-        &configuration,
-        &line.options,
-        &wanted,
-    )
+    is_told_as_wanted(rt, rt.alloc(), &module, &configuration, &options, &wanted)
 }
 
 fn passes<R: AllocGlobal + Files + Threads + Wait + Sync>(

@@ -105,6 +105,16 @@ fn ends_alike_again<R: Threads + Wait + Sync>(
     }
 }
 
+/// The options that words of the command line name behind the two files, or none where the line is refused.
+pub fn options_of(alloc: Global, words: &[&str]) -> io::Result<Option<Options>> {
+    let mut all = vec![in alloc; "tlacheck", "MODULE", "CONFIG"]?;
+    all.extend_from_slice(words)?;
+    let Ok(line) = read_line(alloc, all.as_slice()) else {
+        return Ok(None);
+    };
+    Ok(Some(line.options))
+}
+
 /// The status of a check of these texts and what it reports, or none where the report isn't written, or where a check again
 /// ends otherwise. `options` are words of the command line.
 fn reported<R: Threads + Wait + Sync>(
@@ -115,15 +125,13 @@ fn reported<R: Threads + Wait + Sync>(
     options: &[&str],
     again: Again,
 ) -> io::Result<Option<(u8, Vec<u8>)>> {
-    let mut words = vec![in alloc; "tlacheck", "MODULE", "CONFIG"]?;
-    words.extend_from_slice(options)?;
-    let Ok(line) = read_line(alloc, words.as_slice()) else {
+    let Some(options) = options_of(alloc, options)? else {
         return Ok(Some((REFUSED_LINE, Vec::new(alloc))));
     };
-    let Some(first) = ending_of(rt, alloc, module, config, &line.options) else {
+    let Some(first) = ending_of(rt, alloc, module, config, &options) else {
         return Ok(None);
     };
-    let limit = line.options.limit();
+    let limit = options.limit();
     if !is_searched(&first) || ends_alike_again(rt, alloc, (module, config), again, limit, &first) {
         Ok(Some((first.status, first.report)))
     } else {
