@@ -172,7 +172,7 @@ pub fn prefixes_are_as_wanted<R: Threads + Wait + Sync>(
             _ => return Ok(false),
         }
     }
-    Ok(true)
+    Ok(!files.report.is_empty())
 }
 
 /// What ends a module.
@@ -207,7 +207,7 @@ pub fn lines_are_as_wanted<R: Threads + Wait + Sync>(
 const BETWEEN: u8 = b'\x0c';
 
 /// Whether the reports of each module of these texts with the configuration behind it, one behind the other, are this
-/// one.
+/// one. A module without a configuration is none.
 pub fn texts_are_as_wanted<R: Threads + Wait + Sync>(
     rt: &R,
     alloc: Global,
@@ -231,5 +231,5 @@ pub fn texts_are_as_wanted<R: Threads + Wait + Sync>(
         wanted = rest;
         module = None;
     }
-    Ok(wanted.is_empty())
+    Ok(wanted.is_empty() && module.is_none())
 }
