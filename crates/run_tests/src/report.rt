@@ -1,5 +1,6 @@
 // Reports of answers that no text has.
 ghost use Rattle.std.specs.Prelude.{◌≡◌, length, IfOk};
+ghost use Rattle.tla_search.specs.IsNamed.{AreWhole, IsNamed};
 
 use std::alloc::{AllocError, Global};
 use std::process::Abort;
@@ -25,26 +26,22 @@ fn state(alloc: Global, value: i64) -> Result<State, AllocError>
     Ok(State::new(values))
 }
 
-// A variable that isn't set where an invariant asks for it.
-fn lacking(alloc: Global) -> Result<Checked, AllocError> {
+// The one state in which the one variable has this value.
+fn one_state(alloc: Global, value: i64) -> Result<Trace, AllocError>
+    ensures { IfOk result (λ t. AreWhole 1 t) }
+{
+    let mut states = Vec::new(alloc);
+    states.push(state(alloc, value)?)?;
+    Ok(Trace::new(states))
+}
+
+// An answer about the variable x, the invariant Inv and the constraint Con.
+fn about_x(alloc: Global, answer: Answer) -> Result<Checked, AllocError>
+    requires { IsNamed 1 1 1 answer }
+{
     let variables = one_name(alloc, "x")?;
     let invariants = one_name(alloc, "Inv")?;
     let constraints = one_name(alloc, "Con")?;
-    let mut states = Vec::new(alloc);
-    states.push(state(alloc, -7)?)?;
-    let answer = Answer::Faulted {
-        fault: Fault {
-            code: FaultCode::Lacking,
-            place: None,
-            variable: Some(0),
-        },
-        part: Part::Invariant(0),
-        trace: Trace::new(states),
-        counts: Counts {
-            levels: 1,
-            states: 1,
-        },
-    };
     Ok(Checked::Answered(Answered {
         answer,
         variables,
@@ -52,6 +49,25 @@ fn lacking(alloc: Global) -> Result<Checked, AllocError> {
         constraints,
         limit: 4,
     }))
+}
+
+// A variable that isn't set where an invariant asks for it.
+fn lacking(alloc: Global) -> Result<Checked, AllocError> {
+    let fault = Fault {
+        code: FaultCode::Lacking,
+        place: None,
+        variable: Some(0),
+    };
+    let answer = Answer::Faulted {
+        fault,
+        part: Part::Invariant(0),
+        trace: one_state(alloc, -7)?,
+        counts: Counts {
+            levels: 1,
+            states: 1,
+        },
+    };
+    about_x(alloc, answer)
 }
 
 fn assert_report(rt: &impl Abort, alloc: Global, checked: &Checked, status: u8, report: &str) {
