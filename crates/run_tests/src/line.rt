@@ -91,11 +91,12 @@ fn is_named(line: &Line<'_>, row: &Row) -> bool {
 }
 
 #[test]
-fn names_files_and_numbers(rt: HostRuntime) {
+fn names_files_and_numbers(rt: HostRuntime) -> Result<(), Fail> {
     for row in &ROWS {
-        let line = read_line(rt.alloc(), row.words);
-        assert!(rt; line.is_ok_and(|it| is_named(&it, row)), "{:?}", row.words);
+        let line = read_line(rt.alloc(), row.words)?;
+        assert!(rt; is_named(&line, row), "{:?}", row.words);
     }
+    Ok(())
 }
 
 /// An option, and a text that is no number or one outside its limits.
