@@ -23,7 +23,7 @@ use tla_lex::{Kind, Token, string_text};
 use tla_value::{SetValue, Text, Value, ValueError};
 
 /// How deep a value may be nested.
-pub const MAX_NESTING: usize = 64;
+pub const MAX_NESTING: usize = tla_value::MAX_NESTING as usize;
 
 /// A value, and the number of the token behind it.
 #[derive(Drop)]
