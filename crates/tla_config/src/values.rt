@@ -17,9 +17,10 @@ ghost use Rattle.tla_config.specs.Literals.{number};
 
 use crate::keyword::keyword_of;
 use crate::refusal::Refusal;
-use crate::tokens::{digits_at, is_kind, slice_of, token_at};
+use crate::tokens::{digits_at, is_kind, token_at};
 use std::alloc::Global;
 use tla_lex::{Kind, Token, string_text};
+use tla_tree::slice_of;
 use tla_value::{SetValue, Text, Value, ValueError};
 
 /// How deep a value may be nested.
