@@ -9,7 +9,7 @@ use Rattle.std.proofs.lemmas.List.{append_assoc, length-take-le, take_at}
 use Rattle.indexmap.specs.IndexMap.{insert_entry}
 use Rattle.tla_config.specs.Names.{Name}
 use Rattle.tla_names.specs.declared.scope.Signature.{Signature}
-use Rattle.tla_names.specs.Latest.{signature_of, arity_in, arity_by, IsTable, KeepBeforeFrom, KeepBefore}
+use Rattle.tla_names.specs.Private.Latest.{signature_of, arity_in, arity_by, IsTable, KeepBeforeFrom, KeepBefore}
 use Rattle.tla_names.specs.Maybe.{or_else}
 use Rattle.tla_names.specs.Scope as names
 use Rattle.tla_names.specs.Scope.{arity}
