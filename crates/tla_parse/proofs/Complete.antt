@@ -21,8 +21,8 @@ use Rattle.tla_tree.specs.Words.{written}
 use Rattle.tla_parse.specs.Tokens.{seen, goes_on, is_bullet_at, may_follow, Has}
 use Rattle.tla_parse.specs.Kinds.{kind_at}
 use Rattle.tla_parse.specs.Grammar.{Spells, Defines, within}
-use Rattle.tla_parse.specs.ReadingLists.{call, paren}
-use Rattle.tla_parse.specs.Reading.{named, indexed, turn, junction, quantified, chosen, cases, lets, choice, prefix, by_class, operand, definition, expr}
+use Rattle.tla_parse.specs.Private.ReadingLists.{call, paren}
+use Rattle.tla_parse.specs.Private.Reading.{named, indexed, turn, junction, quantified, chosen, cases, lets, choice, prefix, by_class, operand, definition, expr}
 use Rattle.tla_parse.proofs.Inversion.{and_true, ok_to}
 use Rattle.tla_parse.proofs.Steps.{climb_more}
 use Rattle.tla_parse.proofs.Follow.{low_high, prefix_low_high, yields_low, end_mono, stop_by, end_plain, stops_plain, end_infix, sees_infix, not_true}

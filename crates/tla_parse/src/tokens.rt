@@ -7,9 +7,9 @@ ghost use Rattle.tla_tree.specs.Words as words;
 ghost use Rattle.tla_parse.specs.Kinds as kinds;
 ghost use Rattle.tla_parse.specs.Ending as ending;
 ghost use Rattle.tla_parse.specs.LeftOut as left_out;
-ghost use Rattle.tla_parse.specs.Reading as reading;
-ghost use Rattle.tla_parse.specs.ReadingLists as lists;
-ghost use Rattle.tla_parse.specs.Gives.{Refuses};
+ghost use Rattle.tla_parse.specs.Private.Reading as reading;
+ghost use Rattle.tla_parse.specs.Private.ReadingLists as lists;
+ghost use Rattle.tla_parse.specs.Private.Gives.{Refuses};
 
 use crate::ahead::{Role, role_of};
 use crate::operators::{bullet_of, infix_of, low, prefix_of};

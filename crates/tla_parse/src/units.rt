@@ -8,7 +8,7 @@ ghost use Rattle.tla_parse.specs.LeftOut.{IsExtended, OnlySeparators};
 ghost use Rattle.tla_parse.specs.Kinds.{kind_at};
 ghost use Rattle.tla_parse.specs.Tokens.{seen};
 ghost use Rattle.tla_lex.specs.declared.token.Kind.TheVariants as k;
-ghost use Rattle.tla_parse.specs.Gives.{GivesNames};
+ghost use Rattle.tla_parse.specs.Private.Gives.{GivesNames};
 ghost use Rattle.tla_tree.specs.View.{definition_view};
 ghost use Rattle.tla_parse.specs.Private.UnitsGive.{GivesDeclared, GivesConstants, GivesClaim, GivesUnit, GivesUnits};
 
