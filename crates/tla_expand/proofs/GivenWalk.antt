@@ -24,7 +24,7 @@ use Rattle.tla_expand.specs.Primes.{with_primes}
 use Rattle.tla_expand.specs.Meanings.{Scope, Argument, Meaning, with_name, parameter, operator}
 use Rattle.tla_expand.specs.Bound.{gathered}
 use Rattle.tla_expand.specs.Expand.{expand, definition_in, definitions_in, binds_of}
-use Rattle.tla_expand.specs.Private.Arguments.{with_more, argument_at, argument_of, given}
+use Rattle.tla_expand.specs.Arguments.{with_more, argument_at, argument_of, given}
 use Rattle.tla_expand.specs.Private.Known.{Holds, IsSought, IsGiven, IsMeant, IsOperator, ComesTo, GivesBack, defined_name}
 use Rattle.tla_expand.specs.Private.Parameters.{IsAbsent, IsLast}
 use Rattle.tla_expand.specs.Scopes.{arguments_in}

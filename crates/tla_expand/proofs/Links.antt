@@ -13,7 +13,7 @@ use Rattle.tla_expand.specs.Bound.{gathered}
 use Rattle.tla_expand.specs.Expand.{expand, binds_of}
 use Rattle.tla_tree.specs.Tree.{binders}
 use Rattle.tla_tree.specs.View.{view, group_view}
-use Rattle.tla_expand.specs.Private.Arguments.{given}
+use Rattle.tla_expand.specs.Arguments.{given}
 use Rattle.tla_expand.specs.Scopes.{meaning_of, at_of, entry_scope, grow, scope_at, IsBelow, LinkedFrom, AreLinked, Extends}
 
 pub agree : (at at2 : ℕ → Scope) (n : ℕ) (w : What) (rest : ℕ) (x : Name) → ((r : ℕ) → r ≤ n → at r ≡ at2 r) → IsBelow n w rest

@@ -15,7 +15,7 @@ ghost use Rattle.tla_expand.specs.Private.Gives.{part_in, pointed, GivesMany};
 ghost use Rattle.tla_expand.specs.Maybe.{each_of};
 ghost use Rattle.tla_expand.specs.Primes.{with_primes};
 ghost use Rattle.tla_expand.specs.Scopes.{AreLinked, scope_at};
-ghost use Rattle.tla_expand.specs.Private.Listed.{listed};
+ghost use Rattle.tla_expand.specs.Listed.{listed};
 
 use crate::builders::{many_core, place_of};
 use crate::entries::Entries;

@@ -9,7 +9,7 @@ ghost use Rattle.tla_tree.specs.Tree.{Name};
 ghost use Rattle.tla_expand.specs.Expand as expansion;
 ghost use Rattle.tla_expand.specs.Primes.{with_primes};
 ghost use Rattle.tla_expand.specs.Scopes.{AreLinked, scope_at};
-ghost use Rattle.tla_expand.specs.Private.Listed.{listed};
+ghost use Rattle.tla_expand.specs.Listed.{listed};
 
 use crate::builders::place_of;
 use crate::entries::Entries;
