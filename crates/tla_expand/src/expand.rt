@@ -41,6 +41,18 @@ use tla_core::{Core, Place};
 use tla_tree::{Arm, Expr, Field, Step};
 use updates::except_node;
 
+/// The most nodes on a path of an expansion.
+pub(crate) const MAX_PATH: usize = 300;
+
+/// The most nodes of an expansion.
+pub const MAX_NODES: usize = 200_000;
+
+/// The most nodes on a path below the outermost node.
+pub(crate) const PATH_BELOW: usize = MAX_PATH - 1;
+
+/// The most nodes below the outermost node.
+pub(crate) const NODES_BELOW: usize = MAX_NODES - 1;
+
 /// Where an expression stands, and how large its expansion may be.
 #[derive(Clone, Copy)]
 pub(crate) struct Setting {
@@ -444,8 +456,8 @@ pub(crate) fn expansion<'a>(
         scope,
         primes,
         bound: 0,
-        room: 300,
-        left: 200_000,
+        room: MAX_PATH,
+        left: MAX_NODES,
         sought,
     };
     let made = expand(alloc, entries, tree, at)?;
