@@ -19,6 +19,9 @@ use std::alloc::Global;
 use tla_lex::{Kind, Place, Token};
 use tla_tree::{Expr, Fairness, Infix, Prefix};
 
+/// How deep the tree of an expression may be.
+pub const MAX_DEPTH: usize = 200;
+
 /// The rules of expressions, over a reader of the expressions in them.
 #[derive(Clone, Copy)]
 pub struct Grammar<F> {
@@ -455,7 +458,7 @@ pub fn definition(
 {
     Grammar {
         alloc,
-        depth: 200,
+        depth: MAX_DEPTH,
         expr,
     }
     .definition(text, tokens, scope, from)
