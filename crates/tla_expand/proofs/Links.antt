@@ -118,18 +118,6 @@ below_rest n (Definition xs body home) rest b = b.1
 below_rest n (Gives k g) rest b = b
 below_rest n (Module m) rest b = b
 
--- before another scope
-pub below_other : (n : ℕ) (w : What) (rest other : ℕ) → other ≤ n → IsBelow n w rest → IsBelow n w other
-below_other n (Bound i) rest other h b = h
-below_other n (Variable i) rest other h b = h
-below_other n (Value v) rest other h b = h
-below_other n Unknown rest other h b = h
-below_other n (Argument t s) rest other h b = (b.0, h)
-below_other n (Definition xs body home) rest other h b = (b.0, h)
-below_other n (Function p bs body home) rest other h b = (b.0, h)
-below_other n (Gives k g) rest other h b = h
-below_other n (Module m) rest other h b = h
-
 pub below_more : (n m : ℕ) (w : What) (rest : ℕ) → n ≤ m → IsBelow n w rest → IsBelow m w rest
 below_more n m (Bound i) rest h b = omega arith
 below_more n m (Variable i) rest h b = omega arith
