@@ -210,10 +210,6 @@ module _ (text : List ℕ) (ts : List Token) where
   no_stand : (t : Tree) → is_closed t ≡ false → Stands text ts t
   no_stand t h n s from to x c d nc = absurd (let z : ⊥ = cc in z)
 
-  -- a form that no tokens spell
-  none_both : (t : Tree) → ((s : Scope) (from to : ℕ) → Spells text ts s t from to → ⊥) → Both text ts t
-  none_both t h = record { comes = λ n s floor from to x. absurd (h s from to x); stands = λ n s from to x. absurd (h s from to x) }
-
   mutual
     pub main : (t : Tree) → Both text ts t
     main (Name w) = opens_both text ts (Name w) refl refl refl (name_opens w)
