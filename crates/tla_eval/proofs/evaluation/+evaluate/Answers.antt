@@ -476,7 +476,7 @@ products::is_tuple_of-returns-else-pairs-parts t c = λ p.
 pub evaluate_logic-returns-in-Conjunction : goal.evaluate_logic-returns-in-Conjunction
 evaluate_logic-returns-in-Conjunction t c =
     let n = c.in-Conjunction in
-    let e = means_conjunction c.args.core.now n.place n.parts n.is ∙ ap (λ us. means-conjunction n.place (parts_of_cores us)) (sym c.deref-in-Conjunction.ensures.value) in
+    let e = means_conjunction c.args.core.now n.place n.parts n.is ∙ ap (λ us. means-conjunction n.place (parts_of_cores us)) (sym c.deref.ensures.value) in
     subst (λ (m : Meaning). Evaluates c.conjunction.result (m.value (bound_in c.args.env) (present_in c.args.env) (next_in c.args.env))) (sym e) c.conjunction.ensures
 
 pub evaluate_logic-returns-in-Disjunction : goal.evaluate_logic-returns-in-Disjunction
