@@ -3,7 +3,6 @@ ghost use Rattle.std.specs.Prelude.{◌≡◌, ◌++◌, ◌<◌, length, map, c
 ghost use Rattle.std.specs.Io.KnownBytes.{Appends};
 ghost use Rattle.counted_writer.specs.Puts.{Puts, AddsFirst};
 ghost use Rattle.tla_value.specs.TreeOf.{tree_of};
-ghost use Rattle.tla_core.specs.Fault.{code_text};
 ghost use Rattle.tla_search.specs.Answers.{trace_of};
 ghost use Rattle.tla_search.specs.IsNamed.{AreWhole, IsAboutOne, IsNamedPart};
 ghost use Rattle.tla_check.specs.Codes.{refusal_code};
@@ -14,7 +13,7 @@ use crate::checked::{Answered, Checked, Names, Refusal, RefusalCode};
 use counted_writer::{ShortWrite, put, put_number};
 use std::io::Write;
 use tla_config::Source;
-use tla_core::{Fault, FaultCode, Place};
+use tla_core::{Fault, Place};
 use tla_search::{Answer, Counts, Part};
 use tla_value::{State, Text, Value};
 
@@ -104,10 +103,7 @@ fn put_fault<W: Write>(
     ensures { Puts (W.contents out.old) (W.contents out.new) 0
         (fault_line answered.now.variables answered.now.invariants answered.now.constraints fault.now part) result }
 {
-    let pieces = [
-        Piece::Text("Fault "),
-        Piece::Text(fault_code_text(fault.code)),
-    ];
+    let pieces = [Piece::Text("Fault "), Piece::Text(fault.code.name())];
     let written = put_pieces(&pieces, out, 0)?;
     let written = put_site(fault, &answered.variables, out, written)?;
     put_part(part, answered, out, written)
@@ -377,28 +373,5 @@ pub fn refusal_code_text(code: RefusalCode) -> &'static str
         RefusalCode::BehaviourCount => "C9",
         RefusalCode::StatementLeftOut => "C10",
         RefusalCode::ExpansionTooLarge => "C11",
-    }
-}
-
-fn fault_code_text(code: FaultCode) -> &'static str
-    ensures { result.now ≡ code_text code }
-{
-    match code {
-        FaultCode::WrongKind => "E1",
-        FaultCode::Overflow => "E2",
-        FaultCode::SmallDivisor => "E3",
-        FaultCode::NegativeExponent => "E4",
-        FaultCode::OutsideDomain => "E5",
-        FaultCode::NoField => "E6",
-        FaultCode::NoChoice => "E7",
-        FaultCode::NoArm => "E8",
-        FaultCode::Endless => "E9",
-        FaultCode::TooMany => "E10",
-        FaultCode::TooDeep => "E11",
-        FaultCode::EmptySequence => "E12",
-        FaultCode::NotSet => "E13",
-        FaultCode::AssertFalse => "E14",
-        FaultCode::Lacking => "E15",
-        FaultCode::Memory => "E16",
     }
 }

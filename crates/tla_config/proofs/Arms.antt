@@ -1,6 +1,5 @@
 -- Statements by their words.
-use Rattle.std.proofs.Common.{◌≡◌, ℕ, ◌+◌, List, Some, None, inl, inr, slice_get, codes, refl, sym, ap, ◌∙◌}
-use Rattle.tla_lex.specs.declared.token.Kind.TheVariants as k
+use Rattle.std.proofs.Common.{◌≡◌, ℕ, List, Some, inl, inr, slice_get, codes, refl, sym, ap, ◌∙◌}
 use Rattle.tla_lex.specs.declared.token.Place.{Place}
 use Rattle.tla_lex.specs.declared.token.Token.{Token}
 use Rattle.tla_tree.specs.Words.{word_of}
@@ -8,12 +7,12 @@ use Rattle.tla_config.specs.declared.keyword.Keyword.{Keyword}
 use Rattle.tla_config.specs.declared.keyword.Keyword.TheVariants as word
 use Rattle.tla_config.specs.declared.refusal.Refusal.{Refusal}
 use Rattle.tla_config.specs.declared.refusal.Refusal.TheVariants as refusal
-use Rattle.tla_config.specs.Configuration.{Has, SpellsStatement}
+use Rattle.tla_config.specs.Configuration.{SpellsStatement}
 use Rattle.tla_config.specs.Private.Fronts.{keyword_of}
-use Rattle.tla_config.specs.Private.Gives.{Because, Nowhere, Anything, Fails, NoStatement, LeftOutBehind, TooLargeBehind, LeftOutIn, TooLargeIn}
+use Rattle.tla_config.specs.Private.Gives.{Because, Fails, NoStatement, LeftOutIn}
 use Rattle.tla_config.specs.Refusals.{IsLeftOutWord}
 use Rattle.tla_config.specs.Statements.{Statement, Specification, Init, Next, Invariants, Constraints, Constants, CheckDeadlock}
-use Rattle.tla_config.proofs.Fronts.{Opens, same_pair, keyword_found, begins_is, constants_is, constants_found}
+use Rattle.tla_config.proofs.Fronts.{Opens, same_pair, keyword_found, begins_is, constants_is}
 use Rattle.tla_config.proofs.Words.{left_out_word, left_out_is}
 
 -- the word and the place of a statement
@@ -63,9 +62,6 @@ module _ (text : List ℕ) (ts : List Token) (at : ℕ) where
   spelled_front (Constants p is) to x = constants_is text ts at p x.0
   spelled_front (CheckDeadlock p check) to x = begins_is text ts at p (codes "CHECK_DEADLOCK") word.CheckDeadlock refl x.0
 
-  pub no_front : keyword_of text (slice_get ts at) ≡ None → NoStatement text ts at
-  no_front h c to x e = let f = spelled_front c to x in (let z : ⊥ = cc in z)
-
   same : (j : Keyword) (p : Place) → keyword_of text (slice_get ts at) ≡ Some (j, p) → (c : Statement) (to : ℕ) → SpellsStatement text ts c at to → word_for c ≡ j
   same j p h c to x = ap (λ (z : Keyword × Place). z.0) (same_pair (word_for c, place_for c) (j, p) (sym (spelled_front c to x) ∙ h))
 
@@ -96,24 +92,3 @@ module _ (text : List ℕ) (ts : List Token) (at : ℕ) where
 
   pub left_out_front : (w : IsLeftOutWord text ts at) → keyword_of text (slice_get ts at) ≡ Some (word.LeftOut, w.0.place)
   left_out_front w = let n = left_out_is (word_of text w.0) w.3 in rw (w.1, w.2, n) refl
-
-  -- the word of another statement, or of none
-  pub no_word : keyword_of text (slice_get ts at) ≡ None → IsLeftOutWord text ts at → ⊥
-  no_word h w = let f = left_out_front w in (let z : ⊥ = cc in z)
-
-  pub other_word : (j : Keyword) (p : Place) → keyword_of text (slice_get ts at) ≡ Some (j, p) → (j ≡ word.LeftOut → ⊥) → IsLeftOutWord text ts at → ⊥
-  other_word j p h f w = f (ap (λ (z : Keyword × Place). z.0) (same_pair (j, p) (word.LeftOut, w.0.place) (sym h ∙ left_out_front w)))
-
-  -- a statement whose names are refused, and one whose items are
-  pub because_names : (r : Refusal) (j : Keyword) (p : Place) → keyword_of text (slice_get ts at) ≡ Some (j, p) → (j ≡ word.LeftOut → ⊥) → Because r Nowhere Nowhere Anything
-      → Because r (LeftOutIn text ts at) (TooLargeIn text ts at) (IsLeftOutWord text ts at → ⊥)
-  because_names r j p h f x = because_map r Nowhere Nowhere (LeftOutIn text ts at) (TooLargeIn text ts at) Anything (IsLeftOutWord text ts at → ⊥)
-      (λ n z. absurd z) (λ n z. absurd z) (λ a. other_word j p h f) x
-
-  pub because_items : (r : Refusal) (p : Place) → keyword_of text (slice_get ts at) ≡ Some (word.Constants, p) → Because r (LeftOutBehind text ts (at + 1)) (TooLargeBehind text ts (at + 1)) Anything
-      → Because r (LeftOutIn text ts at) (TooLargeIn text ts at) (IsLeftOutWord text ts at → ⊥)
-  because_items r p h x =
-      let f = constants_found text ts at p h in
-      let has : Has text ts k.Constant at = (f.0, f.1, f.2) in
-      because_map r (LeftOutBehind text ts (at + 1)) (TooLargeBehind text ts (at + 1)) (LeftOutIn text ts at) (TooLargeIn text ts at) Anything (IsLeftOutWord text ts at → ⊥)
-      (λ n y. inr (has, y)) (λ n y. (has, y)) (λ a. other_word word.Constants p h (λ g. let z : ⊥ = cc in z)) x

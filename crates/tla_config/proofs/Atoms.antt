@@ -1,5 +1,5 @@
 -- Values of one token, and numbers behind a minus sign.
-use Rattle.std.proofs.Common.{◌≡◌, ◌<◌, ℕ, ◌+◌, Bool, true, false, List, [], ◌∷◌, Some, None, if◌then◌else◌, ◌⊎◌, inl, inr, slice_get, length, FitsSigned, refl, sym, ap, subst, ◌∙◌, arith}
+use Rattle.std.proofs.Common.{◌≡◌, ◌<◌, ℕ, ◌+◌, true, false, List, [], ◌∷◌, Some, None, ◌⊎◌, inl, inr, slice_get, length, FitsSigned, refl, sym, ap, subst, ◌∙◌, arith}
 use Rattle.std.proofs.lemmas.Grind.{not_there}
 use Rattle.std.specs.Int.{w64}
 use Rattle.std.specs.Str.{IsUtf8}
@@ -10,7 +10,6 @@ use Rattle.tla_lex.specs.declared.token.Token.{Token}
 use Rattle.tla_tree.specs.Words.{word_of}
 use Rattle.tla_value.specs.IsValue.{IsValue}
 use Rattle.tla_value.specs.Tree.{Tree, int, text, model}
-use Rattle.tla_config.specs.declared.keyword.Keyword.{Keyword}
 use Rattle.tla_config.specs.declared.refusal.Refusal.{Refusal}
 use Rattle.tla_config.specs.declared.refusal.Refusal.TheVariants as refusal
 use Rattle.tla_config.specs.Configuration.{Has, SpellsLiteral}
@@ -20,10 +19,9 @@ use Rattle.tla_config.specs.Private.Gives.{Because, Nowhere, Anything, Fails}
 use Rattle.tla_config.specs.Private.GivesValues.{IsValueAt, NoValue, AtomBeyond, BeyondIn}
 use Rattle.tla_config.proofs.Arms.{because_map}
 use Rattle.tla_config.specs.Private.Keywords.{keywords, lookup}
-use Rattle.tla_config.specs.Names.{is_among, statement_words}
-use Rattle.tla_config.specs.Literals.{Literal, model_value, atom, braces, value_of, number, atom_by, atom_of}
+use Rattle.tla_config.specs.Literals.{Literal, atom, braces, value_of, number, atom_of}
 use Rattle.tla_config.proofs.Fronts.{one_token, kind_found, digits_found, digits_is}
-use Rattle.tla_config.proofs.Words.{name_word, name_is_none}
+use Rattle.tla_config.proofs.Words.{name_word}
 use Rattle.tla_config.proofs.Literals.{two_kinds, atom_kind, opens}
 
 pub no_bytes : (literal : List ℕ) → length literal < 1 → string_text literal ≡ []
@@ -69,23 +67,9 @@ module _ (source : List ℕ) (ts : List Token) where
   pub model_is : (t : Token) → t.kind ≡ k.Name → lookup keywords (word_of source t) ≡ None → atom_of source t ≡ Some (model (word_of source t))
   model_is t h n = rw (h, name_word (word_of source t) n) refl
 
-  not_among : (b : Bool) (w : List ℕ) (v : Tree) → (b ≡ false → ⊥) → (if b then None else Some (model w)) ≡ Some v → ⊥
-  not_among true w v f h = (let z : ⊥ = cc in z)
-  not_among false w v f h = f refl
-
-  -- a word of a statement is no value
-  pub no_model : (t : Token) (j : Keyword) → t.kind ≡ k.Name → lookup keywords (word_of source t) ≡ Some j → NoAtom t
-  no_model t j h l v g x =
-      let w = word_of source t in
-      let e : atom_of source t ≡ model_value w = ap (λ c. atom_by source t c) h in
-      not_among (is_among w statement_words) w v (λ b. let n = name_is_none w b in (let z : ⊥ = cc in z)) (sym e ∙ g)
-
   -- a value of one token
   pub atom_is : (at : ℕ) (t : Token) (v : Tree) → slice_get ts at ≡ Some t → atom_of source t ≡ Some v → IsValue v → IsValueAt source ts v at (at + 1)
   atom_is at t v h a x = record { literal = atom v; spelled = inl (t, h, a, refl); meaning = refl; is_value = x }
-
-  other_token : (at : ℕ) (t : Token) (kind : Kind) → slice_get ts at ≡ Some t → kind_at kind (slice_get ts at) ≡ false → ((kind_at kind (Some t) ≡ false))
-  other_token at t kind h e = ap (λ o. kind_at kind o) (sym h) ∙ e
 
   not_kind : (at : ℕ) (kind : Kind) → kind_at kind (slice_get ts at) ≡ false → ((t : Token) → t.kind ≡ kind → kind_at kind (Some t) ≡ true) → Has source ts kind at → ⊥
   not_kind at kind e f x = let g : kind_at kind (slice_get ts at) ≡ true = ap (λ o. kind_at kind o) x.1 ∙ f x.0 x.2 in (let z : ⊥ = cc in z)

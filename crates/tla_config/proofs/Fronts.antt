@@ -1,5 +1,5 @@
 -- What stands at a token.
-use Rattle.std.proofs.Common.{◌≡◌, ℕ, ◌<◌, Bool, true, false, List, Option, Some, None, ◌⊎◌, inl, inr, slice_get, refl, sym, ap, ◌∙◌, length}
+use Rattle.std.proofs.Common.{◌≡◌, ℕ, ◌<◌, true, List, Option, Some, None, ◌⊎◌, inl, inr, slice_get, refl, sym, ap, ◌∙◌, length}
 use Rattle.std.proofs.lemmas.Option.{slice_get_within}
 use Rattle.tla_lex.specs.declared.token.Kind.{Kind}
 use Rattle.tla_lex.specs.declared.token.Kind.TheVariants as k
@@ -9,11 +9,11 @@ use Rattle.tla_tree.specs.Words.{word_of, written}
 use Rattle.tla_tree.specs.declared.word.Written.{Written}
 use Rattle.tla_config.specs.declared.keyword.Keyword.{Keyword}
 use Rattle.tla_config.specs.declared.keyword.Keyword.TheVariants as word
-use Rattle.tla_config.specs.Configuration.{kind_of, Has, Is, Begins, IsName}
-use Rattle.tla_config.specs.Private.Fronts.{unless_keyword, name_by, name_of, with_place, keyword_by, keyword_of, same_kind, kind_at, truth_by, truth_of, digits_by, digits_of}
+use Rattle.tla_config.specs.Configuration.{Has, Is, Begins, IsName}
+use Rattle.tla_config.specs.Private.Fronts.{unless_keyword, name_by, name_of, with_place, keyword_by, keyword_of, same_kind, kind_at, digits_by, digits_of}
 use Rattle.tla_config.specs.Private.Keywords.{keywords, lookup}
 use Rattle.tla_config.specs.Names.{Name, is_among, statement_words}
-use Rattle.tla_config.proofs.Words.{spells_found, name_word, name_is_none}
+use Rattle.tla_config.proofs.Words.{name_word, name_is_none}
 
 pub same_pair : (x y : Keyword × Place) → Some x ≡ Some y → x ≡ y
 same_pair x y h = cc
@@ -88,23 +88,6 @@ module _ (text : List ℕ) (ts : List Token) where
   pub kind_is : (kind : Kind) (at : ℕ) → same_kind kind kind ≡ true → Has text ts kind at → kind_at kind (slice_get ts at) ≡ true
   kind_is kind at e x = rw (x.1, x.2) e
 
-  -- a truth value
-  truth_kind : (kind : Kind) (b : Bool) → truth_by kind ≡ Some b → kind ≡ kind_of b
-  truth_kind k.True b h = let e : true ≡ b = cc in ap (λ x. kind_of x) e
-  truth_kind k.False b h = let e : false ≡ b = cc in ap (λ x. kind_of x) e
-  truth_kind _ b h = (let z : ⊥ = cc in absurd z)
-
-  truth_token : (o : Option Token) (b : Bool) → truth_of o ≡ Some b → (t : Token) × (o ≡ Some t) × (t.kind ≡ kind_of b)
-  truth_token None b h = (let z : ⊥ = cc in absurd z)
-  truth_token (Some t) b h = (t, refl, truth_kind t.kind b h)
-
-  pub truth_found : (at : ℕ) (b : Bool) → truth_of (slice_get ts at) ≡ Some b → Has text ts (kind_of b) at
-  truth_found at b h = truth_token (slice_get ts at) b h
-
-  pub truth_is : (at : ℕ) (b : Bool) → Has text ts (kind_of b) at → truth_of (slice_get ts at) ≡ Some b
-  truth_is at true x = rw (x.1, x.2) refl
-  truth_is at false x = rw (x.1, x.2) refl
-
   -- the word of a statement
   with_some : (o : Option Keyword) (p q : Place) (j : Keyword) → with_place o p ≡ Some (j, q) → (o ≡ Some j) × (p ≡ q)
   with_some None p q j h = (let z : ⊥ = cc in absurd z)
@@ -128,10 +111,6 @@ module _ (text : List ℕ) (ts : List Token) where
   pub keyword_found : (at : ℕ) (j : Keyword) (p : Place) → keyword_of text (slice_get ts at) ≡ Some (j, p) → (t : Token) × (slice_get ts at ≡ Some t) × (t.place ≡ p) × Opens t j
   keyword_found at j p h = keyword_token (slice_get ts at) j p h
 
-  -- a word of the table at the front
-  pub begins_found : (at : ℕ) (t : Token) (p : Place) (w : Name) → slice_get ts at ≡ Some t → t.place ≡ p → t.kind ≡ k.Name → word_of text t ≡ w → Begins text ts w p at
-  begins_found at t p w h a b c = (t, h, b, λ i. record { place = a i; word = c i })
-
   pub begins_is : (at : ℕ) (p : Place) (w : Name) (j : Keyword) → lookup keywords w ≡ Some j → Begins text ts w p at → keyword_of text (slice_get ts at) ≡ Some (j, p)
   begins_is at p w j l x =
       let t = x.0 in
@@ -146,9 +125,6 @@ module _ (text : List ℕ) (ts : List Token) where
 
   pub name_within : (w : Written) (at : ℕ) → IsName text ts w at → at < length ts
   name_within w at x = slice_get_within ts at x.0.0 x.0.1
-
-  pub begins_within : (w : Name) (p : Place) (at : ℕ) → Begins text ts w p at → at < length ts
-  begins_within w p at x = slice_get_within ts at x.0 x.1
 
   -- a comma is no name, nor does it begin a statement
   pub comma_no_name : (w : Written) (at : ℕ) → Has text ts k.Comma at → IsName text ts w at → ⊥
@@ -166,11 +142,3 @@ module _ (text : List ℕ) (ts : List Token) where
   -- the word CONSTANT at the front
   pub constants_is : (at : ℕ) (p : Place) → Is text ts k.Constant p at → keyword_of text (slice_get ts at) ≡ Some (word.Constants, p)
   constants_is at p x = rw (x.1, x.2, x.3) refl
-
-  pub constants_found : (at : ℕ) (p : Place) → keyword_of text (slice_get ts at) ≡ Some (word.Constants, p) → Is text ts k.Constant p at
-  constants_found at p h =
-      let f = keyword_found at word.Constants p h in
-      elim f.3 [
-        | inl n ↦ (let e : false ≡ true = spells_found keywords (word_of text f.0) word.Constants n.1 in let z : ⊥ = cc in absurd z)
-        | inr n ↦ (f.0, f.1, n.0, f.2)
-      ]

@@ -1,5 +1,5 @@
 -- Items, and a list of them, found item by item.
-use Rattle.std.proofs.Common.{◌≡◌, ◌≤◌, ℕ, ◌+◌, true, false, List, [], ◌∷◌, ◌++◌, Some, inl, inr, slice_get, refl, sym, ap, subst, ◌∙◌, append_assoc, arith}
+use Rattle.std.proofs.Common.{◌≡◌, ◌≤◌, ℕ, ◌+◌, true, List, [], ◌∷◌, ◌++◌, Some, inl, inr, slice_get, refl, sym, ap, subst, ◌∙◌, append_assoc, arith}
 use Rattle.tla_lex.specs.declared.token.Kind.TheVariants as k
 use Rattle.tla_lex.specs.declared.token.Token.{Token}
 use Rattle.tla_tree.specs.declared.word.Written.{Written}
@@ -10,11 +10,11 @@ use Rattle.tla_config.specs.Configuration.{Has, IsName, SpellsItem, Items}
 use Rattle.tla_config.specs.Private.Fronts.{kind_at}
 use Rattle.tla_config.specs.Private.Gives.{Because, Nowhere, Anything, Ends, GoesOn, LeftOutBehind, TooLargeBehind}
 use Rattle.tla_config.specs.Refusals.{IsLeftOutItem, IsTooLargeItem, ItemsUpTo}
-use Rattle.tla_config.specs.Private.GivesValues.{IsValueAt, NoValue, NoItem, AreItems, NoItems, BeyondIn}
+use Rattle.tla_config.specs.Private.GivesValues.{NoValue, NoItem, AreItems, NoItems, BeyondIn}
 use Rattle.tla_config.specs.Literals.{value_of}
 use Rattle.tla_config.specs.Statements.{Item, Value, Replaces}
 use Rattle.tla_config.proofs.Arms.{because_map}
-use Rattle.tla_config.proofs.Fronts.{one_name, kind_found, kind_is}
+use Rattle.tla_config.proofs.Fronts.{one_name, kind_found}
 use Rattle.tla_config.proofs.Literals.{two_kinds, one_literal}
 use Rattle.tla_config.proofs.NameLists.{Between, same_next, goes_on_ends}
 
@@ -60,22 +60,11 @@ module _ (source : List ℕ) (ts : List Token) where
   item_name (Value c v) at to x = x.0
   item_name (Replaces c f) at to x = x.0
 
-  -- one item
-  pub value_item : (c : Written) (v : Tree) (at to : ℕ) → IsName source ts c at → kind_at k.Equal (slice_get ts (at + 1)) ≡ true → IsValueAt source ts v (at + 2) to → SpellsItem source ts (Value c v) at to
-  value_item c v at to n e x = (n, kind_found k.Equal (slice_get ts (at + 1)) e, (x.literal, x.spelled, x.meaning), x.is_value)
-
-  pub no_name_item : (at : ℕ) → ((w : Written) → IsName source ts w at → ⊥) → NoItem source ts at
-  no_name_item at f i to x = f (constant_of i) (item_name i at to x)
-
   pub no_value_item : (at : ℕ) → kind_at k.Equal (slice_get ts (at + 1)) ≡ true → NoValue source ts 64 (at + 2) → NoItem source ts at
   no_value_item at e f (Value c v) to x =
       let y : IsValue (value_of x.2.0) = subst (λ u. IsValue u) (sym x.2.2) x.3 in
       f x.2.0 to x.2.1 y (value_depth (value_of x.2.0) y)
   no_value_item at e f (Replaces c g) to x = arrow_equal (at + 1) (kind_found k.Equal (slice_get ts (at + 1)) e) x.1
-
-  pub neither_item : (at : ℕ) → kind_at k.Equal (slice_get ts (at + 1)) ≡ false → kind_at k.Substitute (slice_get ts (at + 1)) ≡ false → NoItem source ts at
-  neither_item at e f (Value c v) to x = let g = kind_is source ts k.Equal (at + 1) refl x.1 in (let z : ⊥ = cc in z)
-  neither_item at e f (Replaces c o) to x = let g = kind_is source ts k.Substitute (at + 1) refl x.1 in (let z : ⊥ = cc in z)
 
   pub no_operator_item : (at : ℕ) → kind_at k.Substitute (slice_get ts (at + 1)) ≡ true → ((w : Written) → IsName source ts w (at + 2) → ⊥) → NoItem source ts at
   no_operator_item at e f (Value c v) to x = arrow_equal (at + 1) x.1 (kind_found k.Substitute (slice_get ts (at + 1)) e)

@@ -1,4 +1,3 @@
-pub mod Slices
 pub mod Words
 pub mod Fronts
 pub mod NameLists

@@ -98,9 +98,6 @@ module _ (text : List ℕ) (ts : List Token) where
   no_set room from brace f (atom v) to x = absurd (atom_no_brace text ts from to v brace x)
   no_set room from brace f (braces ms) to x = f ms to x
 
-  pub no_room : (from : ℕ) → Has text ts k.LeftBrace from → NoValue text ts 0 from
-  no_room from brace = no_set 0 from brace (λ ms to x v d. absurd (omega arith))
-
   -- the set's members are beyond the limits
   pub so_far_refused : (front : List Tree) (room from at end : ℕ) (v : Tree) → Has text ts k.LeftBrace from → MembersSoFar front from at → IsValueAt text ts v at end → Has text ts k.RightBrace end
       → (IsValue (set (trees (set_of (front ++ v ∷ [])))) → ⊥) → NoValue text ts room from

@@ -107,9 +107,6 @@ module _ (text : List ℕ) (ts : List Token) where
     pub whole : (cs : List Statement) (to : ℕ) → StatementsUpTo text ts cs at to → StatementsUpTo text ts (front ++ cs) 0 to
     pub rest : (cs : List Statement) (to : ℕ) → StatementsUpTo text ts cs 0 to → Stops to → (ds : List Statement) × (cs ≡ front ++ ds) × StatementsUpTo text ts ds at to
 
-  pub so_far_none : StatementsSoFar [] 0
-  so_far_none = record { whole = λ cs to x. x; rest = λ cs to x s. (cs, refl, x) }
-
   next_rest : (c : Statement) (ds : List Statement) (at mid to : ℕ) → IsStatement text ts c at mid → StatementsUpTo text ts ds at to → Stops to
       → (es : List Statement) × (ds ≡ c ∷ es) × StatementsUpTo text ts es mid to
   next_rest c [] at mid to st x s = absurd (s.none c mid (subst (λ m. SpellsStatement text ts c m mid) x st.spelled))

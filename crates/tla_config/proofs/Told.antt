@@ -64,23 +64,6 @@ module _ (text : List ℕ) (ts : List Token) where
   pub word_left : (at : ℕ) (t : Token) → Begins text ts → LeftOutAt text ts at → slice_get ts at ≡ Some t → (t.kind ≡ k.LeftBracket → ⊥) → IsLeft text t.place (word_of text t)
   word_left at t b x e f = inl (left_in x.0 at t b x.1 x.2 e f)
 
-  item_in : (from at : ℕ) (t : Token) → Begins text ts → FollowsStatements text ts from → LeftOutIn text ts from at → slice_get ts at ≡ Some t → t.kind ≡ k.LeftBracket → HasLeftOutItem text t.place
-  item_in from at t b follows (inl x) e f =
-      let same = one_token (slice_get ts at) x.0.0 t (subst (λ n. slice_get ts n ≡ Some x.0.0) (sym x.1) x.0.1) e in
-      let kind : k.Name ≡ k.LeftBracket = sym x.0.2 ∙ ap (λ (u : Token). u.kind) same ∙ f in
-      (let z : ⊥ = cc in absurd z)
-  item_in from at t b follows (inr x) e f = record {
-    tokens = ts;
-    begins = b;
-    at = x.1.0;
-    follows = record { begin = from; statements = follows; constant = x.0; items = x.1.1.0; spelled = x.1.1.1 };
-    is = x.1.2;
-    place = (t, subst (λ n. slice_get ts n ≡ Some t) x.1.3 e, refl);
-  }
-
-  pub item_left : (at : ℕ) (t : Token) → Begins text ts → LeftOutAt text ts at → slice_get ts at ≡ Some t → t.kind ≡ k.LeftBracket → IsLeft text t.place (codes "[")
-  item_left at t b x e f = inr (item_in x.0 at t b x.1 x.2 e f, refl)
-
   -- an item that is too large, where its token is at a place
   pub too_large : (at : ℕ) (p : Place) → Begins text ts → TooLargeAt text ts at → ((q : Place) → StandsAt ts at q → q ≡ p) → HasTooLargeItem text p
   too_large at p b x place =

@@ -1,5 +1,5 @@
 -- What a word begins, by the table.
-use Rattle.std.proofs.Common.{◌≡◌, ℕ, suc, leb, arith, Bool, true, false, ◌&&◌, ◌||◌, if◌then◌else◌, map, List, [], ◌∷◌, Option, Some, None, ◌⊎◌, inl, inr, codes, refl, sym, subst}
+use Rattle.std.proofs.Common.{◌≡◌, ℕ, suc, leb, arith, Bool, true, false, ◌&&◌, ◌||◌, if◌then◌else◌, map, List, [], ◌∷◌, Option, Some, None, refl, sym, subst}
 use Rattle.std.specs.List.{list_any}
 use Rattle.std.specs.Str.{bytes_eq, IsUtf8, IsAscii}
 use Rattle.std.proofs.lemmas.Bool.{leb-true, and_parts}
@@ -53,43 +53,8 @@ pub spells_found : (es : Entries) (w : Name) (k : Keyword) → lookup es w ≡ S
 spells_found [] w k h = (let z : ⊥ = cc in absurd z)
 spells_found (e ∷ es) w k h = spells_step es w k e.1 (bytes_eq w e.0) (lookup es w) (λ g. spells_found es w k g) h
 
-or_false : (b : Bool) → (b || false) ≡ true → b ≡ true
-or_false true h = refl
-or_false false h = h
-
 pub same_bytes : (v w : Name) → bytes_eq v w ≡ true → v ≡ w
 same_bytes v w h = (bytes_eq-Decides v w).0 h
-
-one_word : (v w : Name) → (bytes_eq w v || false) ≡ true → w ≡ v
-one_word v w h = same_bytes w v (or_false (bytes_eq w v) h)
-
-either : (a b : Bool) → (a || (b || false)) ≡ true → (a ≡ true) ⊎ (b ≡ true)
-either true b h = inl refl
-either false b h = inr (or_false b h)
-
-pub specification_word : (w : Name) → lookup keywords w ≡ Some word.Specification → w ≡ codes "SPECIFICATION"
-specification_word w h = one_word (codes "SPECIFICATION") w (spells_found keywords w word.Specification h)
-
-pub init_word : (w : Name) → lookup keywords w ≡ Some word.Init → w ≡ codes "INIT"
-init_word w h = one_word (codes "INIT") w (spells_found keywords w word.Init h)
-
-pub next_word : (w : Name) → lookup keywords w ≡ Some word.Next → w ≡ codes "NEXT"
-next_word w h = one_word (codes "NEXT") w (spells_found keywords w word.Next h)
-
-pub check_deadlock_word : (w : Name) → lookup keywords w ≡ Some word.CheckDeadlock → w ≡ codes "CHECK_DEADLOCK"
-check_deadlock_word w h = one_word (codes "CHECK_DEADLOCK") w (spells_found keywords w word.CheckDeadlock h)
-
-pub invariants_word : (w : Name) → lookup keywords w ≡ Some word.Invariants → (w ≡ codes "INVARIANT") ⊎ (w ≡ codes "INVARIANTS")
-invariants_word w h = elim (either (bytes_eq w (codes "INVARIANT")) (bytes_eq w (codes "INVARIANTS")) (spells_found keywords w word.Invariants h)) [
-  | inl b ↦ inl (same_bytes w (codes "INVARIANT") b)
-  | inr b ↦ inr (same_bytes w (codes "INVARIANTS") b)
-]
-
-pub constraints_word : (w : Name) → lookup keywords w ≡ Some word.Constraints → (w ≡ codes "CONSTRAINT") ⊎ (w ≡ codes "CONSTRAINTS")
-constraints_word w h = elim (either (bytes_eq w (codes "CONSTRAINT")) (bytes_eq w (codes "CONSTRAINTS")) (spells_found keywords w word.Constraints h)) [
-  | inl b ↦ inl (same_bytes w (codes "CONSTRAINT") b)
-  | inr b ↦ inr (same_bytes w (codes "CONSTRAINTS") b)
-]
 
 pub left_out_word : (w : Name) → lookup keywords w ≡ Some word.LeftOut → is_among w left_out_words ≡ true
 left_out_word w h = spells_found keywords w word.LeftOut h

@@ -1,10 +1,11 @@
 //! Lists of items.
 
-ghost use Rattle.std.specs.Prelude.{◌≡◌, ◌≤◌, ◌<◌, ◌+◌, ◌++◌, ◌∷◌, [], length, IfOk, IfErr, OnOk};
+ghost use Rattle.std.specs.Prelude.{◌≡◌, ◌≤◌, ◌<◌, ◌+◌, length, IfOk, IfErr};
 ghost use Rattle.tla_config.specs.Private.Gives.{Because, Anything, LeftOutBehind, TooLargeBehind};
 ghost use Rattle.tla_config.specs.Private.GivesValues as spec;
 ghost use Rattle.tla_config.specs.Refusals.{IsLeftOutItem, IsTooLargeItem};
 
+use crate::list::push;
 use crate::names::{name, next_name};
 use crate::refusal::Refusal;
 use crate::statement::Item;
@@ -54,16 +55,6 @@ fn item(alloc: Global, text: &[u8], tokens: &[Token], at: usize) -> Result<Parse
     })
 }
 
-fn push_item(items: &mut Vec<Item>, item: Item) -> Result<(), Refusal>
-    ensures ok { OnOk result (items.new.items ≡ items.old.items ++ item ∷ []) }
-    ensures err { IfErr result (λ e. e ≡ Refusal.NoMemory) }
-{
-    match items.push(item) {
-        Ok(()) => Ok(()),
-        Err(_) => Err(Refusal::NoMemory),
-    }
-}
-
 /// One item or more, with a comma between two of them or without.
 pub fn items(
     alloc: Global,
@@ -79,7 +70,7 @@ pub fn items(
     let mut at = from;
     loop {
         let found = item(alloc, text, tokens, at)?;
-        push_item(&mut items, found.item)?;
+        push(&mut items, found.item)?;
         match next_name(text, tokens, found.end) {
             Some(next) => at = next,
             None => {

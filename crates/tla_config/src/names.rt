@@ -1,8 +1,9 @@
 //! Lists of names.
 
-ghost use Rattle.std.specs.Prelude.{◌≡◌, ◌≤◌, ◌<◌, ◌++◌, ◌∷◌, [], length, IfSome, IfOk, IfErr, OnOk};
+ghost use Rattle.std.specs.Prelude.{◌≤◌, ◌<◌, length, IfSome, IfOk, IfErr, OnOk};
 ghost use Rattle.tla_config.specs.Private.Gives as spec;
 
+use crate::list::push;
 use crate::refusal::Refusal;
 use crate::tokens::{is_kind, name_at, written};
 use std::alloc::Global;
@@ -42,16 +43,6 @@ pub fn next_name(text: &[u8], tokens: &[Token], at: usize) -> Option<usize>
     }
 }
 
-fn push_name(names: &mut Vec<Written>, name: Written) -> Result<(), Refusal>
-    ensures ok { OnOk result (names.new.items ≡ names.old.items ++ name ∷ []) }
-    ensures err { IfErr result (λ e. e ≡ Refusal.NoMemory) }
-{
-    match names.push(name) {
-        Ok(()) => Ok(()),
-        Err(_) => Err(Refusal::NoMemory),
-    }
-}
-
 /// One name or more, with a comma between two of them or without.
 pub fn names(
     alloc: Global,
@@ -67,7 +58,7 @@ pub fn names(
     let mut at = from;
     loop {
         let name = name(alloc, text, tokens, at)?;
-        push_name(&mut names, name)?;
+        push(&mut names, name)?;
         match next_name(text, tokens, at + 1) {
             Some(next) => at = next,
             None => return Ok(ParsedNames { names, end: at + 1 }),

@@ -13,9 +13,10 @@ use crate::config::Config;
 use crate::error::{DefsCode, DefsError, Source};
 use crate::refusal::Refusal;
 use crate::statements::statements;
-use crate::tokens::{slice_of, token_at};
+use crate::tokens::token_at;
 use std::alloc::Global;
 use tla_lex::{Kind, LexError, Place, Scan, Stop, Token, configuration_tokens};
+use tla_tree::slice_of;
 use tla_value::Text;
 
 fn out_of_memory() -> DefsError

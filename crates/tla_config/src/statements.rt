@@ -1,12 +1,13 @@
 //! The statements of a configuration.
 
-ghost use Rattle.std.specs.Prelude.{◌≡◌, ◌≤◌, ◌<◌, ◌++◌, ◌∷◌, [], length, map, IfErr, IfOk, OnOk};
+ghost use Rattle.std.specs.Prelude.{◌≤◌, ◌<◌, length, map, IfErr, IfOk, OnOk};
 ghost use Rattle.tla_config.specs.Private.Gives as spec;
 ghost use Rattle.tla_config.specs.Refusals.{IsLeftOutWord};
 ghost use Rattle.tla_config.specs.View.{statement_view};
 
 use crate::items::items;
 use crate::keyword::Keyword;
+use crate::list::push;
 use crate::names::{name, names};
 use crate::refusal::Refusal;
 use crate::statement::Statement;
@@ -89,16 +90,6 @@ fn statement(
     }
 }
 
-fn push_statement(statements: &mut Vec<Statement>, statement: Statement) -> Result<(), Refusal>
-    ensures ok { OnOk result (statements.new.items ≡ statements.old.items ++ statement ∷ []) }
-    ensures err { IfErr result (λ e. e ≡ Refusal.NoMemory) }
-{
-    match statements.push(statement) {
-        Ok(()) => Ok(()),
-        Err(_) => Err(Refusal::NoMemory),
-    }
-}
-
 /// The statements of all tokens, CHECK_DEADLOCK at most once among them.
 pub fn statements(alloc: Global, text: &[u8], tokens: &[Token]) -> Result<Vec<Statement>, Refusal>
     ensures found { IfOk result (λ v. spec.AreStatements text.now tokens.now (map statement_view v.items)) }
@@ -116,7 +107,7 @@ pub fn statements(alloc: Global, text: &[u8], tokens: &[Token]) -> Result<Vec<St
         }
         checks = found.statement.checks_too(checks);
         at = found.end;
-        push_statement(&mut statements, found.statement)?;
+        push(&mut statements, found.statement)?;
     }
     Ok(statements)
 }

@@ -8,28 +8,15 @@ use crate::keyword::{Keyword, keyword_of};
 use crate::refusal::Refusal;
 use std::alloc::Global;
 use tla_lex::{Kind, Place, Token};
-use tla_tree::{Word, Written};
-
-/// The token's slice of the text.
-#[tactic(auto, using(crate::proofs::Slices::drop_min, crate::proofs::Slices::take_min))]
-pub fn slice_of(text: &[u8], token: Token) -> &[u8]
-    ensures { result.now ≡ words.word_of text.now token }
-{
-    let rest = &text[token.start.min(text.len())..];
-    let length = token.end.saturating_sub(token.start);
-    &rest[..length.min(rest.len())]
-}
+use tla_tree::{Written, slice_of};
 
 /// The token as it is written, and where.
 pub fn written(alloc: Global, text: &[u8], token: Token) -> Result<Written, Refusal>
     ensures ok { IfOk result (λ w. w ≡ words.written text.now token) }
     ensures err { IfErr result (λ e. e ≡ Refusal.NoMemory) }
 {
-    match slice_of(text, token).to_vec(alloc) {
-        Ok(bytes) => Ok(Written {
-            place: token.place,
-            word: Word::new(bytes),
-        }),
+    match Written::of_token(alloc, text, token) {
+        Ok(word) => Ok(word),
         Err(_) => Err(Refusal::NoMemory),
     }
 }

@@ -1,6 +1,6 @@
 //! Values.
 
-ghost use Rattle.std.specs.Prelude.{◌≡◌, ◌⊎◌, ◌≤◌, ◌<◌, ◌+◌, ◌*◌, ◌^◌, ◌++◌, ◌∷◌, [], ℕ, List, true, false, length, map, slice_get, FitsSigned, OnOk, IfOk, IfErr, IfSome, IfNone};
+ghost use Rattle.std.specs.Prelude.{◌≡◌, ◌⊎◌, ◌≤◌, ◌<◌, ◌+◌, ◌^◌, ℕ, List, true, false, length, map, slice_get, FitsSigned, IfOk, IfErr, IfSome, IfNone};
 ghost use Rattle.std.specs.Int.{w64};
 ghost use Rattle.tla_lex.specs.Words as decimal;
 ghost use Rattle.tla_lex.specs.Strings.{string_text};
@@ -16,14 +16,16 @@ ghost use Rattle.tla_config.specs.Private.GivesValues as spec;
 ghost use Rattle.tla_config.specs.Literals.{number};
 
 use crate::keyword::keyword_of;
+use crate::list::push;
 use crate::refusal::Refusal;
-use crate::tokens::{digits_at, is_kind, slice_of, token_at};
+use crate::tokens::{digits_at, is_kind, token_at};
 use std::alloc::Global;
 use tla_lex::{Kind, Token, string_text};
+use tla_tree::slice_of;
 use tla_value::{SetValue, Text, Value, ValueError};
 
 /// How deep a value may be nested.
-pub const MAX_NESTING: usize = 64;
+pub const MAX_NESTING: usize = tla_value::MAX_NESTING as usize;
 
 /// A value, and the number of the token behind it.
 #[derive(Drop)]
@@ -196,16 +198,6 @@ fn set(values: Vec<Value>, item: usize) -> Result<Value, Refusal>
     }
 }
 
-fn push_value(values: &mut Vec<Value>, value: Value) -> Result<(), Refusal>
-    ensures ok { OnOk result (values.new.items ≡ values.old.items ++ value ∷ []) }
-    ensures err { IfErr result (λ e. e ≡ Refusal.NoMemory) }
-{
-    match values.push(value) {
-        Ok(()) => Ok(()),
-        Err(_) => Err(Refusal::NoMemory),
-    }
-}
-
 /// The number behind this minus sign, in the item of this number.
 fn negated(text: &[u8], tokens: &[Token], item: usize, at: usize) -> Result<ParsedValue, Refusal>
     requires { kind_at Kind.Minus (slice_get tokens.now at) ≡ true }
@@ -279,7 +271,7 @@ fn members(
     }
     loop {
         let found = value(alloc, text, tokens, item, room, at)?;
-        push_value(&mut values, found.value)?;
+        push(&mut values, found.value)?;
         if is_kind(Kind::RightBrace, tokens, found.end) {
             let value = set(values, item)?;
             return Ok(ParsedValue {

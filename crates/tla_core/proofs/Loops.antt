@@ -8,21 +8,13 @@ use Rattle.std.proofs.lemmas.List.{drop_all}
 use Rattle.tla_core.specs.Expr.{Expr}
 use Rattle.tla_core.specs.ExprOf.{expr_of}
 use Rattle.tla_core.specs.declared.expression.Core.{Core}
-use Rattle.tla_core.specs.Fault.{Place, Outcome, ◌>>=◌}
-use Rattle.tla_core.specs.Lists.{all_hold, some_hold, first_passing}
+use Rattle.tla_core.specs.Fault.{Outcome, ◌>>=◌}
+use Rattle.tla_core.specs.Lists.{all_hold}
 
 module _ (test : Tree → Outcome Bool) (items : List Value) (i : ℕ) (x : Value) where
   pub all_hold_step : x ≡ get_or items i x → i < length items → test (tree_of x) ≡ Ok true → all_hold test (map tree_of (drop i items)) ≡ all_hold test (map tree_of (drop (i + 1) items))
   all_hold_step e h f =
       rw (add-one, drop-cons items i x h) (ap (λ o. o >>= λ holds. cond holds (all_hold test (map tree_of (drop (suc i) items))) (Ok false)) (ap (λ y. test (tree_of y)) (sym e) ∙ f))
-
-  pub some_hold_step : x ≡ get_or items i x → i < length items → test (tree_of x) ≡ Ok false → some_hold test (map tree_of (drop i items)) ≡ some_hold test (map tree_of (drop (i + 1) items))
-  some_hold_step e h f =
-      rw (add-one, drop-cons items i x h) (ap (λ o. o >>= λ holds. cond holds (Ok true) (some_hold test (map tree_of (drop (suc i) items)))) (ap (λ y. test (tree_of y)) (sym e) ∙ f))
-
-  pub first_passing_step : (p : Place) → x ≡ get_or items i x → i < length items → test (tree_of x) ≡ Ok false → first_passing p test (map tree_of (drop i items)) ≡ first_passing p test (map tree_of (drop (i + 1) items))
-  first_passing_step p e h f =
-      rw (add-one, drop-cons items i x h) (ap (λ o. o >>= λ holds. cond holds (Ok (tree_of (get_or items i x))) (first_passing p test (map tree_of (drop (suc i) items)))) (ap (λ y. test (tree_of y)) (sym e) ∙ f))
 
 -- a test of each of some expressions, from one of them on
 module _ (test : Expr → Bool) (cores : List Core) (i : ℕ) (x : Core) where

@@ -26,9 +26,6 @@ failed at = Err at
 no_ok : (at : Place) (b : Behaviour) → failed at ≡ Ok b → ⊥
 no_ok at b p = let z : ⊥ = cc in z
 
-heads : {X : Type 0} (x y : X) (xs ys : List X) → x ∷ xs ≡ y ∷ ys → x ≡ y
-heads x y xs ys p = cc
-
 tails : {X : Type 0} (x y : X) (xs ys : List X) → x ∷ xs ≡ y ∷ ys → xs ≡ ys
 tails x y xs ys p = cc
 

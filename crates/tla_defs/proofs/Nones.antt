@@ -104,9 +104,6 @@ no_names us cs e p m h =
     let z : ⊥ = cc in
     z
 
-pub refusal_stops : (us : List UnitTree) (config : ConfigTree) (e : DefsError) → refused us config ≡ Some e → (m : ModelTree) → IsModel us config.statements m → ⊥
-refusal_stops us config e p m h = let q = no_refusal us config m h in cc
-
 -- the first circle is one
 circle_stops : (ls : List Lead) (is : List Item) (w : Written) → IsFirstCircle ls is w → AreStraight ls is → ⊥
 circle_stops ls [] w c h = c

@@ -1,5 +1,5 @@
 -- The conjuncts of an initial predicate: where one has none of its own within the limits, the whole has none.
-use Rattle.std.proofs.Common.{◌≡◌, ◌≤◌, refl, ap, sym, subst, inl, inr, arith, length, get_or, List, [], ◌∷◌, Some}
+use Rattle.std.proofs.Common.{◌≡◌, ◌≤◌, ap, sym, subst, inl, inr, arith, length, get_or, List, [], ◌∷◌, Some}
 use Rattle.std.specs.Borrow.{Bor}
 use Rattle.tla_core.specs.Expr.{Expr, Exprs, conjunction, more_exprs}
 use Rattle.tla_model.specs.Size.{nodes, depth, nodes_each, depth_each}
@@ -118,15 +118,6 @@ pub too_long : (σ : Scope) (ts : List Tree) (i : Tree) → conjunction_of ts �
 too_long σ [] i p l e h = omega (arith, l)
 too_long σ (t ∷ []) i p l e h = omega (arith, l)
 too_long σ (t ∷ u ∷ ts) i p l e h = list_too_long σ (place t) (t ∷ u ∷ ts) l e (subst (λ v. IsInitial σ v e) (sym (same_tree _ i p)) h)
-
--- what the first conjunct and the others are, together
-pub of_one : (t : Bor s.Expr) (others : List (Bor s.Expr)) → length others ≡ 0 → conjunction_of (seen (t ∷ others)) ≡ Some (tree_at t)
-of_one t [] h = refl
-of_one t (u ∷ others) h = absurd (omega arith)
-
-pub of_more : (t : Bor s.Expr) (others : List (Bor s.Expr)) → (length others ≡ 0 → ⊥) → conjunction_of (seen (t ∷ others)) ≡ Some (Junction (place (tree_at t)) bullet.And (trees (seen (t ∷ others))))
-of_more t [] h = absurd (h refl)
-of_more t (u ∷ others) h = refl
 
 pub lacks_first : (σ : Scope) (ts : List (Bor s.Expr)) (t : Bor s.Expr) → 1 ≤ length ts → t ≡ get_or ts 0 t → ((x : Expr) → IsInitial σ (tree_at t) x → ⊥) → LacksState σ (seen ts)
 lacks_first σ [] t n e l = absurd (omega (arith, n))

@@ -1,6 +1,6 @@
 -- The definitions of a module in a table.
 use Rattle.std.proofs.Common.{◌≡◌, ◌≤◌, ◌<◌, ◌+◌, ◌-◌, ◌*◌, ℕ, suc, refl, ap, sym, ◌∙◌, arith, Bool, true, false, true≢false, List, [], ◌∷◌, ◌++◌, length, option_map, Option, Some, None, if◌then◌else◌, slice_get}
-use Rattle.std.specs.Prelude.{unwrap_or, is_some}
+use Rattle.std.specs.Prelude.{unwrap_or}
 use Rattle.std.specs.Borrow.{Bor}
 use Rattle.std.specs.Map.{lookup}
 use Rattle.std.specs.Str.{bytes_eq}
@@ -61,17 +61,6 @@ module _ (es : List Row) (k : Bor Name) (d : Body) (unfound : d.is_found ≡ fal
       at None h true g = rw (grown x None h, h, g) unfound
       at None h false g = rw (grown x None h, h, g) refl
       at (Some b) h c g = rw (grown x (Some b) h, h) refl
-
--- a name that is known already
-pub known_body : (es : List Row) (k : Name) (e : Tree) (x : Name) (o : Option Tree) → is_some (definition_at es k) ≡ true → or_else (body_at es x) o ≡ or_else (body_at es x) (body_if (bytes_eq x k) e o)
-known_body es k e x o h = at (definition_at es x) refl (bytes_eq x k) refl
-  where
-    at : (b : Option Body) → definition_at es x ≡ b → (c : Bool) → bytes_eq x k ≡ c → or_else (body_at es x) o ≡ or_else (body_at es x) (body_if (bytes_eq x k) e o)
-    at (Some b) g c m = rw g refl
-    at None g false m = rw (g, m) refl
-    at None g true m =
-        let none : is_some (definition_at es k) ≡ false = ap (λ y. is_some (definition_at es y)) (sym (same_name x k m)) ∙ ap (λ b. is_some b) g in
-        absurd (true≢false (sym h ∙ none))
 
 -- One definition more is known to be of the class.
 module _ (es : List Row) (is : List Item) (k : Bor Name) (d e : Body) (is_there : definition_at es k.now ≡ Some d) (unfound : d.is_found ≡ false) (tree : e.tree ≡ d.tree) (found : e.is_found ≡ true) where
@@ -169,12 +158,6 @@ module _ (f : Property) (grows : Grows f) (es : List Row) (is : List Item) (k : 
     };
   }
 
-pub same_definitions : (f : Property) (es : List Row) (is : List Item) → SameDefinitions f es es is
-same_definitions f es is = record { bodies = λ x. refl; many = refl; sound = λ g. g }
-
-pub same_again : (f : Property) (es ms gs : List Row) (is : List Item) → SameDefinitions f es ms is → SameDefinitions f ms gs is → SameDefinitions f es gs is
-same_again f es ms gs is h g = record { bodies = λ x. g.bodies x ∙ h.bodies x; many = g.many ∙ h.many; sound = λ s. g.sound (h.sound s) }
-
 -- where a name's definition stands
 record IsRow (es : List Row) (d : Body) : Type 0 where
   number : ℕ
@@ -231,14 +214,6 @@ module _ (f : Property) (grows : Grows f) (es : List Row) (is : List Item) (pass
       same_answer (found_by es is x) (names_with f n (bodies_by es is) x)
       (λ h. let most = few es in deeper_within f grows (bodies_by es is) (found_count es) n x (omega (arith, most, l)) (g.known x h))
       (λ h. all_names f grows (bodies_by es is) (found_by es is) (λ y q. closed_at y (stands_for is y) refl (stands_for is y >>= λ z. definition_at es z) refl q) n x h) j
-
--- where none is known
-pub none_known : (f : Property) (es : List Row) (is : List Item) → ((x : Name) → found_at es x ≡ false) → AreRight f es is
-none_known f es is h = record { known = λ x g. at x g (stands_for is x) refl }
-  where
-    at : (x : Name) → found_by es is x ≡ true → (o : Option Name) → stands_for is x ≡ o → names_with f (found_count es) (bodies_by es is) x ≡ true
-    at x g None m = let none : found_by es is x ≡ false = rw m refl in absurd (true≢false (sym g ∙ none))
-    at x g (Some y) m = let none : found_by es is x ≡ false = rw m (h y) in absurd (true≢false (sym g ∙ none))
 
 -- the definitions of a module
 pub bodies_are : (es : List Row) (us : List UnitTree) (is : List Item) → ((x : Name) → body_at es x ≡ body_in us x) → bodies_by es is ≡ body_of us is

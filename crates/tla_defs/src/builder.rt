@@ -31,7 +31,7 @@ ghost use Rattle.tla_defs.specs.Private.Specified.{IsOnly};
 use crate::behaviour::{Behaviour, named_behaviour};
 use crate::global::global_scope;
 use crate::meant::{initial_predicate, meaning, next_action};
-use std::alloc::{AllocFailed, Global};
+use std::alloc::Global;
 use tla_config::{Config, DefsCode, DefsError, Source, Statement};
 use tla_core::Core;
 use tla_expand::Scopes;
@@ -110,20 +110,14 @@ fn constraints_named<'a>(
     Ok(names)
 }
 
-/// The refusal of one more part where there is no room for it. It lets the part go, so that its callers needn't tell its kinds apart.
-fn no_room<T: Drop>(_part: AllocFailed<T>) -> DefsError
-    ensures { result.code ≡ Memory }
-{
-    no_memory()
-}
-
-fn push(predicates: &mut Vec<StatePredicate>, predicate: StatePredicate) -> Result<(), DefsError>
-    ensures ok { OnOk result (predicates.new.items ≡ predicates.old.items ++ predicate ∷ []) }
+/// Adds an item behind the others. The only error is want of memory.
+fn push<T: Drop>(items: &mut Vec<T>, item: T) -> Result<(), DefsError>
+    ensures ok { OnOk result (items.new.items ≡ items.old.items ++ item ∷ []) }
     ensures err { IfErr result (λ e. e.code ≡ Memory) }
 {
-    match predicates.push(predicate) {
+    match items.push(item) {
         Ok(()) => Ok(()),
-        Err(refused) => Err(no_room(refused)),
+        Err(_) => Err(no_memory()),
     }
 }
 
@@ -228,21 +222,11 @@ fn assumptions<'a>(
     while let [first, rest @ ..] = left {
         if let Unit::Assume(_, _, body) = first {
             let core = assumption(alloc, scopes, body)?;
-            push_assumption(&mut assumptions, core)?;
+            push(&mut assumptions, core)?;
         }
         left = rest;
     }
     Ok(assumptions)
-}
-
-fn push_assumption(assumptions: &mut Vec<Core>, assumption: Core) -> Result<(), DefsError>
-    ensures ok { OnOk result (assumptions.new.items ≡ assumptions.old.items ++ assumption ∷ []) }
-    ensures err { IfErr result (λ e. e.code ≡ Memory) }
-{
-    match assumptions.push(assumption) {
-        Ok(()) => Ok(()),
-        Err(refused) => Err(no_room(refused)),
-    }
 }
 
 /// The model of these variables, items, names and statements.

@@ -14,6 +14,7 @@ use crate::fairness::is_fair;
 use crate::table::Definitions;
 use std::alloc::Global;
 use tla_config::{DefsCode, DefsError, Source};
+use tla_expand::MAX_NODES;
 use tla_lex::Place;
 use tla_names::{no_memory, refusal_at};
 use tla_tree::{Expr, Prefix, Step};
@@ -110,7 +111,7 @@ impl<'a> Parts<'a> {
         ensures yes { result ≡ true → AreFew self.now }
         ensures no { result ≡ false → AreFew self.now → ⊥ }
     {
-        self.steps.len() < 2 && self.initial.len() <= 200_000
+        self.steps.len() < 2 && self.initial.len() <= MAX_NODES
     }
 
     /// The refusal of more than a few conjuncts, where SPECIFICATION stands at this place: of two steps, or of an initial

@@ -43,10 +43,6 @@ one_item (y ∷ z ∷ rest) x e h = absurd (omega arith)
 pub one_list : (p : Place) (ts : List Tree) (t : Tree) (xs : List Tree) → ts ≡ t ∷ [] → as_set p t ≡ Ok xs → each (as_set p) ts ≡ Ok (xs ∷ [])
 one_list p ts t xs e h = ap (each (as_set p)) e ∙ ap (λ (o : Outcome (List Tree)). o >>= λ y. Ok (y ∷ [])) h
 
-pub one_long : (xs : List Tree) → length (choices (xs ∷ [])) ≡ length xs
-one_long [] = refl
-one_long (x ∷ xs) = ap suc (one_long xs)
-
 pub rule_is : (p : Place) (ts vs : List Tree) (lists : List (List Tree)) → each (as_set p) ts ≡ Ok lists → function_rule p ts vs ≡ function_on p (choices lists) vs
 rule_is p ts vs lists h = ap (λ (o : Outcome (List (List Tree))). o >>= λ ls. function_on p (choices ls) vs) h
 

@@ -138,9 +138,6 @@ pub cond-err : {A : Type 0} (b : Bool) (r : Outcome A) (f : Fault) (y : A) → c
 cond-err true r f y h = cc
 cond-err false r f y h = h
 
-pub ok-same : {A : Type 0} (x y : A) (r : Outcome A) → r ≡ Ok x → r ≡ Ok y → x ≡ y
-ok-same x y r h j = cc
-
 ok-ok : (x y : Tree) → (let r : Outcome Tree = Ok x in r ≡ Ok y) → x ≡ y
 ok-ok x y h = cc
 

@@ -27,7 +27,7 @@ use Rattle.tla_core.specs.declared.fault.FaultCode.TheVariants.{NoField}
 use Rattle.tla_core.specs.Fault.{fault}
 use Rattle.tla_eval.proofs.Members.{and-both, both-and, or-cases, or-first, or-second, eq-true, eq-refl, member-append, member-filter, pairs-entries, bind-ok, set-same, made-sized, cond-first, into, member-functions}
 use Rattle.tla_eval.proofs.TwoSets.{then-ok, not-there, cond-and, all-by, has-elements}
-use Rattle.tla_eval.proofs.Products.{Gives, gives-sets, AllKnow}
+use Rattle.tla_eval.proofs.Products.{Gives, gives-sets}
 
 -- ---- records
 abbrev pub FieldsKnow : List (List ℕ × Meaning) → Type 0
@@ -124,10 +124,6 @@ pub no-record : (v : Tree) (fs : List (List ℕ × List Tree)) → ((c : Pairs) 
 no-record v fs h =
     member-filter (fields_fit fs) v (functions_of (set_of (keys_of fs)) (flat_map (λ (f : List ℕ × List Tree). f.1) fs))
     ∙ ap (λ b. b && fields_fit fs v) (not-there v (λ c. fun (pairs (zip (set_of (keys_of fs)) c))) (choices (map (λ (x : Tree). flat_map (λ (f : List ℕ × List Tree). f.1) fs) (set_of (keys_of fs)))) λ c. h (pairs (zip (set_of (keys_of fs)) c)))
-
-pub parts-know : (fs : List (List ℕ × Meaning)) → FieldsKnow fs → AllKnow (parts_of fs)
-parts-know [] hs = tt
-parts-know (f ∷ fs) hs = (hs.0, parts-know fs hs.1)
 
 pub knows-records : (at : Place) (fs : List (List ℕ × Meaning)) → FieldsKnow fs → KnowsItsMembers (means-records at fs)
 knows-records at fs hs = record {

@@ -14,17 +14,14 @@ ghost use Rattle.tla_eval.specs.Gives.{Gives, GivesTruth};
 ghost use Rattle.tla_eval.specs.Private.Environment.{tree_of_evaluated};
 ghost use Rattle.tla_eval.specs.Private.Elements.{has_rule, stands_rule};
 
-use crate::elements::{MAX_MEMBERS, fits_range};
+use crate::elements::fits_range;
 use crate::environment::Evaluated;
 use crate::operators::{binary, two_ints};
 use crate::rules::copied;
 use crate::sets::{contains, made_set};
 use std::alloc::Global;
 use tla_core::{Binary, Fault, Place};
-use tla_value::{SetValue, Value};
-
-/// How deep a member is nested at least that makes its set too deep.
-const MAX_NESTING: u64 = 64;
+use tla_value::{MAX_ELEMENTS, MAX_NESTING, SetValue, Value};
 
 /// Whether what an operator gives has a value as a member. A range is not made.
 pub(crate) fn two_have(
@@ -105,7 +102,7 @@ fn are_within(values: &[Evaluated<'_>]) -> bool
     ensures few { result ≡ true → length values.now ≤ 1000000 }
     ensures shallow { result ≡ true → deepest (trees (map tree_of_evaluated values.now)) < 64 }
 {
-    if values.len() > MAX_MEMBERS {
+    if values.len() > MAX_ELEMENTS {
         return false;
     }
     are_shallow(values)

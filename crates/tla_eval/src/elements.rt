@@ -20,10 +20,7 @@ use crate::rules::{copied, fault_at};
 use crate::sets::members;
 use std::alloc::Global;
 use tla_core::{Binary, Fault, FaultCode, Place, memory};
-use tla_value::{SetValue, Value};
-
-/// The greatest number of members.
-pub(crate) const MAX_MEMBERS: usize = 1_000_000;
+use tla_value::{MAX_ELEMENTS, SetValue, Value};
 
 /// The elements of a set, rising: members that are lent, those of a set that was made, or the numbers from one to another.
 #[derive(Drop)]
@@ -96,7 +93,7 @@ pub(crate) fn fits_range(place: Place, low: i64, high: i64) -> Result<(), Fault>
         return Ok(());
     }
     let steps = high.abs_diff(low);
-    if steps >= MAX_MEMBERS as u64 {
+    if steps >= MAX_ELEMENTS as u64 {
         return Err(fault_at(FaultCode::TooMany, place));
     }
     Ok(())

@@ -11,10 +11,7 @@ use crate::rules::copied;
 use crate::sets::made_set;
 use std::alloc::Global;
 use tla_core::{Fault, Place};
-use tla_value::{SetValue, Value};
-
-/// The most members that a set may have.
-const MAX_MEMBERS: usize = 1_000_000;
+use tla_value::{MAX_ELEMENTS, SetValue, Value};
 
 /// How many values are held at least before doubles are dropped.
 const LEAST_ROOM: usize = 1024;
@@ -74,7 +71,7 @@ impl Gathered {
         }
         sort_once(&mut self.values);
         let left = self.values.len();
-        self.is_full = left > MAX_MEMBERS;
+        self.is_full = left > MAX_ELEMENTS;
         self.room = LEAST_ROOM.max(left.saturating_mul(2));
     }
 

@@ -16,10 +16,7 @@ use crate::operators::two_ints;
 use crate::rules::{copied, fault_at};
 use std::alloc::Global;
 use tla_core::{Fault, FaultCode, Place};
-use tla_value::{FunValue, Value};
-
-/// The greatest number of items.
-const MAX_ITEMS: usize = 1_000_000;
+use tla_value::{FunValue, MAX_ELEMENTS, Value};
 
 /// The pairs of a value that is a sequence.
 #[tactic(auto, using(crate::proofs::Numbered::as_sequence_known, crate::proofs::Numbered::as_sequence_none, crate::proofs::Numbered::few_pairs, crate::proofs::Numbered::shallow_pairs))]
@@ -83,7 +80,7 @@ fn number_items(alloc: Global, values: Vec<Value>) -> Result<Vec<(Value, Value)>
 pub(crate) fn sequence_of(alloc: Global, place: Place, values: Vec<Value>) -> Result<Value, Fault>
     ensures { Gives result (make_sequence place (map tree_of values.items)) }
 {
-    if values.len() > MAX_ITEMS {
+    if values.len() > MAX_ELEMENTS {
         return Err(fault_at(FaultCode::TooMany, place));
     }
     let pairs = number_items(alloc, values)?;

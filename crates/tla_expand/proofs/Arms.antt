@@ -1,5 +1,5 @@
 -- What a form means under primes, from what its parts mean.
-use Rattle.std.proofs.Common.{◌≡◌, ℕ, List, [], ◌∷◌, map, ap, refl, ◌∙◌, Bor, Some, None}
+use Rattle.std.proofs.Common.{◌≡◌, ℕ, List, [], ◌∷◌, map, ap, ◌∙◌, Bor, Some, None}
 use Rattle.tla_core.specs.declared.fault.Place.{Place}
 use Rattle.tla_core.specs.Expr as e
 use Rattle.tla_core.specs.Expr.{cases, product, except}
@@ -7,49 +7,35 @@ use Rattle.tla_tree.specs.declared.tree.Expr as syntax
 use Rattle.tla_tree.specs.declared.tree.Arm.{Arm}
 use Rattle.tla_tree.specs.declared.tree.Field.{Field}
 use Rattle.tla_tree.specs.declared.tree.Update.{Update}
-use Rattle.tla_tree.specs.declared.tree.Binder as bound_names
-use Rattle.tla_tree.specs.Tree.{trees, binders, arms, fields, updates}
-use Rattle.tla_tree.specs.View.{view, group_view, choice_view, field_view, update_view}
+use Rattle.tla_tree.specs.Tree.{trees, arms, fields, updates}
+use Rattle.tla_tree.specs.View.{view, choice_view, field_view, update_view}
 use Rattle.tla_expand.specs.declared.primes.Primes.{Primes}
 use Rattle.tla_expand.specs.declared.nodes.Headed.TheVariants as headed
-use Rattle.tla_expand.specs.declared.nodes.Binders.TheVariants as under
 use Rattle.tla_tree.specs.declared.tree.Step.TheVariants as steps
 use Rattle.tla_expand.specs.declared.nodes.Form.{Form}
 use Rattle.tla_expand.specs.declared.nodes.Form.TheVariants as form
-use Rattle.tla_expand.specs.declared.nodes.One.{One}
 use Rattle.tla_expand.specs.declared.nodes.Two.{Two}
 use Rattle.tla_expand.specs.declared.nodes.Two.TheVariants as twos
-use Rattle.tla_expand.specs.declared.nodes.Three.{Three}
 use Rattle.tla_expand.specs.declared.nodes.Many.{Many}
-use Rattle.tla_expand.specs.declared.nodes.Binding.{Binding}
-use Rattle.tla_expand.specs.declared.nodes.Gather.{Gather}
 use Rattle.tla_expand.specs.declared.nodes.Fielded.{Fielded}
 use Rattle.tla_expand.specs.Maybe.{◌>>=◌, each_of}
 use Rattle.tla_expand.specs.Lists.{exprs, arms_with, fields_of, updates_of}
 use Rattle.tla_expand.specs.Primes.{settled_primes, with_primes}
-use Rattle.tla_expand.specs.Nodes.{one, two, three, many, fielded}
+use Rattle.tla_expand.specs.Nodes.{two, many, fielded}
 use Rattle.tla_expand.specs.Unchanged.{unchanged, changed}
 use Rattle.tla_expand.specs.Meanings.{Scope}
-use Rattle.tla_expand.specs.Bound.{nested, gathered}
-use Rattle.tla_expand.specs.Expand.{expand, expand_each, expand_key, expand_arms, expand_fields, expand_updates, binds_of}
+use Rattle.tla_expand.specs.Expand.{expand, expand_each, expand_key, expand_arms, expand_fields, expand_updates}
 use Rattle.tla_expand.specs.Private.Forms.{form_in}
 use Rattle.tla_expand.specs.Private.Gives.{both, part_in, key_in, arm_in, field_in, update_in, kept_part, changed_in}
-use Rattle.tla_expand.proofs.Made.{one_shown, two_shown, three_shown, many_shown, cases_shown, fielded_shown, product_shown, except_shown}
+use Rattle.tla_expand.proofs.Made.{two_shown, many_shown, cases_shown, fielded_shown, product_shown, except_shown}
 use Rattle.tla_expand.proofs.Lists.{each_in, arms_in, arms_or_in}
 use Rattle.tla_expand.proofs.NamedParts.{fields_in, updates_in}
 use Rattle.tla_expand.proofs.Kept.{kept_settled, changed_shown}
 
 module _ (fm : Form) (σ : Scope) (d : ℕ) (k : Primes) where
-  pub one_form : (p : Place) (f : One) (t : Bor syntax.Expr) → fm ≡ form.One p f t → with_primes k (form_in fm σ d) ≡ (part_in k σ d t.now >>= λ x. Some (one f p x))
-  one_form p f t q = rw q (one_shown f k p (expand (view t.now) σ d))
-
   pub two_form : (p : Place) (f : Two) (a b : Bor syntax.Expr) → fm ≡ form.Two p f a b
       → with_primes k (form_in fm σ d) ≡ (both (part_in k σ d a.now) (part_in k σ d b.now) >>= λ xy. Some (two f p xy.0 xy.1))
   two_form p f a b q = rw q (two_shown f k p (expand (view a.now) σ d) (expand (view b.now) σ d))
-
-  pub three_form : (p : Place) (f : Three) (a b c : Bor syntax.Expr) → fm ≡ form.Three p f a b c
-      → with_primes k (form_in fm σ d) ≡ (both (both (part_in k σ d a.now) (part_in k σ d b.now)) (part_in k σ d c.now) >>= λ t. Some (three f p t.0.0 t.0.1 t.1))
-  three_form p f a b c q = rw q (three_shown f k p (expand (view a.now) σ d) (expand (view b.now) σ d) (expand (view c.now) σ d))
 
   pub many_form : (p : Place) (f : Many) (ts : Bor (List syntax.Expr)) → fm ≡ form.Many p f ts
       → with_primes k (form_in fm σ d) ≡ (each_of (part_in k σ d) ts.now >>= λ xs. Some (many f p (exprs xs)))
@@ -72,14 +58,6 @@ module _ (fm : Form) (σ : Scope) (d : ℕ) (k : Primes) where
 
   pub unchanged_form : (p : Place) (t : Bor syntax.Expr) → fm ≡ form.Unchanged p t → with_primes k (form_in fm σ d) ≡ kept_part (settled_primes k) p σ d t.now
   unchanged_form p t q = rw q (kept_settled k p (expand (view t.now) σ d))
-
-  pub binders_form : (p : Place) (f : Binding) (bs : Bor (List bound_names.Binder)) (t : Bor syntax.Expr) → fm ≡ form.Binders p (under.Nested f) bs t
-      → with_primes k (form_in fm σ d) ≡ with_primes k (nested f p (binds_of (binders (map group_view bs.now)) σ) (expand (view t.now)) σ d)
-  binders_form p f bs t q = rw q refl
-
-  pub gather_form : (p : Place) (f : Gather) (bs : Bor (List bound_names.Binder)) (t : Bor syntax.Expr) → fm ≡ form.Binders p (under.Gathered f) bs t
-      → with_primes k (form_in fm σ d) ≡ with_primes k (gathered f p (binds_of (binders (map group_view bs.now)) σ) (expand (view t.now)) σ d)
-  gather_form p f bs t q = rw q refl
 
   pub fields_form : (p : Place) (f : Fielded) (fs : Bor (List Field)) → fm ≡ form.Fields p f fs
       → with_primes k (form_in fm σ d) ≡ (each_of (field_in k σ d) fs.now >>= λ xs. Some (fielded f p (fields_of xs)))

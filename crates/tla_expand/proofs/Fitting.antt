@@ -5,8 +5,6 @@ use Rattle.std.specs.Prelude.{nat_le, nat_lt}
 use Rattle.std.specs.Str.{bytes_eq}
 use Rattle.std.specs.List.{list_all}
 use Rattle.tla_value.specs.Tree as value
-use Rattle.tla_value.specs.declared.value.Value.{Value}
-use Rattle.tla_value.specs.TreeOf.{tree_of}
 use Rattle.tla_core.specs.declared.fault.Place.{Place}
 use Rattle.tla_core.specs.ExprOf.{unary_of, kind_of}
 use Rattle.tla_core.specs.Expr as x
@@ -45,7 +43,7 @@ use Rattle.tla_expand.specs.Unchanged.{unchanged, changed}
 use Rattle.tla_expand.specs.Nodes.{constant_of, largest, one, two, three, binding, gather}
 use Rattle.tla_expand.specs.Operators.{prefix_for, infix_for}
 use Rattle.tla_expand.specs.Library.{library}
-use Rattle.tla_expand.specs.Meanings.{Argument, Meaning, Scope, with_name, unknown, alone, of_one, of_two, of_three, bound_name, variable, value_name, parameter, builtin_meaning, meaning_or, standard, with_parameters, operator}
+use Rattle.tla_expand.specs.Meanings.{Argument, Meaning, Scope, with_name, unknown, alone, of_one, of_two, of_three, bound_name, variable, parameter, builtin_meaning, meaning_or, standard, with_parameters, operator}
 use Rattle.tla_core.specs.declared.expression.Opening.{Opening}
 use Rattle.tla_core.specs.Patterns.{items_in}
 use Rattle.tla_expand.specs.Bound.{Names, named, tupled, Bind, bind_each, bind_entry, under, with_each, opening, nested, with_elements, with_items, openings, under_openings, set_for, gathered}
@@ -111,9 +109,6 @@ bound_fits v b i k = alone_fits v b (λ p d. Some (bound p i)) (λ p d l e q. so
 
 pub variable_fits : (v b i : ℕ) → nat_lt i v ≡ true → FitsMeaning v b (variable i)
 variable_fits v b i k = alone_fits v b (λ p d. Some (now p i)) (λ p d l e q. some d v (now p i) e q k)
-
-pub value_fits : (v b : ℕ) (x : Value) → FitsMeaning v b (value_name x)
-value_fits v b x = alone_fits v b (λ p d. Some (constant p (tree_of x))) (λ p d l e q. some d v (constant p (tree_of x)) e q refl)
 
 of_one_fits : (v b : ℕ) (f : Place → Expr → Expr) → ((p : Place) (x : Expr) (d : ℕ) → fits x d v true ≡ true → fits (f p x) d v true ≡ true) → FitsMeaning v b (of_one f)
 of_one_fits v b f k p [] d l r e q = cc

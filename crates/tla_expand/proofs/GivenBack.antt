@@ -15,7 +15,7 @@ use Rattle.tla_expand.specs.Places.{Name}
 use Rattle.tla_expand.specs.Primes.{primes, one_more, with_primes}
 use Rattle.tla_expand.specs.Meanings.{Scope, Argument, Meaning, with_name, parameter, with_parameters, operator}
 use Rattle.tla_expand.specs.Expand.{expand}
-use Rattle.tla_expand.specs.Private.Arguments.{with_more, has_count, argument_at, argument_of, given}
+use Rattle.tla_expand.specs.Arguments.{with_more, has_count, argument_at, argument_of, given}
 use Rattle.tla_expand.specs.Private.Parameters.{IsLast}
 use Rattle.tla_expand.specs.Scopes.{meaning_of, arguments_in}
 use Rattle.tla_expand.proofs.Primed.{once, unprimed}

@@ -12,7 +12,7 @@ use Rattle.tla_tree.specs.Tree as t
 use Rattle.tla_tree.specs.Tree.{Tree, DefinesOperator, DefinesFunction}
 use Rattle.tla_tree.specs.View.{view, definition_view}
 use Rattle.tla_expand.specs.declared.arena.Given.{Given}
-use Rattle.tla_expand.specs.declared.gives.Known.{Known, Outside}
+use Rattle.tla_expand.specs.declared.gives.Known.{Known}
 use Rattle.tla_expand.specs.declared.gives.Known.TheViews as views
 use Rattle.tla_expand.specs.declared.gives.Meant.{Meant}
 use Rattle.tla_expand.specs.declared.gives.Meant.TheVariants.{Expression, Gives, Other}
@@ -24,7 +24,7 @@ use Rattle.tla_expand.specs.Primes.{with_primes}
 use Rattle.tla_expand.specs.Meanings.{Scope, Argument, Meaning, with_name, parameter, operator}
 use Rattle.tla_expand.specs.Bound.{gathered}
 use Rattle.tla_expand.specs.Expand.{expand, definition_in, definitions_in, binds_of}
-use Rattle.tla_expand.specs.Private.Arguments.{with_more, argument_at, argument_of, given}
+use Rattle.tla_expand.specs.Arguments.{with_more, argument_at, argument_of, given}
 use Rattle.tla_expand.specs.Private.Known.{Holds, IsSought, IsGiven, IsMeant, IsOperator, ComesTo, GivesBack, defined_name}
 use Rattle.tla_expand.specs.Private.Parameters.{IsAbsent, IsLast}
 use Rattle.tla_expand.specs.Scopes.{arguments_in}
@@ -38,9 +38,6 @@ passed m y x σ τ e q = ap (λ (ρ : Scope). ρ x) e ∙ rw q refl
 hit : (m : Meaning) (y x : Name) (σ τ : Scope) → τ ≡ with_name y m σ → bytes_eq y x ≡ true → τ x ≡ m
 hit m y x σ τ e q = ap (λ (ρ : Scope). ρ x) e ∙ rw q refl
 
-pub sought_self : (x : Name) (known : Known) → IsSought x known known
-sought_self x known = λ ρ args τ h. (τ, h, refl)
-
 pub sought_more : (x : Name) (known at : Known) (y : Bor (List ℕ)) (w : Meant) (rest : Bor Known) → at ≡ views.Named y w rest → bytes_eq y.now x ≡ false → IsSought x known at → IsSought x known rest.now
 sought_more x known at y w rest e q s = λ ρ args τ h.
     let u = s ρ args τ h in
@@ -51,33 +48,11 @@ sought_more x known at y w rest e q s = λ ρ args τ h.
 abbrev pub IsPassed : Name → Known → Known → Type 0
 IsPassed x from to = (ρ : Scope) (args : List Argument) (τ : Scope) → Holds ρ from args τ → (others : List Argument) × (σ : Scope) × Holds ρ to others σ × (τ x ≡ σ x)
 
-pub passed_self : (x : Name) (known : Known) → IsPassed x known known
-passed_self x known = λ ρ args τ h. (args, τ, h, refl)
-
-pub passed_named : (x : Name) (known at : Known) (y : Bor (List ℕ)) (w : Meant) (rest : Bor Known) → at ≡ views.Named y w rest → bytes_eq y.now x ≡ false → IsPassed x known at → IsPassed x known rest.now
-passed_named x known at y w rest e q s = λ ρ args τ h.
-    let u = s ρ args τ h in
-    let v = rw e at u.2 in
-    (u.0, v.0, v.2, u.3 ∙ passed v.1 y.now x v.0 u.1 v.4 q)
-
 pub passed_parameters : (x : Name) (known at : Known) (ws : Bor (List Written)) (rest : Bor Known) → at ≡ views.Parameters ws rest → IsAbsent x ws.now → IsPassed x known at → IsPassed x known rest.now
 passed_parameters x known at ws rest e a s = λ ρ args τ h.
     let u = s ρ args τ h in
     let v = rw e at u.2 in
     (v.0, v.1, v.2, u.3 ∙ absent_same ws.now u.0 v.1 u.1 x a v.3)
-
-pub given_outside : (ρ : Scope) (x : Name) (known at : Known) (n : ℕ) (g : Given) → at ≡ Outside → ρ x ≡ given n g → IsPassed x known at → IsGiven ρ known x n g
-given_outside ρ x known at n g e k s = λ args τ h.
-    let u = s ρ args τ h in
-    let v = rw e at u.2 in
-    u.3 ∙ ap (λ (σ : Scope). σ x) v ∙ k
-
-pub given_named : (ρ : Scope) (x : Name) (known at : Known) (y : Bor (List ℕ)) (w : Meant) (rest : Bor Known) (n : ℕ) (g : Given) → at ≡ views.Named y w rest → bytes_eq y.now x ≡ true → w ≡ Gives n g → IsPassed x known at
-    → IsGiven ρ known x n g
-given_named ρ x known at y w rest n g e q k s = λ args τ h.
-    let u = s ρ args τ h in
-    let v = rw (e, k) at u.2 in
-    u.3 ∙ hit v.1 y.now x v.0 u.1 v.4 q ∙ v.3
 
 -- a name that is a parameter
 pub name_ends : (ρ : Scope) (a : Part) (w : Written) (at : Known) (ws : Bor (List Written)) (rest : Bor Known) (g : Given) → view a.tree.now ≡ t.Name w → IsSought w.word a.known.now at → at ≡ views.Parameters ws rest → IsLast w.word ws.now g.index

@@ -8,9 +8,10 @@ use Rattle.std.proofs.lemmas.List.{get_or-set_other, length-map, map-append, tak
 use Rattle.std.specs.Str.{bytes_eq}
 use Rattle.tla_expand.specs.declared.arena.Entry.{Entry}
 use Rattle.tla_expand.specs.declared.entries.Node.{Node}
+use Rattle.tla_expand.specs.Listed.{entries_of}
 use Rattle.tla_expand.specs.Places.{Name}
 use Rattle.tla_expand.specs.Scopes.{scope_at, AreLinked}
-use Rattle.tla_expand.specs.Private.Index.{Found, nowhere, found_of, entry_found, found_behind, found_at, hash_of, slot_of, jump_for, entries_of, IsNode, AreNodes, AreIndexed}
+use Rattle.tla_expand.specs.Private.Index.{Found, nowhere, found_of, entry_found, found_behind, found_at, hash_of, slot_of, jump_for, IsNode, AreNodes, AreIndexed}
 use Rattle.tla_expand.proofs.Hashes.{slot_nearer, slot_farther, other_name}
 use Rattle.tla_expand.proofs.Links.{find_miss, below_at, below_rest}
 

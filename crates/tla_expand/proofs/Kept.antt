@@ -5,14 +5,14 @@ use Rattle.tla_core.specs.Expr.{Unequal, Expr, Exprs, constant, bound, now, next
 use Rattle.tla_expand.specs.declared.primes.Primes.{Primes}
 use Rattle.tla_expand.specs.declared.primes.Primes.TheVariants.{Never, Once, Twice}
 use Rattle.tla_expand.specs.Maybe.{◌>>=◌}
-use Rattle.tla_expand.specs.Primes.{primes, primes_each, primes_fields, primes_arms, primes_updates, one_more}
+use Rattle.tla_expand.specs.Primes.{primes, primes_each, one_more}
 use Rattle.tla_expand.specs.Primes.{settled_primes}
 use Rattle.tla_expand.specs.Nodes.{kept}
 use Rattle.tla_expand.specs.Unchanged.{unchanged, unchanged_each, changed}
 use Rattle.tla_expand.specs.Private.Gives.{both, is_tuple, Plain}
 use Rattle.tla_expand.specs.Primes.{with_primes}
 use Rattle.tla_expand.proofs.Primed.{once, one, two, unprimed}
-use Rattle.tla_expand.proofs.Keeps.{inv, then_once, stays}
+use Rattle.tla_expand.proofs.Keeps.{then_once, stays}
 
 pub unchanged_plain : (p : Place) (e : Expr) → is_tuple e ≡ false → unchanged p e ≡ (primes Once e >>= λ x. Some (equal p x e))
 unchanged_plain p (tuple q es) h = cc
@@ -182,135 +182,3 @@ changed_shown k p (Some y) = changed_of k p y (primes Once y) (once k y)
 
 pub some_plain : (a x : Expr) → is_tuple a ≡ false → Some a ≡ Some x → is_tuple x ≡ false
 some_plain a x t h = let w : a ≡ x = cc in rw (← w) t
-
--- primes make no tuple of what is none
-pub primes_plain : (k : Primes) (e x : Expr) → is_tuple e ≡ false → primes k e ≡ Some x → is_tuple x ≡ false
-primes_plain k (tuple p es) x t h = cc
-primes_plain Never (now p i) x t h = some_plain (now p i) x t h
-primes_plain Once (now p i) x t h = some_plain (next p i) x refl h
-primes_plain Twice (now p i) x t h = cc
-primes_plain Never (next p i) x t h = some_plain (next p i) x t h
-primes_plain Once (next p i) x t h = cc
-primes_plain Twice (next p i) x t h = cc
-primes_plain k (constant p v) x t h = some_plain (constant p v) x t h
-primes_plain k (bound p i) x t h = some_plain (bound p i) x t h
-primes_plain k (kind_set p o) x t h = some_plain (kind_set p o) x t h
-primes_plain k (booleans p) x t h = some_plain (booleans p) x t h
-primes_plain k (unary p o a) x t h =
-    let u = inv (primes k a) (λ x1. Some (unary p o x1)) x h in
-    some_plain _ x refl u.2
-primes_plain k (binary p o a b) x t h =
-    let u = inv (primes k a) (λ x1. primes k b >>= λ z1. Some (binary p o x1 z1)) x h in
-    let v = inv (primes k b) (λ z1. Some (binary p o u.0 z1)) x u.2 in
-    some_plain _ x refl v.2
-primes_plain k (equal p a b) x t h =
-    let u = inv (primes k a) (λ x1. primes k b >>= λ z1. Some (equal p x1 z1)) x h in
-    let v = inv (primes k b) (λ z1. Some (equal p u.0 z1)) x u.2 in
-    some_plain _ x refl v.2
-primes_plain k (sub_seq p a b c) x t h =
-    let u = inv (primes k a) (λ x1. primes k b >>= λ z1. primes k c >>= λ w1. Some (sub_seq p x1 z1 w1)) x h in
-    let v = inv (primes k b) (λ z1. primes k c >>= λ w1. Some (sub_seq p u.0 z1 w1)) x u.2 in
-    let r = inv (primes k c) (λ w1. Some (sub_seq p u.0 v.0 w1)) x v.2 in
-    some_plain _ x refl r.2
-primes_plain k (enumerated p es) x t h =
-    let u = inv (primes_each k es) (λ x1. Some (enumerated p x1)) x h in
-    some_plain _ x refl u.2
-primes_plain k (record_of p fs) x t h =
-    let u = inv (primes_fields k fs) (λ x1. Some (record_of p x1)) x h in
-    some_plain _ x refl u.2
-primes_plain k (conjunction p es) x t h =
-    let u = inv (primes_each k es) (λ x1. Some (conjunction p x1)) x h in
-    some_plain _ x refl u.2
-primes_plain k (disjunction p es) x t h =
-    let u = inv (primes_each k es) (λ x1. Some (disjunction p x1)) x h in
-    some_plain _ x refl u.2
-primes_plain k (implies p a b) x t h =
-    let u = inv (primes k a) (λ x1. primes k b >>= λ z1. Some (implies p x1 z1)) x h in
-    let v = inv (primes k b) (λ z1. Some (implies p u.0 z1)) x u.2 in
-    some_plain _ x refl v.2
-primes_plain k (conditional p a b c) x t h =
-    let u = inv (primes k a) (λ x1. primes k b >>= λ z1. primes k c >>= λ w1. Some (conditional p x1 z1 w1)) x h in
-    let v = inv (primes k b) (λ z1. primes k c >>= λ w1. Some (conditional p u.0 z1 w1)) x u.2 in
-    let r = inv (primes k c) (λ w1. Some (conditional p u.0 v.0 w1)) x v.2 in
-    some_plain _ x refl r.2
-primes_plain k (cases p arms) x t h =
-    let u = inv (primes_arms k arms) (λ x1. Some (cases p x1)) x h in
-    some_plain _ x refl u.2
-primes_plain k (assert p a b) x t h =
-    let u = inv (primes k a) (λ x1. primes k b >>= λ z1. Some (assert p x1 z1)) x h in
-    let v = inv (primes k b) (λ z1. Some (assert p u.0 z1)) x u.2 in
-    some_plain _ x refl v.2
-primes_plain k (for_all p a b) x t h =
-    let u = inv (primes k a) (λ x1. primes k b >>= λ z1. Some (for_all p x1 z1)) x h in
-    let v = inv (primes k b) (λ z1. Some (for_all p u.0 z1)) x u.2 in
-    some_plain _ x refl v.2
-primes_plain k (for_some p a b) x t h =
-    let u = inv (primes k a) (λ x1. primes k b >>= λ z1. Some (for_some p x1 z1)) x h in
-    let v = inv (primes k b) (λ z1. Some (for_some p u.0 z1)) x u.2 in
-    some_plain _ x refl v.2
-primes_plain k (choose p a b) x t h =
-    let u = inv (primes k a) (λ x1. primes k b >>= λ z1. Some (choose p x1 z1)) x h in
-    let v = inv (primes k b) (λ z1. Some (choose p u.0 z1)) x u.2 in
-    some_plain _ x refl v.2
-primes_plain k (image p es a) x t h =
-    let u = inv (primes_each k es) (λ x1. primes k a >>= λ z1. Some (image p x1 z1)) x h in
-    let v = inv (primes k a) (λ z1. Some (image p u.0 z1)) x u.2 in
-    some_plain _ x refl v.2
-primes_plain k (function p es a) x t h =
-    let u = inv (primes_each k es) (λ x1. primes k a >>= λ z1. Some (function p x1 z1)) x h in
-    let v = inv (primes k a) (λ z1. Some (function p u.0 z1)) x u.2 in
-    some_plain _ x refl v.2
-primes_plain k (except p a us) x t h =
-    let u = inv (primes k a) (λ x1. primes_updates k us >>= λ z1. Some (except p x1 z1)) x h in
-    let v = inv (primes_updates k us) (λ z1. Some (except p u.0 z1)) x u.2 in
-    some_plain _ x refl v.2
-primes_plain k (member p a b) x t h =
-    let u = inv (primes k a) (λ x1. primes k b >>= λ z1. Some (member p x1 z1)) x h in
-    let v = inv (primes k b) (λ z1. Some (member p u.0 z1)) x u.2 in
-    some_plain _ x refl v.2
-primes_plain k (not_member p a b) x t h =
-    let u = inv (primes k a) (λ x1. primes k b >>= λ z1. Some (not_member p x1 z1)) x h in
-    let v = inv (primes k b) (λ z1. Some (not_member p u.0 z1)) x u.2 in
-    some_plain _ x refl v.2
-primes_plain k (subset p a b) x t h =
-    let u = inv (primes k a) (λ x1. primes k b >>= λ z1. Some (subset p x1 z1)) x h in
-    let v = inv (primes k b) (λ z1. Some (subset p u.0 z1)) x u.2 in
-    some_plain _ x refl v.2
-primes_plain k (sequences p a) x t h =
-    let u = inv (primes k a) (λ x1. Some (sequences p x1)) x h in
-    some_plain _ x refl u.2
-primes_plain k (power p a) x t h =
-    let u = inv (primes k a) (λ x1. Some (power p x1)) x h in
-    some_plain _ x refl u.2
-primes_plain k (functions p a b) x t h =
-    let u = inv (primes k a) (λ x1. primes k b >>= λ z1. Some (functions p x1 z1)) x h in
-    let v = inv (primes k b) (λ z1. Some (functions p u.0 z1)) x u.2 in
-    some_plain _ x refl v.2
-primes_plain k (records p fs) x t h =
-    let u = inv (primes_fields k fs) (λ x1. Some (records p x1)) x h in
-    some_plain _ x refl u.2
-primes_plain k (product p es) x t h =
-    let u = inv (primes_each k es) (λ x1. Some (product p x1)) x h in
-    some_plain _ x refl u.2
-primes_plain k (cup p a b) x t h =
-    let u = inv (primes k a) (λ x1. primes k b >>= λ z1. Some (cup p x1 z1)) x h in
-    let v = inv (primes k b) (λ z1. Some (cup p u.0 z1)) x u.2 in
-    some_plain _ x refl v.2
-primes_plain k (cap p a b) x t h =
-    let u = inv (primes k a) (λ x1. primes k b >>= λ z1. Some (cap p x1 z1)) x h in
-    let v = inv (primes k b) (λ z1. Some (cap p u.0 z1)) x u.2 in
-    some_plain _ x refl v.2
-primes_plain k (minus p a b) x t h =
-    let u = inv (primes k a) (λ x1. primes k b >>= λ z1. Some (minus p x1 z1)) x h in
-    let v = inv (primes k b) (λ z1. Some (minus p u.0 z1)) x u.2 in
-    some_plain _ x refl v.2
-primes_plain k (filtered p a b) x t h =
-    let u = inv (primes k a) (λ x1. primes k b >>= λ z1. Some (filtered p x1 z1)) x h in
-    let v = inv (primes k b) (λ z1. Some (filtered p u.0 z1)) x u.2 in
-    some_plain _ x refl v.2
-primes_plain k (opened p os a) x t h =
-    let u = inv (primes k a) (λ x1. Some (opened p os x1)) x h in
-    some_plain _ x refl u.2
-primes_plain k (tried p n a) x t h =
-    let u = inv (primes k a) (λ x1. Some (tried p n x1)) x h in
-    some_plain _ x refl u.2

@@ -13,7 +13,7 @@ use Rattle.tla_expand.specs.Bound.{gathered}
 use Rattle.tla_expand.specs.Expand.{expand, binds_of}
 use Rattle.tla_tree.specs.Tree.{binders}
 use Rattle.tla_tree.specs.View.{view, group_view}
-use Rattle.tla_expand.specs.Private.Arguments.{given}
+use Rattle.tla_expand.specs.Arguments.{given}
 use Rattle.tla_expand.specs.Scopes.{meaning_of, at_of, entry_scope, grow, scope_at, IsBelow, LinkedFrom, AreLinked, Extends}
 
 pub agree : (at at2 : ℕ → Scope) (n : ℕ) (w : What) (rest : ℕ) (x : Name) → ((r : ℕ) → r ≤ n → at r ≡ at2 r) → IsBelow n w rest
@@ -117,18 +117,6 @@ below_rest n (Argument t s) rest b = b.1
 below_rest n (Definition xs body home) rest b = b.1
 below_rest n (Gives k g) rest b = b
 below_rest n (Module m) rest b = b
-
--- before another scope
-pub below_other : (n : ℕ) (w : What) (rest other : ℕ) → other ≤ n → IsBelow n w rest → IsBelow n w other
-below_other n (Bound i) rest other h b = h
-below_other n (Variable i) rest other h b = h
-below_other n (Value v) rest other h b = h
-below_other n Unknown rest other h b = h
-below_other n (Argument t s) rest other h b = (b.0, h)
-below_other n (Definition xs body home) rest other h b = (b.0, h)
-below_other n (Function p bs body home) rest other h b = (b.0, h)
-below_other n (Gives k g) rest other h b = h
-below_other n (Module m) rest other h b = h
 
 pub below_more : (n m : ℕ) (w : What) (rest : ℕ) → n ≤ m → IsBelow n w rest → IsBelow m w rest
 below_more n m (Bound i) rest h b = omega arith

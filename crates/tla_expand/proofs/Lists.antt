@@ -119,9 +119,6 @@ key_of_several k a b ts σ d =
     ∙ ap (λ (o : Option Exprs). o >>= λ xs. Some (tuple p xs)) (each_in k (a ∷ b ∷ ts) σ d)
     ∙ tuple_in p (each_of (part_in k σ d) (a ∷ b ∷ ts))
 
-pub key_of_one : (k : Primes) (a : syntax.Expr) (σ : Scope) (d : ℕ) → key_in k σ d (a ∷ []) ≡ part_in k σ d a
-key_of_one k a σ d = refl
-
 -- UNCHANGED of a tuple is UNCHANGED of each part
 kept_parts : (k : Primes) (p : Place) (ts : List syntax.Expr) (σ : Scope) (d : ℕ)
     → ((each_of (part_in k σ d) ts >>= λ xs. Some (exprs xs)) >>= unchanged_each p) ≡ (each_of (kept_part k p σ d) ts >>= λ xs. Some (exprs xs))

@@ -54,30 +54,6 @@ leaf_shown k (leaves.Bound i) p = refl
 leaf_shown k (leaves.Value v) p = refl
 leaf_shown k (leaves.Kinds t) p = refl
 
-abbrev pub IsSmall : Expr → Type 0
-IsSmall e = (nodes e ≡ 1) × (depth e ≡ 1)
-
-some_small : (x e : Expr) → IsSmall x → Some x ≡ Some e → IsSmall e
-some_small x e h q = let w : x ≡ e = cc in rw (← w) h
-
-word_small : (p : Place) (c : Constant) → IsSmall (constant_of p c)
-word_small p True = (refl, refl)
-word_small p False = (refl, refl)
-word_small p Boolean = (refl, refl)
-word_small p String = (refl, refl)
-
-number_small : (p : Place) (b : _) (n : value.Tree) (e : Expr) → (if b then Some (constant p n) else None) ≡ Some e → IsSmall e
-number_small p true n e q = some_small (constant p n) e (refl, refl) q
-number_small p false n e q = cc
-
-pub leaf_small : (l : Leaf) (p : Place) (e : Expr) → leaf l p ≡ Some e → IsSmall e
-leaf_small (leaves.Number n) p e q = number_small p (nat_le n 9223372036854775807) _ e q
-leaf_small (leaves.Text w) p e q = some_small _ e (refl, refl) q
-leaf_small (leaves.Word c) p e q = some_small (constant_of p c) e (word_small p c) q
-leaf_small (leaves.Bound i) p e q = some_small _ e (refl, refl) q
-leaf_small (leaves.Value v) p e q = some_small _ e (refl, refl) q
-leaf_small (leaves.Kinds t) p e q = some_small _ e (refl, refl) q
-
 abbrev pub IsAbove : Expr → ℕ → ℕ → Type 0
 IsAbove e n d = (nodes e ≡ n + 1) × (depth e ≡ d + 1)
 
@@ -87,15 +63,6 @@ one_primed (ones.Unary u) k p x = refl
 one_primed ones.Power k p x = refl
 one_primed ones.Sequences k p x = refl
 one_primed (ones.Field w) k p x = refl
-
-one_nodes : (f : One) (p : Place) (x : Expr) → IsAbove (one f p x) (nodes x) (depth x)
-one_nodes (ones.Unary u) p x = (refl, refl)
-one_nodes ones.Power p x = (refl, refl)
-one_nodes ones.Sequences p x = (refl, refl)
-one_nodes (ones.Field w) p x = (refl, refl)
-
-pub one_larger : (f : One) (p : Place) → IsLarger nodes depth (λ x. one f p x)
-one_larger f p = record { nodes_more = λ x. (one_nodes f p x).0; depth_more = λ x. (one_nodes f p x).1 }
 
 pub one_shown : (f : One) (k : Primes) (p : Place) (o : Option Expr) → with_primes k (o >>= λ x. Some (one f p x)) ≡ (with_primes k o >>= λ x. Some (one f p x))
 one_shown f k p o = primed.one (λ x. one f p x) (primes k) (primes k) (one_primed f k p) o

@@ -12,7 +12,7 @@ use Rattle.tla_expand.specs.Meanings.{Scope, Argument}
 use Rattle.tla_expand.specs.Bound.{Bind, under, nested, last_or}
 use Rattle.tla_expand.specs.Private.Gives.{both, sum_of, larger_of, FailsBy, Fails}
 use Rattle.tla_expand.specs.Primes.{with_primes}
-use Rattle.tla_expand.proofs.Sizes.{Given, first_fails, second_fails, two_give, node_fails, node_gives}
+use Rattle.tla_expand.proofs.Sizes.{Given, second_fails, two_give, node_fails, node_gives}
 use Rattle.tla_expand.proofs.Made.{binding_larger, binding_shown}
 
 abbrev Pair : Type 0
@@ -30,9 +30,6 @@ module _ (f : Binding) (p : Place) (bs : List Bind) (b : Bind) (rest : List Bind
   fails : (s : Failure) (room left : ℕ) → FailsBy (sum_of nodes nodes) (larger_of depth depth) room left s (both (with_primes k (b.1 d)) (with_primes k inner)) → Fails (room + 1) (left + 1) s (with_primes k (nested f p bs body σ d))
   fails s room left h =
       rw whole (node_fails (sum_of nodes nodes) (larger_of depth depth) (λ (xy : Pair). binding f p xy.0 xy.1) s (both (with_primes k (b.1 d)) (with_primes k inner)) room left (binding_larger f p) h)
-
-  pub set_fails : (s : Failure) (room left : ℕ) → Fails room left s (with_primes k (b.1 d)) → Fails (room + 1) (left + 1) s (with_primes k (nested f p bs body σ d))
-  set_fails s room left h = fails s room left (first_fails nodes depth nodes depth s (with_primes k (b.1 d)) (with_primes k inner) room left h)
 
   pub inner_fails : (s : Failure) (room left less : ℕ) (x : Expr) → with_primes k (b.1 d) ≡ Some x → less + nodes x ≡ left → Fails room less s (with_primes k inner)
       → Fails (room + 1) (left + 1) s (with_primes k (nested f p bs body σ d))

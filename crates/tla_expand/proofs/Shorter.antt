@@ -1,5 +1,5 @@
 -- A body that comes to a part of it.
-use Rattle.std.proofs.Common.{◌≡◌, ℕ, zero, suc, ◌+◌, ◌<◌, true, false, List, [], ◌∷◌, length, get_or, drop, map, refl, ap, sym, ◌∙◌, arith, add-one, drop-cons, Option, Some, None, IfSome}
+use Rattle.std.proofs.Common.{◌≡◌, ℕ, zero, suc, ◌+◌, ◌<◌, true, List, [], ◌∷◌, length, get_or, drop, map, refl, ap, sym, ◌∙◌, arith, Option, Some, None, IfSome}
 use Rattle.std.specs.Str.{bytes_eq}
 use Rattle.tla_core.specs.declared.fault.Place.{Place}
 use Rattle.tla_tree.specs.declared.tree.Expr as syntax
@@ -20,12 +20,6 @@ last_at (v ∷ ws) zero w x h g e a = ((rw g at e), a)
 last_at (v ∷ ws) (suc i) w x h g e a =
     let p : suc i + 1 ≡ suc (i + 1) = omega arith in
     last_at ws i w x (omega arith) g e (rw p at a)
-
-pub absent_more : (ws : List Written) (i : ℕ) (w : Written) (x : Name) → i < length ws → w ≡ get_or ws i w → bytes_eq w.word x ≡ false → IsAbsent x (drop (i + 1) ws) → IsAbsent x (drop i ws)
-absent_more ws i w x h g e a =
-    let p : drop i ws ≡ w ∷ drop (suc i) ws = drop-cons ws i w h ∙ ap (λ (y : Written). y ∷ drop (suc i) ws) (sym g) in
-    let q : i + 1 ≡ suc i = add-one i in
-    rw p (e, rw q at a)
 
 -- a name that is no parameter means what it did
 pub absent_same : (ws : List Written) (args : List Argument) (σ τ : Scope) (x : Name) → IsAbsent x ws → with_parameters ws args σ ≡ Some τ → τ x ≡ σ x

@@ -1,12 +1,11 @@
 -- Nodes of lists in memory, and those that they stand for.
-use Rattle.std.proofs.Common.{rules, ◌≡◌, ◌<◌, ℕ, true, List, [], ◌∷◌, length, arith, map, refl, ap, sym, ◌∙◌, Vec, Box, Global, Some, None}
-use Rattle.tla_value.specs.Tree.{truth}
+use Rattle.std.proofs.Common.{rules, ◌≡◌, ◌<◌, ℕ, List, [], ◌∷◌, length, arith, map, refl, ap, sym, ◌∙◌, Vec, Box, Global, Some, None}
 use Rattle.tla_expand.specs.Nodes.{kept}
 use Rattle.tla_core.specs.declared.fault.Place.{Place}
 use Rattle.tla_core.specs.declared.expression.Core.{Core, Row_of-Core, end_of-Core, more_of-Core, items-the_row-Core, Row_of-Core-Cases-1-2, end_of-Core-Cases-1-2, more_of-Core-Cases-1-2, items-the_row-Core-Cases-1-2, Row_of-Core-Record-1-2, end_of-Core-Record-1-2, more_of-Core-Record-1-2, items-the_row-Core-Record-1-2, Row_of-Core-Except-2-3, end_of-Core-Except-2-3, more_of-Core-Except-2-3, items-the_row-Core-Except-2-3, items_shown-the_row-Core-0}
 use Rattle.tla_core.specs.declared.expression.Core.TheViews as views
 use Rattle.tla_core.specs.declared.expression.Core.TheViews.{the_lemmas}
-use Rattle.tla_core.specs.Expr.{Arms, constant, conjunction, disjunction, enumerated, tuple, product, image, function, record_of, records, except, cases, more_exprs, more_fields, more_updates, no_arms, other, more_arms}
+use Rattle.tla_core.specs.Expr.{Arms, conjunction, disjunction, enumerated, tuple, product, image, function, record_of, records, except, cases, more_exprs, more_fields, more_updates, no_arms, other, more_arms}
 use Rattle.tla_core.specs.ExprOf.{expr_of, exprs_of, arms_of, exprs_of_arm}
 use Rattle.tla_core.specs.ExprOf.{fields_of as core_fields, updates_of as core_updates}
 use Rattle.tla_expand.specs.Lists.{exprs, arms_with, fields_of, updates_of, named_part, changed_part}
@@ -32,10 +31,6 @@ expr_tuple at parts = search (rules, the_lemmas, exprs_row)
 pub kept_some : (at : Place) (cs : List Core) → 0 < length cs → conjunction at (exprs (map expr_of cs)) ≡ kept at (exprs (map expr_of cs))
 kept_some at [] h = absurd (omega arith)
 kept_some at (c ∷ cs) h = refl
-
-pub kept_none : (at : Place) (cs : List Core) → length cs ≡ 0 → constant at (truth true) ≡ kept at (exprs (map expr_of cs))
-kept_none at [] h = refl
-kept_none at (c ∷ cs) h = absurd (omega arith)
 
 arms_row : (n : Count) (row : Row_of-Core-Cases-1-2 n) (last : Arms) → arms_of row last ≡ arms_with (map exprs_of_arm (items-the_row-Core-Cases-1-2 n row)) last
 arms_row n end_of-Core-Cases-1-2 last = refl

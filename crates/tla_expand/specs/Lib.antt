@@ -11,8 +11,9 @@ pub mod Bound
 pub mod Expand
 pub mod Covers
 pub mod Scopes
-pub mod Linked
 pub mod Names
 pub mod Fits
 pub mod Laws
+pub mod Listed
+pub mod Arguments
 pub mod Private

@@ -1,7 +1,7 @@
 -- The scope that the names known so far make, and the one that was made before it.
 use Rattle.tla_expand.specs.declared.scopes.Scopes.{Scopes}
 use Rattle.tla_expand.specs.Meanings.{Scope}
-use Rattle.tla_expand.specs.Private.Listed.{listed}
+use Rattle.tla_expand.specs.Listed.{listed}
 use Rattle.tla_expand.specs.Scopes.{scope_at}
 
 abbrev pub scope_of : Scopes → Scope

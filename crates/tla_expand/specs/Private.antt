@@ -1,11 +1,10 @@
 -- What serves the code: no public contract cites these.
 pub mod Forms
 pub mod Parameters
-pub mod Arguments
 pub mod Known
 pub mod Binders
 pub mod Gives
 pub mod Walks
 pub mod Index
 pub mod IndexProps
-pub mod Listed
+pub mod Linked

@@ -1,4 +1,4 @@
--- The scopes that a list of entries makes: entry k makes the scope k + 1 from earlier ones. Scope 0 is that of the modules. Private contracts alone cite this.
+-- The scopes that a list of entries makes: entry k makes the scope k + 1 from earlier ones. Scope 0 is that of the modules.
 use Rattle.std.specs.Prelude.{◌≡◌, ℕ, ◌+◌, ◌≤◌, List, [], ◌∷◌, ◌++◌, map, get_or}
 use Rattle.tla_tree.specs.declared.tree.Expr as s
 use Rattle.tla_tree.specs.Tree.{binders}
@@ -11,7 +11,7 @@ use Rattle.tla_expand.specs.Meanings as x
 use Rattle.tla_expand.specs.Meanings.{Scope, Meaning, standard, with_name, unknown, bound_name, variable, value_name, parameter, operator, builtin_meaning}
 use Rattle.tla_expand.specs.Bound.{gathered}
 use Rattle.tla_expand.specs.Expand.{expand, binds_of}
-use Rattle.tla_expand.specs.Private.Arguments.{given}
+use Rattle.tla_expand.specs.Arguments.{given}
 
 -- the arguments of a use
 abbrev pub arguments_in : List s.Expr → Scope → List x.Argument

@@ -4,7 +4,7 @@ ghost use Rattle.std.specs.Prelude.{◌≡◌, ◌≤◌, ◌<◌, length, get_o
 ghost use Rattle.tla_expand.specs.declared.arena.Entry as arena_entry;
 ghost use Rattle.tla_expand.specs.Meanings.{standard, with_parameters};
 ghost use Rattle.tla_expand.specs.Scopes.{AreLinked, IsBelow, Extends, scope_at, entry_scope, meaning_of, arguments_in};
-ghost use Rattle.tla_expand.specs.Private.Listed.{listed, lent_count};
+ghost use Rattle.tla_expand.specs.Listed.{listed, lent_count};
 
 use crate::entries::Entries;
 use crate::failure::Failure;

@@ -15,11 +15,11 @@ ghost use Rattle.tla_expand.specs.Private.Gives.{part_in, pointed, GivesMany};
 ghost use Rattle.tla_expand.specs.Maybe.{each_of};
 ghost use Rattle.tla_expand.specs.Primes.{with_primes};
 ghost use Rattle.tla_expand.specs.Scopes.{AreLinked, scope_at};
-ghost use Rattle.tla_expand.specs.Private.Listed.{listed};
+ghost use Rattle.tla_expand.specs.Listed.{listed};
 
 use crate::builders::{many_core, place_of};
 use crate::entries::Entries;
-use crate::expand::{Setting, expand};
+use crate::expand::{NODES_BELOW, PATH_BELOW, Setting, expand};
 use crate::expanded::Many as Parts;
 use crate::failure::Failure;
 use crate::nodes::Many;
@@ -44,13 +44,13 @@ fn each_apart<'a>(
     ensures same { GivesMany 299 199999 result (each_of (part_in primes (scope_at (listed entries.old) scope) 0) (pointed trees.now)) }
 {
     let mut parts = Vec::new(alloc);
-    let mut left = 199_999;
+    let mut left = NODES_BELOW;
     for i in 0..trees.len() {
         let at = Setting {
             scope,
             primes,
             bound: 0,
-            room: 299,
+            room: PATH_BELOW,
             left,
             sought,
         };

@@ -12,7 +12,7 @@ ghost use Rattle.tla_expand.specs.Private.Gives.{head_gives, step_gives, IsWithi
 ghost use Rattle.tla_expand.specs.Private.Walks as walks;
 ghost use Rattle.tla_expand.specs.Private.Walks.{IsNamed, IsAmong, IsAdded, IsInside, ArePushed, IsWalkTo, IsWalk, GoesOn, HasEach};
 ghost use Rattle.tla_expand.specs.Scopes.{AreLinked, scope_at};
-ghost use Rattle.tla_expand.specs.Private.Listed.{listed};
+ghost use Rattle.tla_expand.specs.Listed.{listed};
 
 use crate::arena::position;
 use crate::entries::Entries;

@@ -29,7 +29,7 @@ pub(crate) struct Entries<'s, 'a> {
 impl<'s, 'a> Entries<'s, 'a> {
     ghost use Rattle.std.specs.Prelude.{◌≡◌, ◌≤◌, ◌<◌, ◌+◌, ◌∷◌, [], length, take, get_or, OnOk, IfErr};
     ghost use Rattle.tla_expand.specs.Private.Index.{IsNode, found_at};
-    ghost use Rattle.tla_expand.specs.Private.Listed.{listed, lent_count};
+    ghost use Rattle.tla_expand.specs.Listed.{listed, lent_count};
 
     /// No entries.
     pub(crate) fn new(alloc: Global) -> Entries<'s, 'a>

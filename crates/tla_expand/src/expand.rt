@@ -14,7 +14,7 @@ ghost use Rattle.tla_expand.specs.Scopes.{AreLinked, scope_at};
 ghost use Rattle.tla_expand.specs.Private.Forms.{form_in};
 ghost use Rattle.tla_model.specs.Size.{IsWithinLimits};
 ghost use Rattle.tla_expand.specs.Private.Gives.{part_in, key_in, arm_in, field_in, both, made, Gives, GivesTwo};
-ghost use Rattle.tla_expand.specs.Private.Listed.{listed};
+ghost use Rattle.tla_expand.specs.Listed.{listed};
 
 mod binding;
 mod kept;
@@ -40,6 +40,18 @@ use std::alloc::Global;
 use tla_core::{Core, Place};
 use tla_tree::{Arm, Expr, Field, Step};
 use updates::except_node;
+
+/// The most nodes on a path of an expansion.
+pub(crate) const MAX_PATH: usize = 300;
+
+/// The most nodes of an expansion.
+pub const MAX_NODES: usize = 200_000;
+
+/// The most nodes on a path below the outermost node.
+pub(crate) const PATH_BELOW: usize = MAX_PATH - 1;
+
+/// The most nodes below the outermost node.
+pub(crate) const NODES_BELOW: usize = MAX_NODES - 1;
 
 /// Where an expression stands, and how large its expansion may be.
 #[derive(Clone, Copy)]
@@ -444,8 +456,8 @@ pub(crate) fn expansion<'a>(
         scope,
         primes,
         bound: 0,
-        room: 300,
-        left: 200_000,
+        room: MAX_PATH,
+        left: MAX_NODES,
         sought,
     };
     let made = expand(alloc, entries, tree, at)?;

@@ -8,11 +8,11 @@ ghost use Rattle.tla_tree.specs.View.{view, definition_view};
 ghost use Rattle.tla_expand.specs.Meanings.{Scope, operator};
 ghost use Rattle.tla_expand.specs.Expand.{expand};
 ghost use Rattle.tla_expand.specs.Primes.{with_primes};
-ghost use Rattle.tla_expand.specs.Private.Arguments as backs;
+ghost use Rattle.tla_expand.specs.Arguments as backs;
 ghost use Rattle.tla_expand.specs.declared.gives.Meant.TheVariants as meants;
 ghost use Rattle.tla_expand.specs.Private.Known.{IsSought, IsHit, IsGiven, IsMeant, IsOperator, IsTurn, ComesTo, GivesBack, defined_name};
 ghost use Rattle.tla_expand.specs.Scopes.{AreLinked, scope_at, arguments_in};
-ghost use Rattle.tla_expand.specs.Private.Listed.{listed};
+ghost use Rattle.tla_expand.specs.Listed.{listed};
 
 use crate::arena::{Given, What, find};
 use crate::builders::place_of;

@@ -9,7 +9,7 @@ ghost use Rattle.tla_expand.specs.Expand.{expand, definitions_in, definition_in}
 ghost use Rattle.tla_expand.specs.Scopes.{AreLinked, IsBelow, Extends, scope_at, entry_scope, meaning_of, arguments_in};
 ghost use Rattle.tla_expand.specs.Private.Gives.{step_gives, head_gives, IsWithin, Explains};
 ghost use Rattle.tla_expand.specs.Primes.{with_primes};
-ghost use Rattle.tla_expand.specs.Private.Listed.{listed};
+ghost use Rattle.tla_expand.specs.Listed.{listed};
 
 use crate::arena::{Entry, What, bind, enter, find};
 use crate::builders::place_of;

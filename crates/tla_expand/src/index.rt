@@ -4,7 +4,7 @@
 ghost use Rattle.std.specs.Prelude.{◌≡◌, ◌≤◌, ◌<◌, ℕ, length, get_or};
 ghost use Rattle.tla_expand.specs.Places as names;
 ghost use Rattle.tla_expand.specs.Private.Index.{hash_of, slot_of, found_at};
-ghost use Rattle.tla_expand.specs.Private.Listed.{listed};
+ghost use Rattle.tla_expand.specs.Listed.{listed};
 
 use crate::entries::Entries;
 

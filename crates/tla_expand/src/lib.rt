@@ -26,6 +26,7 @@ mod primes;
 mod scopes;
 mod shortened;
 
+pub use expand::MAX_NODES;
 pub use failure::Failure;
 pub use primes::Primes;
 pub use scopes::Scopes;

@@ -9,11 +9,11 @@ ghost use Rattle.tla_tree.specs.Tree.{Name};
 ghost use Rattle.tla_expand.specs.Expand as expansion;
 ghost use Rattle.tla_expand.specs.Primes.{with_primes};
 ghost use Rattle.tla_expand.specs.Scopes.{AreLinked, scope_at};
-ghost use Rattle.tla_expand.specs.Private.Listed.{listed};
+ghost use Rattle.tla_expand.specs.Listed.{listed};
 
 use crate::builders::place_of;
 use crate::entries::Entries;
-use crate::expand::{Setting, expand, node_of};
+use crate::expand::{MAX_NODES, MAX_PATH, NODES_BELOW, PATH_BELOW, Setting, expand, node_of};
 use crate::failure::Failure;
 use crate::heads::{Step, use_of};
 use crate::primes::Primes;
@@ -46,8 +46,8 @@ pub(crate) fn named_expansion<'a>(
                 scope,
                 primes,
                 bound: 0,
-                room: 300,
-                left: 200_000,
+                room: MAX_PATH,
+                left: MAX_NODES,
                 sought,
             };
             let made = expand(alloc, entries, tree, inside)?;
@@ -58,8 +58,8 @@ pub(crate) fn named_expansion<'a>(
                 scope: head.scope,
                 primes: head.primes,
                 bound: 0,
-                room: 299,
-                left: 199_999,
+                room: PATH_BELOW,
+                left: NODES_BELOW,
                 sought,
             };
             let made = node_of(alloc, entries, head.form, inside)?;

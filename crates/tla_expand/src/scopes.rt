@@ -15,10 +15,10 @@ ghost use Rattle.tla_expand.specs.Covers as cover;
 ghost use Rattle.tla_expand.specs.Meanings.{standard, with_name, variable, value_name, operator};
 ghost use Rattle.tla_expand.specs.Expand.{definition_in, expand};
 ghost use Rattle.tla_expand.specs.Scopes.{AreLinked, IsBelow, entry_scope, scope_at};
-ghost use Rattle.tla_expand.specs.Linked.{AreLinked-prop};
+ghost use Rattle.tla_expand.specs.Private.Linked.{AreLinked-prop};
 ghost use Rattle.tla_expand.specs.declared.failure.Failure as failure;
 ghost use Rattle.tla_expand.specs.Primes.{with_primes};
-ghost use Rattle.tla_expand.specs.Private.Listed.{listed, lent_count};
+ghost use Rattle.tla_expand.specs.Listed.{listed, lent_count};
 
 use crate::arena::{Entry, What, enter, find};
 use crate::conjunction::conjunction;

@@ -8,7 +8,7 @@ ghost use Rattle.tla_expand.specs.Meanings.{Scope, Argument, with_parameters, op
 ghost use Rattle.tla_expand.specs.Expand.{expand};
 ghost use Rattle.tla_expand.specs.Private.Parameters.{IsAbsent, IsLast};
 ghost use Rattle.tla_expand.specs.Scopes.{AreLinked, scope_at, arguments_in};
-ghost use Rattle.tla_expand.specs.Private.Listed.{listed};
+ghost use Rattle.tla_expand.specs.Listed.{listed};
 
 use crate::arena::{What, find};
 use crate::entries::Entries;

@@ -3,6 +3,7 @@
 use std::alloc::Global;
 use tla_check::Source;
 use tla_lex::{Kind, Place, Scan, Token, configuration_tokens, tokens};
+use tla_tree::slice_of;
 
 /// The names of the two files, as they are told.
 #[derive(Clone, Copy, Debug)]
@@ -67,8 +68,7 @@ pub(crate) fn core_place(place: Place) -> tla_core::Place {
 
 /// The text of a token.
 pub(crate) fn word<'a>(text: &'a [u8], token: &Token) -> &'a str {
-    let bytes = text.get(token.start..token.end).unwrap_or(&[]);
-    str::from_utf8(bytes).unwrap_or("")
+    str::from_utf8(slice_of(text, *token)).unwrap_or("")
 }
 
 /// Where a name is defined without parameters, or first stands.

@@ -162,10 +162,6 @@ found dashes at (b ∷ rest) end h = by (found (dashes + 1) (at + 1) rest end) (
     by more none false false o e f g k = later (none k)
 
 -- ---- a header is found, and no later than this one
-dash_step : (dashes at : ℕ) (rest : Bytes) → header_from dashes at (45 ∷ rest) ≡ header_from (dashes + 1) (at + 1) rest
-unfolding header_from
-dash_step dashes at rest = refl
-
 header_here : (dashes at : ℕ) (text : Bytes) (n : ℕ) → 4 ≤ dashes → Named text n → header_from dashes at text ≡ Some (at + n)
 unfolding header_from
 header_here dashes at [] n h m = absurd (nothing m.spaces m.whole)

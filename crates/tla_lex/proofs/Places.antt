@@ -47,7 +47,3 @@ column_bound text at = let h = column_all first_place (take at text) (omega arit
 pub column_some : (text : List ℕ) (at : ℕ) → 0 < (place_at text at).column
 unfolding place_at
 column_some text at = some_all first_place (take at text) (omega arith)
-
-pub place_at_start : (text : List ℕ) → place_at text 0 ≡ first_place
-unfolding place_at
-place_at_start text = refl

@@ -9,7 +9,7 @@ use Rattle.indexmap.specs.IndexMap.{insert_entry}
 use Rattle.tla_config.specs.Names.{Name}
 use Rattle.tla_config.specs.Statements.{Item}
 use Rattle.tla_config.specs.declared.statement.Item as c
-use Rattle.tla_names.specs.Firsts.{AreFirst}
+use Rattle.tla_names.specs.Private.Firsts.{AreFirst}
 use Rattle.tla_names.specs.Items.{item_for, replaced_name}
 use Rattle.tla_names.specs.Maybe.{or_else}
 use Rattle.tla_names.specs.Mentions.{item_of}

@@ -5,11 +5,11 @@ use Rattle.std.specs.Borrow.{Bor}
 use Rattle.std.specs.Map.{lookup}
 use Rattle.std.specs.Str.{bytes_eq}
 use Rattle.std.specs.Prelude.{OnOk, OnErr}
-use Rattle.std.proofs.lemmas.List.{append_assoc, length-take-le, take_at}
+use Rattle.std.proofs.lemmas.List.{append_assoc, length-take-le}
 use Rattle.indexmap.specs.IndexMap.{insert_entry}
 use Rattle.tla_config.specs.Names.{Name}
 use Rattle.tla_names.specs.declared.scope.Signature.{Signature}
-use Rattle.tla_names.specs.Latest.{signature_of, arity_in, arity_by, IsTable, KeepBeforeFrom, KeepBefore}
+use Rattle.tla_names.specs.Private.Latest.{signature_of, arity_in, arity_by, IsTable, KeepBeforeFrom, KeepBefore}
 use Rattle.tla_names.specs.Maybe.{or_else}
 use Rattle.tla_names.specs.Scope as names
 use Rattle.tla_names.specs.Scope.{arity}
@@ -94,19 +94,6 @@ shorter xs h =
     let less : length xs - 1 ≤ length xs = omega (arith, h) in
     let is : length (take (length xs - 1) xs) ≡ length xs - 1 = length-take-le (length xs - 1) xs less in
     rw is (omega (arith, h))
-
--- all names but the last
-pub but_last : (σ : names.Scope) (ks : List Signature) (k : Signature) → map signature_of (ks ++ k ∷ []) ≡ σ → map signature_of ks ≡ take (length σ - 1) σ
-but_last σ ks k h =
-    let many : length (map signature_of ks) ≡ length (map signature_of ks ++ signature_of k ∷ []) - 1 = at (map signature_of ks) in
-    rw (sym h, signatures_last ks k) (sym (take_at (map signature_of ks) (signature_of k ∷ []) (length (map signature_of ks ++ signature_of k ∷ []) - 1) many))
-  where
-    grows : (τ : names.Scope) → length (τ ++ signature_of k ∷ []) ≡ suc (length τ)
-    grows [] = refl
-    grows (s ∷ τ) = ap (λ n. suc n) (grows τ)
-
-    at : (τ : names.Scope) → length τ ≡ length (τ ++ signature_of k ∷ []) - 1
-    at τ = let g = grows τ in omega (arith, g)
 
 pub present : {A E P Q : Type 0} (r : Result A E) → OnOk r P → OnErr r Q → (Q → ⊥) → P
 present (Ok x) p q none = p

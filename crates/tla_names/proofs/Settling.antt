@@ -23,9 +23,6 @@ each_among (x ∷ xs) ys h z m = at (is_among x ys) refl h (λ r. each_among xs 
     at false k r rest = let wrong : false ≡ true = rw k at r in let n : ⊥ = cc in absurd n
 
 module _ (ls : List Lead) where
-  pub settled_none : AreSettled ls []
-  settled_none = record { covers = λ y h. absurd (nowhere y h); straight = λ y h. absurd (nowhere y h) }
-
   pub settled_more : (xs : List Name) (x : Name) → AreAmong (next_names ls x) xs → AreSettled ls xs → AreSettled ls (xs ++ x ∷ [])
   settled_more xs x h s = record {
     covers = λ y k. covered y (among_append y xs (x ∷ []) k);

@@ -1,20 +1,12 @@
 -- Names in scope as a stack.
-use Rattle.std.proofs.Common.{◌≡◌, ◌++◌, ℕ, List, [], ◌∷◌, Option, Some, None, arith, map, take, length, refl, sym}
-use Rattle.std.proofs.lemmas.List.{take-map}
+use Rattle.std.proofs.Common.{◌≡◌, ◌++◌, List, [], ◌∷◌, Option, Some, None, arith, map, take, length, refl}
 use Rattle.std.proofs.Math.Seq.{take-append_seam}
-use Rattle.tla_names.specs.declared.scope.Signature.{Signature}
 use Rattle.tla_tree.specs.declared.tree.Expr.{Expr}
 use Rattle.tla_tree.specs.Tree.{trees}
 use Rattle.tla_tree.specs.View.{view}
 use Rattle.tla_names.specs.Maybe.{or_else}
 use Rattle.tla_names.specs.Known.{Misuse, count}
 use Rattle.tla_names.specs.Scope.{Scope}
-
-abbrev pub known : Signature → List ℕ × ℕ
-known k = (k.name.now, k.arity)
-
-pub take_view : (n : ℕ) (ks : List Signature) → map known (take n ks) ≡ take n (map known ks)
-take_view n ks = sym (take-map known n ks)
 
 -- what was pushed since is cut off
 pub cut_back : (σ τ : Scope) → take (length σ) (σ ++ τ) ≡ σ
@@ -27,7 +19,3 @@ count_trees (e ∷ es) = let h = count_trees es in omega (arith, h)
 pub or_else_none : (o : Option Misuse) → or_else o None ≡ o
 or_else_none None = refl
 or_else_none (Some m) = refl
-
-pub or_else_assoc : (a b c : Option ℕ) → or_else (or_else a b) c ≡ or_else a (or_else b c)
-or_else_assoc None b c = refl
-or_else_assoc (Some x) b c = refl

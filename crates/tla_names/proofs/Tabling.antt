@@ -6,7 +6,7 @@ use Rattle.std.specs.List.{list_any}
 use Rattle.std.specs.Str.{bytes_eq}
 use Rattle.indexmap.specs.IndexSet.{insert_key}
 use Rattle.tla_config.specs.Names.{Name, is_among}
-use Rattle.tla_names.specs.Tabled.{IsTabled}
+use Rattle.tla_names.specs.Private.Tabled.{IsTabled}
 use Rattle.tla_names.proofs.Inserted.{same, same_name}
 use Rattle.tla_names.proofs.Keys.{among_keys}
 

@@ -11,8 +11,4 @@ pub mod Open
 pub mod Circles
 pub mod Refusal
 pub mod Mentions
-pub mod Latest
-pub mod LatestProps
-pub mod Tabled
-pub mod Firsts
 pub mod Private

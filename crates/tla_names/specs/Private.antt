@@ -1,3 +1,7 @@
 -- What serves the code: no public contract cites these.
 pub mod Reached
 pub mod Settled
+pub mod Latest
+pub mod LatestProps
+pub mod Tabled
+pub mod Firsts

@@ -7,7 +7,7 @@ ghost use Rattle.tla_config.specs.Statements as config;
 ghost use Rattle.tla_config.specs.View.{item_view, statement_view};
 ghost use Rattle.tla_tree.specs.UnitsView.{unit_view};
 ghost use Rattle.tla_value.specs.Tree as value;
-ghost use Rattle.tla_names.specs.Firsts.{AreFirst, AreFirst-prop};
+ghost use Rattle.tla_names.specs.Private.Firsts.{AreFirst, AreFirst-prop};
 ghost use Rattle.tla_names.specs.Items as spec;
 ghost use Rattle.tla_names.specs.Leads as leads;
 ghost use Rattle.tla_names.specs.Scope as scopes;

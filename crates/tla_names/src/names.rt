@@ -4,7 +4,7 @@ ghost use Rattle.std.specs.Prelude.{◌≡◌, ◌==◌, ◌++◌, ◌∷◌, []
 ghost use Rattle.std.specs.Borrow.{Bor};
 ghost use Rattle.tla_config.specs.declared.error.DefsCode.TheVariants.{Memory};
 ghost use Rattle.tla_config.specs.Names.{is_among};
-ghost use Rattle.tla_names.specs.Tabled.{IsTabled, IsTabled-prop};
+ghost use Rattle.tla_names.specs.Private.Tabled.{IsTabled, IsTabled-prop};
 
 use crate::refusal::{no_memory, text_of};
 use indexmap::IndexSet;

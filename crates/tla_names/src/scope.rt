@@ -7,8 +7,8 @@ ghost use Rattle.tla_tree.specs.Tree.{binders};
 ghost use Rattle.tla_tree.specs.View.{group_view};
 ghost use Rattle.tla_tree.specs.UnitsView.{declared};
 ghost use Rattle.tla_names.specs.Constants.{constants};
-ghost use Rattle.tla_names.specs.Latest.{IsTable, KeepBefore};
-ghost use Rattle.tla_names.specs.LatestProps.{IsTable-prop, KeepBefore-prop};
+ghost use Rattle.tla_names.specs.Private.Latest.{IsTable, KeepBefore};
+ghost use Rattle.tla_names.specs.Private.LatestProps.{IsTable-prop, KeepBefore-prop};
 ghost use Rattle.tla_names.specs.Scope.{arity, plain, bound_names, module_names, extended};
 
 use crate::names::Names;
@@ -38,7 +38,7 @@ pub struct Scope<'a> {
 
 impl<'a> Model for Scope<'a> {
     ghost use Rattle.std.specs.Prelude.{List, ℕ, map};
-    ghost use Rattle.tla_names.specs.Latest.{signature_of};
+    ghost use Rattle.tla_names.specs.Private.Latest.{signature_of};
 
     ghost Value = { List (List ℕ × ℕ) };
 

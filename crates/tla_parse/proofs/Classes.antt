@@ -10,8 +10,8 @@ use Rattle.tla_tree.specs.declared.tree.Quantifier.{Quantifier}
 use Rattle.tla_tree.specs.declared.tree.Constant.{Constant}
 use Rattle.tla_tree.specs.Tree.{Tree}
 use Rattle.tla_parse.specs.Operators.{prefix_of, bullet_of, quantifier_of, constant_of}
-use Rattle.tla_parse.specs.Outcome.{Outcome}
-use Rattle.tla_parse.specs.Reading.{by_class, operand_by}
+use Rattle.tla_parse.specs.Private.Outcome.{Outcome}
+use Rattle.tla_parse.specs.Private.Reading.{by_class, operand_by}
 
 module _ (text : List ℕ) (ts : List Token) (inner : Scope → ℕ → ℕ → Outcome Tree) (most : ℕ) (s : Scope) (t : Token) (at : ℕ) where
   abbrev ByClass : Kind → Type 0

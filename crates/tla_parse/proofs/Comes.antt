@@ -11,7 +11,7 @@ use Rattle.tla_parse.specs.Tokens.{seen, goes_on, Has}
 use Rattle.tla_parse.specs.Kinds.{kind_at}
 use Rattle.tla_parse.specs.Grammar.{Spells}
 use Rattle.tla_parse.specs.Ending.{above, infix_at, may_end}
-use Rattle.tla_parse.specs.Reading.{postfix_at, behind, postfix, climb, operand, level, expr}
+use Rattle.tla_parse.specs.Private.Reading.{postfix_at, behind, postfix, climb, operand, level, expr}
 use Rattle.tla_parse.proofs.Steps.{postfix_more, postfix_done, climb_done}
 use Rattle.tla_parse.proofs.Follow.{end_postfix, end_call, end_plain, stops_plain}
 use Rattle.tla_parse.proofs.Shapes.{spine, spine_depth, tails, tails_depth, top_zero, advances}

@@ -21,8 +21,8 @@ use Rattle.tla_tree.specs.Words.{written}
 use Rattle.tla_parse.specs.Tokens.{seen, goes_on, is_bullet_at, may_follow, Has}
 use Rattle.tla_parse.specs.Kinds.{kind_at}
 use Rattle.tla_parse.specs.Grammar.{Spells, Defines, within}
-use Rattle.tla_parse.specs.ReadingLists.{call, paren}
-use Rattle.tla_parse.specs.Reading.{named, indexed, turn, junction, quantified, chosen, cases, lets, choice, prefix, by_class, operand, definition, expr}
+use Rattle.tla_parse.specs.Private.ReadingLists.{call, paren}
+use Rattle.tla_parse.specs.Private.Reading.{named, indexed, turn, junction, quantified, chosen, cases, lets, choice, prefix, by_class, operand, definition, expr}
 use Rattle.tla_parse.proofs.Inversion.{and_true, ok_to}
 use Rattle.tla_parse.proofs.Steps.{climb_more}
 use Rattle.tla_parse.proofs.Follow.{low_high, prefix_low_high, yields_low, end_mono, stop_by, end_plain, stops_plain, end_infix, sees_infix, not_true}
@@ -209,10 +209,6 @@ module _ (text : List ℕ) (ts : List Token) where
 
   no_stand : (t : Tree) → is_closed t ≡ false → Stands text ts t
   no_stand t h n s from to x c d nc = absurd (let z : ⊥ = cc in z)
-
-  -- a form that no tokens spell
-  none_both : (t : Tree) → ((s : Scope) (from to : ℕ) → Spells text ts s t from to → ⊥) → Both text ts t
-  none_both t h = record { comes = λ n s floor from to x. absurd (h s from to x); stands = λ n s from to x. absurd (h s from to x) }
 
   mutual
     pub main : (t : Tree) → Both text ts t

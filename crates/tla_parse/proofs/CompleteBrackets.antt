@@ -17,11 +17,11 @@ use Rattle.tla_parse.specs.Edges.{depth, depths}
 use Rattle.tla_parse.specs.Tokens.{seen, Has}
 use Rattle.tla_parse.specs.Kinds.{same_kind, kind_at}
 use Rattle.tla_parse.specs.Grammar.{Spells, Listed, Others, is_subscript}
-use Rattle.tla_parse.specs.Outcome.{at_op}
-use Rattle.tla_parse.specs.Ahead.{filters}
-use Rattle.tla_parse.specs.Reading.{expr, operand}
-use Rattle.tla_parse.specs.ReadingLists.{following, exprs, paren}
-use Rattle.tla_parse.specs.ReadingBrackets.{others, subscript, action, fair, filter, image, set_of, brace, tuple, mapping, function_set, behind_first, bracket}
+use Rattle.tla_parse.specs.Private.Outcome.{at_op}
+use Rattle.tla_parse.specs.Private.Ahead.{filters}
+use Rattle.tla_parse.specs.Private.Reading.{expr, operand}
+use Rattle.tla_parse.specs.Private.ReadingLists.{following, exprs, paren}
+use Rattle.tla_parse.specs.Private.ReadingBrackets.{others, subscript, action, fair, filter, image, set_of, brace, tuple, mapping, function_set, behind_first, bracket}
 use Rattle.tla_parse.proofs.Sequence.{Behind, Follows, follows_fit, sequence_complete}
 use Rattle.tla_parse.proofs.NameLists.{seen_within}
 use Rattle.tla_parse.proofs.Lists.{list, trees_list, binders_list, rises}

@@ -10,8 +10,8 @@ use Rattle.tla_parse.specs.Edges.{depth, arms_depth, definition_depth, definitio
 use Rattle.tla_parse.specs.Tokens.{seen, goes_on, Has}
 use Rattle.tla_parse.specs.Kinds.{kind_at}
 use Rattle.tla_parse.specs.Grammar.{Spells, Chosen, MoreChosen, Otherwise, Defines, Defined, is_defined}
-use Rattle.tla_parse.specs.ReadingLists.{following}
-use Rattle.tla_parse.specs.Reading.{arm_at, arms_at, operator, function, defined as read_defined, definition, definitions_at, expr}
+use Rattle.tla_parse.specs.Private.ReadingLists.{following}
+use Rattle.tla_parse.specs.Private.Reading.{arm_at, arms_at, operator, function, defined as read_defined, definition, definitions_at, expr}
 use Rattle.tla_parse.proofs.Sequence.{Behind, Follows, follows_fit, sequence_complete}
 use Rattle.tla_parse.proofs.NameLists.{seen_within, named, names_fit, names_within, names_complete}
 use Rattle.tla_parse.proofs.Lists.{arm_list, definition_list, binders_list, rises}

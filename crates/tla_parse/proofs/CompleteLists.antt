@@ -16,8 +16,8 @@ use Rattle.tla_parse.specs.Tokens.{seen, goes_on, is_bullet_at, may_follow, Has}
 use Rattle.tla_parse.specs.Entries.{is_single, Entry}
 use Rattle.tla_parse.specs.Kinds.{same_kind, kind_at, closing}
 use Rattle.tla_parse.specs.Grammar.{Spells, Items, Listed, Others, Bound, MoreBound, is_some}
-use Rattle.tla_parse.specs.ReadingLists.{following, exprs, some, listing, set_behind, group, one_group, groups}
-use Rattle.tla_parse.specs.Reading.{expr}
+use Rattle.tla_parse.specs.Private.ReadingLists.{following, exprs, some, listing, set_behind, group, one_group, groups}
+use Rattle.tla_parse.specs.Private.Reading.{expr}
 use Rattle.tla_parse.proofs.Sequence.{Behind, Follows, follows_fit, sequence_complete}
 use Rattle.tla_parse.proofs.NameLists.{seen_within}
 use Rattle.tla_parse.proofs.Tuples.{pattern_rise, pattern_complete, single_complete}

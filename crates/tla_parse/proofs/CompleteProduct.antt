@@ -16,8 +16,8 @@ use Rattle.tla_parse.specs.Tokens.{seen, is_suffix, Has}
 use Rattle.tla_parse.specs.Kinds.{same_kind, kind_at}
 use Rattle.tla_parse.specs.Ending.{allows, may_end}
 use Rattle.tla_parse.specs.Grammar.{Spells, Factors}
-use Rattle.tla_parse.specs.ReadingLists.{following}
-use Rattle.tla_parse.specs.Reading.{factor, factors, product, turn, expr}
+use Rattle.tla_parse.specs.Private.ReadingLists.{following}
+use Rattle.tla_parse.specs.Private.Reading.{factor, factors, product, turn, expr}
 use Rattle.tla_parse.proofs.Inversion.{and_true}
 use Rattle.tla_parse.proofs.Sequence.{Behind, sequence_complete}
 use Rattle.tla_parse.proofs.Steps.{climb_more}

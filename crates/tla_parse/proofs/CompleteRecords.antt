@@ -12,9 +12,9 @@ use Rattle.tla_parse.specs.Edges.{depth, fields_depth, key_depth, keys_depth, up
 use Rattle.tla_parse.specs.Tokens.{goes_on, Has, Writes}
 use Rattle.tla_parse.specs.Kinds.{same_kind}
 use Rattle.tla_parse.specs.Grammar.{Spells, Fielded, MoreFields, Leads, Selects, Updated, MoreUpdates, is_path, updating}
-use Rattle.tla_parse.specs.Reading.{expr}
-use Rattle.tla_parse.specs.ReadingLists.{following}
-use Rattle.tla_parse.specs.ReadingBrackets.{entry, entries, record_of, records_of, key_at, path, change, changes, except}
+use Rattle.tla_parse.specs.Private.Reading.{expr}
+use Rattle.tla_parse.specs.Private.ReadingLists.{following}
+use Rattle.tla_parse.specs.Private.ReadingBrackets.{entry, entries, record_of, records_of, key_at, path, change, changes, except}
 use Rattle.tla_parse.proofs.Sequence.{Behind, Follows, follows_fit, sequence_complete}
 use Rattle.tla_parse.proofs.NameLists.{seen_within, named}
 use Rattle.tla_parse.proofs.Lists.{comma_here, rises}

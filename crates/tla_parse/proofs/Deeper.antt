@@ -23,11 +23,11 @@ use Rattle.tla_parse.specs.Tokens.{seen}
 use Rattle.tla_parse.specs.Kinds.{kind_at}
 use Rattle.tla_parse.specs.Grammar.{within}
 use Rattle.tla_parse.specs.Ending.{above, infix_at}
-use Rattle.tla_parse.specs.Outcome.{Outcome}
-use Rattle.tla_parse.specs.ReadingLists.{name_at, following, names, exprs, some, group, one_group, groups, paren}
-use Rattle.tla_parse.specs.Reading.{postfix_at, indexed, behind, postfix, postfixes, turn, climb, junction, quantified, chosen, arm_at, arms_at, cases, operator, function, defined, definition, definitions_at, lets, choice, prefix, by_class, named, operand_by, operand, level, expr, factor, factors, product}
+use Rattle.tla_parse.specs.Private.Outcome.{Outcome}
+use Rattle.tla_parse.specs.Private.ReadingLists.{name_at, following, names, exprs, some, group, one_group, groups, paren}
+use Rattle.tla_parse.specs.Private.Reading.{postfix_at, indexed, behind, postfix, postfixes, turn, climb, junction, quantified, chosen, arm_at, arms_at, cases, operator, function, defined, definition, definitions_at, lets, choice, prefix, by_class, named, operand_by, operand, level, expr, factor, factors, product}
 use Rattle.tla_tree.specs.declared.tree.Fairness.TheVariants as fa
-use Rattle.tla_parse.specs.ReadingBrackets.{fair, brace, tuple, bracket}
+use Rattle.tla_parse.specs.Private.ReadingBrackets.{fair, brace, tuple, bracket}
 use Rattle.tla_parse.proofs.DeeperLists.{Refines, bind, needs, more_room, ops, choices, sequences, somes, nameds, group_deeper, one_group_deeper, parens}
 use Rattle.tla_parse.proofs.DeeperBrackets.{fairs, braces, tuples, brackets}
 

@@ -18,10 +18,10 @@ use Rattle.tla_parse.specs.Edges.{depth}
 use Rattle.tla_parse.specs.Tokens.{seen}
 use Rattle.tla_parse.specs.Kinds.{kind_at}
 use Rattle.tla_parse.specs.Grammar.{updating}
-use Rattle.tla_parse.specs.Ahead.{binds, filters}
-use Rattle.tla_parse.specs.Outcome.{Outcome, at_op}
-use Rattle.tla_parse.specs.ReadingLists.{name_at, following, exprs, some, group, one_group, groups}
-use Rattle.tla_parse.specs.ReadingBrackets.{others, subscript_by, subscript, action, fair, filter, image, set_of, brace, tuple, mapping, function_set, entry, entries, record_of, records_of, key_at, path, change, changes, except, behind_first, bracket_by, bracket, opened_by}
+use Rattle.tla_parse.specs.Private.Ahead.{binds, filters}
+use Rattle.tla_parse.specs.Private.Outcome.{Outcome, at_op}
+use Rattle.tla_parse.specs.Private.ReadingLists.{name_at, following, exprs, some, group, one_group, groups}
+use Rattle.tla_parse.specs.Private.ReadingBrackets.{others, subscript_by, subscript, action, fair, filter, image, set_of, brace, tuple, mapping, function_set, entry, entries, record_of, records_of, key_at, path, change, changes, except, behind_first, bracket_by, bracket, opened_by}
 use Rattle.tla_parse.proofs.DeeperLists.{Refines, bind, needs, more_room, ops, choices, sequences, somes, listings, group_deeper, one_group_deeper, parens}
 
 module _ (text : List ℕ) (ts : List Token) where

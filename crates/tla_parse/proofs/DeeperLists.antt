@@ -11,9 +11,9 @@ use Rattle.tla_parse.specs.declared.tokens.Between.TheVariants as between
 use Rattle.tla_tree.specs.Tree.{Tree, Pattern}
 use Rattle.tla_parse.specs.Tokens.{seen}
 use Rattle.tla_parse.specs.Kinds.{kind_at, closing}
-use Rattle.tla_parse.specs.Outcome.{Outcome, Nested, ◌>>=◌, need, room, at_op, sequence}
-use Rattle.tla_parse.specs.ReadingLists.{following, exprs, some, listing, call, pattern, single, set_behind, group, one_group, paren}
-use Rattle.tla_parse.specs.Reading.{named}
+use Rattle.tla_parse.specs.Private.Outcome.{Outcome, Nested, ◌>>=◌, need, room, at_op, sequence}
+use Rattle.tla_parse.specs.Private.ReadingLists.{following, exprs, some, listing, call, pattern, single, set_behind, group, one_group, paren}
+use Rattle.tla_parse.specs.Private.Reading.{named}
 
 -- the first was nested too deep, or the second is the same
 abbrev pub Refines : {A : Type 0} → Outcome A → Outcome A → Type 0

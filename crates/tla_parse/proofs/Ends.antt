@@ -12,9 +12,9 @@ use Rattle.tla_parse.specs.Edges.{is_delimited, is_closed, depth}
 use Rattle.tla_tree.specs.Words.{written}
 use Rattle.tla_parse.specs.Tokens.{seen}
 use Rattle.tla_parse.specs.Grammar.{Spells}
-use Rattle.tla_parse.specs.Outcome.{Outcome}
-use Rattle.tla_parse.specs.ReadingLists.{name_at, some}
-use Rattle.tla_parse.specs.Reading.{postfix_at, indexed, behind, postfix, expr}
+use Rattle.tla_parse.specs.Private.Outcome.{Outcome}
+use Rattle.tla_parse.specs.Private.ReadingLists.{name_at, some}
+use Rattle.tla_parse.specs.Private.Reading.{postfix_at, indexed, behind, postfix, expr}
 use Rattle.tla_parse.proofs.Inversion.{ok_to, bind_ok, room_ok, at_op_ok}
 use Rattle.tla_parse.proofs.Steps.{postfix_done}
 use Rattle.tla_parse.proofs.Shapes.{tails, top_zero}

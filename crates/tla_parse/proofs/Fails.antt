@@ -3,8 +3,8 @@ use Rattle.std.proofs.Common.{◌≡◌, ℕ, List, Err, ap}
 use Rattle.tla_lex.specs.declared.token.Token.{Token}
 use Rattle.tla_parse.specs.declared.refusal.Refusal.{Refusal}
 use Rattle.tla_parse.specs.declared.refusal.Refusal.TheVariants as refusal
-use Rattle.tla_parse.specs.Outcome.{Outcome, Refused, ◌>>=◌}
-use Rattle.tla_parse.specs.Gives.{Refuses, Fails}
+use Rattle.tla_parse.specs.Private.Outcome.{Outcome, Refused, ◌>>=◌}
+use Rattle.tla_parse.specs.Private.Gives.{Refuses, Fails}
 
 pub fails_bind : {A B : Type 0} (text : List ℕ) (ts : List Token) (e : Refusal) (r : Outcome A) (f : A → ℕ → Outcome B) → Fails text ts e r → Fails text ts e (r >>= f)
 fails_bind text ts refusal.NoMemory r f h = tt

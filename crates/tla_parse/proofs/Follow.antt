@@ -15,7 +15,7 @@ use Rattle.tla_parse.specs.Edges.{yields, edge_allows}
 use Rattle.tla_parse.specs.Tokens.{is_suffix, right_of, seen, goes_on, is_some_infix, is_bullet, is_bullet_at, may_follow, Has}
 use Rattle.tla_parse.specs.Kinds.{same_kind, kind_at}
 use Rattle.tla_parse.specs.Ending.{above, infix_at, allows, may_end}
-use Rattle.tla_parse.specs.Reading.{postfix_of, postfix_at}
+use Rattle.tla_parse.specs.Private.Reading.{postfix_of, postfix_at}
 use Rattle.tla_parse.proofs.Inversion.{and_true}
 
 -- ---- numbers of the table

@@ -13,9 +13,9 @@ use Rattle.tla_tree.specs.Words.{written}
 use Rattle.tla_parse.specs.Tokens.{right_of, seen, is_bullet_at, Has, Writes, KindAt, Commas}
 use Rattle.tla_parse.specs.Kinds.{same_kind, kind_at}
 use Rattle.tla_parse.specs.Ending.{above, infix_at}
-use Rattle.tla_parse.specs.Outcome.{Outcome, ◌>>=◌, need, room, at_op}
-use Rattle.tla_parse.specs.ReadingLists.{name_at}
-use Rattle.tla_parse.specs.Reading.{postfix_of, postfix_at}
+use Rattle.tla_parse.specs.Private.Outcome.{Outcome, ◌>>=◌, need, room, at_op}
+use Rattle.tla_parse.specs.Private.ReadingLists.{name_at}
+use Rattle.tla_parse.specs.Private.Reading.{postfix_of, postfix_at}
 
 un : {A : Type 0} → A × ℕ → Outcome A → A × ℕ
 un d (Ok x) = x

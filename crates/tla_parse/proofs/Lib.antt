@@ -24,7 +24,6 @@ pub mod Roles
 pub mod Sequence
 pub mod Shapes
 pub mod Shorter
-pub mod Slices
 pub mod Sound
 pub mod SoundBrackets
 pub mod SoundCase
@@ -33,6 +32,7 @@ pub mod SoundRecords
 pub mod SoundProduct
 pub mod Steps
 pub mod StepsRecords
+pub mod Strings
 pub mod Tuples
 pub mod UnitsComplete
 pub mod UnitsSound

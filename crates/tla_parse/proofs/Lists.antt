@@ -12,7 +12,7 @@ use Rattle.tla_parse.specs.Tokens.{seen, is_bullet_at, Has}
 use Rattle.tla_parse.specs.Entries.{Entry}
 use Rattle.tla_parse.specs.Kinds.{kind_at}
 use Rattle.tla_parse.specs.Grammar.{Spells, Items, Listed, Others, Bound, MoreBound, Chosen, MoreChosen, Defines, Defined, is_some, is_defined}
-use Rattle.tla_parse.specs.ReadingLists.{following}
+use Rattle.tla_parse.specs.Private.ReadingLists.{following}
 use Rattle.tla_parse.proofs.Inversion.{choice_ok, has_kind, and_true}
 use Rattle.tla_parse.proofs.NameLists.{seen_within}
 use Rattle.tla_parse.proofs.Sequence.{Behind, Follows}

@@ -8,7 +8,7 @@ use Rattle.tla_parse.specs.declared.tokens.Between.TheVariants as between
 use Rattle.tla_tree.specs.Tree.{Fields, Key, Keys, Updates, Entry, Change, fields, keys, updates, no_fields, field, no_keys, key, no_updates, update}
 use Rattle.tla_parse.specs.Tokens.{Has, Writes}
 use Rattle.tla_parse.specs.Grammar.{Spells, Fielded, MoreFields, Leads, Selects, Updated, MoreUpdates, is_path, updating}
-use Rattle.tla_parse.specs.ReadingLists.{following}
+use Rattle.tla_parse.specs.Private.ReadingLists.{following}
 use Rattle.tla_parse.proofs.Lists.{comma_is, key_here}
 use Rattle.tla_parse.proofs.Sequence.{Behind, Follows}
 

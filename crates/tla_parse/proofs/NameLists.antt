@@ -7,8 +7,8 @@ use Rattle.tla_tree.specs.declared.word.Written.{Written}
 use Rattle.tla_tree.specs.Words.{written}
 use Rattle.tla_parse.specs.Tokens.{seen, Has, Writes, Names}
 use Rattle.tla_parse.specs.Kinds.{kind_at}
-use Rattle.tla_parse.specs.Outcome.{Refused}
-use Rattle.tla_parse.specs.ReadingLists.{name_at, names}
+use Rattle.tla_parse.specs.Private.Outcome.{Refused}
+use Rattle.tla_parse.specs.Private.ReadingLists.{name_at, names}
 use Rattle.tla_parse.proofs.Inversion.{ok_to, at_op_ok, choice_ok, has_kind, has_name, seen_is}
 
 module _ (text : List ℕ) (ts : List Token) where

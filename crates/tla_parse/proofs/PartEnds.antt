@@ -10,8 +10,8 @@ use Rattle.tla_parse.specs.Tokens.{seen, Has}
 use Rattle.tla_parse.specs.Kinds.{same_kind, kind_at, role_of}
 use Rattle.tla_parse.specs.Entries.{is_single, Binds, Entry}
 use Rattle.tla_parse.specs.Grammar.{Spells, Bound, MoreBound}
-use Rattle.tla_parse.specs.Ahead.{behind, binds, filters, maps, ending}
-use Rattle.tla_parse.specs.ReadingBrackets.{opened_by}
+use Rattle.tla_parse.specs.Private.Ahead.{behind, binds, filters, maps, ending}
+use Rattle.tla_parse.specs.Private.ReadingBrackets.{opened_by}
 use Rattle.tla_parse.proofs.Inversion.{seen_is}
 use Rattle.tla_parse.proofs.First.{second_token}
 use Rattle.tla_parse.proofs.Roles.{drop_get}

@@ -13,7 +13,7 @@ use Rattle.tla_parse.specs.Tokens.{Has, Writes, Names}
 use Rattle.tla_parse.specs.Entries.{is_single, Binds}
 use Rattle.tla_parse.specs.Kinds.{opening, closing, step_opening, step_closing, fairness_word, role_of}
 use Rattle.tla_parse.specs.Grammar.{Spells, Items, Factors, Listed, Others, Bound, MoreBound, Chosen, MoreChosen, Otherwise, Defines, Defined, Fielded, MoreFields, Leads, Selects, Updated, MoreUpdates, within, updating}
-use Rattle.tla_parse.specs.Ahead.{behind, ending}
+use Rattle.tla_parse.specs.Private.Ahead.{behind, ending}
 use Rattle.tla_parse.proofs.Inversion.{seen_is}
 use Rattle.tla_parse.proofs.Roles.{infix_role, prefix_role, quantifier_role, constant_role, opening_role, closing_role, step_opens, step_closes, fairness_role, bullet_token, drop_get}
 

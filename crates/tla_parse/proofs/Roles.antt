@@ -19,7 +19,7 @@ use Rattle.tla_parse.specs.Operators.{infix_of, prefix_of, bullet_of, quantifier
 use Rattle.tla_parse.specs.Tokens.{is_bullet, is_bullet_at}
 use Rattle.tla_parse.specs.Kinds.{opening, closing, step_opening, step_closing, fairness_word, role_of}
 use Rattle.std.proofs.Math.ListN.{drop_of_length-le}
-use Rattle.tla_parse.specs.Ahead.{behind, ending}
+use Rattle.tla_parse.specs.Private.Ahead.{behind, ending}
 use Rattle.tla_parse.proofs.Inversion.{and_true}
 
 pub infix_role : (kind : Kind) (op : Infix) → infix_of kind ≡ Some op → role_of kind ≡ role.Plain

@@ -2,8 +2,8 @@
 use Rattle.std.proofs.Common.{◌≡◌, ℕ, zero, suc, ◌+◌, ◌-◌, ◌<◌, ◌≤◌, inl, inr, length, List, [], ◌∷◌, ◌++◌, Option, Some, None, Ok, Err, refl, sym, ◌∙◌, append_assoc, arith, add-one, subst}
 use Rattle.tla_lex.specs.declared.token.Token.{Token}
 use Rattle.tla_parse.specs.declared.refusal.Refusal.{Refusal}
-use Rattle.tla_parse.specs.Outcome.{Outcome, Refused, ◌>>=◌, at_op, sequence}
-use Rattle.tla_parse.specs.Gives.{Fails}
+use Rattle.tla_parse.specs.Private.Outcome.{Outcome, Refused, ◌>>=◌, at_op, sequence}
+use Rattle.tla_parse.specs.Private.Gives.{Fails}
 use Rattle.tla_parse.proofs.Inversion.{ok_to, bind_ok, at_op_ok}
 use Rattle.tla_parse.proofs.Fails.{fails_bind}
 

@@ -19,14 +19,14 @@ use Rattle.tla_parse.specs.Tokens.{seen, is_bullet_at, may_follow}
 use Rattle.tla_parse.specs.Kinds.{kind_at}
 use Rattle.tla_parse.specs.Grammar.{Spells, Items, within}
 use Rattle.tla_parse.specs.Ending.{above, infix_at}
-use Rattle.tla_parse.specs.Outcome.{Outcome, Refused}
-use Rattle.tla_parse.specs.ReadingLists.{following, exprs, group, one_group, groups, paren}
-use Rattle.tla_parse.specs.Reading.{postfixes, turn, climb, junction, quantified, chosen, choice, prefix, by_class, named, operand_by, operand, level, expr, product}
+use Rattle.tla_parse.specs.Private.Outcome.{Outcome, Refused}
+use Rattle.tla_parse.specs.Private.ReadingLists.{following, exprs, group, one_group, groups, paren}
+use Rattle.tla_parse.specs.Private.Reading.{postfixes, turn, climb, junction, quantified, chosen, choice, prefix, by_class, named, operand_by, operand, level, expr, product}
 use Rattle.tla_parse.proofs.Inversion.{ok_to, bind_ok, need_ok, room_ok, at_op_ok, choice_ok, has_kind, has_infix, first_bullet}
 use Rattle.tla_parse.proofs.Sequence.{sequence_sound}
 use Rattle.tla_parse.proofs.Lists.{Spelled, GroupAt, bound_of, items_of}
 use Rattle.tla_tree.specs.declared.tree.Fairness.TheVariants as fa
-use Rattle.tla_parse.specs.ReadingBrackets.{fair, brace, tuple, bracket}
+use Rattle.tla_parse.specs.Private.ReadingBrackets.{fair, brace, tuple, bracket}
 use Rattle.tla_parse.proofs.SoundParts.{Closed, Good, Whole, group_sound, one_group_sound, paren_sound, named_sound, postfixes_sound}
 use Rattle.tla_parse.proofs.SoundBrackets.{fair_sound, brace_sound, tuple_sound, bracket_sound}
 use Rattle.tla_parse.proofs.SoundProduct.{product_op, product_kind, product_sound}

@@ -17,11 +17,11 @@ use Rattle.tla_tree.specs.Tree.{Tree, Trees, Group, none, trees, binders, Name, 
 use Rattle.tla_tree.specs.Words.{written}
 use Rattle.tla_parse.specs.Tokens.{seen, Is, Has}
 use Rattle.tla_parse.specs.Kinds.{kind_at, closing, step_opening, step_closing, fairness_word}
-use Rattle.tla_parse.specs.Ahead.{binds, filters}
+use Rattle.tla_parse.specs.Private.Ahead.{binds, filters}
 use Rattle.tla_parse.specs.Grammar.{Spells, Listed, Bound, is_subscript}
-use Rattle.tla_parse.specs.Outcome.{Outcome, Refused, at_op}
-use Rattle.tla_parse.specs.ReadingLists.{following, exprs, some, listing, group, one_group, groups, paren}
-use Rattle.tla_parse.specs.ReadingBrackets.{others, subscript_by, subscript, action, fair, filter, image, set_of, brace, tuple, mapping, function_set, behind_first, bracket_by, bracket, opened_by}
+use Rattle.tla_parse.specs.Private.Outcome.{Outcome, Refused, at_op}
+use Rattle.tla_parse.specs.Private.ReadingLists.{following, exprs, some, listing, group, one_group, groups, paren}
+use Rattle.tla_parse.specs.Private.ReadingBrackets.{others, subscript_by, subscript, action, fair, filter, image, set_of, brace, tuple, mapping, function_set, behind_first, bracket_by, bracket, opened_by}
 use Rattle.tla_parse.proofs.Inversion.{ok_to, bind_ok, need_ok, room_ok, at_op_ok, choice_ok, has_kind}
 use Rattle.tla_parse.proofs.Tuples.{no_entry}
 use Rattle.tla_parse.proofs.Sequence.{Follows, behind_all, sequence_sound}

@@ -10,9 +10,9 @@ use Rattle.tla_tree.specs.Words.{written}
 use Rattle.tla_parse.specs.Tokens.{seen, Has, Writes, Names}
 use Rattle.tla_parse.specs.Kinds.{kind_at}
 use Rattle.tla_parse.specs.Grammar.{Spells, Defines, Defined, Chosen, is_defined}
-use Rattle.tla_parse.specs.Outcome.{Outcome, Refused}
-use Rattle.tla_parse.specs.ReadingLists.{name_at, following, names, groups, group}
-use Rattle.tla_parse.specs.Reading.{arm_at, arms_at, cases, operator, function, defined, definition, definitions_at, lets}
+use Rattle.tla_parse.specs.Private.Outcome.{Outcome, Refused}
+use Rattle.tla_parse.specs.Private.ReadingLists.{name_at, following, names, groups, group}
+use Rattle.tla_parse.specs.Private.Reading.{arm_at, arms_at, cases, operator, function, defined, definition, definitions_at, lets}
 use Rattle.tla_parse.proofs.Inversion.{ok_to, bind_ok, need_ok, at_op_ok, choice_ok, has_kind, name_is}
 use Rattle.tla_parse.proofs.NameLists.{names_sound}
 use Rattle.tla_parse.proofs.Sequence.{sequence_sound}

@@ -15,9 +15,9 @@ use Rattle.tla_tree.specs.Words.{written}
 use Rattle.tla_parse.specs.Tokens.{seen, Has}
 use Rattle.tla_parse.specs.Kinds.{kind_at, opening, closing}
 use Rattle.tla_parse.specs.Grammar.{Spells, Listed, is_some}
-use Rattle.tla_parse.specs.Outcome.{Outcome, Refused}
-use Rattle.tla_parse.specs.ReadingLists.{name_at, following, exprs, some, listing, call, pattern, single, set_behind, group, one_group, paren}
-use Rattle.tla_parse.specs.Reading.{postfix_at, indexed, behind, postfix, postfixes, named}
+use Rattle.tla_parse.specs.Private.Outcome.{Outcome, Refused}
+use Rattle.tla_parse.specs.Private.ReadingLists.{name_at, following, exprs, some, listing, call, pattern, single, set_behind, group, one_group, paren}
+use Rattle.tla_parse.specs.Private.Reading.{postfix_at, indexed, behind, postfix, postfixes, named}
 use Rattle.tla_parse.proofs.Inversion.{ok_to, bind_ok, need_ok, room_ok, at_op_ok, choice_ok, has_kind, has_name, postfix_kind, has_postfix}
 use Rattle.tla_parse.specs.Entries.{is_single, Binds}
 use Rattle.tla_parse.proofs.Tuples.{pattern_sound, single_sound}

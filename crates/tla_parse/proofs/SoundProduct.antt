@@ -14,9 +14,9 @@ use Rattle.tla_parse.specs.Edges.{edge_allows, top_above, depth}
 use Rattle.tla_parse.specs.Tokens.{seen, Has}
 use Rattle.tla_parse.specs.Kinds.{kind_at}
 use Rattle.tla_parse.specs.Grammar.{Spells, Factors, is_some}
-use Rattle.tla_parse.specs.Outcome.{Outcome}
-use Rattle.tla_parse.specs.ReadingLists.{following}
-use Rattle.tla_parse.specs.Reading.{factor, factors, product}
+use Rattle.tla_parse.specs.Private.Outcome.{Outcome}
+use Rattle.tla_parse.specs.Private.ReadingLists.{following}
+use Rattle.tla_parse.specs.Private.Reading.{factor, factors, product}
 use Rattle.tla_parse.proofs.Inversion.{ok_to, bind_ok, need_ok, room_ok}
 use Rattle.tla_parse.proofs.Sequence.{Behind, Follows, sequence_sound}
 use Rattle.tla_parse.proofs.Lists.{product_is}

@@ -10,9 +10,9 @@ use Rattle.tla_tree.specs.Words.{written}
 use Rattle.tla_parse.specs.Tokens.{seen, Has}
 use Rattle.tla_parse.specs.Kinds.{kind_at}
 use Rattle.tla_parse.specs.Grammar.{Spells, Fielded, Leads, Selects, Updated, is_path, updating}
-use Rattle.tla_parse.specs.Outcome.{Outcome, Refused}
-use Rattle.tla_parse.specs.ReadingLists.{name_at, following, some}
-use Rattle.tla_parse.specs.ReadingBrackets.{entry, entries, record_of, records_of, key_at, path, change, changes, except}
+use Rattle.tla_parse.specs.Private.Outcome.{Outcome, Refused}
+use Rattle.tla_parse.specs.Private.ReadingLists.{name_at, following, some}
+use Rattle.tla_parse.specs.Private.ReadingBrackets.{entry, entries, record_of, records_of, key_at, path, change, changes, except}
 use Rattle.tla_parse.proofs.Inversion.{ok_to, bind_ok, need_ok, at_op_ok, choice_ok, has_kind, has_name}
 use Rattle.tla_parse.proofs.Sequence.{sequence_sound}
 use Rattle.tla_parse.proofs.ListsRecords.{EntryAt, KeyAt, ChangeAt, fielded_of, leads_of, updated_of}

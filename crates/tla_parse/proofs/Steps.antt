@@ -11,9 +11,9 @@ use Rattle.tla_tree.specs.Tree.{Tree, Group, Choice, Definition, trees, binders,
 use Rattle.tla_parse.specs.Edges.{depth, depths, bound_depth, arms_depth, definition_depth, definitions_depth}
 use Rattle.tla_parse.specs.Tokens.{seen, is_bullet_at}
 use Rattle.tla_parse.specs.Ending.{above, infix_at}
-use Rattle.tla_parse.specs.Outcome.{Outcome, Nested, ◌>>=◌}
-use Rattle.tla_parse.specs.Reading.{postfix_at, behind, postfix, climb, turn}
-use Rattle.tla_parse.specs.Gives.{Fails}
+use Rattle.tla_parse.specs.Private.Outcome.{Outcome, Nested, ◌>>=◌}
+use Rattle.tla_parse.specs.Private.Reading.{postfix_at, behind, postfix, climb, turn}
+use Rattle.tla_parse.specs.Private.Gives.{Fails}
 use Rattle.tla_parse.proofs.Fails.{fails_bind}
 
 module _ (text : List ℕ) (ts : List Token) (inner : Scope → ℕ → ℕ → Outcome Tree) where

@@ -9,9 +9,9 @@ use Rattle.tla_tree.specs.Tree.{Pattern, Each, Tuple}
 use Rattle.tla_parse.specs.Tokens.{seen, Has, Names}
 use Rattle.tla_parse.specs.Entries.{is_single, Binds, BeginsEntry}
 use Rattle.tla_parse.specs.Kinds.{kind_at}
-use Rattle.tla_parse.specs.Outcome.{Refused}
-use Rattle.tla_parse.specs.ReadingLists.{name_at, names, tuple_of_names, pattern, single}
-use Rattle.tla_parse.specs.Ahead.{tuple_end, single_end, if_member, binds}
+use Rattle.tla_parse.specs.Private.Outcome.{Refused}
+use Rattle.tla_parse.specs.Private.ReadingLists.{name_at, names, tuple_of_names, pattern, single}
+use Rattle.tla_parse.specs.Private.Ahead.{tuple_end, single_end, if_member, binds}
 use Rattle.tla_parse.proofs.Inversion.{ok_to, bind_ok, need_ok, at_op_ok, choice_ok, has_kind, has_name}
 use Rattle.tla_parse.proofs.NameLists.{names_cons, names_fit, names_within, names_sound, names_complete}
 

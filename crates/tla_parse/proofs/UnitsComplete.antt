@@ -13,8 +13,8 @@ use Rattle.tla_parse.specs.Tokens.{seen, goes_on, Has, Names}
 use Rattle.tla_parse.specs.Kinds.{same_kind, kind_at}
 use Rattle.tla_tree.specs.Units.{UnitTree, Separator, Extends, Variables, Operator, Defines, Local, Constants, Assume, Theorem, Declared}
 use Rattle.tla_parse.specs.Units.{Blanks, Declares, MoreDeclared, AllDeclared, Claims, has_parameters, is_extends, is_separator, unit_depth, units_depth, outermost, SpellsUnit, Units, SpellsModule}
-use Rattle.tla_parse.specs.ReadingLists.{name_at, following}
-use Rattle.tla_parse.specs.Reading.{expr}
+use Rattle.tla_parse.specs.Private.ReadingLists.{name_at, following}
+use Rattle.tla_parse.specs.Private.Reading.{expr}
 use Rattle.tla_parse.specs.Private.UnitsReading.{modules, blanks, declared, constants, claim_name, claim, unit_of, unit, units, whole}
 use Rattle.tla_parse.proofs.Inversion.{and_true}
 use Rattle.tla_parse.proofs.Follow.{end_plain, stops_plain}

@@ -14,9 +14,9 @@ use Rattle.tla_parse.specs.Tokens.{seen, Has, Writes, Names, KindAt}
 use Rattle.tla_parse.specs.Kinds.{kind_at}
 use Rattle.tla_tree.specs.Units.{UnitTree, Separator, Extends, Variables, Local, Constants, Assume, Theorem, Declared}
 use Rattle.tla_parse.specs.Units.{Blanks, Declares, MoreDeclared, AllDeclared, Claims, is_extends, is_separator, outermost, SpellsUnit, Units, SpellsModule}
-use Rattle.tla_parse.specs.Outcome.{Refused}
-use Rattle.tla_parse.specs.ReadingLists.{name_at, following, names}
-use Rattle.tla_parse.specs.Reading.{definition, expr}
+use Rattle.tla_parse.specs.Private.Outcome.{Refused}
+use Rattle.tla_parse.specs.Private.ReadingLists.{name_at, following, names}
+use Rattle.tla_parse.specs.Private.Reading.{definition, expr}
 use Rattle.tla_parse.specs.Private.UnitsReading.{Claim, modules, blanks, declared, constants, claim_name, claim, unit_of, unit_by, unit, units, whole}
 use Rattle.tla_parse.proofs.Inversion.{ok_to, bind_ok, need_ok, at_op_ok, choice_ok, and_true, has_kind, has_name, seen_is}
 use Rattle.tla_parse.proofs.NameLists.{names_cons, names_sound}

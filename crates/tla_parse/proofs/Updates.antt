@@ -1,5 +1,5 @@
 -- Going back over tokens, whether an EXCEPT stands before them with no bracket open.
-use Rattle.std.proofs.Common.{◌≡◌, ◌↔◌, ℕ, suc, Some, None, List, inl, inr, refl, sym, ap, ◌∙◌, subst}
+use Rattle.std.proofs.Common.{◌≡◌, ◌↔◌, ℕ, suc, Some, List, inl, inr, refl, sym, ap, ◌∙◌, subst}
 use Rattle.std.specs.List.{slice_get}
 use Rattle.std.proofs.lemmas.Option.{same_Some}
 use Rattle.tla_lex.specs.declared.token.Token.{Token}
@@ -22,11 +22,6 @@ module _ (ts : List Token) (at n : ℕ) where
   pub under_no_before : (t : Token) → slice_get ts at ≡ Some t → ((t.kind ≡ k.Except) × (n ≡ 0) → ⊥) → ((l : ℕ) → open_behind t.kind l ≡ Some n → ⊥) → IsUnderExcept ts (suc at) n → ⊥
   under_no_before t here other none (inl ((u, there, e), z)) = other (ap (λ x. x.kind) (same_Some t u (sym here ∙ there)) ∙ e, z)
   under_no_before t here other none (inr (l, h, u, there, e)) = none l (ap (λ x. open_behind x.kind l) (same_Some t u (sym here ∙ there)) ∙ e)
-
-  -- nothing stands where there is no token
-  pub under_nothing : slice_get ts at ≡ None → IsUnderExcept ts (suc at) n → ⊥
-  under_nothing none (inl ((u, there, e), z)) = cc
-  under_nothing none (inr (l, h, u, there, e)) = cc
 
 -- no update begins behind another token
 pub begins_behind_none : (ts : List Token) (before : ℕ) (t : Token) → slice_get ts before ≡ Some t → (t.kind ≡ k.Except → ⊥) → (t.kind ≡ k.Comma → ⊥) → BeginsUpdate ts (suc before) → ⊥

@@ -7,8 +7,8 @@ use Rattle.tla_parse.specs.Tokens.{seen}
 use Rattle.tla_parse.specs.Kinds.{kind_at}
 use Rattle.tla_tree.specs.Units.{UnitTree}
 use Rattle.tla_parse.specs.Units.{is_separator, units_depth, outermost, SpellsModule}
-use Rattle.tla_parse.specs.Outcome.{Outcome, Refused, Nested}
-use Rattle.tla_parse.specs.Reading.{definition, expr}
+use Rattle.tla_parse.specs.Private.Outcome.{Outcome, Refused, Nested}
+use Rattle.tla_parse.specs.Private.Reading.{definition, expr}
 use Rattle.tla_parse.specs.Private.UnitsReading.{claim_name, claim, unit_by, unit, units, whole}
 use Rattle.tla_parse.specs.Parsing.{NoneSpells, NoneSpellsWithin}
 use Rattle.tla_parse.proofs.Inversion.{ok_to}

@@ -10,11 +10,4 @@ pub mod Codes
 pub mod Parsing
 pub mod Kinds
 pub mod LeftOut
-pub mod Outcome
-pub mod Ahead
-pub mod ReadingLists
-pub mod ReadingBrackets
-pub mod Reading
-pub mod Gives
-pub mod Nests
 pub mod Private

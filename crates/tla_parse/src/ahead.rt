@@ -1,8 +1,8 @@
 //! What comes behind an opening bracket and an entry of a binder that begins there.
 
 ghost use Rattle.std.specs.Prelude.{◌≡◌, ◌≤◌, ◌<◌, ◌+◌, ◌^◌, drop, length, IfSome};
-ghost use Rattle.tla_parse.specs.ReadingBrackets as reading;
-ghost use Rattle.tla_parse.specs.Ahead as spec;
+ghost use Rattle.tla_parse.specs.Private.ReadingBrackets as reading;
+ghost use Rattle.tla_parse.specs.Private.Ahead as spec;
 ghost use Rattle.tla_parse.specs.Kinds as kinds;
 
 use crate::tokens::{is_kind, seen};

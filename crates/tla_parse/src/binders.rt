@@ -2,7 +2,7 @@
 
 ghost use Rattle.std.specs.Prelude.{◌≡◌, ◌+◌, IsTrue};
 ghost use Rattle.tla_parse.specs.LeftOut as left_out;
-ghost use Rattle.tla_parse.specs.Gives.{Refuses};
+ghost use Rattle.tla_parse.specs.Private.Gives.{Refuses};
 
 use crate::refusal::Refusal;
 use crate::tokens::{is_kind, refused, seen};

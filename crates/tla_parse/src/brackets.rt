@@ -5,10 +5,10 @@ ghost use Rattle.tla_tree.specs.View.{view, group_view, field_view, key_view, up
 ghost use Rattle.tla_tree.specs.Tree as tree;
 ghost use Rattle.tla_tree.specs.Tree.{trees, binders};
 ghost use Rattle.tla_parse.specs.Edges as edges;
-ghost use Rattle.tla_parse.specs.Reading.{expr};
-ghost use Rattle.tla_parse.specs.ReadingBrackets as reading;
-ghost use Rattle.tla_parse.specs.Gives.{Gives, GivesItems, GivesTrees};
-ghost use Rattle.tla_parse.specs.Nests.{Nests};
+ghost use Rattle.tla_parse.specs.Private.Reading.{expr};
+ghost use Rattle.tla_parse.specs.Private.ReadingBrackets as reading;
+ghost use Rattle.tla_parse.specs.Private.Gives.{Gives, GivesItems, GivesTrees};
+ghost use Rattle.tla_parse.specs.Private.Nests.{Nests};
 
 use crate::ahead::{Opened, binds, filters, opened_by};
 use crate::grammar::Grammar;
@@ -27,7 +27,7 @@ impl<F: Fn(Global, &[u8], &[Token], usize, Scope, u8, usize) -> Result<Parsed, R
     F,
 > {
     /// The expressions behind the first, and the closing bracket.
-    #[tactic(auto, unfolding(crate::specs::ReadingBrackets::others))]
+    #[tactic(auto, unfolding(crate::specs::Private::ReadingBrackets::others))]
     fn others(
         &self,
         text: &[u8],
@@ -66,7 +66,7 @@ impl<F: Fn(Global, &[u8], &[Token], usize, Scope, u8, usize) -> Result<Parsed, R
     }
 
     /// A subscript: a name, a tuple or `(e)`.
-    #[tactic(auto, unfolding(crate::specs::ReadingBrackets::subscript), using(crate::proofs::Fails::refuses_fails))]
+    #[tactic(auto, unfolding(crate::specs::Private::ReadingBrackets::subscript), using(crate::proofs::Fails::refuses_fails))]
     fn subscript(
         &self,
         text: &[u8],
@@ -94,7 +94,7 @@ impl<F: Fn(Global, &[u8], &[Token], usize, Scope, u8, usize) -> Result<Parsed, R
     }
 
     /// The action that began at a token of this number, with the subscript behind its closing bracket.
-    #[tactic(auto, unfolding(crate::specs::ReadingBrackets::action))]
+    #[tactic(auto, unfolding(crate::specs::Private::ReadingBrackets::action))]
     fn action(
         &self,
         text: &[u8],
@@ -127,7 +127,7 @@ impl<F: Fn(Global, &[u8], &[Token], usize, Scope, u8, usize) -> Result<Parsed, R
     }
 
     /// `WF_v(A)` or `SF_v(A)`
-    #[tactic(auto, unfolding(crate::specs::ReadingBrackets::fair))]
+    #[tactic(auto, unfolding(crate::specs::Private::ReadingBrackets::fair))]
     pub fn fair(
         &self,
         text: &[u8],
@@ -163,7 +163,7 @@ impl<F: Fn(Global, &[u8], &[Token], usize, Scope, u8, usize) -> Result<Parsed, R
     }
 
     /// `{x \in S : p}`
-    #[tactic(auto, unfolding(crate::specs::ReadingBrackets::filter))]
+    #[tactic(auto, unfolding(crate::specs::Private::ReadingBrackets::filter))]
     fn filter(
         &self,
         text: &[u8],
@@ -194,7 +194,7 @@ impl<F: Fn(Global, &[u8], &[Token], usize, Scope, u8, usize) -> Result<Parsed, R
     }
 
     /// `{e : x, y \in S}`, behind e.
-    #[tactic(auto, unfolding(crate::specs::ReadingBrackets::image))]
+    #[tactic(auto, unfolding(crate::specs::Private::ReadingBrackets::image))]
     fn image(
         &self,
         text: &[u8],
@@ -223,7 +223,7 @@ impl<F: Fn(Global, &[u8], &[Token], usize, Scope, u8, usize) -> Result<Parsed, R
     }
 
     /// A set, behind its first expression.
-    #[tactic(auto, unfolding(crate::specs::ReadingBrackets::set_of))]
+    #[tactic(auto, unfolding(crate::specs::Private::ReadingBrackets::set_of))]
     fn set_of(
         &self,
         text: &[u8],
@@ -259,7 +259,7 @@ impl<F: Fn(Global, &[u8], &[Token], usize, Scope, u8, usize) -> Result<Parsed, R
     }
 
     /// A form in braces.
-    #[tactic(auto, unfolding(crate::specs::ReadingBrackets::brace))]
+    #[tactic(auto, unfolding(crate::specs::Private::ReadingBrackets::brace))]
     pub fn brace(
         &self,
         text: &[u8],
@@ -288,7 +288,7 @@ impl<F: Fn(Global, &[u8], &[Token], usize, Scope, u8, usize) -> Result<Parsed, R
     }
 
     /// `<<e, ..>>` or `<<A>>_v`
-    #[tactic(auto, unfolding(crate::specs::ReadingBrackets::tuple))]
+    #[tactic(auto, unfolding(crate::specs::Private::ReadingBrackets::tuple))]
     pub fn tuple(
         &self,
         text: &[u8],
@@ -327,7 +327,7 @@ impl<F: Fn(Global, &[u8], &[Token], usize, Scope, u8, usize) -> Result<Parsed, R
     }
 
     /// `[x, y \in S |-> e]`
-    #[tactic(auto, unfolding(crate::specs::ReadingBrackets::mapping))]
+    #[tactic(auto, unfolding(crate::specs::Private::ReadingBrackets::mapping))]
     fn mapping(
         &self,
         text: &[u8],
@@ -357,7 +357,7 @@ impl<F: Fn(Global, &[u8], &[Token], usize, Scope, u8, usize) -> Result<Parsed, R
     }
 
     /// `[S -> T]`, behind S.
-    #[tactic(auto, unfolding(crate::specs::ReadingBrackets::function_set))]
+    #[tactic(auto, unfolding(crate::specs::Private::ReadingBrackets::function_set))]
     fn function_set(
         &self,
         text: &[u8],
@@ -386,7 +386,7 @@ impl<F: Fn(Global, &[u8], &[Token], usize, Scope, u8, usize) -> Result<Parsed, R
     }
 
     /// A form in brackets that begins with an expression, behind that.
-    #[tactic(auto, unfolding(crate::specs::ReadingBrackets::behind_first))]
+    #[tactic(auto, unfolding(crate::specs::Private::ReadingBrackets::behind_first))]
     fn behind_first(
         &self,
         text: &[u8],
@@ -420,7 +420,7 @@ impl<F: Fn(Global, &[u8], &[Token], usize, Scope, u8, usize) -> Result<Parsed, R
     }
 
     /// A form in brackets.
-    #[tactic(auto, unfolding(crate::specs::ReadingBrackets::bracket))]
+    #[tactic(auto, unfolding(crate::specs::Private::ReadingBrackets::bracket))]
     pub fn bracket(
         &self,
         text: &[u8],

@@ -1,9 +1,9 @@
 //! Forms that begin with a word or a quantifier, and definitions.
 
 ghost use Rattle.std.specs.Prelude.{◌+◌, ◌-◌, ◌≤◌, ◌<◌, length, []};
-ghost use Rattle.tla_parse.specs.Reading as reading;
-ghost use Rattle.tla_parse.specs.Gives.{Gives, GivesArm, GivesArms, GivesDefinition, GivesDefinitions};
-ghost use Rattle.tla_parse.specs.Nests.{Nests};
+ghost use Rattle.tla_parse.specs.Private.Reading as reading;
+ghost use Rattle.tla_parse.specs.Private.Gives.{Gives, GivesArm, GivesArms, GivesDefinition, GivesDefinitions};
+ghost use Rattle.tla_parse.specs.Private.Nests.{Nests};
 
 use crate::grammar::Grammar;
 use crate::list::push;
@@ -25,7 +25,7 @@ impl<F: Fn(Global, &[u8], &[Token], usize, Scope, u8, usize) -> Result<Parsed, R
     F,
 > {
     /// `\A x, y \in S, z \in T : p` or `\E x, y \in S, z \in T : p`
-    #[tactic(auto, unfolding(crate::specs::Reading::quantified))]
+    #[tactic(auto, unfolding(crate::specs::Private::Reading::quantified))]
     pub fn quantified(
         &self,
         text: &[u8],
@@ -53,7 +53,7 @@ impl<F: Fn(Global, &[u8], &[Token], usize, Scope, u8, usize) -> Result<Parsed, R
     }
 
     /// `CHOOSE x \in S : p`
-    #[tactic(auto, unfolding(crate::specs::Reading::chosen))]
+    #[tactic(auto, unfolding(crate::specs::Private::Reading::chosen))]
     pub fn chosen(
         &self,
         text: &[u8],
@@ -81,7 +81,7 @@ impl<F: Fn(Global, &[u8], &[Token], usize, Scope, u8, usize) -> Result<Parsed, R
     }
 
     /// `IF p THEN a ELSE b`
-    #[tactic(auto, unfolding(crate::specs::Reading::choice))]
+    #[tactic(auto, unfolding(crate::specs::Private::Reading::choice))]
     pub fn choice(
         &self,
         text: &[u8],
@@ -112,7 +112,7 @@ impl<F: Fn(Global, &[u8], &[Token], usize, Scope, u8, usize) -> Result<Parsed, R
     }
 
     /// An arm of CASE.
-    #[tactic(auto, unfolding(crate::specs::Reading::arm_at))]
+    #[tactic(auto, unfolding(crate::specs::Private::Reading::arm_at))]
     fn arm_at(
         &self,
         text: &[u8],
@@ -167,7 +167,7 @@ impl<F: Fn(Global, &[u8], &[Token], usize, Scope, u8, usize) -> Result<Parsed, R
     }
 
     /// `CASE p -> a [] .. [] OTHER -> b`
-    #[tactic(auto, unfolding(crate::specs::Reading::cases))]
+    #[tactic(auto, unfolding(crate::specs::Private::Reading::cases))]
     pub fn cases(
         &self,
         text: &[u8],
@@ -206,7 +206,7 @@ impl<F: Fn(Global, &[u8], &[Token], usize, Scope, u8, usize) -> Result<Parsed, R
     }
 
     /// `Op(p, ..) == e`, from its first parameter on; the name is the token at `form`.
-    #[tactic(auto, unfolding(crate::specs::Reading::operator))]
+    #[tactic(auto, unfolding(crate::specs::Private::Reading::operator))]
     fn operator(
         &self,
         text: &[u8],
@@ -238,7 +238,7 @@ impl<F: Fn(Global, &[u8], &[Token], usize, Scope, u8, usize) -> Result<Parsed, R
     }
 
     /// `f[x \in S, ..] == e`, where the name is the token at `form`.
-    #[tactic(auto, unfolding(crate::specs::Reading::function))]
+    #[tactic(auto, unfolding(crate::specs::Private::Reading::function))]
     fn function(
         &self,
         text: &[u8],
@@ -269,7 +269,7 @@ impl<F: Fn(Global, &[u8], &[Token], usize, Scope, u8, usize) -> Result<Parsed, R
     }
 
     /// The definition that begins with this name.
-    #[tactic(auto, unfolding(crate::specs::Reading::defined))]
+    #[tactic(auto, unfolding(crate::specs::Private::Reading::defined))]
     fn defined(
         &self,
         text: &[u8],
@@ -301,7 +301,7 @@ impl<F: Fn(Global, &[u8], &[Token], usize, Scope, u8, usize) -> Result<Parsed, R
     }
 
     /// A definition.
-    #[tactic(auto, unfolding(crate::specs::Reading::definition))]
+    #[tactic(auto, unfolding(crate::specs::Private::Reading::definition))]
     pub fn definition(
         &self,
         text: &[u8],
@@ -351,7 +351,7 @@ impl<F: Fn(Global, &[u8], &[Token], usize, Scope, u8, usize) -> Result<Parsed, R
     }
 
     /// `LET` definitions `IN e`
-    #[tactic(auto, unfolding(crate::specs::Reading::lets))]
+    #[tactic(auto, unfolding(crate::specs::Private::Reading::lets))]
     pub fn lets(
         &self,
         text: &[u8],

@@ -4,9 +4,9 @@ ghost use Rattle.std.specs.Prelude.{◌≡◌, ◌+◌, ◌-◌, ◌≤◌, ◌<
 ghost use Rattle.tla_tree.specs.View.{view};
 ghost use Rattle.tla_parse.specs.Edges as edges;
 ghost use Rattle.tla_parse.specs.Tokens as spec;
-ghost use Rattle.tla_parse.specs.Reading as reading;
-ghost use Rattle.tla_parse.specs.Gives.{Gives, GivesChild, GivesDefinition};
-ghost use Rattle.tla_parse.specs.Nests.{Nests};
+ghost use Rattle.tla_parse.specs.Private.Reading as reading;
+ghost use Rattle.tla_parse.specs.Private.Gives.{Gives, GivesChild, GivesDefinition};
+ghost use Rattle.tla_parse.specs.Private.Nests.{Nests};
 
 use crate::operators::{
     bullet_of, constant_of, edge_allows, high, is_product, prefix_high, prefix_of, quantifier_of,
@@ -18,6 +18,9 @@ use crate::tokens::{Postfix, name_at, operator_at, postfix_at, refused, seen, te
 use std::alloc::Global;
 use tla_lex::{Kind, Place, Token};
 use tla_tree::{Expr, Fairness, Infix, Prefix};
+
+/// How deep the tree of an expression may be.
+pub const MAX_DEPTH: usize = 200;
 
 /// The rules of expressions, over a reader of the expressions in them.
 #[derive(Clone, Copy)]
@@ -63,7 +66,7 @@ impl<F: Fn(Global, &[u8], &[Token], usize, Scope, u8, usize) -> Result<Parsed, R
     }
 
     /// `f[e, ..]`, behind the tree, which begins at a token of this number.
-    #[tactic(auto, unfolding(crate::specs::Reading::indexed))]
+    #[tactic(auto, unfolding(crate::specs::Private::Reading::indexed))]
     fn indexed(
         &self,
         text: &[u8],
@@ -178,7 +181,7 @@ impl<F: Fn(Global, &[u8], &[Token], usize, Scope, u8, usize) -> Result<Parsed, R
     }
 
     /// A prefix operator, and its operand.
-    #[tactic(auto, unfolding(crate::specs::Reading::prefix))]
+    #[tactic(auto, unfolding(crate::specs::Private::Reading::prefix))]
     fn prefix(
         &self,
         text: &[u8],
@@ -202,7 +205,7 @@ impl<F: Fn(Global, &[u8], &[Token], usize, Scope, u8, usize) -> Result<Parsed, R
     }
 
     /// The tree, which begins at a token of this number, under one more operator.
-    #[tactic(auto, unfolding(crate::specs::Reading::turn))]
+    #[tactic(auto, unfolding(crate::specs::Private::Reading::turn))]
     fn turn(
         &self,
         text: &[u8],
@@ -301,7 +304,7 @@ impl<F: Fn(Global, &[u8], &[Token], usize, Scope, u8, usize) -> Result<Parsed, R
     }
 
     /// A form that begins with a bullet, a prefix operator, a quantifier or a word for a value.
-    #[tactic(auto, unfolding(crate::specs::Reading::by_class))]
+    #[tactic(auto, unfolding(crate::specs::Private::Reading::by_class))]
     fn by_class(
         &self,
         text: &[u8],
@@ -334,7 +337,7 @@ impl<F: Fn(Global, &[u8], &[Token], usize, Scope, u8, usize) -> Result<Parsed, R
     }
 
     /// An expression whose top is no infix operator.
-    #[tactic(auto, unfolding(crate::specs::Reading::operand))]
+    #[tactic(auto, unfolding(crate::specs::Private::Reading::operand))]
     fn operand(
         &self,
         text: &[u8],
@@ -400,7 +403,7 @@ impl<F: Fn(Global, &[u8], &[Token], usize, Scope, u8, usize) -> Result<Parsed, R
     }
 
     /// An expression, whose operand and operators may be one level deeper than inner expressions.
-    #[tactic(auto, unfolding(crate::specs::Reading::level))]
+    #[tactic(auto, unfolding(crate::specs::Private::Reading::level))]
     fn level(
         &self,
         text: &[u8],
@@ -419,7 +422,7 @@ impl<F: Fn(Global, &[u8], &[Token], usize, Scope, u8, usize) -> Result<Parsed, R
 }
 
 /// An expression of so many levels at most, in a scope, whose top is above a floor.
-#[tactic(auto, unfolding(crate::specs::Reading::expr))]
+#[tactic(auto, unfolding(crate::specs::Private::Reading::expr))]
 pub fn expr(
     alloc: Global,
     text: &[u8],
@@ -455,7 +458,7 @@ pub fn definition(
 {
     Grammar {
         alloc,
-        depth: 200,
+        depth: MAX_DEPTH,
         expr,
     }
     .definition(text, tokens, scope, from)

@@ -4,10 +4,10 @@ ghost use Rattle.std.specs.Prelude.{◌≡◌, ◌+◌, ◌-◌, ◌≤◌, ◌<
 ghost use Rattle.tla_tree.specs.View.{view, pattern_view};
 ghost use Rattle.tla_tree.specs.Tree.{trees};
 ghost use Rattle.tla_parse.specs.Edges as edges;
-ghost use Rattle.tla_parse.specs.Reading as reading;
-ghost use Rattle.tla_parse.specs.ReadingLists as lists;
-ghost use Rattle.tla_parse.specs.Gives.{Gives, GivesItems, GivesTrees, GivesGroup, GivesGroups};
-ghost use Rattle.tla_parse.specs.Nests.{Nests};
+ghost use Rattle.tla_parse.specs.Private.Reading as reading;
+ghost use Rattle.tla_parse.specs.Private.ReadingLists as lists;
+ghost use Rattle.tla_parse.specs.Private.Gives.{Gives, GivesItems, GivesTrees, GivesGroup, GivesGroups};
+ghost use Rattle.tla_parse.specs.Private.Nests.{Nests};
 
 use crate::binders::refused_binder;
 use crate::grammar::Grammar;
@@ -78,7 +78,7 @@ impl<F: Fn(Global, &[u8], &[Token], usize, Scope, u8, usize) -> Result<Parsed, R
     }
 
     /// Expressions with commas between them, one or more, and the closing bracket.
-    #[tactic(auto, unfolding(crate::specs::ReadingLists::some))]
+    #[tactic(auto, unfolding(crate::specs::Private::ReadingLists::some))]
     pub fn some(
         &self,
         text: &[u8],
@@ -102,7 +102,7 @@ impl<F: Fn(Global, &[u8], &[Token], usize, Scope, u8, usize) -> Result<Parsed, R
     }
 
     /// `{e, ..}` or `<<e, ..>>`
-    #[tactic(auto, unfolding(crate::specs::ReadingLists::listing))]
+    #[tactic(auto, unfolding(crate::specs::Private::ReadingLists::listing))]
     pub fn listing(
         &self,
         text: &[u8],
@@ -136,7 +136,7 @@ impl<F: Fn(Global, &[u8], &[Token], usize, Scope, u8, usize) -> Result<Parsed, R
     }
 
     /// A name alone, or with arguments.
-    #[tactic(auto, unfolding(crate::specs::Reading::named, crate::specs::ReadingLists::call))]
+    #[tactic(auto, unfolding(crate::specs::Private::Reading::named, crate::specs::Private::ReadingLists::call))]
     pub fn named(
         &self,
         text: &[u8],
@@ -169,7 +169,7 @@ impl<F: Fn(Global, &[u8], &[Token], usize, Scope, u8, usize) -> Result<Parsed, R
     }
 
     /// `(e)`
-    #[tactic(auto, unfolding(crate::specs::ReadingLists::paren))]
+    #[tactic(auto, unfolding(crate::specs::Private::ReadingLists::paren))]
     pub fn paren(
         &self,
         text: &[u8],
@@ -195,7 +195,7 @@ impl<F: Fn(Global, &[u8], &[Token], usize, Scope, u8, usize) -> Result<Parsed, R
     }
 
     /// The set of an entry, behind its names. The form at `form` may be left out for its binders.
-    #[tactic(auto, unfolding(crate::specs::ReadingLists::set_behind))]
+    #[tactic(auto, unfolding(crate::specs::Private::ReadingLists::set_behind))]
     fn set_behind(
         &self,
         text: &[u8],
@@ -222,7 +222,7 @@ impl<F: Fn(Global, &[u8], &[Token], usize, Scope, u8, usize) -> Result<Parsed, R
     }
 
     /// An entry of a binder list. The form at `form` may be left out for its binders.
-    #[tactic(auto, unfolding(crate::specs::ReadingLists::group))]
+    #[tactic(auto, unfolding(crate::specs::Private::ReadingLists::group))]
     pub fn group(
         &self,
         text: &[u8],
@@ -240,7 +240,7 @@ impl<F: Fn(Global, &[u8], &[Token], usize, Scope, u8, usize) -> Result<Parsed, R
     }
 
     /// An entry of one element. The form at `form` may be left out for it.
-    #[tactic(auto, unfolding(crate::specs::ReadingLists::one_group))]
+    #[tactic(auto, unfolding(crate::specs::Private::ReadingLists::one_group))]
     pub fn one_group(
         &self,
         text: &[u8],
@@ -292,7 +292,7 @@ impl<F: Fn(Global, &[u8], &[Token], usize, Scope, u8, usize) -> Result<Parsed, R
     }
 
     /// A junction list.
-    #[tactic(auto, unfolding(crate::specs::Reading::junction))]
+    #[tactic(auto, unfolding(crate::specs::Private::Reading::junction))]
     pub fn junction(
         &self,
         text: &[u8],

@@ -1,8 +1,8 @@
 //! Names with commas between them, and what an entry of a binder has before `\in`.
 
 ghost use Rattle.std.specs.Prelude.{◌≡◌, ◌+◌, ◌≤◌, ◌++◌, ◌∷◌, [], length, IfErr, OnOk};
-ghost use Rattle.tla_parse.specs.ReadingLists as lists;
-ghost use Rattle.tla_parse.specs.Gives.{GivesNames, GivesPattern};
+ghost use Rattle.tla_parse.specs.Private.ReadingLists as lists;
+ghost use Rattle.tla_parse.specs.Private.Gives.{GivesNames, GivesPattern};
 
 use crate::list::push;
 use crate::refusal::Refusal;
@@ -72,7 +72,7 @@ pub struct ParsedPattern {
 }
 
 /// A tuple of names, behind `<<`.
-#[tactic(auto, unfolding(crate::specs::ReadingLists::tuple_of_names))]
+#[tactic(auto, unfolding(crate::specs::Private::ReadingLists::tuple_of_names))]
 fn tuple_of_names(
     alloc: Global,
     text: &[u8],
@@ -94,7 +94,7 @@ fn tuple_of_names(
 }
 
 /// Names, or a tuple of names.
-#[tactic(auto, unfolding(crate::specs::ReadingLists::pattern))]
+#[tactic(auto, unfolding(crate::specs::Private::ReadingLists::pattern))]
 pub fn pattern(
     alloc: Global,
     text: &[u8],
@@ -116,7 +116,7 @@ pub fn pattern(
 }
 
 /// One name, or a tuple of names.
-#[tactic(auto, unfolding(crate::specs::ReadingLists::single))]
+#[tactic(auto, unfolding(crate::specs::Private::ReadingLists::single))]
 pub fn single(
     alloc: Global,
     text: &[u8],

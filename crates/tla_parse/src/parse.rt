@@ -7,7 +7,7 @@ ghost use Rattle.tla_tree.specs.UnitsView.{unit_view};
 ghost use Rattle.tla_parse.specs.Private.UnitsReading.{whole};
 ghost use Rattle.tla_parse.specs.LeftOut.{BeginsLeftOut, IsUnknownModule};
 ghost use Rattle.tla_parse.specs.Parsing.{NoneSpells, Justified, IsLocated};
-ghost use Rattle.tla_parse.specs.Gives.{Fails};
+ghost use Rattle.tla_parse.specs.Private.Gives.{Fails};
 
 use crate::error::{ParseCode, ParseError};
 use crate::refusal::Refusal;

@@ -3,9 +3,9 @@
 ghost use Rattle.std.specs.Prelude.{◌≡◌, ◌+◌, ◌≤◌, ◌<◌, length, []};
 ghost use Rattle.tla_tree.specs.View.{view};
 ghost use Rattle.tla_parse.specs.Edges as edges;
-ghost use Rattle.tla_parse.specs.Reading as reading;
-ghost use Rattle.tla_parse.specs.Gives.{Gives, GivesItems};
-ghost use Rattle.tla_parse.specs.Nests.{Nests};
+ghost use Rattle.tla_parse.specs.Private.Reading as reading;
+ghost use Rattle.tla_parse.specs.Private.Gives.{Gives, GivesItems};
+ghost use Rattle.tla_parse.specs.Private.Nests.{Nests};
 
 use crate::grammar::Grammar;
 use crate::list::push;
@@ -22,7 +22,7 @@ impl<F: Fn(Global, &[u8], &[Token], usize, Scope, u8, usize) -> Result<Parsed, R
     F,
 > {
     /// An operand behind the first.
-    #[tactic(auto, unfolding(crate::specs::Reading::factor))]
+    #[tactic(auto, unfolding(crate::specs::Private::Reading::factor))]
     fn factor(
         &self,
         text: &[u8],
@@ -73,7 +73,7 @@ impl<F: Fn(Global, &[u8], &[Token], usize, Scope, u8, usize) -> Result<Parsed, R
     }
 
     /// The product of the tree, which begins at a token of this number, and the operands behind it.
-    #[tactic(auto, unfolding(crate::specs::Reading::product))]
+    #[tactic(auto, unfolding(crate::specs::Private::Reading::product))]
     pub fn product(
         &self,
         text: &[u8],

@@ -5,10 +5,10 @@ ghost use Rattle.tla_tree.specs.View.{view, group_view, field_view, key_view, up
 ghost use Rattle.tla_tree.specs.Tree as tree;
 ghost use Rattle.tla_tree.specs.Tree.{trees, binders};
 ghost use Rattle.tla_parse.specs.Edges as edges;
-ghost use Rattle.tla_parse.specs.Reading.{expr};
-ghost use Rattle.tla_parse.specs.ReadingBrackets as reading;
-ghost use Rattle.tla_parse.specs.Gives.{Gives, GivesItems, GivesTrees};
-ghost use Rattle.tla_parse.specs.Nests.{Nests};
+ghost use Rattle.tla_parse.specs.Private.Reading.{expr};
+ghost use Rattle.tla_parse.specs.Private.ReadingBrackets as reading;
+ghost use Rattle.tla_parse.specs.Private.Gives.{Gives, GivesItems, GivesTrees};
+ghost use Rattle.tla_parse.specs.Private.Nests.{Nests};
 ghost use Rattle.tla_parse.specs.Private.GivesRecords.{GivesField, GivesFields, GivesKey, GivesKeys, GivesUpdate, GivesUpdates};
 
 use crate::grammar::Grammar;
@@ -29,7 +29,7 @@ impl<F: Fn(Global, &[u8], &[Token], usize, Scope, u8, usize) -> Result<Parsed, R
     F,
 > {
     /// A field, with this mark behind its name.
-    #[tactic(auto, unfolding(crate::specs::ReadingBrackets::entry))]
+    #[tactic(auto, unfolding(crate::specs::Private::ReadingBrackets::entry))]
     fn entry(
         &self,
         text: &[u8],
@@ -89,7 +89,7 @@ impl<F: Fn(Global, &[u8], &[Token], usize, Scope, u8, usize) -> Result<Parsed, R
     }
 
     /// `[a |-> e, ..]`
-    #[tactic(auto, unfolding(crate::specs::ReadingBrackets::record_of))]
+    #[tactic(auto, unfolding(crate::specs::Private::ReadingBrackets::record_of))]
     pub fn record(
         &self,
         text: &[u8],
@@ -117,7 +117,7 @@ impl<F: Fn(Global, &[u8], &[Token], usize, Scope, u8, usize) -> Result<Parsed, R
     }
 
     /// `[a : S, ..]`
-    #[tactic(auto, unfolding(crate::specs::ReadingBrackets::records_of))]
+    #[tactic(auto, unfolding(crate::specs::Private::ReadingBrackets::records_of))]
     pub fn record_set(
         &self,
         text: &[u8],
@@ -145,7 +145,7 @@ impl<F: Fn(Global, &[u8], &[Token], usize, Scope, u8, usize) -> Result<Parsed, R
     }
 
     /// A step of a path.
-    #[tactic(auto, unfolding(crate::specs::ReadingBrackets::key_at))]
+    #[tactic(auto, unfolding(crate::specs::Private::ReadingBrackets::key_at))]
     fn key(
         &self,
         text: &[u8],
@@ -208,7 +208,7 @@ impl<F: Fn(Global, &[u8], &[Token], usize, Scope, u8, usize) -> Result<Parsed, R
     }
 
     /// An update.
-    #[tactic(auto, unfolding(crate::specs::ReadingBrackets::change))]
+    #[tactic(auto, unfolding(crate::specs::Private::ReadingBrackets::change))]
     fn change(
         &self,
         text: &[u8],
@@ -274,7 +274,7 @@ impl<F: Fn(Global, &[u8], &[Token], usize, Scope, u8, usize) -> Result<Parsed, R
     }
 
     /// `[f EXCEPT !p = e, ..]`, behind f.
-    #[tactic(auto, unfolding(crate::specs::ReadingBrackets::except))]
+    #[tactic(auto, unfolding(crate::specs::Private::ReadingBrackets::except))]
     pub fn except(
         &self,
         text: &[u8],

@@ -7,16 +7,16 @@ ghost use Rattle.tla_tree.specs.Words as words;
 ghost use Rattle.tla_parse.specs.Kinds as kinds;
 ghost use Rattle.tla_parse.specs.Ending as ending;
 ghost use Rattle.tla_parse.specs.LeftOut as left_out;
-ghost use Rattle.tla_parse.specs.Reading as reading;
-ghost use Rattle.tla_parse.specs.ReadingLists as lists;
-ghost use Rattle.tla_parse.specs.Gives.{Refuses};
+ghost use Rattle.tla_parse.specs.Private.Reading as reading;
+ghost use Rattle.tla_parse.specs.Private.ReadingLists as lists;
+ghost use Rattle.tla_parse.specs.Private.Gives.{Refuses};
 
 use crate::ahead::{Role, role_of};
 use crate::operators::{bullet_of, infix_of, low, prefix_of};
 use crate::refusal::Refusal;
 use std::alloc::Global;
 use tla_lex::{Kind, Token, string_text};
-use tla_tree::{Brackets, Bullet, Infix, Word, Written};
+use tla_tree::{Brackets, Bullet, Infix, Word, Written, slice_of};
 
 /// What stands between the items of a list.
 #[derive(Clone, Copy)]
@@ -251,26 +251,13 @@ pub fn name_at(token: Option<Token>) -> Option<Token>
     }
 }
 
-/// The token's slice of the text.
-#[tactic(auto, using(crate::proofs::Slices::drop_min, crate::proofs::Slices::take_min))]
-fn slice_of(text: &[u8], token: Token) -> &[u8]
-    ensures { result.now ≡ words.word_of text.now token }
-{
-    let rest = &text[token.start.min(text.len())..];
-    let length = token.end.saturating_sub(token.start);
-    &rest[..length.min(rest.len())]
-}
-
 /// The token as it is written, and where.
 pub fn written(alloc: Global, text: &[u8], token: Token) -> Result<Written, Refusal>
     ensures ok { IfOk result (λ w. w ≡ words.written text.now token) }
     ensures err { IfErr result (λ e. e ≡ Refusal.NoMemory) }
 {
-    match slice_of(text, token).to_vec(alloc) {
-        Ok(bytes) => Ok(Written {
-            place: token.place,
-            word: Word::new(bytes),
-        }),
+    match Written::of_token(alloc, text, token) {
+        Ok(word) => Ok(word),
         Err(_) => Err(Refusal::NoMemory),
     }
 }

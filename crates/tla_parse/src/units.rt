@@ -8,11 +8,11 @@ ghost use Rattle.tla_parse.specs.LeftOut.{IsExtended, OnlySeparators};
 ghost use Rattle.tla_parse.specs.Kinds.{kind_at};
 ghost use Rattle.tla_parse.specs.Tokens.{seen};
 ghost use Rattle.tla_lex.specs.declared.token.Kind.TheVariants as k;
-ghost use Rattle.tla_parse.specs.Gives.{GivesNames};
+ghost use Rattle.tla_parse.specs.Private.Gives.{GivesNames};
 ghost use Rattle.tla_tree.specs.View.{definition_view};
 ghost use Rattle.tla_parse.specs.Private.UnitsGive.{GivesDeclared, GivesConstants, GivesClaim, GivesUnit, GivesUnits};
 
-use crate::grammar::{definition, expr};
+use crate::grammar::{MAX_DEPTH, definition, expr};
 use crate::list::push;
 use crate::modules::is_module;
 use crate::names::{ParsedNames, names};
@@ -23,9 +23,6 @@ use crate::tokens::{Between, following, is_kind, name_at, refused, refused_unit,
 use std::alloc::Global;
 use tla_lex::{Kind, Place, Token};
 use tla_tree::{Declaration, Definition, Expr, Unit, Written};
-
-/// How deep the tree of an expression may be.
-pub const MAX_DEPTH: usize = 200;
 
 /// The scope of a unit's expressions.
 const OUTERMOST: Scope = Scope {

@@ -10,4 +10,4 @@ pub use tree::{
     Pattern, Prefix, Quantifier, Step, Update,
 };
 pub use unit::{Declaration, Module, Unit};
-pub use word::{Word, Written};
+pub use word::{Word, Written, slice_of};

@@ -1,9 +1,11 @@
 //! Words of the text.
 
-ghost use Rattle.std.specs.Prelude.{◌≡◌};
+ghost use Rattle.std.specs.Prelude.{◌≡◌, IfOk};
+ghost use Rattle.tla_tree.specs.Words as words;
 
+use std::alloc::{AllocError, Global};
 use std::marker::Model;
-use tla_lex::Place;
+use tla_lex::{Place, Token};
 
 /// The bytes of a word, or of a string with its escapes read. Contracts see it as their list.
 #[derive(Drop)]
@@ -45,4 +47,27 @@ impl Word {
 pub struct Written {
     pub place: Place,
     pub word: Word,
+}
+
+impl Written {
+    /// The token as it is written, and where. The error is want of memory.
+    pub fn of_token(alloc: Global, text: &[u8], token: Token) -> Result<Written, AllocError>
+        ensures { IfOk result (λ w. w ≡ words.written text.now token) }
+    {
+        let bytes = slice_of(text, token).to_vec(alloc)?;
+        Ok(Written {
+            place: token.place,
+            word: Word::new(bytes),
+        })
+    }
+}
+
+/// The token's slice of the text.
+#[tactic(auto, using(crate::proofs::Slices::drop_min, crate::proofs::Slices::take_min))]
+pub fn slice_of(text: &[u8], token: Token) -> &[u8]
+    ensures { result.now ≡ words.word_of text.now token }
+{
+    let rest = &text[token.start.min(text.len())..];
+    let length = token.end.saturating_sub(token.start);
+    &rest[..length.min(rest.len())]
 }

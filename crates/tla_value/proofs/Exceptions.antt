@@ -40,11 +40,6 @@ except_found (p ∷ ps) x v (suc i) q d h l e is =
     let apart : value_eq x p.0 ≡ false = alike-way x p.0 Less (sym (alike_right value_cmp-total (get_or ps i d).0 x p.0 e) ∙ rising-entries (p ∷ ps) 0 (suc i) d h (omega arith) l) in
     λ j. (tree_of p.0, cond (sym apart j) (tree_of v) (tree_of p.1)) ∷ except_found ps x v i q d h.1 (omega arith) e is j
 
--- the arguments stay
-pub arguments-except_of : (a v : Tree) (ps : List (Tree × Tree)) → arguments (except_of a v ps) ≡ arguments ps
-arguments-except_of a v [] = refl
-arguments-except_of a v (p ∷ ps) = ap (λ us. p.0 ∷ us) (arguments-except_of a v ps)
-
 -- ---- the domain
 deepest-arguments : (ps : List (Tree × Tree)) → deepest (trees (arguments ps)) ≤ deepest_pair (pairs ps)
 deepest-arguments [] = omega arith

@@ -55,13 +55,6 @@ stands_below vs i x q h l is e =
 abbrev pub IsAhead : List Tree → List Tree → List Tree → Type 0
 IsAhead xs rest all = AllByRecursion (λ q. is_member q rest ≡ is_member q all) xs
 
-ahead_all : (xs rest : List Tree) → rest ≡ rest → IsAhead xs rest rest
-ahead_all [] rest e = tt
-ahead_all (x ∷ xs) rest e = (refl, ahead_all xs rest e)
-
-pub ahead_from : (xs rest : List Tree) → IsAhead xs rest rest
-ahead_from xs rest = ahead_all xs rest refl
-
 kept_ahead : (x : Tree) (xs rest next all : List Tree) → AllByRecursion (λ q. tree_cmp x q ≡ Less) xs → ((q : Tree) → tree_cmp x q ≡ Less → is_member q next ≡ is_member q rest) → IsAhead xs rest all → IsAhead xs next all
 kept_ahead x [] rest next all h same a = tt
 kept_ahead x (q ∷ xs) rest next all h same a = (same q h.0 ∙ a.0, kept_ahead x xs rest next all h.1 same a.1)

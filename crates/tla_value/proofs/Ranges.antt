@@ -50,8 +50,5 @@ not_below a b h = grind (arith, ints)
 pub range_none : (a b : ℤ) → b <ℤ a → range_of a b ≡ []
 range_none a b h = ap (λ t. cond t (counted_up (suc (unsigned_abs (b -ℤ a))) a) []) (not_below a b h)
 
-pub range_last : (a b : ℤ) (n : ℕ) → a ≤ℤ b → n ≡ unsigned_abs (b -ℤ a) → a +ℤ pos (n + 1) ≡ b +ℤ pos 1
-range_last a b n h e = omega (arith, ints)
-
 pub pushed : (old new : List Value) (n : ℕ) (z x : ℤ) → new ≡ old ++ Int x ∷ [] → x ≡ z +ℤ pos n → map tree_of old ≡ counted_up n z → map tree_of new ≡ counted_up (suc n) z
 pushed old new n z x e f h = ap (map tree_of) e ∙ map-append tree_of old (Int x ∷ []) ∙ ap (λ y. map tree_of old ++ int y ∷ []) f ∙ ap (λ ts. ts ++ int (z +ℤ pos n) ∷ []) h ∙ sym (counted_up-push n z)

@@ -22,6 +22,7 @@ mod text;
 mod value;
 
 pub use error::ValueError;
+pub use set::{MAX_ELEMENTS, MAX_NESTING};
 pub use show::TextFault;
 pub use state::State;
 pub use text::Text;

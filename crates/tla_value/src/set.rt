@@ -15,9 +15,11 @@ use crate::merge::{all_stand_in, chosen, merged};
 use crate::value::{SetValue, Value};
 use std::alloc::Global;
 
-pub(crate) const MAX_ELEMENTS: usize = 1_000_000;
+/// The most members of a set, and pairs of a function.
+pub const MAX_ELEMENTS: usize = 1_000_000;
 
-pub(crate) const MAX_NESTING: u64 = 64;
+/// How deep a value is nested at most.
+pub const MAX_NESTING: u64 = 64;
 
 // How deep the deepest of some values is nested.
 pub(crate) fn deepest_of(values: &[Value]) -> u64

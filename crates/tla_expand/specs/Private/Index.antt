@@ -1,5 +1,5 @@
 -- An index of entries by their names. Private contracts alone cite this.
-use Rattle.std.specs.Prelude.{◌≡◌, ℕ, zero, suc, ◌+◌, ◌*◌, ◌/◌, ◌%◌, ◌<◌, List, [], ◌∷◌, ◌++◌, map, length, get_or, cond, eqb}
+use Rattle.std.specs.Prelude.{◌≡◌, ℕ, zero, suc, ◌+◌, ◌*◌, ◌/◌, ◌%◌, ◌<◌, List, [], ◌∷◌, ◌++◌, length, get_or, cond, eqb}
 use Rattle.std.specs.Str.{bytes_eq}
 use Rattle.tla_expand.specs.declared.arena.Entry.{Entry}
 use Rattle.tla_expand.specs.declared.entries.Node.{Node}
@@ -43,9 +43,6 @@ found_behind ρs (e ∷ es) = found_behind (ρs ++ entry_found ρs e ∷ []) es
 
 unfoldable pub found_at : List Entry → ℕ → Found
 found_at es s = found_of (found_behind (nowhere ∷ []) es) s
-
-abbrev pub entries_of : List Node → List Entry
-entries_of ns = map (λ (n : Node). n.entry) ns
 
 -- the scope in which a name is sought behind a node of another one
 abbrev pub jump_for : Node → Name → ℕ

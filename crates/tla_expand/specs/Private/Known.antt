@@ -17,7 +17,7 @@ use Rattle.tla_expand.specs.Places.{Name}
 use Rattle.tla_expand.specs.Primes.{with_primes}
 use Rattle.tla_expand.specs.Meanings.{Scope, Argument, Meaning, with_name, with_parameters, operator}
 use Rattle.tla_expand.specs.Expand.{expand, definition_in, definitions_in}
-use Rattle.tla_expand.specs.Private.Arguments.{given, argument_of}
+use Rattle.tla_expand.specs.Arguments.{given, argument_of}
 
 -- what a name of a LET means, in the scope before it
 abbrev pub Means : Meant → Meaning → Scope → Type 0

@@ -13,7 +13,7 @@ ghost use Rattle.tla_expand.specs.Private.Binders.{names_of, binds_in, opened_at
 ghost use Rattle.tla_expand.specs.Maybe.{each_of};
 ghost use Rattle.tla_expand.specs.Meanings.{Scope};
 ghost use Rattle.tla_expand.specs.Private.Gives.{Gives, GivesMany, set_in};
-ghost use Rattle.tla_expand.specs.Private.Listed.{listed};
+ghost use Rattle.tla_expand.specs.Listed.{listed};
 
 use crate::arena::{Entry, What, enter};
 use crate::binders::{Bind, Names, bind_list, bind_one};

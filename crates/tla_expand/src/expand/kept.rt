@@ -7,7 +7,7 @@ ghost use Rattle.tla_expand.specs.Primes.{settled_primes};
 ghost use Rattle.tla_expand.specs.Scopes.{AreLinked, scope_at};
 ghost use Rattle.tla_expand.specs.Private.Forms.{tuple_parts};
 ghost use Rattle.tla_expand.specs.Private.Gives.{kept_part, changed_in, part_in, both, made, Gives, GivesMany};
-ghost use Rattle.tla_expand.specs.Private.Listed.{listed};
+ghost use Rattle.tla_expand.specs.Listed.{listed};
 
 use crate::builders::{kept_core, two_core};
 use crate::entries::Entries;

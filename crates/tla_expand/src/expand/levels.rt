@@ -9,7 +9,7 @@ ghost use Rattle.tla_expand.specs.Scopes.{AreLinked, scope_at};
 ghost use Rattle.tla_expand.specs.Private.Forms.{form_in, tuple_parts};
 ghost use Rattle.tla_expand.specs.Private.Gives.{kept_part, changed_in, part_in, both, total, highest, Fails, FailsBy, Gives, GivesTwo, SaysNone};
 ghost use Rattle.tla_model.specs.Size.{nodes, depth};
-ghost use Rattle.tla_expand.specs.Private.Listed.{listed};
+ghost use Rattle.tla_expand.specs.Listed.{listed};
 
 use crate::entries::Entries;
 use crate::expand::kept::{changed, kept, settled, tuple_items};

@@ -6,7 +6,7 @@ ghost use Rattle.tla_expand.specs.Maybe.{each_of};
 ghost use Rattle.tla_expand.specs.Lists.{exprs};
 ghost use Rattle.tla_expand.specs.Scopes.{AreLinked, scope_at};
 ghost use Rattle.tla_expand.specs.Private.Gives.{part_in, key_in, arm_in, field_in, made, Gives, GivesMany, GivesArms, GivesFields};
-ghost use Rattle.tla_expand.specs.Private.Listed.{listed};
+ghost use Rattle.tla_expand.specs.Listed.{listed};
 
 use crate::builders::{place_of, text_of, tuple};
 use crate::entries::Entries;

@@ -8,7 +8,7 @@ ghost use Rattle.tla_expand.specs.Maybe.{each_of};
 ghost use Rattle.tla_expand.specs.Lists.{updates_of};
 ghost use Rattle.tla_expand.specs.Scopes.{AreLinked, scope_at};
 ghost use Rattle.tla_expand.specs.Private.Gives.{both, made, part_in, step_in, update_in, value_in, Gives, GivesMany, GivesChange, GivesChanges};
-ghost use Rattle.tla_expand.specs.Private.Listed.{listed};
+ghost use Rattle.tla_expand.specs.Listed.{listed};
 
 use crate::arena::{Entry, What, enter};
 use crate::builders::{except_core, place_of};

@@ -11,8 +11,8 @@ use Rattle.tla_parse.specs.declared.refusal.Refusal.{Refusal}
 use Rattle.tla_tree.specs.Tree.{Entry, Key, Change, fields, keys, updates}
 use Rattle.tla_tree.specs.View.{view, field_view, key_view, update_view}
 use Rattle.tla_parse.specs.Edges.{depth, fields_depth, key_depth, keys_depth, updates_depth}
-use Rattle.tla_parse.specs.Outcome.{Outcome}
-use Rattle.tla_parse.specs.Gives.{Fails}
+use Rattle.tla_parse.specs.Private.Outcome.{Outcome}
+use Rattle.tla_parse.specs.Private.Gives.{Fails}
 
 abbrev pub GivesField : List ℕ → List Token → ℕ → Result ParsedField Refusal → Outcome Entry → Type 0
 GivesField text ts most (Ok x) read = (read ≡ Ok (field_view x.field, x.end)) × (x.depth ≡ depth (view x.field.value)) × (x.depth ≤ most)

@@ -13,8 +13,8 @@ use Rattle.tla_tree.specs.Units.{UnitTree, Declared}
 use Rattle.tla_parse.specs.Units.{unit_depth, units_depth}
 use Rattle.tla_parse.specs.Private.UnitsReading.{Claim}
 use Rattle.tla_tree.specs.UnitsView.{unit_view, declared}
-use Rattle.tla_parse.specs.Outcome.{Outcome}
-use Rattle.tla_parse.specs.Gives.{Fails}
+use Rattle.tla_parse.specs.Private.Outcome.{Outcome}
+use Rattle.tla_parse.specs.Private.Gives.{Fails}
 
 abbrev pub GivesDeclared : List ℕ → List Token → Result ParsedDeclaration Refusal → Outcome Declared → Type 0
 GivesDeclared text ts (Ok x) read = read ≡ Ok (declared x.declaration, x.end)

@@ -12,9 +12,9 @@ use Rattle.tla_tree.specs.Units.{UnitTree, Separator, Extends, Variables, Operat
 use Rattle.tla_parse.specs.Units.{is_separator, outermost}
 use Rattle.tla_parse.specs.declared.tokens.Between.TheVariants as between
 use Rattle.tla_tree.specs.Tree.{Tree, Definition, DefinesOperator}
-use Rattle.tla_parse.specs.Outcome.{Outcome, Refused, ◌>>=◌, need, at_op, sequence}
-use Rattle.tla_parse.specs.ReadingLists.{name_at, following, names}
-use Rattle.tla_parse.specs.Reading.{definition, expr}
+use Rattle.tla_parse.specs.Private.Outcome.{Outcome, Refused, ◌>>=◌, need, at_op, sequence}
+use Rattle.tla_parse.specs.Private.ReadingLists.{name_at, following, names}
+use Rattle.tla_parse.specs.Private.Reading.{definition, expr}
 
 -- the name and the expression of an assumption or a theorem
 abbrev pub Claim : Type 0

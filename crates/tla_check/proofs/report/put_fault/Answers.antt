@@ -12,7 +12,7 @@ returns-in_err-written g c =
     let end = part_line c.args.answered.now.invariants c.args.answered.now.constraints c.args.part in
     let joined = fault_joins (codes "Fault ") (code_text f.code) site end in
     puts_exit _ _ c.from_residual.ensures.1
-    (rw (joined, ← c.fault_code_text.ensures) (puts_short end (puts_short site c.in_err-written.ensures)))
+    (rw (joined, ← c.name.ensures) (puts_short end (puts_short site c.in_err-written.ensures)))
 
 pub returns-in_err-written-2 : goal.returns-in_err-written-2
 returns-in_err-written-2 g c =
@@ -21,7 +21,7 @@ returns-in_err-written-2 g c =
     let end = part_line c.args.answered.now.invariants c.args.answered.now.constraints c.args.part in
     let joined = fault_joins (codes "Fault ") (code_text f.code) site end in
     puts_exit _ _ c.from_residual-in_err-written-2.ensures.1
-    (rw (joined, ← c.fault_code_text.ensures) (puts_short end (puts_then c.in_ok-written.ensures c.in_err-written-2.ensures)))
+    (rw (joined, ← c.name.ensures) (puts_short end (puts_then c.in_ok-written.ensures c.in_err-written-2.ensures)))
 
 pub returns : goal.returns
 returns g c =
@@ -29,4 +29,4 @@ returns g c =
     let site = site_text c.args.answered.now.variables f.place f.variable in
     let end = part_line c.args.answered.now.invariants c.args.answered.now.constraints c.args.part in
     let joined = fault_joins (codes "Fault ") (code_text f.code) site end in
-    rw (joined, ← c.fault_code_text.ensures) (puts_then (puts_then c.in_ok-written.ensures c.in_ok-written-2.ensures) c.put_part.ensures)
+    rw (joined, ← c.name.ensures) (puts_then (puts_then c.in_ok-written.ensures c.in_ok-written-2.ensures) c.put_part.ensures)

@@ -22,8 +22,8 @@ pub loop-items-preserved : goal.loop-items-preserved
 loop-items-preserved c =
     let front = map item_view c.loop-items.items.items in
     let i = item_view c.in_ok-found.found.item in
-    let more : map item_view c.push_item.new.items.items ≡ front ++ i ∷ [] =
-    ap (λ x. map item_view x) c.in_ok-push_item.ensures.ok ∙ map-append item_view c.loop-items.items.items (c.in_ok-found.found.item ∷ []) in
+    let more : map item_view c.push.new.items.items ≡ front ++ i ∷ [] =
+    ap (λ x. map item_view x) c.in_ok-push.ensures.ok ∙ map-append item_view c.loop-items.items.items (c.in_ok-found.found.item ∷ []) in
     record {
       so_far = rw more (items_more c.args.text.now c.args.tokens.now front c.args.from c.loop-items.at c.in_ok-found.found.end c.in-Some.next i
           c.loop-items.invariant.so_far c.in_ok-found.ensures.gives c.in-Some.ensures.goes_on);
@@ -34,8 +34,8 @@ pub returns-in-None-clause-gives : goal.returns-in-None-clause-gives
 returns-in-None-clause-gives c =
     let front = map item_view c.loop-items.items.items in
     let i = item_view c.in_ok-found.found.item in
-    let more : map item_view c.push_item.new.items.items ≡ front ++ i ∷ [] =
-    ap (λ x. map item_view x) c.in_ok-push_item.ensures.ok ∙ map-append item_view c.loop-items.items.items (c.in_ok-found.found.item ∷ []) in
+    let more : map item_view c.push.new.items.items ≡ front ++ i ∷ [] =
+    ap (λ x. map item_view x) c.in_ok-push.ensures.ok ∙ map-append item_view c.loop-items.items.items (c.in_ok-found.found.item ∷ []) in
     rw more (items_last c.args.text.now c.args.tokens.now front c.args.from c.loop-items.at c.in_ok-found.found.end i
     c.loop-items.invariant.so_far c.in_ok-found.ensures.gives c.in-None.ensures.goes_on)
 

@@ -20,13 +20,13 @@ returns-in_err-name-clause-gives c =
 
 pub loop-names-preserved : goal.loop-names-preserved
 loop-names-preserved c = record {
-  so_far = rw c.in_ok-push_name.ensures.ok (so_far_more c.args.text.now c.args.tokens.now c.loop-names.names.items c.args.from c.loop-names.at c.in-Some.next
+  so_far = rw c.in_ok-push.ensures.ok (so_far_more c.args.text.now c.args.tokens.now c.loop-names.names.items c.args.from c.loop-names.at c.in-Some.next
       c.in_ok-name.name c.loop-names.invariant.so_far c.in_ok-name.ensures.gives c.in-Some.ensures.goes_on);
   order = let a = c.in-Some.ensures.order in let b = c.loop-names.invariant.order in omega arith;
 }
 
 pub returns-in-None-clause-gives : goal.returns-in-None-clause-gives
-returns-in-None-clause-gives c = rw c.in_ok-push_name.ensures.ok (so_far_last c.args.text.now c.args.tokens.now c.loop-names.names.items c.args.from c.loop-names.at
+returns-in-None-clause-gives c = rw c.in_ok-push.ensures.ok (so_far_last c.args.text.now c.args.tokens.now c.loop-names.names.items c.args.from c.loop-names.at
     c.in_ok-name.name c.loop-names.invariant.so_far c.in_ok-name.ensures.gives c.in-None.ensures.goes_on)
 
 pub returns-in_err-name-clause-because : goal.returns-in_err-name-clause-because

@@ -41,8 +41,8 @@ pub loop-at-preserved : goal.loop-at-preserved
 loop-at-preserved c =
     let front = map statement_view c.loop-at.statements.items in
     let s = statement_view c.in_ok-found.found.statement in
-    let e : map statement_view c.push_statement.new.statements.items ≡ front ++ s ∷ [] =
-    ap (λ x. map statement_view x) c.in_ok-push_statement.ensures.ok ∙ map-append statement_view c.loop-at.statements.items (c.in_ok-found.found.statement ∷ []) in
+    let e : map statement_view c.push.new.items.items ≡ front ++ s ∷ [] =
+    ap (λ x. map statement_view x) c.in_ok-push.ensures.ok ∙ map-append statement_view c.loop-at.statements.items (c.in_ok-found.found.statement ∷ []) in
     rw (e, c.checks_too-checks.ensures) (record {
       so_far = so_far_more c.args.text.now c.args.tokens.now front c.loop-at.at c.in_ok-found.found.end s c.loop-at.invariant.so_far c.in_ok-found.ensures.gives;
       checks = checks_next front s c.loop-at.checks c.loop-at.invariant.checks cc;

@@ -61,9 +61,9 @@ members-returns-in_err-value-2-clause-gives t c =
     let front = map tree_of c.loop-values.values.items in
     let v = tree_of c.in_ok-found.found.value in
     let e = err_from_is_err_and c.from_residual-in_err-value-2.result c.from_residual-in_err-value-2.ensures.1 in
-    let more : map tree_of c.push_value.new.values.items ≡ front ++ v ∷ [] =
-    ap (λ x. map tree_of x) c.in_ok-push_value.ensures.ok ∙ map-append tree_of c.loop-values.values.items (c.in_ok-found.found.value ∷ []) in
-    rw (e.1, e.2) (fails_map text ts c.in_err-value-2.field-0.0 (IsValue (set (trees (set_of (map tree_of c.push_value.new.values.items)))) → ⊥) (NoValue text ts (c.args.room + 1) c.args.from)
+    let more : map tree_of c.push.new.items.items ≡ front ++ v ∷ [] =
+    ap (λ x. map tree_of x) c.in_ok-push.ensures.ok ∙ map-append tree_of c.loop-values.values.items (c.in_ok-found.found.value ∷ []) in
+    rw (e.1, e.2) (fails_map text ts c.in_err-value-2.field-0.0 (IsValue (set (trees (set_of (map tree_of c.push.new.items.items)))) → ⊥) (NoValue text ts (c.args.room + 1) c.args.from)
     (λ f. so_far_refused text ts front (c.args.room + 1) c.args.from c.loop-values.at c.in_ok-found.found.end v (kind_found k.LeftBrace (slice_get ts c.args.from) c.requires)
     c.loop-values.invariant.so_far c.in_ok-found.ensures.gives (kind_found k.RightBrace (slice_get ts c.in_ok-found.found.end) (sym c.is_kind-in-loop-values.ensures.value ∙ c.if-is_kind-2.true))
     (λ x. f (subst (λ vs. IsValue (set (trees (set_of vs)))) (sym more) x))) (c.in_err-value-2.ensures.gives text ts))
@@ -75,8 +75,8 @@ members-returns-then-is_kind-2-clause-gives t c =
     let front = map tree_of c.loop-values.values.items in
     let v = tree_of c.in_ok-found.found.value in
     let g = c.in_ok-value-2.ensures.gives text ts in
-    let more : map tree_of c.push_value.new.values.items ≡ front ++ v ∷ [] =
-    ap (λ x. map tree_of x) c.in_ok-push_value.ensures.ok ∙ map-append tree_of c.loop-values.values.items (c.in_ok-found.found.value ∷ []) in
+    let more : map tree_of c.push.new.items.items ≡ front ++ v ∷ [] =
+    ap (λ x. map tree_of x) c.in_ok-push.ensures.ok ∙ map-append tree_of c.loop-values.values.items (c.in_ok-found.found.value ∷ []) in
     so_far_last text ts front c.args.from c.loop-values.at c.in_ok-found.found.end v (tree_of c.in_ok-value-2.value) c.loop-values.invariant.so_far c.in_ok-found.ensures.gives
     (kind_found k.RightBrace (slice_get ts c.in_ok-found.found.end) (sym c.is_kind-in-loop-values.ensures.value ∙ c.if-is_kind-2.true))
     (g.0 ∙ ap (λ vs. set (trees (set_of vs))) more) g.1
@@ -96,8 +96,8 @@ members-loop-values-preserved t c =
     let ts = c.args.tokens.now in
     let front = map tree_of c.loop-values.values.items in
     let v = tree_of c.in_ok-found.found.value in
-    let more : map tree_of c.push_value.new.values.items ≡ front ++ v ∷ [] =
-    ap (λ x. map tree_of x) c.in_ok-push_value.ensures.ok ∙ map-append tree_of c.loop-values.values.items (c.in_ok-found.found.value ∷ []) in
+    let more : map tree_of c.push.new.items.items ≡ front ++ v ∷ [] =
+    ap (λ x. map tree_of x) c.in_ok-push.ensures.ok ∙ map-append tree_of c.loop-values.values.items (c.in_ok-found.found.value ∷ []) in
     record {
       so_far = rw more (so_far_more text ts front c.args.from c.loop-values.at c.in_ok-found.found.end v c.loop-values.invariant.so_far c.in_ok-found.ensures.gives
           (kind_found k.Comma (slice_get ts c.in_ok-found.found.end) (let f = c.is_kind-in-loop-values-2.ensures.value in cc)));
@@ -152,9 +152,9 @@ members-returns-in_err-value-2-clause-because t c =
     let front = map tree_of c.loop-values.values.items in
     let v = tree_of c.in_ok-found.found.value in
     let e = err_from_is_err_and c.from_residual-in_err-value-2.result c.from_residual-in_err-value-2.ensures.1 in
-    let more : map tree_of c.push_value.new.values.items ≡ front ++ v ∷ [] =
-    ap (λ x. map tree_of x) c.in_ok-push_value.ensures.ok ∙ map-append tree_of c.loop-values.values.items (c.in_ok-found.found.value ∷ []) in
-    rw (e.1, e.2) (set_because text ts c.in_err-value-2.field-0.0 (map tree_of c.push_value.new.values.items) c.args.item (c.args.room + 1) c.args.from
+    let more : map tree_of c.push.new.items.items ≡ front ++ v ∷ [] =
+    ap (λ x. map tree_of x) c.in_ok-push.ensures.ok ∙ map-append tree_of c.loop-values.values.items (c.in_ok-found.found.value ∷ []) in
+    rw (e.1, e.2) (set_because text ts c.in_err-value-2.field-0.0 (map tree_of c.push.new.items.items) c.args.item (c.args.room + 1) c.args.from
     (λ f. set_beyond text ts front (c.args.room + 1) c.args.from c.loop-values.at c.in_ok-found.found.end v c.loop-values.invariant.so_far c.in_ok-found.ensures.gives
     (kind_found k.RightBrace (slice_get ts c.in_ok-found.found.end) (sym c.is_kind-in-loop-values.ensures.value ∙ c.if-is_kind-2.true))
     (λ x. f (subst (λ vs. IsValue (set (trees (set_of vs)))) (sym more) x))) (c.in_err-value-2.ensures.gives text ts) c.in_err-value-2.ensures.because)

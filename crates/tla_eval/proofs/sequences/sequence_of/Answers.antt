@@ -8,8 +8,8 @@ use Rattle.tla_eval.specs.Gives.{Gives}
 use Rattle.tla_eval.proofs.Numbered.{make_sequence_many, fun_of-numbered}
 use Rattle.tla_eval.proofs.sequences.sequence_of.Goals as goal
 
-pub returns-then-len-gt-MAX_ITEMS : goal.returns-then-len-gt-MAX_ITEMS
-returns-then-len-gt-MAX_ITEMS c =
+pub returns-then-len-gt-MAX_ELEMENTS : goal.returns-then-len-gt-MAX_ELEMENTS
+returns-then-len-gt-MAX_ELEMENTS c =
     let many : 1000000 < length (map tree_of c.args.values.items) = omega (arith, length-map c.args.values.items tree_of) in
     inr (rw c.fault_at.ensures (make_sequence_many c.args.place (map tree_of c.args.values.items) many))
 

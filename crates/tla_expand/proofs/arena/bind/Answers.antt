@@ -1,7 +1,7 @@
 use Rattle.std.proofs.Common.{arith, ◌∙◌, ap, sym}
 use Rattle.tla_tree.specs.declared.word.Written.{Written}
 use Rattle.tla_expand.proofs.Binds.{bind_more, extends_more}
-use Rattle.tla_expand.specs.Private.Listed.{listed}
+use Rattle.tla_expand.specs.Listed.{listed}
 use Rattle.tla_expand.proofs.arena.bind.Goals as goal
 
 pub loop-i-preserved : goal.loop-i-preserved

@@ -1,7 +1,7 @@
 use Rattle.std.proofs.Common.{◌≡◌, ◌≤◌, length, drop}
 use Rattle.tla_expand.specs.Scopes.{scope_at, AreLinked, Extends, arguments_in}
 use Rattle.tla_expand.specs.Meanings.{with_parameters}
-use Rattle.tla_expand.specs.Private.Listed.{listed}
+use Rattle.tla_expand.specs.Listed.{listed}
 use Rattle.tla_expand.proofs.arena.bind.Given as goal
 
 abbrev pub invariant-loop-i : goal.invariant-loop-i

@@ -1,5 +1,5 @@
 use Rattle.std.proofs.Common.{◌≡◌, ◌∙◌, ap, length-append, length, ◌+◌, ◌++◌, ◌∷◌, []}
-use Rattle.tla_expand.specs.Private.Listed.{listed}
+use Rattle.tla_expand.specs.Listed.{listed}
 use Rattle.tla_expand.proofs.Links.{are_linked_append, below_rest, scope_new}
 use Rattle.tla_expand.proofs.arena.enter.Goals as goal
 

@@ -2,7 +2,7 @@ use Rattle.std.proofs.Common.{rules, ◌≡◌, ◌+◌, ◌-◌, ◌<◌, ℕ, 
 use Rattle.std.specs.Str.{bytes_eq}
 use Rattle.tla_expand.specs.Meanings.{Scope}
 use Rattle.tla_expand.specs.Private.Index.{found_at, hash_of, slot_of}
-use Rattle.tla_expand.specs.Private.Listed.{listed}
+use Rattle.tla_expand.specs.Listed.{listed}
 use Rattle.tla_expand.proofs.Indexed.{jump_from, scope_same}
 use Rattle.tla_expand.proofs.Links.{find_hit, same_entry, scope_zero}
 use Rattle.tla_expand.proofs.arena.position.Goals as goal

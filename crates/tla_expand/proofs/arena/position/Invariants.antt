@@ -1,6 +1,6 @@
 use Rattle.std.proofs.Common.{◌≡◌, ◌≤◌, length}
 use Rattle.tla_expand.specs.Private.Index.{found_at}
-use Rattle.tla_expand.specs.Private.Listed.{listed}
+use Rattle.tla_expand.specs.Listed.{listed}
 use Rattle.tla_expand.proofs.arena.position.Given as goal
 
 abbrev pub invariant-loop-at : goal.invariant-loop-at

@@ -8,7 +8,7 @@ use Rattle.tla_expand.specs.Lists.{exprs}
 use Rattle.tla_expand.specs.Places.{place_of}
 use Rattle.tla_expand.specs.Scopes.{scope_at}
 use Rattle.tla_expand.proofs.Apart.{conjunction_fails, conjunction_gives, limits_given, none_told, none_within}
-use Rattle.tla_expand.specs.Private.Listed.{listed}
+use Rattle.tla_expand.specs.Listed.{listed}
 use Rattle.tla_expand.proofs.conjunction.conjunction.Goals as goal
 
 pub returns-in_err-many-clause-none : goal.returns-in_err-many-clause-none

@@ -9,7 +9,7 @@ use Rattle.tla_expand.specs.Scopes.{scope_at}
 use Rattle.tla_expand.specs.Private.Gives.{part_in, pointed}
 use Rattle.tla_expand.proofs.Lists.{part_done, part_fails, all_done, total_more, highest_more}
 use Rattle.tla_expand.proofs.Apart.{pointed_at}
-use Rattle.tla_expand.specs.Private.Listed.{listed}
+use Rattle.tla_expand.specs.Listed.{listed}
 use Rattle.tla_expand.proofs.conjunction.each_apart.Goals as goal
 
 pub returns-in_err-part : goal.returns-in_err-part

@@ -4,7 +4,7 @@ use Rattle.tla_core.specs.ExprOf.{expr_of}
 use Rattle.tla_expand.specs.Scopes.{scope_at}
 use Rattle.tla_expand.specs.Private.Gives.{part_in, pointed, total, highest}
 use Rattle.tla_expand.proofs.Lists.{so_far}
-use Rattle.tla_expand.specs.Private.Listed.{listed}
+use Rattle.tla_expand.specs.Listed.{listed}
 use Rattle.tla_expand.proofs.conjunction.each_apart.Given as goal
 
 abbrev pub invariant-loop-i : goal.invariant-loop-i

@@ -7,7 +7,7 @@ use Rattle.tla_expand.specs.Expand.{expand}
 use Rattle.tla_expand.specs.Scopes.{scope_at}
 use Rattle.tla_expand.specs.Private.Walks.{IsInside}
 use Rattle.tla_expand.proofs.Walking.{walk_starts, walk_over, covered, uncovered, no_cover, each_back}
-use Rattle.tla_expand.specs.Private.Listed.{listed}
+use Rattle.tla_expand.specs.Listed.{listed}
 use Rattle.tla_expand.proofs.cover.covers.Goals as goal
 
 pub loop-turn-init : goal.loop-turn-init

@@ -1,7 +1,7 @@
 use Rattle.tla_expand.specs.Private.Gives.{head_gives, step_gives}
 use Rattle.tla_expand.specs.Private.Walks.{IsWalkTo, GoesOn}
 use Rattle.tla_expand.proofs.Walking.{put_part, goes_by}
-use Rattle.tla_expand.specs.Private.Listed.{listed}
+use Rattle.tla_expand.specs.Listed.{listed}
 use Rattle.tla_expand.proofs.cover.go_along.Goals as goal
 
 pub returns-in_ok-push-in-Goes-clause-goes : goal.returns-in_ok-push-in-Goes-clause-goes

@@ -6,7 +6,7 @@ use Rattle.tla_expand.specs.Private.Gives.{step_gives}
 use Rattle.tla_expand.specs.Private.Walks.{IsWalkTo, GoesOn}
 use Rattle.tla_expand.specs.Scopes.{scope_at}
 use Rattle.tla_expand.proofs.Walking.{walk_grown, walk_same, put_nothing, goes_by}
-use Rattle.tla_expand.specs.Private.Listed.{listed}
+use Rattle.tla_expand.specs.Listed.{listed}
 use Rattle.tla_expand.proofs.cover.go_from.Goals as goal
 
 pub returns-in-Ok-clause-goes : goal.returns-in-Ok-clause-goes

@@ -3,7 +3,7 @@ use Rattle.tla_expand.specs.Private.Gives.{head_gives}
 use Rattle.tla_expand.specs.Scopes.{scope_at}
 use Rattle.tla_expand.proofs.Nameless.{form_nameless}
 use Rattle.tla_expand.proofs.Walking.{variable_piece, tuple_piece, put_variable, put_tuple, put_other}
-use Rattle.tla_expand.specs.Private.Listed.{listed}
+use Rattle.tla_expand.specs.Listed.{listed}
 use Rattle.tla_expand.proofs.cover.go_into.Goals as goal
 
 pub returns-in_ok-meet-in-Variable-clause-goes : goal.returns-in_ok-meet-in-Variable-clause-goes

@@ -5,7 +5,7 @@ use Rattle.tla_expand.specs.Primes.{with_primes}
 use Rattle.tla_expand.specs.Private.Walks.{IsWalk, IsWalkTo, GoesOn}
 use Rattle.tla_expand.specs.Scopes.{scope_at}
 use Rattle.tla_expand.proofs.Walking.{take_part, take_end, goes_by}
-use Rattle.tla_expand.specs.Private.Listed.{listed}
+use Rattle.tla_expand.specs.Listed.{listed}
 use Rattle.tla_expand.proofs.cover.go_on.Goals as goal
 
 pub returns-in-Part-clause-goes : goal.returns-in-Part-clause-goes

@@ -5,7 +5,7 @@ use Rattle.tla_expand.specs.Scopes.{scope_at}
 use Rattle.tla_expand.specs.declared.cover.Gone.{Gone}
 use Rattle.tla_expand.specs.Private.Walks.{IsWalkTo, GoesOn}
 use Rattle.tla_expand.proofs.Walking.{put_gone, put_end, name_gone, goes_by}
-use Rattle.tla_expand.specs.Private.Listed.{listed}
+use Rattle.tla_expand.specs.Listed.{listed}
 use Rattle.tla_expand.proofs.cover.look_at_name.Goals as goal
 
 pub returns-then-was_gone-clause-goes : goal.returns-then-was_gone-clause-goes

@@ -1,5 +1,5 @@
 use Rattle.tla_expand.proofs.Walking.{named_is}
-use Rattle.tla_expand.specs.Private.Listed.{listed}
+use Rattle.tla_expand.specs.Listed.{listed}
 use Rattle.tla_expand.proofs.cover.named.Goals as goal
 
 pub returns-in-Name : goal.returns-in-Name

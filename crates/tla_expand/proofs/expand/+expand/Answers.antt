@@ -37,7 +37,7 @@ use Rattle.tla_expand.proofs.NamedParts.{field_some, field_fails}
 use Rattle.tla_expand.proofs.Gathered.{names_small, sets_fail, body_fails, gather_gives}
 use Rattle.tla_expand.proofs.Keys.{one_key, several_keys}
 use Rattle.tla_expand.proofs.Arms.{two_form, many_form, index_form, cases_form, cases_or_form, unchanged_form, fields_form, product_form, except_form, square_form, angle_form}
-use Rattle.tla_expand.specs.Private.Listed.{listed}
+use Rattle.tla_expand.specs.Listed.{listed}
 use Rattle.tla_expand.proofs.expand.+expand.Goals as goal
 
 pub expand-returns-then-at-eq0-clause-same : goal.expand-returns-then-at-eq0-clause-same

@@ -5,7 +5,7 @@ use Rattle.tla_expand.specs.Scopes.{scope_at}
 use Rattle.tla_expand.specs.Private.Gives.{part_in, arm_in, field_in, set_in, step_in, update_in, kept_part, total, highest, sum_of, larger_of, field_nodes, field_depth, update_nodes, update_depth}
 use Rattle.tla_expand.specs.Lists.{named_part, changed_part}
 use Rattle.tla_expand.proofs.Lists.{so_far}
-use Rattle.tla_expand.specs.Private.Listed.{listed}
+use Rattle.tla_expand.specs.Listed.{listed}
 use Rattle.tla_expand.proofs.expand.+expand.Given as goal
 
 abbrev pub decreases-expand : goal.decreases-expand

@@ -8,11 +8,11 @@ use Rattle.tla_expand.specs.Primes.{with_primes}
 use Rattle.tla_expand.specs.Meanings.{Scope, Argument}
 use Rattle.tla_expand.specs.Expand.{expand, definitions_in}
 use Rattle.tla_expand.specs.Scopes.{scope_at}
-use Rattle.tla_expand.specs.Private.Arguments.{argument_of}
+use Rattle.tla_expand.specs.Arguments.{argument_of}
 use Rattle.tla_expand.specs.Private.Known.{Holds, IsMeant, IsOperator, GivesBack}
 use Rattle.tla_expand.proofs.Shorter.{some_map}
 use Rattle.tla_expand.proofs.GivenWalk.{comes_back, back_more, back_none, back_let, expression_meant, operator_meant, other_meant, operator_back}
-use Rattle.tla_expand.specs.Private.Listed.{listed}
+use Rattle.tla_expand.specs.Listed.{listed}
 use Rattle.tla_expand.proofs.gives.+gives.Goals as goal
 
 pub given_in-returns-then-from-definitions : goal.given_in-returns-then-from-definitions

@@ -2,7 +2,7 @@ use Rattle.std.proofs.Common.{refl, sym}
 use Rattle.tla_expand.specs.Scopes.{scope_at}
 use Rattle.tla_expand.specs.Private.Known.{IsGiven}
 use Rattle.tla_expand.proofs.GivenWalk.{call_goes}
-use Rattle.tla_expand.specs.Private.Listed.{listed}
+use Rattle.tla_expand.specs.Listed.{listed}
 use Rattle.tla_expand.proofs.gives.called.Goals as goal
 
 pub returns-in-Some-given_argument : goal.returns-in-Some-given_argument

@@ -1,6 +1,6 @@
 use Rattle.tla_expand.specs.Scopes.{scope_at}
 use Rattle.tla_expand.proofs.GivenWalk.{comes_self, comes_trans, comes_back}
-use Rattle.tla_expand.specs.Private.Listed.{listed}
+use Rattle.tla_expand.specs.Listed.{listed}
 use Rattle.tla_expand.proofs.gives.last.Goals as goal
 
 pub loop-turn-init : goal.loop-turn-init

@@ -5,7 +5,7 @@ use Rattle.tla_expand.specs.Expand.{expand}
 use Rattle.tla_expand.specs.Scopes.{scope_at}
 use Rattle.tla_expand.proofs.Steps.{shown_once}
 use Rattle.tla_expand.proofs.GivenWalk.{comes_here}
-use Rattle.tla_expand.specs.Private.Listed.{listed}
+use Rattle.tla_expand.specs.Listed.{listed}
 use Rattle.tla_expand.proofs.gives.one_turn.Goals as goal
 
 pub returns-in-Name : goal.returns-in-Name

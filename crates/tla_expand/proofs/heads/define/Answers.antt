@@ -7,7 +7,7 @@ use Rattle.tla_expand.specs.Scopes.{entry_scope, scope_at}
 use Rattle.tla_expand.proofs.Links.{below_more}
 use Rattle.tla_expand.proofs.Binds.{extends_more}
 use Rattle.tla_expand.proofs.Steps.{define_more}
-use Rattle.tla_expand.specs.Private.Listed.{listed}
+use Rattle.tla_expand.specs.Listed.{listed}
 use Rattle.tla_expand.proofs.heads.define.Goals as goal
 
 pub enter-requires-clause-below : goal.enter-requires-clause-below

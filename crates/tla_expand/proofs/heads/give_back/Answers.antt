@@ -1,6 +1,6 @@
 use Rattle.std.proofs.Common.{arith, length}
 use Rattle.tla_expand.proofs.Cuts.{linked_cut, length_cut, scope_cut, extends_cut}
-use Rattle.tla_expand.specs.Private.Listed.{listed}
+use Rattle.tla_expand.specs.Listed.{listed}
 use Rattle.tla_expand.proofs.heads.give_back.Goals as goal
 
 pub returns-clause-linked : goal.returns-clause-linked

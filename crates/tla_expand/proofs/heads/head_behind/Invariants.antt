@@ -3,7 +3,7 @@ use Rattle.tla_expand.specs.Scopes.{scope_at, AreLinked, Extends}
 use Rattle.tla_expand.specs.Expand.{expand}
 use Rattle.tla_expand.specs.Primes.{with_primes}
 use Rattle.tla_tree.specs.View.{view}
-use Rattle.tla_expand.specs.Private.Listed.{listed}
+use Rattle.tla_expand.specs.Listed.{listed}
 use Rattle.tla_expand.proofs.heads.head_behind.Given as goal
 
 abbrev pub invariant-loop-turn : goal.invariant-loop-turn

@@ -1,6 +1,6 @@
 use Rattle.std.proofs.Common.{◌≡◌, ◌+◌, ◌-◌, ℕ, refl, sym, ap, ◌∙◌, arith}
 use Rattle.tla_expand.specs.Private.Index.{found_at}
-use Rattle.tla_expand.specs.Private.Listed.{listed}
+use Rattle.tla_expand.specs.Listed.{listed}
 use Rattle.tla_expand.proofs.Indexed.{jump_farther, jump_nearer}
 use Rattle.tla_expand.proofs.index.jump_at.Goals as goal
 

@@ -2,7 +2,7 @@ use Rattle.std.proofs.Common.{◌≡◌, ◌≤◌, ◌<◌, ◌+◌, ℕ, lengt
 use Rattle.std.proofs.Math.ListN.{replicate}
 use Rattle.std.proofs.lemmas.List.{length-replicate, length-set}
 use Rattle.tla_expand.specs.Private.Index.{found_at, hash_of, slot_of}
-use Rattle.tla_expand.specs.Private.Listed.{listed}
+use Rattle.tla_expand.specs.Listed.{listed}
 use Rattle.tla_expand.proofs.Hashes.{slot_within}
 use Rattle.tla_expand.proofs.Indexed.{jumps_below, jumps_more, zeros}
 use Rattle.tla_expand.proofs.index.jumps_from.Goals as goal

@@ -1,7 +1,7 @@
 use Rattle.std.proofs.Common.{◌≡◌, ◌≤◌, ◌<◌, ℕ, length, get_or}
 use Rattle.tla_expand.specs.Places.{Name}
 use Rattle.tla_expand.specs.Private.Index.{found_at, hash_of, slot_of}
-use Rattle.tla_expand.specs.Private.Listed.{listed}
+use Rattle.tla_expand.specs.Listed.{listed}
 use Rattle.tla_expand.proofs.index.jumps_from.Given as goal
 
 abbrev pub invariant-loop-bit : goal.invariant-loop-bit

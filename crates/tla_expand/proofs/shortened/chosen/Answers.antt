@@ -1,7 +1,7 @@
 use Rattle.tla_expand.specs.Scopes.{scope_at}
 use Rattle.tla_expand.proofs.Shorter.{some_map}
 use Rattle.tla_expand.proofs.GivenBack.{use_never}
-use Rattle.tla_expand.specs.Private.Listed.{listed}
+use Rattle.tla_expand.specs.Listed.{listed}
 use Rattle.tla_expand.proofs.shortened.chosen.Goals as goal
 
 pub returns-in-Never : goal.returns-in-Never

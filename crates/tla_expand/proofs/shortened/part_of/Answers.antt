@@ -4,7 +4,7 @@ use Rattle.tla_tree.specs.View.{view, views_items}
 use Rattle.tla_expand.specs.Private.Parameters.{IsAbsent}
 use Rattle.tla_expand.specs.Scopes.{scope_at}
 use Rattle.tla_expand.proofs.Shorter.{call_same, some_map}
-use Rattle.tla_expand.specs.Private.Listed.{listed}
+use Rattle.tla_expand.specs.Listed.{listed}
 use Rattle.tla_expand.proofs.shortened.part_of.Goals as goal
 
 pub returns-else-is_some : goal.returns-else-is_some

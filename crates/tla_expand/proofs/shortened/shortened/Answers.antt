@@ -2,7 +2,7 @@ use Rattle.tla_tree.specs.View.{view}
 use Rattle.tla_expand.specs.Expand.{expand}
 use Rattle.tla_expand.specs.Scopes.{scope_at}
 use Rattle.tla_expand.proofs.Shorter.{operator_same}
-use Rattle.tla_expand.specs.Private.Listed.{listed}
+use Rattle.tla_expand.specs.Listed.{listed}
 use Rattle.tla_expand.proofs.shortened.shortened.Goals as goal
 
 pub returns-in-None : goal.returns-in-None

@@ -3,7 +3,7 @@ use Rattle.tla_tree.specs.View.{view}
 use Rattle.tla_expand.specs.Meanings.{Scope, Argument, with_parameters}
 use Rattle.tla_expand.specs.Expand.{expand}
 use Rattle.tla_expand.specs.Scopes.{scope_at}
-use Rattle.tla_expand.specs.Private.Listed.{listed}
+use Rattle.tla_expand.specs.Listed.{listed}
 use Rattle.tla_expand.proofs.shortened.shortened.Given as goal
 
 abbrev pub invariant-loop-turn : goal.invariant-loop-turn

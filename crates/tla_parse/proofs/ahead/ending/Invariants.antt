@@ -1,5 +1,5 @@
 use Rattle.std.proofs.Common.{◌≡◌, ◌≤◌, drop}
-use Rattle.tla_parse.specs.Ahead.{ending}
+use Rattle.tla_parse.specs.Private.Ahead.{ending}
 use Rattle.tla_parse.proofs.ahead.ending.Given as goal
 
 abbrev pub invariant-loop-at : goal.invariant-loop-at

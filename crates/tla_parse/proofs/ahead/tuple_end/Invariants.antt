@@ -1,5 +1,5 @@
 use Rattle.std.proofs.Common.{◌≡◌, ◌-◌, ◌≤◌, length}
-use Rattle.tla_parse.specs.Ahead.{tuple_end}
+use Rattle.tla_parse.specs.Private.Ahead.{tuple_end}
 use Rattle.tla_parse.proofs.ahead.tuple_end.Given as goal
 
 abbrev pub invariant-loop-turn : goal.invariant-loop-turn

@@ -4,7 +4,7 @@ use Rattle.tla_lex.specs.declared.token.Kind.TheVariants as k
 use Rattle.tla_tree.specs.Words.{written}
 use Rattle.tla_parse.specs.Tokens.{seen}
 use Rattle.tla_parse.specs.Kinds.{kind_at}
-use Rattle.tla_parse.specs.ReadingLists.{name_at}
+use Rattle.tla_parse.specs.Private.ReadingLists.{name_at}
 use Rattle.tla_parse.proofs.Fails.{refuses_fails}
 use Rattle.tla_parse.proofs.Inversion.{kind_stands}
 use Rattle.tla_parse.proofs.NameLists.{names_none, names_last, names_more, names_full}

@@ -1,5 +1,5 @@
 use Rattle.std.proofs.Common.{◌≡◌, ◌-◌, ◌≤◌, length, []}
-use Rattle.tla_parse.specs.ReadingLists.{names}
+use Rattle.tla_parse.specs.Private.ReadingLists.{names}
 use Rattle.tla_parse.proofs.names.names.Given as goal
 
 abbrev pub invariant-loop-turn : goal.invariant-loop-turn

@@ -1,7 +1,7 @@
 use Rattle.std.proofs.Common.{◌≡◌, [], sym, ◌∙◌, arith}
 use Rattle.std.proofs.lemmas.Grind.{common_steps}
 use Rattle.tla_tree.specs.Words.{word_of}
-use Rattle.tla_parse.proofs.Slices.{no_text}
+use Rattle.tla_parse.proofs.Strings.{no_text}
 use Rattle.tla_parse.proofs.tokens.text_of.Goals as goal
 
 pub returns-then-is_empty-clause-ok : goal.returns-then-is_empty-clause-ok

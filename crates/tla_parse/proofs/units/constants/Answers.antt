@@ -2,7 +2,7 @@ use Rattle.std.proofs.Common.{◌≡◌, ◌+◌, ◌-◌, ◌++◌, ◌∷◌, 
 use Rattle.std.proofs.lemmas.Result.{err_from_is_err_and}
 use Rattle.tla_parse.specs.declared.tokens.Between.TheVariants as between
 use Rattle.tla_tree.specs.UnitsView.{declared as shown}
-use Rattle.tla_parse.specs.ReadingLists.{following}
+use Rattle.tla_parse.specs.Private.ReadingLists.{following}
 use Rattle.tla_parse.specs.Private.UnitsReading.{declared}
 use Rattle.tla_parse.proofs.Fails.{refuses_fails}
 use Rattle.tla_parse.proofs.Sequence.{sequence_more, sequence_last, sequence_full, sequence_fails}

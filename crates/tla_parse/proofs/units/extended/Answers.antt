@@ -5,7 +5,7 @@ use Rattle.tla_parse.specs.Modules.{is_module}
 use Rattle.tla_tree.specs.Words.{word_of, written}
 use Rattle.tla_parse.specs.Tokens.{seen, KindAt}
 use Rattle.tla_parse.specs.Kinds.{kind_at}
-use Rattle.tla_parse.specs.ReadingLists.{name_at}
+use Rattle.tla_parse.specs.Private.ReadingLists.{name_at}
 use Rattle.tla_parse.proofs.Inversion.{name_is, has_kind, seen_is}
 use Rattle.tla_parse.proofs.Fails.{refuses_fails}
 use Rattle.tla_parse.proofs.UnitsSteps.{modules_none, modules_unknown, modules_last, modules_more, extended_more}

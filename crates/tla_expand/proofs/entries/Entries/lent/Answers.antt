@@ -1,5 +1,5 @@
 use Rattle.std.proofs.Common.{refl, append-nil}
-use Rattle.tla_expand.specs.Private.Listed.{listed}
+use Rattle.tla_expand.specs.Listed.{listed}
 use Rattle.tla_expand.proofs.Indexed.{alone}
 use Rattle.tla_expand.proofs.entries.Entries.lent.Goals as goal
 

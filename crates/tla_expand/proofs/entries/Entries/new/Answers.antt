@@ -1,5 +1,5 @@
 use Rattle.std.proofs.Common.{refl}
-use Rattle.tla_expand.specs.Private.Listed.{listed}
+use Rattle.tla_expand.specs.Listed.{listed}
 use Rattle.tla_expand.proofs.entries.Entries.new.Goals as goal
 
 pub returns-clause-none : goal.returns-clause-none

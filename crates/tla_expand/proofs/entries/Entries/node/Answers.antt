@@ -1,6 +1,6 @@
 use Rattle.std.proofs.Common.{rules, ◌≡◌, ◌++◌, length, get_or, vec_len, subst, arith, length-append}
 use Rattle.tla_expand.specs.declared.entries.Node.{Node}
-use Rattle.tla_expand.specs.Private.Listed.{listed}
+use Rattle.tla_expand.specs.Listed.{listed}
 use Rattle.tla_expand.proofs.Indexed.{among_known, among_made, entries_length, entry_is, node_at}
 use Rattle.tla_expand.proofs.entries.Entries.node.Goals as goal
 

@@ -1,6 +1,6 @@
 use Rattle.std.proofs.Common.{is_ok, ◌++◌}
 use Rattle.tla_expand.specs.declared.entries.Node.{Node}
-use Rattle.tla_expand.specs.Private.Listed.{listed}
+use Rattle.tla_expand.specs.Listed.{listed}
 use Rattle.tla_expand.proofs.Indexed.{entries_more, node_added, pushed}
 use Rattle.tla_expand.proofs.entries.Entries.push.Goals as goal
 

@@ -1,5 +1,5 @@
 use Rattle.std.proofs.Common.{arith}
-use Rattle.tla_expand.specs.Private.Listed.{listed}
+use Rattle.tla_expand.specs.Listed.{listed}
 use Rattle.tla_expand.proofs.Indexed.{entries_known, entries_made, indexed_known, indexed_made}
 use Rattle.tla_expand.proofs.entries.Entries.truncate.Goals as goal
 

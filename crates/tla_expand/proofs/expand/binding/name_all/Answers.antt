@@ -5,7 +5,7 @@ use Rattle.tla_expand.specs.Bound.{with_elements, with_items}
 use Rattle.tla_expand.specs.Private.Binders.{binds_in}
 use Rattle.tla_expand.specs.Scopes.{scope_at}
 use Rattle.tla_expand.proofs.Binds.{extends_trans}
-use Rattle.tla_expand.specs.Private.Listed.{listed}
+use Rattle.tla_expand.specs.Listed.{listed}
 use Rattle.tla_expand.proofs.expand.binding.name_all.Goals as goal
 
 pub name_elements-requires-clause-small : goal.name_elements-requires-clause-small

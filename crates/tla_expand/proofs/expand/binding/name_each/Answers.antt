@@ -3,7 +3,7 @@ use Rattle.tla_tree.specs.declared.word.Written.{Written}
 use Rattle.tla_expand.specs.Scopes.{scope_at}
 use Rattle.tla_expand.proofs.Binds.{extends_more}
 use Rattle.tla_expand.proofs.Groups.{each_more}
-use Rattle.tla_expand.specs.Private.Listed.{listed}
+use Rattle.tla_expand.specs.Listed.{listed}
 use Rattle.tla_expand.proofs.expand.binding.name_each.Goals as goal
 
 pub loop-i-preserved : goal.loop-i-preserved

@@ -2,7 +2,7 @@ use Rattle.std.proofs.Common.{◌∙◌, arith}
 use Rattle.tla_expand.specs.Scopes.{scope_at}
 use Rattle.tla_expand.proofs.Binds.{extends_trans}
 use Rattle.tla_expand.proofs.Groups.{element_step}
-use Rattle.tla_expand.specs.Private.Listed.{listed}
+use Rattle.tla_expand.specs.Listed.{listed}
 use Rattle.tla_expand.proofs.expand.binding.name_elements.Goals as goal
 
 pub loop-i-preserved : goal.loop-i-preserved

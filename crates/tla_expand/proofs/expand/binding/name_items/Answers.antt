@@ -6,7 +6,7 @@ use Rattle.tla_expand.specs.Meanings.{Scope, standard}
 use Rattle.tla_expand.specs.Scopes.{scope_at}
 use Rattle.tla_expand.proofs.Binds.{extends_trans}
 use Rattle.tla_expand.proofs.Groups.{item_step, left_step}
-use Rattle.tla_expand.specs.Private.Listed.{listed}
+use Rattle.tla_expand.specs.Listed.{listed}
 use Rattle.tla_expand.proofs.expand.binding.name_items.Goals as goal
 
 pub name_each-requires-clause-small : goal.name_each-requires-clause-small

@@ -4,7 +4,7 @@ use Rattle.tla_expand.specs.Scopes.{scope_at, AreLinked, Extends}
 use Rattle.tla_expand.specs.Meanings.{Scope}
 use Rattle.tla_expand.specs.Bound.{with_items, openings}
 use Rattle.tla_expand.specs.Private.Binders.{binds_in}
-use Rattle.tla_expand.specs.Private.Listed.{listed}
+use Rattle.tla_expand.specs.Listed.{listed}
 use Rattle.tla_expand.proofs.expand.binding.name_items.Given as goal
 
 abbrev pub invariant-loop-i : goal.invariant-loop-i

@@ -1,5 +1,5 @@
 use Rattle.tla_expand.proofs.Links.{scope_zero}
-use Rattle.tla_expand.specs.Private.Listed.{listed}
+use Rattle.tla_expand.specs.Listed.{listed}
 use Rattle.tla_expand.proofs.scopes.Scopes.anew.Goals as goal
 
 pub returns-clause-current : goal.returns-clause-current

@@ -1,5 +1,5 @@
 use Rattle.std.proofs.Common.{◌++◌, ◌∷◌, [], sym}
-use Rattle.tla_names.specs.Latest.{IsTable, KeepBefore}
+use Rattle.tla_names.specs.Private.Latest.{IsTable, KeepBefore}
 use Rattle.tla_names.proofs.Latest.{table_less, before_less, before_is, is_in_table, present}
 use Rattle.tla_names.proofs.scope.Scope.pop.Goals as goal
 

@@ -2,7 +2,7 @@ use Rattle.std.proofs.Common.{◌≡◌, ◌-◌, ◌≤◌, length, map, []}
 use Rattle.tla_tree.specs.View.{choice_view}
 use Rattle.tla_tree.specs.Tree.{arms}
 use Rattle.tla_parse.specs.Edges.{arms_depth}
-use Rattle.tla_parse.specs.Reading.{arms_at, expr}
+use Rattle.tla_parse.specs.Private.Reading.{arms_at, expr}
 use Rattle.tla_parse.proofs.grammar.Grammar.arms_at.Given as goal
 
 abbrev pub invariant-loop-turn : goal.invariant-loop-turn

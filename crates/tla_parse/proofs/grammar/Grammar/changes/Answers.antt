@@ -3,9 +3,9 @@ use Rattle.std.proofs.lemmas.Grind.{common_steps}
 use Rattle.std.proofs.lemmas.Result.{err_from_is_err_and}
 use Rattle.tla_parse.specs.declared.tokens.Between.TheVariants as between
 use Rattle.tla_tree.specs.View.{update_view}
-use Rattle.tla_parse.specs.Reading.{expr}
-use Rattle.tla_parse.specs.ReadingLists.{following}
-use Rattle.tla_parse.specs.ReadingBrackets.{change}
+use Rattle.tla_parse.specs.Private.Reading.{expr}
+use Rattle.tla_parse.specs.Private.ReadingLists.{following}
+use Rattle.tla_parse.specs.Private.ReadingBrackets.{change}
 use Rattle.tla_parse.proofs.Fails.{refuses_fails}
 use Rattle.tla_parse.proofs.Sequence.{sequence_more, sequence_last, sequence_full, sequence_fails}
 use Rattle.tla_parse.proofs.Steps.{map_append}

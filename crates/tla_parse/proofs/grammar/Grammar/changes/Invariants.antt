@@ -2,8 +2,8 @@ use Rattle.std.proofs.Common.{◌≡◌, ◌-◌, ◌≤◌, length, map, []}
 use Rattle.tla_tree.specs.View.{update_view}
 use Rattle.tla_tree.specs.Tree.{updates}
 use Rattle.tla_parse.specs.Edges.{updates_depth}
-use Rattle.tla_parse.specs.Reading.{expr}
-use Rattle.tla_parse.specs.ReadingBrackets.{changes}
+use Rattle.tla_parse.specs.Private.Reading.{expr}
+use Rattle.tla_parse.specs.Private.ReadingBrackets.{changes}
 use Rattle.tla_parse.proofs.grammar.Grammar.changes.Given as goal
 
 abbrev pub invariant-loop-turn : goal.invariant-loop-turn

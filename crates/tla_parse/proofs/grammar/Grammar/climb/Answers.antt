@@ -3,7 +3,7 @@ use Rattle.std.proofs.lemmas.Result.{err_from_is_err_and}
 use Rattle.tla_tree.specs.View.{view}
 use Rattle.tla_parse.specs.Tokens.{seen}
 use Rattle.tla_parse.specs.Ending.{above, infix_at}
-use Rattle.tla_parse.specs.Reading.{expr}
+use Rattle.tla_parse.specs.Private.Reading.{expr}
 use Rattle.tla_parse.proofs.Steps.{climb_fails, climb_full}
 use Rattle.tla_parse.proofs.grammar.Grammar.climb.Goals as goal
 

@@ -1,7 +1,7 @@
 use Rattle.std.proofs.Common.{◌≡◌, ◌+◌, ◌-◌, ◌≤◌}
 use Rattle.tla_tree.specs.View.{view}
 use Rattle.tla_parse.specs.Edges.{depth}
-use Rattle.tla_parse.specs.Reading.{climb, expr}
+use Rattle.tla_parse.specs.Private.Reading.{climb, expr}
 use Rattle.tla_parse.proofs.grammar.Grammar.climb.Given as goal
 
 abbrev pub invariant-loop-turn : goal.invariant-loop-turn

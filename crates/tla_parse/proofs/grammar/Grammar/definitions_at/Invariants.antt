@@ -2,7 +2,7 @@ use Rattle.std.proofs.Common.{◌≡◌, ◌-◌, ◌≤◌, length, map, []}
 use Rattle.tla_tree.specs.View.{definition_view}
 use Rattle.tla_tree.specs.Tree.{definitions}
 use Rattle.tla_parse.specs.Edges.{definitions_depth}
-use Rattle.tla_parse.specs.Reading.{definitions_at, expr}
+use Rattle.tla_parse.specs.Private.Reading.{definitions_at, expr}
 use Rattle.tla_parse.proofs.grammar.Grammar.definitions_at.Given as goal
 
 abbrev pub invariant-loop-turn : goal.invariant-loop-turn

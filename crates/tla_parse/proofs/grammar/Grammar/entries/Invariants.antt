@@ -2,8 +2,8 @@ use Rattle.std.proofs.Common.{◌≡◌, ◌-◌, ◌≤◌, length, map, []}
 use Rattle.tla_tree.specs.View.{field_view}
 use Rattle.tla_tree.specs.Tree.{fields}
 use Rattle.tla_parse.specs.Edges.{fields_depth}
-use Rattle.tla_parse.specs.Reading.{expr}
-use Rattle.tla_parse.specs.ReadingBrackets.{entries}
+use Rattle.tla_parse.specs.Private.Reading.{expr}
+use Rattle.tla_parse.specs.Private.ReadingBrackets.{entries}
 use Rattle.tla_parse.proofs.grammar.Grammar.entries.Given as goal
 
 abbrev pub invariant-loop-turn : goal.invariant-loop-turn

@@ -2,8 +2,8 @@ use Rattle.std.proofs.Common.{◌≡◌, ◌-◌, ◌≤◌, length, map}
 use Rattle.tla_tree.specs.View.{view}
 use Rattle.tla_tree.specs.Tree.{trees}
 use Rattle.tla_parse.specs.Edges.{depths}
-use Rattle.tla_parse.specs.ReadingLists.{exprs}
-use Rattle.tla_parse.specs.Reading.{expr}
+use Rattle.tla_parse.specs.Private.ReadingLists.{exprs}
+use Rattle.tla_parse.specs.Private.Reading.{expr}
 use Rattle.tla_parse.proofs.grammar.Grammar.exprs_behind.Given as goal
 
 abbrev pub invariant-loop-turn : goal.invariant-loop-turn

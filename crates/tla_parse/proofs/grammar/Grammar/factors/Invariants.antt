@@ -2,7 +2,7 @@ use Rattle.std.proofs.Common.{◌≡◌, ◌-◌, ◌≤◌, length, map, []}
 use Rattle.tla_tree.specs.View.{view}
 use Rattle.tla_tree.specs.Tree.{trees}
 use Rattle.tla_parse.specs.Edges.{depths}
-use Rattle.tla_parse.specs.Reading.{factors, expr}
+use Rattle.tla_parse.specs.Private.Reading.{factors, expr}
 use Rattle.tla_parse.proofs.grammar.Grammar.factors.Given as goal
 
 abbrev pub invariant-loop-turn : goal.invariant-loop-turn

@@ -3,8 +3,8 @@ use Rattle.std.proofs.lemmas.Grind.{common_steps}
 use Rattle.std.proofs.lemmas.Result.{err_from_is_err_and}
 use Rattle.tla_parse.specs.declared.tokens.Between.TheVariants as between
 use Rattle.tla_tree.specs.View.{group_view}
-use Rattle.tla_parse.specs.ReadingLists.{following, group}
-use Rattle.tla_parse.specs.Reading.{expr}
+use Rattle.tla_parse.specs.Private.ReadingLists.{following, group}
+use Rattle.tla_parse.specs.Private.Reading.{expr}
 use Rattle.tla_parse.proofs.Fails.{refuses_fails}
 use Rattle.tla_parse.proofs.Lists.{comma_within}
 use Rattle.tla_parse.proofs.Sequence.{sequence_more, sequence_last, sequence_full, sequence_fails}

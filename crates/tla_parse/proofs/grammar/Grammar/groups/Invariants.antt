@@ -2,8 +2,8 @@ use Rattle.std.proofs.Common.{◌≡◌, ◌-◌, ◌≤◌, length, map, []}
 use Rattle.tla_tree.specs.View.{group_view}
 use Rattle.tla_tree.specs.Tree.{binders}
 use Rattle.tla_parse.specs.Edges.{bound_depth}
-use Rattle.tla_parse.specs.ReadingLists.{groups}
-use Rattle.tla_parse.specs.Reading.{expr}
+use Rattle.tla_parse.specs.Private.ReadingLists.{groups}
+use Rattle.tla_parse.specs.Private.Reading.{expr}
 use Rattle.tla_parse.proofs.grammar.Grammar.groups.Given as goal
 
 abbrev pub invariant-loop-turn : goal.invariant-loop-turn

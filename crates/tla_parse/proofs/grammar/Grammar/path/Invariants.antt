@@ -2,8 +2,8 @@ use Rattle.std.proofs.Common.{◌≡◌, ◌-◌, ◌≤◌, length, map, []}
 use Rattle.tla_tree.specs.View.{key_view}
 use Rattle.tla_tree.specs.Tree.{keys}
 use Rattle.tla_parse.specs.Edges.{keys_depth}
-use Rattle.tla_parse.specs.Reading.{expr}
-use Rattle.tla_parse.specs.ReadingBrackets.{path}
+use Rattle.tla_parse.specs.Private.Reading.{expr}
+use Rattle.tla_parse.specs.Private.ReadingBrackets.{path}
 use Rattle.tla_parse.proofs.grammar.Grammar.path.Given as goal
 
 abbrev pub invariant-loop-turn : goal.invariant-loop-turn

@@ -2,7 +2,7 @@ use Rattle.std.proofs.Common.{◌≡◌, ◌+◌, ◌-◌, Some, arith, sym, ◌
 use Rattle.std.proofs.lemmas.Result.{err_from_is_err_and}
 use Rattle.tla_tree.specs.View.{view}
 use Rattle.tla_parse.specs.Tokens.{seen}
-use Rattle.tla_parse.specs.Reading.{postfix_at, expr}
+use Rattle.tla_parse.specs.Private.Reading.{postfix_at, expr}
 use Rattle.tla_parse.proofs.Steps.{postfix_fails, postfix_full}
 use Rattle.tla_parse.proofs.grammar.Grammar.postfixes.Goals as goal
 

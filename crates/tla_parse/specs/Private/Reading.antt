@@ -23,10 +23,10 @@ use Rattle.tla_parse.specs.Tokens.{seen, may_follow}
 use Rattle.tla_parse.specs.Kinds.{kind_at}
 use Rattle.tla_parse.specs.Ending.{above, infix_at}
 use Rattle.tla_parse.specs.Grammar.{within}
-use Rattle.tla_parse.specs.ReadingLists.{name_at, following, names, exprs, some, call, one_group, groups, paren}
-use Rattle.tla_parse.specs.ReadingBrackets.{fair, brace, tuple, bracket}
+use Rattle.tla_parse.specs.Private.ReadingLists.{name_at, following, names, exprs, some, call, one_group, groups, paren}
+use Rattle.tla_parse.specs.Private.ReadingBrackets.{fair, brace, tuple, bracket}
 use Rattle.tla_tree.specs.declared.tree.Fairness.TheVariants as fa
-use Rattle.tla_parse.specs.Outcome.{Refused, Nested, Outcome, ◌>>=◌, need, room, at_op, sequence}
+use Rattle.tla_parse.specs.Private.Outcome.{Refused, Nested, Outcome, ◌>>=◌, need, room, at_op, sequence}
 
 abbrev pub postfix_of : Kind → Option Postfix
 postfix_of k.Prime = Some form.Prime

@@ -19,7 +19,7 @@ use Rattle.tla_parse.specs.LeftOut.{BeginsLeftOut, IsUnknownModule}
 use Rattle.tla_tree.specs.Tree.{Tree, Trees, Pattern, Group, Choice, Definition, trees, binders, arms, definitions}
 use Rattle.tla_tree.specs.View.{view, pattern_view, group_view, choice_view, definition_view}
 use Rattle.tla_parse.specs.Edges.{depth, depths, bound_depth, arms_depth, definition_depth, definitions_depth}
-use Rattle.tla_parse.specs.Outcome.{Outcome, Refused, Nested}
+use Rattle.tla_parse.specs.Private.Outcome.{Outcome, Refused, Nested}
 
 -- a refusal of a token where it stands: a form left out is one of those
 abbrev pub Refuses : List Token → Refusal → Type 0

@@ -13,14 +13,14 @@ use Rattle.tla_tree.specs.Words.{written}
 use Rattle.tla_parse.specs.Tokens.{seen}
 use Rattle.tla_parse.specs.Kinds.{kind_at}
 use Rattle.tla_parse.specs.Grammar.{updating}
-use Rattle.tla_parse.specs.ReadingLists.{name_at, following, exprs, some, listing, one_group, groups, paren}
+use Rattle.tla_parse.specs.Private.ReadingLists.{name_at, following, exprs, some, listing, one_group, groups, paren}
 use Rattle.tla_parse.specs.declared.ahead.Opened.{Opened}
 use Rattle.tla_parse.specs.declared.ahead.Opened.TheVariants as opened
 use Rattle.tla_tree.specs.declared.tree.Step.{Step}
 use Rattle.tla_tree.specs.declared.tree.Step.TheVariants as step
 use Rattle.tla_tree.specs.declared.tree.Fairness.{Fairness}
-use Rattle.tla_parse.specs.Ahead.{binds, filters, maps}
-use Rattle.tla_parse.specs.Outcome.{Refused, Outcome, ◌>>=◌, need, room, at_op, sequence}
+use Rattle.tla_parse.specs.Private.Ahead.{binds, filters, maps}
+use Rattle.tla_parse.specs.Private.Outcome.{Refused, Outcome, ◌>>=◌, need, room, at_op, sequence}
 
 -- the forms that a bracket opens, by what stands behind it
 abbrev pub opened_by : List Token → ℕ → ℕ → Opened

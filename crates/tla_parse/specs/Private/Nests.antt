@@ -6,8 +6,8 @@ use Rattle.tla_lex.specs.declared.token.Token.{Token}
 use Rattle.tla_parse.specs.declared.scope.Scope.{Scope}
 use Rattle.tla_parse.specs.declared.parts.Parsed.{Parsed}
 use Rattle.tla_parse.specs.declared.refusal.Refusal.{Refusal}
-use Rattle.tla_parse.specs.Reading.{expr}
-use Rattle.tla_parse.specs.Gives.{Gives}
+use Rattle.tla_parse.specs.Private.Reading.{expr}
+use Rattle.tla_parse.specs.Private.Gives.{Gives}
 
 pub record Nests (depth : ℕ) (pre : Global → Bor (List ℕ) → Bor (List Token) → ℕ → Scope → ℕ → ℕ → Type 0)
     (post : Global → Bor (List ℕ) → Bor (List Token) → ℕ → Scope → ℕ → ℕ → Result Parsed Refusal → Type 0) : Type 0 where

@@ -1,8 +1,11 @@
--- The entries of a list of them. Private contracts alone cite this.
-use Rattle.std.specs.Prelude.{ℕ, List, ◌++◌, length}
+-- The entries of a list in memory.
+use Rattle.std.specs.Prelude.{ℕ, List, ◌++◌, map, length}
 use Rattle.tla_expand.specs.declared.arena.Entry.{Entry}
 use Rattle.tla_expand.specs.declared.entries.Entries.{Entries}
-use Rattle.tla_expand.specs.Private.Index.{entries_of}
+use Rattle.tla_expand.specs.declared.entries.Node.{Node}
+
+abbrev pub entries_of : List Node → List Entry
+entries_of ns = map (λ (n : Node). n.entry) ns
 
 unfoldable pub listed : Entries → List Entry
 listed es = entries_of (es.known.now ++ es.made.items)

@@ -1,4 +1,4 @@
--- Operators that give back one of their arguments. Private contracts alone cite this.
+-- Operators that give back one of their arguments.
 use Rattle.std.specs.Prelude.{ℕ, zero, suc, Bool, true, false, List, [], ◌∷◌, None, if◌then◌else◌}
 use Rattle.tla_expand.specs.declared.arena.Given.{Given}
 use Rattle.tla_expand.specs.declared.primes.Primes.{Primes}

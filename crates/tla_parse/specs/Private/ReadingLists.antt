@@ -13,7 +13,7 @@ use Rattle.tla_tree.specs.Tree.{Tree, Trees, Pattern, Each, Tuple, Group, trees,
 use Rattle.tla_tree.specs.Words.{written}
 use Rattle.tla_parse.specs.Tokens.{seen, is_bullet_at}
 use Rattle.tla_parse.specs.Kinds.{same_kind, kind_at, closing}
-use Rattle.tla_parse.specs.Outcome.{Refused, Outcome, ◌>>=◌, need, at_op, sequence}
+use Rattle.tla_parse.specs.Private.Outcome.{Refused, Outcome, ◌>>=◌, need, at_op, sequence}
 
 -- the token, where it is a name
 abbrev pub name_at : Option Token → Option Token

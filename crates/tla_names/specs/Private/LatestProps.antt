@@ -4,7 +4,7 @@ use Rattle.std.specs.Borrow.{Bor}
 use Rattle.std.proofs.Props.{props}
 use Rattle.tla_config.specs.Names.{Name}
 use Rattle.tla_names.specs.declared.scope.Signature.{Signature}
-use Rattle.tla_names.specs.Latest.{IsTable, KeepBefore, KeepBeforeFrom}
+use Rattle.tla_names.specs.Private.Latest.{IsTable, KeepBefore, KeepBeforeFrom}
 
 pub IsTable-prop : (es : List (Bor Name × Option ℕ)) (ks : List Signature) → IsProp (IsTable es ks)
 IsTable-prop es ks = hlevel props
