@@ -38,14 +38,14 @@ use Rattle.tla_core.specs.Operators.{binary_rule}
 use Rattle.tla_core.specs.SetForms.{means-records, means-product}
 use Rattle.tla_eval.proofs.evaluation.+evaluate.Goals as goal
 
-pub evaluate-returns-in-Conjunction : goal.evaluate-returns-in-Conjunction
-evaluate-returns-in-Conjunction t c =
+pub evaluate_other-returns-in-Conjunction : goal.evaluate_other-returns-in-Conjunction
+evaluate_other-returns-in-Conjunction t c =
     let n = c.in-Conjunction in
     let e = means_conjunction c.args.core.now n.place n.parts n.is ∙ ap (λ us. means-conjunction n.place (parts_of_cores us)) (sym c.deref-in-Conjunction.ensures.value) in
     subst (λ (m : Meaning). Evaluates c.conjunction.result (m.value (bound_in c.args.env) (present_in c.args.env) (next_in c.args.env))) (sym e) c.conjunction.ensures
 
-pub evaluate-returns-in-Disjunction : goal.evaluate-returns-in-Disjunction
-evaluate-returns-in-Disjunction t c =
+pub evaluate_other-returns-in-Disjunction : goal.evaluate_other-returns-in-Disjunction
+evaluate_other-returns-in-Disjunction t c =
     let n = c.in-Disjunction in
     let e = means_disjunction c.args.core.now n.place n.parts n.is ∙ ap (λ us. means-disjunction n.place (parts_of_cores us)) (sym c.deref-in-Disjunction.ensures.value) in
     subst (λ (m : Meaning). Evaluates c.disjunction.result (m.value (bound_in c.args.env) (present_in c.args.env) (next_in c.args.env))) (sym e) c.disjunction.ensures
@@ -162,8 +162,8 @@ membership::two_hold-returns t c =
     c.in_ok-left.ensures c.in_ok-right.ensures c.value.ensures c.value-2.ensures (tree_of c.args.value.now) in
     subst (λ (o : Outcome Bool). GivesTruth c.two_have.result o) (sym e) c.two_have.ensures
 
-pub has-returns-in-Enumerated : goal.has-returns-in-Enumerated
-has-returns-in-Enumerated t c =
+pub has_other-returns-in-Enumerated : goal.has_other-returns-in-Enumerated
+has_other-returns-in-Enumerated t c =
     let n = c.in-Enumerated in
     let b = bound_in c.args.env in let s = present_in c.args.env in let q = next_in c.args.env in
     let v = tree_of c.args.value.now in
@@ -177,56 +177,56 @@ membership::has_all-loop-value-preserved t c =
     c.loop-value.invariant
     ∙ all_hold_step (λ v. mem v (expr_of c.args.core.now) (bound_in c.args.env) (present_in c.args.env) (next_in c.args.env)) c.args.values.now c.loop-value.value-index c.value-item.result c.value-item.is c.loop-value-test.true (c.in_ok-has.ensures ∙ ap (λ (x : Bool). Ok x) c.if-not-branch.false)
 
-pub evaluate-returns-in-Enumerated : goal.evaluate-returns-in-Enumerated
-evaluate-returns-in-Enumerated t c =
+pub evaluate_other-returns-in-Enumerated : goal.evaluate_other-returns-in-Enumerated
+evaluate_other-returns-in-Enumerated t c =
     let n = c.in-Enumerated in
     let e = means_enumerated c.args.core.now n.place n.parts n.is ∙ ap (λ us. means-enumerated n.place (parts_of_cores us)) (sym c.deref-in-Enumerated.ensures.value) in
     subst (λ (m : Meaning). Evaluates c.enumerated.result (m.value (bound_in c.args.env) (present_in c.args.env) (next_in c.args.env))) (sym e) c.enumerated.ensures
 
-pub evaluate-returns-in-Tuple : goal.evaluate-returns-in-Tuple
-evaluate-returns-in-Tuple t c =
+pub evaluate_other-returns-in-Tuple : goal.evaluate_other-returns-in-Tuple
+evaluate_other-returns-in-Tuple t c =
     let n = c.in-Tuple in
     let e = means_tuple c.args.core.now n.place n.parts n.is ∙ ap (λ us. means-tuple n.place (parts_of_cores us)) (sym c.deref-in-Tuple.ensures.value) in
     subst (λ (m : Meaning). Evaluates c.tuple.result (m.value (bound_in c.args.env) (present_in c.args.env) (next_in c.args.env))) (sym e) c.tuple.ensures
 
-pub evaluate-returns-in-Record : goal.evaluate-returns-in-Record
-evaluate-returns-in-Record t c =
+pub evaluate_other-returns-in-Record : goal.evaluate_other-returns-in-Record
+evaluate_other-returns-in-Record t c =
     let n = c.in-Record in
     let e = ap (λ (m : Meaning). m.value (bound_in c.args.env) (present_in c.args.env) (next_in c.args.env)) (means_record c.args.core.now n.place n.fields n.is)
     ∙ record_is n.place (fields_of_cores n.fields.items) (bound_in c.args.env) (present_in c.args.env) (next_in c.args.env)
     ∙ ap (λ us. record_rule n.place (fields_of_cores us) (bound_in c.args.env) (present_in c.args.env) (next_in c.args.env)) (sym c.deref-in-Record.ensures.value) in
     subst (λ (o : Outcome Tree). Evaluates c.record_of.result o) (sym e) c.record_of.ensures
 
-pub evaluate-returns-in-None : goal.evaluate-returns-in-None
-evaluate-returns-in-None t c =
+pub evaluate_other-returns-in-None : goal.evaluate_other-returns-in-None
+evaluate_other-returns-in-None t c =
     let n = c.in-Cases in
     let e = means_cases c.args.core.now n.place n.arms n.other n.is c.in-None.is ∙ ap (λ us. means-cases n.place (arms_of_cores us) None) (sym c.deref-in-None.ensures.value) in
     subst (λ (m : Meaning). Evaluates c.cases.result (m.value (bound_in c.args.env) (present_in c.args.env) (next_in c.args.env))) (sym e) c.cases.ensures
 
-pub evaluate-returns-in-Some : goal.evaluate-returns-in-Some
-evaluate-returns-in-Some t c =
+pub evaluate_other-returns-in-Some : goal.evaluate_other-returns-in-Some
+evaluate_other-returns-in-Some t c =
     let n = c.in-Cases in
     let e = means_cases_or c.args.core.now n.place n.arms n.other c.in-Some.body n.is c.in-Some.is
     ∙ ap (λ us. means-cases n.place (arms_of_cores us) (Some (means (expr_of c.in-Some.body.value)))) (sym c.deref-in-Some.ensures.value)
     ∙ ap (λ (x : Core). means-cases n.place (arms_of_cores c.deref-in-Some.result.now) (Some (means (expr_of x)))) (sym c.deref-in-Some-2.ensures) in
     subst (λ (m : Meaning). Evaluates c.cases-in-Some.result (m.value (bound_in c.args.env) (present_in c.args.env) (next_in c.args.env))) (sym e) c.cases-in-Some.ensures
 
-pub has-returns-in-None : goal.has-returns-in-None
-has-returns-in-None t c =
+pub has_other-returns-in-None : goal.has_other-returns-in-None
+has_other-returns-in-None t c =
     let n = c.in-Cases in
     let e = means_cases c.args.core.now n.place n.arms n.other n.is c.in-None.is ∙ ap (λ us. means-cases n.place (arms_of_cores us) None) (sym c.deref-in-None.ensures.value) in
     subst (λ (m : Meaning). GivesTruth c.cases_have.result (m.has (tree_of c.args.value.now) (bound_in c.args.env) (present_in c.args.env) (next_in c.args.env))) (sym e) c.cases_have.ensures
 
-pub has-returns-in-Some : goal.has-returns-in-Some
-has-returns-in-Some t c =
+pub has_other-returns-in-Some : goal.has_other-returns-in-Some
+has_other-returns-in-Some t c =
     let n = c.in-Cases in
     let e = means_cases_or c.args.core.now n.place n.arms n.other c.in-Some.body n.is c.in-Some.is
     ∙ ap (λ us. means-cases n.place (arms_of_cores us) (Some (means (expr_of c.in-Some.body.value)))) (sym c.deref-in-Some.ensures.value)
     ∙ ap (λ (x : Core). means-cases n.place (arms_of_cores c.deref-in-Some.result.now) (Some (means (expr_of x)))) (sym c.deref-in-Some-2.ensures) in
     subst (λ (m : Meaning). GivesTruth c.cases_have-in-Some.result (m.has (tree_of c.args.value.now) (bound_in c.args.env) (present_in c.args.env) (next_in c.args.env))) (sym e) c.cases_have-in-Some.ensures
 
-pub evaluate-returns-in-Image : goal.evaluate-returns-in-Image
-evaluate-returns-in-Image t c =
+pub evaluate_other-returns-in-Image : goal.evaluate_other-returns-in-Image
+evaluate_other-returns-in-Image t c =
     let n = c.in-Image in
     let b = bound_in c.args.env in let s = present_in c.args.env in let q = next_in c.args.env in
     let e = ap (λ (m : Meaning). m.value b s q) (means_image c.args.core.now n.place n.sets n.body n.is)
@@ -235,8 +235,8 @@ evaluate-returns-in-Image t c =
     ∙ ap (λ (k : Core). image_rule n.place (parts_of_cores c.deref-in-Image.result.now) (means (expr_of k)) b s q) (sym c.deref-in-Image-2.ensures) in
     subst (λ (o : Outcome Tree). Evaluates c.image.result o) (sym e) c.image.ensures
 
-pub evaluate-returns-in-Function : goal.evaluate-returns-in-Function
-evaluate-returns-in-Function t c =
+pub evaluate_other-returns-in-Function : goal.evaluate_other-returns-in-Function
+evaluate_other-returns-in-Function t c =
     let n = c.in-Function in
     let b = bound_in c.args.env in let s = present_in c.args.env in let q = next_in c.args.env in
     let e = ap (λ (m : Meaning). m.value b s q) (means_function c.args.core.now n.place n.sets n.body n.is)
@@ -245,16 +245,16 @@ evaluate-returns-in-Function t c =
     ∙ ap (λ (k : Core). chosen_function_rule n.place (parts_of_cores c.deref-in-Function.result.now) (means (expr_of k)) b s q) (sym c.deref-in-Function-2.ensures) in
     subst (λ (o : Outcome Tree). Evaluates c.function.result o) (sym e) c.function.ensures
 
-pub evaluate-returns-in-Opened : goal.evaluate-returns-in-Opened
-evaluate-returns-in-Opened t c =
+pub evaluate_other-returns-in-Opened : goal.evaluate_other-returns-in-Opened
+evaluate_other-returns-in-Opened t c =
     let n = c.in-Opened in
     let e = ap (λ (k : Core). means (expr_of k)) n.is
     ∙ ap (λ os. means-opened n.place os (means (expr_of n.body.value))) (sym c.deref-in-Opened.ensures.value)
     ∙ ap (λ (k : Core). means-opened n.place c.deref-in-Opened.result.now (means (expr_of k))) (sym c.deref-in-Opened-2.ensures) in
     subst (λ (m : Meaning). Evaluates c.opened.result (m.value (bound_in c.args.env) (present_in c.args.env) (next_in c.args.env))) (sym e) c.opened.ensures
 
-pub evaluate-returns-in-Except : goal.evaluate-returns-in-Except
-evaluate-returns-in-Except t c =
+pub evaluate_other-returns-in-Except : goal.evaluate_other-returns-in-Except
+evaluate_other-returns-in-Except t c =
     let n = c.in-Except in
     let b = bound_in c.args.env in let s = present_in c.args.env in let q = next_in c.args.env in
     let e = means_except c.args.core.now n.place n.base n.updates n.is
@@ -262,8 +262,8 @@ evaluate-returns-in-Except t c =
     ∙ ap (λ (k : Core). means-except n.place (means (expr_of k)) (updates_of_cores c.deref-in-Except.result.now)) (sym c.deref-in-Except-2.ensures) in
     subst (λ (m : Meaning). Evaluates c.except.result (m.value b s q)) (sym e) c.except.ensures
 
-pub evaluate-returns-in-Records : goal.evaluate-returns-in-Records
-evaluate-returns-in-Records t c =
+pub evaluate_other-returns-in-Records : goal.evaluate_other-returns-in-Records
+evaluate_other-returns-in-Records t c =
     let n = c.in-Records in
     let b = bound_in c.args.env in let s = present_in c.args.env in let q = next_in c.args.env in
     let e = ap (λ (m : Meaning). m.value b s q) (means_records c.args.core.now n.place n.fields n.is)
@@ -271,8 +271,8 @@ evaluate-returns-in-Records t c =
     ∙ ap (λ us. record_set_rule n.place (fields_of_cores us) b s q) (sym c.deref-in-Records.ensures.value) in
     subst (λ (o : Outcome Tree). Evaluates c.records.result o) (sym e) c.records.ensures
 
-pub evaluate-returns-in-Product : goal.evaluate-returns-in-Product
-evaluate-returns-in-Product t c =
+pub evaluate_other-returns-in-Product : goal.evaluate_other-returns-in-Product
+evaluate_other-returns-in-Product t c =
     let n = c.in-Product in
     let b = bound_in c.args.env in let s = present_in c.args.env in let q = next_in c.args.env in
     let e = ap (λ (m : Meaning). m.value b s q) (means_product c.args.core.now n.place n.parts n.is)
@@ -280,14 +280,14 @@ evaluate-returns-in-Product t c =
     ∙ ap (λ us. product_rule n.place (parts_of_cores us) b s q) (sym c.deref-in-Product.ensures.value) in
     subst (λ (o : Outcome Tree). Evaluates c.product.result o) (sym e) c.product.ensures
 
-pub has-returns-in-Records : goal.has-returns-in-Records
-has-returns-in-Records t c =
+pub has_other-returns-in-Records : goal.has_other-returns-in-Records
+has_other-returns-in-Records t c =
     let n = c.in-Records in
     let e = means_records c.args.core.now n.field-0 n.fields n.is ∙ ap (λ us. means-records n.field-0 (fields_of_cores us)) (sym c.deref-in-Records.ensures.value) in
     subst (λ (m : Meaning). GivesTruth c.is_record_of.result (m.has (tree_of c.args.value.now) (bound_in c.args.env) (present_in c.args.env) (next_in c.args.env))) (sym e) (c.is_record_of.ensures n.field-0)
 
-pub has-returns-in-Product : goal.has-returns-in-Product
-has-returns-in-Product t c =
+pub has_other-returns-in-Product : goal.has_other-returns-in-Product
+has_other-returns-in-Product t c =
     let n = c.in-Product in
     let e = means_product c.args.core.now n.field-0 n.parts n.is ∙ ap (λ us. means-product n.field-0 (parts_of_cores us)) (sym c.deref-in-Product.ensures.value) in
     subst (λ (m : Meaning). GivesTruth c.is_tuple_of.result (m.has (tree_of c.args.value.now) (bound_in c.args.env) (present_in c.args.env) (next_in c.args.env))) (sym e) (c.is_tuple_of.ensures n.field-0)
@@ -472,3 +472,37 @@ products::is_tuple_of-returns-else-pairs-parts t c = λ p.
     let ms = parts_of_cores c.args.parts.now in
     tuple_other ms vs (items (tree_of c.args.value.now)) (sym c.sequence_pairs.ensures ∙ ap (option_map (λ (ps : Bor (List (Value × Value))). values_of (map pair_of ps.now))) c.in-Some.is) (bound_in c.args.env) (present_in c.args.env) (next_in c.args.env)
     (λ e. let h = number_same c.in-Some.pairs.now c.args.parts.now e in omega (arith, c.if-pairs-parts.false))
+
+pub evaluate_logic-returns-in-Conjunction : goal.evaluate_logic-returns-in-Conjunction
+evaluate_logic-returns-in-Conjunction t c =
+    let n = c.in-Conjunction in
+    let e = means_conjunction c.args.core.now n.place n.parts n.is ∙ ap (λ us. means-conjunction n.place (parts_of_cores us)) (sym c.deref.ensures.value) in
+    subst (λ (m : Meaning). Evaluates c.conjunction.result (m.value (bound_in c.args.env) (present_in c.args.env) (next_in c.args.env))) (sym e) c.conjunction.ensures
+
+pub evaluate_logic-returns-in-Disjunction : goal.evaluate_logic-returns-in-Disjunction
+evaluate_logic-returns-in-Disjunction t c =
+    let n = c.in-Disjunction in
+    let e = means_disjunction c.args.core.now n.place n.parts n.is ∙ ap (λ us. means-disjunction n.place (parts_of_cores us)) (sym c.deref-in-Disjunction.ensures.value) in
+    subst (λ (m : Meaning). Evaluates c.disjunction.result (m.value (bound_in c.args.env) (present_in c.args.env) (next_in c.args.env))) (sym e) c.disjunction.ensures
+
+pub has-returns-in-Enumerated : goal.has-returns-in-Enumerated
+has-returns-in-Enumerated t c =
+    let n = c.in-Enumerated in
+    let b = bound_in c.args.env in let s = present_in c.args.env in let q = next_in c.args.env in
+    let v = tree_of c.args.value.now in
+    let e = ap (λ (m : Meaning). m.has v b s q) (means_enumerated c.args.core.now n.place n.parts n.is)
+    ∙ one_of_is n.place (parts_of_cores n.parts.items) v b s q
+    ∙ ap (λ us. one_of_rule n.place (parts_of_cores us) v b s q) (sym c.deref-in-Enumerated.ensures.value) in
+    subst (λ (o : Outcome Bool). GivesTruth c.is_one_of.result o) (sym e) c.is_one_of.ensures
+
+pub has-returns-in-Records : goal.has-returns-in-Records
+has-returns-in-Records t c =
+    let n = c.in-Records in
+    let e = means_records c.args.core.now n.field-0 n.fields n.is ∙ ap (λ us. means-records n.field-0 (fields_of_cores us)) (sym c.deref-in-Records.ensures.value) in
+    subst (λ (m : Meaning). GivesTruth c.is_record_of.result (m.has (tree_of c.args.value.now) (bound_in c.args.env) (present_in c.args.env) (next_in c.args.env))) (sym e) (c.is_record_of.ensures n.field-0)
+
+pub has-returns-in-Product : goal.has-returns-in-Product
+has-returns-in-Product t c =
+    let n = c.in-Product in
+    let e = means_product c.args.core.now n.field-0 n.parts n.is ∙ ap (λ us. means-product n.field-0 (parts_of_cores us)) (sym c.deref-in-Product.ensures.value) in
+    subst (λ (m : Meaning). GivesTruth c.is_tuple_of.result (m.has (tree_of c.args.value.now) (bound_in c.args.env) (present_in c.args.env) (next_in c.args.env))) (sym e) (c.is_tuple_of.ensures n.field-0)
