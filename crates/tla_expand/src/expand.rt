@@ -1,4 +1,6 @@
 //! The expansion of an expression, within limits of its size.
+//!
+//! The functions of single forms are not inlined: else each level of an expression takes the stack of them all.
 
 ghost use Rattle.std.specs.Prelude.{◌≡◌, ◌≢◌, ◌≤◌, ◌<◌, ◌+◌, ◌∷◌, [], length, ℕ, Some, None, map, IfOk, IfErr, OnOk};
 ghost use Rattle.tla_core.specs.declared.fault.Place.{Place};
@@ -189,6 +191,7 @@ pub(crate) fn node_of<'a>(
 
 /// A node of one part.
 #[cycle(expand)]
+#[inline(never)]
 fn one_node<'a>(
     alloc: Global,
     entries: &mut Entries<'_, 'a>,
@@ -213,6 +216,7 @@ fn one_node<'a>(
 
 /// A node of two parts.
 #[cycle(expand)]
+#[inline(never)]
 fn two_node<'a>(
     alloc: Global,
     entries: &mut Entries<'_, 'a>,
@@ -238,6 +242,7 @@ fn two_node<'a>(
 
 /// A node of three parts.
 #[cycle(expand)]
+#[inline(never)]
 fn three_node<'a>(
     alloc: Global,
     entries: &mut Entries<'_, 'a>,
@@ -266,6 +271,7 @@ fn three_node<'a>(
 
 /// A node of a list of parts.
 #[cycle(expand)]
+#[inline(never)]
 fn many_node<'a>(
     alloc: Global,
     entries: &mut Entries<'_, 'a>,
@@ -289,6 +295,7 @@ fn many_node<'a>(
 
 /// The application of a function.
 #[cycle(expand)]
+#[inline(never)]
 fn index_node<'a>(
     alloc: Global,
     entries: &mut Entries<'_, 'a>,
@@ -315,6 +322,7 @@ fn index_node<'a>(
 
 /// CASE without OTHER.
 #[cycle(expand)]
+#[inline(never)]
 fn cases_node<'a>(
     alloc: Global,
     entries: &mut Entries<'_, 'a>,
@@ -337,6 +345,7 @@ fn cases_node<'a>(
 
 /// CASE with OTHER.
 #[cycle(expand)]
+#[inline(never)]
 fn cases_or_node<'a>(
     alloc: Global,
     entries: &mut Entries<'_, 'a>,
@@ -363,6 +372,7 @@ fn cases_or_node<'a>(
 
 /// A product. Its operands stand in one list.
 #[cycle(expand)]
+#[inline(never)]
 fn product_node<'a>(
     alloc: Global,
     entries: &mut Entries<'_, 'a>,
@@ -389,6 +399,7 @@ fn product_node<'a>(
 
 /// A record, or a set of records.
 #[cycle(expand)]
+#[inline(never)]
 fn fields_node<'a>(
     alloc: Global,
     entries: &mut Entries<'_, 'a>,

@@ -264,6 +264,7 @@ fn within<'a>(
 
 /// Sets, and a body under all their names.
 #[cycle(expand)]
+#[inline(never)]
 pub(super) fn gather_node<'a>(
     alloc: Global,
     entries: &mut Entries<'_, 'a>,

@@ -186,6 +186,7 @@ pub(super) fn changed<'a>(
 
 /// `[A]_v`, where v stands at this place.
 #[cycle(expand)]
+#[inline(never)]
 pub(super) fn square_node<'a>(
     alloc: Global,
     entries: &mut Entries<'_, 'a>,
@@ -213,6 +214,7 @@ pub(super) fn square_node<'a>(
 
 /// `<<A>>_v`, where v stands at this place.
 #[cycle(expand)]
+#[inline(never)]
 pub(super) fn angle_node<'a>(
     alloc: Global,
     entries: &mut Entries<'_, 'a>,

@@ -219,6 +219,7 @@ pub(super) fn node_behind<'a>(
 
 /// UNCHANGED of an expression. Its node is above the limits that are set for its parts.
 #[cycle(expand)]
+#[inline(never)]
 pub(super) fn unchanged_node<'a>(
     alloc: Global,
     entries: &mut Entries<'_, 'a>,

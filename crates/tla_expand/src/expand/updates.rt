@@ -25,6 +25,7 @@ use tla_tree::{Expr, Key, Update, Written};
 
 /// EXCEPT.
 #[cycle(expand)]
+#[inline(never)]
 pub(super) fn except_node<'a>(
     alloc: Global,
     entries: &mut Entries<'_, 'a>,
