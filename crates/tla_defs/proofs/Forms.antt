@@ -14,8 +14,9 @@ use Rattle.tla_defs.specs.Private.Seen.{tree_at, seen}
 use Rattle.tla_defs.specs.Bodies.{Bodies, body_of}
 use Rattle.tla_defs.specs.Subscripts.{IsCover}
 use Rattle.tla_defs.specs.Specification.{Step, IsSpecification, is_conjunction, replaced, replaced_by, conjuncts, conjunction_of, initials_of, steps_of}
-use Rattle.tla_defs.specs.Refused.{NoForm}
-use Rattle.tla_defs.specs.Private.Specified.{LacksState}
+use Rattle.tla_config.specs.declared.error.DefsError.{DefsError}
+use Rattle.tla_defs.specs.Refused.{NoForm, HasTooMany}
+use Rattle.tla_defs.specs.Private.Specified.{LacksState, MayBeLast}
 use Rattle.tla_defs.specs.Private.Conjuncts.{AreMadeOfFairness, initials_by}
 use Rattle.tla_defs.specs.Fairness.{fair_in, fair_of}
 use Rattle.tla_defs.specs.Temporal.{temporal_of}
@@ -73,6 +74,10 @@ pub replaced_known : (us : List UnitTree) (is : List Item) (τ : Name → Bool) 
 replaced_known us is τ b k bodies temporal counted =
     ap (λ (d : Bodies). replaced_by τ d) bodies ∙ ap (λ (ψ : Name → Bool). replaced_by ψ (body_of us is)) (temporal ∙ ap (λ m. temporal_of m (body_of us is)) counted)
 
+pub may_be : {A B : Type 0} (o : Option DefsError) (e : DefsError) → (A → B) → MayBeLast o A e → MayBeLast o B e
+may_be o e f (inl h) = inl h
+may_be o e f (inr (l, m)) = inr (l, f m)
+
 module _ (us : List UnitTree) (is : List Item) (σ : Scope) (n : ℕ) (w : Written) where
   pub no_body : body_of us is w.word ≡ None → NoForm us is σ n w
   no_body p i a h x init = let q = h.is_body in let z : ⊥ = cc in z
@@ -116,6 +121,13 @@ module _ (us : List UnitTree) (is : List Item) (σ : Scope) (n : ℕ) (w : Writt
     pub many : AreMany steps initial → NoForm us is σ n w
     many (inl m) i a h x init = let one = ap (λ es. length es) (its_steps i a h) in omega (arith, m, one)
     many (inr m) i a h x init = too_long σ initial i (its_initial i a h) m x init
+
+    pub too_many : 200001 ≤ length initial → HasTooMany us is w
+    too_many m = record {
+      body = t;
+      is_body = body;
+      many = subst (λ es. 200001 ≤ length es) are_initial m;
+    }
 
     pub lacking : LacksState σ initial → NoForm us is σ n w
     lacking l i a h x init = lacks_state σ initial i (its_initial i a h) l x init

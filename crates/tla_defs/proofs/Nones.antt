@@ -24,8 +24,8 @@ use Rattle.tla_names.specs.Circles.{AreStraight, IsFirstCircle}
 use Rattle.tla_formulas.specs.Formulas.{IsInitial, IsAction}
 use Rattle.tla_defs.specs.Model.{IsModel, IsBehaviour, AreStatePredicates, AreAssumptions, assumptions_of, invariants_named, constraints_named}
 use Rattle.tla_names.specs.Named.{names_misused}
-use Rattle.tla_defs.specs.Refused.{Behaviour, Named, Specified, refused, behaviour, NoForm, IsLast, IsRefusal, IsTooLarge}
-use Rattle.tla_defs.specs.Private.Specified.{form_refused, MayBeLast, NoneMeant}
+use Rattle.tla_defs.specs.Refused.{Behaviour, Named, Specified, refused, behaviour, NoForm, HasTooMany, IsLast, IsRefusal, IsTooLarge}
+use Rattle.tla_defs.specs.Private.Specified.{form_refused, HasMany, MayBeLast, NoneMeant}
 use Rattle.tla_names.specs.Refusal.{items_refused, refusal_at, refusal_for, IsOfCircle}
 use Rattle.tla_defs.proofs.Behaviours.{behaviour_found}
 use Rattle.tla_defs.proofs.Unique.{one_behaviour}
@@ -53,16 +53,16 @@ last_same us cs ds b e same last = subst (λ xs. IsLast us xs b e) same last
 
 -- the refusal of a meaning
 pub meaning_refused : (us : List UnitTree) (cs : List Statement) (is : List Item) (σ : Scope) (n : ℕ) (b : Behaviour) (e : DefsError) → is ≡ items_of cs → σ ≡ global us is → n ≡ length (variables_of us)
-    → MayBeLast (form_refused b) e → NoneMeant us is σ n b → IsLast us cs (Ok b) e
+    → MayBeLast (form_refused b) (HasMany us is b) e → NoneMeant us is σ n b → IsLast us cs (Ok b) e
 meaning_refused us cs is σ n (Named i a) e given at counted last none = absurd none
 meaning_refused us cs is σ n (Specified p w) e given at counted last none = inl (of_form last, no_form)
   where
     no_form : NoForm us (items_of cs) (global us (items_of cs)) (length (variables_of us)) w
     no_form = subst (λ js. NoForm us js (global us js) (length (variables_of us)) w) given (subst (λ ρ. NoForm us is ρ (length (variables_of us)) w) at (subst (λ k. NoForm us is σ k w) counted none))
 
-    of_form : MayBeLast (Some (refusal_at c.SpecificationForm source.Configuration p)) e → (refusal_at c.SpecificationForm source.Configuration p ≡ e) ⊎ IsTooLarge e
+    of_form : MayBeLast (Some (refusal_at c.SpecificationForm source.Configuration p)) (HasTooMany us is w) e → (refusal_at c.SpecificationForm source.Configuration p ≡ e) ⊎ (IsTooLarge e × HasTooMany us (items_of cs) w)
     of_form (inl h) = let same : refusal_at c.SpecificationForm source.Configuration p ≡ e = cc in inl same
-    of_form (inr l) = inr l
+    of_form (inr (l, many)) = inr (l, subst (λ js. HasTooMany us js w) given many)
 
 -- where the steps before them refuse nothing, the names of the configuration are what is refused
 pub name_refusal : (us : List UnitTree) (config : ConfigTree) (is : List Item) (b : Behaviour) (e : DefsError) → misuse us ≡ None → is ≡ items_of config.statements

@@ -1,5 +1,5 @@
 -- Why a module and a configuration name no model: the first step that refuses them, and where (this project's own choice).
-use Rattle.std.specs.Prelude.{◌≡◌, ◌⊎◌, ℕ, true, is_some, length, List, [], ◌∷◌, Option, Some, None, Result, Ok, Err}
+use Rattle.std.specs.Prelude.{◌≡◌, ◌≤◌, ◌⊎◌, ℕ, true, is_some, length, List, [], ◌∷◌, Option, Some, None, Result, Ok, Err}
 use Rattle.tla_core.specs.Expr.{Expr}
 use Rattle.tla_lex.specs.declared.token.Place.{Place}
 use Rattle.tla_tree.specs.declared.word.Written.{Written}
@@ -20,11 +20,12 @@ use Rattle.tla_names.specs.Leads.{leads}
 use Rattle.tla_names.specs.Circles.{AreStraight}
 use Rattle.tla_names.specs.Named.{names_misused}
 use Rattle.tla_names.specs.Refusal.{refusal_at, refusal_for, items_refused, IsOfCircle}
+use Rattle.tla_defs.specs.Bodies.{body_of}
 use Rattle.tla_defs.specs.Global.{global}
 use Rattle.tla_formulas.specs.Formulas.{IsInitial, meaning_in}
 use Rattle.tla_formulas.specs.Refused.{IsOfFormula}
 use Rattle.tla_defs.specs.Model.{IsBehaviour, assumptions_of, invariants_named, constraints_named}
-use Rattle.tla_defs.specs.Specification.{IsSpecification}
+use Rattle.tla_defs.specs.Specification.{IsSpecification, conjuncts, initials_of, replaced}
 
 -- What names the behaviour: INIT and NEXT, or SPECIFICATION, at its place.
 pub data Behaviour : Type 0 where
@@ -94,13 +95,19 @@ pub record IsTooLarge (e : DefsError) : Type 0 where
   pub place : is_some e.place ≡ true
   pub name : e.name ≡ None
 
+-- The formula that a name stands for has more conjuncts of an initial predicate than an expression within the limits has nodes.
+pub record HasTooMany (us : List UnitTree) (is : List Item) (w : Written) : Type 0 where
+  pub body : Tree
+  pub is_body : body_of us is w.word ≡ Some body
+  pub many : 200001 ≤ length (initials_of (length us) (body_of us is) (conjuncts (length us) (replaced us is) body))
+
 -- No initial predicate of state level and action, within the limits, make up the formula that SPECIFICATION names.
 abbrev pub NoForm : List UnitTree → List Item → Scope → ℕ → Written → Type 0
 NoForm us is σ n w = (i a : Tree) → IsSpecification us is σ n w i a → (x : Expr) → IsInitial σ i x → ⊥
 
--- SPECIFICATION stands alone, and the formula that it names is not of the form, or too large for it
+-- SPECIFICATION stands alone, and the formula that it names is not of the form, or has too many conjuncts for it
 abbrev pub IsFormRefused : List UnitTree → List Item → Result Behaviour Place → DefsError → Type 0
-IsFormRefused us is (Ok (Specified p w)) e = ((refusal_at c.SpecificationForm source.Configuration p ≡ e) ⊎ IsTooLarge e) × NoForm us is (global us is) (length (variables_of us)) w
+IsFormRefused us is (Ok (Specified p w)) e = ((refusal_at c.SpecificationForm source.Configuration p ≡ e) ⊎ (IsTooLarge e × HasTooMany us is w)) × NoForm us is (global us is) (length (variables_of us)) w
 IsFormRefused us is _ e = ⊥
 
 -- behind all other steps: the form of the specification, or a formula

@@ -1,6 +1,6 @@
 //! The conjuncts of the formula that SPECIFICATION names.
 
-ghost use Rattle.std.specs.Prelude.{◌≡◌, ◌≢◌, ◌++◌, ◌∷◌, [], List, Some, map, option_map, OnOk, IfOk, IfErr};
+ghost use Rattle.std.specs.Prelude.{◌≡◌, ◌≢◌, ◌≤◌, ◌++◌, ◌∷◌, [], List, Some, length, map, option_map, OnOk, IfOk, IfErr};
 ghost use Rattle.tla_config.specs.declared.error.DefsCode.TheVariants.{Memory};
 ghost use Rattle.tla_tree.specs.Tree.{Tree, trees as trees_of};
 ghost use Rattle.tla_tree.specs.View.{view};
@@ -195,7 +195,7 @@ pub(crate) fn parts_of<'a>(
     requires fair { AreMadeOfFairness (fair_names classes.now) (replaced_in classes.now) }
     ensures steps { IfOk result (λ p. steps_in p ≡ spec.steps_of (spec.conjuncts names (replaced_in classes.now) (tree_at whole.entry))) }
     ensures initial { IfOk result (λ p. seen p.initial.items ≡ initials_by (fair_names classes.now) (spec.conjuncts names (replaced_in classes.now) (tree_at whole.entry))) }
-    ensures refused { IfErr result (λ e. e.code ≢ Memory → MayBeLast (Some (refusal.refusal_at DefsCode.SpecificationForm Source.Configuration place)) e) }
+    ensures refused { IfErr result (λ e. e.code ≢ Memory → MayBeLast (Some (refusal.refusal_at DefsCode.SpecificationForm Source.Configuration place)) (200001 ≤ length (initials_by (fair_names classes.now) (spec.conjuncts names (replaced_in classes.now) (tree_at whole.entry)))) e) }
     ensures many { IfErr result (λ e. e.code ≢ Memory → AreMany (spec.steps_of (spec.conjuncts names (replaced_in classes.now) (tree_at whole.entry))) (initials_by (fair_names classes.now) (spec.conjuncts names (replaced_in classes.now) (tree_at whole.entry)))) }
 {
     let mut walk = Walk {

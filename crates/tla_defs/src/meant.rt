@@ -15,7 +15,7 @@ ghost use Rattle.tla_defs.specs.Private.Seen.{seen};
 ghost use Rattle.tla_tree.specs.UnitsView.{unit_view};
 ghost use Rattle.tla_tree.specs.View.{view};
 ghost use Rattle.tla_defs.specs.Private.Mentions.{behaviour_of};
-ghost use Rattle.tla_defs.specs.Private.Specified.{initial_in, initial_tree, action_tree, IsMeant, NoneMeant, form_refused, MayBeLast};
+ghost use Rattle.tla_defs.specs.Private.Specified.{initial_in, initial_tree, action_tree, IsMeant, NoneMeant, form_refused, HasMany, MayBeLast};
 
 use crate::behaviour::Behaviour;
 use crate::specification::{Specified, specification};
@@ -45,7 +45,7 @@ pub(crate) fn meaning<'a>(
     behaviour: Behaviour<'a>,
 ) -> Result<Meant<'a>, DefsError>
     ensures found { IfOk result (λ m. IsMeant (map unit_view units.now) items.now (scope_of scopes.now) variables (behaviour_of behaviour.entry) m) }
-    ensures refused { IfErr result (λ e. e.code ≢ Memory → MayBeLast (form_refused (behaviour_of behaviour.entry)) e) }
+    ensures refused { IfErr result (λ e. e.code ≢ Memory → MayBeLast (form_refused (behaviour_of behaviour.entry)) (HasMany (map unit_view units.now) items.now (behaviour_of behaviour.entry)) e) }
     ensures none { IfErr result (λ e. e.code ≢ Memory → NoneMeant (map unit_view units.now) items.now (scope_of scopes.now) variables (behaviour_of behaviour.entry)) }
 {
     match behaviour {

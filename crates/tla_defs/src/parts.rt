@@ -1,6 +1,6 @@
 //! The conjuncts of a specification by what they are.
 
-ghost use Rattle.std.specs.Prelude.{◌≡◌, ◌≢◌, ◌++◌, ◌∷◌, [], Some, true, false, option_map, OnOk, IfErr};
+ghost use Rattle.std.specs.Prelude.{◌≡◌, ◌≢◌, ◌≤◌, ◌++◌, ◌∷◌, [], Some, true, false, length, option_map, OnOk, IfErr};
 ghost use Rattle.tla_config.specs.declared.error.DefsCode.TheVariants.{Memory};
 ghost use Rattle.tla_tree.specs.View.{view};
 ghost use Rattle.tla_names.specs.Refusal as refusal;
@@ -117,9 +117,9 @@ impl<'a> Parts<'a> {
     /// The refusal of more than a few conjuncts, where SPECIFICATION stands at this place: of two steps, or of an initial
     /// predicate that is too large.
     pub(crate) fn too_many(&self, place: Place) -> DefsError
-        ensures { result.code ≢ Memory → MayBeLast (Some (refusal.refusal_at DefsCode.SpecificationForm Source.Configuration place)) result }
+        ensures { result.code ≢ Memory → MayBeLast (Some (refusal.refusal_at DefsCode.SpecificationForm Source.Configuration place)) (200001 ≤ length self.now.initial.items) result }
     {
-        if self.steps.len() > 1 || self.initial.len() == 0 {
+        if self.steps.len() > 1 || self.initial.len() <= MAX_NODES {
             return refusal_at(DefsCode::SpecificationForm, Source::Configuration, place);
         }
         refusal_at(

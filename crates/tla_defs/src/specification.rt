@@ -11,7 +11,7 @@ ghost use Rattle.tla_defs.specs.Private.Seen.{seen};
 ghost use Rattle.tla_defs.specs.Refused as refused;
 ghost use Rattle.tla_names.specs.Refusal as refusal;
 ghost use Rattle.tla_defs.specs.Subscripts as subscripts;
-ghost use Rattle.tla_defs.specs.Refused.{NoForm};
+ghost use Rattle.tla_defs.specs.Refused.{HasTooMany, NoForm};
 ghost use Rattle.tla_defs.specs.Private.Specified.{IsForm, LacksState, form_refused, MayBeLast};
 
 use crate::conjuncts::{Classes, parts_of};
@@ -47,7 +47,7 @@ fn covered<'a>(
     place: Place,
 ) -> Result<(), DefsError>
     ensures covers { OnOk result (subscripts.IsCover (scope_of scopes.now) variables (view subscript.entry.now)) }
-    ensures refused { IfErr result (λ e. e.code ≢ Memory → MayBeLast (Some (refusal.refusal_at DefsCode.SpecificationForm Source.Configuration place)) e) }
+    ensures refused { IfErr result (λ e. e.code ≢ Memory → refusal.refusal_at DefsCode.SpecificationForm Source.Configuration place ≡ e) }
     ensures none { IfErr result (λ e. e.code ≢ Memory → subscripts.IsCover (scope_of scopes.now) variables (view subscript.entry.now) → ⊥) }
 {
     match scopes.covers(alloc, subscript, variables) {
@@ -141,7 +141,7 @@ pub(crate) fn specification<'a>(
     name: &Written,
 ) -> Result<Specified<'a>, DefsError>
     ensures found { IfOk result (λ s. IsForm (map unit_view units.now) items.now (scope_of scopes.now) variables name.now s) }
-    ensures refused { IfErr result (λ e. e.code ≢ Memory → MayBeLast (form_refused (refused.Specified place name.now)) e) }
+    ensures refused { IfErr result (λ e. e.code ≢ Memory → MayBeLast (form_refused (refused.Specified place name.now)) (HasTooMany (map unit_view units.now) items.now name.now) e) }
     ensures none { IfErr result (λ e. e.code ≢ Memory → NoForm (map unit_view units.now) items.now (scope_of scopes.now) variables name.now) }
 {
     let fairness = Table::of(alloc, units, items, Class::Fairness)?;

@@ -17,7 +17,7 @@ use Rattle.tla_defs.specs.declared.specification.Specified as declared
 use Rattle.tla_defs.specs.Private.Seen.{tree_at, seen}
 use Rattle.tla_formulas.specs.Formulas.{IsInitial}
 use Rattle.tla_defs.specs.Model.{initials_named, nexts_named, specifications_named}
-use Rattle.tla_defs.specs.Refused.{Behaviour, Named, Specified, NoForm, IsTooLarge}
+use Rattle.tla_defs.specs.Refused.{Behaviour, Named, Specified, NoForm, HasTooMany, IsTooLarge}
 use Rattle.tla_defs.specs.Specification.{conjunction_of, IsSpecification}
 
 -- one of these is no initial predicate
@@ -50,13 +50,19 @@ abbrev pub NoneMeant : List UnitTree → List Item → Scope → ℕ → Behavio
 NoneMeant us is σ n (Named i a) = ⊥
 NoneMeant us is σ n (Specified p w) = NoForm us is σ n w
 
--- a refusal at SPECIFICATION, if it stands, or one that it is too large
+-- a refusal at SPECIFICATION, if it stands
 abbrev pub form_refused : Behaviour → Option DefsError
 form_refused (Specified p w) = Some (refusal_at c.SpecificationForm source.Configuration p)
 form_refused (Named i a) = None
 
-abbrev pub MayBeLast : Option DefsError → DefsError → Type 0
-MayBeLast form e = (form ≡ Some e) ⊎ IsTooLarge e
+-- that refusal, or, where this holds, one that the formula is too large
+abbrev pub MayBeLast : Option DefsError → Type 0 → DefsError → Type 0
+MayBeLast form many e = (form ≡ Some e) ⊎ (IsTooLarge e × many)
+
+-- SPECIFICATION names a formula of too many conjuncts
+abbrev pub HasMany : List UnitTree → List Item → Behaviour → Type 0
+HasMany us is (Named i a) = ⊥
+HasMany us is (Specified p w) = HasTooMany us is w
 
 -- the names of INIT, of NEXT and of SPECIFICATION
 abbrev pub init_names : Behaviour → List Written

@@ -1,4 +1,4 @@
-use Rattle.std.proofs.Common.{◌≡◌, refl, subst, List, ap, sym, ◌∙◌, map, length, option_map, [], ◌∷◌, Some, arith}
+use Rattle.std.proofs.Common.{◌≡◌, ◌≤◌, refl, subst, List, ap, sym, ◌∙◌, map, length, option_map, [], ◌∷◌, Some, arith}
 use Rattle.std.proofs.lemmas.List.{length-map}
 use Rattle.std.proofs.lemmas.Result.{err_from_is_err_and}
 use Rattle.tla_expand.specs.Names.{scope_of}
@@ -11,7 +11,7 @@ use Rattle.tla_defs.specs.Specification.{conjuncts, replaced_by, steps_of, initi
 use Rattle.tla_defs.specs.Private.Table.{bodies_by, found_by}
 use Rattle.tla_defs.specs.Private.Parts.{step_of, steps_in}
 use Rattle.tla_defs.specs.Private.Parts.{AreMany}
-use Rattle.tla_defs.proofs.Forms.{made_known, initials_known, replaced_known, many, no_body, not_one, no_conjunct, not_covered, lacking, found, one_item, none_seen, some_seen}
+use Rattle.tla_defs.proofs.Forms.{made_known, initials_known, replaced_known, many, may_be, too_many, no_body, not_one, no_conjunct, not_covered, lacking, found, one_item, none_seen, some_seen}
 use Rattle.tla_defs.proofs.specification.specification.Goals as goal
 
 pub returns-in_default-clause-none : goal.returns-in_default-clause-none
@@ -161,3 +161,24 @@ returns-in_err-parts-clause-none c =
     rw (e.1, e.2) (λ h.
     many us is σ n w t r k known counted body (steps_of all) (initials_of (length us) (body_of us is) all) refl refl
     (subst (λ (es : List Tree). AreMany (steps_of all) es) (fair all) (c.in_err-parts.ensures.many h)))
+
+pub returns-in_err-parts-clause-refused : goal.returns-in_err-parts-clause-refused
+returns-in_err-parts-clause-refused c =
+    let e = err_from_is_err_and c.from_residual-in_err-parts.result c.from_residual-in_err-parts.ensures.1 in
+    let us = map unit_view c.args.units.now in
+    let is = c.args.items.now in
+    let σ = scope_of c.args.scopes.now in
+    let n = c.args.variables in
+    let w = c.args.name.now in
+    let t = tree_at c.in-Some.body in
+    let k = length c.args.units.now in
+    let counted = sym (length-map c.args.units.now unit_view) in
+    let b = bodies_by c.in_ok-temporal.temporal.definitions.entries is in
+    let r = replaced_by (found_by c.in_ok-temporal.temporal.definitions.entries is) b in
+    let known = replaced_known us is (found_by c.in_ok-temporal.temporal.definitions.entries is) b k c.in_ok-temporal.ensures.bodies c.in_ok-temporal.ensures.found counted in
+    let fair = initials_known (found_by c.in_ok-fairness.fairness.definitions.entries is) (body_of us is) k c.in_ok-fairness.ensures.found (length us) counted in
+    let body : body_of us is w.word ≡ Some t = ap (λ (d : spec.Bodies). d w.word) (sym c.in_ok-temporal.ensures.bodies) ∙ ap (λ x. b x) (sym c.as_bytes.ensures) ∙ sym c.body.ensures ∙ ap (λ o. option_map tree_at o) c.in-Some.is in
+    let all = conjuncts k r t in
+    rw (e.1, e.2) (λ h.
+    may_be _ _ (λ m. too_many us is σ n w t r k known counted body (steps_of all) (initials_of (length us) (body_of us is) all) refl refl
+    (subst (λ (es : List Tree). 200001 ≤ length es) (fair all) m)) (c.in_err-parts.ensures.refused h))
