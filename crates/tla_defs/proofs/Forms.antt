@@ -14,15 +14,20 @@ use Rattle.tla_defs.specs.Private.Seen.{tree_at, seen}
 use Rattle.tla_defs.specs.Bodies.{Bodies, body_of}
 use Rattle.tla_defs.specs.Subscripts.{IsCover}
 use Rattle.tla_defs.specs.Specification.{Step, IsSpecification, is_conjunction, replaced, replaced_by, conjuncts, conjunction_of, initials_of, steps_of}
+use Rattle.tla_lex.specs.declared.token.Place.{Place}
+use Rattle.tla_config.specs.declared.error.DefsCode.{DefsCode}
+use Rattle.tla_config.specs.declared.error.DefsCode.TheVariants as c
 use Rattle.tla_config.specs.declared.error.DefsError.{DefsError}
+use Rattle.tla_config.specs.declared.error.Source.TheVariants as source
+use Rattle.tla_names.specs.Refusal.{refusal_at}
 use Rattle.tla_defs.specs.Refused.{NoForm, HasTooMany}
 use Rattle.tla_defs.specs.Private.Specified.{LacksState, MayBeLast}
 use Rattle.tla_defs.specs.Private.Conjuncts.{AreMadeOfFairness, initials_by}
 use Rattle.tla_defs.specs.Fairness.{fair_in, fair_of}
 use Rattle.tla_defs.specs.Temporal.{temporal_of}
-use Rattle.tla_defs.specs.Private.Parts.{AreMany}
+use Rattle.tla_defs.specs.Private.Parts.{IsOfMany}
 use Rattle.tla_defs.proofs.Fairs.{made_of_fairness}
-use Rattle.tla_defs.proofs.States.{lacks_state, too_long}
+use Rattle.tla_defs.proofs.States.{lacks_state}
 use Rattle.tla_defs.proofs.Unique.{same_some}
 
 pub one_item : {A : Type 0} (xs : List A) (x : A) → length xs ≡ 1 → x ≡ get_or xs 0 x → xs ≡ x ∷ []
@@ -74,13 +79,12 @@ pub replaced_known : (us : List UnitTree) (is : List Item) (τ : Name → Bool) 
 replaced_known us is τ b k bodies temporal counted =
     ap (λ (d : Bodies). replaced_by τ d) bodies ∙ ap (λ (ψ : Name → Bool). replaced_by ψ (body_of us is)) (temporal ∙ ap (λ m. temporal_of m (body_of us is)) counted)
 
-pub may_be : {A B : Type 0} (o : Option DefsError) (e : DefsError) → (A → B) → MayBeLast o A e → MayBeLast o B e
-may_be o e f (inl h) = inl h
-may_be o e f (inr (l, m)) = inr (l, f m)
+pub is_told : {k : DefsCode} → k ≡ c.SpecificationForm → k ≡ c.Memory → ⊥
+is_told p q = cc
 
 module _ (us : List UnitTree) (is : List Item) (σ : Scope) (n : ℕ) (w : Written) where
   pub no_body : body_of us is w.word ≡ None → NoForm us is σ n w
-  no_body p i a h x init = let q = h.is_body in let z : ⊥ = cc in z
+  no_body p i a h = let q = h.is_body in let z : ⊥ = cc in absurd z
 
   module _ (t : Tree) (r : Bodies) (k : ℕ) (known : r ≡ replaced us is) (counted : k ≡ length us) (body : body_of us is w.word ≡ Some t) (steps : List Step) (initial : List Tree)
       (steps_are : steps ≡ steps_of (conjuncts k r t)) (initial_are : initial ≡ initials_of (length us) (body_of us is) (conjuncts k r t)) where
@@ -103,34 +107,41 @@ module _ (us : List UnitTree) (is : List Item) (σ : Scope) (n : ℕ) (w : Writt
     its_initial i a h = ap (λ es. conjunction_of es) (are_initial ∙ ap (λ e. initials_of (length us) (body_of us is) (conjuncts (length us) (replaced us is) e)) (sym (same_body i a h))) ∙ h.is_initial
 
     pub not_one : (length steps ≡ 1 → ⊥) → NoForm us is σ n w
-    not_one p i a h x init = p (ap (λ es. length es) (its_steps i a h))
+    not_one p i a h = absurd (p (ap (λ es. length es) (its_steps i a h)))
 
     pub no_conjunct : initial ≡ [] → NoForm us is σ n w
-    no_conjunct p i a h x init =
+    no_conjunct p i a h =
         let q = its_initial i a h in
         let r = ap (λ es. conjunction_of es) p in
         let z : ⊥ = cc in
-        z
+        absurd z
 
     pub not_covered : (s : Step) → steps ≡ s ∷ [] → (IsCover σ n s.1 → ⊥) → NoForm us is σ n w
-    not_covered s p none i a h x init =
+    not_covered s p none i a h =
         let q = its_steps i a h in
         let same : s ≡ (a, h.subscript) = cc in
-        none (subst (λ (v : Tree). IsCover σ n v) (sym (ap (λ (u : Step). u.1) same)) h.covered)
+        absurd (none (subst (λ (v : Tree). IsCover σ n v) (sym (ap (λ (u : Step). u.1) same)) h.covered))
 
-    pub many : AreMany steps initial → NoForm us is σ n w
-    many (inl m) i a h x init = let one = ap (λ es. length es) (its_steps i a h) in omega (arith, m, one)
-    many (inr m) i a h x init = too_long σ initial i (its_initial i a h) m x init
+    two_steps : 2 ≤ length steps → NoForm us is σ n w
+    two_steps m i a h = let one = ap (λ es. length es) (its_steps i a h) in absurd (omega (arith, m, one))
 
-    pub too_many : 200001 ≤ length initial → HasTooMany us is w
+    too_many : 200001 ≤ length initial → HasTooMany us is w
     too_many m = record {
       body = t;
       is_body = body;
       many = subst (λ es. 200001 ≤ length es) are_initial m;
     }
 
+    pub no_form : (p : Place) (e : DefsError) → IsOfMany p steps initial e → e.code ≡ c.SpecificationForm → NoForm us is σ n w
+    no_form p e (inl (q, m)) h = two_steps m
+    no_form p e (inr (l, m)) h = let large = l.code in let z : ⊥ = cc in absurd z
+
+    pub of_many : (p : Place) (e : DefsError) → IsOfMany p steps initial e → MayBeLast (Some (refusal_at c.SpecificationForm source.Configuration p)) (HasTooMany us is w) e
+    of_many p e (inl (q, m)) = inl (ap (λ x. Some x) q)
+    of_many p e (inr (l, m)) = inr (l, too_many m)
+
     pub lacking : LacksState σ initial → NoForm us is σ n w
-    lacking l i a h x init = lacks_state σ initial i (its_initial i a h) l x init
+    lacking l i a h = lacks_state σ initial i (its_initial i a h) l
 
     pub found : (s : Step) (i : Tree) → steps ≡ s ∷ [] → IsCover σ n s.1 → conjunction_of initial ≡ Some i → IsSpecification us is σ n w i s.0
     found s i p cover q = record {

@@ -1,19 +1,21 @@
 -- The conjuncts of a formula, as the code goes through them.
-use Rattle.std.proofs.Common.{◌≡◌, ap, sym, ◌∙◌, Bool, true, List, [], ◌∷◌, ◌++◌, map, append-nil, Result, Ok, Err, Option}
+use Rattle.std.proofs.Common.{◌≡◌, ap, sym, ◌∙◌, inl, inr, arith, length, Bool, true, List, [], ◌∷◌, ◌++◌, map, append-nil, Result, Ok, Err, Option}
 use Rattle.std.specs.List.{flat_map}
 use Rattle.std.specs.Prelude.{OnOk}
-use Rattle.std.proofs.lemmas.List.{append_assoc, reverse-append}
+use Rattle.std.proofs.lemmas.List.{append_assoc, length-append, reverse-append}
 use Rattle.std.proofs.lemmas.List.Elements.{filter_map-append, filter-append}
 use Rattle.tla_tree.specs.declared.tree.Expr.{Expr}
 use Rattle.tla_tree.specs.Tree.{Tree, trees}
 use Rattle.tla_tree.specs.View.{view}
+use Rattle.tla_lex.specs.declared.token.Place.{Place}
 use Rattle.tla_config.specs.Names.{Name}
+use Rattle.tla_config.specs.declared.error.DefsError.{DefsError}
 use Rattle.tla_defs.specs.declared.conjuncts.Formula.{Formula}
 use Rattle.tla_defs.specs.declared.parts.Parts.{Parts}
 use Rattle.tla_defs.specs.Bodies.{Bodies}
 use Rattle.tla_defs.specs.Private.Conjuncts.{conjuncts_from, conjuncts_left, initials_by, is_initial_by, AreMadeOfFairness, AreFoundOrLeft}
 use Rattle.tla_defs.specs.Fairness.{fair_in}
-use Rattle.tla_defs.specs.Private.Parts.{steps_in}
+use Rattle.tla_defs.specs.Private.Parts.{steps_in, IsOfMany}
 use Rattle.tla_defs.specs.Private.Seen.{tree_at, seen}
 use Rattle.tla_defs.specs.Specification.{Step, always, steps_of, conjuncts_in, conjuncts_each}
 use Rattle.tla_defs.proofs.Fairs.{SaysNothing, fair_says_nothing}
@@ -69,6 +71,15 @@ module _ (φ : Name → Bool) (b : Bodies) (left : List Formula) (f : Formula) (
         initial = r.initial ∙ ap (λ ts. seen p.initial.items ++ initials_by φ ts) all ∙ ap (λ xs. seen p.initial.items ++ xs) (initials_two φ (t ∷ []) (conjuncts_left b left))
             ∙ sym (append_assoc (seen p.initial.items) (initials_by φ (t ∷ [])) (initials_by φ (conjuncts_left b left))) ∙ ap (λ xs. xs ++ initials_by φ (conjuncts_left b left)) (sym i);
       }
+
+-- what is told of those that were found is told of all
+pub of_found : (φ : Name → Bool) (b : Bodies) (left : List Formula) (p : Parts) (ss : List Step) (es : List Tree) (at : Place) (e : DefsError) → AreFoundOrLeft φ b left p ss es → IsOfMany at (steps_in p) (seen p.initial.items) e → IsOfMany at ss es e
+of_found φ b left p ss es at e r (inl (q, m)) =
+    let all = ap (λ xs. length xs) r.steps ∙ length-append (steps_in p) (steps_of (conjuncts_left b left)) in
+    inl (q, omega (arith, m, all))
+of_found φ b left p ss es at e r (inr (l, m)) =
+    let all = ap (λ xs. length xs) r.initial ∙ length-append (seen p.initial.items) (initials_by φ (conjuncts_left b left)) in
+    inr (l, omega (arith, m, all))
 
 pub on_ok : {E P Q : Type 0} (r : Result (Unit {0}) E) → (P → Q) → OnOk r P → OnOk r Q
 on_ok (Ok u) f h = f h

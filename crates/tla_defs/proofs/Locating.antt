@@ -117,8 +117,8 @@ of_some us cs e (of_constraint r) = of_predicates (global us (items_of cs)) (con
 
 of_last : (us : List UnitTree) (cs : List Statement) (b : Result Behaviour Place) (e : DefsError) → IsLast us cs b e → IsLocated e.code e.place e.name
 of_last us cs b e (inr r) = of_some us cs e r
-of_last us cs (Ok (Specified p w)) e (inl (inl r, none)) = rw (sym r) refl
-of_last us cs (Ok (Specified p w)) e (inl (inr (r, many), none)) = too_large e.code e.place e.name r.code r.place r.name
+of_last us cs (Ok (Specified p w)) e (inl (inl (r, none))) = rw (sym r) refl
+of_last us cs (Ok (Specified p w)) e (inl (inr (r, many))) = too_large e.code e.place e.name r.code r.place r.name
 of_last us cs (Ok (Named i n)) e (inl r) = absurd r
 of_last us cs (Err p) e (inl r) = absurd r
 

@@ -1,5 +1,5 @@
 -- Where there is a model, no step refuses.
-use Rattle.std.proofs.Common.{◌≡◌, refl, sym, inl, inr, ℕ, length, List, [], ◌∷◌, Some, None, Result, Ok, Err, subst}
+use Rattle.std.proofs.Common.{◌≡◌, refl, sym, ap, inl, inr, ℕ, length, List, [], ◌∷◌, Some, None, Result, Ok, Err, subst}
 use Rattle.tla_core.specs.Expr.{Expr}
 use Rattle.tla_lex.specs.declared.token.Place.{Place}
 use Rattle.tla_tree.specs.declared.word.Written.{Written}
@@ -53,16 +53,19 @@ last_same us cs ds b e same last = subst (λ xs. IsLast us xs b e) same last
 
 -- the refusal of a meaning
 pub meaning_refused : (us : List UnitTree) (cs : List Statement) (is : List Item) (σ : Scope) (n : ℕ) (b : Behaviour) (e : DefsError) → is ≡ items_of cs → σ ≡ global us is → n ≡ length (variables_of us)
-    → MayBeLast (form_refused b) (HasMany us is b) e → NoneMeant us is σ n b → IsLast us cs (Ok b) e
-meaning_refused us cs is σ n (Named i a) e given at counted last none = absurd none
-meaning_refused us cs is σ n (Specified p w) e given at counted last none = inl (of_form last, no_form)
+    → MayBeLast (form_refused b) (HasMany us is b) e → (e.code ≡ c.SpecificationForm → NoneMeant us is σ n b) → IsLast us cs (Ok b) e
+meaning_refused us cs is σ n (Named i a) e given at counted (inl q) none = cc
+meaning_refused us cs is σ n (Named i a) e given at counted (inr (l, many)) none = absurd many
+meaning_refused us cs is σ n (Specified p w) e given at counted (inr (l, many)) none = inl (inr (l, subst (λ js. HasTooMany us js w) given many))
+meaning_refused us cs is σ n (Specified p w) e given at counted (inl q) none = inl (inl (told, no_form))
   where
-    no_form : NoForm us (items_of cs) (global us (items_of cs)) (length (variables_of us)) w
-    no_form = subst (λ js. NoForm us js (global us js) (length (variables_of us)) w) given (subst (λ ρ. NoForm us is ρ (length (variables_of us)) w) at (subst (λ k. NoForm us is σ k w) counted none))
+    told : refusal_at c.SpecificationForm source.Configuration p ≡ e
+    told = cc
 
-    of_form : MayBeLast (Some (refusal_at c.SpecificationForm source.Configuration p)) (HasTooMany us is w) e → (refusal_at c.SpecificationForm source.Configuration p ≡ e) ⊎ (IsTooLarge e × HasTooMany us (items_of cs) w)
-    of_form (inl h) = let same : refusal_at c.SpecificationForm source.Configuration p ≡ e = cc in inl same
-    of_form (inr (l, many)) = inr (l, subst (λ js. HasTooMany us js w) given many)
+    no_form : NoForm us (items_of cs) (global us (items_of cs)) (length (variables_of us)) w
+    no_form =
+        subst (λ js. NoForm us js (global us js) (length (variables_of us)) w) given
+        (subst (λ ρ. NoForm us is ρ (length (variables_of us)) w) at (subst (λ k. NoForm us is σ k w) counted (none (ap (λ (d : DefsError). d.code) (sym told)))))
 
 -- where the steps before them refuse nothing, the names of the configuration are what is refused
 pub name_refusal : (us : List UnitTree) (config : ConfigTree) (is : List Item) (b : Behaviour) (e : DefsError) → misuse us ≡ None → is ≡ items_of config.statements

@@ -1,8 +1,8 @@
--- The conjuncts of an initial predicate: where one has none of its own within the limits, the whole has none.
-use Rattle.std.proofs.Common.{◌≡◌, ◌≤◌, ap, sym, subst, inl, inr, arith, length, get_or, List, [], ◌∷◌, Some}
+-- The conjuncts of an initial predicate: where one is not of state level, the whole isn't, and where they are too many, it is not within the limits.
+use Rattle.std.proofs.Common.{◌≡◌, ◌≤◌, refl, ap, sym, ◌∙◌, subst, inl, inr, arith, length, get_or, List, [], ◌∷◌, Option, Some, None}
 use Rattle.std.specs.Borrow.{Bor}
 use Rattle.tla_core.specs.Expr.{Expr, Exprs, conjunction, more_exprs}
-use Rattle.tla_model.specs.Size.{nodes, depth, nodes_each, depth_each}
+use Rattle.tla_model.specs.Size.{nodes, nodes_each}
 use Rattle.tla_tree.specs.declared.tree.Bullet.TheVariants as bullet
 use Rattle.tla_tree.specs.declared.tree.Expr as s
 use Rattle.tla_tree.specs.Places.{place}
@@ -12,7 +12,7 @@ use Rattle.tla_expand.specs.Meanings.{Scope}
 use Rattle.tla_expand.specs.Expand.{expand, expand_each}
 use Rattle.tla_expand.specs.Maybe.{◌>>=◌}
 use Rattle.tla_expand.specs.Places.{place_of}
-use Rattle.tla_expand.specs.Primes.{primes, primes_each}
+use Rattle.tla_expand.specs.Primes.{primes, primes_each, with_primes}
 use Rattle.tla_expand.proofs.PrimesFit.{inv}
 use Rattle.tla_expand.proofs.Sizes.{some_node}
 use Rattle.tla_defs.specs.Private.Seen.{tree_at, seen}
@@ -57,31 +57,26 @@ split σ t ts xs ys p q =
       same = same_exprs (more_exprs c.0 e.0) ys e.2;
     }
 
-each_lacks : (σ : Scope) (ts : List Tree) (xs ys : Exprs) → expand_each (trees ts) σ 0 ≡ Some xs → primes_each Once xs ≡ Some ys → nodes_each ys ≤ 200000 → depth_each ys ≤ 300 → LacksState σ ts → ⊥
-each_lacks σ [] xs ys p q n d l = l
-each_lacks σ (t ∷ ts) xs ys p q n d (inl l) =
-    let h = split σ t ts xs ys p q in
-    let small = ap nodes_each h.same in
-    let shallow = ap depth_each h.same in
-    l h.first (record { before = h.before; meaning = h.meaning; primed = h.primed; limits = record { small = omega (arith, small, n); shallow = omega (arith, shallow, d) } })
-each_lacks σ (t ∷ ts) xs ys p q n d (inr l) =
-    let h = split σ t ts xs ys p q in
-    let small = ap nodes_each h.same in
-    let shallow = ap depth_each h.same in
-    each_lacks σ ts h.others_before h.others h.others_meaning h.others_primed (omega (arith, small, n)) (omega (arith, shallow, d)) l
+not_primed : (o : Option Expr) (e : Expr) → o ≡ None → o ≡ Some e → ⊥
+not_primed o e p q = cc
 
-list_lacks : (σ : Scope) (p : _) (ts : List Tree) → LacksState σ ts → (e : Expr) → IsInitial σ (Junction p bullet.And (trees ts)) e → ⊥
+each_lacks : (σ : Scope) (ts : List Tree) (xs ys : Exprs) → expand_each (trees ts) σ 0 ≡ Some xs → primes_each Once xs ≡ Some ys → LacksState σ ts → ⊥
+each_lacks σ [] xs ys p q l = l
+each_lacks σ (t ∷ ts) xs ys p q (inl l) =
+    let h = split σ t ts xs ys p q in
+    not_primed (with_primes Once (expand t σ 0)) h.first l (ap (with_primes Once) h.meaning ∙ h.primed)
+each_lacks σ (t ∷ ts) xs ys p q (inr l) =
+    let h = split σ t ts xs ys p q in
+    each_lacks σ ts h.others_before h.others h.others_meaning h.others_primed l
+
+list_lacks : (σ : Scope) (p : _) (ts : List Tree) → LacksState σ ts → (e : Expr) → with_primes Once (expand (Junction p bullet.And (trees ts)) σ 0) ≡ Some e → ⊥
 list_lacks σ p ts l e h =
-    let a = inv (expand_each (trees ts) σ 0) (λ us. Some (conjunction (place_of p) us)) h.before h.meaning in
-    let is_before : Some (conjunction (place_of p) a.0) ≡ Some h.before = a.2 in
-    let r = subst (λ x. primes Once x ≡ Some e) (sym (same_expr (conjunction (place_of p) a.0) h.before is_before)) h.primed in
+    let before = inv (expand (Junction p bullet.And (trees ts)) σ 0) (λ x. primes Once x) e h in
+    let a = inv (expand_each (trees ts) σ 0) (λ us. Some (conjunction (place_of p) us)) before.0 before.1 in
+    let is_before : Some (conjunction (place_of p) a.0) ≡ Some before.0 = a.2 in
+    let r = subst (λ x. primes Once x ≡ Some e) (sym (same_expr (conjunction (place_of p) a.0) before.0 is_before)) before.2 in
     let b = inv (primes_each Once a.0) (λ us. Some (conjunction (place_of p) us)) e r in
-    let same = same_expr (conjunction (place_of p) b.0) e b.2 in
-    let small = ap nodes same in
-    let shallow = ap depth same in
-    let n = h.limits.small in
-    let d = h.limits.shallow in
-    each_lacks σ ts a.0 b.0 a.1 b.1 (omega (arith, small, n)) (omega (arith, shallow, d)) l
+    each_lacks σ ts a.0 b.0 a.1 b.1 l
 
 -- each conjunct has a node at least
 each_has_nodes : (σ : Scope) (ts : List Tree) (xs ys : Exprs) → expand_each (trees ts) σ 0 ≡ Some xs → primes_each Once xs ≡ Some ys → length ts ≤ nodes_each ys
@@ -107,11 +102,18 @@ list_too_long σ p ts l e h =
 same_tree : (t u : Tree) → Some t ≡ Some u → t ≡ u
 same_tree t u p = cc
 
-pub lacks_state : (σ : Scope) (ts : List Tree) (i : Tree) → conjunction_of ts ≡ Some i → LacksState σ ts → (e : Expr) → IsInitial σ i e → ⊥
-lacks_state σ [] i p l e h = l
-lacks_state σ (t ∷ []) i p (inl l) e h = l e (subst (λ u. IsInitial σ u e) (sym (same_tree t i p)) h)
-lacks_state σ (t ∷ []) i p (inr l) e h = l
-lacks_state σ (t ∷ u ∷ ts) i p l e h = list_lacks σ (place t) (t ∷ u ∷ ts) l e (subst (λ v. IsInitial σ v e) (sym (same_tree _ i p)) h)
+none_there : (o : Option Expr) → ((e : Expr) → o ≡ Some e → ⊥) → o ≡ None
+none_there None f = refl
+none_there (Some e) f = absurd (f e refl)
+
+-- where one conjunct is not of state level, neither is the whole
+pub lacks_state : (σ : Scope) (ts : List Tree) (i : Tree) → conjunction_of ts ≡ Some i → LacksState σ ts → with_primes Once (expand i σ 0) ≡ None
+lacks_state σ [] i p l = absurd l
+lacks_state σ (t ∷ []) i p (inl l) = subst (λ u. with_primes Once (expand u σ 0) ≡ None) (same_tree t i p) l
+lacks_state σ (t ∷ []) i p (inr l) = absurd l
+lacks_state σ (t ∷ u ∷ ts) i p l =
+    subst (λ v. with_primes Once (expand v σ 0) ≡ None) (same_tree _ i p)
+    (none_there (with_primes Once (expand (Junction (place t) bullet.And (trees (t ∷ u ∷ ts))) σ 0)) (λ e h. list_lacks σ (place t) (t ∷ u ∷ ts) l e h))
 
 -- an initial predicate within the limits has no more conjuncts than these have nodes
 pub too_long : (σ : Scope) (ts : List Tree) (i : Tree) → conjunction_of ts ≡ Some i → 200001 ≤ length ts → (e : Expr) → IsInitial σ i e → ⊥
@@ -119,6 +121,6 @@ too_long σ [] i p l e h = omega (arith, l)
 too_long σ (t ∷ []) i p l e h = omega (arith, l)
 too_long σ (t ∷ u ∷ ts) i p l e h = list_too_long σ (place t) (t ∷ u ∷ ts) l e (subst (λ v. IsInitial σ v e) (sym (same_tree _ i p)) h)
 
-pub lacks_first : (σ : Scope) (ts : List (Bor s.Expr)) (t : Bor s.Expr) → 1 ≤ length ts → t ≡ get_or ts 0 t → ((x : Expr) → IsInitial σ (tree_at t) x → ⊥) → LacksState σ (seen ts)
+pub lacks_first : (σ : Scope) (ts : List (Bor s.Expr)) (t : Bor s.Expr) → 1 ≤ length ts → t ≡ get_or ts 0 t → with_primes Once (expand (tree_at t) σ 0) ≡ None → LacksState σ (seen ts)
 lacks_first σ [] t n e l = absurd (omega (arith, n))
-lacks_first σ (u ∷ ts) t n e l = inl (λ x h. l x (subst (λ (v : Bor s.Expr). IsInitial σ (tree_at v) x) (sym e) h))
+lacks_first σ (u ∷ ts) t n e l = inl (subst (λ (v : Bor s.Expr). with_primes Once (expand (tree_at v) σ 0) ≡ None) e l)

@@ -13,6 +13,7 @@ use Rattle.tla_config.specs.View.{ConfigTree}
 use Rattle.tla_expand.specs.declared.primes.Primes.TheVariants.{Never, Once, Twice}
 use Rattle.tla_expand.specs.Expand.{expand}
 use Rattle.tla_expand.specs.Meanings.{Scope}
+use Rattle.tla_expand.specs.Primes.{with_primes}
 use Rattle.tla_names.specs.Maybe.{or_else}
 use Rattle.tla_names.specs.Items.{definitions_of}
 use Rattle.tla_names.specs.Misuses.{misuse, variables_of}
@@ -22,7 +23,7 @@ use Rattle.tla_names.specs.Named.{names_misused}
 use Rattle.tla_names.specs.Refusal.{refusal_at, refusal_for, items_refused, IsOfCircle}
 use Rattle.tla_defs.specs.Bodies.{body_of}
 use Rattle.tla_defs.specs.Global.{global}
-use Rattle.tla_formulas.specs.Formulas.{IsInitial, meaning_in}
+use Rattle.tla_formulas.specs.Formulas.{meaning_in}
 use Rattle.tla_formulas.specs.Refused.{IsOfFormula}
 use Rattle.tla_defs.specs.Model.{IsBehaviour, assumptions_of, invariants_named, constraints_named}
 use Rattle.tla_defs.specs.Specification.{IsSpecification, conjuncts, initials_of, replaced}
@@ -101,13 +102,13 @@ pub record HasTooMany (us : List UnitTree) (is : List Item) (w : Written) : Type
   pub is_body : body_of us is w.word ≡ Some body
   pub many : 200001 ≤ length (initials_of (length us) (body_of us is) (conjuncts (length us) (replaced us is) body))
 
--- No initial predicate of state level and action, within the limits, make up the formula that SPECIFICATION names.
+-- No initial predicate of state level and action make up the formula that SPECIFICATION names, however large.
 abbrev pub NoForm : List UnitTree → List Item → Scope → ℕ → Written → Type 0
-NoForm us is σ n w = (i a : Tree) → IsSpecification us is σ n w i a → (x : Expr) → IsInitial σ i x → ⊥
+NoForm us is σ n w = (i a : Tree) → IsSpecification us is σ n w i a → with_primes Once (expand i σ 0) ≡ None
 
 -- SPECIFICATION stands alone, and the formula that it names is not of the form, or has too many conjuncts for it
 abbrev pub IsFormRefused : List UnitTree → List Item → Result Behaviour Place → DefsError → Type 0
-IsFormRefused us is (Ok (Specified p w)) e = ((refusal_at c.SpecificationForm source.Configuration p ≡ e) ⊎ (IsTooLarge e × HasTooMany us is w)) × NoForm us is (global us is) (length (variables_of us)) w
+IsFormRefused us is (Ok (Specified p w)) e = ((refusal_at c.SpecificationForm source.Configuration p ≡ e) × NoForm us is (global us is) (length (variables_of us)) w) ⊎ (IsTooLarge e × HasTooMany us is w)
 IsFormRefused us is _ e = ⊥
 
 -- behind all other steps: the form of the specification, or a formula

@@ -1,14 +1,12 @@
 //! The conjuncts of the formula that SPECIFICATION names.
 
-ghost use Rattle.std.specs.Prelude.{◌≡◌, ◌≢◌, ◌≤◌, ◌++◌, ◌∷◌, [], List, Some, length, map, option_map, OnOk, IfOk, IfErr};
+ghost use Rattle.std.specs.Prelude.{◌≡◌, ◌≢◌, ◌++◌, ◌∷◌, [], List, Some, map, option_map, OnOk, IfOk, IfErr};
 ghost use Rattle.tla_config.specs.declared.error.DefsCode.TheVariants.{Memory};
 ghost use Rattle.tla_tree.specs.Tree.{Tree, trees as trees_of};
 ghost use Rattle.tla_tree.specs.View.{view};
-ghost use Rattle.tla_names.specs.Refusal as refusal;
 ghost use Rattle.tla_defs.specs.Bodies as bodies;
 ghost use Rattle.tla_defs.specs.Private.Conjuncts.{replaced_in, fair_names, conjuncts_from, conjuncts_left, initials_by, AreMadeOfFairness, AreFoundOrLeft};
-ghost use Rattle.tla_defs.specs.Private.Parts.{steps_in, AreMany};
-ghost use Rattle.tla_defs.specs.Private.Specified.{MayBeLast};
+ghost use Rattle.tla_defs.specs.Private.Parts.{steps_in, IsOfMany};
 ghost use Rattle.tla_defs.specs.Private.Seen.{tree_at, seen};
 ghost use Rattle.tla_defs.specs.Private.Shapes.{conjuncts_by};
 ghost use Rattle.tla_defs.specs.Specification as spec;
@@ -195,8 +193,7 @@ pub(crate) fn parts_of<'a>(
     requires fair { AreMadeOfFairness (fair_names classes.now) (replaced_in classes.now) }
     ensures steps { IfOk result (λ p. steps_in p ≡ spec.steps_of (spec.conjuncts names (replaced_in classes.now) (tree_at whole.entry))) }
     ensures initial { IfOk result (λ p. seen p.initial.items ≡ initials_by (fair_names classes.now) (spec.conjuncts names (replaced_in classes.now) (tree_at whole.entry))) }
-    ensures refused { IfErr result (λ e. e.code ≢ Memory → MayBeLast (Some (refusal.refusal_at DefsCode.SpecificationForm Source.Configuration place)) (200001 ≤ length (initials_by (fair_names classes.now) (spec.conjuncts names (replaced_in classes.now) (tree_at whole.entry)))) e) }
-    ensures many { IfErr result (λ e. e.code ≢ Memory → AreMany (spec.steps_of (spec.conjuncts names (replaced_in classes.now) (tree_at whole.entry))) (initials_by (fair_names classes.now) (spec.conjuncts names (replaced_in classes.now) (tree_at whole.entry)))) }
+    ensures refused { IfErr result (λ e. e.code ≢ Memory → IsOfMany place (spec.steps_of (spec.conjuncts names (replaced_in classes.now) (tree_at whole.entry))) (initials_by (fair_names classes.now) (spec.conjuncts names (replaced_in classes.now) (tree_at whole.entry))) e) }
 {
     let mut walk = Walk {
         left: Vec::new(alloc),
@@ -204,8 +201,8 @@ pub(crate) fn parts_of<'a>(
     };
     push(&mut walk.left, Formula { tree: whole, names })?;
     for _turn in 0..u64::MAX {
-        if !walk.parts.are_few() {
-            return Err(walk.parts.too_many(place));
+        if let Some(error) = walk.parts.too_many(place) {
+            return Err(error);
         }
         let Some(formula) = walk.left.pop() else {
             return Ok(walk.parts);

@@ -20,7 +20,7 @@ ghost use Rattle.tla_defs.specs.Private.Specified.{initial_in, initial_tree, act
 use crate::behaviour::Behaviour;
 use crate::specification::{Specified, specification};
 use std::alloc::Global;
-use tla_config::DefsError;
+use tla_config::{DefsCode, DefsError};
 use tla_core::Core;
 use tla_expand::{Primes, Scopes};
 use tla_formulas::{Places, action, initial, refusal};
@@ -46,7 +46,7 @@ pub(crate) fn meaning<'a>(
 ) -> Result<Meant<'a>, DefsError>
     ensures found { IfOk result (λ m. IsMeant (map unit_view units.now) items.now (scope_of scopes.now) variables (behaviour_of behaviour.entry) m) }
     ensures refused { IfErr result (λ e. e.code ≢ Memory → MayBeLast (form_refused (behaviour_of behaviour.entry)) (HasMany (map unit_view units.now) items.now (behaviour_of behaviour.entry)) e) }
-    ensures none { IfErr result (λ e. e.code ≢ Memory → NoneMeant (map unit_view units.now) items.now (scope_of scopes.now) variables (behaviour_of behaviour.entry)) }
+    ensures none { IfErr result (λ e. e.code ≡ DefsCode.SpecificationForm → NoneMeant (map unit_view units.now) items.now (scope_of scopes.now) variables (behaviour_of behaviour.entry)) }
 {
     match behaviour {
         Behaviour::Named(initial, next) => Ok(Meant::Named(initial, next)),

@@ -1,12 +1,10 @@
 //! The conjuncts of a specification by what they are.
 
-ghost use Rattle.std.specs.Prelude.{◌≡◌, ◌≢◌, ◌≤◌, ◌++◌, ◌∷◌, [], Some, true, false, length, option_map, OnOk, IfErr};
+ghost use Rattle.std.specs.Prelude.{◌≡◌, ◌++◌, ◌∷◌, [], Some, option_map, OnOk, IfErr};
 ghost use Rattle.tla_config.specs.declared.error.DefsCode.TheVariants.{Memory};
 ghost use Rattle.tla_tree.specs.View.{view};
-ghost use Rattle.tla_names.specs.Refusal as refusal;
 ghost use Rattle.tla_defs.specs.Private.Conjuncts.{found_names, initials_by};
-ghost use Rattle.tla_defs.specs.Private.Parts.{step_of, steps_in, AreFew};
-ghost use Rattle.tla_defs.specs.Private.Specified.{MayBeLast};
+ghost use Rattle.tla_defs.specs.Private.Parts.{step_of, steps_in, IsOfMany};
 ghost use Rattle.tla_defs.specs.Private.Seen.{tree_at, seen};
 ghost use Rattle.tla_defs.specs.Specification as spec;
 
@@ -106,26 +104,18 @@ impl<'a> Parts<'a> {
         push_tree(&mut self.initial, tree)
     }
 
-    /// Whether there is one step at most, and no more other conjuncts than an expression within the limits has nodes.
-    pub(crate) fn are_few(&self) -> bool
-        ensures yes { result ≡ true → AreFew self.now }
-        ensures no { result ≡ false → AreFew self.now → ⊥ }
+    /// The refusal of two steps, or of more other conjuncts than an expression within the limits has nodes, where
+    /// SPECIFICATION stands at this place.
+    pub(crate) fn too_many(&self, place: Place) -> Option<DefsError>
+        ensures { (e : DefsError) → result ≡ Some e → IsOfMany place (steps_in self.now) (seen self.now.initial.items) e }
     {
-        self.steps.len() < 2 && self.initial.len() <= MAX_NODES
-    }
-
-    /// The refusal of more than a few conjuncts, where SPECIFICATION stands at this place: of two steps, or of an initial
-    /// predicate that is too large.
-    pub(crate) fn too_many(&self, place: Place) -> DefsError
-        ensures { result.code ≢ Memory → MayBeLast (Some (refusal.refusal_at DefsCode.SpecificationForm Source.Configuration place)) (200001 ≤ length self.now.initial.items) result }
-    {
-        if self.steps.len() > 1 || self.initial.len() <= MAX_NODES {
-            return refusal_at(DefsCode::SpecificationForm, Source::Configuration, place);
+        if self.steps.len() > 1 {
+            return Some(refusal_at(DefsCode::SpecificationForm, Source::Configuration, place));
         }
-        refusal_at(
-            DefsCode::ExpansionTooLarge,
-            Source::Module,
-            self.initial[0].place(),
-        )
+        if self.initial.len() > MAX_NODES {
+            let at = self.initial[0].place();
+            return Some(refusal_at(DefsCode::ExpansionTooLarge, Source::Module, at));
+        }
+        None
     }
 }

@@ -1,12 +1,12 @@
 //! The formula that SPECIFICATION names.
 
-ghost use Rattle.std.specs.Prelude.{◌≡◌, ◌≢◌, Some, map, OnOk, IfOk, IfErr};
+ghost use Rattle.std.specs.Prelude.{◌≡◌, ◌≢◌, None, map, OnOk, IfOk, IfErr};
 ghost use Rattle.tla_config.specs.declared.error.DefsCode.TheVariants.{Memory};
-ghost use Rattle.tla_core.specs.Expr as expr;
+ghost use Rattle.tla_expand.specs.Expand.{expand};
 ghost use Rattle.tla_expand.specs.Names.{scope_of};
+ghost use Rattle.tla_expand.specs.Primes.{with_primes};
 ghost use Rattle.tla_tree.specs.UnitsView.{unit_view};
 ghost use Rattle.tla_tree.specs.View.{view};
-ghost use Rattle.tla_formulas.specs.Formulas as formulas;
 ghost use Rattle.tla_defs.specs.Private.Seen.{seen};
 ghost use Rattle.tla_defs.specs.Refused as refused;
 ghost use Rattle.tla_names.specs.Refusal as refusal;
@@ -65,7 +65,7 @@ fn of_state_level<'a>(
     place: Place,
 ) -> Result<(), DefsError>
     ensures refused { IfErr result (λ e. e.code ≢ Memory → refusal.refusal_at DefsCode.SpecificationForm Source.Configuration place ≡ e) }
-    ensures none { IfErr result (λ e. e.code ≢ Memory → (x : expr.Expr) → formulas.IsInitial (scope_of scopes.now) (view tree.entry.now) x → ⊥) }
+    ensures none { IfErr result (λ e. e.code ≢ Memory → with_primes Primes.Once (expand (view tree.entry.now) (scope_of scopes.now) 0) ≡ None) }
 {
     match scopes.expansion(alloc, tree, Primes::Once) {
         Ok(_) | Err(Failure::TooLarge) => Ok(()),
@@ -142,7 +142,7 @@ pub(crate) fn specification<'a>(
 ) -> Result<Specified<'a>, DefsError>
     ensures found { IfOk result (λ s. IsForm (map unit_view units.now) items.now (scope_of scopes.now) variables name.now s) }
     ensures refused { IfErr result (λ e. e.code ≢ Memory → MayBeLast (form_refused (refused.Specified place name.now)) (HasTooMany (map unit_view units.now) items.now name.now) e) }
-    ensures none { IfErr result (λ e. e.code ≢ Memory → NoForm (map unit_view units.now) items.now (scope_of scopes.now) variables name.now) }
+    ensures none { IfErr result (λ e. e.code ≡ DefsCode.SpecificationForm → NoForm (map unit_view units.now) items.now (scope_of scopes.now) variables name.now) }
 {
     let fairness = Table::of(alloc, units, items, Class::Fairness)?;
     let temporal = Table::of(alloc, units, items, Class::Temporal)?;

@@ -1,6 +1,5 @@
 -- What the code finds of a specification. Private contracts alone cite this.
 use Rattle.std.specs.Prelude.{◌≡◌, ◌⊎◌, ℕ, List, [], ◌∷◌, Option, Some, None}
-use Rattle.tla_core.specs.Expr.{Expr}
 use Rattle.tla_tree.specs.declared.word.Written.{Written}
 use Rattle.tla_tree.specs.Tree.{Tree}
 use Rattle.tla_tree.specs.Tree as t
@@ -9,21 +8,23 @@ use Rattle.tla_config.specs.declared.error.DefsCode.TheVariants as c
 use Rattle.tla_config.specs.declared.error.DefsError.{DefsError}
 use Rattle.tla_config.specs.declared.error.Source.TheVariants as source
 use Rattle.tla_config.specs.Statements.{Statement, Item}
+use Rattle.tla_expand.specs.declared.primes.Primes.TheVariants.{Once}
+use Rattle.tla_expand.specs.Expand.{expand}
 use Rattle.tla_expand.specs.Meanings.{Scope}
+use Rattle.tla_expand.specs.Primes.{with_primes}
 use Rattle.tla_names.specs.Refusal.{refusal_at}
 use Rattle.tla_defs.specs.declared.meant.Meant.{Meant}
 use Rattle.tla_defs.specs.declared.meant.Meant.TheVariants as meant
 use Rattle.tla_defs.specs.declared.specification.Specified as declared
 use Rattle.tla_defs.specs.Private.Seen.{tree_at, seen}
-use Rattle.tla_formulas.specs.Formulas.{IsInitial}
 use Rattle.tla_defs.specs.Model.{initials_named, nexts_named, specifications_named}
 use Rattle.tla_defs.specs.Refused.{Behaviour, Named, Specified, NoForm, HasTooMany, IsTooLarge}
 use Rattle.tla_defs.specs.Specification.{conjunction_of, IsSpecification}
 
--- one of these is no initial predicate
+-- one of these is not of state level
 abbrev pub LacksState : Scope → List Tree → Type 0
 LacksState σ [] = ⊥
-LacksState σ (e ∷ es) = ((x : Expr) → IsInitial σ e x → ⊥) ⊎ LacksState σ es
+LacksState σ (e ∷ es) = (with_primes Once (expand e σ 0) ≡ None) ⊎ LacksState σ es
 
 abbrev pub initial_in : declared.Specified → Option Tree
 initial_in s = conjunction_of (seen s.initial.items)

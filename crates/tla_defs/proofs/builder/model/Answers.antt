@@ -48,7 +48,8 @@ returns-in_err-meant-clause-none c =
     let at = c.in_ok-scopes.ensures.ok ∙ ap (λ is. global us is) c.requires.items in
     let counted = sym (length-map c.words-count.result.now (λ (w : Bor (List ℕ)). w.now)) ∙ ap (λ (xs : List (List ℕ)). length xs) c.words-count.ensures ∙ ap (λ (xs : List (List ℕ)). length xs) c.requires.variables in
     let e = err_from_is_err_and c.from_residual-in_err-meant.result c.from_residual-in_err-meant.ensures.1 in
-    rw (e.1, e.2) (λ h. no_meaning us cs c.args.items.now (scope_of c.in_ok-scopes.scopes) (length c.words-count.result.now) (behaviour_of c.args.behaviour) c.requires.items at counted c.requires.only (c.in_err-meant.ensures.none h))
+    rw (e.1, e.2) (λ h. no_meaning us cs c.args.items.now (scope_of c.in_ok-scopes.scopes) (length c.words-count.result.now) (behaviour_of c.args.behaviour) c.in_err-meant.field-0.0 c.requires.items at counted c.requires.only
+    (c.in_err-meant.ensures.refused h) c.in_err-meant.ensures.none)
 
 pub returns-in_err-assumptions-clause-none : goal.returns-in_err-assumptions-clause-none
 returns-in_err-assumptions-clause-none c =
@@ -107,7 +108,7 @@ returns-in_err-meant-clause-refused c =
     let e = err_from_is_err_and c.from_residual-in_err-meant.result c.from_residual-in_err-meant.ensures.1 in
     let cs = map statement_view c.args.statements.now in
     rw (e.1, e.2) (λ h. meaning_refused us cs is (scope_of c.in_ok-scopes.scopes) (length c.words-count.result.now) (behaviour_of c.args.behaviour) c.in_err-meant.field-0.0
-    c.requires.items c.in_ok-scopes.ensures.ok counted (c.in_err-meant.ensures.refused h) (c.in_err-meant.ensures.none h))
+    c.requires.items c.in_ok-scopes.ensures.ok counted (c.in_err-meant.ensures.refused h) c.in_err-meant.ensures.none)
 
 pub returns-in_err-assumptions-clause-refused : goal.returns-in_err-assumptions-clause-refused
 returns-in_err-assumptions-clause-refused c =

@@ -1,4 +1,4 @@
-use Rattle.std.proofs.Common.{◌≡◌, ◌≤◌, refl, subst, List, ap, sym, ◌∙◌, map, length, option_map, [], ◌∷◌, Some, arith}
+use Rattle.std.proofs.Common.{◌≡◌, refl, subst, List, ap, sym, ◌∙◌, map, length, option_map, [], ◌∷◌, Some, arith}
 use Rattle.std.proofs.lemmas.List.{length-map}
 use Rattle.std.proofs.lemmas.Result.{err_from_is_err_and}
 use Rattle.tla_expand.specs.Names.{scope_of}
@@ -10,8 +10,8 @@ use Rattle.tla_defs.specs.Bodies.{body_of}
 use Rattle.tla_defs.specs.Specification.{conjuncts, replaced_by, steps_of, initials_of}
 use Rattle.tla_defs.specs.Private.Table.{bodies_by, found_by}
 use Rattle.tla_defs.specs.Private.Parts.{step_of, steps_in}
-use Rattle.tla_defs.specs.Private.Parts.{AreMany}
-use Rattle.tla_defs.proofs.Forms.{made_known, initials_known, replaced_known, many, may_be, too_many, no_body, not_one, no_conjunct, not_covered, lacking, found, one_item, none_seen, some_seen}
+use Rattle.tla_defs.specs.Private.Parts.{IsOfMany}
+use Rattle.tla_defs.proofs.Forms.{made_known, initials_known, replaced_known, is_told, no_form, of_many, no_body, not_one, no_conjunct, not_covered, lacking, found, one_item, none_seen, some_seen}
 use Rattle.tla_defs.proofs.specification.specification.Goals as goal
 
 pub returns-in_default-clause-none : goal.returns-in_default-clause-none
@@ -85,7 +85,7 @@ returns-in_err-covered-clause-none c =
     let items = c.in_ok-parts.parts.steps.items in
     let step = c.index-step.result.now in
     let one : steps ≡ step_of step ∷ [] = ap (λ xs. map step_of xs) (one_item items step (omega (arith, c.len.ensures, c.if-len-ne1.false)) c.index-step.ensures) in
-    rw (e.1, e.2) (λ h. not_covered us is σ n w t r k known counted body steps initial c.in_ok-parts.ensures.steps initial_are (step_of step) one (c.in_err-covered.ensures.none h))
+    rw (e.1, e.2) (λ h. not_covered us is σ n w t r k known counted body steps initial c.in_ok-parts.ensures.steps initial_are (step_of step) one (c.in_err-covered.ensures.none (is_told h)))
 
 pub returns-in_err-each_of_state_level-clause-none : goal.returns-in_err-each_of_state_level-clause-none
 returns-in_err-each_of_state_level-clause-none c =
@@ -106,7 +106,7 @@ returns-in_err-each_of_state_level-clause-none c =
     let steps = steps_in c.in_ok-parts.parts in
     let initial = seen c.in_ok-parts.parts.initial.items in
     let initial_are = c.in_ok-parts.ensures.initial ∙ fair (conjuncts k r t) in
-    rw (e.1, e.2) (λ h. lacking us is σ n w t r k known counted body steps initial c.in_ok-parts.ensures.steps initial_are (rw c.as_slice.ensures.value at (c.in_err-each_of_state_level.ensures.none h)))
+    rw (e.1, e.2) (λ h. lacking us is σ n w t r k known counted body steps initial c.in_ok-parts.ensures.steps initial_are (rw c.as_slice.ensures.value at (c.in_err-each_of_state_level.ensures.none (is_told h))))
 
 pub returns-clause-found : goal.returns-clause-found
 returns-clause-found c =
@@ -159,8 +159,8 @@ returns-in_err-parts-clause-none c =
     let body : body_of us is w.word ≡ Some t = ap (λ (d : spec.Bodies). d w.word) (sym c.in_ok-temporal.ensures.bodies) ∙ ap (λ x. b x) (sym c.as_bytes.ensures) ∙ sym c.body.ensures ∙ ap (λ o. option_map tree_at o) c.in-Some.is in
     let all = conjuncts k r t in
     rw (e.1, e.2) (λ h.
-    many us is σ n w t r k known counted body (steps_of all) (initials_of (length us) (body_of us is) all) refl refl
-    (subst (λ (es : List Tree). AreMany (steps_of all) es) (fair all) (c.in_err-parts.ensures.many h)))
+    no_form us is σ n w t r k known counted body (steps_of all) (initials_of (length us) (body_of us is) all) refl refl c.args.place _
+    (subst (λ (es : List Tree). IsOfMany c.args.place (steps_of all) es c.in_err-parts.field-0.0) (fair all) (c.in_err-parts.ensures.refused (is_told h))) h)
 
 pub returns-in_err-parts-clause-refused : goal.returns-in_err-parts-clause-refused
 returns-in_err-parts-clause-refused c =
@@ -180,5 +180,5 @@ returns-in_err-parts-clause-refused c =
     let body : body_of us is w.word ≡ Some t = ap (λ (d : spec.Bodies). d w.word) (sym c.in_ok-temporal.ensures.bodies) ∙ ap (λ x. b x) (sym c.as_bytes.ensures) ∙ sym c.body.ensures ∙ ap (λ o. option_map tree_at o) c.in-Some.is in
     let all = conjuncts k r t in
     rw (e.1, e.2) (λ h.
-    may_be _ _ (λ m. too_many us is σ n w t r k known counted body (steps_of all) (initials_of (length us) (body_of us is) all) refl refl
-    (subst (λ (es : List Tree). 200001 ≤ length es) (fair all) m)) (c.in_err-parts.ensures.refused h))
+    of_many us is σ n w t r k known counted body (steps_of all) (initials_of (length us) (body_of us is) all) refl refl c.args.place _
+    (subst (λ (es : List Tree). IsOfMany c.args.place (steps_of all) es c.in_err-parts.field-0.0) (fair all) (c.in_err-parts.ensures.refused h)))
