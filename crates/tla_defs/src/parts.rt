@@ -1,10 +1,10 @@
 //! The conjuncts of a specification by what they are.
 
-ghost use Rattle.std.specs.Prelude.{◌≡◌, ◌++◌, ◌∷◌, [], Some, option_map, OnOk, IfErr};
+ghost use Rattle.std.specs.Prelude.{◌≡◌, ◌++◌, ◌∷◌, [], Some, None, option_map, OnOk, IfErr};
 ghost use Rattle.tla_config.specs.declared.error.DefsCode.TheVariants.{Memory};
 ghost use Rattle.tla_tree.specs.View.{view};
 ghost use Rattle.tla_defs.specs.Private.Conjuncts.{found_names, initials_by};
-ghost use Rattle.tla_defs.specs.Private.Parts.{step_of, steps_in, IsOfMany};
+ghost use Rattle.tla_defs.specs.Private.Parts.{step_of, steps_in, AreFew, IsOfMany};
 ghost use Rattle.tla_defs.specs.Private.Seen.{tree_at, seen};
 ghost use Rattle.tla_defs.specs.Specification as spec;
 
@@ -107,7 +107,8 @@ impl<'a> Parts<'a> {
     /// The refusal of two steps, or of more other conjuncts than an expression within the limits has nodes, where
     /// SPECIFICATION stands at this place.
     pub(crate) fn too_many(&self, place: Place) -> Option<DefsError>
-        ensures { (e : DefsError) → result ≡ Some e → IsOfMany place (steps_in self.now) (seen self.now.initial.items) e }
+        ensures told { (e : DefsError) → result ≡ Some e → IsOfMany place (steps_in self.now) (seen self.now.initial.items) e }
+        ensures few { result ≡ None → AreFew self.now }
     {
         if self.steps.len() > 1 {
             return Some(refusal_at(DefsCode::SpecificationForm, Source::Configuration, place));

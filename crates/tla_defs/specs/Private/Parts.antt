@@ -1,5 +1,5 @@
 -- The conjuncts of a specification, as the code sorts them. Private contracts alone cite this.
-use Rattle.std.specs.Prelude.{◌≡◌, ◌≤◌, ◌⊎◌, List, map, length}
+use Rattle.std.specs.Prelude.{◌≡◌, ◌≤◌, ◌<◌, ◌⊎◌, List, map, length}
 use Rattle.tla_lex.specs.declared.token.Place.{Place}
 use Rattle.tla_tree.specs.Tree.{Tree}
 use Rattle.tla_config.specs.declared.error.DefsCode.TheVariants as c
@@ -17,6 +17,10 @@ step_of s = (tree_at s.action, tree_at s.subscript)
 
 abbrev pub steps_in : Parts → List Step
 steps_in p = map step_of p.steps.items
+
+-- one step at most, and no more conjuncts than an expression within the limits has nodes
+abbrev pub AreFew : Parts → Type 0
+AreFew p = (length p.steps.items < 2) × (length p.initial.items ≤ 200000)
 
 -- told of two steps, or of more conjuncts than an expression within the limits has nodes
 abbrev pub IsOfMany : Place → List Step → List Tree → DefsError → Type 0

@@ -20,4 +20,4 @@ returns-in-Some-clause-refused c = λ h.
     let φ = fair_names c.args.classes.now in
     let b = replaced_in c.args.classes.now in
     let all = conjuncts c.args.names b (view c.args.whole.now) in
-    of_found φ b c.loop-turn.walk.left.items c.loop-turn.walk.parts (steps_of all) (initials_by φ all) c.args.place _ c.loop-turn.invariant (c.too_many.ensures _ c.in-Some.is)
+    of_found φ b c.loop-turn.walk.left.items c.loop-turn.walk.parts (steps_of all) (initials_by φ all) c.args.place _ c.loop-turn.invariant (c.too_many.ensures.told _ c.in-Some.is)
