@@ -1,14 +1,8 @@
 -- What is evaluated one by one and kept: one more turn of a loop, and its end.
-use Rattle.std.proofs.Common.{◌≡◌, ℕ, ◌≤◌, max, Bool, true, false, cond, zip, List, [], ◌∷◌, ◌++◌, map, length, Ok, Err, ap, sym, refl, ◌∙◌, append_assoc, arith}
-use Rattle.tla_value.specs.Tree.{Tree, text, fun, pairs, deepest_pair}
-use Rattle.std.specs.BTreeMap.{insert_entry}
-use Rattle.std.specs.Ordering.{match_ordering}
-use Rattle.std.specs.declared.cmp.Ordering.TheVariants.{Less, Equal, Greater}
-use Rattle.tla_value.specs.Order.{tree_cmp}
-use Rattle.tla_value.specs.Funs.{fun_of}
-use Rattle.tla_value.specs.Choices.{keys_of, parts_of, choices}
-use Rattle.tla_core.specs.Kinds.{within, make_fun}
-use Rattle.tla_core.specs.Functions.{argument_of, function_on}
+use Rattle.std.proofs.Common.{◌≡◌, ℕ, Bool, true, false, cond, zip, List, [], ◌∷◌, ◌++◌, Ok, Err, ap, sym, refl, ◌∙◌, append_assoc}
+use Rattle.tla_value.specs.Tree.{Tree, text}
+use Rattle.tla_value.specs.Choices.{keys_of, parts_of}
+use Rattle.tla_core.specs.Kinds.{make_fun}
 use Rattle.tla_core.specs.Meaning.{Meaning, Bound, Present, Next, means-record_of}
 use Rattle.tla_eval.specs.Private.Parts.{named_value, record_rule}
 use Rattle.tla_core.specs.declared.fault.Place.{Place}

@@ -1,16 +1,9 @@
 -- Sets of records and of tuples: what is evaluated.
-use Rattle.std.proofs.Common.{◌≡◌, ℕ, suc, ◌+◌, ◌<◌, ◌==◌, add-one, arith, Bool, true, false, cond, ◌&&◌, ◌||◌, eq-eqb, ne_eqb, List, [], ◌∷◌, ◌++◌, map, zip, length, drop, drop-cons, get_or, Option, Some, None, is_some, option_map, Ok, Err, refl, sym, ap, ◌∙◌}
+use Rattle.std.proofs.Common.{◌≡◌, ℕ, suc, ◌==◌, false, cond, eq-eqb, ne_eqb, List, [], ◌∷◌, map, zip, length, Option, Some, Ok, Err, refl, sym, ap, ◌∙◌}
 use Rattle.std.proofs.lemmas.List.{length-map}
-use Rattle.std.specs.List.{list_all}
-use Rattle.std.specs.List.Sorted.{IsStrictlySortedBy}
-use Rattle.tla_value.specs.Tree.{Tree, text, set, trees, members, members-trees}
-use Rattle.tla_value.specs.TreeOf.{tree_of, pair_of}
+use Rattle.tla_value.specs.Tree.{Tree}
+use Rattle.tla_value.specs.TreeOf.{pair_of}
 use Rattle.tla_value.specs.declared.value.Value.{Value}
-use Rattle.tla_value.specs.declared.value.Value.TheVariants.{Truth, Int, Text, Model, Set, Fun}
-use Rattle.tla_value.specs.Order.{tree_cmp, tree_eq}
-use Rattle.tla_value.specs.Funs.{arguments, value_at}
-use Rattle.tla_value.specs.Sets.{is_member, set_of}
-use Rattle.tla_value.specs.SetLaws.{is-set_of, is_member-set_of}
 use Rattle.tla_value.specs.Choices.{keys_of, parts_of, is_each_once, records_of, tuples_of}
 use Rattle.tla_core.specs.declared.fault.Place.{Place}
 use Rattle.tla_core.specs.declared.fault.FaultCode.TheVariants.{NoField}
@@ -21,7 +14,6 @@ use Rattle.tla_core.specs.Meaning.{Meaning, Bound, Present, Next}
 use Rattle.tla_core.specs.SetForms.{means-records, means-product, names_of, parts_have}
 use Rattle.tla_core.specs.Membership.{if_some}
 use Rattle.tla_eval.specs.Private.Parts.{product_rule, record_set_rule}
-use Rattle.tla_sets.specs.Fields.{records_rule, named_sets}
 use Rattle.tla_operators.specs.Gives.{values_of}
 use Rattle.tla_operators.specs.Evaluated.{tree_of_evaluated}
 use Rattle.tla_core.specs.ExprOf.{expr_of, fields_of_cores, parts_of_cores}

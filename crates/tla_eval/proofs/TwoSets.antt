@@ -1,5 +1,5 @@
 -- Membership in the sets made of two: what is known of the parts is known of the whole.
-use Rattle.std.proofs.Common.{◌≡◌, Bool, true, false, cond, not, ◌&&◌, ◌||◌, List, [], ◌∷◌, ◌++◌, map, filter, zip, refl, sym, ap, ◌∙◌, Ok, ⊎_elim}
+use Rattle.std.proofs.Common.{◌≡◌, Bool, true, false, cond, not, ◌&&◌, ◌||◌, List, [], ◌∷◌, ◌++◌, map, filter, zip, refl, sym, ap, ◌∙◌, Ok}
 use Rattle.std.specs.List.{AllByRecursion, list_all}
 use Rattle.std.specs.List.Sorted.{IsStrictlySortedBy}
 use Rattle.tla_value.specs.Tree.{Tree, Trees, Pairs, truth, int, text, model, set, fun, no_trees, more_trees, no_pairs, more_pairs, trees, pairs, members, entries, members-trees}
@@ -17,7 +17,7 @@ use Rattle.tla_core.specs.SetForms.{of_two_sets, means-power, means-functions, m
 use Rattle.tla_core.specs.Laws.{KnowsItsMembers}
 use Rattle.tla_core.specs.declared.fault.Place.{Place}
 use Rattle.tla_core.specs.Fault.{Outcome, ◌>>=◌}
-use Rattle.tla_operators.proofs.Members.{bool-iff, and-both, both-and, or-cases, or-first, or-second, eq-true, eq-refl, eq-same, any-map, member-append, member-filter, trees-members, pairs-entries, bind-ok, set-same, made, as_set-ok, any-sublists, sublists-found, into, member-functions, all-member, all-by}
+use Rattle.tla_operators.proofs.Members.{bool-iff, or-first, eq-true, eq-same, any-map, member-append, member-filter, trees-members, pairs-entries, bind-ok, set-same, made, as_set-ok, any-sublists, sublists-found, into, member-functions, all-member, all-by}
 
 -- ---- outcomes that are known
 pub all_hold-ok : {A : Type 0} (test : A → Outcome Bool) (known : A → Bool) (xs : List A) → AllByRecursion (λ x. test x ≡ Ok (known x)) xs → all_hold test xs ≡ Ok (list_all known xs)

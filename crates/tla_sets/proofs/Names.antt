@@ -1,28 +1,27 @@
 -- The names of fields, and sets of records.
-use Rattle.std.proofs.Common.{◌≡◌, ℕ, suc, ◌+◌, ◌<◌, ◌==◌, add-one, arith, Bool, true, false, cond, ◌&&◌, ◌||◌, eq-eqb, ne_eqb, List, [], ◌∷◌, ◌++◌, map, zip, length, drop, drop-cons, get_or, Option, Some, None, is_some, option_map, Ok, Err, refl, sym, ap, ◌∙◌}
+use Rattle.std.proofs.Common.{◌≡◌, ℕ, suc, ◌+◌, ◌<◌, add-one, arith, Bool, true, false, cond, ◌&&◌, ◌||◌, List, [], ◌∷◌, ◌++◌, map, zip, length, drop, drop-cons, get_or, Option, Some, None, is_some, option_map, Ok, refl, sym, ap, ◌∙◌}
 use Rattle.std.proofs.lemmas.List.{length-map}
 use Rattle.std.specs.List.{list_all}
 use Rattle.std.specs.List.Sorted.{IsStrictlySortedBy}
 use Rattle.tla_value.specs.Tree.{Tree, text, set, trees, members, members-trees}
-use Rattle.tla_value.specs.TreeOf.{tree_of, pair_of}
+use Rattle.tla_value.specs.TreeOf.{tree_of}
 use Rattle.tla_value.specs.declared.value.Value.{Value}
 use Rattle.tla_value.specs.declared.value.Value.TheVariants.{Truth, Int, Text, Model, Set, Fun}
 use Rattle.tla_value.specs.Order.{tree_cmp, tree_eq}
 use Rattle.tla_value.specs.Funs.{arguments, value_at}
 use Rattle.tla_value.specs.Sets.{is_member, set_of}
 use Rattle.tla_value.specs.SetLaws.{is-set_of, is_member-set_of}
-use Rattle.tla_value.specs.Choices.{keys_of, parts_of, is_each_once, records_of, tuples_of}
+use Rattle.tla_value.specs.Choices.{keys_of, is_each_once, records_of}
 use Rattle.tla_core.specs.declared.fault.Place.{Place}
 use Rattle.tla_core.specs.declared.fault.FaultCode.TheVariants.{NoField}
 use Rattle.tla_core.specs.Fault.{Outcome, ◌>>=◌, fault}
 use Rattle.tla_core.specs.Kinds.{as_set, make_function_set}
 use Rattle.tla_core.specs.Lists.{each}
-use Rattle.tla_core.specs.Meaning.{Meaning, Bound, Present, Next}
-use Rattle.tla_core.specs.SetForms.{means-records, means-product, names_of, parts_have}
-use Rattle.tla_core.specs.Membership.{if_some}
+use Rattle.tla_core.specs.Meaning.{Meaning}
+use Rattle.tla_core.specs.SetForms.{names_of}
 use Rattle.tla_sets.specs.Fields.{records_rule, named_sets}
 use Rattle.tla_operators.specs.Evaluated.{tree_of_evaluated}
-use Rattle.tla_core.specs.ExprOf.{expr_of, fields_of_cores, parts_of_cores}
+use Rattle.tla_core.specs.ExprOf.{expr_of, fields_of_cores}
 use Rattle.tla_core.specs.Value.{means}
 use Rattle.tla_core.specs.declared.expression.Core.{Core}
 use Rattle.tla_operators.specs.declared.evaluated.Evaluated.{Evaluated}

@@ -1,5 +1,5 @@
 -- Membership in the set of some values, where it is within the limits.
-use Rattle.std.proofs.Common.{◌≡◌, ℕ, suc, ◌+◌, ◌<◌, ◌≤◌, max, Bool, List, [], ◌∷◌, map, length, drop, get_or, Ok, Err, refl, sym, ap, subst, ◌∙◌, arith, add-one, drop-cons, Less, Equal, Greater}
+use Rattle.std.proofs.Common.{◌≡◌, ℕ, suc, ◌+◌, ◌<◌, ◌≤◌, max, List, [], ◌∷◌, map, length, drop, get_or, Ok, sym, ap, subst, ◌∙◌, arith, add-one, drop-cons, Less, Equal, Greater}
 use Rattle.std.specs.BTreeSet.{insert_key}
 use Rattle.std.specs.Ordering.{match_ordering}
 use Rattle.tla_value.specs.Tree.{Tree, set, trees, depth, deepest}
@@ -7,11 +7,7 @@ use Rattle.tla_value.specs.Order.{tree_cmp}
 use Rattle.tla_value.specs.Sets.{is_member, set_of}
 use Rattle.tla_value.specs.SetLaws.{is_member-set_of}
 use Rattle.tla_core.specs.declared.fault.Place.{Place}
-use Rattle.tla_core.specs.Fault.{Outcome, ◌>>=◌}
-use Rattle.tla_core.specs.Kinds.{as_set, make_set}
-use Rattle.tla_core.specs.Lists.{each}
-use Rattle.tla_core.specs.Meaning.{Meaning, Bound, Present, Next, means-enumerated}
-use Rattle.tla_operators.specs.Gives.{contains_rule}
+use Rattle.tla_core.specs.Kinds.{make_set}
 use Rattle.tla_sets.specs.Elements.{stands_rule}
 use Rattle.tla_operators.specs.Evaluated.{tree_of_evaluated}
 use Rattle.tla_operators.specs.declared.evaluated.Evaluated.{Evaluated}
