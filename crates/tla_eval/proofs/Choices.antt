@@ -10,37 +10,14 @@ use Rattle.tla_core.specs.Kinds.{as_set, make_set}
 use Rattle.tla_core.specs.Lists.{each}
 use Rattle.tla_core.specs.Meaning.{Meaning, Bound, Present, Next}
 use Rattle.tla_core.specs.Functions.{function_on, means-image, means-function}
-use Rattle.tla_eval.specs.Gives.{nothing_of, values_for, then_more, chosen_rule, image_rule, function_rule, chosen_function_rule}
-use Rattle.tla_eval.specs.declared.domain.Domain.TheVariants.{Refused}
-use Rattle.tla_eval.specs.Private.Chosen.{value_at, function_for_rule}
-use Rattle.tla_eval.specs.Private.Domain.{AreForChoices, IsDomain}
-use Rattle.tla_eval.proofs.Members.{bind-ok}
+use Rattle.tla_eval.specs.Private.Parts.{nothing_of}
+use Rattle.tla_eval.specs.Private.Chosen.{values_for, chosen_rule, image_rule, chosen_function_rule, value_at, function_for_rule}
+use Rattle.tla_operators.specs.Gathered.{then_more}
+use Rattle.tla_sets.specs.Domain.{function_rule, AreForChoices, IsDomain}
+use Rattle.tla_sets.specs.declared.domain.Domain.TheVariants.{Refused}
+use Rattle.tla_operators.proofs.Members.{bind-ok}
+use Rattle.tla_sets.proofs.Listed.{none_more, drop_from, drop_past, bind_assoc, same_list, each_long}
 use Rattle.tla_eval.proofs.Collected.{each_more, each_stop}
-
--- ---- lists of values, one by one
-pub none_more : (b : List Tree) → b ++ [] ≡ b
-none_more [] = refl
-none_more (y ∷ b) = ap (λ k. y ∷ k) (none_more b)
-
-pub drop_from : {A : Type 0} (xs : List A) (i : ℕ) (x : A) → slice_get xs i ≡ Some x → drop i xs ≡ x ∷ drop (suc i) xs
-drop_from {A} [] i x h = absurd (some_none h)
-  where
-    some_none : (let o : Option A = None in o ≡ Some x) → ⊥
-    some_none e = cc
-drop_from {A} (y ∷ xs) zero x h = ap (λ z. z ∷ xs) (same_some h)
-  where
-    same_some : (let o : Option A = Some y in o ≡ Some x) → y ≡ x
-    same_some e = cc
-drop_from (y ∷ xs) (suc i) x h = drop_from xs i x h
-
-pub drop_past : {A : Type 0} (xs : List A) (i : ℕ) → slice_get xs i ≡ None → drop i xs ≡ []
-drop_past [] zero h = refl
-drop_past [] (suc i) h = refl
-drop_past {A} (y ∷ xs) zero h = absurd (none_some h)
-  where
-    none_some : (let o : Option A = Some y in o ≡ None) → ⊥
-    none_some e = cc
-drop_past (y ∷ xs) (suc i) h = drop_past xs i h
 
 -- ---- choices
 module _ {A : Type 0} (f : A → Outcome Tree) (kept : List Tree) (all : List A) (i : ℕ) (x : A) (at : slice_get all i ≡ Some x) where
@@ -141,10 +118,6 @@ module _ (e : Meaning) (b : Bound) (s : Present) (t : Next) where
     pub pass_end : value_at e b s t (slice_get all i) ≡ Ok None → nothing_of (each (λ c. e.value (b ++ c) s t) (drop i all)) ≡ Ok tt
     pass_end h = sym (nothing_more [] (each (λ c. e.value (b ++ c) s t) (drop i all))) ∙ ap (λ (o : Outcome (List Tree)). nothing_of o) (value_end [] h)
 
-pub bind_assoc : {A B C : Type 0} (o : Outcome A) (k : A → Outcome B) (l : B → Outcome C) → ((o >>= k) >>= l) ≡ (o >>= λ x. k x >>= l)
-bind_assoc (Ok x) k l = refl
-bind_assoc (Err e) k l = refl
-
 pub image_is : (p : Place) (ms : List Meaning) (e : Meaning) (b : Bound) (s : Present) (t : Next) → (means-image p ms e).value b s t ≡ image_rule p ms e b s t
 image_is p ms e b s t = go (each (λ (m : Meaning). m.value b s t) ms)
   where
@@ -170,16 +143,6 @@ function_is p ms e b s t = go (each (λ (m : Meaning). m.value b s t) ms)
     go (Ok vs) = both (each (as_set p) vs)
 
 -- as many values as choices
-pub same_list : {A : Type 0} (xs ys : List A) → (let r : Outcome (List A) = Ok xs in r ≡ Ok ys) → xs ≡ ys
-same_list xs ys h = cc
-
-pub each_long : {A B : Type 0} (f : A → Outcome B) (xs : List A) (ys : List B) → each f xs ≡ Ok ys → length ys ≡ length xs
-each_long f [] ys h = ap length (sym (same_list [] ys h))
-each_long f (x ∷ xs) ys h =
-    let y = bind-ok (f x) (λ y. each f xs >>= λ zs. Ok (y ∷ zs)) ys h in
-    let zs = bind-ok (each f xs) (λ zs. Ok (y.0 ∷ zs)) ys y.2 in
-    ap length (sym (same_list (y.0 ∷ zs.0) ys zs.2)) ∙ ap suc (each_long f xs zs.0 zs.1)
-
 pub chosen_long : (p : Place) (e : Meaning) (b : Bound) (s : Present) (t : Next) (vs ys : List Tree) → chosen_rule p e b s t vs ≡ Ok ys → (lists : List (List Tree)) → each (as_set p) vs ≡ Ok lists → length ys ≡ length (choices lists)
 chosen_long p e b s t vs ys h lists j =
     let r = bind-ok (each (as_set p) vs) (values_for e b s t) ys h in

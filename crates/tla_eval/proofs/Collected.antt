@@ -1,16 +1,10 @@
 -- What is evaluated one by one and kept: one more turn of a loop, and its end.
-use Rattle.std.proofs.Common.{◌≡◌, ℕ, ◌≤◌, max, Bool, true, false, cond, zip, List, [], ◌∷◌, ◌++◌, map, length, Ok, Err, ap, sym, refl, ◌∙◌, append_assoc, arith}
-use Rattle.tla_value.specs.Tree.{Tree, text, fun, pairs, deepest_pair}
-use Rattle.std.specs.BTreeMap.{insert_entry}
-use Rattle.std.specs.Ordering.{match_ordering}
-use Rattle.std.specs.declared.cmp.Ordering.TheVariants.{Less, Equal, Greater}
-use Rattle.tla_value.specs.Order.{tree_cmp}
-use Rattle.tla_value.specs.Funs.{fun_of}
-use Rattle.tla_value.specs.Choices.{keys_of, parts_of, choices}
-use Rattle.tla_core.specs.Kinds.{within, make_fun}
-use Rattle.tla_core.specs.Functions.{argument_of, function_on}
+use Rattle.std.proofs.Common.{◌≡◌, ℕ, Bool, true, false, cond, zip, List, [], ◌∷◌, ◌++◌, Ok, Err, ap, sym, refl, ◌∙◌, append_assoc}
+use Rattle.tla_value.specs.Tree.{Tree, text}
+use Rattle.tla_value.specs.Choices.{keys_of, parts_of}
+use Rattle.tla_core.specs.Kinds.{make_fun}
 use Rattle.tla_core.specs.Meaning.{Meaning, Bound, Present, Next, means-record_of}
-use Rattle.tla_eval.specs.Gives.{named_value, record_rule}
+use Rattle.tla_eval.specs.Private.Parts.{named_value, record_rule}
 use Rattle.tla_core.specs.declared.fault.Place.{Place}
 use Rattle.tla_core.specs.declared.fault.Fault.{Fault}
 use Rattle.tla_core.specs.Fault.{Outcome, ◌>>=◌}
@@ -54,28 +48,3 @@ then_zip (Err e) ks k = refl
 
 pub record_is : (p : Place) (fs : List (List ℕ × Meaning)) (b : Bound) (s : Present) (t : Next) → (means-record_of p fs).value b s t ≡ record_rule p fs b s t
 record_is p fs b s t = then_zip (each (λ (m : Meaning). m.value b s t) (parts_of fs)) (keys_of fs) (make_fun p) ∙ ap (λ (o : Outcome (List (Tree × Tree))). o >>= make_fun p) (sym (each_named fs b s t))
-
--- ---- one bound name
-arguments_single : (xs : List Tree) → map argument_of (choices (xs ∷ [])) ≡ xs
-arguments_single [] = refl
-arguments_single (x ∷ xs) = ap (λ us. x ∷ us) (arguments_single xs)
-
-some-insert : (es : List (Tree × Tree)) (k v : Tree) → 1 ≤ length (insert_entry tree_cmp es k v)
-some-insert [] k v = omega arith
-some-insert (e ∷ es) k v =
-    elim (tree_cmp k e.0) as (λ r. 1 ≤ length (match_ordering r ((k, v) ∷ e ∷ es) ((e.0, v) ∷ es) (e ∷ insert_entry tree_cmp es k v))) [
-      | Less ↦ omega arith
-      | Equal ↦ omega arith
-      | Greater ↦ omega arith
-    ]
-
-pub function_on_single : (p : Place) (xs vs : List Tree) → function_on p (choices (xs ∷ [])) vs ≡ make_fun p (zip xs vs)
-function_on_single p [] vs = refl
-function_on_single p (x ∷ xs) [] = refl
-function_on_single p (x ∷ xs) (v ∷ vs) =
-    let rest : zip (map argument_of (choices (xs ∷ []))) vs ≡ zip xs vs = ap (λ us. zip us vs) (arguments_single xs) in
-    let ps = fun_of (zip xs vs) in
-    let h = some-insert ps x v in
-    let most : max (length (insert_entry tree_cmp ps x v)) 1 ≡ length (insert_entry tree_cmp ps x v) = omega arith in
-    ap (λ qs. within p (max (length (insert_entry tree_cmp (fun_of qs) x v)) 1) (deepest_pair (pairs (insert_entry tree_cmp (fun_of qs) x v))) (fun (pairs (insert_entry tree_cmp (fun_of qs) x v)))) rest
-    ∙ ap (λ n. within p n (deepest_pair (pairs (insert_entry tree_cmp ps x v))) (fun (pairs (insert_entry tree_cmp ps x v)))) most

@@ -16,7 +16,8 @@ use Rattle.tla_core.specs.Kinds.{or_fault, items}
 use Rattle.tla_core.specs.Lists.{each}
 use Rattle.tla_core.specs.Meaning.{Bound}
 use Rattle.tla_core.specs.Patterns.{of_length, fitting, opened_items, tried_set}
-use Rattle.tla_eval.specs.Gives.{GivesBy, nothing_of, values_of}
+use Rattle.tla_operators.specs.Gives.{GivesBy, values_of}
+use Rattle.tla_eval.specs.Private.Parts.{nothing_of}
 
 -- ---- one element
 values_long : (ps : List (Value × Value)) → length (values_of (map pair_of ps)) ≡ length ps

@@ -16,7 +16,7 @@ use Rattle.tla_core.specs.SetForms.{parts_have, means-product}
 use Rattle.tla_core.specs.Laws.{KnowsItsMembers}
 use Rattle.tla_core.specs.declared.fault.Place.{Place}
 use Rattle.tla_core.specs.Fault.{Outcome, ◌>>=◌}
-use Rattle.tla_eval.proofs.Members.{bool-iff, and-both, eq-true, eq-refl, eq-same, any-map, pairs-entries, bind-ok, made-sized, stand_in, choices-any, choices-found}
+use Rattle.tla_operators.proofs.Members.{bool-iff, and-both, eq-true, eq-refl, eq-same, any-map, pairs-entries, bind-ok, made-sized, stand_in, choices-any, choices-found}
 use Rattle.tla_eval.proofs.TwoSets.{then-ok, not-there, cond-and, has-elements}
 
 -- ---- sets of sequences and of records

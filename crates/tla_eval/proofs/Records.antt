@@ -1,17 +1,16 @@
 -- Membership in sets of records.
 use Rattle.std.proofs.Common.{◌≡◌, ℕ, Bool, true, false, cond, ◌&&◌, List, [], ◌∷◌, map, zip, refl, sym, ap, subst, ◌∙◌, Option, Some, None, Ok, ⊎_elim}
-use Rattle.std.specs.List.{AllByRecursion, list_all}
+use Rattle.std.specs.List.{AllByRecursion, list_all, flat_map}
 use Rattle.std.specs.List.Sorted.{IsStrictlySortedBy}
 use Rattle.std.specs.declared.cmp.Ordering.{Ordering}
 use Rattle.std.specs.declared.cmp.Ordering.TheVariants.{Less, Equal, Greater}
 use Rattle.std.specs.Ordering.{is_eq, ordering_reverse}
 use Rattle.tla_value.specs.Tree.{Tree, Pairs, truth, int, text, model, set, fun, no_pairs, more_pairs, trees, pairs, members, entries, members-trees}
-use Rattle.tla_value.specs.Order.{tree_cmp}
+use Rattle.tla_value.specs.Order.{tree_cmp, tree_eq}
 use Rattle.tla_value.specs.OrderLaws.{tree_cmp-total}
 use Rattle.tla_value.specs.Sets.{is_member, set_of}
 use Rattle.tla_value.specs.SetLaws.{rising-set_of, is_member-set_of}
 use Rattle.tla_value.specs.IsValue.{IsValue, ArePairs}
-use Rattle.tla_value.specs.Order.{tree_eq}
 use Rattle.tla_core.specs.Kinds.{size_of_functions, make_function_set, pairs_of}
 use Rattle.tla_value.specs.Funs.{arguments, value_at}
 use Rattle.tla_value.specs.Choices.{is_each_once, fields_fit, if_there, records_of, keys_of, parts_of, choices, functions_of}
@@ -20,13 +19,12 @@ use Rattle.tla_core.specs.Lists.{all_hold}
 use Rattle.tla_core.specs.Functions.{sets_of}
 use Rattle.tla_core.specs.Membership.{if_some}
 use Rattle.tla_core.specs.SetForms.{field_has, names_of, means-records}
-use Rattle.std.specs.List.{flat_map}
 use Rattle.tla_core.specs.Laws.{KnowsItsMembers}
 use Rattle.tla_core.specs.declared.fault.Place.{Place}
 use Rattle.tla_core.specs.declared.fault.FaultCode.TheVariants.{NoField}
 use Rattle.tla_core.specs.Fault.{fault}
-use Rattle.tla_eval.proofs.Members.{and-both, both-and, or-cases, or-first, or-second, eq-true, eq-refl, member-append, member-filter, pairs-entries, bind-ok, set-same, made-sized, cond-first, into, member-functions}
-use Rattle.tla_eval.proofs.TwoSets.{then-ok, not-there, cond-and, all-by, has-elements}
+use Rattle.tla_operators.proofs.Members.{and-both, both-and, or-cases, or-first, or-second, eq-true, eq-refl, member-append, member-filter, pairs-entries, bind-ok, set-same, made-sized, cond-first, into, member-functions, all-by}
+use Rattle.tla_eval.proofs.TwoSets.{then-ok, not-there, cond-and, has-elements}
 use Rattle.tla_eval.proofs.Products.{Gives, gives-sets}
 
 -- ---- records

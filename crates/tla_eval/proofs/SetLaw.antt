@@ -15,7 +15,7 @@ use Rattle.tla_core.specs.Laws.{KnowsItsMembers}
 use Rattle.tla_core.specs.declared.fault.Place.{Place}
 use Rattle.tla_core.specs.Fault.{Outcome}
 use Rattle.tla_core.specs.Expr.{Unary, Binary, Kind, Expr, Exprs, Fields, Arms, constant, bound, now, next, unary, binary, equal, sub_seq, enumerated, tuple, record_of, conjunction, disjunction, implies, conditional, cases, assert, for_all, for_some, choose, image, function, except, member, not_member, subset, kind_set, booleans, sequences, power, functions, records, product, cup, cap, minus, filtered, opened, tried, no_exprs, more_exprs, no_fields, more_fields, no_arms, other, more_arms}
-use Rattle.tla_eval.proofs.Members.{bind-ok, set-same}
+use Rattle.tla_operators.proofs.Members.{bind-ok, set-same}
 use Rattle.tla_eval.proofs.TwoSets.{then-ok, knows-by_value, knows-cup, knows-cap, knows-minus, knows-filtered, knows-power, knows-functions}
 use Rattle.tla_eval.proofs.Products.{AllKnow, knows-product}
 use Rattle.tla_eval.proofs.Records.{FieldsKnow, knows-records}

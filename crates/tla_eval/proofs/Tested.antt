@@ -1,26 +1,21 @@
 -- A test of each element of a set, one by one.
-use Rattle.std.proofs.Common.{◌≡◌, ℕ, suc, ◌+◌, Bool, true, false, cond, List, [], ◌∷◌, ◌++◌, drop, Option, Some, None, Ok, Err, refl, sym, ap, ◌∙◌, add-one, append_assoc}
+use Rattle.std.proofs.Common.{◌≡◌, ℕ, suc, ◌+◌, Bool, true, false, cond, List, [], ◌∷◌, ◌++◌, drop, Option, Some, None, Ok, Err, refl, sym, ap, ◌∙◌, add-one}
 use Rattle.std.specs.Prelude.{slice_get}
 use Rattle.std.specs.Option.{option_to_list}
-use Rattle.tla_value.specs.Tree.{Tree, set, trees, members-trees}
+use Rattle.tla_value.specs.Tree.{Tree, set}
 use Rattle.tla_value.specs.Sets.{is_member}
 use Rattle.tla_core.specs.declared.fault.Place.{Place}
 use Rattle.tla_core.specs.declared.fault.Fault.{Fault}
 use Rattle.tla_core.specs.declared.fault.FaultCode.TheVariants.{NoChoice}
 use Rattle.tla_core.specs.Fault.{Outcome, ◌>>=◌, fault}
-use Rattle.tla_core.specs.Kinds.{as_set, or_fault}
-use Rattle.tla_core.specs.Lists.{all_hold, some_hold, first_passing, passing}
-use Rattle.tla_eval.specs.Private.Elements.{elements_rule, has_rule, tested}
-use Rattle.tla_eval.proofs.Members.{bind-ok}
+use Rattle.tla_core.specs.Kinds.{as_set, or_fault, make_set}
+use Rattle.tla_core.specs.Lists.{each, all_hold, some_hold, first_passing, passing}
+use Rattle.tla_core.specs.Meaning.{Meaning, Bound, Present, Next, means-enumerated}
+use Rattle.tla_sets.specs.Elements.{elements_rule, has_rule, stands_rule}
+use Rattle.tla_eval.specs.Private.Parts.{tested, one_of_rule}
+use Rattle.tla_operators.proofs.Members.{bind-ok}
 use Rattle.tla_eval.proofs.Collected.{passing_more}
-use Rattle.tla_eval.proofs.Choices.{drop_from, drop_past, none_more}
-
--- ---- a set that is known
-pub elements_known : (p : Place) (o : Outcome Tree) (ts : List Tree) → o ≡ Ok (set (trees ts)) → elements_rule p o ≡ Ok ts
-elements_known p o ts e = ap (λ (q : Outcome Tree). elements_rule p q) e ∙ ap (λ us. Ok us) (members-trees ts)
-
-pub has_known : (p : Place) (v : Tree) (o : Outcome Tree) (ts : List Tree) → o ≡ Ok (set (trees ts)) → has_rule p v o ≡ Ok (is_member v ts)
-has_known p v o ts e = ap (λ (q : Outcome Tree). has_rule p v q) e ∙ ap (λ us. Ok (is_member v us)) (members-trees ts)
+use Rattle.tla_sets.proofs.Listed.{drop_from, drop_past, none_more}
 
 -- ---- an operator on two values that are known
 module _ (p : Place) (rule : Tree → Tree → Outcome Tree) (o o' : Outcome Tree) (x y x' y' : Tree) (e : o ≡ Ok x) (e' : o' ≡ Ok y) (f : x' ≡ x) (f' : y' ≡ y) where
@@ -156,13 +151,10 @@ module _ (test : Tree → Outcome Bool) (xs : List Tree) (i : ℕ) where
   pub kept_end : (old : List Tree) → tested test (slice_get xs i) ≡ Ok None → (passing test (drop i xs) >>= λ ys. Ok (old ++ ys)) ≡ Ok old
   kept_end old h = ap (λ us. passing test us >>= λ ys. Ok (old ++ ys)) (past h) ∙ ap (λ us. Ok us) (none_more old)
 
--- ---- what is listed of them, one by one
-behind : (old : List Tree) (x : Tree) (rest : List Tree) → old ++ x ∷ rest ≡ (old ++ x ∷ []) ++ rest
-behind old x rest = simp append_assoc
-
-pub listed_more : (xs : List Tree) (i : ℕ) (old new : List Tree) (x : Tree) → xs ≡ old ++ drop i xs → slice_get xs i ≡ Some x → new ≡ old ++ x ∷ [] → xs ≡ new ++ drop (i + 1) xs
-listed_more xs i old new x e h k =
-    rw add-one (e ∙ ap (λ us. old ++ us) (drop_from xs i x h) ∙ behind old x (drop (suc i) xs) ∙ ap (λ us. us ++ drop (suc i) xs) (sym k))
-
-pub listed_end : (xs : List Tree) (i : ℕ) (old : List Tree) → xs ≡ old ++ drop i xs → slice_get xs i ≡ None → old ≡ xs
-listed_end xs i old e h = sym (e ∙ ap (λ us. old ++ us) (drop_past xs i h) ∙ none_more old)
+-- ---- whether a value is one of those of some parts
+pub one_of_is : (p : Place) (ms : List Meaning) (v : Tree) (b : Bound) (s : Present) (t : Next) → (means-enumerated p ms).has v b s t ≡ one_of_rule p ms v b s t
+one_of_is p ms v b s t = go (each (λ (m : Meaning). m.value b s t) ms)
+  where
+    go : (o : Outcome (List Tree)) → ((o >>= make_set p) >>= λ x. as_set p x >>= λ xs. Ok (is_member v xs)) ≡ (o >>= λ vs. stands_rule p vs v)
+    go (Ok vs) = refl
+    go (Err e) = refl

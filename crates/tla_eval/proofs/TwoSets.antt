@@ -1,13 +1,12 @@
 -- Membership in the sets made of two: what is known of the parts is known of the whole.
-use Rattle.std.proofs.Common.{◌≡◌, Bool, true, false, cond, not, ◌&&◌, ◌||◌, List, [], ◌∷◌, ◌++◌, map, filter, zip, refl, sym, ap, ◌∙◌, Ok, ⊎_elim}
+use Rattle.std.proofs.Common.{◌≡◌, Bool, true, false, cond, not, ◌&&◌, ◌||◌, List, [], ◌∷◌, ◌++◌, map, filter, zip, refl, sym, ap, ◌∙◌, Ok}
 use Rattle.std.specs.List.{AllByRecursion, list_all}
 use Rattle.std.specs.List.Sorted.{IsStrictlySortedBy}
 use Rattle.tla_value.specs.Tree.{Tree, Trees, Pairs, truth, int, text, model, set, fun, no_trees, more_trees, no_pairs, more_pairs, trees, pairs, members, entries, members-trees}
-use Rattle.tla_value.specs.Order.{tree_cmp}
+use Rattle.tla_value.specs.Order.{tree_cmp, tree_eq}
 use Rattle.tla_value.specs.Sets.{is_member, set_of}
 use Rattle.tla_value.specs.SetLaws.{is_member-set_of, is-set_of}
 use Rattle.tla_value.specs.IsValue.{IsValue, AreValues, ArePairs}
-use Rattle.tla_value.specs.Order.{tree_eq}
 use Rattle.tla_core.specs.Kinds.{as_set, make_set, members_of, pairs_of}
 use Rattle.tla_value.specs.Funs.{arguments}
 use Rattle.tla_value.specs.Choices.{choices, sublists, set_tree, functions_of}
@@ -18,7 +17,7 @@ use Rattle.tla_core.specs.SetForms.{of_two_sets, means-power, means-functions, m
 use Rattle.tla_core.specs.Laws.{KnowsItsMembers}
 use Rattle.tla_core.specs.declared.fault.Place.{Place}
 use Rattle.tla_core.specs.Fault.{Outcome, ◌>>=◌}
-use Rattle.tla_eval.proofs.Members.{bool-iff, and-both, both-and, or-cases, or-first, or-second, eq-true, eq-refl, eq-same, any-map, member-append, member-filter, trees-members, pairs-entries, bind-ok, set-same, made, as_set-ok, any-sublists, sublists-found, into, member-functions}
+use Rattle.tla_operators.proofs.Members.{bool-iff, or-first, eq-true, eq-same, any-map, member-append, member-filter, trees-members, pairs-entries, bind-ok, set-same, made, as_set-ok, any-sublists, sublists-found, into, member-functions, all-member, all-by}
 
 -- ---- outcomes that are known
 pub all_hold-ok : {A : Type 0} (test : A → Outcome Bool) (known : A → Bool) (xs : List A) → AllByRecursion (λ x. test x ≡ Ok (known x)) xs → all_hold test xs ≡ Ok (list_all known xs)
@@ -96,16 +95,6 @@ member-passing test v (x ∷ xs) ys h =
   where
     ok-list : (x y : List Tree) (o : Outcome (List Tree)) → o ≡ Ok x → o ≡ Ok y → x ≡ y
     ok-list x y o e f = cc
-
-pub all-member : (test : Tree → Bool) (xs : List Tree) → list_all test xs ≡ true → (q : Tree) → is_member q xs ≡ true → test q ≡ true
-all-member test [] h q i = cc
-all-member test (x ∷ xs) h q i =
-    let both = and-both (test x) _ h in
-    ⊎_elim (λ e. ap test (eq-true q x e) ∙ both.0) (λ e. all-member test xs both.1 q e) (or-cases (tree_eq q x) _ i)
-
-pub all-by : (test : Tree → Bool) (xs : List Tree) → ((q : Tree) → is_member q xs ≡ true → test q ≡ true) → list_all test xs ≡ true
-all-by test [] h = refl
-all-by test (x ∷ xs) h = both-and (test x) _ (h x (or-first (tree_eq x x) _ (eq-refl x))) (all-by test xs (λ q i. h q (or-second (tree_eq q x) _ i)))
 
 -- a rising list is the set of a sublist exactly where its elements stand in the list
 pub member-power : (us : Trees) (xs : List Tree) → IsStrictlySortedBy tree_cmp (members us) → list_all (λ x. is_member x xs) (members us) ≡ is_member (set us) (map set_tree (sublists xs))

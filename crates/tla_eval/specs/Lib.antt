@@ -1,2 +1,2 @@
-pub mod Gives
 pub mod Private
+pub use Rattle.tla_operators.specs.Gives

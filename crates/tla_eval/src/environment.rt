@@ -1,14 +1,16 @@
-//! What an expression is evaluated in, and values that are borrowed or owned.
+//! What an expression is evaluated in.
 ghost use Rattle.std.specs.Prelude.{◌≡◌, ◌≤◌, length, IfOk, IfErr, Ok, Some, false, get_or, option_map, slice_get};
 ghost use Rattle.tla_value.specs.Tree.{truth};
 ghost use Rattle.tla_value.specs.TreeOf.{tree_of};
 ghost use Rattle.tla_core.specs.Meaning.{if_set, variable_of};
-ghost use Rattle.tla_eval.specs.Private.Environment.{bound_of, tree_of_evaluated, Evaluates};
+ghost use Rattle.tla_eval.specs.Private.Environment.{bound_of};
+ghost use Rattle.tla_operators.specs.Evaluated.{tree_of_evaluated, Evaluates};
 
 use crate::partial::Partial;
-use crate::rules::{copied, fault_at};
 use std::alloc::Global;
 use tla_core::{Fault, FaultCode, Place};
+use tla_operators::evaluated::Evaluated;
+use tla_operators::rules::fault_at;
 use tla_value::{State, Value};
 
 /// The values of the bound names: those of the caller, and then those of each form that binds, one or several at once.
@@ -25,44 +27,6 @@ pub(crate) struct Environment<'a> {
     pub(crate) scope: &'a Scope<'a>,
     pub(crate) now: Option<&'a State>,
     pub(crate) next: &'a Partial,
-}
-
-/// A value that stands in the expression or its environment, or one that was made.
-#[derive(Drop)]
-pub(crate) enum Evaluated<'a> {
-    Borrowed(&'a Value),
-    Owned(Value),
-}
-
-impl<'a> Evaluated<'a> {
-    ghost use Rattle.tla_eval.specs.Gives.{Gives};
-
-    /// A truth value.
-    pub(crate) fn truth(holds: bool) -> Evaluated<'a>
-        ensures { tree_of_evaluated result ≡ truth holds }
-    {
-        Evaluated::Owned(Value::Truth(holds))
-    }
-
-    /// The value.
-    pub(crate) fn value(&self) -> &Value
-        ensures { tree_of result.now ≡ tree_of_evaluated self.now }
-    {
-        match self {
-            Evaluated::Borrowed(value) => value,
-            Evaluated::Owned(value) => value,
-        }
-    }
-
-    /// The value, copied where it was borrowed.
-    pub(crate) fn into_value(self, alloc: Global) -> Result<Value, Fault>
-        ensures { Gives result (Ok (tree_of_evaluated self.entry)) }
-    {
-        match self {
-            Evaluated::Borrowed(value) => copied(alloc, value),
-            Evaluated::Owned(value) => Ok(value),
-        }
-    }
 }
 
 /// The value of a bound name, or how many names are bound. As many calls as forms that bind stand around it.

@@ -4,13 +4,14 @@ ghost use Rattle.tla_value.specs.TreeOf.{tree_of, pair_of};
 ghost use Rattle.tla_core.specs.Lists.{each};
 ghost use Rattle.tla_core.specs.Patterns.{fitting, opened_items, tried_set};
 ghost use Rattle.tla_eval.specs.Private.Environment.{bound_of};
-ghost use Rattle.tla_eval.specs.Gives.{GivesBy, nothing_of, values_of};
+ghost use Rattle.tla_operators.specs.Gives.{GivesBy, values_of};
+ghost use Rattle.tla_eval.specs.Private.Parts.{nothing_of};
 
 use crate::environment::{Scope, bound_value};
-use crate::rules::fault_at;
-use crate::sequences::{add_items, sequence_pairs};
 use std::alloc::Global;
 use tla_core::{Fault, FaultCode, Opening, Place};
+use tla_operators::rules::fault_at;
+use tla_operators::sequences::{add_items, sequence_pairs};
 use tla_value::Value;
 
 /// The pairs of an element that is a sequence of so many items. Another element is a fault of the form at the place.

@@ -1,16 +1,10 @@
--- What the code keeps of an environment: the values of the bound names, of the variables, and values borrowed or owned.
-use Rattle.std.specs.Prelude.{[], ◌∷◌, ◌++◌, map, option_map, Result}
-use Rattle.tla_value.specs.Tree.{Tree}
+-- What the code keeps of an environment: the values of the bound names and of the variables.
+use Rattle.std.specs.Prelude.{[], ◌∷◌, ◌++◌, map, option_map}
 use Rattle.tla_value.specs.TreeOf.{tree_of}
-use Rattle.tla_core.specs.declared.fault.Fault.{Fault}
-use Rattle.tla_core.specs.Fault.{Outcome}
-use Rattle.tla_eval.specs.Gives.{GivesBy}
 use Rattle.tla_core.specs.Meaning.{Bound, Present, Next}
 use Rattle.tla_eval.specs.declared.environment.Scope.{Scope}
 use Rattle.tla_eval.specs.declared.environment.Scope.TheVariants.{Outer, One', Many'}
 use Rattle.tla_eval.specs.declared.environment.Environment.{Environment}
-use Rattle.tla_eval.specs.declared.environment.Evaluated.{Evaluated}
-use Rattle.tla_eval.specs.declared.environment.Evaluated.TheVariants.{Borrowed, Owned}
 
 -- the values of the bound names, the outermost first
 abbrev pub bound_of : Scope → Bound
@@ -26,10 +20,3 @@ present_in env = option_map (λ s. s.now) env.now
 
 abbrev pub next_in : Environment → Next
 next_in env = env.next.now
-
-abbrev pub tree_of_evaluated : Evaluated → Tree
-tree_of_evaluated (Borrowed value) = tree_of value.now
-tree_of_evaluated (Owned value) = tree_of value
-
-abbrev pub Evaluates : Result Evaluated Fault → Outcome Tree → Type 0
-Evaluates r o = GivesBy tree_of_evaluated r o

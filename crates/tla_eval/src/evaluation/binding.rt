@@ -7,18 +7,21 @@ ghost use Rattle.tla_core.specs.Logic.{means-for_all, means-for_some, means-choo
 ghost use Rattle.tla_core.specs.SetForms.{means-filtered};
 ghost use Rattle.tla_core.specs.Value.{means};
 ghost use Rattle.tla_core.specs.ExprOf.{expr_of};
-ghost use Rattle.tla_eval.specs.Gives.{Gives, GivesBy, GivesTruth};
-ghost use Rattle.tla_eval.specs.Private.Elements.{elements_of, GivesElements, tested};
-ghost use Rattle.tla_eval.specs.Private.Environment.{Evaluates, bound_in, present_in, next_in};
+ghost use Rattle.tla_operators.specs.Gives.{Gives, GivesBy, GivesTruth};
+ghost use Rattle.tla_sets.specs.Elements.{elements_of, GivesElements};
+ghost use Rattle.tla_eval.specs.Private.Parts.{tested};
+ghost use Rattle.tla_operators.specs.Evaluated.{Evaluates};
+ghost use Rattle.tla_eval.specs.Private.Environment.{bound_in, present_in, next_in};
 
-use crate::elements::{Elements, chosen_at, element_at, elements_of_two, keep_at, members_of};
-use crate::environment::{Environment, Evaluated, Scope};
+use crate::environment::{Environment, Scope};
 use crate::evaluation::patterns::body_value;
 use crate::evaluation::{ask, evaluate};
-use crate::rules::fault_at;
-use crate::sets::made_set;
 use std::alloc::Global;
 use tla_core::{Core, Fault, FaultCode, Place, memory};
+use tla_operators::evaluated::Evaluated;
+use tla_operators::rules::fault_at;
+use tla_operators::sets::made_set;
+use tla_sets::elements::{Elements, chosen_at, element_at, elements_of_two, keep_at, members_of};
 use tla_value::{SetValue, Value};
 
 /// Whether a body is TRUE of each element of a set.

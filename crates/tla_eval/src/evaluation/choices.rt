@@ -6,21 +6,24 @@ ghost use Rattle.tla_core.specs.Lists.{each};
 ghost use Rattle.tla_core.specs.Meaning.{Meaning};
 ghost use Rattle.tla_core.specs.Value.{means};
 ghost use Rattle.tla_core.specs.ExprOf.{expr_of, parts_of_cores};
-ghost use Rattle.tla_eval.specs.Gives.{Gives, GivesBy, image_rule, chosen_function_rule, nothing_of, values_for};
-ghost use Rattle.tla_eval.specs.Private.Chosen.{value_at, function_for_rule};
-ghost use Rattle.tla_eval.specs.Private.Environment.{Evaluates, tree_of_evaluated, bound_in, present_in, next_in};
-ghost use Rattle.tla_eval.specs.Private.Gathered.{Gathers};
+ghost use Rattle.tla_operators.specs.Gives.{Gives, GivesBy};
+ghost use Rattle.tla_eval.specs.Private.Chosen.{image_rule, chosen_function_rule, values_for, value_at, function_for_rule};
+ghost use Rattle.tla_eval.specs.Private.Parts.{nothing_of};
+ghost use Rattle.tla_operators.specs.Evaluated.{Evaluates, tree_of_evaluated};
+ghost use Rattle.tla_eval.specs.Private.Environment.{bound_in, present_in, next_in};
+ghost use Rattle.tla_operators.specs.Gathered.{Gathers};
 
-use crate::domain::{
-    Domain, choice_at, domain_of, function_on, function_with, lists_of, member_of,
-};
-use crate::environment::{Environment, Evaluated, Scope};
+use crate::environment::{Environment, Scope};
 use crate::evaluation::binding::value_with;
 use crate::evaluation::evaluate;
 use crate::evaluation::patterns::body_value;
-use crate::gathered::Gathered;
 use std::alloc::Global;
 use tla_core::{Core, Fault, Place, memory};
+use tla_operators::evaluated::Evaluated;
+use tla_operators::gathered::Gathered;
+use tla_sets::domain::{
+    Domain, choice_at, domain_of, function_on, function_with, lists_of, member_of,
+};
 use tla_value::Value;
 
 /// The set of the values of a body for all choices from some sets.

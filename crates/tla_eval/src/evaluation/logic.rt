@@ -4,14 +4,16 @@ ghost use Rattle.tla_value.specs.TreeOf.{tree_of};
 ghost use Rattle.tla_core.specs.Logic.{means-conjunction, means-disjunction, means-implies, means-cases, means-assert};
 ghost use Rattle.tla_core.specs.Value.{means};
 ghost use Rattle.tla_core.specs.ExprOf.{expr_of, parts_of_cores, arms_of_cores};
-ghost use Rattle.tla_eval.specs.Gives.{GivesTruth};
-ghost use Rattle.tla_eval.specs.Private.Environment.{Evaluates, bound_in, present_in, next_in};
+ghost use Rattle.tla_operators.specs.Gives.{GivesTruth};
+ghost use Rattle.tla_operators.specs.Evaluated.{Evaluates};
+ghost use Rattle.tla_eval.specs.Private.Environment.{bound_in, present_in, next_in};
 
-use crate::environment::{Environment, Evaluated};
+use crate::environment::Environment;
 use crate::evaluation::{ask, evaluate, has};
-use crate::rules::fault_at;
 use std::alloc::Global;
 use tla_core::{Core, Fault, FaultCode, Place};
+use tla_operators::evaluated::Evaluated;
+use tla_operators::rules::fault_at;
 use tla_value::Value;
 
 /// Whether all parts are TRUE, up to the first that is not.

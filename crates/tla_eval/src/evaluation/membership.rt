@@ -7,17 +7,19 @@ ghost use Rattle.tla_core.specs.SetForms.{means-cup, means-cap, means-minus};
 ghost use Rattle.tla_core.specs.Value.{mem, means};
 ghost use Rattle.tla_core.specs.Meaning.{means-binary};
 ghost use Rattle.tla_core.specs.ExprOf.{expr_of, binary_of, parts_of_cores};
-ghost use Rattle.tla_eval.specs.Gives.{GivesTruth};
-ghost use Rattle.tla_eval.specs.Private.Elements.{one_of_rule};
-ghost use Rattle.tla_eval.specs.Private.Environment.{Evaluates, bound_in, present_in, next_in};
+ghost use Rattle.tla_operators.specs.Gives.{GivesTruth};
+ghost use Rattle.tla_eval.specs.Private.Parts.{one_of_rule};
+ghost use Rattle.tla_operators.specs.Evaluated.{Evaluates};
+ghost use Rattle.tla_eval.specs.Private.Environment.{bound_in, present_in, next_in};
 
-use crate::asked::{set_has, two_have};
-use crate::environment::{Environment, Evaluated};
+use crate::environment::Environment;
 use crate::evaluation::choices::evaluated_each;
 use crate::evaluation::{evaluate, has};
-use crate::sets::{difference_of, intersection_of, members, union_of};
 use std::alloc::Global;
 use tla_core::{Binary, Core, Fault, Place};
+use tla_operators::evaluated::Evaluated;
+use tla_operators::sets::{difference_of, intersection_of, members, union_of};
+use tla_sets::asked::{set_has, two_have};
 use tla_value::Value;
 
 /// Whether a value is a member of an expression.

@@ -6,18 +6,21 @@ ghost use Rattle.tla_core.specs.Lists.{each};
 ghost use Rattle.tla_core.specs.Meaning.{Meaning, means-unary, means-binary, means-equal, means-sub_seq, means-enumerated, means-tuple};
 ghost use Rattle.tla_core.specs.Value.{means};
 ghost use Rattle.tla_core.specs.ExprOf.{expr_of, parts_of_cores, fields_of_cores, unary_of, binary_of};
-ghost use Rattle.tla_eval.specs.Gives.{GivesBy, named_value, record_rule};
-ghost use Rattle.tla_eval.specs.Private.Environment.{Evaluates, bound_in, present_in, next_in};
+ghost use Rattle.tla_operators.specs.Gives.{GivesBy};
+ghost use Rattle.tla_eval.specs.Private.Parts.{named_value, record_rule};
+ghost use Rattle.tla_operators.specs.Evaluated.{Evaluates};
+ghost use Rattle.tla_eval.specs.Private.Environment.{bound_in, present_in, next_in};
 
-use crate::environment::{Environment, Evaluated};
+use crate::environment::Environment;
 use crate::evaluation::evaluate;
-use crate::functions::{apply, field, made_fun};
-use crate::operators::{binary, unary};
-use crate::rules::copied_text;
-use crate::sequences::{sequence_of, sub_seq};
-use crate::sets::made_set;
 use std::alloc::Global;
 use tla_core::{Binary, Core, Fault, Place, Unary};
+use tla_operators::evaluated::Evaluated;
+use tla_operators::functions::{apply, field, made_fun};
+use tla_operators::operators::{binary, unary};
+use tla_operators::rules::copied_text;
+use tla_operators::sequences::{sequence_of, sub_seq};
+use tla_operators::sets::made_set;
 use tla_value::{FunValue, SetValue, Text, Value};
 
 /// An operator on one value.

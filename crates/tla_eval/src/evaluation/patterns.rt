@@ -2,14 +2,16 @@
 ghost use Rattle.tla_core.specs.Patterns.{means-opened, means-tried};
 ghost use Rattle.tla_core.specs.Value.{means, val};
 ghost use Rattle.tla_core.specs.ExprOf.{expr_of};
-ghost use Rattle.tla_eval.specs.Private.Environment.{Evaluates, bound_in, present_in, next_in};
+ghost use Rattle.tla_operators.specs.Evaluated.{Evaluates};
+ghost use Rattle.tla_eval.specs.Private.Environment.{bound_in, present_in, next_in};
 
-use crate::environment::{Environment, Evaluated};
+use crate::environment::Environment;
 use crate::evaluation::choices::value_with_all;
 use crate::evaluation::evaluate;
 use crate::patterns::{open_items, try_set};
 use std::alloc::Global;
 use tla_core::{Core, Fault, Opening, Place};
+use tla_operators::evaluated::Evaluated;
 
 /// The value of a body. Elements that it opens are opened here: `evaluate` takes much stack, and is called once for a form that binds.
 #[cycle(evaluate)]

@@ -6,18 +6,21 @@ ghost use Rattle.tla_core.specs.Lists.{each, all_hold};
 ghost use Rattle.tla_core.specs.Meaning.{Meaning};
 ghost use Rattle.tla_core.specs.SetForms.{means-records, means-product, field_has, parts_have};
 ghost use Rattle.tla_core.specs.ExprOf.{parts_of_cores, fields_of_cores};
-ghost use Rattle.tla_eval.specs.Gives.{GivesBy, GivesTruth, values_of, product_rule, record_set_rule};
-ghost use Rattle.tla_eval.specs.Private.Environment.{Evaluates, tree_of_evaluated, bound_in, present_in, next_in};
+ghost use Rattle.tla_operators.specs.Gives.{GivesBy, GivesTruth, values_of};
+ghost use Rattle.tla_eval.specs.Private.Parts.{product_rule, record_set_rule};
+ghost use Rattle.tla_operators.specs.Evaluated.{Evaluates, tree_of_evaluated};
+ghost use Rattle.tla_eval.specs.Private.Environment.{bound_in, present_in, next_in};
 
-use crate::environment::{Environment, Evaluated};
+use crate::environment::Environment;
 use crate::evaluation::choices::evaluated_each;
 use crate::evaluation::{evaluate, has};
-use crate::fields::{field_in, has_just, records_with};
-use crate::functions::if_function;
-use crate::sequences::sequence_pairs;
-use crate::sets::tuples_with;
 use std::alloc::Global;
 use tla_core::{Core, Fault, Place};
+use tla_operators::evaluated::Evaluated;
+use tla_operators::functions::if_function;
+use tla_operators::sequences::sequence_pairs;
+use tla_operators::sets::tuples_with;
+use tla_sets::fields::{field_in, has_just, records_with};
 use tla_value::{Text, Value};
 
 /// The records with each field in its set.

@@ -7,17 +7,19 @@ ghost use Rattle.tla_core.specs.Membership.{means-sequences};
 ghost use Rattle.tla_core.specs.SetForms.{means-power, means-functions};
 ghost use Rattle.tla_core.specs.Value.{mem, means};
 ghost use Rattle.tla_core.specs.ExprOf.{expr_of};
-ghost use Rattle.tla_eval.specs.Gives.{GivesTruth, values_of};
-ghost use Rattle.tla_eval.specs.Private.Environment.{Evaluates, bound_in, present_in, next_in};
+ghost use Rattle.tla_operators.specs.Gives.{GivesTruth, values_of};
+ghost use Rattle.tla_operators.specs.Evaluated.{Evaluates};
+ghost use Rattle.tla_eval.specs.Private.Environment.{bound_in, present_in, next_in};
 
-use crate::environment::{Environment, Evaluated};
+use crate::environment::Environment;
 use crate::evaluation::membership::has_all;
 use crate::evaluation::{evaluate, has};
-use crate::functions::if_function;
-use crate::sequences::sequence_pairs;
-use crate::sets::{functions_between, has_domain, if_set, members, subsets_of};
 use std::alloc::Global;
 use tla_core::{Core, Fault, Place};
+use tla_operators::evaluated::Evaluated;
+use tla_operators::functions::if_function;
+use tla_operators::sequences::sequence_pairs;
+use tla_operators::sets::{functions_between, has_domain, if_set, members, subsets_of};
 use tla_value::Value;
 
 /// All subsets of a set.

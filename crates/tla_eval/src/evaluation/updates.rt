@@ -3,15 +3,17 @@ ghost use Rattle.std.specs.Prelude.{◌∷◌};
 ghost use Rattle.tla_core.specs.Functions.{means-except, update, update_all};
 ghost use Rattle.tla_core.specs.Value.{means};
 ghost use Rattle.tla_core.specs.ExprOf.{expr_of, parts_of_cores, updates_of_cores};
-ghost use Rattle.tla_eval.specs.Gives.{Gives};
-ghost use Rattle.tla_eval.specs.Private.Environment.{Evaluates, tree_of_evaluated, bound_in, present_in, next_in};
+ghost use Rattle.tla_operators.specs.Gives.{Gives};
+ghost use Rattle.tla_operators.specs.Evaluated.{Evaluates, tree_of_evaluated};
+ghost use Rattle.tla_eval.specs.Private.Environment.{bound_in, present_in, next_in};
 
-use crate::environment::{Environment, Evaluated};
+use crate::environment::Environment;
 use crate::evaluation::binding::value_with;
 use crate::evaluation::evaluate;
-use crate::functions::{into_function, made_fun, unchanged};
 use std::alloc::Global;
 use tla_core::{Core, Fault, Place};
+use tla_operators::evaluated::Evaluated;
+use tla_operators::functions::{into_function, made_fun, unchanged};
 use tla_value::Value;
 
 /// A function with other values: each update on the result of the one before.

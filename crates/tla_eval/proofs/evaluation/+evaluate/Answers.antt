@@ -11,25 +11,26 @@ use Rattle.tla_value.specs.Tree.{Tree}
 use Rattle.tla_core.specs.Fault.{Outcome}
 use Rattle.tla_core.specs.declared.fault.Place.{Place}
 use Rattle.tla_core.specs.declared.fault.Fault.{Fault}
-use Rattle.tla_eval.specs.Gives.{Gives, GivesBy, GivesTruth, record_rule, image_rule, function_rule, chosen_function_rule, product_rule, record_set_rule, values_for, values_of}
+use Rattle.tla_operators.specs.Gives.{Gives, GivesBy, GivesTruth, values_of}
+use Rattle.tla_eval.specs.Private.Parts.{record_rule, product_rule, record_set_rule, tested, one_of_rule}
+use Rattle.tla_eval.specs.Private.Chosen.{image_rule, chosen_function_rule, values_for, value_at}
+use Rattle.tla_sets.specs.Domain.{function_rule, AreForChoices, IsDomain}
 use Rattle.tla_eval.specs.declared.environment.Environment.{Environment}
-use Rattle.tla_eval.specs.declared.environment.Evaluated.{Evaluated}
-use Rattle.tla_eval.specs.Private.Chosen.{value_at}
-use Rattle.tla_eval.specs.Private.Domain.{AreForChoices, IsDomain}
-use Rattle.tla_eval.specs.Private.Elements.{elements_of, GivesElements, tested, one_of_rule}
-use Rattle.tla_eval.specs.Private.Gathered.{Gathers}
+use Rattle.tla_operators.specs.declared.evaluated.Evaluated.{Evaluated}
+use Rattle.tla_sets.specs.Elements.{elements_of, GivesElements}
+use Rattle.tla_operators.specs.Gathered.{Gathers}
 use Rattle.tla_value.specs.TreeOf.{tree_of, pair_of}
 use Rattle.tla_core.specs.declared.expression.Core.{Core}
 use Rattle.tla_value.specs.declared.value.Value.{Value}
-use Rattle.tla_eval.specs.Private.Environment.{Evaluates, tree_of_evaluated, bound_in, present_in, next_in}
+use Rattle.tla_operators.specs.Evaluated.{Evaluates, tree_of_evaluated}
+use Rattle.tla_eval.specs.Private.Environment.{bound_in, present_in, next_in}
 use Rattle.std.specs.Prelude.{slice_get}
 use Rattle.tla_core.proofs.Loops.{all_hold_step}
 use Rattle.tla_eval.proofs.Collected.{record_is}
 use Rattle.tla_eval.proofs.Choices.{image_is, image_step, function_is, one_choice, value_here, value_more, value_first, value_end, pass_more, pass_first, pass_end, for_choices, function_of_values, function_first, function_passed}
-use Rattle.tla_eval.proofs.Chosen.{trees_in}
-use Rattle.tla_eval.proofs.Tested.{two_gone, two_asked, tested_there, all_more, all_stop, all_first, all_end, some_more, some_stop, some_first, some_end, least_more, least_stop, least_first, least_end, kept_more, kept_first, kept_end}
-use Rattle.tla_eval.proofs.Stands.{one_of_is}
-use Rattle.tla_eval.proofs.Different.{more_none}
+use Rattle.tla_sets.proofs.Chosen.{trees_in}
+use Rattle.tla_eval.proofs.Tested.{two_gone, two_asked, tested_there, all_more, all_stop, all_first, all_end, some_more, some_stop, some_first, some_end, least_more, least_stop, least_first, least_end, kept_more, kept_first, kept_end, one_of_is}
+use Rattle.tla_operators.proofs.Different.{more_none}
 use Rattle.tla_core.proofs.Parts.{means_conjunction, means_disjunction, means_enumerated, means_tuple, means_record, means_image, means_function, means_except, means_cases, means_cases_or, means_records, means_product}
 use Rattle.tla_eval.proofs.RecordSets.{product_is, record_set_is, fields_long, tuple_long, tuple_other, same_number, number_same}
 use Rattle.tla_core.specs.Kinds.{items, as_set, make_fun}

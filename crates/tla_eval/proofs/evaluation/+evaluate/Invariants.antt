@@ -2,7 +2,9 @@ use Rattle.std.proofs.Common.{◌≡◌, ℕ, ◌+◌, ◌*◌, ◌^◌, length,
 use Rattle.tla_value.specs.TreeOf.{tree_of, pair_of}
 use Rattle.tla_core.specs.Lists.{each, all_hold, some_hold, first_passing, passing}
 use Rattle.tla_core.specs.Fault.{◌>>=◌, Outcome}
-use Rattle.tla_eval.specs.Gives.{named_value, values_of, nothing_of, then_more}
+use Rattle.tla_eval.specs.Private.Parts.{named_value, nothing_of}
+use Rattle.tla_operators.specs.Gives.{values_of}
+use Rattle.tla_operators.specs.Gathered.{then_more, IsGathered}
 use Rattle.tla_value.specs.Choices.{parts_of, choices}
 use Rattle.tla_core.specs.SetForms.{field_has, parts_have}
 use Rattle.tla_core.specs.Meaning.{Meaning, asks}
@@ -12,9 +14,9 @@ use Rattle.tla_value.specs.Tree.{Tree}
 use Rattle.tla_value.specs.declared.value.Value.{Value}
 use Rattle.tla_core.specs.Value.{means, mem}
 use Rattle.tla_core.specs.ExprOf.{expr_of, parts_of_cores, fields_of_cores, arms_of_cores, updates_of_cores}
-use Rattle.tla_eval.specs.Private.Environment.{tree_of_evaluated, bound_in, present_in, next_in}
-use Rattle.tla_eval.specs.Private.Elements.{elements_of}
-use Rattle.tla_eval.specs.Private.Gathered.{IsGathered}
+use Rattle.tla_operators.specs.Evaluated.{tree_of_evaluated}
+use Rattle.tla_eval.specs.Private.Environment.{bound_in, present_in, next_in}
+use Rattle.tla_sets.specs.Elements.{elements_of}
 use Rattle.tla_core.specs.declared.expression.Core.{Core, size-Core}
 use Rattle.tla_eval.proofs.evaluation.+evaluate.Given as goal
 

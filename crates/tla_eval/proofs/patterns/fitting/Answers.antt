@@ -3,7 +3,7 @@ use Rattle.tla_value.specs.Tree.{Tree}
 use Rattle.tla_value.specs.TreeOf.{tree_of, pair_of}
 use Rattle.tla_value.specs.declared.value.Value.{Value}
 use Rattle.tla_core.specs.declared.fault.Fault.{Fault}
-use Rattle.tla_eval.specs.Gives.{values_of}
+use Rattle.tla_operators.specs.Gives.{values_of}
 use Rattle.tla_eval.proofs.Fitting.{fits_pattern, fits_no_pattern, has_no_items}
 use Rattle.tla_eval.proofs.patterns.fitting.Goals as goal
 

@@ -4,7 +4,8 @@ use Rattle.tla_value.specs.Tree.{Tree}
 use Rattle.tla_core.specs.Fault.{Outcome, ◌>>=◌}
 use Rattle.tla_core.specs.Lists.{each}
 use Rattle.tla_core.specs.Patterns.{fitting}
-use Rattle.tla_eval.specs.Gives.{GivesBy, nothing_of}
+use Rattle.tla_operators.specs.Gives.{GivesBy}
+use Rattle.tla_eval.specs.Private.Parts.{nothing_of}
 use Rattle.tla_eval.proofs.Fitting.{each_first}
 use Rattle.tla_eval.proofs.patterns.try_all.Goals as goal
 

@@ -2,7 +2,7 @@ use Rattle.std.proofs.Common.{◌≡◌, drop, map}
 use Rattle.tla_value.specs.TreeOf.{tree_of}
 use Rattle.tla_core.specs.Lists.{each}
 use Rattle.tla_core.specs.Patterns.{fitting}
-use Rattle.tla_eval.specs.Gives.{nothing_of}
+use Rattle.tla_eval.specs.Private.Parts.{nothing_of}
 use Rattle.tla_eval.proofs.patterns.try_all.Given as goal
 
 -- what is left decides

@@ -1,7 +1,8 @@
 use Rattle.std.proofs.Common.{subst}
 use Rattle.tla_core.specs.Lists.{each}
 use Rattle.tla_core.specs.Patterns.{fitting}
-use Rattle.tla_eval.specs.Gives.{GivesBy, nothing_of}
+use Rattle.tla_operators.specs.Gives.{GivesBy}
+use Rattle.tla_eval.specs.Private.Parts.{nothing_of}
 use Rattle.tla_eval.proofs.Fitting.{set_tried}
 use Rattle.tla_eval.proofs.patterns.try_set.Goals as goal
 

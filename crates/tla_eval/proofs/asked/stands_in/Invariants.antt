@@ -1,9 +1,0 @@
-use Rattle.std.proofs.Common.{◌≡◌, drop, map}
-use Rattle.tla_value.specs.TreeOf.{tree_of}
-use Rattle.tla_value.specs.Sets.{is_member}
-use Rattle.tla_eval.specs.Private.Environment.{tree_of_evaluated}
-use Rattle.tla_eval.proofs.asked.stands_in.Given as goal
-
--- what is left decides
-abbrev pub invariant-loop-other : goal.invariant-loop-other
-invariant-loop-other l = is_member (tree_of l.value) (map tree_of_evaluated l.values) ≡ is_member (tree_of l.value) (map tree_of_evaluated (drop l.other-index l.values))

@@ -1,0 +1,108 @@
+//! Operators on numbers.
+ghost use Rattle.std.specs.Prelude.{◌≡◌, ℤ, ◌+ℤ◌, ◌-ℤ◌, ◌*ℤ◌, ◌≤ℤ◌, ◌<ℤ◌, ◌≤◌, ◌^◌, pos, neg_ℤ, FitsSigned};
+ghost use Rattle.std.specs.Int.{w64, int_pow};
+ghost use Rattle.std.specs.Option.{SomeIff};
+ghost use Rattle.tla_value.specs.TreeOf.{tree_of};
+ghost use Rattle.tla_core.specs.Kinds.{number};
+ghost use Rattle.tla_core.specs.Operators.{quotient, remainder, power_of};
+ghost use Rattle.tla_operators.specs.Gives.{Gives};
+
+use crate::rules::fault_at;
+use tla_core::{Fault, FaultCode, Place};
+use tla_value::Value;
+
+/// The number that an operation gave, where it lies within 64 bits.
+#[tactic(auto, using(crate::proofs::Numbers::number_in_range, crate::proofs::Numbers::number_outside))]
+pub(crate) fn number(place: Place, checked: Option<i64>) -> Result<Value, Fault>
+    ensures { (z : ℤ) → SomeIff checked (FitsSigned w64 z) z → Gives result (number place z) }
+{
+    match checked {
+        Some(number) => Ok(Value::Int(number)),
+        None => Err(fault_at(FaultCode::Overflow, place)),
+    }
+}
+
+pub(crate) fn add(place: Place, left: i64, right: i64) -> Result<Value, Fault>
+    ensures { Gives result (number place (left +ℤ right)) }
+{
+    number(place, left.checked_add(right))
+}
+
+pub(crate) fn subtract(place: Place, left: i64, right: i64) -> Result<Value, Fault>
+    ensures { Gives result (number place (left -ℤ right)) }
+{
+    number(place, left.checked_sub(right))
+}
+
+pub(crate) fn multiply(place: Place, left: i64, right: i64) -> Result<Value, Fault>
+    ensures { Gives result (number place (left *ℤ right)) }
+{
+    number(place, left.checked_mul(right))
+}
+
+pub(crate) fn negate(place: Place, operand: i64) -> Result<Value, Fault>
+    ensures { Gives result (number place (neg_ℤ operand)) }
+{
+    number(place, operand.checked_neg())
+}
+
+/// `\div`: rounded down, for a divisor above 0.
+pub(crate) fn divide(place: Place, left: i64, right: i64) -> Result<Value, Fault>
+    ensures { Gives result (quotient place left right) }
+{
+    if right > 0 {
+        Ok(Value::Int(left.div_euclid(right)))
+    } else {
+        Err(fault_at(FaultCode::SmallDivisor, place))
+    }
+}
+
+/// `%`: not negative, for a divisor above 0.
+pub(crate) fn modulo(place: Place, left: i64, right: i64) -> Result<Value, Fault>
+    ensures { Gives result (remainder place left right) }
+{
+    if right > 0 {
+        Ok(Value::Int(left.rem_euclid(right)))
+    } else {
+        Err(fault_at(FaultCode::SmallDivisor, place))
+    }
+}
+
+pub(crate) fn power(place: Place, base: i64, exponent: i64) -> Result<Value, Fault>
+    ensures { Gives result (power_of place base exponent) }
+{
+    if exponent < 0 {
+        return Err(fault_at(FaultCode::NegativeExponent, place));
+    }
+    natural_power(place, base, exponent.unsigned_abs())
+}
+
+fn natural_power(place: Place, base: i64, exponent: u64) -> Result<Value, Fault>
+    ensures { Gives result (number place (int_pow base exponent)) }
+{
+    match u32::try_from(exponent) {
+        Ok(exponent) => number(place, base.checked_pow(exponent)),
+        Err(_) => high_power(place, base, exponent),
+    }
+}
+
+/// A power so high that it lies within 64 bits for -1, 0 and 1 alone.
+fn high_power(place: Place, base: i64, exponent: u64) -> Result<Value, Fault>
+    requires { 64 ≤ exponent }
+    ensures { Gives result (number place (int_pow base exponent)) }
+{
+    if base == 0 {
+        return Ok(Value::Int(0));
+    }
+    if base == 1 {
+        return Ok(Value::Int(1));
+    }
+    if base != -1 {
+        return Err(fault_at(FaultCode::Overflow, place));
+    }
+    if exponent % 2 == 0 {
+        Ok(Value::Int(1))
+    } else {
+        Ok(Value::Int(-1))
+    }
+}

@@ -1,0 +1,190 @@
+//! Functions and records.
+ghost use Rattle.std.specs.Prelude.{◌≡◌, ℕ, List, Ok, option_map};
+ghost use Rattle.tla_value.specs.Tree.{Tree, text, fun, pairs};
+ghost use Rattle.tla_value.specs.TreeOf.{tree_of};
+ghost use Rattle.tla_value.specs.Funs.{MakesFun};
+ghost use Rattle.tla_core.specs.Expr.{Apply, Domain, Field, Single, Override};
+ghost use Rattle.tla_core.specs.Kinds.{as_fun, pairs_of, rising_fun};
+ghost use Rattle.tla_core.specs.Operators.{unary_rule, binary_rule};
+ghost use Rattle.tla_operators.specs.Evaluated.{Evaluates, tree_of_evaluated};
+ghost use Rattle.tla_operators.specs.Gives.{Gives, GivesBy, GivesBorrowed};
+
+use crate::evaluated::Evaluated;
+use crate::rules::{copied, copied_text, fault_at};
+use crate::sets::refused;
+use std::alloc::Global;
+use tla_core::{Fault, FaultCode, Place, memory};
+use tla_value::{FunValue, Text, Value, ValueError};
+
+/// The function that a call made, or the fault for the limit that it would pass.
+#[tactic(auto, using(crate::proofs::Made::fun_made, crate::proofs::Made::fun_refused))]
+pub fn made_fun(place: Place, made: Result<FunValue, ValueError>) -> Result<Value, Fault>
+    ensures { (ps : List (Tree × Tree)) → MakesFun ps made → Gives result (rising_fun place ps) }
+{
+    match made {
+        Ok(fun) => Ok(Value::Fun(fun)),
+        Err(error) => Err(refused(place, error)),
+    }
+}
+
+/// A value that is a function, copied where it was borrowed.
+pub fn into_function(alloc: Global, place: Place, value: Evaluated<'_>) -> Result<FunValue, Fault>
+    ensures { GivesBy (λ f. f) result (as_fun place (tree_of_evaluated value.entry)) }
+{
+    match value {
+        Evaluated::Borrowed(value) => copied_function(alloc, place, value),
+        Evaluated::Owned(value) => owned_function(place, value),
+    }
+}
+
+/// A copy of a value that is a function.
+#[tactic(auto, using(crate::proofs::Known::as_fun_known))]
+fn copied_function(alloc: Global, place: Place, value: &Value) -> Result<FunValue, Fault>
+    ensures { GivesBy (λ f. f) result (as_fun place (tree_of value.now)) }
+{
+    match value {
+        Value::Fun(fun) => match fun.copy(alloc) {
+            Ok(fun) => Ok(fun),
+            Err(_) => Err(memory()),
+        },
+        _ => Err(fault_at(FaultCode::WrongKind, place)),
+    }
+}
+
+/// A value that is a function, by value.
+#[tactic(auto, using(crate::proofs::Known::as_fun_known))]
+fn owned_function(place: Place, value: Value) -> Result<FunValue, Fault>
+    ensures { GivesBy (λ f. f) result (as_fun place (tree_of value)) }
+{
+    match value {
+        Value::Fun(fun) => Ok(fun),
+        _ => Err(fault_at(FaultCode::WrongKind, place)),
+    }
+}
+
+/// A function as EXCEPT leaves it where a key is outside the domain.
+pub fn unchanged(function: FunValue) -> Result<Value, Fault>
+    ensures { Gives result (Ok (fun (pairs function))) }
+{
+    Ok(Value::Fun(function))
+}
+
+/// The function that a value is, if it is one.
+#[tactic(auto, using(crate::proofs::Known::pairs_known))]
+pub fn if_function<'a>(value: &'a Value) -> Option<&'a FunValue>
+    ensures { option_map (λ f. f.now) result ≡ pairs_of (tree_of value.now) }
+{
+    match value {
+        Value::Fun(fun) => Some(fun),
+        _ => None,
+    }
+}
+
+/// The value of a function at an argument.
+pub fn apply<'a>(
+    alloc: Global,
+    place: Place,
+    function: Evaluated<'a>,
+    argument: &Value,
+) -> Result<Evaluated<'a>, Fault>
+    ensures { Evaluates result (binary_rule Apply place (tree_of_evaluated function.entry) (tree_of argument.now)) }
+{
+    match function {
+        Evaluated::Borrowed(function) => Ok(Evaluated::Borrowed(value_at(
+            place, function, argument,
+        )?)),
+        Evaluated::Owned(function) => {
+            let value = value_at(place, &function, argument)?;
+            Ok(Evaluated::Owned(copied(alloc, value)?))
+        }
+    }
+}
+
+/// The value of a function at an argument, lent.
+#[tactic(auto, using(crate::proofs::Known::as_fun_known))]
+fn value_at<'a>(place: Place, function: &'a Value, argument: &Value) -> Result<&'a Value, Fault>
+    ensures { GivesBorrowed result (binary_rule Apply place (tree_of function.now) (tree_of argument.now)) }
+{
+    match function {
+        Value::Fun(fun) => match fun.apply(argument) {
+            Some(value) => Ok(value),
+            None => Err(fault_at(FaultCode::OutsideDomain, place)),
+        },
+        _ => Err(fault_at(FaultCode::WrongKind, place)),
+    }
+}
+
+/// The value of a record's field.
+pub fn field<'a>(
+    alloc: Global,
+    place: Place,
+    name: &Text,
+    base: Evaluated<'a>,
+) -> Result<Evaluated<'a>, Fault>
+    ensures { Evaluates result (unary_rule (Field name.now) place (tree_of_evaluated base.entry)) }
+{
+    let name = Value::Text(copied_text(alloc, name)?);
+    match base {
+        Evaluated::Borrowed(base) => Ok(Evaluated::Borrowed(field_at(place, &name, base)?)),
+        Evaluated::Owned(base) => {
+            let value = field_at(place, &name, &base)?;
+            Ok(Evaluated::Owned(copied(alloc, value)?))
+        }
+    }
+}
+
+/// The value of a record's field, lent.
+#[tactic(auto, using(crate::proofs::Known::as_fun_known))]
+fn field_at<'a>(place: Place, name: &Value, base: &'a Value) -> Result<&'a Value, Fault>
+    ensures { (s : List ℕ) → tree_of name.now ≡ text s → GivesBorrowed result (unary_rule (Field s) place (tree_of base.now)) }
+{
+    match base {
+        Value::Fun(fun) => match fun.apply(name) {
+            Some(value) => Ok(value),
+            None => Err(fault_at(FaultCode::NoField, place)),
+        },
+        _ => Err(fault_at(FaultCode::WrongKind, place)),
+    }
+}
+
+/// `DOMAIN`.
+#[tactic(auto, using(crate::proofs::Known::as_fun_known))]
+pub(crate) fn domain(alloc: Global, place: Place, function: &Value) -> Result<Value, Fault>
+    ensures { Gives result (unary_rule Domain place (tree_of function.now)) }
+{
+    match function {
+        Value::Fun(fun) => match fun.domain(alloc) {
+            Ok(domain) => Ok(Value::Set(domain)),
+            Err(_) => Err(memory()),
+        },
+        _ => Err(fault_at(FaultCode::WrongKind, place)),
+    }
+}
+
+/// `:>`.
+pub(crate) fn single(
+    alloc: Global,
+    place: Place,
+    argument: &Value,
+    value: &Value,
+) -> Result<Value, Fault>
+    ensures { Gives result (binary_rule Single place (tree_of argument.now) (tree_of value.now)) }
+{
+    let pair = (copied(alloc, argument)?, copied(alloc, value)?);
+    made_fun(place, FunValue::from_pairs(Vec::from_array(alloc, [pair])?))
+}
+
+/// `@@`.
+pub(crate) fn override_with(
+    alloc: Global,
+    place: Place,
+    left: &Value,
+    right: &Value,
+) -> Result<Value, Fault>
+    ensures { Gives result (binary_rule Override place (tree_of left.now) (tree_of right.now)) }
+{
+    match (left, right) {
+        (Value::Fun(left), Value::Fun(right)) => made_fun(place, left.override_with(alloc, right)),
+        (_, _) => Err(fault_at(FaultCode::WrongKind, place)),
+    }
+}

@@ -1,0 +1,92 @@
+//! The different ones of many values that come one by one.
+ghost use Rattle.std.specs.Prelude.{◌≡◌, ◌≤◌, ◌∷◌, [], List, Ok, false, map, IfErr, OnOk};
+ghost use Rattle.tla_value.specs.Tree.{Tree};
+ghost use Rattle.tla_value.specs.TreeOf.{tree_of};
+ghost use Rattle.tla_value.specs.Sets.{set_of};
+ghost use Rattle.tla_core.specs.Fault.{Outcome, out_of_memory};
+ghost use Rattle.tla_operators.specs.Gives.{Gives};
+ghost use Rattle.tla_operators.specs.Gathered.{most_held, IsHeld, IsGathered, Adds, Gathers, set_rule};
+
+use crate::rules::copied;
+use crate::sets::made_set;
+use std::alloc::Global;
+use tla_core::{Fault, Place};
+use tla_value::{MAX_ELEMENTS, SetValue, Value};
+
+/// How many values are held at least before doubles are dropped.
+const LEAST_ROOM: usize = 1024;
+
+/// The different ones of some values. Of more than a set may have only so many are held that this is certain.
+#[derive(Drop)]
+pub struct Gathered {
+    values: Vec<Value>,
+    room: usize,
+    is_full: bool,
+}
+
+impl Gathered {
+    /// No values.
+    pub fn new(alloc: Global) -> Gathered
+        ensures { IsGathered [] result }
+    {
+        Gathered {
+            values: Vec::new(alloc),
+            room: LEAST_ROOM,
+            is_full: false,
+        }
+    }
+
+    /// Adds a value.
+    pub fn add(&mut self, value: Value) -> Result<(), Fault>
+        ensures ok { OnOk result (Adds (tree_of value ∷ []) self.old self.new) }
+        ensures err { IfErr result (λ f. f ≡ out_of_memory) }
+    {
+        if self.is_full {
+            drop(value);
+            return Ok(());
+        }
+        self.values.push(value)?;
+        self.make_room();
+        Ok(())
+    }
+
+    /// Adds copies of some values.
+    pub(crate) fn add_copies(&mut self, alloc: Global, values: &[Value]) -> Result<(), Fault>
+        ensures ok { OnOk result (Adds (map tree_of values.now) self.old self.new) }
+        ensures err { IfErr result (λ f. f ≡ out_of_memory) }
+    {
+        for value in values {
+            self.add(copied(alloc, value)?)?;
+        }
+        Ok(())
+    }
+
+    /// Drops doubles where there is no room left, and makes room for as many more values as are left.
+    #[tactic(auto, using(crate::proofs::Different::gathered_so))]
+    fn make_room(&mut self)
+        ensures { (ts : List Tree) → IsHeld ts (map tree_of self.old.values.items) → self.old.is_full ≡ false → self.old.room ≤ most_held ts → IsGathered ts self.new }
+    {
+        if self.values.len() < self.room {
+            return;
+        }
+        sort_once(&mut self.values);
+        let left = self.values.len();
+        self.is_full = left > MAX_ELEMENTS;
+        self.room = LEAST_ROOM.max(left.saturating_mul(2));
+    }
+
+    /// The set of the values.
+    pub fn into_set(self, place: Place) -> Result<Value, Fault>
+        ensures { (o : Outcome (List Tree)) → Gathers (Ok self) o → Gives result (set_rule place o) }
+    {
+        made_set(place, SetValue::from_values(self.values))
+    }
+}
+
+/// Puts some values in rising order, each once.
+fn sort_once(values: &mut Vec<Value>)
+    ensures { map tree_of values.new.items ≡ set_of (map tree_of values.old.items) }
+{
+    values.sort_unstable();
+    values.dedup();
+}

@@ -1,0 +1,11 @@
+//! What operators and forms give of values. (Lamport, Specifying Systems, chapter 16.)
+#![tactic(auto)]
+
+mod arithmetic;
+pub mod evaluated;
+pub mod functions;
+pub mod gathered;
+pub mod operators;
+pub mod rules;
+pub mod sequences;
+pub mod sets;

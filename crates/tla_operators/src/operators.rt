@@ -1,0 +1,202 @@
+//! What an operator gives of the values of its operands.
+ghost use Rattle.std.specs.Prelude.{◌≡◌, ℤ, pos, length, Ok};
+ghost use Rattle.tla_value.specs.TreeOf.{tree_of};
+ghost use Rattle.tla_core.specs.Expr.{IsFinite, Cardinality, Iff};
+ghost use Rattle.tla_core.specs.Kinds.{as_int};
+ghost use Rattle.tla_core.specs.Operators.{unary_rule, binary_rule};
+ghost use Rattle.tla_core.specs.ExprOf.{unary_of, binary_of, kind_of};
+ghost use Rattle.tla_operators.specs.Evaluated.{Evaluates, tree_of_evaluated};
+ghost use Rattle.tla_core.specs.Membership.{is_of_kind, is_truth};
+ghost use Rattle.tla_operators.specs.Gives.{Gives, GivesBy, GivesTruth, two_ints};
+
+use crate::arithmetic::{add, divide, modulo, multiply, negate, power, subtract};
+use crate::evaluated::Evaluated;
+use crate::functions::{domain, override_with, single};
+use crate::rules::{as_truth, copied, fault_at};
+use crate::sequences::{append, concat, first_item, head, length, tail};
+use crate::sets::{range, union_all};
+use std::alloc::Global;
+use tla_core::{Binary, Fault, FaultCode, Kind, Place, Unary};
+use tla_value::{SetValue, Value};
+
+/// An operator on one value.
+pub fn unary<'a>(
+    alloc: Global,
+    place: Place,
+    operator: Unary,
+    operand: Evaluated<'a>,
+) -> Result<Evaluated<'a>, Fault>
+    ensures { Evaluates result (unary_rule (unary_of operator) place (tree_of_evaluated operand.entry)) }
+{
+    match operator {
+        Unary::Head => head(alloc, place, operand),
+        _ => Ok(Evaluated::Owned(made_by_unary(alloc, place, operator, operand.value())?)),
+    }
+}
+
+/// The value that an operator on one value makes.
+fn made_by_unary(
+    alloc: Global,
+    place: Place,
+    operator: Unary,
+    operand: &Value,
+) -> Result<Value, Fault>
+    ensures { Gives result (unary_rule (unary_of operator) place (tree_of operand.now)) }
+{
+    match operator {
+        Unary::Not => Ok(Value::Truth(!as_truth(operand, place)?)),
+        Unary::Negate => negate(place, as_int(place, operand)?),
+        Unary::Union => union_all(alloc, place, operand),
+        Unary::Domain => domain(alloc, place, operand),
+        Unary::Len => length(place, operand),
+        Unary::Head => copied(alloc, first_item(place, operand)?),
+        Unary::Tail => tail(alloc, place, operand),
+        Unary::IsFinite => is_finite(place, operand),
+        Unary::Cardinality => cardinality(place, operand),
+    }
+}
+
+/// The number that a value is.
+fn as_int(place: Place, operand: &Value) -> Result<i64, Fault>
+    ensures { GivesBy (λ (z : ℤ). z) result (as_int place (tree_of operand.now)) }
+{
+    match operand {
+        Value::Int(number) => Ok(*number),
+        _ => Err(fault_at(FaultCode::WrongKind, place)),
+    }
+}
+
+fn is_finite(place: Place, operand: &Value) -> Result<Value, Fault>
+    ensures { Gives result (unary_rule IsFinite place (tree_of operand.now)) }
+{
+    match operand {
+        Value::Set(_) => Ok(Value::Truth(true)),
+        _ => Err(fault_at(FaultCode::WrongKind, place)),
+    }
+}
+
+#[tactic(auto, using(crate::proofs::Known::as_set_known))]
+fn cardinality(place: Place, operand: &Value) -> Result<Value, Fault>
+    ensures { Gives result (unary_rule Cardinality place (tree_of operand.now)) }
+{
+    match operand {
+        Value::Set(set) => Ok(Value::Int(count_of(set))),
+        _ => Err(fault_at(FaultCode::WrongKind, place)),
+    }
+}
+
+/// How many members a set has.
+fn count_of(set: &SetValue) -> i64
+    ensures { result ≡ pos (length set.now) }
+{
+    set.items().len() as i64
+}
+
+/// An operator on two values.
+pub fn binary(
+    alloc: Global,
+    place: Place,
+    operator: Binary,
+    left: &Value,
+    right: &Value,
+) -> Result<Value, Fault>
+    ensures { Gives result (binary_rule (binary_of operator) place (tree_of left.now) (tree_of right.now)) }
+{
+    match operator {
+        Binary::Iff => iff(place, left, right),
+        Binary::Unequal => Ok(Value::Truth(left != right)),
+        Binary::Add => {
+            let (left, right) = two_ints(place, left, right)?;
+            add(place, left, right)
+        }
+        Binary::Subtract => {
+            let (left, right) = two_ints(place, left, right)?;
+            subtract(place, left, right)
+        }
+        Binary::Multiply => {
+            let (left, right) = two_ints(place, left, right)?;
+            multiply(place, left, right)
+        }
+        Binary::Divide => {
+            let (left, right) = two_ints(place, left, right)?;
+            divide(place, left, right)
+        }
+        Binary::Modulo => {
+            let (left, right) = two_ints(place, left, right)?;
+            modulo(place, left, right)
+        }
+        Binary::Power => {
+            let (left, right) = two_ints(place, left, right)?;
+            power(place, left, right)
+        }
+        Binary::LessThan => {
+            let (left, right) = two_ints(place, left, right)?;
+            Ok(Value::Truth(left < right))
+        }
+        Binary::GreaterThan => {
+            let (left, right) = two_ints(place, left, right)?;
+            Ok(Value::Truth(left > right))
+        }
+        Binary::AtMost => {
+            let (left, right) = two_ints(place, left, right)?;
+            Ok(Value::Truth(left <= right))
+        }
+        Binary::AtLeast => {
+            let (left, right) = two_ints(place, left, right)?;
+            Ok(Value::Truth(left >= right))
+        }
+        Binary::Range => {
+            let (left, right) = two_ints(place, left, right)?;
+            range(alloc, place, left, right)
+        }
+        Binary::Single => single(alloc, place, left, right),
+        Binary::Override => override_with(alloc, place, left, right),
+        Binary::Concat => concat(alloc, place, left, right),
+        Binary::Append => append(alloc, place, left, right),
+    }
+}
+
+/// The numbers that two values are.
+pub fn two_ints(place: Place, left: &Value, right: &Value) -> Result<(i64, i64), Fault>
+    ensures { GivesBy (λ (n : ℤ × ℤ). n) result (two_ints place (tree_of left.now) (tree_of right.now)) }
+{
+    match (left, right) {
+        (Value::Int(left), Value::Int(right)) => Ok((*left, *right)),
+        (_, _) => Err(fault_at(FaultCode::WrongKind, place)),
+    }
+}
+
+fn iff(place: Place, left: &Value, right: &Value) -> Result<Value, Fault>
+    ensures { Gives result (binary_rule Iff place (tree_of left.now) (tree_of right.now)) }
+{
+    match (left, right) {
+        (Value::Truth(left), Value::Truth(right)) => Ok(Value::Truth(*left == *right)),
+        (_, _) => Err(fault_at(FaultCode::WrongKind, place)),
+    }
+}
+
+/// Whether the set of a kind has a value as a member: it has no value itself, and needs none here.
+pub fn kind_has(kind: Kind, value: &Value) -> Result<bool, Fault>
+    ensures { GivesTruth result (Ok (is_of_kind (kind_of kind) (tree_of value.now))) }
+{
+    Ok(is_of_kind(kind, value))
+}
+
+/// Whether a value is of a kind.
+fn is_of_kind(kind: Kind, value: &Value) -> bool
+    ensures { result ≡ is_of_kind (kind_of kind) (tree_of value.now) }
+{
+    match (kind, value) {
+        (Kind::Naturals, Value::Int(number)) => *number >= 0,
+        (Kind::Integers, Value::Int(_)) => true,
+        (Kind::Strings, Value::Text(_)) => true,
+        (_, _) => false,
+    }
+}
+
+/// Whether a value is a truth value.
+pub fn is_truth(value: &Value) -> bool
+    ensures { result ≡ is_truth (tree_of value.now) }
+{
+    matches!(value, Value::Truth(_))
+}

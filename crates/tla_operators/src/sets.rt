@@ -1,0 +1,269 @@
+//! Sets that are made of the values of parts, and membership in values.
+ghost use Rattle.std.specs.Prelude.{◌≡◌, ◌++◌, ◌∷◌, [], Ok, List, false, true, filter, map, not, option_map};
+ghost use Rattle.tla_value.specs.Tree.{Tree, truth, set, trees};
+ghost use Rattle.tla_value.specs.TreeOf.{tree_of, pair_of};
+ghost use Rattle.tla_value.specs.Order.{tree_eq};
+ghost use Rattle.tla_value.specs.Funs.{arguments};
+ghost use Rattle.tla_value.specs.Sets.{is_member, MakesSet, MakesSetOfFunctions};
+ghost use Rattle.tla_core.specs.Kinds.{as_set, members_of, rising_set, sized_set, size_of_functions};
+ghost use Rattle.tla_value.specs.Choices.{range_of, functions_of};
+ghost use Rattle.tla_core.specs.Expr.{Union};
+ghost use Rattle.tla_core.specs.Operators.{joined_sets, unary_rule};
+ghost use Rattle.tla_core.specs.Lists.{each};
+ghost use Rattle.tla_core.specs.SetForms.{on_sets};
+ghost use Rattle.tla_operators.specs.Gives.{Gives, GivesBy, GivesTruth, IsRefusal, contains_rule, subsets_rule, tuples_rule};
+ghost use Rattle.tla_operators.specs.Evaluated.{Evaluates, tree_of_evaluated};
+ghost use Rattle.tla_operators.specs.Gathered.{Gathers};
+
+use crate::evaluated::Evaluated;
+use crate::gathered::Gathered;
+use crate::rules::fault_at;
+use std::alloc::Global;
+use tla_core::{Fault, FaultCode, Place, memory};
+use tla_value::{FunValue, SetValue, Value, ValueError};
+
+/// The members of a value that is a set.
+#[tactic(auto, using(crate::proofs::Known::as_set_known))]
+pub fn members<'a>(place: Place, set: &'a Value) -> Result<&'a [Value], Fault>
+    ensures { GivesBy (λ s. map tree_of s.now) result (as_set place (tree_of set.now)) }
+{
+    match set {
+        Value::Set(set) => Ok(set.items()),
+        _ => Err(fault_at(FaultCode::WrongKind, place)),
+    }
+}
+
+/// Whether a set has a value as a member.
+#[tactic(auto, using(crate::proofs::Known::as_set_known))]
+pub fn contains(place: Place, set: &Value, value: &Value) -> Result<bool, Fault>
+    ensures { GivesTruth result (contains_rule place (tree_of set.now) (tree_of value.now)) }
+{
+    match set {
+        Value::Set(set) => Ok(set.contains(value)),
+        _ => Err(fault_at(FaultCode::WrongKind, place)),
+    }
+}
+
+/// The fault of a value that would pass a limit.
+pub fn refused(place: Place, error: ValueError) -> Fault
+    ensures { IsRefusal error place result }
+{
+    match error {
+        ValueError::TooMany => fault_at(FaultCode::TooMany, place),
+        ValueError::TooDeep => fault_at(FaultCode::TooDeep, place),
+        ValueError::Memory => memory(),
+    }
+}
+
+/// The set that a call made, or the fault for the limit that it would pass.
+#[tactic(auto, using(crate::proofs::Made::set_made, crate::proofs::Made::set_refused))]
+pub fn made_set(place: Place, made: Result<SetValue, ValueError>) -> Result<Value, Fault>
+    ensures { (ts : List Tree) → MakesSet ts made → Gives result (rising_set place ts) }
+{
+    match made {
+        Ok(set) => Ok(Value::Set(set)),
+        Err(error) => Err(refused(place, error)),
+    }
+}
+
+/// The members of one set and of another.
+pub fn union_of(alloc: Global, place: Place, left: &Value, right: &Value) -> Result<Value, Fault>
+    ensures { Gives result (on_sets place (λ xs ys. xs ++ ys) (tree_of left.now) (tree_of right.now)) }
+{
+    match (left, right) {
+        (Value::Set(left), Value::Set(right)) => made_set(place, left.union(alloc, right)),
+        (_, _) => Err(fault_at(FaultCode::WrongKind, place)),
+    }
+}
+
+/// The members of one set that are those of another.
+pub fn intersection_of(
+    alloc: Global,
+    place: Place,
+    left: &Value,
+    right: &Value,
+) -> Result<Value, Fault>
+    ensures { Gives result (on_sets place (λ xs ys. filter (λ v. is_member v ys) xs) (tree_of left.now) (tree_of right.now)) }
+{
+    match (left, right) {
+        (Value::Set(left), Value::Set(right)) => {
+            let _rising = left.items();
+            made_set(place, left.intersect(alloc, right))
+        }
+        (_, _) => Err(fault_at(FaultCode::WrongKind, place)),
+    }
+}
+
+/// The members of one set that are no members of another.
+pub fn difference_of(
+    alloc: Global,
+    place: Place,
+    left: &Value,
+    right: &Value,
+) -> Result<Value, Fault>
+    ensures { Gives result (on_sets place (λ xs ys. filter (λ v. not (is_member v ys)) xs) (tree_of left.now) (tree_of right.now)) }
+{
+    match (left, right) {
+        (Value::Set(left), Value::Set(right)) => {
+            let _rising = left.items();
+            made_set(place, left.minus(alloc, right))
+        }
+        (_, _) => Err(fault_at(FaultCode::WrongKind, place)),
+    }
+}
+
+/// All subsets of a set.
+pub fn subsets_of(alloc: Global, place: Place, set: &Value) -> Result<Value, Fault>
+    ensures { Gives result (subsets_rule place (tree_of set.now)) }
+{
+    match set {
+        Value::Set(set) => made_set(place, set.power(alloc)),
+        _ => Err(fault_at(FaultCode::WrongKind, place)),
+    }
+}
+
+/// The functions on one set with values in another.
+pub fn functions_between(
+    alloc: Global,
+    place: Place,
+    domain: &Value,
+    range: &Value,
+) -> Result<Value, Fault>
+    ensures { Gives result (on_sets place functions_of (tree_of domain.now) (tree_of range.now)) }
+{
+    match (domain, range) {
+        (Value::Set(domain), Value::Set(range)) => made_set(
+            place,
+            SetValue::function_set(alloc, domain, range),
+        ),
+        (_, _) => Err(fault_at(FaultCode::WrongKind, place)),
+    }
+}
+
+/// The set of functions that a call made, or the fault for the limit that it would pass.
+#[tactic(auto, using(crate::proofs::Made::functions_made, crate::proofs::Made::functions_refused))]
+pub fn made_functions(place: Place, made: Result<SetValue, ValueError>) -> Result<Value, Fault>
+    ensures { (ts : List Tree) → MakesSetOfFunctions ts made → Gives result (sized_set place (size_of_functions ts) ts) }
+{
+    match made {
+        Ok(set) => Ok(Value::Set(set)),
+        Err(error) => Err(refused(place, error)),
+    }
+}
+
+/// The tuples with one part of each value.
+pub fn tuples_with(alloc: Global, place: Place, values: &[Evaluated<'_>]) -> Result<Value, Fault>
+    ensures { Gives result (tuples_rule place (map tree_of_evaluated values.now)) }
+{
+    let sets = as_sets(alloc, place, values)?;
+    made_functions(place, SetValue::product(alloc, sets.as_slice()))
+}
+
+/// A copy of a value that is a set.
+#[tactic(auto, using(crate::proofs::Known::as_set_known))]
+pub fn copied_set(alloc: Global, place: Place, value: &Value) -> Result<SetValue, Fault>
+    ensures { GivesBy (λ s. s) result (as_set place (tree_of value.now)) }
+{
+    match value {
+        Value::Set(set) => match set.copy(alloc) {
+            Ok(set) => Ok(set),
+            Err(_) => Err(memory()),
+        },
+        _ => Err(fault_at(FaultCode::WrongKind, place)),
+    }
+}
+
+/// Copies of some values that are sets.
+pub fn as_sets(
+    alloc: Global,
+    place: Place,
+    values: &[Evaluated<'_>],
+) -> Result<Vec<SetValue>, Fault>
+    ensures { GivesBy (λ v. v.items) result (each (as_set place) (map tree_of_evaluated values.now)) }
+{
+    let mut sets = Vec::with_capacity(alloc, values.len())?;
+    for value in values {
+        sets.push(copied_set(alloc, place, value.value())?)?;
+    }
+    Ok(sets)
+}
+
+/// The members of a value, if it is a set.
+#[tactic(auto, using(crate::proofs::Known::members_known))]
+pub fn if_set<'a>(value: &'a Value) -> Option<&'a [Value]>
+    ensures { option_map (λ s. map tree_of s.now) result ≡ members_of (tree_of value.now) }
+{
+    match value {
+        Value::Set(set) => Some(set.items()),
+        _ => None,
+    }
+}
+
+/// The numbers from `low` to `high`.
+pub(crate) fn range(alloc: Global, place: Place, low: i64, high: i64) -> Result<Value, Fault>
+    ensures { Gives result (rising_set place (range_of low high)) }
+{
+    made_set(place, SetValue::range(alloc, low, high))
+}
+
+/// The members of the members of a set.
+pub(crate) fn union_all(alloc: Global, place: Place, sets: &Value) -> Result<Value, Fault>
+    ensures { Gives result (unary_rule Union place (tree_of sets.now)) }
+{
+    let sets = members(place, sets)?;
+    joined(alloc, place, sets)?.into_set(place)
+}
+
+/// The different members of some sets.
+fn joined(alloc: Global, place: Place, sets: &[Value]) -> Result<Gathered, Fault>
+    ensures { Gathers result (joined_sets place (map tree_of sets.now)) }
+{
+    let mut gathered = Gathered::new(alloc);
+    for set in sets {
+        gathered.add_copies(alloc, members(place, set)?)?;
+    }
+    Ok(gathered)
+}
+
+/// `BOOLEAN`.
+pub fn booleans<'a>(alloc: Global) -> Result<Evaluated<'a>, Fault>
+    ensures { Evaluates result (Ok (set (trees (truth false ∷ truth true ∷ [])))) }
+{
+    let values = match Vec::from_array(alloc, [Value::Truth(false), Value::Truth(true)]) {
+        Ok(values) => values,
+        Err(_) => return Err(memory()),
+    };
+    match SetValue::from_values(values) {
+        Ok(set) => Ok(Evaluated::Owned(Value::Set(set))),
+        Err(_) => Err(memory()),
+    }
+}
+
+/// Whether the arguments of a function are just these values, in order.
+pub fn has_domain(function: &FunValue, values: &[Value]) -> bool
+    ensures { result ≡ tree_eq (set (trees (arguments function.now))) (set (trees (map tree_of values.now))) }
+{
+    are_arguments(function.pairs(), values)
+}
+
+/// Whether two values are the same.
+fn is_same(left: &Value, right: &Value) -> bool
+    ensures { result ≡ tree_eq (tree_of left.now) (tree_of right.now) }
+{
+    left == right
+}
+
+/// Whether the arguments of some pairs are just these values, in order.
+fn are_arguments(pairs: &[(Value, Value)], values: &[Value]) -> bool
+    ensures { result ≡ tree_eq (set (trees (arguments (map pair_of pairs.now)))) (set (trees (map tree_of values.now))) }
+{
+    if pairs.len() != values.len() {
+        return false;
+    }
+    for i in 0..pairs.len() {
+        if !is_same(&pairs[i].0, &values[i]) {
+            return false;
+        }
+    }
+    true
+}

@@ -1,0 +1,8 @@
+use Rattle.std.proofs.Common.{◌≡◌, ◌++◌, drop, map}
+use Rattle.tla_value.specs.TreeOf.{tree_of}
+use Rattle.tla_value.specs.Choices.{range_of}
+use Rattle.tla_sets.proofs.elements.listed.Given as goal
+
+-- what is left, behind what is there
+abbrev pub invariant-loop-place : goal.invariant-loop-place
+invariant-loop-place l = range_of l.low l.high ≡ map tree_of l.numbers.items ++ drop l.place (range_of l.low l.high)

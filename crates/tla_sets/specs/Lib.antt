@@ -1,0 +1,5 @@
+pub mod Domain
+pub mod Elements
+pub mod Fields
+pub use Rattle.tla_operators.specs.Gives
+pub use Rattle.tla_operators.specs.Evaluated

@@ -1,0 +1,155 @@
+//! The function on all choices from some sets.
+ghost use Rattle.std.specs.Prelude.{◌≡◌, ◌<◌, ◌%◌, length, map, option_map, slice_get, slice_index_or, zip, IfOk, IfErr};
+ghost use Rattle.std.specs.List.{AllByRecursion};
+ghost use Rattle.std.specs.List.Sorted.{IsStrictlySortedBy};
+ghost use Rattle.tla_value.specs.Order.{tree_cmp};
+ghost use Rattle.tla_value.specs.TreeOf.{tree_of, pair_of};
+ghost use Rattle.tla_value.specs.Choices.{choices};
+ghost use Rattle.tla_core.specs.Fault.{out_of_memory};
+ghost use Rattle.tla_core.specs.Kinds.{as_set, make_fun};
+ghost use Rattle.tla_core.specs.Lists.{each};
+ghost use Rattle.tla_operators.specs.Evaluated.{tree_of_evaluated};
+ghost use Rattle.tla_sets.specs.Domain.{FindsDomain, function_rule};
+ghost use Rattle.tla_operators.specs.Gives.{Gives, GivesBy};
+
+use std::alloc::Global;
+use tla_core::{Fault, Place};
+use tla_operators::evaluated::Evaluated;
+use tla_operators::functions::made_fun;
+use tla_operators::rules::copied;
+use tla_operators::sets::{as_sets, members, refused};
+use tla_value::{FunValue, SetValue, Value};
+
+/// The tuples that a function is defined on, or the fault of each function on them.
+#[derive(Drop)]
+pub enum Domain {
+    Tuples(SetValue),
+    Refused(Fault),
+}
+
+/// The members of some values that are sets.
+pub fn lists_of<'a>(
+    alloc: Global,
+    place: Place,
+    sets: &'a [Evaluated<'a>],
+) -> Result<Vec<&'a [Value]>, Fault>
+    ensures { GivesBy (λ v. map (λ l. map tree_of l.now) v.items) result (each (as_set place) (map tree_of_evaluated sets.now)) }
+{
+    let mut lists = Vec::with_capacity(alloc, sets.len())?;
+    for set in sets {
+        lists.push(members(place, set.value())?)?;
+    }
+    Ok(lists)
+}
+
+/// The member of a list at a place, where there is one.
+pub fn member_of<'a>(list: &'a [Value], number: usize) -> Option<&'a Value>
+    ensures { option_map (λ v. tree_of v.now) result ≡ slice_get (map tree_of list.now) number }
+{
+    list.get(number)
+}
+
+/// The member of a list at a number, counted round and round.
+fn member_at(list: &[Value], number: usize) -> &Value
+    requires { 0 < length list.now }
+    ensures { result.now ≡ slice_index_or list.now (number % length list.now) result.now }
+{
+    &list[number % list.len()]
+}
+
+/// The choice with a number of one member of each list, the first list slowest; none where there are fewer choices.
+pub fn choice_at(
+    alloc: Global,
+    lists: &[&[Value]],
+    number: usize,
+) -> Result<Option<Vec<Value>>, Fault>
+    ensures ok { IfOk result (λ o. option_map (λ v. map tree_of v.items) o ≡ slice_get (choices (map (λ l. map tree_of l.now) lists.now)) number) }
+    ensures err { IfErr result (λ f. f ≡ out_of_memory) }
+{
+    let mut choice = Vec::with_capacity(alloc, lists.len())?;
+    let mut left = number;
+    for i in 0..lists.len() {
+        let list = lists[lists.len() - 1 - i];
+        if list.is_empty() {
+            return Ok(None);
+        }
+        choice.push(copied(alloc, member_at(list, left))?)?;
+        left /= list.len();
+    }
+    if left > 0 {
+        return Ok(None);
+    }
+    choice.reverse();
+    Ok(Some(choice))
+}
+
+/// The members of each set rise.
+fn each_rises(sets: &[SetValue])
+    ensures { AllByRecursion (IsStrictlySortedBy tree_cmp) sets.now }
+{
+    for set in sets {
+        let _rising = set.items();
+    }
+}
+
+/// Lets a value go whatever its kind, so that a loop has one way on and not one for each kind.
+fn let_go<T: Drop>(_value: T) {}
+
+/// Each of these values behind the argument at its place.
+fn paired(
+    alloc: Global,
+    arguments: &[Value],
+    values: Vec<Value>,
+) -> Result<Vec<(Value, Value)>, Fault>
+    ensures ok { IfOk result (λ v. map pair_of v.items ≡ zip (map tree_of arguments.now) (map tree_of values.items)) }
+    ensures err { IfErr result (λ f. f ≡ out_of_memory) }
+{
+    let mut pairs = Vec::with_capacity(alloc, values.len())?;
+    for value in values {
+        match arguments.get(pairs.len()) {
+            Some(argument) => pairs.push((copied(alloc, argument)?, value))?,
+            None => let_go(value),
+        }
+    }
+    Ok(pairs)
+}
+
+/// The function on these arguments with these values.
+pub fn function_with(
+    alloc: Global,
+    place: Place,
+    arguments: &[Value],
+    values: Vec<Value>,
+) -> Result<Value, Fault>
+    ensures { Gives result (make_fun place (zip (map tree_of arguments.now) (map tree_of values.items))) }
+{
+    let pairs = paired(alloc, arguments, values)?;
+    made_fun(place, FunValue::from_pairs(pairs))
+}
+
+/// The function on the members of one set, with these values.
+pub fn function_on(
+    alloc: Global,
+    place: Place,
+    sets: &[Evaluated<'_>],
+    values: Vec<Value>,
+) -> Result<Value, Fault>
+    requires { length sets.now ≡ 1 }
+    ensures { Gives result (function_rule place (map tree_of_evaluated sets.now) (map tree_of values.items)) }
+{
+    let arguments = members(place, sets[0].value())?;
+    function_with(alloc, place, arguments, values)
+}
+
+/// What a function on all choices from some sets is defined on, or the fault of every such function.
+pub fn domain_of(alloc: Global, place: Place, sets: &[Evaluated<'_>]) -> Result<Domain, Fault>
+    requires { length sets.now ≡ 1 → ⊥ }
+    ensures { FindsDomain place (map tree_of_evaluated sets.now) result }
+{
+    let sets = as_sets(alloc, place, sets)?;
+    each_rises(sets.as_slice());
+    match SetValue::product(alloc, sets.as_slice()) {
+        Ok(tuples) => Ok(Domain::Tuples(tuples)),
+        Err(error) => Ok(Domain::Refused(refused(place, error))),
+    }
+}

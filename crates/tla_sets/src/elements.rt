@@ -1,0 +1,234 @@
+//! The elements of a set that is only gone over: a range is not made.
+ghost use Rattle.std.specs.Prelude.{◌≡◌, ◌++◌, Ok, map, cond, option_map, slice_get, IfOk, IfErr, OnOk};
+ghost use Rattle.std.specs.Option.{option_to_list};
+ghost use Rattle.tla_value.specs.Tree.{int, set, trees};
+ghost use Rattle.tla_value.specs.TreeOf.{tree_of};
+ghost use Rattle.tla_value.specs.Choices.{range_of};
+ghost use Rattle.tla_core.specs.Expr.{Range};
+ghost use Rattle.tla_core.specs.ExprOf.{binary_of};
+ghost use Rattle.tla_core.specs.declared.fault.FaultCode.TheVariants.{NoChoice};
+ghost use Rattle.tla_core.specs.Fault.{out_of_memory};
+ghost use Rattle.tla_core.specs.Kinds.{as_set, or_fault, rising_set};
+ghost use Rattle.tla_core.specs.Operators.{binary_rule};
+ghost use Rattle.tla_operators.specs.Gives.{Gives, GivesBy};
+ghost use Rattle.tla_operators.specs.Evaluated.{tree_of_evaluated};
+ghost use Rattle.tla_sets.specs.Elements.{elements_of, GivesElements, elements_rule};
+
+use std::alloc::Global;
+use tla_core::{Binary, Fault, FaultCode, Place, memory};
+use tla_operators::evaluated::Evaluated;
+use tla_operators::operators::{binary, two_ints};
+use tla_operators::rules::{copied, fault_at};
+use tla_operators::sets::members;
+use tla_value::{MAX_ELEMENTS, SetValue, Value};
+
+/// The elements of a set, rising: members that are lent, those of a set that was made, or the numbers from one to another.
+#[derive(Drop)]
+pub enum Elements<'a> {
+    Lent(&'a [Value]),
+    Made(SetValue),
+    Numbers(i64, i64),
+}
+
+/// The members of a value that is a set.
+pub fn members_of<'a>(place: Place, set: Evaluated<'a>) -> Result<Elements<'a>, Fault>
+    ensures { GivesElements result (as_set place (tree_of_evaluated set.entry)) }
+{
+    match set {
+        Evaluated::Borrowed(set) => Ok(Elements::Lent(members(place, set)?)),
+        Evaluated::Owned(set) => owned_members(place, set),
+    }
+}
+
+/// The members of a value that is a set, by value.
+#[tactic(auto, using(tla_operators::proofs::Known::as_set_known))]
+fn owned_members<'a>(place: Place, set: Value) -> Result<Elements<'a>, Fault>
+    ensures { GivesElements result (as_set place (tree_of set)) }
+{
+    match set {
+        Value::Set(set) => Ok(Elements::Made(set)),
+        _ => Err(fault_at(FaultCode::WrongKind, place)),
+    }
+}
+
+/// The elements of what an operator at another place gives, which has to be a set. A range is not made.
+pub fn elements_of_two<'a>(
+    alloc: Global,
+    place: Place,
+    at: Place,
+    operator: Binary,
+    left: &Value,
+    right: &Value,
+) -> Result<Elements<'a>, Fault>
+    ensures { GivesElements result (elements_rule place (binary_rule (binary_of operator) at (tree_of left.now) (tree_of right.now))) }
+{
+    match operator {
+        Binary::Range => numbers(place, at, left, right),
+        _ => owned_members(place, binary(alloc, at, operator, left, right)?),
+    }
+}
+
+/// The numbers from one value to another, where their set is within the limits.
+fn numbers<'a>(place: Place, at: Place, left: &Value, right: &Value) -> Result<Elements<'a>, Fault>
+    ensures { GivesElements result (elements_rule place (binary_rule Range at (tree_of left.now) (tree_of right.now))) }
+{
+    let (low, high) = two_ints(at, left, right)?;
+    numbers_between(place, at, low, high)
+}
+
+/// The numbers from `low` to `high`, where their set is within the limits.
+#[tactic(auto, using(crate::proofs::Known::elements_known))]
+fn numbers_between<'a>(place: Place, at: Place, low: i64, high: i64) -> Result<Elements<'a>, Fault>
+    ensures { GivesElements result (elements_rule place (rising_set at (range_of low high))) }
+{
+    fits_range(at, low, high)?;
+    Ok(Elements::Numbers(low, high))
+}
+
+/// Whether the set of the numbers from `low` to `high` is within the limits.
+pub(crate) fn fits_range(place: Place, low: i64, high: i64) -> Result<(), Fault>
+    ensures { GivesBy (λ _. set (trees (range_of low high))) result (rising_set place (range_of low high)) }
+{
+    if high < low {
+        return Ok(());
+    }
+    let steps = high.abs_diff(low);
+    if steps >= MAX_ELEMENTS as u64 {
+        return Err(fault_at(FaultCode::TooMany, place));
+    }
+    Ok(())
+}
+
+/// The element with a number, counted from 0, where there is one.
+pub fn element_at<'e>(elements: &'e Elements<'e>, number: usize) -> Option<Evaluated<'e>>
+    ensures { option_map tree_of_evaluated result ≡ slice_get (elements_of elements.now) number }
+{
+    match elements {
+        Elements::Lent(values) => lent_at(values, number),
+        Elements::Made(set) => lent_at(set.items(), number),
+        Elements::Numbers(low, high) => made_at(*low, *high, number),
+    }
+}
+
+/// The value at a place, lent, where there is one.
+fn lent_at<'e>(values: &'e [Value], number: usize) -> Option<Evaluated<'e>>
+    ensures { option_map tree_of_evaluated result ≡ slice_get (map tree_of values.now) number }
+{
+    match values.get(number) {
+        Some(value) => Some(Evaluated::Borrowed(value)),
+        None => None,
+    }
+}
+
+/// One of the numbers from `low` to `high`, made, counted from 0, where there is one.
+fn made_at<'e>(low: i64, high: i64, number: usize) -> Option<Evaluated<'e>>
+    ensures { option_map tree_of_evaluated result ≡ slice_get (range_of low high) number }
+{
+    match value_at(low, high, number) {
+        Some(value) => Some(Evaluated::Owned(value)),
+        None => None,
+    }
+}
+
+/// One of the numbers from `low` to `high` as a value, counted from 0, where there is one.
+fn value_at(low: i64, high: i64, number: usize) -> Option<Value>
+    ensures { option_map tree_of result ≡ slice_get (range_of low high) number }
+{
+    match number_at(low, high, number) {
+        Some(number) => Some(Value::Int(number)),
+        None => None,
+    }
+}
+
+/// One of the numbers from `low` to `high`, counted from 0, where there is one.
+fn number_at(low: i64, high: i64, number: usize) -> Option<i64>
+    ensures { option_map int result ≡ slice_get (range_of low high) number }
+{
+    match low.checked_add_unsigned(number as u64) {
+        Some(sum) => { if sum <= high { Some(sum) } else { None } }
+        None => None,
+    }
+}
+
+/// The element with a number, as a value of its own. That there is none is what CHOOSE tells.
+pub fn chosen_at<'e>(
+    alloc: Global,
+    place: Place,
+    elements: &'e Elements<'e>,
+    number: usize,
+) -> Result<Value, Fault>
+    ensures { Gives result (or_fault NoChoice place (slice_get (elements_of elements.now) number)) }
+{
+    match element_at(elements, number) {
+        Some(element) => element.into_value(alloc),
+        None => Err(fault_at(FaultCode::NoChoice, place)),
+    }
+}
+
+/// Adds the element with a number at the end, if it is to be kept.
+pub fn keep_at<'e>(
+    alloc: Global,
+    kept: &mut Vec<Value>,
+    elements: &'e Elements<'e>,
+    number: usize,
+    keep: bool,
+) -> Result<(), Fault>
+    ensures ok { OnOk result (map tree_of kept.new.items ≡ cond keep (map tree_of kept.old.items ++ option_to_list (slice_get (elements_of elements.now) number)) (map tree_of kept.old.items)) }
+    ensures err { IfErr result (λ f. f ≡ out_of_memory) }
+{
+    if !keep {
+        return Ok(());
+    }
+    match element_at(elements, number) {
+        Some(element) => {
+            kept.push(element.into_value(alloc)?)?;
+            Ok(())
+        }
+        None => Ok(()),
+    }
+}
+
+/// The elements, as values of their own.
+pub fn into_values(alloc: Global, elements: Elements<'_>) -> Result<Vec<Value>, Fault>
+    ensures { GivesBy (λ v. map tree_of v.items) result (Ok (elements_of elements.entry)) }
+{
+    match elements {
+        Elements::Lent(values) => copies_of(alloc, values),
+        Elements::Made(set) => match set.into_items() {
+            Ok(values) => Ok(values),
+            Err(_) => Err(memory()),
+        },
+        Elements::Numbers(low, high) => listed(alloc, low, high),
+    }
+}
+
+/// Copies of some values.
+fn copies_of(alloc: Global, values: &[Value]) -> Result<Vec<Value>, Fault>
+    ensures ok { IfOk result (λ v. v.items ≡ values.now) }
+    ensures err { IfErr result (λ f. f ≡ out_of_memory) }
+{
+    let mut copies = Vec::with_capacity(alloc, values.len())?;
+    for value in values {
+        copies.push(copied(alloc, value)?)?;
+    }
+    Ok(copies)
+}
+
+/// The numbers from `low` to `high`.
+fn listed(alloc: Global, low: i64, high: i64) -> Result<Vec<Value>, Fault>
+    ensures ok { IfOk result (λ v. map tree_of v.items ≡ range_of low high) }
+    ensures err { IfErr result (λ f. f ≡ out_of_memory) }
+{
+    if high < low {
+        return Ok(Vec::new(alloc));
+    }
+    let room = high.abs_diff(low).saturating_add(1);
+    let mut numbers = Vec::with_capacity(alloc, room as usize)?;
+    for place in 0..usize::MAX {
+        match value_at(low, high, place) {
+            Some(number) => numbers.push(number)?,
+            None => return Ok(numbers),
+        }
+    }
+    Err(memory())
+}

@@ -1,0 +1,151 @@
+//! Fields, and sets of records.
+ghost use Rattle.std.specs.Prelude.{◌≡◌, length, map, option_map};
+ghost use Rattle.std.specs.List.{list_all};
+ghost use Rattle.tla_value.specs.Tree.{text, set, trees};
+ghost use Rattle.tla_value.specs.TreeOf.{tree_of, pair_of};
+ghost use Rattle.tla_value.specs.Order.{tree_eq};
+ghost use Rattle.tla_value.specs.Funs.{arguments, value_at};
+ghost use Rattle.tla_value.specs.Sets.{is_member, set_of};
+ghost use Rattle.tla_value.specs.Choices.{keys_of, is_each_once};
+ghost use Rattle.tla_core.specs.ExprOf.{fields_of_cores};
+ghost use Rattle.tla_operators.specs.Evaluated.{tree_of_evaluated};
+ghost use Rattle.tla_operators.specs.Gives.{Gives, GivesBy};
+ghost use Rattle.tla_sets.specs.Fields.{named_sets, records_rule};
+
+use std::alloc::Global;
+use tla_core::{Core, Fault, FaultCode, Place};
+use tla_operators::evaluated::Evaluated;
+use tla_operators::rules::{copied_text, fault_at};
+use tla_operators::sets::{copied_set, made_functions};
+use tla_value::{FunValue, SetValue, Text, Value};
+
+/// The records with each field in the value beside it.
+pub fn records_with(
+    alloc: Global,
+    place: Place,
+    fields: &[(Text, Core)],
+    values: &[Evaluated<'_>],
+) -> Result<Value, Fault>
+    requires { length fields.now ≡ length values.now }
+    ensures { Gives result (records_rule place (fields_of_cores fields.now) (map tree_of_evaluated values.now)) }
+{
+    let sets = named_sets(alloc, place, fields, values)?;
+    if are_different(fields) {
+        made_functions(place, SetValue::record_set(alloc, sets.as_slice()))
+    } else {
+        Err(fault_at(FaultCode::NoField, place))
+    }
+}
+
+/// The names of some fields, each with the value beside it, which has to be a set.
+fn named_sets(
+    alloc: Global,
+    place: Place,
+    fields: &[(Text, Core)],
+    values: &[Evaluated<'_>],
+) -> Result<Vec<(Text, SetValue)>, Fault>
+    requires { length fields.now ≡ length values.now }
+    ensures { GivesBy (λ v. v.items) result (named_sets place (fields_of_cores fields.now) (map tree_of_evaluated values.now)) }
+{
+    let mut sets = Vec::with_capacity(alloc, fields.len())?;
+    for i in 0..fields.len() {
+        let set = copied_set(alloc, place, values[i].value())?;
+        sets.push((copied_text(alloc, &fields[i].0)?, set))?;
+    }
+    Ok(sets)
+}
+
+/// Whether two names are the same.
+fn is_same_name(left: &Text, right: &Text) -> bool
+    ensures { result ≡ tree_eq (text left.now) (text right.now) }
+{
+    left.as_str().cmp(&right.as_str()).is_eq()
+}
+
+/// Whether a name is the name of one of some fields.
+fn is_name_of(name: &Text, fields: &[(Text, Core)]) -> bool
+    ensures { result ≡ is_member (text name.now) (keys_of (fields_of_cores fields.now)) }
+{
+    for field in fields {
+        if is_same_name(name, &field.0) {
+            return true;
+        }
+    }
+    false
+}
+
+/// Whether no name stands twice.
+fn are_different(fields: &[(Text, Core)]) -> bool
+    ensures { result ≡ is_each_once (keys_of (fields_of_cores fields.now)) }
+{
+    for i in 0..fields.len() {
+        if is_name_of(&fields[i].0, &fields[i + 1..]) {
+            return false;
+        }
+    }
+    true
+}
+
+/// Whether an argument is a name.
+fn is_name(argument: &Value, name: &Text) -> bool
+    ensures { result ≡ tree_eq (text name.now) (tree_of argument.now) }
+{
+    match argument {
+        Value::Text(text) => is_same_name(name, text),
+        _ => false,
+    }
+}
+
+/// The value of a field among some pairs.
+pub fn field_in<'a>(pairs: &'a [(Value, Value)], name: &Text) -> Option<&'a Value>
+    ensures { option_map (λ v. tree_of v.now) result ≡ value_at (text name.now) (map pair_of pairs.now) }
+{
+    for pair in pairs {
+        if is_name(&pair.0, name) {
+            return Some(&pair.1);
+        }
+    }
+    None
+}
+
+/// Whether there is a pair for each field.
+fn has_fields(pairs: &[(Value, Value)], fields: &[(Text, Core)]) -> bool
+    ensures { result ≡ list_all (λ k. is_member k (arguments (map pair_of pairs.now))) (keys_of (fields_of_cores fields.now)) }
+{
+    for field in fields {
+        if field_in(pairs, &field.0).is_none() {
+            return false;
+        }
+    }
+    true
+}
+
+/// Whether an argument is the name of one of some fields.
+fn is_field(argument: &Value, fields: &[(Text, Core)]) -> bool
+    ensures { result ≡ is_member (tree_of argument.now) (keys_of (fields_of_cores fields.now)) }
+{
+    match argument {
+        Value::Text(name) => is_name_of(name, fields),
+        _ => false,
+    }
+}
+
+/// Whether the argument of each pair is a field.
+fn are_fields(pairs: &[(Value, Value)], fields: &[(Text, Core)]) -> bool
+    ensures { result ≡ list_all (λ a. is_member a (keys_of (fields_of_cores fields.now))) (arguments (map pair_of pairs.now)) }
+{
+    for pair in pairs {
+        if !is_field(&pair.0, fields) {
+            return false;
+        }
+    }
+    true
+}
+
+/// Whether the arguments of a function are just the names of some fields.
+pub fn has_just(function: &FunValue, fields: &[(Text, Core)]) -> bool
+    ensures { result ≡ tree_eq (set (trees (arguments function.now))) (set (trees (set_of (keys_of (fields_of_cores fields.now))))) }
+{
+    let pairs = function.pairs();
+    are_fields(pairs, fields) && has_fields(pairs, fields)
+}
