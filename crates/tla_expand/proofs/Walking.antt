@@ -378,6 +378,18 @@ module _ (whole : Option Expr) (es : List Entry) (left : List Left) (gone : List
       parts = λ e q y. let p = w.parts e q y in (are_met_append (λ i. has_name i e) es left more p.0 (g (λ i. has_name i e) p.1), tt, p.2);
     }
 
+    -- what is looked at is met
+    pub put_none : ((m : ℕ → Bool) → EachIs (λ i. m i ≡ true) met → IsMet m o) → IsWalk whole es left gone met
+    put_none f = record {
+      linked = w.linked;
+      inside = w.inside;
+      known = w.known;
+      passed = w.passed;
+      whole_met = λ m u a n. w.whole_met m u a (f m u);
+      ends_met = λ m u. ends_weaker m es left (IsMet m o) (Unit {0}) (λ n. f m u) (w.ends_met m u);
+      parts = λ e q y. let p = w.parts e q y in (p.0, tt, p.2);
+    }
+
     -- what is looked at is a variable
     pub put_variable : (p : Place) (i : ℕ) (more : List ℕ) → o ≡ Some (now p i) → more ≡ insert_key nat_eq met i → IsWalk whole es left gone more
     put_variable p i more q added = rw added (record {
