@@ -1,5 +1,5 @@
 -- The formula that SPECIFICATION names, as the code finds it.
-use Rattle.std.proofs.Common.{◌≡◌, ℕ, refl, ap, sym, ◌∙◌, subst, length, get_or, arith, inl, inr, Bool, true, false, ◌||◌, Option, List, [], ◌∷◌, Some, None}
+use Rattle.std.proofs.Common.{◌≡◌, ◌≤◌, ℕ, refl, ap, sym, ◌∙◌, subst, length, get_or, arith, inl, inr, Bool, true, false, ◌||◌, Option, List, [], ◌∷◌, Some, None}
 use Rattle.std.specs.Borrow.{Bor}
 use Rattle.tla_tree.specs.declared.tree.Expr as s
 use Rattle.tla_tree.specs.declared.word.Written.{Written}

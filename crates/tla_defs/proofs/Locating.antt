@@ -29,7 +29,7 @@ use Rattle.tla_defs.specs.Global.{global}
 use Rattle.tla_formulas.specs.Formulas.{meaning_in}
 use Rattle.tla_defs.specs.Model.{assumptions_of, invariants_named, constraints_named}
 use Rattle.tla_formulas.specs.Refused.{IsCause, IsOfFormula}
-use Rattle.tla_defs.specs.Refused.{Behaviour, Named, Specified, behaviour, behaviour_refused, refused, IsLast, IsRefusal, refusal_is, IsOfAssumption, IsOfPredicate, IsOfSome, of_assumption, of_initial, of_action, of_invariant, of_constraint, IsTooLarge}
+use Rattle.tla_defs.specs.Refused.{Behaviour, Named, Specified, behaviour, behaviour_refused, refused, IsLast, IsRefusal, refusal_is, IsOfAssumption, IsOfPredicate, IsOfSome, of_assumption, of_initial, of_action, of_invariant, of_constraint}
 use Rattle.tla_names.specs.Refusal.{items_refused, constant_refused, refusal_for}
 
 -- the refusal, if there is one

@@ -15,7 +15,6 @@ use Rattle.tla_expand.specs.Meanings.{Scope}
 use Rattle.tla_model.specs.ModelTree.{ModelTree}
 use Rattle.tla_defs.specs.Private.Formulas.{LacksPredicate, LacksAssumption}
 use Rattle.tla_defs.specs.Global.{global}
-use Rattle.std.specs.Prelude.{◌⊎◌}
 use Rattle.tla_names.specs.Constants.{unvalued}
 use Rattle.tla_names.specs.Misuses.{misuse, variables_of}
 use Rattle.tla_names.specs.Items.{definitions_of, replaceable_of, nameable_of, replaced_names, items_misused}
@@ -24,7 +23,7 @@ use Rattle.tla_names.specs.Circles.{AreStraight, IsFirstCircle}
 use Rattle.tla_formulas.specs.Formulas.{IsInitial, IsAction}
 use Rattle.tla_defs.specs.Model.{IsModel, IsBehaviour, AreStatePredicates, AreAssumptions, assumptions_of, invariants_named, constraints_named}
 use Rattle.tla_names.specs.Named.{names_misused}
-use Rattle.tla_defs.specs.Refused.{Behaviour, Named, Specified, refused, behaviour, NoForm, HasTooMany, IsLast, IsRefusal, IsTooLarge}
+use Rattle.tla_defs.specs.Refused.{Behaviour, Named, Specified, refused, behaviour, NoForm, HasTooMany, IsLast, IsRefusal}
 use Rattle.tla_defs.specs.Private.Specified.{form_refused, HasMany, MayBeLast, NoneMeant}
 use Rattle.tla_names.specs.Refusal.{items_refused, refusal_at, refusal_for, IsOfCircle}
 use Rattle.tla_defs.proofs.Behaviours.{behaviour_found}

@@ -1,6 +1,5 @@
 -- Why a module and a configuration name no model: the first step that refuses them, and where (this project's own choice).
 use Rattle.std.specs.Prelude.{◌≡◌, ◌≤◌, ◌⊎◌, ℕ, true, is_some, length, List, [], ◌∷◌, Option, Some, None, Result, Ok, Err}
-use Rattle.tla_core.specs.Expr.{Expr}
 use Rattle.tla_lex.specs.declared.token.Place.{Place}
 use Rattle.tla_tree.specs.declared.word.Written.{Written}
 use Rattle.tla_tree.specs.Tree.{Tree}

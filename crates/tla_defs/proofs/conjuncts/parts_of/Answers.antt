@@ -13,7 +13,7 @@ loop-turn-preserved c =
     let all = conjuncts c.args.names b (view c.args.whole.now) in
     let ss = steps_of all in
     let es = initials_by φ all in
-    c.in_ok-go_on.ensures.ok ss es (subst (λ (fs : List Formula). AreFoundOrLeft φ b fs c.loop-turn.walk.parts ss es) c.in-Some.ensures.items c.loop-turn.invariant)
+    c.in_ok-go_on.ensures.ok ss es (subst (λ (fs : List Formula). AreFoundOrLeft φ b fs c.loop-turn.walk.parts ss es) c.in-Some-pop.ensures.items c.loop-turn.invariant)
 
 pub returns-in-Some-clause-refused : goal.returns-in-Some-clause-refused
 returns-in-Some-clause-refused c = λ h.
