@@ -73,6 +73,7 @@ pub(crate) struct Setting {
 }
 
 /// A node without parts.
+#[inline(never)]
 fn leaf_of<'a>(
     alloc: Global,
     place: Place,
@@ -87,6 +88,7 @@ fn leaf_of<'a>(
 }
 
 /// A variable, under so many primes.
+#[inline(never)]
 fn variable_of(place: Place, index: usize, primes: Primes, left: usize) -> Result<Expanded, Failure>
     ensures { (room : ℕ) → Gives (room + 1) (left + 1) result (primed_now primes place index) }
 {

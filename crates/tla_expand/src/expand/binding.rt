@@ -39,6 +39,7 @@ struct Under<'a> {
 
 /// A body under the names of a binder list.
 #[cycle(expand)]
+#[inline(never)]
 pub(super) fn bound_several<'a>(
     alloc: Global,
     entries: &mut Entries<'_, 'a>,
@@ -69,6 +70,7 @@ pub(super) fn bound_several<'a>(
 
 /// A body under one entry.
 #[cycle(expand)]
+#[inline(never)]
 pub(super) fn bound_one<'a>(
     alloc: Global,
     entries: &mut Entries<'_, 'a>,
