@@ -45,6 +45,22 @@ fn members(rt: HostRuntime) -> Result<(), Fail> {
     Ok(())
 }
 
+// What is refused for its number or its depth alone, where expressions come by other calls.
+#[test]
+fn beyond_the_limits(rt: HostRuntime) -> Result<(), Fail> {
+    let alloc = rt.alloc();
+    let mut million = SetValue::range(alloc, 1, 1_000_000)?;
+    let one_more = million.insert(Value::Int(0));
+    assert!(rt; one_more == Err(ValueError::TooMany));
+    assert!(rt; million.len() == 1_000_000);
+    let pairs = numbered_pairs(alloc, 1_000_001)?;
+    let too_many = FunValue::from_pairs(pairs);
+    assert!(rt; matches!(too_many, Err(ValueError::TooMany)));
+    let too_deep = one_pair(alloc)?.except(alloc, &Value::Int(1), nested(alloc, 64)?);
+    assert!(rt; matches!(too_deep, Err(ValueError::TooDeep)));
+    Ok(())
+}
+
 // A product of no sets, and records without fields.
 #[test]
 fn one_choice_of_nothing(rt: HostRuntime) -> Result<(), Fail> {
@@ -78,6 +94,15 @@ fn a_refused_growth_changes_nothing(rt: HostRuntime) {
         Ok(set) => assert!(rt; set.len() == 20),
         Err(error) => assert!(rt; error == ValueError::Memory),
     }
+}
+
+// Pairs of so many numbers, each with itself.
+fn numbered_pairs(alloc: Global, count: i64) -> Result<Vec<(Value, Value)>, ValueError> {
+    let mut pairs = Vec::new(alloc);
+    for number in 0..count {
+        pairs.push((Value::Int(number), Value::Int(number)))?;
+    }
+    Ok(pairs)
 }
 
 // The function from 1 to 7.
