@@ -4,7 +4,6 @@ use Rattle.std.proofs.lemmas.Grind.{not_there}
 use Rattle.std.specs.Int.{w64}
 use Rattle.std.specs.Str.{IsUtf8}
 use Rattle.tla_lex.specs.Strings.{unescaped, string_text}
-use Rattle.tla_lex.specs.declared.token.Kind.{Kind}
 use Rattle.tla_lex.specs.declared.token.Kind.TheVariants as k
 use Rattle.tla_lex.specs.declared.token.Token.{Token}
 use Rattle.tla_tree.specs.Words.{word_of}
@@ -15,14 +14,15 @@ use Rattle.tla_config.specs.declared.refusal.Refusal.TheVariants as refusal
 use Rattle.tla_config.specs.Configuration.{Has, SpellsLiteral}
 use Rattle.tla_config.specs.Private.Fronts.{kind_at, digits_of}
 use Rattle.tla_config.specs.Beyond.{IsBeyond, itself}
-use Rattle.tla_config.specs.Private.Gives.{Because, Nowhere, Anything, Fails}
-use Rattle.tla_config.specs.Private.GivesValues.{IsValueAt, NoValue, AtomBeyond, BeyondIn}
+use Rattle.tla_config.specs.Private.Gives.{Because, Nowhere, Fails}
+use Rattle.tla_config.specs.Private.GivesValues.{IsValueAt, NoValue, WritesNone, AtomBeyond, BeyondIn, IsUnwritten}
 use Rattle.tla_config.proofs.Arms.{because_map}
 use Rattle.tla_config.specs.Private.Keywords.{keywords, lookup}
 use Rattle.tla_config.specs.Literals.{Literal, atom, braces, value_of, number, atom_of}
-use Rattle.tla_config.proofs.Fronts.{one_token, kind_found, digits_found, digits_is}
+use Rattle.tla_config.proofs.Fronts.{one_token, kind_found, kind_none, digits_found, digits_is}
 use Rattle.tla_config.proofs.Words.{name_word}
 use Rattle.tla_config.proofs.Literals.{two_kinds, atom_kind, opens}
+use Rattle.tla_config.proofs.Beyond.{NoLiteral, value_within, unwritten}
 
 pub no_bytes : (literal : List ℕ) → length literal < 1 → string_text literal ≡ []
 unfolding unescaped
@@ -48,7 +48,7 @@ module _ (source : List ℕ) (ts : List Token) where
   text_fails e item w P (inr h) f = rw h.0 (f h.1)
 
   pub text_because : (e : Refusal) (item : ℕ) (t : Token) (w : List ℕ) (v : Tree) → atom_of source t ≡ Some v → (IsValue v → ∥ IsUtf8 w ∥₁) → NoText e item w
-      → Because e Nowhere (λ n. (n ≡ item) × AtomBeyond source t) Anything
+      → Because e Nowhere (λ n. (n ≡ item) × AtomBeyond source t) (WritesNone source t)
   text_because e item t w v h f (inl m) = rw m tt
   text_because e item t w v h f (inr m) = rw m.0 (refl, (v, h, λ x. not_there (f x) m.1))
 
@@ -71,19 +71,10 @@ module _ (source : List ℕ) (ts : List Token) where
   pub atom_is : (at : ℕ) (t : Token) (v : Tree) → slice_get ts at ≡ Some t → atom_of source t ≡ Some v → IsValue v → IsValueAt source ts v at (at + 1)
   atom_is at t v h a x = record { literal = atom v; spelled = inl (t, h, a, refl); meaning = refl; is_value = x }
 
-  not_kind : (at : ℕ) (kind : Kind) → kind_at kind (slice_get ts at) ≡ false → ((t : Token) → t.kind ≡ kind → kind_at kind (Some t) ≡ true) → Has source ts kind at → ⊥
-  not_kind at kind e f x = let g : kind_at kind (slice_get ts at) ≡ true = ap (λ o. kind_at kind o) x.1 ∙ f x.0 x.2 in (let z : ⊥ = cc in z)
-
-  minus_is : (t : Token) → t.kind ≡ k.Minus → kind_at k.Minus (Some t) ≡ true
-  minus_is t h = rw h refl
-
-  brace_is : (t : Token) → t.kind ≡ k.LeftBrace → kind_at k.LeftBrace (Some t) ≡ true
-  brace_is t h = rw h refl
-
   pub no_atom : (room at : ℕ) (t : Token) → slice_get ts at ≡ Some t → kind_at k.LeftBrace (slice_get ts at) ≡ false → kind_at k.Minus (slice_get ts at) ≡ false → NoAtom t → NoValue source ts room at
   no_atom room at t h p q f (atom v) to (inl a) x d = f v (ap (λ u. atom_of source u) (one_token (slice_get ts at) t a.0 h a.1) ∙ a.2) x
-  no_atom room at t h p q f (atom v) to (inr a) x d = not_kind at k.Minus q minus_is a.0
-  no_atom room at t h p q f (braces ls) to a x d = not_kind at k.LeftBrace p brace_is (opens source ts ls at to a)
+  no_atom room at t h p q f (atom v) to (inr a) x d = kind_none source ts k.Minus at refl q a.0
+  no_atom room at t h p q f (braces ls) to a x d = kind_none source ts k.LeftBrace at refl p (opens source ts ls at to a)
 
   -- a number behind a minus sign
   only_negated : (at : ℕ) (t : Token) → Has source ts k.Minus at → (l : Literal) (to : ℕ) → SpellsLiteral source ts l at to
@@ -102,10 +93,25 @@ module _ (source : List ℕ) (ts : List Token) where
   pub atom_beyond : (room at : ℕ) (t : Token) → slice_get ts at ≡ Some t → AtomBeyond source t → IsBeyond source ts room at
   atom_beyond room at t h b = itself room at (at + 1) (atom b.0) (inl (t, h, b.1, refl)) b.2
 
-  pub atom_because : (r : Refusal) (item room at : ℕ) (t : Token) → slice_get ts at ≡ Some t → Because r Nowhere (λ n. (n ≡ item) × AtomBeyond source t) Anything
-      → Because r Nowhere (BeyondIn source ts item room at) Anything
-  atom_because r item room at t h x = because_map r Nowhere (λ n. (n ≡ item) × AtomBeyond source t) Nowhere (BeyondIn source ts item room at) Anything Anything
-      (λ n y. y) (λ n y. (y.0, atom_beyond room at t h y.1)) (λ y. y) x
+  -- a token that writes no value
+  no_spelled : (at : ℕ) (t : Token) → slice_get ts at ≡ Some t → kind_at k.LeftBrace (slice_get ts at) ≡ false → kind_at k.Minus (slice_get ts at) ≡ false → WritesNone source t → NoLiteral source ts at
+  no_spelled at t h p q f (atom v) to (inl a) = let e = one_token (slice_get ts at) t a.0 h a.1 in let n : atom_of source a.0 ≡ None = ap (λ u. atom_of source u) (sym e) ∙ f in let m = a.2 in (let z : ⊥ = cc in z)
+  no_spelled at t h p q f (atom v) to (inr a) = kind_none source ts k.Minus at refl q a.0
+  no_spelled at t h p q f (braces ls) to a = kind_none source ts k.LeftBrace at refl p (opens source ts ls at to a)
+
+  pub atom_because : (r : Refusal) (item room at : ℕ) (t : Token) → slice_get ts at ≡ Some t → kind_at k.LeftBrace (slice_get ts at) ≡ false → kind_at k.Minus (slice_get ts at) ≡ false
+      → Because r Nowhere (λ n. (n ≡ item) × AtomBeyond source t) (WritesNone source t) → Because r Nowhere (BeyondIn source ts item room at) (IsUnwritten source ts room at)
+  atom_because r item room at t h p q x = because_map r Nowhere (λ n. (n ≡ item) × AtomBeyond source t) Nowhere (BeyondIn source ts item room at) (WritesNone source t) (IsUnwritten source ts room at)
+      (λ n y. y) (λ n y. (y.0, atom_beyond room at t h y.1)) (λ f. unwritten source ts room at (kind_none source ts k.LeftBrace at refl p) (no_spelled at t h p q f)) x
+
+  -- no token is there
+  no_token : (at : ℕ) → slice_get ts at ≡ None → NoLiteral source ts at
+  no_token at h (atom v) to (inl a) = let e = a.1 in (let z : ⊥ = cc in z)
+  no_token at h (atom v) to (inr a) = let e = a.0.1 in (let z : ⊥ = cc in z)
+  no_token at h (braces ls) to a = let e = (opens source ts ls at to a).1 in (let z : ⊥ = cc in z)
+
+  pub token_unwritten : (room at : ℕ) → slice_get ts at ≡ None → IsUnwritten source ts room at
+  token_unwritten room at h = unwritten source ts room at (λ b. let e = b.1 in (let z : ⊥ = cc in z)) (no_token at h)
 
   pub negated_beyond : (room at : ℕ) (t : Token) → kind_at k.Minus (slice_get ts at) ≡ true → digits_of (slice_get ts (at + 1)) ≡ Some t → (FitsSigned w64 (number true (word_of source t)) → ⊥) → IsBeyond source ts room at
   negated_beyond room at t m h f =
@@ -126,3 +132,16 @@ module _ (source : List ℕ) (ts : List Token) where
       let e = one_token (digits_of (slice_get ts (at + 1))) n.0 t n.1 h in
       let y : IsValue (int (number true (word_of source n.0))) = subst (λ v. IsValue v) n.2 x in
       f (subst (λ u. FitsSigned w64 (number true (word_of source u))) e y)
+
+  minus_no_brace : (at : ℕ) → kind_at k.Minus (slice_get ts at) ≡ true → Has source ts k.LeftBrace at → ⊥
+  minus_no_brace at m b = two_kinds source ts at k.Minus k.LeftBrace (λ e. let z : ⊥ = cc in z) (kind_found k.Minus (slice_get ts at) m) b
+
+  pub negated_unwritten : (at : ℕ) → kind_at k.Minus (slice_get ts at) ≡ true → digits_of (slice_get ts (at + 1)) ≡ None → (room : ℕ) → IsUnwritten source ts room at
+  negated_unwritten at m h room = unwritten source ts room at (minus_no_brace at m) (λ l to a.
+      let k0 = kind_found k.Minus (slice_get ts at) m in
+      let n = only_negated at k0.0 k0 l to a in
+      let e = n.1 in
+      (let z : ⊥ = cc in z))
+
+  pub negated_within : (at to : ℕ) (v : Tree) → kind_at k.Minus (slice_get ts at) ≡ true → IsValueAt source ts v at to → (room : ℕ) → IsBeyond source ts room at → ⊥
+  negated_within at to v m found room = value_within source ts room at to v (minus_no_brace at m) found

@@ -1,5 +1,5 @@
 -- What stands at a token.
-use Rattle.std.proofs.Common.{◌≡◌, ℕ, ◌<◌, true, List, Option, Some, None, ◌⊎◌, inl, inr, slice_get, refl, sym, ap, ◌∙◌, length}
+use Rattle.std.proofs.Common.{◌≡◌, ℕ, ◌<◌, true, false, List, Option, Some, None, ◌⊎◌, inl, inr, slice_get, refl, sym, ap, ◌∙◌, length}
 use Rattle.std.proofs.lemmas.Option.{slice_get_within}
 use Rattle.tla_lex.specs.declared.token.Kind.{Kind}
 use Rattle.tla_lex.specs.declared.token.Kind.TheVariants as k
@@ -87,6 +87,9 @@ module _ (text : List ℕ) (ts : List Token) where
   -- a token of a kind
   pub kind_is : (kind : Kind) (at : ℕ) → same_kind kind kind ≡ true → Has text ts kind at → kind_at kind (slice_get ts at) ≡ true
   kind_is kind at e x = rw (x.1, x.2) e
+
+  pub kind_none : (kind : Kind) (at : ℕ) → same_kind kind kind ≡ true → kind_at kind (slice_get ts at) ≡ false → Has text ts kind at → ⊥
+  kind_none kind at e f x = let g = kind_is kind at e x in (let z : ⊥ = cc in z)
 
   -- the word of a statement
   with_some : (o : Option Keyword) (p q : Place) (j : Keyword) → with_place o p ≡ Some (j, q) → (o ≡ Some j) × (p ≡ q)

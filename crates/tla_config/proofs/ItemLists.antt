@@ -1,20 +1,22 @@
 -- Items, and a list of them, found item by item.
-use Rattle.std.proofs.Common.{◌≡◌, ◌≤◌, ℕ, ◌+◌, true, List, [], ◌∷◌, ◌++◌, Some, inl, inr, slice_get, refl, sym, ap, subst, ◌∙◌, append_assoc, arith}
+use Rattle.std.proofs.Common.{◌≡◌, ◌≤◌, ℕ, ◌+◌, true, false, List, [], ◌∷◌, ◌++◌, Some, ◌⊎◌, inl, inr, slice_get, refl, sym, ap, subst, ◌∙◌, append_assoc, arith}
 use Rattle.tla_lex.specs.declared.token.Kind.TheVariants as k
 use Rattle.tla_lex.specs.declared.token.Token.{Token}
 use Rattle.tla_tree.specs.declared.word.Written.{Written}
 use Rattle.tla_value.specs.IsValue.{IsValue}
 use Rattle.tla_value.specs.Tree.{Tree, Trees, Pairs, truth, int, text, model, set, fun, no_trees, more_trees, no_pairs, more_pairs, trees, pairs, members, entries, depth, deepest, deepest_pair}
 use Rattle.tla_config.specs.declared.refusal.Refusal.{Refusal}
+use Rattle.tla_config.specs.declared.refusal.Refusal.TheVariants as refusal
+use Rattle.tla_config.specs.Beyond.{IsBeyond}
 use Rattle.tla_config.specs.Configuration.{Has, IsName, SpellsItem, Items}
 use Rattle.tla_config.specs.Private.Fronts.{kind_at}
-use Rattle.tla_config.specs.Private.Gives.{Because, Nowhere, Anything, Ends, GoesOn, LeftOutBehind, TooLargeBehind}
+use Rattle.tla_config.specs.Private.Gives.{Because, Nowhere, Anything, Fails, Ends, GoesOn, LeftOutHere, TooLargeHere, ClearItem, LeftOutBehind, TooLargeBehind, ClearItems}
 use Rattle.tla_config.specs.Refusals.{IsLeftOutItem, IsTooLargeItem, ItemsUpTo}
-use Rattle.tla_config.specs.Private.GivesValues.{NoValue, NoItem, AreItems, NoItems, BeyondIn}
+use Rattle.tla_config.specs.Private.GivesValues.{NoValue, NoItem, AreItems, NoItems, BeyondIn, IsUnwritten}
 use Rattle.tla_config.specs.Literals.{value_of}
 use Rattle.tla_config.specs.Statements.{Item, Value, Replaces}
 use Rattle.tla_config.proofs.Arms.{because_map}
-use Rattle.tla_config.proofs.Fronts.{one_name, kind_found}
+use Rattle.tla_config.proofs.Fronts.{one_name, kind_found, kind_none}
 use Rattle.tla_config.proofs.Literals.{two_kinds, one_literal}
 use Rattle.tla_config.proofs.NameLists.{Between, same_next, goes_on_ends}
 
@@ -79,11 +81,96 @@ module _ (source : List ℕ) (ts : List Token) where
   pub bracket_left_out : (at : ℕ) (w : Written) → IsName source ts w at → kind_at k.Substitute (slice_get ts (at + 1)) ≡ true → kind_at k.LeftBracket (slice_get ts (at + 2)) ≡ true → IsLeftOutItem source ts at
   bracket_left_out at w n e b = ((w, n), kind_found k.Substitute (slice_get ts (at + 1)) e, kind_found k.LeftBracket (slice_get ts (at + 2)) b)
 
-  -- the value of an item is refused
-  pub value_because : (r : Refusal) (at : ℕ) (w : Written) → IsName source ts w at → kind_at k.Equal (slice_get ts (at + 1)) ≡ true → Because r Nowhere (BeyondIn source ts at 64 (at + 2)) Anything
-      → Because r (λ n. IsLeftOutItem source ts at × (n ≡ at + 2)) (λ n. IsTooLargeItem source ts at × (n ≡ at)) Anything
-  value_because r at w n e x = because_map r Nowhere (BeyondIn source ts at 64 (at + 2)) (λ m. IsLeftOutItem source ts at × (m ≡ at + 2)) (λ m. IsTooLargeItem source ts at × (m ≡ at)) Anything Anything
-      (λ m y. absurd y) (λ m y. (((w, n), kind_found k.Equal (slice_get ts (at + 1)) e, y.1), y.0)) (λ y. y) x
+  -- nothing is left out in the item, nor too large
+  clear_item : (at : ℕ) → (Has source ts k.Substitute (at + 1) → Has source ts k.LeftBracket (at + 2) → ⊥) → (Has source ts k.Equal (at + 1) → IsBeyond source ts 64 (at + 2) → ⊥) → ClearItem source ts at
+  clear_item at f g = record { no_left = λ n x. f x.0.1 x.0.2; no_large = λ n x. g x.0.1 x.0.2 }
+
+  -- no name begins it
+  pub name_because : (r : Refusal) (at : ℕ) → Fails source ts r ((w : Written) → IsName source ts w at → ⊥) → Because r Nowhere Nowhere Anything
+      → Because r (LeftOutHere source ts at) (TooLargeHere source ts at) (ClearItem source ts at)
+  name_because (refusal.Unexpected n) at f x = record { no_left = λ m y. f y.0.0.0 y.0.0.1; no_large = λ m y. f y.0.0.0 y.0.0.1 }
+  name_because (refusal.LeftOut n) at f x = absurd x
+  name_because (refusal.TooLarge n) at f x = absurd x
+  name_because refusal.NoMemory at f x = tt
+
+  -- it has a value
+  pub value_clear : (at : ℕ) → kind_at k.Equal (slice_get ts (at + 1)) ≡ true → (IsBeyond source ts 64 (at + 2) → ⊥) → ClearItem source ts at
+  value_clear at e f = clear_item at (λ x y. arrow_equal (at + 1) (kind_found k.Equal (slice_get ts (at + 1)) e) x) (λ x. f)
+
+  pub value_because : (r : Refusal) (at : ℕ) (w : Written) → IsName source ts w at → kind_at k.Equal (slice_get ts (at + 1)) ≡ true → Because r Nowhere (BeyondIn source ts at 64 (at + 2)) (IsUnwritten source ts 64 (at + 2))
+      → Because r (LeftOutHere source ts at) (TooLargeHere source ts at) (ClearItem source ts at)
+  value_because r at w n e x = because_map r Nowhere (BeyondIn source ts at 64 (at + 2)) (LeftOutHere source ts at) (TooLargeHere source ts at) (IsUnwritten source ts 64 (at + 2)) (ClearItem source ts at)
+      (λ m y. absurd y) (λ m y. (((w, n), kind_found k.Equal (slice_get ts (at + 1)) e, y.1), y.0)) (λ y. value_clear at e y.within) x
+
+  -- it has neither a value nor an operator
+  pub neither_clear : (at : ℕ) → kind_at k.Equal (slice_get ts (at + 1)) ≡ false → kind_at k.Substitute (slice_get ts (at + 1)) ≡ false → ClearItem source ts at
+  neither_clear at e s = clear_item at (λ x y. kind_none source ts k.Substitute (at + 1) refl s x) (λ x y. kind_none source ts k.Equal (at + 1) refl e x)
+
+  -- it has no value, nor a replacement in another module
+  pub operator_clear : (at : ℕ) → kind_at k.Equal (slice_get ts (at + 1)) ≡ false → kind_at k.LeftBracket (slice_get ts (at + 2)) ≡ false → ClearItem source ts at
+  operator_clear at e b = clear_item at (λ x y. kind_none source ts k.LeftBracket (at + 2) refl b y) (λ x y. kind_none source ts k.Equal (at + 1) refl e x)
+
+  pub operator_because : (r : Refusal) (at : ℕ) → ClearItem source ts at → Because r Nowhere Nowhere Anything → Because r (LeftOutHere source ts at) (TooLargeHere source ts at) (ClearItem source ts at)
+  operator_because r at f x = because_map r Nowhere Nowhere (LeftOutHere source ts at) (TooLargeHere source ts at) Anything (ClearItem source ts at) (λ n y. absurd y) (λ n y. absurd y) (λ y. f) x
+
+  -- behind items from here on something is left out, or too large
+  abbrev HasCause : ℕ → Type 0
+  HasCause at = IsLeftOutItem source ts at ⊎ IsTooLargeItem source ts at
+
+  abbrev pub Reaches : ℕ → Type 0
+  Reaches at = (is : List Item) × (m : ℕ) × ItemsUpTo source ts is at m × HasCause m
+
+  cause_name : (at : ℕ) → HasCause at → (w : Written) × IsName source ts w at
+  cause_name at (inl x) = (x.0.0, x.0.1)
+  cause_name at (inr x) = (x.0.0, x.0.1)
+
+  reaches_name : (is : List Item) (at m : ℕ) → ItemsUpTo source ts is at m → HasCause m → (w : Written) × IsName source ts w at
+  reaches_name [] at m x h = cause_name at (subst (λ n. HasCause n) (sym x) h)
+  reaches_name (i ∷ is) at m x h = (constant_of i, item_name i at x.0 x.1)
+
+  none_here : (at : ℕ) → ClearItem source ts at → HasCause at → ⊥
+  none_here at clear (inl x) = clear.no_left (at + 2) (x, refl)
+  none_here at clear (inr x) = clear.no_large at (x, refl)
+
+  next_reaches : (i : Item) (at end : ℕ) → SpellsItem source ts i at end → ClearItem source ts at → (is : List Item) (m : ℕ) → ItemsUpTo source ts is at m → HasCause m
+      → (next : ℕ) × Between source ts end next × Reaches next
+  next_reaches i at end n clear [] m x h = absurd (none_here at clear (subst (λ q. HasCause q) (sym x) h))
+  next_reaches i at end n clear (j ∷ is) m x h =
+      let o = one_item j i at x.0 end x.1 n in
+      (x.2, subst (λ y. Between source ts y x.2) o.1 x.3, (is, m, x.4, h))
+
+  reaches_more : (i : Item) (at end next : ℕ) → SpellsItem source ts i at end → ClearItem source ts at → GoesOn source ts end (Some next) → Reaches at → Reaches next
+  reaches_more i at end next n clear g r =
+      let o = next_reaches i at end n clear r.0 r.1 r.2 r.3 in
+      let w = reaches_name o.2.0 o.0 o.2.1 o.2.2 o.2.3 in
+      subst (λ q. Reaches q) (same_next source ts w.0 end next o.0 g o.1 w.1) o.2
+
+  ends_there : (w : Written) (end next : ℕ) → Ends source ts end → IsName source ts w next → Between source ts end next → ⊥
+  ends_there w end next e n (inl d) = e.no_name w (subst (λ q. IsName source ts w q) d n)
+  ends_there w end next e n (inr d) = e.no_comma d.0
+
+  reaches_last : (i : Item) (at end : ℕ) → SpellsItem source ts i at end → ClearItem source ts at → Ends source ts end → Reaches at → ⊥
+  reaches_last i at end n clear e r =
+      let o = next_reaches i at end n clear r.0 r.1 r.2 r.3 in
+      let w = reaches_name o.2.0 o.0 o.2.1 o.2.2 o.2.3 in
+      ends_there w.0 end o.0 e w.1 o.1
+
+  none_reaches : (at : ℕ) → NoItem source ts at → ClearItem source ts at → (is : List Item) (m : ℕ) → ItemsUpTo source ts is at m → HasCause m → ⊥
+  none_reaches at fails clear [] m x h = none_here at clear (subst (λ q. HasCause q) (sym x) h)
+  none_reaches at fails clear (i ∷ is) m x h = fails i x.0 x.1
+
+  -- so it is behind each of the items
+  abbrev pub Onward : ℕ → ℕ → Type 0
+  Onward from at = Reaches from → Reaches at
+
+  clear_items : (from : ℕ) → (Reaches from → ⊥) → ClearItems source ts from
+  clear_items from f = record { no_left = λ n x. f (x.1.0, x.0, x.1.1, inl x.2); no_large = λ n x. f (x.0.0, n, x.0.1, inr x.1) }
+
+  pub onward_more : (i : Item) (from at end next : ℕ) → Onward from at → SpellsItem source ts i at end → ClearItem source ts at → GoesOn source ts end (Some next) → Onward from next
+  onward_more i from at end next on n clear g r = reaches_more i at end next n clear g (on r)
+
+  pub onward_last : (i : Item) (from at end : ℕ) → Onward from at → SpellsItem source ts i at end → ClearItem source ts at → Ends source ts end → ClearItems source ts from
+  onward_last i from at end on n clear e = clear_items from (λ r. reaches_last i at end n clear e (on r))
 
   -- these items stand between two tokens: whatever items begin at the second, they and these stand from the first, and no others do
   pub record ItemsSoFar (front : List Item) (from at : ℕ) : Type 0 where
@@ -159,8 +246,9 @@ module _ (source : List ℕ) (ts : List Token) where
   pub items_fail : (front : List Item) (from at : ℕ) → ItemsSoFar front from at → NoItem source ts at → NoItems source ts from
   items_fail front from at so fails = λ is to x e. let r = so.rest is to x e in none_rest r.0 at to fails r.2
 
-  pub items_because : (r : Refusal) (front : List Item) (from at : ℕ) → ItemsSoFar front from at
-      → Because r (λ n. IsLeftOutItem source ts at × (n ≡ at + 2)) (λ n. IsTooLargeItem source ts at × (n ≡ at)) Anything
-      → Because r (LeftOutBehind source ts from) (TooLargeBehind source ts from) Anything
-  items_because r front from at so x = because_map r (λ n. IsLeftOutItem source ts at × (n ≡ at + 2)) (λ n. IsTooLargeItem source ts at × (n ≡ at)) (LeftOutBehind source ts from) (TooLargeBehind source ts from) Anything Anything
-      (λ n y. (at, (front, so.before), y.0, y.1)) (λ n y. subst (λ m. TooLargeBehind source ts from m) (sym y.1) ((front, so.before), y.0)) (λ y. y) x
+  pub items_because : (r : Refusal) (front : List Item) (from at : ℕ) → ItemsSoFar front from at → Onward from at → Fails source ts r (NoItem source ts at)
+      → Because r (LeftOutHere source ts at) (TooLargeHere source ts at) (ClearItem source ts at) → Because r (LeftOutBehind source ts from) (TooLargeBehind source ts from) (ClearItems source ts from)
+  items_because (refusal.Unexpected n) front from at so on fails x = clear_items from (λ r. let o = on r in none_reaches at fails x o.0 o.1 o.2 o.3)
+  items_because (refusal.LeftOut n) front from at so on fails x = (at, (front, so.before), x.0, x.1)
+  items_because (refusal.TooLarge n) front from at so on fails x = subst (λ m. TooLargeBehind source ts from m) (sym x.1) ((front, so.before), x.0)
+  items_because refusal.NoMemory front from at so on fails x = tt

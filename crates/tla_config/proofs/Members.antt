@@ -9,10 +9,11 @@ use Rattle.tla_config.specs.Configuration.{Has, SpellsLiteral, SpellsMembers}
 use Rattle.tla_config.specs.declared.refusal.Refusal.{Refusal}
 use Rattle.tla_config.specs.declared.refusal.Refusal.TheVariants as refusal
 use Rattle.tla_config.specs.Beyond.{MembersUpTo, IsBeyond, itself, member}
-use Rattle.tla_config.specs.Private.Gives.{Because, Nowhere, Anything, Fails}
-use Rattle.tla_config.specs.Private.GivesValues.{IsValueAt, NoValue, BeyondIn}
+use Rattle.tla_config.specs.Private.Gives.{Because, Nowhere, Fails}
+use Rattle.tla_config.specs.Private.GivesValues.{IsValueAt, NoValue, BeyondIn, IsUnwritten}
 use Rattle.tla_config.proofs.Arms.{because_map}
 use Rattle.tla_config.specs.Literals.{Literal, Literals, atom, braces, no_literals, more_literals, value_of, values_of}
+use Rattle.tla_config.proofs.Beyond.{NoLiteral, Reaches, reaches_next, reaches_none, close_unwritten, set_within, set_unwritten}
 use Rattle.tla_config.proofs.Limits.{member_value, member_depth}
 use Rattle.tla_config.proofs.Literals.{two_kinds, atom_no_brace, brace_begins_none, one_literal}
 
@@ -127,8 +128,8 @@ module _ (text : List ℕ) (ts : List Token) where
 
   -- a set is refused, and a member of one
   pub set_because : (r : Refusal) (vs : List Tree) (item room from : ℕ) → ((IsValue (set (trees (set_of vs))) → ⊥) → IsBeyond text ts room from)
-      → Fails text ts r (IsValue (set (trees (set_of vs))) → ⊥) → Because r Nowhere (λ n. n ≡ item) Anything → Because r Nowhere (BeyondIn text ts item room from) Anything
-  set_because (refusal.Unexpected n) vs item room from beyond fails x = tt
+      → Fails text ts r (IsValue (set (trees (set_of vs))) → ⊥) → Because r Nowhere (λ n. n ≡ item) ⊥ → Because r Nowhere (BeyondIn text ts item room from) (IsUnwritten text ts room from)
+  set_because (refusal.Unexpected n) vs item room from beyond fails x = absurd x
   set_because (refusal.LeftOut n) vs item room from beyond fails x = x
   set_because (refusal.TooLarge n) vs item room from beyond fails x = (x, beyond fails)
   set_because refusal.NoMemory vs item room from beyond fails x = tt
@@ -144,18 +145,55 @@ module _ (text : List ℕ) (ts : List Token) where
   pub members_before : (from at end : ℕ) (v : Tree) → MembersBefore from at → IsValueAt text ts v at end → Has text ts k.Comma end → MembersBefore from (end + 1)
   members_before from at end v b found comma = (b.0 ++ found.literal ∷ [], before_more b.0 (from + 1) at end found.literal b.1 found.spelled comma)
 
-  pub member_because : (r : Refusal) (item room from at : ℕ) → Has text ts k.LeftBrace from → MembersBefore from at → Because r Nowhere (BeyondIn text ts item room at) Anything
-      → Because r Nowhere (BeyondIn text ts item (room + 1) from) Anything
-  member_because r item room from at brace b x = because_map r Nowhere (BeyondIn text ts item room at) Nowhere (BeyondIn text ts item (room + 1) from) Anything Anything
-      (λ n y. y) (λ n y. (y.0, member room from at b.0 brace b.1 y.1)) (λ y. y) x
+  -- what is beyond the limits behind the brace at one token is so behind another too
+  abbrev pub Onward : ℕ → ℕ → ℕ → Type 0
+  Onward room from at = Reaches text ts room (from + 1) → Reaches text ts room at
+
+  pub onward_more : (room from at end : ℕ) (v : Tree) → Onward room from at → IsValueAt text ts v at end → (IsBeyond text ts room at → ⊥) → Onward room from (end + 1)
+  onward_more room from at end v on found within r = (reaches_next text ts room at end v found within (on r)).1
+
+  onward_last : (room from at end : ℕ) (v : Tree) → Onward room from at → IsValueAt text ts v at end → (IsBeyond text ts room at → ⊥) → (Has text ts k.Comma end → ⊥) → Reaches text ts room (from + 1) → ⊥
+  onward_last room from at end v on found within no_comma r = no_comma (reaches_next text ts room at end v found within (on r)).0
+
+  no_set_written : (from : ℕ) → Has text ts k.LeftBrace from → ((ms : Literals) (to : ℕ) → SpellsLiteral text ts (braces ms) from to → ⊥) → NoLiteral text ts from
+  no_set_written from brace f (atom v) to x = atom_no_brace text ts from to v brace x
+  no_set_written from brace f (braces ms) to x = f ms to x
+
+  member_unwritten : (front : List Tree) (room from at : ℕ) → Has text ts k.LeftBrace from → MembersSoFar front from at → Onward room from at → IsUnwritten text ts room at → IsUnwritten text ts (room + 1) from
+  member_unwritten front room from at brace so on none =
+      set_unwritten text ts room from (no_set_written from brace (λ ms to x. let r = so.rest ms to x in none.no_literal r.0 r.2 r.3)) (λ r. reaches_none text ts room at none (on r))
+
+  pub member_because : (r : Refusal) (front : List Tree) (item room from at : ℕ) → Has text ts k.LeftBrace from → MembersSoFar front from at → MembersBefore from at → Onward room from at
+      → Because r Nowhere (BeyondIn text ts item room at) (IsUnwritten text ts room at) → Because r Nowhere (BeyondIn text ts item (room + 1) from) (IsUnwritten text ts (room + 1) from)
+  member_because r front item room from at brace so b on x =
+      because_map r Nowhere (BeyondIn text ts item room at) Nowhere (BeyondIn text ts item (room + 1) from) (IsUnwritten text ts room at) (IsUnwritten text ts (room + 1) from)
+      (λ n y. y) (λ n y. (y.0, member room from at b.0 brace b.1 y.1)) (member_unwritten front room from at brace so on) x
 
   -- neither a comma nor the closing brace follows
-  pub so_far_open : (front : List Tree) (room from at end : ℕ) (v : Tree) → Has text ts k.LeftBrace from → MembersSoFar front from at → IsValueAt text ts v at end
-      → (Has text ts k.Comma end → ⊥) → (Has text ts k.RightBrace end → ⊥) → NoValue text ts room from
-  so_far_open front room from at end v brace so found no_comma no_brace = no_set room from brace (λ ms to x y d.
+  open_unwritten : (front : List Tree) (from at end : ℕ) (v : Tree) → Has text ts k.LeftBrace from → MembersSoFar front from at → IsValueAt text ts v at end
+      → (Has text ts k.Comma end → ⊥) → (Has text ts k.RightBrace end → ⊥) → NoLiteral text ts from
+  open_unwritten front from at end v brace so found no_comma no_brace = no_set_written from brace (λ ms to x.
       let r = after v front from at end so found ms to x in
       let e : r.0 ≡ no_literals = no_comma_here r.0 end to no_comma r.1 in
       no_brace (subst (λ ls. SpellsMembers text ts ls end to) e r.1).0)
+
+  pub so_far_open : (front : List Tree) (room from at end : ℕ) (v : Tree) → Has text ts k.LeftBrace from → MembersSoFar front from at → IsValueAt text ts v at end
+      → (Has text ts k.Comma end → ⊥) → (Has text ts k.RightBrace end → ⊥) → NoValue text ts room from
+  so_far_open front room from at end v brace so found no_comma no_brace l to x y d = open_unwritten front from at end v brace so found no_comma no_brace l to x
+
+  pub so_far_unwritten : (front : List Tree) (room from at end : ℕ) (v : Tree) → Has text ts k.LeftBrace from → MembersSoFar front from at → Onward room from at → IsValueAt text ts v at end → (IsBeyond text ts room at → ⊥)
+      → (Has text ts k.Comma end → ⊥) → (Has text ts k.RightBrace end → ⊥) → IsUnwritten text ts (room + 1) from
+  so_far_unwritten front room from at end v brace so on found within no_comma no_brace =
+      set_unwritten text ts room from (open_unwritten front from at end v brace so found no_comma no_brace) (onward_last room from at end v on found within no_comma)
+
+  -- the set that the closing brace ends is not beyond the limits
+  pub so_far_within : (room from at end : ℕ) (v s : Tree) → Onward room from at → IsValueAt text ts v at end → (IsBeyond text ts room at → ⊥) → Has text ts k.RightBrace end → IsValueAt text ts s from (end + 1)
+      → IsBeyond text ts (room + 1) from → ⊥
+  so_far_within room from at end v s on found within close whole =
+      set_within text ts room from (end + 1) s whole (onward_last room from at end v on found within (λ c. two_kinds text ts end k.Comma k.RightBrace (λ e. let z : ⊥ = cc in z) c close))
+
+  pub empty_within : (room from to : ℕ) (s : Tree) → Has text ts k.RightBrace (from + 1) → IsValueAt text ts s from to → IsBeyond text ts (room + 1) from → ⊥
+  empty_within room from to s close whole = set_within text ts room from to s whole (reaches_none text ts room (from + 1) (close_unwritten text ts room (from + 1) close))
 
   -- the empty set
   pub empty_set : (from : ℕ) (s : Tree) → Has text ts k.LeftBrace from → Has text ts k.RightBrace (from + 1) → s ≡ set (trees (set_of [])) → IsValue s → IsValueAt text ts s from (from + 2)

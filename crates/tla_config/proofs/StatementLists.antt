@@ -1,18 +1,21 @@
 -- A list of statements, found statement by statement.
-use Rattle.std.proofs.Common.{◌≡◌, ◌<◌, ◌≤◌, ℕ, ◌+◌, Bool, true, false, not, ◌&&◌, ◌||◌, List, [], ◌∷◌, ◌++◌, None, filter, slice_get, refl, sym, ap, subst, ◌∙◌, append_assoc, append-nil, length-append, arith, length}
+use Rattle.std.proofs.Common.{◌≡◌, ◌<◌, ◌≤◌, ℕ, ◌+◌, Bool, true, false, not, ◌&&◌, ◌||◌, List, [], ◌∷◌, ◌++◌, Some, None, ◌⊎◌, inl, inr, filter, slice_get, refl, sym, ap, subst, ◌∙◌, append_assoc, append-nil, length-append, arith, length}
 use Rattle.std.proofs.lemmas.List.Elements.{filter-append}
-use Rattle.std.proofs.lemmas.Option.{slice_get_past, slice_get_within}
+use Rattle.std.proofs.lemmas.Option.{slice_get_past}
 use Rattle.tla_lex.specs.declared.token.Kind.TheVariants as k
+use Rattle.tla_lex.specs.declared.token.Place.{Place}
 use Rattle.tla_lex.specs.declared.token.Token.{Token}
+use Rattle.tla_config.specs.declared.keyword.Keyword.{Keyword}
+use Rattle.tla_config.specs.declared.keyword.Keyword.TheVariants as keyword
 use Rattle.tla_config.specs.declared.refusal.Refusal.{Refusal}
 use Rattle.tla_config.specs.declared.refusal.Refusal.TheVariants as refusal
-use Rattle.tla_config.specs.Configuration.{SpellsStatement, StatementsUpTo, SpellsStatements, is_check_deadlock}
+use Rattle.tla_config.specs.Configuration.{Has, SpellsStatement, StatementsUpTo, SpellsStatements, is_check_deadlock}
 use Rattle.tla_config.specs.Private.Fronts.{keyword_of}
-use Rattle.tla_config.specs.Private.Gives.{Because, Fails, Ends, IsStatement, NoStatement, AreStatements, NoStatements, LeftOutIn, TooLargeIn, LeftOutAt, TooLargeAt, NoLeftOutWord}
-use Rattle.tla_config.specs.Refusals.{IsLeftOutWord, FollowsStatements}
+use Rattle.tla_config.specs.Private.Gives.{Because, Fails, Ends, IsStatement, NoStatement, AreStatements, NoStatements, LeftOutIn, TooLargeIn, ClearStatement, LeftOutAt, TooLargeAt, Clear}
+use Rattle.tla_config.specs.Refusals.{FollowsStatements}
 use Rattle.tla_config.specs.Statements.{Statement}
-use Rattle.tla_config.proofs.Arms.{spelled_front, left_out_front, left_out_none}
-use Rattle.tla_config.proofs.Fronts.{has_within, name_within, comma_begins_none, name_begins_none}
+use Rattle.tla_config.proofs.Arms.{word_for, place_for, spelled_front, left_out_front, clear_none}
+use Rattle.tla_config.proofs.Fronts.{has_within, name_within, comma_begins_none, name_begins_none, constants_is}
 
 -- how many statements are CHECK_DEADLOCK
 abbrev pub checks_of : List Statement → ℕ
@@ -64,13 +67,14 @@ module _ (text : List ℕ) (ts : List Token) where
       (let z : ⊥ = cc in z)
 
   -- no list of names goes on where the statements go on
+  keyword_ends : (at : ℕ) (word : Keyword) (p : Place) → keyword_of text (slice_get ts at) ≡ Some (word, p) → Ends text ts at
+  keyword_ends at word p f = record {
+    no_comma = λ h. let n = comma_begins_none text ts at h in (let z : ⊥ = cc in z);
+    no_name = λ v h. let n = name_begins_none text ts v at h in (let z : ⊥ = cc in z);
+  }
+
   front_ends : (at : ℕ) (c : Statement) (to : ℕ) → SpellsStatement text ts c at to → Ends text ts at
-  front_ends at c to x =
-      let f = spelled_front text ts at c to x in
-      record {
-        no_comma = λ h. let n = comma_begins_none text ts at h in (let z : ⊥ = cc in z);
-        no_name = λ w h. let n = name_begins_none text ts w at h in (let z : ⊥ = cc in z);
-      }
+  front_ends at c to x = keyword_ends at (word_for c) (place_for c) (spelled_front text ts at c to x)
 
   ends_last : Ends text ts (length ts)
   ends_last = record {
@@ -82,44 +86,51 @@ module _ (text : List ℕ) (ts : List Token) where
   ends_of [] at to x e = subst (λ m. Ends text ts m) (sym x) e
   ends_of (c ∷ cs) at to x e = front_ends at c x.0 x.1
 
-  -- no statement begins at a token, and no list of names goes on there
+  -- no list of names goes on at a token, and no statement begins there in which nothing is left out or too large
   pub record Stops (at : ℕ) : Type 0 where
     pub ends : Ends text ts at
-    pub none : (c : Statement) (to : ℕ) → SpellsStatement text ts c at to → ⊥
+    pub none : (c : Statement) (to : ℕ) → SpellsStatement text ts c at to → ClearStatement text ts at → ⊥
 
   stops_last : Stops (length ts)
-  stops_last = record { ends = ends_last; none = λ c to x. begins_within c (length ts) to x (omega arith) }
+  stops_last = record { ends = ends_last; none = λ c to x f. begins_within c (length ts) to x (omega arith) }
 
-  -- at the word of a statement that is left out
-  stops_word : (at : ℕ) → IsLeftOutWord text ts at → Stops at
-  stops_word at w =
-      let f = left_out_front text ts at w in
-      record {
-        ends = record {
-          no_comma = λ h. let n = comma_begins_none text ts at h in (let z : ⊥ = cc in z);
-          no_name = λ v h. let n = name_begins_none text ts v at h in (let z : ⊥ = cc in z);
-        };
-        none = λ c to x. left_out_none text ts at w.0.place f c to x;
-      }
+  -- something is left out in the statement that begins at a token, or too large
+  abbrev HasCause : ℕ → Type 0
+  HasCause begin = (at : ℕ) × (LeftOutIn text ts begin at ⊎ TooLargeIn text ts begin at)
+
+  clear_no_cause : (begin at : ℕ) → ClearStatement text ts begin → LeftOutIn text ts begin at ⊎ TooLargeIn text ts begin at → ⊥
+  clear_no_cause begin at clear (inl x) = clear.no_left at x
+  clear_no_cause begin at clear (inr x) = clear.no_large at x
+
+  constant_ends : (at : ℕ) → Has text ts k.Constant at → Ends text ts at
+  constant_ends at x = keyword_ends at keyword.Constants x.0.place (constants_is text ts at x.0.place (x.0, x.1, x.2, refl))
+
+  cause_ends : (begin at : ℕ) → LeftOutIn text ts begin at ⊎ TooLargeIn text ts begin at → Ends text ts begin
+  cause_ends begin at (inl (inl x)) = keyword_ends begin keyword.LeftOut x.0.0.place (left_out_front text ts begin x.0)
+  cause_ends begin at (inl (inr x)) = constant_ends begin x.0
+  cause_ends begin at (inr x) = constant_ends begin x.0
+
+  stops_cause : (begin : ℕ) → HasCause begin → Stops begin
+  stops_cause begin h = record { ends = cause_ends begin h.0 h.1; none = λ c to x f. clear_no_cause begin h.0 f h.1 }
 
   -- these statements stand before a token: whatever statements begin there, they and these stand from the first token, and each list that stops begins with these
   pub record StatementsSoFar (front : List Statement) (at : ℕ) : Type 0 where
     pub whole : (cs : List Statement) (to : ℕ) → StatementsUpTo text ts cs at to → StatementsUpTo text ts (front ++ cs) 0 to
     pub rest : (cs : List Statement) (to : ℕ) → StatementsUpTo text ts cs 0 to → Stops to → (ds : List Statement) × (cs ≡ front ++ ds) × StatementsUpTo text ts ds at to
 
-  next_rest : (c : Statement) (ds : List Statement) (at mid to : ℕ) → IsStatement text ts c at mid → StatementsUpTo text ts ds at to → Stops to
+  next_rest : (c : Statement) (ds : List Statement) (at mid to : ℕ) → IsStatement text ts c at mid → ClearStatement text ts at → StatementsUpTo text ts ds at to → Stops to
       → (es : List Statement) × (ds ≡ c ∷ es) × StatementsUpTo text ts es mid to
-  next_rest c [] at mid to st x s = absurd (s.none c mid (subst (λ m. SpellsStatement text ts c m mid) x st.spelled))
-  next_rest c (d ∷ ds) at mid to st x s =
+  next_rest c [] at mid to st f x s = absurd (s.none c mid (subst (λ m. SpellsStatement text ts c m mid) x st.spelled) (subst (λ m. ClearStatement text ts m) x f))
+  next_rest c (d ∷ ds) at mid to st f x s =
       let o = st.only d x.0 x.1 (ends_of ds x.0 to x.2 s.ends) in
       (ds, ap (λ y. y ∷ ds) o.0, subst (λ m. StatementsUpTo text ts ds m to) o.1 x.2)
 
-  pub so_far_more : (front : List Statement) (at mid : ℕ) (c : Statement) → StatementsSoFar front at → IsStatement text ts c at mid → StatementsSoFar (front ++ c ∷ []) mid
-  so_far_more front at mid c so st = record {
+  pub so_far_more : (front : List Statement) (at mid : ℕ) (c : Statement) → StatementsSoFar front at → IsStatement text ts c at mid → ClearStatement text ts at → StatementsSoFar (front ++ c ∷ []) mid
+  so_far_more front at mid c so st f = record {
     whole = λ cs to x. rw append_assoc (so.whole (c ∷ cs) to (mid, st.spelled, x));
     rest = λ cs to x s.
         let r = so.rest cs to x s in
-        let n = next_rest c r.0 at mid to st r.2 s in
+        let n = next_rest c r.0 at mid to st f r.2 s in
         (n.0, r.1 ∙ ap (λ y. front ++ y) n.1 ∙ sym (append_assoc front (c ∷ []) n.0), n.2);
   }
 
@@ -143,15 +154,18 @@ module _ (text : List ℕ) (ts : List Token) where
   pub so_far_fails : (front : List Statement) (at : ℕ) → at < length ts → StatementsSoFar front at → NoStatement text ts at → NoStatements text ts
   so_far_fails front at h so fails = λ cs x once. let r = so.rest cs (length ts) x stops_last in none_rest r.0 at h fails r.2
 
+  clear_all : ((begin : ℕ) → FollowsStatements text ts begin → HasCause begin → ⊥) → Clear text ts
+  clear_all f = record { no_left = λ n x. f x.0 x.1 (n, inl x.2); no_large = λ n x. f x.0 x.1 (n, inr x.2) }
+
   module _ (front : List Statement) (at mid : ℕ) (c : Statement) (checks : Bool) where
-    twice : StatementsSoFar front at → IsStatement text ts c at mid → checks_of front ≡ count_of checks → not (checks && is_check_deadlock c) ≡ false
+    twice : StatementsSoFar front at → IsStatement text ts c at mid → ClearStatement text ts at → checks_of front ≡ count_of checks → not (checks && is_check_deadlock c) ≡ false
         → (cs : List Statement) (to : ℕ) → StatementsUpTo text ts cs 0 to → Stops to → checks_of cs ≤ 1 → ⊥
-    twice so st h second cs to x s once =
+    twice so st f h second cs to x s once =
         let two = both_hold checks (is_check_deadlock c) second in
         let e : is_check_deadlock c ≡ true = two.1 in
         let one : checks_of front ≡ 1 = h ∙ ap (λ y. count_of y) two.0 in
         let r = so.rest cs to x s in
-        let n = next_rest c r.0 at mid to st r.2 s in
+        let n = next_rest c r.0 at mid to st f r.2 s in
         let p : cs ≡ (front ++ c ∷ []) ++ n.0 = r.1 ∙ ap (λ y. front ++ y) n.1 ∙ sym (append_assoc front (c ∷ []) n.0) in
         let q = checks_append (front ++ c ∷ []) n.0 in
         let m = checks_more front c true 1 one e in
@@ -159,11 +173,11 @@ module _ (text : List ℕ) (ts : List Token) where
         absurd (omega arith)
 
     -- CHECK_DEADLOCK for a second time
-    pub so_far_twice : StatementsSoFar front at → IsStatement text ts c at mid → checks_of front ≡ count_of checks → not (checks && is_check_deadlock c) ≡ false → NoStatements text ts
-    so_far_twice so st h second cs x once = twice so st h second cs (length ts) x stops_last once
+    pub so_far_twice : StatementsSoFar front at → IsStatement text ts c at mid → ClearStatement text ts at → checks_of front ≡ count_of checks → not (checks && is_check_deadlock c) ≡ false → NoStatements text ts
+    so_far_twice so st f h second cs x once = twice so st f h second cs (length ts) x stops_last once
 
-    pub so_far_twice_no_word : StatementsSoFar front at → IsStatement text ts c at mid → checks_of front ≡ count_of checks → not (checks && is_check_deadlock c) ≡ false → NoLeftOutWord text ts
-    so_far_twice_no_word so st h second begin f w = twice so st h second f.statements begin f.spelled (stops_word begin w) f.once
+    pub so_far_twice_clear : StatementsSoFar front at → IsStatement text ts c at mid → ClearStatement text ts at → checks_of front ≡ count_of checks → not (checks && is_check_deadlock c) ≡ false → Clear text ts
+    so_far_twice_clear so st f h second = clear_all (λ begin g w. twice so st f h second g.statements begin g.spelled (stops_cause begin w) g.once)
 
   -- they are followed by this token
   pub so_far_follows : (front : List Statement) (at : ℕ) → checks_of front ≤ 1 → StatementsSoFar front at → FollowsStatements text ts at
@@ -173,24 +187,24 @@ module _ (text : List ℕ) (ts : List Token) where
     once = once;
   }
 
-  no_word_rest : (ds : List Statement) (at begin : ℕ) → NoStatement text ts at → (IsLeftOutWord text ts at → ⊥) → IsLeftOutWord text ts begin → StatementsUpTo text ts ds at begin → ⊥
-  no_word_rest [] at begin fails none w x = none (subst (λ m. IsLeftOutWord text ts m) (sym x) w)
-  no_word_rest (d ∷ ds) at begin fails none w x = fails d x.0 x.1 (ends_of ds x.0 begin x.2 (stops_word begin w).ends)
+  no_cause_rest : (ds : List Statement) (at begin : ℕ) → NoStatement text ts at → ClearStatement text ts at → HasCause begin → StatementsUpTo text ts ds at begin → ⊥
+  no_cause_rest [] at begin fails clear h x = clear_no_cause begin h.0 (subst (λ m. ClearStatement text ts m) x clear) h.1
+  no_cause_rest (d ∷ ds) at begin fails clear h x = fails d x.0 x.1 (ends_of ds x.0 begin x.2 (stops_cause begin h).ends)
 
-  pub so_far_no_word : (front : List Statement) (at : ℕ) → StatementsSoFar front at → NoStatement text ts at → (IsLeftOutWord text ts at → ⊥) → NoLeftOutWord text ts
-  so_far_no_word front at so fails none begin f w =
-      let r = so.rest f.statements begin f.spelled (stops_word begin w) in
-      no_word_rest r.0 at begin fails none w r.2
+  pub so_far_clear : (front : List Statement) (at : ℕ) → StatementsSoFar front at → NoStatement text ts at → ClearStatement text ts at → Clear text ts
+  so_far_clear front at so fails clear = clear_all (λ begin f h.
+      let r = so.rest f.statements begin f.spelled (stops_cause begin h) in
+      no_cause_rest r.0 at begin fails clear h r.2)
 
   -- all tokens are read
-  pub so_far_all_no_word : (front : List Statement) (at : ℕ) → length ts ≤ at → StatementsSoFar front at → NoLeftOutWord text ts
-  so_far_all_no_word front at h so =
-      so_far_no_word front at so (λ c to x e. begins_within c at to x h) (λ w. let n = slice_get_within ts at w.0 w.1 in absurd (omega arith))
+  pub so_far_all_clear : (front : List Statement) (at : ℕ) → length ts ≤ at → StatementsSoFar front at → Clear text ts
+  so_far_all_clear front at h so =
+      so_far_clear front at so (λ c to x e. begins_within c at to x h) (clear_none text ts at (ap (λ o. keyword_of text o) (slice_get_past ts at h)))
 
   -- a statement is refused
   pub so_far_because : (r : Refusal) (front : List Statement) (at : ℕ) → checks_of front ≤ 1 → StatementsSoFar front at → Fails text ts r (NoStatement text ts at)
-      → Because r (LeftOutIn text ts at) (TooLargeIn text ts at) (IsLeftOutWord text ts at → ⊥) → Because r (LeftOutAt text ts) (TooLargeAt text ts) (NoLeftOutWord text ts)
-  so_far_because (refusal.Unexpected n) front at once so fails x = so_far_no_word front at so fails x
+      → Because r (LeftOutIn text ts at) (TooLargeIn text ts at) (ClearStatement text ts at) → Because r (LeftOutAt text ts) (TooLargeAt text ts) (Clear text ts)
+  so_far_because (refusal.Unexpected n) front at once so fails x = so_far_clear front at so fails x
   so_far_because (refusal.LeftOut n) front at once so fails x = (at, so_far_follows front at once so, x)
   so_far_because (refusal.TooLarge n) front at once so fails x = (at, so_far_follows front at once so, x)
   so_far_because refusal.NoMemory front at once so fails x = tt

@@ -1,5 +1,5 @@
 -- Why a text is refused, by its tokens.
-use Rattle.std.proofs.Common.{◌≡◌, ℕ, List, Option, Some, ◌⊎◌, inl, inr, slice_get, codes, true, refl, sym, ap, subst, ◌∙◌}
+use Rattle.std.proofs.Common.{◌≡◌, ℕ, ◌+◌, List, Option, Some, ◌⊎◌, inl, inr, slice_get, codes, true, refl, sym, ap, subst, ◌∙◌}
 use Rattle.std.specs.Str.{IsUtf8}
 use Rattle.tla_lex.specs.declared.token.Kind.TheVariants as k
 use Rattle.tla_lex.specs.declared.token.Place.{Place}
@@ -7,9 +7,9 @@ use Rattle.tla_lex.specs.declared.token.Token.{Token}
 use Rattle.tla_tree.specs.Words.{word_of}
 use Rattle.tla_config.specs.declared.error.DefsCode.{DefsCode}
 use Rattle.tla_config.specs.declared.error.DefsCode.TheVariants.{StatementLeftOut, Memory}
-use Rattle.tla_config.specs.Private.Gives.{LeftOutIn, LeftOutAt, TooLargeAt, NoLeftOutWord, OnlyBegins}
+use Rattle.tla_config.specs.Private.Gives.{LeftOutIn, LeftOutAt, TooLargeAt, Clear, OnlyBegins}
 use Rattle.tla_config.specs.Names.{Name, is_among}
-use Rattle.tla_config.specs.Refusals.{Begins, Explains, FollowsStatements, HasLeftOutWord, HasLeftOutItem, HasTooLargeItem, IsLeftOutWord, StandsAt, left_out_words}
+use Rattle.tla_config.specs.Refusals.{Begins, Explains, FollowsStatements, FollowsItems, HasLeftOutWord, HasLeftOutItem, HasTooLargeItem, HasNeither, IsLeftOutWord, IsLeftOutItem, IsTooLargeItem, StandsAt, left_out_words}
 use Rattle.tla_config.proofs.Fronts.{one_token}
 use Rattle.tla_config.proofs.Words.{left_out_utf8}
 
@@ -77,8 +77,18 @@ module _ (text : List ℕ) (ts : List Token) where
         place = (name.0, name.1, place name.0.place (name.0, name.1, refl));
       }
 
-  -- no word of a statement that is left out
-  pub no_word_told : OnlyBegins text ts → NoLeftOutWord text ts → (q : Place) (word : Name) → HasLeftOutWord text q word → ⊥
-  no_word_told only none q word h =
-      let e = only h.tokens h.begins in
-      none h.at (subst (λ us. FollowsStatements text us h.at) e h.follows) (subst (λ us. IsLeftOutWord text us h.at) e h.is)
+  -- there is neither
+  pub neither_told : OnlyBegins text ts → Clear text ts → HasNeither text
+  neither_told only clear = record {
+    no_word = λ q word h.
+        let e = only h.tokens h.begins in
+        clear.no_left h.at (h.at, subst (λ us. FollowsStatements text us h.at) e h.follows, inl (subst (λ us. IsLeftOutWord text us h.at) e h.is, refl));
+    no_item = λ q h.
+        let e = only h.tokens h.begins in
+        let f = subst (λ us. FollowsItems text us h.at) e h.follows in
+        clear.no_left (h.at + 2) (f.begin, f.statements, inr (f.constant, (h.at, (f.items, f.spelled), subst (λ us. IsLeftOutItem text us h.at) e h.is, refl)));
+    no_value = λ q h.
+        let e = only h.tokens h.begins in
+        let f = subst (λ us. FollowsItems text us h.at) e h.follows in
+        clear.no_large h.at (f.begin, f.statements, (f.constant, ((f.items, f.spelled), subst (λ us. IsTooLargeItem text us h.at) e h.is)));
+  }

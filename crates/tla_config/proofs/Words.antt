@@ -59,6 +59,10 @@ same_bytes v w h = (bytes_eq-Decides v w).0 h
 pub left_out_word : (w : Name) → lookup keywords w ≡ Some word.LeftOut → is_among w left_out_words ≡ true
 left_out_word w h = spells_found keywords w word.LeftOut h
 
+-- CONSTANT is a token of its own
+pub constants_no_word : (w : Name) → lookup keywords w ≡ Some word.Constants → ⊥
+constants_no_word w h = let e : false ≡ true = spells_found keywords w word.Constants h in (let z : ⊥ = cc in z)
+
 abbrev Hold : (Name → Type 0) → List Name → Type 0
 Hold P [] = Unit {0}
 Hold P (x ∷ xs) = P x × Hold P xs

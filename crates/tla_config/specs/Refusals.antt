@@ -93,6 +93,12 @@ pub record HasTooLargeItem (text : Bytes) (p : Place) : Type 0 where
   pub is : IsTooLargeItem text tokens at
   pub place : StandsAt tokens at p
 
+-- behind statements nothing is left out, and no value of an item is beyond the limits
+pub record HasNeither (text : Bytes) : Type 0 where
+  pub no_word : (p : Place) (word : Name) → HasLeftOutWord text p word → ⊥
+  pub no_item : (p : Place) → HasLeftOutItem text p → ⊥
+  pub no_value : (p : Place) → HasTooLargeItem text p → ⊥
+
 -- the codes that print a name
 abbrev pub has_name : DefsCode → Bool
 has_name code.UnknownName = true
@@ -111,10 +117,10 @@ IsLocated c None name = ⊥
 IsLocated c (Some p) name = is_some name ≡ has_name c
 
 -- Of a configuration's text that is refused. C10 is given where a statement or an item that is left out begins behind
--- statements, and names its word or `[`; C11 where an item so placed has a value beyond the limits; C1 only where no word
--- of a statement that is left out stands behind statements. Where C1 stands is not said here.
+-- statements, and names its word or `[`; C11 where an item so placed has a value beyond the limits; C1 only where behind
+-- statements there is neither. Where C1 stands is not said here.
 abbrev pub Explains : Bytes → DefsCode → Option Place → Option Name → Type 0
-Explains text code.ConfigurationText p name = (q : Place) (word : Name) → HasLeftOutWord text q word → ⊥
+Explains text code.ConfigurationText p name = HasNeither text
 Explains text code.ExpansionTooLarge (Some p) name = HasTooLargeItem text p
 Explains text code.StatementLeftOut (Some p) (Some word) = HasLeftOutWord text p word ⊎ (HasLeftOutItem text p × (word ≡ codes "["))
 Explains text code.Memory p name = Unit {0}

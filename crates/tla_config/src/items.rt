@@ -1,9 +1,8 @@
 //! Lists of items.
 
-ghost use Rattle.std.specs.Prelude.{◌≡◌, ◌≤◌, ◌<◌, ◌+◌, length, IfOk, IfErr};
-ghost use Rattle.tla_config.specs.Private.Gives.{Because, Anything, LeftOutBehind, TooLargeBehind};
+ghost use Rattle.std.specs.Prelude.{◌≤◌, ◌<◌, length, IfOk, IfErr, OnOk};
+ghost use Rattle.tla_config.specs.Private.Gives.{Because, LeftOutHere, TooLargeHere, ClearItem, LeftOutBehind, TooLargeBehind, ClearItems};
 ghost use Rattle.tla_config.specs.Private.GivesValues as spec;
-ghost use Rattle.tla_config.specs.Refusals.{IsLeftOutItem, IsTooLargeItem};
 
 use crate::list::push;
 use crate::names::{name, next_name};
@@ -31,7 +30,8 @@ pub struct ParsedItems {
 /// The item that begins here.
 fn item(alloc: Global, text: &[u8], tokens: &[Token], at: usize) -> Result<ParsedItem, Refusal>
     ensures gives { spec.GivesItem text.now tokens.now at result }
-    ensures because { IfErr result (λ e. Because e (λ n. IsLeftOutItem text.now tokens.now at × (n ≡ at + 2)) (λ n. IsTooLargeItem text.now tokens.now at × (n ≡ at)) Anything) }
+    ensures because { IfErr result (λ e. Because e (LeftOutHere text.now tokens.now at) (TooLargeHere text.now tokens.now at) (ClearItem text.now tokens.now at)) }
+    ensures clear { OnOk result (ClearItem text.now tokens.now at) }
     ensures within { IfOk result (λ x. (at < x.end) × (x.end ≤ length tokens.now)) }
 {
     let constant = name(alloc, text, tokens, at)?;
@@ -63,7 +63,8 @@ pub fn items(
     from: usize,
 ) -> Result<ParsedItems, Refusal>
     ensures gives { spec.GivesItems text.now tokens.now from result }
-    ensures because { IfErr result (λ e. Because e (LeftOutBehind text.now tokens.now from) (TooLargeBehind text.now tokens.now from) Anything) }
+    ensures because { IfErr result (λ e. Because e (LeftOutBehind text.now tokens.now from) (TooLargeBehind text.now tokens.now from) (ClearItems text.now tokens.now from)) }
+    ensures clear { OnOk result (ClearItems text.now tokens.now from) }
     ensures within { IfOk result (λ x. (from < x.end) × (x.end ≤ length tokens.now)) }
 {
     let mut items = Vec::new(alloc);

@@ -5,7 +5,7 @@ ghost use Rattle.tla_lex.specs.Places.{place_at};
 ghost use Rattle.tla_lex.specs.Tokens.{no_memory};
 ghost use Rattle.tla_lex.specs.declared.token.Place as lexed_at;
 ghost use Rattle.tla_config.specs.Configuration.{IsConfiguration};
-ghost use Rattle.tla_config.specs.Private.Gives.{Because, Fails, NoStatements, LeftOutAt, TooLargeAt, NoLeftOutWord, OnlyBegins};
+ghost use Rattle.tla_config.specs.Private.Gives.{Because, Fails, NoStatements, LeftOutAt, TooLargeAt, Clear, OnlyBegins};
 ghost use Rattle.tla_config.specs.Statements as spec;
 ghost use Rattle.tla_config.specs.Refusals.{IsLocated, Explains, Begins, StandsAt};
 
@@ -121,7 +121,7 @@ fn left_out(alloc: Global, text: &[u8], tokens: &[Token], at: usize) -> DefsErro
 fn error_of(alloc: Global, text: &[u8], tokens: &[Token], end: Place, refusal: Refusal) -> DefsError
     requires begins { Begins text.now tokens.now }
     requires fails { Fails text.now tokens.now refusal (NoStatements text.now tokens.now) }
-    requires because { Because refusal (LeftOutAt text.now tokens.now) (TooLargeAt text.now tokens.now) (NoLeftOutWord text.now tokens.now) }
+    requires because { Because refusal (LeftOutAt text.now tokens.now) (TooLargeAt text.now tokens.now) (Clear text.now tokens.now) }
     requires only { OnlyBegins text.now tokens.now }
     ensures source { result.source ≡ Source.Configuration }
     ensures located { IsLocated result.code result.place result.name }

@@ -2,7 +2,6 @@
 
 ghost use Rattle.std.specs.Prelude.{◌≤◌, ◌<◌, length, map, IfErr, IfOk, OnOk};
 ghost use Rattle.tla_config.specs.Private.Gives as spec;
-ghost use Rattle.tla_config.specs.Refusals.{IsLeftOutWord};
 ghost use Rattle.tla_config.specs.View.{statement_view};
 
 use crate::items::items;
@@ -30,7 +29,8 @@ fn statement(
     at: usize,
 ) -> Result<ParsedStatement, Refusal>
     ensures gives { spec.GivesStatement text.now tokens.now at result }
-    ensures because { IfErr result (λ e. spec.Because e (spec.LeftOutIn text.now tokens.now at) (spec.TooLargeIn text.now tokens.now at) (IsLeftOutWord text.now tokens.now at → ⊥)) }
+    ensures because { IfErr result (λ e. spec.Because e (spec.LeftOutIn text.now tokens.now at) (spec.TooLargeIn text.now tokens.now at) (spec.ClearStatement text.now tokens.now at)) }
+    ensures clear { OnOk result (spec.ClearStatement text.now tokens.now at) }
     ensures within { IfOk result (λ x. (at < x.end) × (x.end ≤ length tokens.now)) }
 {
     let Some((keyword, place)) = keyword_at(text, tokens, at) else {
@@ -94,8 +94,8 @@ fn statement(
 pub fn statements(alloc: Global, text: &[u8], tokens: &[Token]) -> Result<Vec<Statement>, Refusal>
     ensures found { IfOk result (λ v. spec.AreStatements text.now tokens.now (map statement_view v.items)) }
     ensures none { IfErr result (λ e. spec.Fails text.now tokens.now e (spec.NoStatements text.now tokens.now)) }
-    ensures because { IfErr result (λ e. spec.Because e (spec.LeftOutAt text.now tokens.now) (spec.TooLargeAt text.now tokens.now) (spec.NoLeftOutWord text.now tokens.now)) }
-    ensures words { OnOk result (spec.NoLeftOutWord text.now tokens.now) }
+    ensures because { IfErr result (λ e. spec.Because e (spec.LeftOutAt text.now tokens.now) (spec.TooLargeAt text.now tokens.now) (spec.Clear text.now tokens.now)) }
+    ensures clear { OnOk result (spec.Clear text.now tokens.now) }
 {
     let mut statements = Vec::new(alloc);
     let mut checks = false;

@@ -1,6 +1,6 @@
 //! Values.
 
-ghost use Rattle.std.specs.Prelude.{◌≡◌, ◌⊎◌, ◌≤◌, ◌<◌, ◌+◌, ◌^◌, ℕ, List, true, false, length, map, slice_get, FitsSigned, IfOk, IfErr, IfSome, IfNone};
+ghost use Rattle.std.specs.Prelude.{◌≡◌, ◌⊎◌, ◌≤◌, ◌<◌, ◌+◌, ◌^◌, ℕ, List, true, false, length, map, slice_get, FitsSigned, IfOk, IfErr, IfSome, IfNone, OnOk};
 ghost use Rattle.std.specs.Int.{w64};
 ghost use Rattle.tla_lex.specs.Words as decimal;
 ghost use Rattle.tla_lex.specs.Strings.{string_text};
@@ -10,8 +10,9 @@ ghost use Rattle.tla_value.specs.IsValue.{IsValue};
 ghost use Rattle.tla_value.specs.Tree as tree;
 ghost use Rattle.tla_value.specs.TreeOf.{tree_of};
 ghost use Rattle.tla_tree.specs.Words.{word_of};
+ghost use Rattle.tla_config.specs.Beyond.{IsBeyond};
 ghost use Rattle.tla_config.specs.Private.Fronts.{kind_at};
-ghost use Rattle.tla_config.specs.Private.Gives.{Because, Nowhere, Anything};
+ghost use Rattle.tla_config.specs.Private.Gives.{Because, Nowhere};
 ghost use Rattle.tla_config.specs.Private.GivesValues as spec;
 ghost use Rattle.tla_config.specs.Literals.{number};
 
@@ -125,7 +126,7 @@ fn text_value(
     requires kind { token.kind ≡ Kind.Text }
     requires bytes { bytes.now ≡ string_text (word_of text.now token) }
     ensures gives { (ts : List lexed.Token) → spec.GivesAtom text.now ts token result }
-    ensures because { IfErr result (λ e. Because e Nowhere (λ n. (n ≡ item) × spec.AtomBeyond text.now token) Anything) }
+    ensures because { IfErr result (λ e. Because e Nowhere (λ n. (n ≡ item) × spec.AtomBeyond text.now token) (spec.WritesNone text.now token)) }
 {
     match text_of(alloc, bytes, item) {
         Ok(text) => Ok(Value::Text(text)),
@@ -137,7 +138,7 @@ fn text_value(
 fn string(alloc: Global, text: &[u8], item: usize, token: Token) -> Result<Value, Refusal>
     requires { token.kind ≡ Kind.Text }
     ensures gives { (ts : List lexed.Token) → spec.GivesAtom text.now ts token result }
-    ensures because { IfErr result (λ e. Because e Nowhere (λ n. (n ≡ item) × spec.AtomBeyond text.now token) Anything) }
+    ensures because { IfErr result (λ e. Because e Nowhere (λ n. (n ≡ item) × spec.AtomBeyond text.now token) (spec.WritesNone text.now token)) }
 {
     let bytes = bytes_of(alloc, slice_of(text, token))?;
     text_value(alloc, text, &bytes, item, token)
@@ -147,7 +148,7 @@ fn string(alloc: Global, text: &[u8], item: usize, token: Token) -> Result<Value
 fn model(alloc: Global, text: &[u8], item: usize, at: usize, token: Token) -> Result<Value, Refusal>
     requires { token.kind ≡ Kind.Name }
     ensures gives { (ts : List lexed.Token) → spec.GivesAtom text.now ts token result }
-    ensures because { IfErr result (λ e. Because e Nowhere (λ n. (n ≡ item) × spec.AtomBeyond text.now token) Anything) }
+    ensures because { IfErr result (λ e. Because e Nowhere (λ n. (n ≡ item) × spec.AtomBeyond text.now token) (spec.WritesNone text.now token)) }
 {
     let word = slice_of(text, token);
     match keyword_of(word) {
@@ -169,7 +170,7 @@ fn atom(
     token: Token,
 ) -> Result<Value, Refusal>
     ensures gives { spec.GivesAtom text.now tokens.now token result }
-    ensures because { IfErr result (λ e. Because e Nowhere (λ n. (n ≡ item) × spec.AtomBeyond text.now token) Anything) }
+    ensures because { IfErr result (λ e. Because e Nowhere (λ n. (n ≡ item) × spec.AtomBeyond text.now token) (spec.WritesNone text.now token)) }
 {
     let word = slice_of(text, token);
     match token.kind {
@@ -188,7 +189,7 @@ fn atom(
 /// The set of these values.
 fn set(values: Vec<Value>, item: usize) -> Result<Value, Refusal>
     ensures gives { (text : List ℕ) (ts : List lexed.Token) → spec.GivesSet text ts (map tree_of values.items) result }
-    ensures because { IfErr result (λ e. Because e Nowhere (λ n. n ≡ item) Anything) }
+    ensures because { IfErr result (λ e. Because e Nowhere (λ n. n ≡ item) ⊥) }
 {
     match SetValue::from_values(values) {
         Ok(set) => Ok(Value::Set(set)),
@@ -202,7 +203,8 @@ fn set(values: Vec<Value>, item: usize) -> Result<Value, Refusal>
 fn negated(text: &[u8], tokens: &[Token], item: usize, at: usize) -> Result<ParsedValue, Refusal>
     requires { kind_at Kind.Minus (slice_get tokens.now at) ≡ true }
     ensures gives { (room : ℕ) → spec.GivesValue text.now tokens.now room at result }
-    ensures because { (room : ℕ) → IfErr result (λ e. Because e Nowhere (spec.BeyondIn text.now tokens.now item room at) Anything) }
+    ensures because { (room : ℕ) → IfErr result (λ e. Because e Nowhere (spec.BeyondIn text.now tokens.now item room at) (spec.IsUnwritten text.now tokens.now room at)) }
+    ensures limits { (room : ℕ) → OnOk result (IsBeyond text.now tokens.now room at → ⊥) }
     ensures within { IfOk result (λ x. (at < x.end) × (x.end ≤ length tokens.now)) }
 {
     let Some(t) = digits_at(tokens, at + 1) else {
@@ -228,7 +230,8 @@ pub fn value(
     at: usize,
 ) -> Result<ParsedValue, Refusal>
     ensures gives { spec.GivesValue text.now tokens.now room at result }
-    ensures because { IfErr result (λ e. Because e Nowhere (spec.BeyondIn text.now tokens.now item room at) Anything) }
+    ensures because { IfErr result (λ e. Because e Nowhere (spec.BeyondIn text.now tokens.now item room at) (spec.IsUnwritten text.now tokens.now room at)) }
+    ensures limits { OnOk result (IsBeyond text.now tokens.now room at → ⊥) }
     ensures within { IfOk result (λ x. (at < x.end) × (x.end ≤ length tokens.now)) }
 {
     let Some(t) = token_at(tokens, at) else {
@@ -260,7 +263,8 @@ fn members(
 ) -> Result<ParsedValue, Refusal>
     requires { kind_at Kind.LeftBrace (slice_get tokens.now from) ≡ true }
     ensures gives { spec.GivesValue text.now tokens.now (room + 1) from result }
-    ensures because { IfErr result (λ e. Because e Nowhere (spec.BeyondIn text.now tokens.now item (room + 1) from) Anything) }
+    ensures because { IfErr result (λ e. Because e Nowhere (spec.BeyondIn text.now tokens.now item (room + 1) from) (spec.IsUnwritten text.now tokens.now (room + 1) from)) }
+    ensures limits { OnOk result (IsBeyond text.now tokens.now (room + 1) from → ⊥) }
     ensures within { IfOk result (λ x. (from < x.end) × (x.end ≤ length tokens.now)) }
 {
     let mut values = Vec::new(alloc);

@@ -13,7 +13,7 @@ use Rattle.tla_config.specs.Refusals.{Begins, IsLeftOutWord, IsLeftOutItem, IsTo
 use Rattle.tla_config.specs.Statements.{Item, Statement}
 use Rattle.tla_config.specs.View.{statement_view}
 
--- why a reader of tokens refuses: at the token of a refusal something is left out, or too large, or else there is no cause of these kinds
+-- why a reader of tokens refuses: at the token of a refusal something is left out, or too large, or else what is told of a token out of place
 abbrev pub Because : Refusal → (ℕ → Type 0) → (ℕ → Type 0) → Type 0 → Type 0
 Because (refusal.Unexpected at) left large plain = plain
 Because (refusal.LeftOut at) left large plain = left at
@@ -22,6 +22,11 @@ Because refusal.NoMemory left large plain = Unit {0}
 
 abbrev pub Nowhere : ℕ → Type 0
 Nowhere at = ⊥
+
+-- neither of these causes is at any token
+pub record Neither (left large : ℕ → Type 0) : Type 0 where
+  pub no_left : (at : ℕ) → left at → ⊥
+  pub no_large : (at : ℕ) → large at → ⊥
 
 -- nothing is told
 abbrev pub Anything : Type 0
@@ -81,12 +86,27 @@ module _ (text : Bytes) (ts : List Token) where
   abbrev pub NoStatements : Type 0
   NoStatements = (cs : List Statement) → SpellsStatements text ts cs 0 → length (filter is_check_deadlock cs) ≤ 1 → ⊥
 
+  -- in the item that begins at a token a replacement is left out, whose bracket stands at another; or the item is too large
+  abbrev pub LeftOutHere : ℕ → ℕ → Type 0
+  LeftOutHere item at = IsLeftOutItem text ts item × (at ≡ item + 2)
+
+  abbrev pub TooLargeHere : ℕ → ℕ → Type 0
+  TooLargeHere item at = IsTooLargeItem text ts item × (at ≡ item)
+
+  -- neither is in it
+  abbrev pub ClearItem : ℕ → Type 0
+  ClearItem at = Neither (LeftOutHere at) (TooLargeHere at)
+
   -- behind items a replacement is left out, whose bracket stands at a token; or an item is too large
   abbrev pub LeftOutBehind : ℕ → ℕ → Type 0
   LeftOutBehind from at = (item : ℕ) × ((is : List Item) × ItemsUpTo text ts is from item) × IsLeftOutItem text ts item × (at ≡ item + 2)
 
   abbrev pub TooLargeBehind : ℕ → ℕ → Type 0
   TooLargeBehind from at = ((is : List Item) × ItemsUpTo text ts is from at) × IsTooLargeItem text ts at
+
+  -- neither is behind items from a token on
+  abbrev pub ClearItems : ℕ → Type 0
+  ClearItems from = Neither (LeftOutBehind from) (TooLargeBehind from)
 
   -- in the statement that begins at a token
   abbrev pub LeftOutIn : ℕ → ℕ → Type 0
@@ -95,6 +115,10 @@ module _ (text : Bytes) (ts : List Token) where
   abbrev pub TooLargeIn : ℕ → ℕ → Type 0
   TooLargeIn begin at = Has text ts k.Constant begin × TooLargeBehind (begin + 1) at
 
+  -- neither is in it
+  abbrev pub ClearStatement : ℕ → Type 0
+  ClearStatement begin = Neither (LeftOutIn begin) (TooLargeIn begin)
+
   -- behind statements
   abbrev pub LeftOutAt : ℕ → Type 0
   LeftOutAt at = (begin : ℕ) × FollowsStatements text ts begin × LeftOutIn begin at
@@ -102,9 +126,9 @@ module _ (text : Bytes) (ts : List Token) where
   abbrev pub TooLargeAt : ℕ → Type 0
   TooLargeAt at = (begin : ℕ) × FollowsStatements text ts begin × TooLargeIn begin at
 
-  -- behind statements stands no word of a statement that is left out
-  abbrev pub NoLeftOutWord : Type 0
-  NoLeftOutWord = (at : ℕ) → FollowsStatements text ts at → IsLeftOutWord text ts at → ⊥
+  -- neither is behind statements
+  abbrev pub Clear : Type 0
+  Clear = Neither LeftOutAt TooLargeAt
 
   -- the text begins with no other tokens
   abbrev pub OnlyBegins : Type 0

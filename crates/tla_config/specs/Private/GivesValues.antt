@@ -1,5 +1,5 @@
 -- What the answer of a reader of values says. Private contracts alone cite this.
-use Rattle.std.specs.Prelude.{◌≡◌, ◌≤◌, ℕ, List, Some, Result, Ok, Err, map}
+use Rattle.std.specs.Prelude.{◌≡◌, ◌≤◌, ℕ, List, Some, None, Result, Ok, Err, map}
 use Rattle.tla_lex.specs.Bytes.{Bytes}
 use Rattle.tla_lex.specs.declared.token.Token.{Token}
 use Rattle.tla_value.specs.IsValue.{IsValue}
@@ -17,6 +17,10 @@ use Rattle.tla_config.specs.Private.Gives.{Ends, Fails}
 use Rattle.tla_config.specs.Literals.{Literal, value_of, atom_of}
 use Rattle.tla_config.specs.Statements.{Item}
 use Rattle.tla_config.specs.View.{item_view}
+
+-- the token writes no value by itself
+abbrev pub WritesNone : Bytes → Token → Type 0
+WritesNone text t = atom_of text t ≡ None
 
 -- the value that the token writes by itself is beyond the limits
 abbrev pub AtomBeyond : Bytes → Token → Type 0
@@ -70,3 +74,8 @@ module _ (text : Bytes) (ts : List Token) where
   -- the value that begins here is beyond the limits, in the item of this number
   abbrev pub BeyondIn : ℕ → ℕ → ℕ → ℕ → Type 0
   BeyondIn item room from at = (at ≡ item) × IsBeyond text ts room from
+
+  -- no value is written here, and none that is beyond the limits begins here
+  pub record IsUnwritten (room from : ℕ) : Type 0 where
+    pub no_literal : (l : Literal) (to : ℕ) → SpellsLiteral text ts l from to → ⊥
+    pub within : IsBeyond text ts room from → ⊥

@@ -4,11 +4,11 @@ use Rattle.std.proofs.lemmas.Result.{err_from_is_err_and}
 use Rattle.tla_config.specs.Private.GivesValues.{NoItem, NoItems}
 use Rattle.tla_config.specs.View.{item_view}
 use Rattle.tla_config.proofs.Arms.{fails_map}
-use Rattle.tla_config.proofs.ItemLists.{items_none, items_more, items_last, items_fail, items_because}
+use Rattle.tla_config.proofs.ItemLists.{items_none, items_more, items_last, items_fail, items_because, onward_more, onward_last}
 use Rattle.tla_config.proofs.items.items.Goals as goal
 
 pub loop-items-init : goal.loop-items-init
-loop-items-init c = record { so_far = rw c.new-items.ensures.items (items_none c.args.text.now c.args.tokens.now c.args.from); order = omega arith }
+loop-items-init c = record { so_far = rw c.new-items.ensures.items (items_none c.args.text.now c.args.tokens.now c.args.from); onward = λ r. r; order = omega arith }
 
 pub returns-in_err-found-clause-gives : goal.returns-in_err-found-clause-gives
 returns-in_err-found-clause-gives c =
@@ -27,6 +27,8 @@ loop-items-preserved c =
     record {
       so_far = rw more (items_more c.args.text.now c.args.tokens.now front c.args.from c.loop-items.at c.in_ok-found.found.end c.in-Some.next i
           c.loop-items.invariant.so_far c.in_ok-found.ensures.gives c.in-Some.ensures.goes_on);
+      onward = onward_more c.args.text.now c.args.tokens.now i c.args.from c.loop-items.at c.in_ok-found.found.end c.in-Some.next
+          c.loop-items.invariant.onward c.in_ok-found.ensures.gives c.in_ok-found.ensures.clear c.in-Some.ensures.goes_on;
       order = let a = c.in-Some.ensures.order in let b = c.loop-items.invariant.order in let d = c.in_ok-found.ensures.within in omega arith;
     }
 
@@ -44,4 +46,9 @@ returns-in_err-found-clause-because c =
     let text = c.args.text.now in
     let ts = c.args.tokens.now in
     let e = err_from_is_err_and c.from_residual.result c.from_residual.ensures.1 in
-    rw (e.1, e.2) (items_because text ts c.in_err-found.field-0.0 (map item_view c.loop-items.items.items) c.args.from c.loop-items.at c.loop-items.invariant.so_far c.in_err-found.ensures.because)
+    rw (e.1, e.2) (items_because text ts c.in_err-found.field-0.0 (map item_view c.loop-items.items.items) c.args.from c.loop-items.at c.loop-items.invariant.so_far c.loop-items.invariant.onward c.in_err-found.ensures.gives c.in_err-found.ensures.because)
+
+pub returns-in-None-clause-clear : goal.returns-in-None-clause-clear
+returns-in-None-clause-clear c =
+    onward_last c.args.text.now c.args.tokens.now (item_view c.in_ok-found.found.item) c.args.from c.loop-items.at c.in_ok-found.found.end
+    c.loop-items.invariant.onward c.in_ok-found.ensures.gives c.in_ok-found.ensures.clear c.in-None.ensures.goes_on

@@ -1,9 +1,9 @@
 use Rattle.std.proofs.Common.{◌∙◌, sym, subst}
 use Rattle.tla_lex.specs.Reads.{Reads}
 use Rattle.tla_lex.specs.declared.lexeme.Source.TheVariants.{Configuration}
-use Rattle.tla_config.specs.Private.Gives.{Because, LeftOutAt, TooLargeAt, NoLeftOutWord}
+use Rattle.tla_config.specs.Private.Gives.{Because, LeftOutAt, TooLargeAt, Clear}
 use Rattle.tla_config.proofs.TextEnd.{reads_end}
-use Rattle.tla_config.proofs.Told.{no_word_told}
+use Rattle.tla_config.proofs.Told.{neither_told}
 use Rattle.tla_config.proofs.parse.parse_config.Goals as goal
 
 pub returns-in-End-clause-end : goal.returns-in-End-clause-end
@@ -16,10 +16,10 @@ pub error_of-requires-clause-because : goal.error_of-requires-clause-because
 error_of-requires-clause-because c =
     let text = c.args.text.now in
     let same = c.deref.ensures.value ∙ sym c.deref-in-Err-statements.ensures.value in
-    subst (λ ts. Because c.in-Err-statements.refusal (LeftOutAt text ts) (TooLargeAt text ts) (NoLeftOutWord text ts)) same c.in-Err-statements.ensures.because
+    subst (λ ts. Because c.in-Err-statements.refusal (LeftOutAt text ts) (TooLargeAt text ts) (Clear text ts)) same c.in-Err-statements.ensures.because
 
 pub returns-clause-explains : goal.returns-clause-explains
 returns-clause-explains c =
     let text = c.args.text.now in
     let ts = c.deref.result.now in
-    rw c.refused.ensures (no_word_told text ts (λ us b. (c.in-Ok.ensures.only us b.stop b.reads).0 ∙ sym c.deref.ensures.value) c.in-Ok-statements.ensures.words)
+    rw c.refused.ensures (neither_told text ts (λ us b. (c.in-Ok.ensures.only us b.stop b.reads).0 ∙ sym c.deref.ensures.value) c.in-Ok-statements.ensures.clear)

@@ -4,7 +4,7 @@ use Rattle.std.proofs.lemmas.Result.{err_from_is_err_and}
 use Rattle.tla_config.specs.Private.Gives.{NoStatement, NoStatements}
 use Rattle.tla_config.specs.View.{statement_view}
 use Rattle.tla_config.proofs.Arms.{fails_map}
-use Rattle.tla_config.proofs.StatementLists.{so_far_more, so_far_all, so_far_fails, so_far_twice, so_far_twice_no_word, so_far_because, so_far_all_no_word, checks_next, few_checks}
+use Rattle.tla_config.proofs.StatementLists.{so_far_more, so_far_all, so_far_fails, so_far_twice, so_far_twice_clear, so_far_because, so_far_all_clear, checks_next, few_checks}
 use Rattle.tla_config.proofs.statements.statements.Goals as goal
 
 pub returns-in_err-found-clause-none : goal.returns-in_err-found-clause-none
@@ -18,12 +18,12 @@ returns-in_err-found-clause-none c =
 pub returns-then-not-may_follow-clause-none : goal.returns-then-not-may_follow-clause-none
 returns-then-not-may_follow-clause-none c =
     so_far_twice c.args.text.now c.args.tokens.now (map statement_view c.loop-at.statements.items) c.loop-at.at c.in_ok-found.found.end (statement_view c.in_ok-found.found.statement) c.loop-at.checks
-    c.loop-at.invariant.so_far c.in_ok-found.ensures.gives c.loop-at.invariant.checks cc
+    c.loop-at.invariant.so_far c.in_ok-found.ensures.gives c.in_ok-found.ensures.clear c.loop-at.invariant.checks cc
 
 pub returns-then-not-may_follow-clause-because : goal.returns-then-not-may_follow-clause-because
 returns-then-not-may_follow-clause-because c =
-    so_far_twice_no_word c.args.text.now c.args.tokens.now (map statement_view c.loop-at.statements.items) c.loop-at.at c.in_ok-found.found.end (statement_view c.in_ok-found.found.statement) c.loop-at.checks
-    c.loop-at.invariant.so_far c.in_ok-found.ensures.gives c.loop-at.invariant.checks cc
+    so_far_twice_clear c.args.text.now c.args.tokens.now (map statement_view c.loop-at.statements.items) c.loop-at.at c.in_ok-found.found.end (statement_view c.in_ok-found.found.statement) c.loop-at.checks
+    c.loop-at.invariant.so_far c.in_ok-found.ensures.gives c.in_ok-found.ensures.clear c.loop-at.invariant.checks cc
 
 pub returns-in_err-found-clause-because : goal.returns-in_err-found-clause-because
 returns-in_err-found-clause-because c =
@@ -34,8 +34,8 @@ returns-in_err-found-clause-because c =
     rw (e.1, e.2) (so_far_because text ts c.in_err-found.field-0.0 front c.loop-at.at (few_checks front c.loop-at.checks c.loop-at.invariant.checks)
     c.loop-at.invariant.so_far c.in_err-found.ensures.gives c.in_err-found.ensures.because)
 
-pub returns-clause-words : goal.returns-clause-words
-returns-clause-words c = so_far_all_no_word c.args.text.now c.args.tokens.now (map statement_view c.loop-at.statements.items) c.loop-at.at c.loop-at-test.false c.loop-at.invariant.so_far
+pub returns-clause-clear : goal.returns-clause-clear
+returns-clause-clear c = so_far_all_clear c.args.text.now c.args.tokens.now (map statement_view c.loop-at.statements.items) c.loop-at.at c.loop-at-test.false c.loop-at.invariant.so_far
 
 pub loop-at-preserved : goal.loop-at-preserved
 loop-at-preserved c =
@@ -44,7 +44,7 @@ loop-at-preserved c =
     let e : map statement_view c.push.new.items.items ≡ front ++ s ∷ [] =
     ap (λ x. map statement_view x) c.in_ok-push.ensures.ok ∙ map-append statement_view c.loop-at.statements.items (c.in_ok-found.found.statement ∷ []) in
     rw (e, c.checks_too-checks.ensures) (record {
-      so_far = so_far_more c.args.text.now c.args.tokens.now front c.loop-at.at c.in_ok-found.found.end s c.loop-at.invariant.so_far c.in_ok-found.ensures.gives;
+      so_far = so_far_more c.args.text.now c.args.tokens.now front c.loop-at.at c.in_ok-found.found.end s c.loop-at.invariant.so_far c.in_ok-found.ensures.gives c.in_ok-found.ensures.clear;
       checks = checks_next front s c.loop-at.checks c.loop-at.invariant.checks cc;
       within = c.in_ok-found.ensures.within.1;
     })

@@ -1,11 +1,11 @@
-use Rattle.std.proofs.Common.{◌≡◌, FitsSigned, true, refl, sym, ap, subst, ◌∙◌}
+use Rattle.std.proofs.Common.{◌≡◌, ◌+◌, FitsSigned, true, refl, sym, ap, subst, ◌∙◌}
 use Rattle.std.specs.Int.{w64}
 use Rattle.std.proofs.Math.Facts.{to_z-of_z}
 use Rattle.tla_tree.specs.Words.{word_of}
 use Rattle.tla_value.specs.Tree.{int}
 use Rattle.tla_value.specs.TreeOf.{tree_of}
 use Rattle.tla_config.specs.Literals.{number}
-use Rattle.tla_config.proofs.Atoms.{negated_is, negated_none, negated_large, negated_beyond}
+use Rattle.tla_config.proofs.Atoms.{negated_is, negated_none, negated_large, negated_beyond, negated_unwritten, negated_within}
 use Rattle.tla_config.proofs.values.negated.Goals as goal
 
 pub returns-in_default-clause-gives : goal.returns-in_default-clause-gives
@@ -29,3 +29,10 @@ returns-in-None-clause-because c =
       negated_beyond c.args.text.now c.args.tokens.now room c.args.at c.in-Some.t c.requires (sym c.digits_at.ensures.value ∙ c.in-Some.is)
           (λ f. c.in-None.ensures.none (subst (λ w. FitsSigned w64 (number true w)) (sym c.slice_of.ensures) f)),
     )
+
+pub returns-in_default-clause-because : goal.returns-in_default-clause-because
+returns-in_default-clause-because c = negated_unwritten c.args.text.now c.args.tokens.now c.args.at c.requires (sym c.digits_at.ensures.value ∙ c.in_default.is)
+
+pub returns-in-Some-negative-clause-limits : goal.returns-in-Some-negative-clause-limits
+returns-in-Some-negative-clause-limits c =
+    λ room. negated_within c.args.text.now c.args.tokens.now c.args.at (c.args.at + 2) (tree_of c.int.result) c.requires (returns-in-Some-negative-clause-gives c room) room
