@@ -8,9 +8,9 @@ ghost use Rattle.tla_operators.specs.Evaluated.{tree_of_evaluated, Evaluates};
 
 use crate::partial::Partial;
 use std::alloc::Global;
-use tla_core::{Fault, FaultCode, Place};
+use tla_core::{FaultCode, Place};
 use tla_operators::evaluated::Evaluated;
-use tla_operators::rules::fault_at;
+use tla_operators::trouble::{Trouble, fault_at};
 use tla_value::{State, Value};
 
 /// The values of the bound names: those of the caller, and then those of each form that binds, one or several at once.
@@ -83,12 +83,12 @@ pub(crate) fn now_value<'a>(now: Option<&'a State>, variable: usize) -> Evaluate
 }
 
 /// The next value of a variable, where it is set.
-pub(crate) fn next_value<'a>(
-    place: Place,
+pub(crate) fn next_value<'p, 'a>(
+    place: &'p Place,
     next: &'a Partial,
     variable: usize,
-) -> Result<Evaluated<'a>, Fault>
-    ensures { Evaluates result (if_set place (slice_get next.now variable)) }
+) -> Result<Evaluated<'a>, Trouble<'p>>
+    ensures { Evaluates result (if_set place.now (slice_get next.now variable)) }
 {
     if variable < next.variables() {
         match next.get(variable) {

@@ -10,17 +10,17 @@ ghost use Rattle.tla_eval.specs.Private.Parts.{nothing_of};
 use crate::environment::{Scope, bound_value};
 use std::alloc::Global;
 use tla_core::{Fault, FaultCode, Opening, Place};
-use tla_operators::rules::fault_at;
 use tla_operators::sequences::{add_items, sequence_pairs};
+use tla_operators::trouble::{Trouble, fault_at};
 use tla_value::Value;
 
 /// The pairs of an element that is a sequence of so many items. Another element is a fault of the form at the place.
-fn fitting<'a>(
-    place: Place,
+fn fitting<'p, 'a>(
+    place: &'p Place,
     count: usize,
     element: &'a Value,
-) -> Result<&'a [(Value, Value)], Fault>
-    ensures { GivesBy (λ ps. values_of (map pair_of ps.now)) result (fitting place count (tree_of element.now)) }
+) -> Result<&'a [(Value, Value)], Trouble<'p>>
+    ensures { GivesBy (λ ps. values_of (map pair_of ps.now)) result (fitting place.now count (tree_of element.now)) }
 {
     match sequence_pairs(element) {
         Some(pairs) => {
@@ -35,13 +35,13 @@ fn fitting<'a>(
 }
 
 /// Copies of the items of the elements that bound names have, one after the other.
-pub(crate) fn open_items<'a>(
+pub(crate) fn open_items<'p, 'a>(
     alloc: Global,
-    place: Place,
+    place: &'p Place,
     openings: &[Opening],
     scope: &'a Scope<'a>,
-) -> Result<Vec<Value>, Fault>
-    ensures { GivesBy (λ v. map tree_of v.items) result (opened_items place openings.now (bound_of scope.entry.now)) }
+) -> Result<Vec<Value>, Trouble<'p>>
+    ensures { GivesBy (λ v. map tree_of v.items) result (opened_items place.now openings.now (bound_of scope.entry.now)) }
 {
     let mut items = Vec::new(alloc);
     for opening in openings {
@@ -63,12 +63,12 @@ pub fn opened(
     ensures { GivesBy (λ v. map tree_of v.items) result (opened_items place openings.now (map tree_of bound.now)) }
 {
     let scope = Scope::Outer(&*bound);
-    open_items(alloc, place, openings, &scope)
+    Ok(open_items(alloc, &place, openings, &scope)?)
 }
 
 /// Tries each of these elements.
-fn try_all(place: Place, count: usize, elements: &[Value]) -> Result<(), Fault>
-    ensures { GivesBy (λ u. u) result (nothing_of (each (fitting place count) (map tree_of elements.now))) }
+fn try_all<'p>(place: &'p Place, count: usize, elements: &[Value]) -> Result<(), Trouble<'p>>
+    ensures { GivesBy (λ u. u) result (nothing_of (each (fitting place.now count) (map tree_of elements.now))) }
 {
     for element in elements {
         fitting(place, count, element)?;
@@ -77,8 +77,8 @@ fn try_all(place: Place, count: usize, elements: &[Value]) -> Result<(), Fault>
 }
 
 /// Tries each element of a value that is a set.
-pub(crate) fn try_set(place: Place, count: usize, value: &Value) -> Result<(), Fault>
-    ensures { GivesBy (λ u. tree_of value.now) result (tried_set place count (tree_of value.now)) }
+pub(crate) fn try_set<'p>(place: &'p Place, count: usize, value: &Value) -> Result<(), Trouble<'p>>
+    ensures { GivesBy (λ u. tree_of value.now) result (tried_set place.now count (tree_of value.now)) }
 {
     match value {
         Value::Set(set) => try_all(place, count, set.items()),

@@ -7,14 +7,14 @@ ghost use Rattle.tla_core.specs.Kinds.{number};
 ghost use Rattle.tla_core.specs.Operators.{quotient, remainder, power_of};
 ghost use Rattle.tla_operators.specs.Gives.{Gives};
 
-use crate::rules::fault_at;
-use tla_core::{Fault, FaultCode, Place};
+use crate::trouble::{Trouble, fault_at};
+use tla_core::{FaultCode, Place};
 use tla_value::Value;
 
 /// The number that an operation gave, where it lies within 64 bits.
 #[tactic(auto, using(crate::proofs::Numbers::number_in_range, crate::proofs::Numbers::number_outside))]
-pub(crate) fn number(place: Place, checked: Option<i64>) -> Result<Value, Fault>
-    ensures { (z : ℤ) → SomeIff checked (FitsSigned w64 z) z → Gives result (number place z) }
+pub(crate) fn number(place: &Place, checked: Option<i64>) -> Result<Value, Trouble<'_>>
+    ensures { (z : ℤ) → SomeIff checked (FitsSigned w64 z) z → Gives result (number place.now z) }
 {
     match checked {
         Some(number) => Ok(Value::Int(number)),
@@ -22,33 +22,33 @@ pub(crate) fn number(place: Place, checked: Option<i64>) -> Result<Value, Fault>
     }
 }
 
-pub(crate) fn add(place: Place, left: i64, right: i64) -> Result<Value, Fault>
-    ensures { Gives result (number place (left +ℤ right)) }
+pub(crate) fn add(place: &Place, left: i64, right: i64) -> Result<Value, Trouble<'_>>
+    ensures { Gives result (number place.now (left +ℤ right)) }
 {
     number(place, left.checked_add(right))
 }
 
-pub(crate) fn subtract(place: Place, left: i64, right: i64) -> Result<Value, Fault>
-    ensures { Gives result (number place (left -ℤ right)) }
+pub(crate) fn subtract(place: &Place, left: i64, right: i64) -> Result<Value, Trouble<'_>>
+    ensures { Gives result (number place.now (left -ℤ right)) }
 {
     number(place, left.checked_sub(right))
 }
 
-pub(crate) fn multiply(place: Place, left: i64, right: i64) -> Result<Value, Fault>
-    ensures { Gives result (number place (left *ℤ right)) }
+pub(crate) fn multiply(place: &Place, left: i64, right: i64) -> Result<Value, Trouble<'_>>
+    ensures { Gives result (number place.now (left *ℤ right)) }
 {
     number(place, left.checked_mul(right))
 }
 
-pub(crate) fn negate(place: Place, operand: i64) -> Result<Value, Fault>
-    ensures { Gives result (number place (neg_ℤ operand)) }
+pub(crate) fn negate(place: &Place, operand: i64) -> Result<Value, Trouble<'_>>
+    ensures { Gives result (number place.now (neg_ℤ operand)) }
 {
     number(place, operand.checked_neg())
 }
 
 /// `\div`: rounded down, for a divisor above 0.
-pub(crate) fn divide(place: Place, left: i64, right: i64) -> Result<Value, Fault>
-    ensures { Gives result (quotient place left right) }
+pub(crate) fn divide(place: &Place, left: i64, right: i64) -> Result<Value, Trouble<'_>>
+    ensures { Gives result (quotient place.now left right) }
 {
     if right > 0 {
         Ok(Value::Int(left.div_euclid(right)))
@@ -58,8 +58,8 @@ pub(crate) fn divide(place: Place, left: i64, right: i64) -> Result<Value, Fault
 }
 
 /// `%`: not negative, for a divisor above 0.
-pub(crate) fn modulo(place: Place, left: i64, right: i64) -> Result<Value, Fault>
-    ensures { Gives result (remainder place left right) }
+pub(crate) fn modulo(place: &Place, left: i64, right: i64) -> Result<Value, Trouble<'_>>
+    ensures { Gives result (remainder place.now left right) }
 {
     if right > 0 {
         Ok(Value::Int(left.rem_euclid(right)))
@@ -68,8 +68,8 @@ pub(crate) fn modulo(place: Place, left: i64, right: i64) -> Result<Value, Fault
     }
 }
 
-pub(crate) fn power(place: Place, base: i64, exponent: i64) -> Result<Value, Fault>
-    ensures { Gives result (power_of place base exponent) }
+pub(crate) fn power(place: &Place, base: i64, exponent: i64) -> Result<Value, Trouble<'_>>
+    ensures { Gives result (power_of place.now base exponent) }
 {
     if exponent < 0 {
         return Err(fault_at(FaultCode::NegativeExponent, place));
@@ -77,8 +77,8 @@ pub(crate) fn power(place: Place, base: i64, exponent: i64) -> Result<Value, Fau
     natural_power(place, base, exponent.unsigned_abs())
 }
 
-fn natural_power(place: Place, base: i64, exponent: u64) -> Result<Value, Fault>
-    ensures { Gives result (number place (int_pow base exponent)) }
+fn natural_power(place: &Place, base: i64, exponent: u64) -> Result<Value, Trouble<'_>>
+    ensures { Gives result (number place.now (int_pow base exponent)) }
 {
     match u32::try_from(exponent) {
         Ok(exponent) => number(place, base.checked_pow(exponent)),
@@ -87,9 +87,9 @@ fn natural_power(place: Place, base: i64, exponent: u64) -> Result<Value, Fault>
 }
 
 /// A power so high that it lies within 64 bits for -1, 0 and 1 alone.
-fn high_power(place: Place, base: i64, exponent: u64) -> Result<Value, Fault>
+fn high_power(place: &Place, base: i64, exponent: u64) -> Result<Value, Trouble<'_>>
     requires { 64 ≤ exponent }
-    ensures { Gives result (number place (int_pow base exponent)) }
+    ensures { Gives result (number place.now (int_pow base exponent)) }
 {
     if base == 0 {
         return Ok(Value::Int(0));

@@ -6,8 +6,8 @@ ghost use Rattle.tla_operators.specs.Gives.{Gives};
 ghost use Rattle.tla_operators.specs.Evaluated.{tree_of_evaluated};
 
 use crate::rules::copied;
+use crate::trouble::Trouble;
 use std::alloc::Global;
-use tla_core::Fault;
 use tla_value::Value;
 
 /// A value that stands in the expression or its environment, or one that was made.
@@ -36,7 +36,7 @@ impl<'a> Evaluated<'a> {
     }
 
     /// The value, copied where it was borrowed.
-    pub fn into_value(self, alloc: Global) -> Result<Value, Fault>
+    pub fn into_value<'p>(self, alloc: Global) -> Result<Value, Trouble<'p>>
         ensures { Gives result (Ok (tree_of_evaluated self.entry)) }
     {
         match self {

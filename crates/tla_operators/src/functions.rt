@@ -10,16 +10,17 @@ ghost use Rattle.tla_operators.specs.Evaluated.{Evaluates, tree_of_evaluated};
 ghost use Rattle.tla_operators.specs.Gives.{Gives, GivesBy, GivesBorrowed};
 
 use crate::evaluated::Evaluated;
-use crate::rules::{copied, copied_text, fault_at};
+use crate::rules::{copied, copied_text};
 use crate::sets::refused;
+use crate::trouble::{Trouble, fault_at, memory};
 use std::alloc::Global;
-use tla_core::{Fault, FaultCode, Place, memory};
+use tla_core::{FaultCode, Place};
 use tla_value::{FunValue, Text, Value, ValueError};
 
 /// The function that a call made, or the fault for the limit that it would pass.
 #[tactic(auto, using(crate::proofs::Made::fun_made, crate::proofs::Made::fun_refused))]
-pub fn made_fun(place: Place, made: Result<FunValue, ValueError>) -> Result<Value, Fault>
-    ensures { (ps : List (Tree × Tree)) → MakesFun ps made → Gives result (rising_fun place ps) }
+pub fn made_fun(place: &Place, made: Result<FunValue, ValueError>) -> Result<Value, Trouble<'_>>
+    ensures { (ps : List (Tree × Tree)) → MakesFun ps made → Gives result (rising_fun place.now ps) }
 {
     match made {
         Ok(fun) => Ok(Value::Fun(fun)),
@@ -28,8 +29,12 @@ pub fn made_fun(place: Place, made: Result<FunValue, ValueError>) -> Result<Valu
 }
 
 /// A value that is a function, copied where it was borrowed.
-pub fn into_function(alloc: Global, place: Place, value: Evaluated<'_>) -> Result<FunValue, Fault>
-    ensures { GivesBy (λ f. f) result (as_fun place (tree_of_evaluated value.entry)) }
+pub fn into_function<'p>(
+    alloc: Global,
+    place: &'p Place,
+    value: Evaluated<'_>,
+) -> Result<FunValue, Trouble<'p>>
+    ensures { GivesBy (λ f. f) result (as_fun place.now (tree_of_evaluated value.entry)) }
 {
     match value {
         Evaluated::Borrowed(value) => copied_function(alloc, place, value),
@@ -39,8 +44,12 @@ pub fn into_function(alloc: Global, place: Place, value: Evaluated<'_>) -> Resul
 
 /// A copy of a value that is a function.
 #[tactic(auto, using(crate::proofs::Known::as_fun_known))]
-fn copied_function(alloc: Global, place: Place, value: &Value) -> Result<FunValue, Fault>
-    ensures { GivesBy (λ f. f) result (as_fun place (tree_of value.now)) }
+fn copied_function<'p>(
+    alloc: Global,
+    place: &'p Place,
+    value: &Value,
+) -> Result<FunValue, Trouble<'p>>
+    ensures { GivesBy (λ f. f) result (as_fun place.now (tree_of value.now)) }
 {
     match value {
         Value::Fun(fun) => match fun.copy(alloc) {
@@ -53,8 +62,8 @@ fn copied_function(alloc: Global, place: Place, value: &Value) -> Result<FunValu
 
 /// A value that is a function, by value.
 #[tactic(auto, using(crate::proofs::Known::as_fun_known))]
-fn owned_function(place: Place, value: Value) -> Result<FunValue, Fault>
-    ensures { GivesBy (λ f. f) result (as_fun place (tree_of value)) }
+fn owned_function(place: &Place, value: Value) -> Result<FunValue, Trouble<'_>>
+    ensures { GivesBy (λ f. f) result (as_fun place.now (tree_of value)) }
 {
     match value {
         Value::Fun(fun) => Ok(fun),
@@ -63,7 +72,7 @@ fn owned_function(place: Place, value: Value) -> Result<FunValue, Fault>
 }
 
 /// A function as EXCEPT leaves it where a key is outside the domain.
-pub fn unchanged(function: FunValue) -> Result<Value, Fault>
+pub fn unchanged<'p>(function: FunValue) -> Result<Value, Trouble<'p>>
     ensures { Gives result (Ok (fun (pairs function))) }
 {
     Ok(Value::Fun(function))
@@ -81,13 +90,13 @@ pub fn if_function<'a>(value: &'a Value) -> Option<&'a FunValue>
 }
 
 /// The value of a function at an argument.
-pub fn apply<'a>(
+pub fn apply<'p, 'a>(
     alloc: Global,
-    place: Place,
+    place: &'p Place,
     function: Evaluated<'a>,
     argument: &Value,
-) -> Result<Evaluated<'a>, Fault>
-    ensures { Evaluates result (binary_rule Apply place (tree_of_evaluated function.entry) (tree_of argument.now)) }
+) -> Result<Evaluated<'a>, Trouble<'p>>
+    ensures { Evaluates result (binary_rule Apply place.now (tree_of_evaluated function.entry) (tree_of argument.now)) }
 {
     match function {
         Evaluated::Borrowed(function) => Ok(Evaluated::Borrowed(value_at(
@@ -102,8 +111,12 @@ pub fn apply<'a>(
 
 /// The value of a function at an argument, lent.
 #[tactic(auto, using(crate::proofs::Known::as_fun_known))]
-fn value_at<'a>(place: Place, function: &'a Value, argument: &Value) -> Result<&'a Value, Fault>
-    ensures { GivesBorrowed result (binary_rule Apply place (tree_of function.now) (tree_of argument.now)) }
+fn value_at<'p, 'a>(
+    place: &'p Place,
+    function: &'a Value,
+    argument: &Value,
+) -> Result<&'a Value, Trouble<'p>>
+    ensures { GivesBorrowed result (binary_rule Apply place.now (tree_of function.now) (tree_of argument.now)) }
 {
     match function {
         Value::Fun(fun) => match fun.apply(argument) {
@@ -115,13 +128,13 @@ fn value_at<'a>(place: Place, function: &'a Value, argument: &Value) -> Result<&
 }
 
 /// The value of a record's field.
-pub fn field<'a>(
+pub fn field<'p, 'a>(
     alloc: Global,
-    place: Place,
+    place: &'p Place,
     name: &Text,
     base: Evaluated<'a>,
-) -> Result<Evaluated<'a>, Fault>
-    ensures { Evaluates result (unary_rule (Field name.now) place (tree_of_evaluated base.entry)) }
+) -> Result<Evaluated<'a>, Trouble<'p>>
+    ensures { Evaluates result (unary_rule (Field name.now) place.now (tree_of_evaluated base.entry)) }
 {
     let name = Value::Text(copied_text(alloc, name)?);
     match base {
@@ -135,8 +148,12 @@ pub fn field<'a>(
 
 /// The value of a record's field, lent.
 #[tactic(auto, using(crate::proofs::Known::as_fun_known))]
-fn field_at<'a>(place: Place, name: &Value, base: &'a Value) -> Result<&'a Value, Fault>
-    ensures { (s : List ℕ) → tree_of name.now ≡ text s → GivesBorrowed result (unary_rule (Field s) place (tree_of base.now)) }
+fn field_at<'p, 'a>(
+    place: &'p Place,
+    name: &Value,
+    base: &'a Value,
+) -> Result<&'a Value, Trouble<'p>>
+    ensures { (s : List ℕ) → tree_of name.now ≡ text s → GivesBorrowed result (unary_rule (Field s) place.now (tree_of base.now)) }
 {
     match base {
         Value::Fun(fun) => match fun.apply(name) {
@@ -149,8 +166,12 @@ fn field_at<'a>(place: Place, name: &Value, base: &'a Value) -> Result<&'a Value
 
 /// `DOMAIN`.
 #[tactic(auto, using(crate::proofs::Known::as_fun_known))]
-pub(crate) fn domain(alloc: Global, place: Place, function: &Value) -> Result<Value, Fault>
-    ensures { Gives result (unary_rule Domain place (tree_of function.now)) }
+pub(crate) fn domain<'p>(
+    alloc: Global,
+    place: &'p Place,
+    function: &Value,
+) -> Result<Value, Trouble<'p>>
+    ensures { Gives result (unary_rule Domain place.now (tree_of function.now)) }
 {
     match function {
         Value::Fun(fun) => match fun.domain(alloc) {
@@ -162,26 +183,26 @@ pub(crate) fn domain(alloc: Global, place: Place, function: &Value) -> Result<Va
 }
 
 /// `:>`.
-pub(crate) fn single(
+pub(crate) fn single<'p>(
     alloc: Global,
-    place: Place,
+    place: &'p Place,
     argument: &Value,
     value: &Value,
-) -> Result<Value, Fault>
-    ensures { Gives result (binary_rule Single place (tree_of argument.now) (tree_of value.now)) }
+) -> Result<Value, Trouble<'p>>
+    ensures { Gives result (binary_rule Single place.now (tree_of argument.now) (tree_of value.now)) }
 {
     let pair = (copied(alloc, argument)?, copied(alloc, value)?);
     made_fun(place, FunValue::from_pairs(Vec::from_array(alloc, [pair])?))
 }
 
 /// `@@`.
-pub(crate) fn override_with(
+pub(crate) fn override_with<'p>(
     alloc: Global,
-    place: Place,
+    place: &'p Place,
     left: &Value,
     right: &Value,
-) -> Result<Value, Fault>
-    ensures { Gives result (binary_rule Override place (tree_of left.now) (tree_of right.now)) }
+) -> Result<Value, Trouble<'p>>
+    ensures { Gives result (binary_rule Override place.now (tree_of left.now) (tree_of right.now)) }
 {
     match (left, right) {
         (Value::Fun(left), Value::Fun(right)) => made_fun(place, left.override_with(alloc, right)),

@@ -9,8 +9,9 @@ ghost use Rattle.tla_operators.specs.Gathered.{most_held, IsHeld, IsGathered, Ad
 
 use crate::rules::copied;
 use crate::sets::made_set;
+use crate::trouble::Trouble;
 use std::alloc::Global;
-use tla_core::{Fault, Place};
+use tla_core::Place;
 use tla_value::{MAX_ELEMENTS, SetValue, Value};
 
 /// How many values are held at least before doubles are dropped.
@@ -37,7 +38,7 @@ impl Gathered {
     }
 
     /// Adds a value.
-    pub fn add(&mut self, value: Value) -> Result<(), Fault>
+    pub fn add<'p>(&mut self, value: Value) -> Result<(), Trouble<'p>>
         ensures ok { OnOk result (Adds (tree_of value ∷ []) self.old self.new) }
         ensures err { IfErr result (λ f. f ≡ out_of_memory) }
     {
@@ -51,7 +52,11 @@ impl Gathered {
     }
 
     /// Adds copies of some values.
-    pub(crate) fn add_copies(&mut self, alloc: Global, values: &[Value]) -> Result<(), Fault>
+    pub(crate) fn add_copies<'p>(
+        &mut self,
+        alloc: Global,
+        values: &[Value],
+    ) -> Result<(), Trouble<'p>>
         ensures ok { OnOk result (Adds (map tree_of values.now) self.old self.new) }
         ensures err { IfErr result (λ f. f ≡ out_of_memory) }
     {
@@ -76,8 +81,8 @@ impl Gathered {
     }
 
     /// The set of the values.
-    pub fn into_set(self, place: Place) -> Result<Value, Fault>
-        ensures { (o : Outcome (List Tree)) → Gathers (Ok self) o → Gives result (set_rule place o) }
+    pub fn into_set(self, place: &Place) -> Result<Value, Trouble<'_>>
+        ensures { (o : Outcome (List Tree)) → Gathers (Ok self) o → Gives result (set_rule place.now o) }
     {
         made_set(place, SetValue::from_values(self.values))
     }

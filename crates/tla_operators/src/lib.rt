@@ -9,3 +9,4 @@ pub mod operators;
 pub mod rules;
 pub mod sequences;
 pub mod sets;
+pub mod trouble;

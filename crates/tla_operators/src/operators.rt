@@ -12,21 +12,22 @@ ghost use Rattle.tla_operators.specs.Gives.{Gives, GivesBy, GivesTruth, two_ints
 use crate::arithmetic::{add, divide, modulo, multiply, negate, power, subtract};
 use crate::evaluated::Evaluated;
 use crate::functions::{domain, override_with, single};
-use crate::rules::{as_truth, copied, fault_at};
+use crate::rules::{as_truth, copied};
 use crate::sequences::{append, concat, first_item, head, length, tail};
 use crate::sets::{range, union_all};
+use crate::trouble::{Trouble, fault_at};
 use std::alloc::Global;
-use tla_core::{Binary, Fault, FaultCode, Kind, Place, Unary};
+use tla_core::{Binary, FaultCode, Kind, Place, Unary};
 use tla_value::{SetValue, Value};
 
 /// An operator on one value.
-pub fn unary<'a>(
+pub fn unary<'p, 'a>(
     alloc: Global,
-    place: Place,
+    place: &'p Place,
     operator: Unary,
     operand: Evaluated<'a>,
-) -> Result<Evaluated<'a>, Fault>
-    ensures { Evaluates result (unary_rule (unary_of operator) place (tree_of_evaluated operand.entry)) }
+) -> Result<Evaluated<'a>, Trouble<'p>>
+    ensures { Evaluates result (unary_rule (unary_of operator) place.now (tree_of_evaluated operand.entry)) }
 {
     match operator {
         Unary::Head => head(alloc, place, operand),
@@ -35,13 +36,13 @@ pub fn unary<'a>(
 }
 
 /// The value that an operator on one value makes.
-fn made_by_unary(
+fn made_by_unary<'p>(
     alloc: Global,
-    place: Place,
+    place: &'p Place,
     operator: Unary,
     operand: &Value,
-) -> Result<Value, Fault>
-    ensures { Gives result (unary_rule (unary_of operator) place (tree_of operand.now)) }
+) -> Result<Value, Trouble<'p>>
+    ensures { Gives result (unary_rule (unary_of operator) place.now (tree_of operand.now)) }
 {
     match operator {
         Unary::Not => Ok(Value::Truth(!as_truth(operand, place)?)),
@@ -57,8 +58,8 @@ fn made_by_unary(
 }
 
 /// The number that a value is.
-fn as_int(place: Place, operand: &Value) -> Result<i64, Fault>
-    ensures { GivesBy (λ (z : ℤ). z) result (as_int place (tree_of operand.now)) }
+fn as_int<'p>(place: &'p Place, operand: &Value) -> Result<i64, Trouble<'p>>
+    ensures { GivesBy (λ (z : ℤ). z) result (as_int place.now (tree_of operand.now)) }
 {
     match operand {
         Value::Int(number) => Ok(*number),
@@ -66,8 +67,8 @@ fn as_int(place: Place, operand: &Value) -> Result<i64, Fault>
     }
 }
 
-fn is_finite(place: Place, operand: &Value) -> Result<Value, Fault>
-    ensures { Gives result (unary_rule IsFinite place (tree_of operand.now)) }
+fn is_finite<'p>(place: &'p Place, operand: &Value) -> Result<Value, Trouble<'p>>
+    ensures { Gives result (unary_rule IsFinite place.now (tree_of operand.now)) }
 {
     match operand {
         Value::Set(_) => Ok(Value::Truth(true)),
@@ -76,8 +77,8 @@ fn is_finite(place: Place, operand: &Value) -> Result<Value, Fault>
 }
 
 #[tactic(auto, using(crate::proofs::Known::as_set_known))]
-fn cardinality(place: Place, operand: &Value) -> Result<Value, Fault>
-    ensures { Gives result (unary_rule Cardinality place (tree_of operand.now)) }
+fn cardinality<'p>(place: &'p Place, operand: &Value) -> Result<Value, Trouble<'p>>
+    ensures { Gives result (unary_rule Cardinality place.now (tree_of operand.now)) }
 {
     match operand {
         Value::Set(set) => Ok(Value::Int(count_of(set))),
@@ -93,14 +94,14 @@ fn count_of(set: &SetValue) -> i64
 }
 
 /// An operator on two values.
-pub fn binary(
+pub fn binary<'p>(
     alloc: Global,
-    place: Place,
+    place: &'p Place,
     operator: Binary,
     left: &Value,
     right: &Value,
-) -> Result<Value, Fault>
-    ensures { Gives result (binary_rule (binary_of operator) place (tree_of left.now) (tree_of right.now)) }
+) -> Result<Value, Trouble<'p>>
+    ensures { Gives result (binary_rule (binary_of operator) place.now (tree_of left.now) (tree_of right.now)) }
 {
     match operator {
         Binary::Iff => iff(place, left, right),
@@ -157,8 +158,12 @@ pub fn binary(
 }
 
 /// The numbers that two values are.
-pub fn two_ints(place: Place, left: &Value, right: &Value) -> Result<(i64, i64), Fault>
-    ensures { GivesBy (λ (n : ℤ × ℤ). n) result (two_ints place (tree_of left.now) (tree_of right.now)) }
+pub fn two_ints<'p>(
+    place: &'p Place,
+    left: &Value,
+    right: &Value,
+) -> Result<(i64, i64), Trouble<'p>>
+    ensures { GivesBy (λ (n : ℤ × ℤ). n) result (two_ints place.now (tree_of left.now) (tree_of right.now)) }
 {
     match (left, right) {
         (Value::Int(left), Value::Int(right)) => Ok((*left, *right)),
@@ -166,8 +171,8 @@ pub fn two_ints(place: Place, left: &Value, right: &Value) -> Result<(i64, i64),
     }
 }
 
-fn iff(place: Place, left: &Value, right: &Value) -> Result<Value, Fault>
-    ensures { Gives result (binary_rule Iff place (tree_of left.now) (tree_of right.now)) }
+fn iff<'p>(place: &'p Place, left: &Value, right: &Value) -> Result<Value, Trouble<'p>>
+    ensures { Gives result (binary_rule Iff place.now (tree_of left.now) (tree_of right.now)) }
 {
     match (left, right) {
         (Value::Truth(left), Value::Truth(right)) => Ok(Value::Truth(*left == *right)),
@@ -176,7 +181,7 @@ fn iff(place: Place, left: &Value, right: &Value) -> Result<Value, Fault>
 }
 
 /// Whether the set of a kind has a value as a member: it has no value itself, and needs none here.
-pub fn kind_has(kind: Kind, value: &Value) -> Result<bool, Fault>
+pub fn kind_has<'p>(kind: Kind, value: &Value) -> Result<bool, Trouble<'p>>
     ensures { GivesTruth result (Ok (is_of_kind (kind_of kind) (tree_of value.now))) }
 {
     Ok(is_of_kind(kind, value))

@@ -13,15 +13,19 @@ ghost use Rattle.tla_operators.specs.Gives.{Gives, GivesBy, GivesBorrowed, value
 use crate::evaluated::Evaluated;
 use crate::functions::made_fun;
 use crate::operators::two_ints;
-use crate::rules::{copied, fault_at};
+use crate::rules::copied;
+use crate::trouble::{Trouble, fault_at};
 use std::alloc::Global;
-use tla_core::{Fault, FaultCode, Place};
+use tla_core::{FaultCode, Place};
 use tla_value::{FunValue, MAX_ELEMENTS, Value};
 
 /// The pairs of a value that is a sequence.
 #[tactic(auto, using(crate::proofs::Numbered::as_sequence_known, crate::proofs::Numbered::as_sequence_none, crate::proofs::Numbered::few_pairs, crate::proofs::Numbered::shallow_pairs))]
-pub(crate) fn items_of<'a>(place: Place, sequence: &'a Value) -> Result<&'a [(Value, Value)], Fault>
-    ensures value { GivesBy (λ ps. values_of (map pair_of ps.now)) result (as_sequence place (tree_of sequence.now)) }
+pub(crate) fn items_of<'p, 'a>(
+    place: &'p Place,
+    sequence: &'a Value,
+) -> Result<&'a [(Value, Value)], Trouble<'p>>
+    ensures value { GivesBy (λ ps. values_of (map pair_of ps.now)) result (as_sequence place.now (tree_of sequence.now)) }
     ensures few { IfOk result (λ ps. length ps.now ≤ 1000000) }
     ensures shallow { IfOk result (λ ps. deepest_pair (pairs (map pair_of ps.now)) < 64) }
 {
@@ -49,11 +53,11 @@ pub fn sequence_pairs<'a>(value: &'a Value) -> Option<&'a [(Value, Value)]>
 }
 
 /// Adds copies of the values of some pairs at the end.
-pub fn add_items(
+pub fn add_items<'p>(
     alloc: Global,
     items: &mut Vec<Value>,
     pairs: &[(Value, Value)],
-) -> Result<(), Fault>
+) -> Result<(), Trouble<'p>>
     ensures ok { OnOk result (map tree_of items.new.items ≡ map tree_of items.old.items ++ values_of (map pair_of pairs.now)) }
     ensures err { IfErr result (λ f. f ≡ out_of_memory) }
 {
@@ -64,7 +68,7 @@ pub fn add_items(
 }
 
 /// The values, each with its place from 1.
-fn number_items(alloc: Global, values: Vec<Value>) -> Result<Vec<(Value, Value)>, Fault>
+fn number_items<'p>(alloc: Global, values: Vec<Value>) -> Result<Vec<(Value, Value)>, Trouble<'p>>
     requires { length values.items ≤ 1000000 }
     ensures ok { IfOk result (λ v. map pair_of v.items ≡ numbered 1 (map tree_of values.items)) }
     ensures err { IfErr result (λ f. f ≡ out_of_memory) }
@@ -77,8 +81,8 @@ fn number_items(alloc: Global, values: Vec<Value>) -> Result<Vec<(Value, Value)>
 }
 
 /// The sequence of some values.
-pub fn sequence_of(alloc: Global, place: Place, values: Vec<Value>) -> Result<Value, Fault>
-    ensures { Gives result (make_sequence place (map tree_of values.items)) }
+pub fn sequence_of(alloc: Global, place: &Place, values: Vec<Value>) -> Result<Value, Trouble<'_>>
+    ensures { Gives result (make_sequence place.now (map tree_of values.items)) }
 {
     if values.len() > MAX_ELEMENTS {
         return Err(fault_at(FaultCode::TooMany, place));
@@ -88,13 +92,13 @@ pub fn sequence_of(alloc: Global, place: Place, values: Vec<Value>) -> Result<Va
 }
 
 /// The sequence of the items from one place up to another, counted from 0.
-fn part(
+fn part<'p>(
     alloc: Global,
-    place: Place,
+    place: &'p Place,
     items: &[(Value, Value)],
     from: usize,
     to: usize,
-) -> Result<Value, Fault>
+) -> Result<Value, Trouble<'p>>
     requires within { to ≤ length items.now }
     requires order { from ≤ to }
     requires few { length items.now ≤ 1000000 }
@@ -107,20 +111,20 @@ fn part(
 }
 
 /// `Len`.
-pub(crate) fn length(place: Place, sequence: &Value) -> Result<Value, Fault>
-    ensures { Gives result (unary_rule Len place (tree_of sequence.now)) }
+pub(crate) fn length<'p>(place: &'p Place, sequence: &Value) -> Result<Value, Trouble<'p>>
+    ensures { Gives result (unary_rule Len place.now (tree_of sequence.now)) }
 {
     let items = items_of(place, sequence)?;
     Ok(Value::Int(items.len() as i64))
 }
 
 /// `Head`.
-pub(crate) fn head<'a>(
+pub(crate) fn head<'p, 'a>(
     alloc: Global,
-    place: Place,
+    place: &'p Place,
     sequence: Evaluated<'a>,
-) -> Result<Evaluated<'a>, Fault>
-    ensures { Evaluates result (unary_rule Head place (tree_of_evaluated sequence.entry)) }
+) -> Result<Evaluated<'a>, Trouble<'p>>
+    ensures { Evaluates result (unary_rule Head place.now (tree_of_evaluated sequence.entry)) }
 {
     match sequence {
         Evaluated::Borrowed(sequence) => Ok(Evaluated::Borrowed(first_item(place, sequence)?)),
@@ -132,8 +136,11 @@ pub(crate) fn head<'a>(
 }
 
 /// The first item, lent.
-pub(crate) fn first_item<'a>(place: Place, sequence: &'a Value) -> Result<&'a Value, Fault>
-    ensures { GivesBorrowed result (unary_rule Head place (tree_of sequence.now)) }
+pub(crate) fn first_item<'p, 'a>(
+    place: &'p Place,
+    sequence: &'a Value,
+) -> Result<&'a Value, Trouble<'p>>
+    ensures { GivesBorrowed result (unary_rule Head place.now (tree_of sequence.now)) }
 {
     let items = items_of(place, sequence)?;
     match items.first() {
@@ -143,8 +150,12 @@ pub(crate) fn first_item<'a>(place: Place, sequence: &'a Value) -> Result<&'a Va
 }
 
 /// `Tail`.
-pub(crate) fn tail(alloc: Global, place: Place, sequence: &Value) -> Result<Value, Fault>
-    ensures { Gives result (unary_rule Tail place (tree_of sequence.now)) }
+pub(crate) fn tail<'p>(
+    alloc: Global,
+    place: &'p Place,
+    sequence: &Value,
+) -> Result<Value, Trouble<'p>>
+    ensures { Gives result (unary_rule Tail place.now (tree_of sequence.now)) }
 {
     let items = items_of(place, sequence)?;
     if items.is_empty() {
@@ -154,13 +165,13 @@ pub(crate) fn tail(alloc: Global, place: Place, sequence: &Value) -> Result<Valu
 }
 
 /// `\o`.
-pub(crate) fn concat(
+pub(crate) fn concat<'p>(
     alloc: Global,
-    place: Place,
+    place: &'p Place,
     left: &Value,
     right: &Value,
-) -> Result<Value, Fault>
-    ensures { Gives result (binary_rule Concat place (tree_of left.now) (tree_of right.now)) }
+) -> Result<Value, Trouble<'p>>
+    ensures { Gives result (binary_rule Concat place.now (tree_of left.now) (tree_of right.now)) }
 {
     let left = items_of(place, left)?;
     let right = items_of(place, right)?;
@@ -171,13 +182,13 @@ pub(crate) fn concat(
 }
 
 /// `Append`.
-pub(crate) fn append(
+pub(crate) fn append<'p>(
     alloc: Global,
-    place: Place,
+    place: &'p Place,
     sequence: &Value,
     item: &Value,
-) -> Result<Value, Fault>
-    ensures { Gives result (binary_rule Append place (tree_of sequence.now) (tree_of item.now)) }
+) -> Result<Value, Trouble<'p>>
+    ensures { Gives result (binary_rule Append place.now (tree_of sequence.now) (tree_of item.now)) }
 {
     let items = items_of(place, sequence)?;
     let mut values = Vec::new(alloc);
@@ -187,14 +198,14 @@ pub(crate) fn append(
 }
 
 /// `SubSeq`.
-pub fn sub_seq(
+pub fn sub_seq<'p>(
     alloc: Global,
-    place: Place,
+    place: &'p Place,
     sequence: &Value,
     low: &Value,
     high: &Value,
-) -> Result<Value, Fault>
-    ensures { Gives result (sub_seq_rule place (tree_of sequence.now) (tree_of low.now) (tree_of high.now)) }
+) -> Result<Value, Trouble<'p>>
+    ensures { Gives result (sub_seq_rule place.now (tree_of sequence.now) (tree_of low.now) (tree_of high.now)) }
 {
     let items = items_of(place, sequence)?;
     let (low, high) = two_ints(place, low, high)?;
@@ -202,16 +213,16 @@ pub fn sub_seq(
 }
 
 /// The sequence of the items `low` to `high`, counted from 1.
-fn items_between(
+fn items_between<'p>(
     alloc: Global,
-    place: Place,
+    place: &'p Place,
     items: &[(Value, Value)],
     low: i64,
     high: i64,
-) -> Result<Value, Fault>
+) -> Result<Value, Trouble<'p>>
     requires few { length items.now ≤ 1000000 }
     requires shallow { deepest_pair (pairs (map pair_of items.now)) < 64 }
-    ensures { Gives result (part_of place (values_of (map pair_of items.now)) low high) }
+    ensures { Gives result (part_of place.now (values_of (map pair_of items.now)) low high) }
 {
     if high < low {
         return part(alloc, place, items, 0, 0);

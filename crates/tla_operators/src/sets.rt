@@ -17,15 +17,15 @@ ghost use Rattle.tla_operators.specs.Gathered.{Gathers};
 
 use crate::evaluated::Evaluated;
 use crate::gathered::Gathered;
-use crate::rules::fault_at;
+use crate::trouble::{Trouble, fault_at, memory};
 use std::alloc::Global;
-use tla_core::{Fault, FaultCode, Place, memory};
+use tla_core::{FaultCode, Place};
 use tla_value::{FunValue, SetValue, Value, ValueError};
 
 /// The members of a value that is a set.
 #[tactic(auto, using(crate::proofs::Known::as_set_known))]
-pub fn members<'a>(place: Place, set: &'a Value) -> Result<&'a [Value], Fault>
-    ensures { GivesBy (λ s. map tree_of s.now) result (as_set place (tree_of set.now)) }
+pub fn members<'p, 'a>(place: &'p Place, set: &'a Value) -> Result<&'a [Value], Trouble<'p>>
+    ensures { GivesBy (λ s. map tree_of s.now) result (as_set place.now (tree_of set.now)) }
 {
     match set {
         Value::Set(set) => Ok(set.items()),
@@ -35,8 +35,8 @@ pub fn members<'a>(place: Place, set: &'a Value) -> Result<&'a [Value], Fault>
 
 /// Whether a set has a value as a member.
 #[tactic(auto, using(crate::proofs::Known::as_set_known))]
-pub fn contains(place: Place, set: &Value, value: &Value) -> Result<bool, Fault>
-    ensures { GivesTruth result (contains_rule place (tree_of set.now) (tree_of value.now)) }
+pub fn contains<'p>(place: &'p Place, set: &Value, value: &Value) -> Result<bool, Trouble<'p>>
+    ensures { GivesTruth result (contains_rule place.now (tree_of set.now) (tree_of value.now)) }
 {
     match set {
         Value::Set(set) => Ok(set.contains(value)),
@@ -45,8 +45,8 @@ pub fn contains(place: Place, set: &Value, value: &Value) -> Result<bool, Fault>
 }
 
 /// The fault of a value that would pass a limit.
-pub fn refused(place: Place, error: ValueError) -> Fault
-    ensures { IsRefusal error place result }
+pub fn refused(place: &Place, error: ValueError) -> Trouble<'_>
+    ensures { IsRefusal error place.now result }
 {
     match error {
         ValueError::TooMany => fault_at(FaultCode::TooMany, place),
@@ -57,8 +57,8 @@ pub fn refused(place: Place, error: ValueError) -> Fault
 
 /// The set that a call made, or the fault for the limit that it would pass.
 #[tactic(auto, using(crate::proofs::Made::set_made, crate::proofs::Made::set_refused))]
-pub fn made_set(place: Place, made: Result<SetValue, ValueError>) -> Result<Value, Fault>
-    ensures { (ts : List Tree) → MakesSet ts made → Gives result (rising_set place ts) }
+pub fn made_set(place: &Place, made: Result<SetValue, ValueError>) -> Result<Value, Trouble<'_>>
+    ensures { (ts : List Tree) → MakesSet ts made → Gives result (rising_set place.now ts) }
 {
     match made {
         Ok(set) => Ok(Value::Set(set)),
@@ -67,8 +67,13 @@ pub fn made_set(place: Place, made: Result<SetValue, ValueError>) -> Result<Valu
 }
 
 /// The members of one set and of another.
-pub fn union_of(alloc: Global, place: Place, left: &Value, right: &Value) -> Result<Value, Fault>
-    ensures { Gives result (on_sets place (λ xs ys. xs ++ ys) (tree_of left.now) (tree_of right.now)) }
+pub fn union_of<'p>(
+    alloc: Global,
+    place: &'p Place,
+    left: &Value,
+    right: &Value,
+) -> Result<Value, Trouble<'p>>
+    ensures { Gives result (on_sets place.now (λ xs ys. xs ++ ys) (tree_of left.now) (tree_of right.now)) }
 {
     match (left, right) {
         (Value::Set(left), Value::Set(right)) => made_set(place, left.union(alloc, right)),
@@ -77,13 +82,13 @@ pub fn union_of(alloc: Global, place: Place, left: &Value, right: &Value) -> Res
 }
 
 /// The members of one set that are those of another.
-pub fn intersection_of(
+pub fn intersection_of<'p>(
     alloc: Global,
-    place: Place,
+    place: &'p Place,
     left: &Value,
     right: &Value,
-) -> Result<Value, Fault>
-    ensures { Gives result (on_sets place (λ xs ys. filter (λ v. is_member v ys) xs) (tree_of left.now) (tree_of right.now)) }
+) -> Result<Value, Trouble<'p>>
+    ensures { Gives result (on_sets place.now (λ xs ys. filter (λ v. is_member v ys) xs) (tree_of left.now) (tree_of right.now)) }
 {
     match (left, right) {
         (Value::Set(left), Value::Set(right)) => {
@@ -95,13 +100,13 @@ pub fn intersection_of(
 }
 
 /// The members of one set that are no members of another.
-pub fn difference_of(
+pub fn difference_of<'p>(
     alloc: Global,
-    place: Place,
+    place: &'p Place,
     left: &Value,
     right: &Value,
-) -> Result<Value, Fault>
-    ensures { Gives result (on_sets place (λ xs ys. filter (λ v. not (is_member v ys)) xs) (tree_of left.now) (tree_of right.now)) }
+) -> Result<Value, Trouble<'p>>
+    ensures { Gives result (on_sets place.now (λ xs ys. filter (λ v. not (is_member v ys)) xs) (tree_of left.now) (tree_of right.now)) }
 {
     match (left, right) {
         (Value::Set(left), Value::Set(right)) => {
@@ -113,8 +118,8 @@ pub fn difference_of(
 }
 
 /// All subsets of a set.
-pub fn subsets_of(alloc: Global, place: Place, set: &Value) -> Result<Value, Fault>
-    ensures { Gives result (subsets_rule place (tree_of set.now)) }
+pub fn subsets_of<'p>(alloc: Global, place: &'p Place, set: &Value) -> Result<Value, Trouble<'p>>
+    ensures { Gives result (subsets_rule place.now (tree_of set.now)) }
 {
     match set {
         Value::Set(set) => made_set(place, set.power(alloc)),
@@ -123,13 +128,13 @@ pub fn subsets_of(alloc: Global, place: Place, set: &Value) -> Result<Value, Fau
 }
 
 /// The functions on one set with values in another.
-pub fn functions_between(
+pub fn functions_between<'p>(
     alloc: Global,
-    place: Place,
+    place: &'p Place,
     domain: &Value,
     range: &Value,
-) -> Result<Value, Fault>
-    ensures { Gives result (on_sets place functions_of (tree_of domain.now) (tree_of range.now)) }
+) -> Result<Value, Trouble<'p>>
+    ensures { Gives result (on_sets place.now functions_of (tree_of domain.now) (tree_of range.now)) }
 {
     match (domain, range) {
         (Value::Set(domain), Value::Set(range)) => made_set(
@@ -142,8 +147,11 @@ pub fn functions_between(
 
 /// The set of functions that a call made, or the fault for the limit that it would pass.
 #[tactic(auto, using(crate::proofs::Made::functions_made, crate::proofs::Made::functions_refused))]
-pub fn made_functions(place: Place, made: Result<SetValue, ValueError>) -> Result<Value, Fault>
-    ensures { (ts : List Tree) → MakesSetOfFunctions ts made → Gives result (sized_set place (size_of_functions ts) ts) }
+pub fn made_functions(
+    place: &Place,
+    made: Result<SetValue, ValueError>,
+) -> Result<Value, Trouble<'_>>
+    ensures { (ts : List Tree) → MakesSetOfFunctions ts made → Gives result (sized_set place.now (size_of_functions ts) ts) }
 {
     match made {
         Ok(set) => Ok(Value::Set(set)),
@@ -152,8 +160,12 @@ pub fn made_functions(place: Place, made: Result<SetValue, ValueError>) -> Resul
 }
 
 /// The tuples with one part of each value.
-pub fn tuples_with(alloc: Global, place: Place, values: &[Evaluated<'_>]) -> Result<Value, Fault>
-    ensures { Gives result (tuples_rule place (map tree_of_evaluated values.now)) }
+pub fn tuples_with<'p>(
+    alloc: Global,
+    place: &'p Place,
+    values: &[Evaluated<'_>],
+) -> Result<Value, Trouble<'p>>
+    ensures { Gives result (tuples_rule place.now (map tree_of_evaluated values.now)) }
 {
     let sets = as_sets(alloc, place, values)?;
     made_functions(place, SetValue::product(alloc, sets.as_slice()))
@@ -161,8 +173,12 @@ pub fn tuples_with(alloc: Global, place: Place, values: &[Evaluated<'_>]) -> Res
 
 /// A copy of a value that is a set.
 #[tactic(auto, using(crate::proofs::Known::as_set_known))]
-pub fn copied_set(alloc: Global, place: Place, value: &Value) -> Result<SetValue, Fault>
-    ensures { GivesBy (λ s. s) result (as_set place (tree_of value.now)) }
+pub fn copied_set<'p>(
+    alloc: Global,
+    place: &'p Place,
+    value: &Value,
+) -> Result<SetValue, Trouble<'p>>
+    ensures { GivesBy (λ s. s) result (as_set place.now (tree_of value.now)) }
 {
     match value {
         Value::Set(set) => match set.copy(alloc) {
@@ -174,12 +190,12 @@ pub fn copied_set(alloc: Global, place: Place, value: &Value) -> Result<SetValue
 }
 
 /// Copies of some values that are sets.
-pub fn as_sets(
+pub fn as_sets<'p>(
     alloc: Global,
-    place: Place,
+    place: &'p Place,
     values: &[Evaluated<'_>],
-) -> Result<Vec<SetValue>, Fault>
-    ensures { GivesBy (λ v. v.items) result (each (as_set place) (map tree_of_evaluated values.now)) }
+) -> Result<Vec<SetValue>, Trouble<'p>>
+    ensures { GivesBy (λ v. v.items) result (each (as_set place.now) (map tree_of_evaluated values.now)) }
 {
     let mut sets = Vec::with_capacity(alloc, values.len())?;
     for value in values {
@@ -200,23 +216,27 @@ pub fn if_set<'a>(value: &'a Value) -> Option<&'a [Value]>
 }
 
 /// The numbers from `low` to `high`.
-pub(crate) fn range(alloc: Global, place: Place, low: i64, high: i64) -> Result<Value, Fault>
-    ensures { Gives result (rising_set place (range_of low high)) }
+pub(crate) fn range(alloc: Global, place: &Place, low: i64, high: i64) -> Result<Value, Trouble<'_>>
+    ensures { Gives result (rising_set place.now (range_of low high)) }
 {
     made_set(place, SetValue::range(alloc, low, high))
 }
 
 /// The members of the members of a set.
-pub(crate) fn union_all(alloc: Global, place: Place, sets: &Value) -> Result<Value, Fault>
-    ensures { Gives result (unary_rule Union place (tree_of sets.now)) }
+pub(crate) fn union_all<'p>(
+    alloc: Global,
+    place: &'p Place,
+    sets: &Value,
+) -> Result<Value, Trouble<'p>>
+    ensures { Gives result (unary_rule Union place.now (tree_of sets.now)) }
 {
     let sets = members(place, sets)?;
     joined(alloc, place, sets)?.into_set(place)
 }
 
 /// The different members of some sets.
-fn joined(alloc: Global, place: Place, sets: &[Value]) -> Result<Gathered, Fault>
-    ensures { Gathers result (joined_sets place (map tree_of sets.now)) }
+fn joined<'p>(alloc: Global, place: &'p Place, sets: &[Value]) -> Result<Gathered, Trouble<'p>>
+    ensures { Gathers result (joined_sets place.now (map tree_of sets.now)) }
 {
     let mut gathered = Gathered::new(alloc);
     for set in sets {
@@ -226,7 +246,7 @@ fn joined(alloc: Global, place: Place, sets: &[Value]) -> Result<Gathered, Fault
 }
 
 /// `BOOLEAN`.
-pub fn booleans<'a>(alloc: Global) -> Result<Evaluated<'a>, Fault>
+pub fn booleans<'p, 'a>(alloc: Global) -> Result<Evaluated<'a>, Trouble<'p>>
     ensures { Evaluates result (Ok (set (trees (truth false ∷ truth true ∷ [])))) }
 {
     let values = match Vec::from_array(alloc, [Value::Truth(false), Value::Truth(true)]) {

@@ -16,23 +16,24 @@ ghost use Rattle.tla_sets.specs.Elements.{has_rule, stands_rule};
 
 use crate::elements::fits_range;
 use std::alloc::Global;
-use tla_core::{Binary, Fault, Place};
+use tla_core::{Binary, Place};
 use tla_operators::evaluated::Evaluated;
 use tla_operators::operators::{binary, two_ints};
 use tla_operators::rules::copied;
 use tla_operators::sets::{contains, made_set};
+use tla_operators::trouble::Trouble;
 use tla_value::{MAX_ELEMENTS, MAX_NESTING, SetValue, Value};
 
 /// Whether what an operator gives has a value as a member. A range is not made.
-pub fn two_have(
+pub fn two_have<'p>(
     alloc: Global,
-    place: Place,
+    place: &'p Place,
     operator: Binary,
     left: &Value,
     right: &Value,
     value: &Value,
-) -> Result<bool, Fault>
-    ensures { GivesTruth result (has_rule place (tree_of value.now) (binary_rule (binary_of operator) place (tree_of left.now) (tree_of right.now))) }
+) -> Result<bool, Trouble<'p>>
+    ensures { GivesTruth result (has_rule place.now (tree_of value.now) (binary_rule (binary_of operator) place.now (tree_of left.now) (tree_of right.now))) }
 {
     match operator {
         Binary::Range => range_has(place, left, right, value),
@@ -41,8 +42,13 @@ pub fn two_have(
 }
 
 /// Whether a value is one of the numbers from one value to another, where their set is within the limits.
-fn range_has(place: Place, left: &Value, right: &Value, value: &Value) -> Result<bool, Fault>
-    ensures { GivesTruth result (has_rule place (tree_of value.now) (binary_rule Range place (tree_of left.now) (tree_of right.now))) }
+fn range_has<'p>(
+    place: &'p Place,
+    left: &Value,
+    right: &Value,
+    value: &Value,
+) -> Result<bool, Trouble<'p>>
+    ensures { GivesTruth result (has_rule place.now (tree_of value.now) (binary_rule Range place.now (tree_of left.now) (tree_of right.now))) }
 {
     let (low, high) = two_ints(place, left, right)?;
     range_between_has(place, low, high, value)
@@ -50,8 +56,13 @@ fn range_has(place: Place, left: &Value, right: &Value, value: &Value) -> Result
 
 /// Whether a value is one of the numbers from `low` to `high`, where their set is within the limits.
 #[tactic(auto, using(crate::proofs::Known::has_known))]
-fn range_between_has(place: Place, low: i64, high: i64, value: &Value) -> Result<bool, Fault>
-    ensures { GivesTruth result (has_rule place (tree_of value.now) (rising_set place (range_of low high))) }
+fn range_between_has<'p>(
+    place: &'p Place,
+    low: i64,
+    high: i64,
+    value: &Value,
+) -> Result<bool, Trouble<'p>>
+    ensures { GivesTruth result (has_rule place.now (tree_of value.now) (rising_set place.now (range_of low high))) }
 {
     fits_range(place, low, high)?;
     Ok(is_between(value, low, high))
@@ -82,13 +93,13 @@ fn is_between(value: &Value, low: i64, high: i64) -> bool
 }
 
 /// Whether a value is a member of the set of some values. It is made only where it may be beyond the limits.
-pub fn set_has(
+pub fn set_has<'p>(
     alloc: Global,
-    place: Place,
+    place: &'p Place,
     values: &[Evaluated<'_>],
     value: &Value,
-) -> Result<bool, Fault>
-    ensures { GivesTruth result (stands_rule place (map tree_of_evaluated values.now) (tree_of value.now)) }
+) -> Result<bool, Trouble<'p>>
+    ensures { GivesTruth result (stands_rule place.now (map tree_of_evaluated values.now) (tree_of value.now)) }
 {
     if are_within(values) {
         Ok(stands_in(values, value))
@@ -147,14 +158,18 @@ fn is_value(value: &Value, other: &Evaluated<'_>) -> bool
 }
 
 /// The set of copies of some values.
-fn set_of_copies(alloc: Global, place: Place, values: &[Evaluated<'_>]) -> Result<Value, Fault>
-    ensures { Gives result (make_set place (map tree_of_evaluated values.now)) }
+fn set_of_copies<'p>(
+    alloc: Global,
+    place: &'p Place,
+    values: &[Evaluated<'_>],
+) -> Result<Value, Trouble<'p>>
+    ensures { Gives result (make_set place.now (map tree_of_evaluated values.now)) }
 {
     made_set(place, SetValue::from_values(copies(alloc, values)?))
 }
 
 /// Copies of some values.
-fn copies(alloc: Global, values: &[Evaluated<'_>]) -> Result<Vec<Value>, Fault>
+fn copies<'p>(alloc: Global, values: &[Evaluated<'_>]) -> Result<Vec<Value>, Trouble<'p>>
     ensures ok { IfOk result (λ v. map tree_of v.items ≡ map tree_of_evaluated values.now) }
     ensures err { IfErr result (λ f. f ≡ out_of_memory) }
 {

@@ -13,27 +13,28 @@ ghost use Rattle.tla_sets.specs.Domain.{FindsDomain, function_rule};
 ghost use Rattle.tla_operators.specs.Gives.{Gives, GivesBy};
 
 use std::alloc::Global;
-use tla_core::{Fault, Place};
+use tla_core::Place;
 use tla_operators::evaluated::Evaluated;
 use tla_operators::functions::made_fun;
 use tla_operators::rules::copied;
 use tla_operators::sets::{as_sets, members, refused};
+use tla_operators::trouble::Trouble;
 use tla_value::{FunValue, SetValue, Value};
 
 /// The tuples that a function is defined on, or the fault of each function on them.
 #[derive(Drop)]
-pub enum Domain {
+pub enum Domain<'p> {
     Tuples(SetValue),
-    Refused(Fault),
+    Refused(Trouble<'p>),
 }
 
 /// The members of some values that are sets.
-pub fn lists_of<'a>(
+pub fn lists_of<'p, 'a>(
     alloc: Global,
-    place: Place,
+    place: &'p Place,
     sets: &'a [Evaluated<'a>],
-) -> Result<Vec<&'a [Value]>, Fault>
-    ensures { GivesBy (λ v. map (λ l. map tree_of l.now) v.items) result (each (as_set place) (map tree_of_evaluated sets.now)) }
+) -> Result<Vec<&'a [Value]>, Trouble<'p>>
+    ensures { GivesBy (λ v. map (λ l. map tree_of l.now) v.items) result (each (as_set place.now) (map tree_of_evaluated sets.now)) }
 {
     let mut lists = Vec::with_capacity(alloc, sets.len())?;
     for set in sets {
@@ -58,11 +59,11 @@ fn member_at(list: &[Value], number: usize) -> &Value
 }
 
 /// The choice with a number of one member of each list, the first list slowest; none where there are fewer choices.
-pub fn choice_at(
+pub fn choice_at<'p>(
     alloc: Global,
     lists: &[&[Value]],
     number: usize,
-) -> Result<Option<Vec<Value>>, Fault>
+) -> Result<Option<Vec<Value>>, Trouble<'p>>
     ensures ok { IfOk result (λ o. option_map (λ v. map tree_of v.items) o ≡ slice_get (choices (map (λ l. map tree_of l.now) lists.now)) number) }
     ensures err { IfErr result (λ f. f ≡ out_of_memory) }
 {
@@ -96,11 +97,11 @@ fn each_rises(sets: &[SetValue])
 fn let_go<T: Drop>(_value: T) {}
 
 /// Each of these values behind the argument at its place.
-fn paired(
+fn paired<'p>(
     alloc: Global,
     arguments: &[Value],
     values: Vec<Value>,
-) -> Result<Vec<(Value, Value)>, Fault>
+) -> Result<Vec<(Value, Value)>, Trouble<'p>>
     ensures ok { IfOk result (λ v. map pair_of v.items ≡ zip (map tree_of arguments.now) (map tree_of values.items)) }
     ensures err { IfErr result (λ f. f ≡ out_of_memory) }
 {
@@ -115,36 +116,40 @@ fn paired(
 }
 
 /// The function on these arguments with these values.
-pub fn function_with(
+pub fn function_with<'p>(
     alloc: Global,
-    place: Place,
+    place: &'p Place,
     arguments: &[Value],
     values: Vec<Value>,
-) -> Result<Value, Fault>
-    ensures { Gives result (make_fun place (zip (map tree_of arguments.now) (map tree_of values.items))) }
+) -> Result<Value, Trouble<'p>>
+    ensures { Gives result (make_fun place.now (zip (map tree_of arguments.now) (map tree_of values.items))) }
 {
     let pairs = paired(alloc, arguments, values)?;
     made_fun(place, FunValue::from_pairs(pairs))
 }
 
 /// The function on the members of one set, with these values.
-pub fn function_on(
+pub fn function_on<'p>(
     alloc: Global,
-    place: Place,
+    place: &'p Place,
     sets: &[Evaluated<'_>],
     values: Vec<Value>,
-) -> Result<Value, Fault>
+) -> Result<Value, Trouble<'p>>
     requires { length sets.now ≡ 1 }
-    ensures { Gives result (function_rule place (map tree_of_evaluated sets.now) (map tree_of values.items)) }
+    ensures { Gives result (function_rule place.now (map tree_of_evaluated sets.now) (map tree_of values.items)) }
 {
     let arguments = members(place, sets[0].value())?;
     function_with(alloc, place, arguments, values)
 }
 
 /// What a function on all choices from some sets is defined on, or the fault of every such function.
-pub fn domain_of(alloc: Global, place: Place, sets: &[Evaluated<'_>]) -> Result<Domain, Fault>
+pub fn domain_of<'p>(
+    alloc: Global,
+    place: &'p Place,
+    sets: &[Evaluated<'_>],
+) -> Result<Domain<'p>, Trouble<'p>>
     requires { length sets.now ≡ 1 → ⊥ }
-    ensures { FindsDomain place (map tree_of_evaluated sets.now) result }
+    ensures { FindsDomain place.now (map tree_of_evaluated sets.now) result }
 {
     let sets = as_sets(alloc, place, sets)?;
     each_rises(sets.as_slice());

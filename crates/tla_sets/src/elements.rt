@@ -15,11 +15,12 @@ ghost use Rattle.tla_operators.specs.Evaluated.{tree_of_evaluated};
 ghost use Rattle.tla_sets.specs.Elements.{elements_of, GivesElements, elements_rule};
 
 use std::alloc::Global;
-use tla_core::{Binary, Fault, FaultCode, Place, memory};
+use tla_core::{Binary, FaultCode, Place};
 use tla_operators::evaluated::Evaluated;
 use tla_operators::operators::{binary, two_ints};
-use tla_operators::rules::{copied, fault_at};
+use tla_operators::rules::copied;
 use tla_operators::sets::members;
+use tla_operators::trouble::{Trouble, fault_at, memory};
 use tla_value::{MAX_ELEMENTS, SetValue, Value};
 
 /// The elements of a set, rising: members that are lent, those of a set that was made, or the numbers from one to another.
@@ -31,8 +32,8 @@ pub enum Elements<'a> {
 }
 
 /// The members of a value that is a set.
-pub fn members_of<'a>(place: Place, set: Evaluated<'a>) -> Result<Elements<'a>, Fault>
-    ensures { GivesElements result (as_set place (tree_of_evaluated set.entry)) }
+pub fn members_of<'p, 'a>(place: &'p Place, set: Evaluated<'a>) -> Result<Elements<'a>, Trouble<'p>>
+    ensures { GivesElements result (as_set place.now (tree_of_evaluated set.entry)) }
 {
     match set {
         Evaluated::Borrowed(set) => Ok(Elements::Lent(members(place, set)?)),
@@ -42,8 +43,8 @@ pub fn members_of<'a>(place: Place, set: Evaluated<'a>) -> Result<Elements<'a>, 
 
 /// The members of a value that is a set, by value.
 #[tactic(auto, using(tla_operators::proofs::Known::as_set_known))]
-fn owned_members<'a>(place: Place, set: Value) -> Result<Elements<'a>, Fault>
-    ensures { GivesElements result (as_set place (tree_of set)) }
+fn owned_members<'p, 'a>(place: &'p Place, set: Value) -> Result<Elements<'a>, Trouble<'p>>
+    ensures { GivesElements result (as_set place.now (tree_of set)) }
 {
     match set {
         Value::Set(set) => Ok(Elements::Made(set)),
@@ -52,15 +53,15 @@ fn owned_members<'a>(place: Place, set: Value) -> Result<Elements<'a>, Fault>
 }
 
 /// The elements of what an operator at another place gives, which has to be a set. A range is not made.
-pub fn elements_of_two<'a>(
+pub fn elements_of_two<'p, 'a>(
     alloc: Global,
-    place: Place,
-    at: Place,
+    place: &'p Place,
+    at: &'p Place,
     operator: Binary,
     left: &Value,
     right: &Value,
-) -> Result<Elements<'a>, Fault>
-    ensures { GivesElements result (elements_rule place (binary_rule (binary_of operator) at (tree_of left.now) (tree_of right.now))) }
+) -> Result<Elements<'a>, Trouble<'p>>
+    ensures { GivesElements result (elements_rule place.now (binary_rule (binary_of operator) at.now (tree_of left.now) (tree_of right.now))) }
 {
     match operator {
         Binary::Range => numbers(place, at, left, right),
@@ -69,8 +70,13 @@ pub fn elements_of_two<'a>(
 }
 
 /// The numbers from one value to another, where their set is within the limits.
-fn numbers<'a>(place: Place, at: Place, left: &Value, right: &Value) -> Result<Elements<'a>, Fault>
-    ensures { GivesElements result (elements_rule place (binary_rule Range at (tree_of left.now) (tree_of right.now))) }
+fn numbers<'p, 'a>(
+    place: &'p Place,
+    at: &'p Place,
+    left: &Value,
+    right: &Value,
+) -> Result<Elements<'a>, Trouble<'p>>
+    ensures { GivesElements result (elements_rule place.now (binary_rule Range at.now (tree_of left.now) (tree_of right.now))) }
 {
     let (low, high) = two_ints(at, left, right)?;
     numbers_between(place, at, low, high)
@@ -78,16 +84,21 @@ fn numbers<'a>(place: Place, at: Place, left: &Value, right: &Value) -> Result<E
 
 /// The numbers from `low` to `high`, where their set is within the limits.
 #[tactic(auto, using(crate::proofs::Known::elements_known))]
-fn numbers_between<'a>(place: Place, at: Place, low: i64, high: i64) -> Result<Elements<'a>, Fault>
-    ensures { GivesElements result (elements_rule place (rising_set at (range_of low high))) }
+fn numbers_between<'p, 'a>(
+    place: &'p Place,
+    at: &'p Place,
+    low: i64,
+    high: i64,
+) -> Result<Elements<'a>, Trouble<'p>>
+    ensures { GivesElements result (elements_rule place.now (rising_set at.now (range_of low high))) }
 {
     fits_range(at, low, high)?;
     Ok(Elements::Numbers(low, high))
 }
 
 /// Whether the set of the numbers from `low` to `high` is within the limits.
-pub(crate) fn fits_range(place: Place, low: i64, high: i64) -> Result<(), Fault>
-    ensures { GivesBy (λ _. set (trees (range_of low high))) result (rising_set place (range_of low high)) }
+pub(crate) fn fits_range(place: &Place, low: i64, high: i64) -> Result<(), Trouble<'_>>
+    ensures { GivesBy (λ _. set (trees (range_of low high))) result (rising_set place.now (range_of low high)) }
 {
     if high < low {
         return Ok(());
@@ -151,13 +162,13 @@ fn number_at(low: i64, high: i64, number: usize) -> Option<i64>
 }
 
 /// The element with a number, as a value of its own. That there is none is what CHOOSE tells.
-pub fn chosen_at<'e>(
+pub fn chosen_at<'p, 'e>(
     alloc: Global,
-    place: Place,
+    place: &'p Place,
     elements: &'e Elements<'e>,
     number: usize,
-) -> Result<Value, Fault>
-    ensures { Gives result (or_fault NoChoice place (slice_get (elements_of elements.now) number)) }
+) -> Result<Value, Trouble<'p>>
+    ensures { Gives result (or_fault NoChoice place.now (slice_get (elements_of elements.now) number)) }
 {
     match element_at(elements, number) {
         Some(element) => element.into_value(alloc),
@@ -166,13 +177,13 @@ pub fn chosen_at<'e>(
 }
 
 /// Adds the element with a number at the end, if it is to be kept.
-pub fn keep_at<'e>(
+pub fn keep_at<'p, 'e>(
     alloc: Global,
     kept: &mut Vec<Value>,
     elements: &'e Elements<'e>,
     number: usize,
     keep: bool,
-) -> Result<(), Fault>
+) -> Result<(), Trouble<'p>>
     ensures ok { OnOk result (map tree_of kept.new.items ≡ cond keep (map tree_of kept.old.items ++ option_to_list (slice_get (elements_of elements.now) number)) (map tree_of kept.old.items)) }
     ensures err { IfErr result (λ f. f ≡ out_of_memory) }
 {
@@ -189,7 +200,7 @@ pub fn keep_at<'e>(
 }
 
 /// The elements, as values of their own.
-pub fn into_values(alloc: Global, elements: Elements<'_>) -> Result<Vec<Value>, Fault>
+pub fn into_values<'p>(alloc: Global, elements: Elements<'_>) -> Result<Vec<Value>, Trouble<'p>>
     ensures { GivesBy (λ v. map tree_of v.items) result (Ok (elements_of elements.entry)) }
 {
     match elements {
@@ -203,7 +214,7 @@ pub fn into_values(alloc: Global, elements: Elements<'_>) -> Result<Vec<Value>, 
 }
 
 /// Copies of some values.
-fn copies_of(alloc: Global, values: &[Value]) -> Result<Vec<Value>, Fault>
+fn copies_of<'p>(alloc: Global, values: &[Value]) -> Result<Vec<Value>, Trouble<'p>>
     ensures ok { IfOk result (λ v. v.items ≡ values.now) }
     ensures err { IfErr result (λ f. f ≡ out_of_memory) }
 {
@@ -215,7 +226,7 @@ fn copies_of(alloc: Global, values: &[Value]) -> Result<Vec<Value>, Fault>
 }
 
 /// The numbers from `low` to `high`.
-fn listed(alloc: Global, low: i64, high: i64) -> Result<Vec<Value>, Fault>
+fn listed<'p>(alloc: Global, low: i64, high: i64) -> Result<Vec<Value>, Trouble<'p>>
     ensures ok { IfOk result (λ v. map tree_of v.items ≡ range_of low high) }
     ensures err { IfErr result (λ f. f ≡ out_of_memory) }
 {

@@ -13,21 +13,22 @@ ghost use Rattle.tla_operators.specs.Gives.{Gives, GivesBy};
 ghost use Rattle.tla_sets.specs.Fields.{named_sets, records_rule};
 
 use std::alloc::Global;
-use tla_core::{Core, Fault, FaultCode, Place};
+use tla_core::{Core, FaultCode, Place};
 use tla_operators::evaluated::Evaluated;
-use tla_operators::rules::{copied_text, fault_at};
+use tla_operators::rules::copied_text;
 use tla_operators::sets::{copied_set, made_functions};
+use tla_operators::trouble::{Trouble, fault_at};
 use tla_value::{FunValue, SetValue, Text, Value};
 
 /// The records with each field in the value beside it.
-pub fn records_with(
+pub fn records_with<'p>(
     alloc: Global,
-    place: Place,
+    place: &'p Place,
     fields: &[(Text, Core)],
     values: &[Evaluated<'_>],
-) -> Result<Value, Fault>
+) -> Result<Value, Trouble<'p>>
     requires { length fields.now ≡ length values.now }
-    ensures { Gives result (records_rule place (fields_of_cores fields.now) (map tree_of_evaluated values.now)) }
+    ensures { Gives result (records_rule place.now (fields_of_cores fields.now) (map tree_of_evaluated values.now)) }
 {
     let sets = named_sets(alloc, place, fields, values)?;
     if are_different(fields) {
@@ -38,14 +39,14 @@ pub fn records_with(
 }
 
 /// The names of some fields, each with the value beside it, which has to be a set.
-fn named_sets(
+fn named_sets<'p>(
     alloc: Global,
-    place: Place,
+    place: &'p Place,
     fields: &[(Text, Core)],
     values: &[Evaluated<'_>],
-) -> Result<Vec<(Text, SetValue)>, Fault>
+) -> Result<Vec<(Text, SetValue)>, Trouble<'p>>
     requires { length fields.now ≡ length values.now }
-    ensures { GivesBy (λ v. v.items) result (named_sets place (fields_of_cores fields.now) (map tree_of_evaluated values.now)) }
+    ensures { GivesBy (λ v. v.items) result (named_sets place.now (fields_of_cores fields.now) (map tree_of_evaluated values.now)) }
 {
     let mut sets = Vec::with_capacity(alloc, fields.len())?;
     for i in 0..fields.len() {

@@ -17,23 +17,23 @@ use crate::environment::{Environment, Scope};
 use crate::evaluation::patterns::body_value;
 use crate::evaluation::{ask, evaluate};
 use std::alloc::Global;
-use tla_core::{Core, Fault, FaultCode, Place, memory};
+use tla_core::{Core, FaultCode, Place};
 use tla_operators::evaluated::Evaluated;
-use tla_operators::rules::fault_at;
 use tla_operators::sets::made_set;
+use tla_operators::trouble::{Trouble, fault_at, memory};
 use tla_sets::elements::{Elements, chosen_at, element_at, elements_of_two, keep_at, members_of};
 use tla_value::{SetValue, Value};
 
 /// Whether a body is TRUE of each element of a set.
 #[cycle(evaluate)]
-pub(super) fn for_all<'a>(
+pub(super) fn for_all<'c: 'a, 'a>(
     alloc: Global,
-    place: Place,
-    set: &'a Core,
-    body: &'a Core,
+    place: &'c Place,
+    set: &'c Core,
+    body: &'c Core,
     env: Environment<'a>,
-) -> Result<Evaluated<'a>, Fault>
-    ensures { Evaluates result ((means-for_all place (means (expr_of set.now)) (means (expr_of body.now))).value (bound_in env.entry) (present_in env.entry) (next_in env.entry)) }
+) -> Result<Evaluated<'a>, Trouble<'c>>
+    ensures { Evaluates result ((means-for_all place.now (means (expr_of set.now)) (means (expr_of body.now))).value (bound_in env.entry) (present_in env.entry) (next_in env.entry)) }
 {
     let elements = elements_in(alloc, place, set, env)?;
     Ok(Evaluated::truth(each_holds(alloc, place, body, &elements, env)?))
@@ -41,14 +41,14 @@ pub(super) fn for_all<'a>(
 
 /// Whether a body is TRUE of some element of a set.
 #[cycle(evaluate)]
-pub(super) fn for_some<'a>(
+pub(super) fn for_some<'c: 'a, 'a>(
     alloc: Global,
-    place: Place,
-    set: &'a Core,
-    body: &'a Core,
+    place: &'c Place,
+    set: &'c Core,
+    body: &'c Core,
     env: Environment<'a>,
-) -> Result<Evaluated<'a>, Fault>
-    ensures { Evaluates result ((means-for_some place (means (expr_of set.now)) (means (expr_of body.now))).value (bound_in env.entry) (present_in env.entry) (next_in env.entry)) }
+) -> Result<Evaluated<'a>, Trouble<'c>>
+    ensures { Evaluates result ((means-for_some place.now (means (expr_of set.now)) (means (expr_of body.now))).value (bound_in env.entry) (present_in env.entry) (next_in env.entry)) }
 {
     let elements = elements_in(alloc, place, set, env)?;
     Ok(Evaluated::truth(some_holds(alloc, place, body, &elements, env)?))
@@ -56,14 +56,14 @@ pub(super) fn for_some<'a>(
 
 /// The least element of a set of which a body is TRUE.
 #[cycle(evaluate)]
-pub(super) fn choose<'a>(
+pub(super) fn choose<'c: 'a, 'a>(
     alloc: Global,
-    place: Place,
-    set: &'a Core,
-    body: &'a Core,
+    place: &'c Place,
+    set: &'c Core,
+    body: &'c Core,
     env: Environment<'a>,
-) -> Result<Evaluated<'a>, Fault>
-    ensures { Evaluates result ((means-choose place (means (expr_of set.now)) (means (expr_of body.now))).value (bound_in env.entry) (present_in env.entry) (next_in env.entry)) }
+) -> Result<Evaluated<'a>, Trouble<'c>>
+    ensures { Evaluates result ((means-choose place.now (means (expr_of set.now)) (means (expr_of body.now))).value (bound_in env.entry) (present_in env.entry) (next_in env.entry)) }
 {
     let elements = elements_in(alloc, place, set, env)?;
     Ok(Evaluated::Owned(first_passing(alloc, place, body, &elements, env)?))
@@ -71,19 +71,19 @@ pub(super) fn choose<'a>(
 
 /// The elements of a set. A range is not made.
 #[cycle(evaluate)]
-pub(super) fn elements_in<'a>(
+pub(super) fn elements_in<'c: 'a, 'a>(
     alloc: Global,
-    place: Place,
-    set: &'a Core,
+    place: &'c Place,
+    set: &'c Core,
     env: Environment<'a>,
-) -> Result<Elements<'a>, Fault>
-    ensures { GivesElements result (elements place (means (expr_of set.now)) (bound_in env.entry) (present_in env.entry) (next_in env.entry)) }
+) -> Result<Elements<'a>, Trouble<'c>>
+    ensures { GivesElements result (elements place.now (means (expr_of set.now)) (bound_in env.entry) (present_in env.entry) (next_in env.entry)) }
 {
     match set {
         Core::Binary(at, operator, left, right) => {
             let left = evaluate(alloc, left, env)?;
             let right = evaluate(alloc, right, env)?;
-            elements_of_two(alloc, place, *at, *operator, left.value(), right.value())
+            elements_of_two(alloc, place, at, *operator, left.value(), right.value())
         }
         _ => members_of(place, evaluate(alloc, set, env)?),
     }
@@ -91,15 +91,15 @@ pub(super) fn elements_in<'a>(
 
 /// Whether a body is TRUE of the element with a number; none where there are fewer elements.
 #[cycle(evaluate)]
-fn holds_at<'e, 'a>(
+fn holds_at<'e, 'c: 'a, 'a>(
     alloc: Global,
-    place: Place,
-    body: &'a Core,
+    place: &'c Place,
+    body: &'c Core,
     elements: &'e Elements<'e>,
     number: usize,
     env: Environment<'a>,
-) -> Result<Option<bool>, Fault>
-    ensures { GivesBy (λ o. o) result (tested (λ v. asks place (means (expr_of body.now)) (bound_in env.entry ++ v ∷ []) (present_in env.entry) (next_in env.entry)) (slice_get (elements_of elements.now) number)) }
+) -> Result<Option<bool>, Trouble<'c>>
+    ensures { GivesBy (λ o. o) result (tested (λ v. asks place.now (means (expr_of body.now)) (bound_in env.entry ++ v ∷ []) (present_in env.entry) (next_in env.entry)) (slice_get (elements_of elements.now) number)) }
 {
     match element_at(elements, number) {
         Some(element) => Ok(Some(ask_with(alloc, place, body, element.value(), env)?)),
@@ -109,14 +109,14 @@ fn holds_at<'e, 'a>(
 
 /// Whether a body is TRUE of each of these elements, up to the first of which it is not.
 #[cycle(evaluate)]
-fn each_holds<'e, 'a>(
+fn each_holds<'e, 'c: 'a, 'a>(
     alloc: Global,
-    place: Place,
-    body: &'a Core,
+    place: &'c Place,
+    body: &'c Core,
     elements: &'e Elements<'e>,
     env: Environment<'a>,
-) -> Result<bool, Fault>
-    ensures { GivesTruth result (all_hold (λ v. asks place (means (expr_of body.now)) (bound_in env.entry ++ v ∷ []) (present_in env.entry) (next_in env.entry)) (elements_of elements.now)) }
+) -> Result<bool, Trouble<'c>>
+    ensures { GivesTruth result (all_hold (λ v. asks place.now (means (expr_of body.now)) (bound_in env.entry ++ v ∷ []) (present_in env.entry) (next_in env.entry)) (elements_of elements.now)) }
 {
     for number in 0..usize::MAX {
         match holds_at(alloc, place, body, elements, number, env)? {
@@ -133,14 +133,14 @@ fn each_holds<'e, 'a>(
 
 /// Whether a body is TRUE of some of these elements, up to the first of which it is.
 #[cycle(evaluate)]
-fn some_holds<'e, 'a>(
+fn some_holds<'e, 'c: 'a, 'a>(
     alloc: Global,
-    place: Place,
-    body: &'a Core,
+    place: &'c Place,
+    body: &'c Core,
     elements: &'e Elements<'e>,
     env: Environment<'a>,
-) -> Result<bool, Fault>
-    ensures { GivesTruth result (some_hold (λ v. asks place (means (expr_of body.now)) (bound_in env.entry ++ v ∷ []) (present_in env.entry) (next_in env.entry)) (elements_of elements.now)) }
+) -> Result<bool, Trouble<'c>>
+    ensures { GivesTruth result (some_hold (λ v. asks place.now (means (expr_of body.now)) (bound_in env.entry ++ v ∷ []) (present_in env.entry) (next_in env.entry)) (elements_of elements.now)) }
 {
     for number in 0..usize::MAX {
         match holds_at(alloc, place, body, elements, number, env)? {
@@ -157,14 +157,14 @@ fn some_holds<'e, 'a>(
 
 /// The first of these elements of which a body is TRUE.
 #[cycle(evaluate)]
-fn first_passing<'e, 'a>(
+fn first_passing<'e, 'c: 'a, 'a>(
     alloc: Global,
-    place: Place,
-    body: &'a Core,
+    place: &'c Place,
+    body: &'c Core,
     elements: &'e Elements<'e>,
     env: Environment<'a>,
-) -> Result<Value, Fault>
-    ensures { Gives result (first_passing place (λ v. asks place (means (expr_of body.now)) (bound_in env.entry ++ v ∷ []) (present_in env.entry) (next_in env.entry)) (elements_of elements.now)) }
+) -> Result<Value, Trouble<'c>>
+    ensures { Gives result (first_passing place.now (λ v. asks place.now (means (expr_of body.now)) (bound_in env.entry ++ v ∷ []) (present_in env.entry) (next_in env.entry)) (elements_of elements.now)) }
 {
     for number in 0..usize::MAX {
         match holds_at(alloc, place, body, elements, number, env)? {
@@ -181,14 +181,14 @@ fn first_passing<'e, 'a>(
 
 /// Whether a body is TRUE with one more bound value.
 #[cycle(evaluate)]
-pub(super) fn ask_with<'a>(
+pub(super) fn ask_with<'c: 'a, 'a>(
     alloc: Global,
-    place: Place,
-    body: &'a Core,
+    place: &'c Place,
+    body: &'c Core,
     value: &'a Value,
     env: Environment<'a>,
-) -> Result<bool, Fault>
-    ensures { GivesTruth result (asks place (means (expr_of body.now)) (bound_in env.entry ++ tree_of value.now ∷ []) (present_in env.entry) (next_in env.entry)) }
+) -> Result<bool, Trouble<'c>>
+    ensures { GivesTruth result (asks place.now (means (expr_of body.now)) (bound_in env.entry ++ tree_of value.now ∷ []) (present_in env.entry) (next_in env.entry)) }
 {
     let scope = Scope::One(env.scope, value);
     let inner = Environment {
@@ -201,12 +201,12 @@ pub(super) fn ask_with<'a>(
 
 /// The value of a body with one more bound value.
 #[cycle(evaluate)]
-pub(super) fn value_with<'a>(
+pub(super) fn value_with<'c: 'a, 'a>(
     alloc: Global,
-    body: &'a Core,
+    body: &'c Core,
     value: &'a Value,
     env: Environment<'a>,
-) -> Result<Value, Fault>
+) -> Result<Value, Trouble<'c>>
     ensures { Gives result ((means (expr_of body.now)).value (bound_in env.entry ++ tree_of value.now ∷ []) (present_in env.entry) (next_in env.entry)) }
 {
     let scope = Scope::One(env.scope, value);
@@ -220,14 +220,14 @@ pub(super) fn value_with<'a>(
 
 /// The elements of a set of which a body is TRUE.
 #[cycle(evaluate)]
-pub(super) fn filter<'a>(
+pub(super) fn filter<'c: 'a, 'a>(
     alloc: Global,
-    place: Place,
-    set: &'a Core,
-    body: &'a Core,
+    place: &'c Place,
+    set: &'c Core,
+    body: &'c Core,
     env: Environment<'a>,
-) -> Result<Evaluated<'a>, Fault>
-    ensures { Evaluates result ((means-filtered place (means (expr_of set.now)) (means (expr_of body.now))).value (bound_in env.entry) (present_in env.entry) (next_in env.entry)) }
+) -> Result<Evaluated<'a>, Trouble<'c>>
+    ensures { Evaluates result ((means-filtered place.now (means (expr_of set.now)) (means (expr_of body.now))).value (bound_in env.entry) (present_in env.entry) (next_in env.entry)) }
 {
     let elements = elements_in(alloc, place, set, env)?;
     let kept = passing(alloc, place, body, &elements, env)?;
@@ -236,14 +236,14 @@ pub(super) fn filter<'a>(
 
 /// Copies of those of these elements of which a body is TRUE.
 #[cycle(evaluate)]
-fn passing<'e, 'a>(
+fn passing<'e, 'c: 'a, 'a>(
     alloc: Global,
-    place: Place,
-    body: &'a Core,
+    place: &'c Place,
+    body: &'c Core,
     elements: &'e Elements<'e>,
     env: Environment<'a>,
-) -> Result<Vec<Value>, Fault>
-    ensures { GivesBy (λ v. map tree_of v.items) result (passing (λ v. asks place (means (expr_of body.now)) (bound_in env.entry ++ v ∷ []) (present_in env.entry) (next_in env.entry)) (elements_of elements.now)) }
+) -> Result<Vec<Value>, Trouble<'c>>
+    ensures { GivesBy (λ v. map tree_of v.items) result (passing (λ v. asks place.now (means (expr_of body.now)) (bound_in env.entry ++ v ∷ []) (present_in env.entry) (next_in env.entry)) (elements_of elements.now)) }
 {
     let mut kept = Vec::new(alloc);
     for number in 0..usize::MAX {

@@ -18,9 +18,10 @@ use crate::evaluation::binding::value_with;
 use crate::evaluation::evaluate;
 use crate::evaluation::patterns::body_value;
 use std::alloc::Global;
-use tla_core::{Core, Fault, Place, memory};
+use tla_core::{Core, Place};
 use tla_operators::evaluated::Evaluated;
 use tla_operators::gathered::Gathered;
+use tla_operators::trouble::{Trouble, memory};
 use tla_sets::domain::{
     Domain, choice_at, domain_of, function_on, function_with, lists_of, member_of,
 };
@@ -28,14 +29,14 @@ use tla_value::Value;
 
 /// The set of the values of a body for all choices from some sets.
 #[cycle(evaluate)]
-pub(super) fn image<'a>(
+pub(super) fn image<'c: 'a, 'a>(
     alloc: Global,
-    place: Place,
-    sets: &'a [Core],
-    body: &'a Core,
+    place: &'c Place,
+    sets: &'c [Core],
+    body: &'c Core,
     env: Environment<'a>,
-) -> Result<Evaluated<'a>, Fault>
-    ensures { Evaluates result (image_rule place (parts_of_cores sets.now) (means (expr_of body.now)) (bound_in env.entry) (present_in env.entry) (next_in env.entry)) }
+) -> Result<Evaluated<'a>, Trouble<'c>>
+    ensures { Evaluates result (image_rule place.now (parts_of_cores sets.now) (means (expr_of body.now)) (bound_in env.entry) (present_in env.entry) (next_in env.entry)) }
 {
     let sets = evaluated_each(alloc, sets, env)?;
     let lists = lists_of(alloc, place, sets.as_slice())?;
@@ -45,14 +46,14 @@ pub(super) fn image<'a>(
 
 /// The function on all choices from some sets with the values of a body for them.
 #[cycle(evaluate)]
-pub(super) fn function<'a>(
+pub(super) fn function<'c: 'a, 'a>(
     alloc: Global,
-    place: Place,
-    sets: &'a [Core],
-    body: &'a Core,
+    place: &'c Place,
+    sets: &'c [Core],
+    body: &'c Core,
     env: Environment<'a>,
-) -> Result<Evaluated<'a>, Fault>
-    ensures { Evaluates result (chosen_function_rule place (parts_of_cores sets.now) (means (expr_of body.now)) (bound_in env.entry) (present_in env.entry) (next_in env.entry)) }
+) -> Result<Evaluated<'a>, Trouble<'c>>
+    ensures { Evaluates result (chosen_function_rule place.now (parts_of_cores sets.now) (means (expr_of body.now)) (bound_in env.entry) (present_in env.entry) (next_in env.entry)) }
 {
     let sets = evaluated_each(alloc, sets, env)?;
     let sets = sets.as_slice();
@@ -65,15 +66,15 @@ pub(super) fn function<'a>(
 
 /// The function on the members of one set with the values of a body for them.
 #[cycle(evaluate)]
-fn function_on_members<'s, 'a>(
+fn function_on_members<'s, 'c: 'a, 'a>(
     alloc: Global,
-    place: Place,
+    place: &'c Place,
     sets: &'s [Evaluated<'s>],
-    body: &'a Core,
+    body: &'c Core,
     env: Environment<'a>,
-) -> Result<Value, Fault>
+) -> Result<Value, Trouble<'c>>
     requires { length sets.now ≡ 1 }
-    ensures { Gives result (function_for_rule place (means (expr_of body.now)) (bound_in env.entry) (present_in env.entry) (next_in env.entry) (map tree_of_evaluated sets.now)) }
+    ensures { Gives result (function_for_rule place.now (means (expr_of body.now)) (bound_in env.entry) (present_in env.entry) (next_in env.entry) (map tree_of_evaluated sets.now)) }
 {
     let lists = lists_of(alloc, place, sets)?;
     let values = chosen(alloc, body, lists.as_slice(), env)?;
@@ -83,15 +84,15 @@ fn function_on_members<'s, 'a>(
 /// The function on the tuples of all choices from some sets with the values of a body for them. Where there are too many tuples,
 /// the body is only evaluated for them.
 #[cycle(evaluate)]
-fn function_on_tuples<'s, 'a>(
+fn function_on_tuples<'s, 'c: 'a, 'a>(
     alloc: Global,
-    place: Place,
+    place: &'c Place,
     sets: &'s [Evaluated<'s>],
-    body: &'a Core,
+    body: &'c Core,
     env: Environment<'a>,
-) -> Result<Value, Fault>
+) -> Result<Value, Trouble<'c>>
     requires { length sets.now ≡ 1 → ⊥ }
-    ensures { Gives result (function_for_rule place (means (expr_of body.now)) (bound_in env.entry) (present_in env.entry) (next_in env.entry) (map tree_of_evaluated sets.now)) }
+    ensures { Gives result (function_for_rule place.now (means (expr_of body.now)) (bound_in env.entry) (present_in env.entry) (next_in env.entry) (map tree_of_evaluated sets.now)) }
 {
     let lists = lists_of(alloc, place, sets)?;
     let lists = lists.as_slice();
@@ -109,11 +110,11 @@ fn function_on_tuples<'s, 'a>(
 
 /// The values of some expressions, from left to right, lent where they can be.
 #[cycle(evaluate)]
-pub(super) fn evaluated_each<'a>(
+pub(super) fn evaluated_each<'c: 'a, 'a>(
     alloc: Global,
-    cores: &'a [Core],
+    cores: &'c [Core],
     env: Environment<'a>,
-) -> Result<Vec<Evaluated<'a>>, Fault>
+) -> Result<Vec<Evaluated<'a>>, Trouble<'c>>
     ensures { GivesBy (λ v. map tree_of_evaluated v.items) result (each (λ (m : Meaning). m.value (bound_in env.entry) (present_in env.entry) (next_in env.entry)) (parts_of_cores cores.now)) }
 {
     let mut values = Vec::with_capacity(alloc, cores.len())?;
@@ -125,12 +126,12 @@ pub(super) fn evaluated_each<'a>(
 
 /// The values of a body for all choices from some lists, the first list slowest.
 #[cycle(evaluate)]
-fn chosen<'l, 'a>(
+fn chosen<'l, 'c: 'a, 'a>(
     alloc: Global,
-    body: &'a Core,
+    body: &'c Core,
     lists: &'l [&'l [Value]],
     env: Environment<'a>,
-) -> Result<Vec<Value>, Fault>
+) -> Result<Vec<Value>, Trouble<'c>>
     ensures { GivesBy (λ v. map tree_of v.items) result (values_for (means (expr_of body.now)) (bound_in env.entry) (present_in env.entry) (next_in env.entry) (map (λ l. map tree_of l.now) lists.now)) }
 {
     let mut values = Vec::new(alloc);
@@ -145,12 +146,12 @@ fn chosen<'l, 'a>(
 
 /// The different values of a body for all choices from some lists.
 #[cycle(evaluate)]
-fn chosen_once<'l, 'a>(
+fn chosen_once<'l, 'c: 'a, 'a>(
     alloc: Global,
-    body: &'a Core,
+    body: &'c Core,
     lists: &'l [&'l [Value]],
     env: Environment<'a>,
-) -> Result<Gathered, Fault>
+) -> Result<Gathered, Trouble<'c>>
     ensures { Gathers result (values_for (means (expr_of body.now)) (bound_in env.entry) (present_in env.entry) (next_in env.entry) (map (λ l. map tree_of l.now) lists.now)) }
 {
     let mut values = Gathered::new(alloc);
@@ -165,12 +166,12 @@ fn chosen_once<'l, 'a>(
 
 /// Evaluates a body for all choices from some lists, up to its first fault.
 #[cycle(evaluate)]
-fn pass_over<'l, 'a>(
+fn pass_over<'l, 'c: 'a, 'a>(
     alloc: Global,
-    body: &'a Core,
+    body: &'c Core,
     lists: &'l [&'l [Value]],
     env: Environment<'a>,
-) -> Result<(), Fault>
+) -> Result<(), Trouble<'c>>
     ensures { GivesBy (λ u. u) result (nothing_of (values_for (means (expr_of body.now)) (bound_in env.entry) (present_in env.entry) (next_in env.entry) (map (λ l. map tree_of l.now) lists.now))) }
 {
     for number in 0..usize::MAX {
@@ -184,13 +185,13 @@ fn pass_over<'l, 'a>(
 
 /// The value of a body for the choice with a number; none where there are fewer choices.
 #[cycle(evaluate)]
-fn value_for<'l, 'a>(
+fn value_for<'l, 'c: 'a, 'a>(
     alloc: Global,
-    body: &'a Core,
+    body: &'c Core,
     lists: &'l [&'l [Value]],
     number: usize,
     env: Environment<'a>,
-) -> Result<Option<Value>, Fault>
+) -> Result<Option<Value>, Trouble<'c>>
     ensures { GivesBy (λ o. option_map tree_of o) result (value_at (means (expr_of body.now)) (bound_in env.entry) (present_in env.entry) (next_in env.entry) (slice_get (choices (map (λ l. map tree_of l.now) lists.now)) number)) }
 {
     if lists.len() == 1 {
@@ -202,13 +203,13 @@ fn value_for<'l, 'a>(
 
 /// The value of a body for the member of a list at a place.
 #[cycle(evaluate)]
-fn value_for_member<'l, 'a>(
+fn value_for_member<'l, 'c: 'a, 'a>(
     alloc: Global,
-    body: &'a Core,
+    body: &'c Core,
     list: &'l [Value],
     number: usize,
     env: Environment<'a>,
-) -> Result<Option<Value>, Fault>
+) -> Result<Option<Value>, Trouble<'c>>
     ensures { GivesBy (λ o. option_map tree_of o) result (value_at (means (expr_of body.now)) (bound_in env.entry) (present_in env.entry) (next_in env.entry) (slice_get (choices (map tree_of list.now ∷ [])) number)) }
 {
     match member_of(list, number) {
@@ -219,13 +220,13 @@ fn value_for_member<'l, 'a>(
 
 /// The value of a body for the choice with a number from several lists.
 #[cycle(evaluate)]
-fn value_for_choice<'l, 'a>(
+fn value_for_choice<'l, 'c: 'a, 'a>(
     alloc: Global,
-    body: &'a Core,
+    body: &'c Core,
     lists: &'l [&'l [Value]],
     number: usize,
     env: Environment<'a>,
-) -> Result<Option<Value>, Fault>
+) -> Result<Option<Value>, Trouble<'c>>
     ensures { GivesBy (λ o. option_map tree_of o) result (value_at (means (expr_of body.now)) (bound_in env.entry) (present_in env.entry) (next_in env.entry) (slice_get (choices (map (λ l. map tree_of l.now) lists.now)) number)) }
 {
     match choice_at(alloc, lists, number)? {
@@ -236,12 +237,12 @@ fn value_for_choice<'l, 'a>(
 
 /// The value of a body with more bound values.
 #[cycle(evaluate)]
-pub(super) fn value_with_all<'a>(
+pub(super) fn value_with_all<'c: 'a, 'a>(
     alloc: Global,
-    body: &'a Core,
+    body: &'c Core,
     choice: &'a [Value],
     env: Environment<'a>,
-) -> Result<Value, Fault>
+) -> Result<Value, Trouble<'c>>
     ensures { Gives result ((means (expr_of body.now)).value (bound_in env.entry ++ map tree_of choice.now) (present_in env.entry) (next_in env.entry)) }
 {
     let scope = Scope::Many(env.scope, choice);

@@ -11,20 +11,20 @@ ghost use Rattle.tla_eval.specs.Private.Environment.{bound_in, present_in, next_
 use crate::environment::Environment;
 use crate::evaluation::{ask, evaluate, has};
 use std::alloc::Global;
-use tla_core::{Core, Fault, FaultCode, Place};
+use tla_core::{Core, FaultCode, Place};
 use tla_operators::evaluated::Evaluated;
-use tla_operators::rules::fault_at;
+use tla_operators::trouble::{Trouble, fault_at};
 use tla_value::Value;
 
 /// Whether all parts are TRUE, up to the first that is not.
 #[cycle(evaluate)]
-pub(super) fn conjunction<'a>(
+pub(super) fn conjunction<'c: 'a, 'a>(
     alloc: Global,
-    place: Place,
-    parts: &'a [Core],
+    place: &'c Place,
+    parts: &'c [Core],
     env: Environment<'a>,
-) -> Result<Evaluated<'a>, Fault>
-    ensures { Evaluates result ((means-conjunction place (parts_of_cores parts.now)).value (bound_in env.entry) (present_in env.entry) (next_in env.entry)) }
+) -> Result<Evaluated<'a>, Trouble<'c>>
+    ensures { Evaluates result ((means-conjunction place.now (parts_of_cores parts.now)).value (bound_in env.entry) (present_in env.entry) (next_in env.entry)) }
 {
     for part in parts {
         if !ask(alloc, place, part, env)? {
@@ -36,13 +36,13 @@ pub(super) fn conjunction<'a>(
 
 /// Whether some part is TRUE, up to the first that is.
 #[cycle(evaluate)]
-pub(super) fn disjunction<'a>(
+pub(super) fn disjunction<'c: 'a, 'a>(
     alloc: Global,
-    place: Place,
-    parts: &'a [Core],
+    place: &'c Place,
+    parts: &'c [Core],
     env: Environment<'a>,
-) -> Result<Evaluated<'a>, Fault>
-    ensures { Evaluates result ((means-disjunction place (parts_of_cores parts.now)).value (bound_in env.entry) (present_in env.entry) (next_in env.entry)) }
+) -> Result<Evaluated<'a>, Trouble<'c>>
+    ensures { Evaluates result ((means-disjunction place.now (parts_of_cores parts.now)).value (bound_in env.entry) (present_in env.entry) (next_in env.entry)) }
 {
     for part in parts {
         if ask(alloc, place, part, env)? {
@@ -54,14 +54,14 @@ pub(super) fn disjunction<'a>(
 
 /// Whether the second part is TRUE where the first is.
 #[cycle(evaluate)]
-pub(super) fn implies<'a>(
+pub(super) fn implies<'c: 'a, 'a>(
     alloc: Global,
-    place: Place,
-    left: &'a Core,
-    right: &'a Core,
+    place: &'c Place,
+    left: &'c Core,
+    right: &'c Core,
     env: Environment<'a>,
-) -> Result<Evaluated<'a>, Fault>
-    ensures { Evaluates result ((means-implies place (means (expr_of left.now)) (means (expr_of right.now))).value (bound_in env.entry) (present_in env.entry) (next_in env.entry)) }
+) -> Result<Evaluated<'a>, Trouble<'c>>
+    ensures { Evaluates result ((means-implies place.now (means (expr_of left.now)) (means (expr_of right.now))).value (bound_in env.entry) (present_in env.entry) (next_in env.entry)) }
 {
     if ask(alloc, place, left, env)? {
         Ok(Evaluated::truth(ask(alloc, place, right, env)?))
@@ -72,13 +72,13 @@ pub(super) fn implies<'a>(
 
 /// TRUE where the condition is.
 #[cycle(evaluate)]
-pub(super) fn assert<'a>(
+pub(super) fn assert<'c: 'a, 'a>(
     alloc: Global,
-    place: Place,
-    condition: &'a Core,
+    place: &'c Place,
+    condition: &'c Core,
     env: Environment<'a>,
-) -> Result<Evaluated<'a>, Fault>
-    ensures { Evaluates result ((means-assert place (means (expr_of condition.now)) (means (expr_of condition.now))).value (bound_in env.entry) (present_in env.entry) (next_in env.entry)) }
+) -> Result<Evaluated<'a>, Trouble<'c>>
+    ensures { Evaluates result ((means-assert place.now (means (expr_of condition.now)) (means (expr_of condition.now))).value (bound_in env.entry) (present_in env.entry) (next_in env.entry)) }
 {
     if ask(alloc, place, condition, env)? {
         Ok(Evaluated::truth(true))
@@ -89,14 +89,14 @@ pub(super) fn assert<'a>(
 
 /// The value of the first arm whose condition is TRUE, or else that of OTHER.
 #[cycle(evaluate)]
-pub(super) fn cases<'a>(
+pub(super) fn cases<'c: 'a, 'a>(
     alloc: Global,
-    place: Place,
-    arms: &'a [(Core, Core)],
-    other: Option<&'a Core>,
+    place: &'c Place,
+    arms: &'c [(Core, Core)],
+    other: Option<&'c Core>,
     env: Environment<'a>,
-) -> Result<Evaluated<'a>, Fault>
-    ensures { Evaluates result ((means-cases place (arms_of_cores arms.now) (option_map (λ c. means (expr_of c.now)) other.entry)).value (bound_in env.entry) (present_in env.entry) (next_in env.entry)) }
+) -> Result<Evaluated<'a>, Trouble<'c>>
+    ensures { Evaluates result ((means-cases place.now (arms_of_cores arms.now) (option_map (λ c. means (expr_of c.now)) other.entry)).value (bound_in env.entry) (present_in env.entry) (next_in env.entry)) }
 {
     for arm in arms {
         if ask(alloc, place, &arm.0, env)? {
@@ -111,15 +111,15 @@ pub(super) fn cases<'a>(
 
 /// Whether the first arm whose condition is TRUE, or else OTHER, has a value as a member.
 #[cycle(evaluate)]
-pub(super) fn cases_have<'a>(
+pub(super) fn cases_have<'c: 'a, 'a>(
     alloc: Global,
-    place: Place,
-    arms: &'a [(Core, Core)],
-    other: Option<&'a Core>,
+    place: &'c Place,
+    arms: &'c [(Core, Core)],
+    other: Option<&'c Core>,
     value: &'a Value,
     env: Environment<'a>,
-) -> Result<bool, Fault>
-    ensures { GivesTruth result ((means-cases place (arms_of_cores arms.now) (option_map (λ c. means (expr_of c.now)) other.entry)).has (tree_of value.now) (bound_in env.entry) (present_in env.entry) (next_in env.entry)) }
+) -> Result<bool, Trouble<'c>>
+    ensures { GivesTruth result ((means-cases place.now (arms_of_cores arms.now) (option_map (λ c. means (expr_of c.now)) other.entry)).has (tree_of value.now) (bound_in env.entry) (present_in env.entry) (next_in env.entry)) }
 {
     for arm in arms {
         if ask(alloc, place, &arm.0, env)? {

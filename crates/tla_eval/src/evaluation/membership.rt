@@ -16,20 +16,21 @@ use crate::environment::Environment;
 use crate::evaluation::choices::evaluated_each;
 use crate::evaluation::{evaluate, has};
 use std::alloc::Global;
-use tla_core::{Binary, Core, Fault, Place};
+use tla_core::{Binary, Core, Place};
 use tla_operators::evaluated::Evaluated;
 use tla_operators::sets::{difference_of, intersection_of, members, union_of};
+use tla_operators::trouble::Trouble;
 use tla_sets::asked::{set_has, two_have};
 use tla_value::Value;
 
 /// Whether a value is a member of an expression.
 #[cycle(evaluate)]
-pub(super) fn is_member<'a>(
+pub(super) fn is_member<'c: 'a, 'a>(
     alloc: Global,
-    element: &'a Core,
-    set: &'a Core,
+    element: &'c Core,
+    set: &'c Core,
     env: Environment<'a>,
-) -> Result<Evaluated<'a>, Fault>
+) -> Result<Evaluated<'a>, Trouble<'c>>
     ensures { Evaluates result ((means-member (means (expr_of set.now)).place (means (expr_of element.now)) (means (expr_of set.now))).value (bound_in env.entry) (present_in env.entry) (next_in env.entry)) }
 {
     let element = evaluate(alloc, element, env)?;
@@ -38,12 +39,12 @@ pub(super) fn is_member<'a>(
 
 /// Whether a value is no member of an expression.
 #[cycle(evaluate)]
-pub(super) fn is_no_member<'a>(
+pub(super) fn is_no_member<'c: 'a, 'a>(
     alloc: Global,
-    element: &'a Core,
-    set: &'a Core,
+    element: &'c Core,
+    set: &'c Core,
     env: Environment<'a>,
-) -> Result<Evaluated<'a>, Fault>
+) -> Result<Evaluated<'a>, Trouble<'c>>
     ensures { Evaluates result ((means-not_member (means (expr_of set.now)).place (means (expr_of element.now)) (means (expr_of set.now))).value (bound_in env.entry) (present_in env.entry) (next_in env.entry)) }
 {
     let element = evaluate(alloc, element, env)?;
@@ -52,14 +53,14 @@ pub(super) fn is_no_member<'a>(
 
 /// Whether each element of a set is a member of an expression.
 #[cycle(evaluate)]
-pub(super) fn is_subset<'a>(
+pub(super) fn is_subset<'c: 'a, 'a>(
     alloc: Global,
-    place: Place,
-    left: &'a Core,
-    right: &'a Core,
+    place: &'c Place,
+    left: &'c Core,
+    right: &'c Core,
     env: Environment<'a>,
-) -> Result<Evaluated<'a>, Fault>
-    ensures { Evaluates result ((means-subset place (means (expr_of left.now)) (means (expr_of right.now))).value (bound_in env.entry) (present_in env.entry) (next_in env.entry)) }
+) -> Result<Evaluated<'a>, Trouble<'c>>
+    ensures { Evaluates result ((means-subset place.now (means (expr_of left.now)) (means (expr_of right.now))).value (bound_in env.entry) (present_in env.entry) (next_in env.entry)) }
 {
     let left = evaluate(alloc, left, env)?;
     let values = members(place, left.value())?;
@@ -68,12 +69,12 @@ pub(super) fn is_subset<'a>(
 
 /// Whether an expression has each of these values, up to the first that it has not.
 #[cycle(evaluate)]
-pub(super) fn has_all<'a>(
+pub(super) fn has_all<'c: 'a, 'a>(
     alloc: Global,
-    core: &'a Core,
+    core: &'c Core,
     values: &'a [Value],
     env: Environment<'a>,
-) -> Result<bool, Fault>
+) -> Result<bool, Trouble<'c>>
     ensures { GivesTruth result (all_hold (λ v. mem v (expr_of core.now) (bound_in env.entry) (present_in env.entry) (next_in env.entry)) (map tree_of values.now)) }
 {
     for value in values {
@@ -86,16 +87,16 @@ pub(super) fn has_all<'a>(
 
 /// Whether what an operator on two values gives has a value as a member. A range is not made.
 #[cycle(evaluate)]
-pub(super) fn two_hold<'a>(
+pub(super) fn two_hold<'c: 'a, 'a>(
     alloc: Global,
-    place: Place,
+    place: &'c Place,
     operator: Binary,
-    left: &'a Core,
-    right: &'a Core,
+    left: &'c Core,
+    right: &'c Core,
     value: &'a Value,
     env: Environment<'a>,
-) -> Result<bool, Fault>
-    ensures { GivesTruth result ((means-binary place (binary_of operator) (means (expr_of left.now)) (means (expr_of right.now))).has (tree_of value.now) (bound_in env.entry) (present_in env.entry) (next_in env.entry)) }
+) -> Result<bool, Trouble<'c>>
+    ensures { GivesTruth result ((means-binary place.now (binary_of operator) (means (expr_of left.now)) (means (expr_of right.now))).has (tree_of value.now) (bound_in env.entry) (present_in env.entry) (next_in env.entry)) }
 {
     let left = evaluate(alloc, left, env)?;
     let right = evaluate(alloc, right, env)?;
@@ -104,14 +105,14 @@ pub(super) fn two_hold<'a>(
 
 /// Whether a value is one of those of some parts, where their set is within the limits.
 #[cycle(evaluate)]
-pub(super) fn is_one_of<'a>(
+pub(super) fn is_one_of<'c: 'a, 'a>(
     alloc: Global,
-    place: Place,
-    parts: &'a [Core],
+    place: &'c Place,
+    parts: &'c [Core],
     value: &'a Value,
     env: Environment<'a>,
-) -> Result<bool, Fault>
-    ensures { GivesTruth result (one_of_rule place (parts_of_cores parts.now) (tree_of value.now) (bound_in env.entry) (present_in env.entry) (next_in env.entry)) }
+) -> Result<bool, Trouble<'c>>
+    ensures { GivesTruth result (one_of_rule place.now (parts_of_cores parts.now) (tree_of value.now) (bound_in env.entry) (present_in env.entry) (next_in env.entry)) }
 {
     let values = evaluated_each(alloc, parts, env)?;
     set_has(alloc, place, values.as_slice(), value)
@@ -119,14 +120,14 @@ pub(super) fn is_one_of<'a>(
 
 /// The members of one set and of another.
 #[cycle(evaluate)]
-pub(super) fn cup<'a>(
+pub(super) fn cup<'c: 'a, 'a>(
     alloc: Global,
-    place: Place,
-    left: &'a Core,
-    right: &'a Core,
+    place: &'c Place,
+    left: &'c Core,
+    right: &'c Core,
     env: Environment<'a>,
-) -> Result<Evaluated<'a>, Fault>
-    ensures { Evaluates result ((means-cup place (means (expr_of left.now)) (means (expr_of right.now))).value (bound_in env.entry) (present_in env.entry) (next_in env.entry)) }
+) -> Result<Evaluated<'a>, Trouble<'c>>
+    ensures { Evaluates result ((means-cup place.now (means (expr_of left.now)) (means (expr_of right.now))).value (bound_in env.entry) (present_in env.entry) (next_in env.entry)) }
 {
     let left = evaluate(alloc, left, env)?;
     let right = evaluate(alloc, right, env)?;
@@ -135,14 +136,14 @@ pub(super) fn cup<'a>(
 
 /// The members of one set that are those of another.
 #[cycle(evaluate)]
-pub(super) fn cap<'a>(
+pub(super) fn cap<'c: 'a, 'a>(
     alloc: Global,
-    place: Place,
-    left: &'a Core,
-    right: &'a Core,
+    place: &'c Place,
+    left: &'c Core,
+    right: &'c Core,
     env: Environment<'a>,
-) -> Result<Evaluated<'a>, Fault>
-    ensures { Evaluates result ((means-cap place (means (expr_of left.now)) (means (expr_of right.now))).value (bound_in env.entry) (present_in env.entry) (next_in env.entry)) }
+) -> Result<Evaluated<'a>, Trouble<'c>>
+    ensures { Evaluates result ((means-cap place.now (means (expr_of left.now)) (means (expr_of right.now))).value (bound_in env.entry) (present_in env.entry) (next_in env.entry)) }
 {
     let left = evaluate(alloc, left, env)?;
     let right = evaluate(alloc, right, env)?;
@@ -151,14 +152,14 @@ pub(super) fn cap<'a>(
 
 /// The members of one set that are no members of another.
 #[cycle(evaluate)]
-pub(super) fn minus<'a>(
+pub(super) fn minus<'c: 'a, 'a>(
     alloc: Global,
-    place: Place,
-    left: &'a Core,
-    right: &'a Core,
+    place: &'c Place,
+    left: &'c Core,
+    right: &'c Core,
     env: Environment<'a>,
-) -> Result<Evaluated<'a>, Fault>
-    ensures { Evaluates result ((means-minus place (means (expr_of left.now)) (means (expr_of right.now))).value (bound_in env.entry) (present_in env.entry) (next_in env.entry)) }
+) -> Result<Evaluated<'a>, Trouble<'c>>
+    ensures { Evaluates result ((means-minus place.now (means (expr_of left.now)) (means (expr_of right.now))).value (bound_in env.entry) (present_in env.entry) (next_in env.entry)) }
 {
     let left = evaluate(alloc, left, env)?;
     let right = evaluate(alloc, right, env)?;

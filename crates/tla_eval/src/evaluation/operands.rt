@@ -14,25 +14,26 @@ ghost use Rattle.tla_eval.specs.Private.Environment.{bound_in, present_in, next_
 use crate::environment::Environment;
 use crate::evaluation::evaluate;
 use std::alloc::Global;
-use tla_core::{Binary, Core, Fault, Place, Unary};
+use tla_core::{Binary, Core, Place, Unary};
 use tla_operators::evaluated::Evaluated;
 use tla_operators::functions::{apply, field, made_fun};
 use tla_operators::operators::{binary, unary};
 use tla_operators::rules::copied_text;
 use tla_operators::sequences::{sequence_of, sub_seq};
 use tla_operators::sets::made_set;
+use tla_operators::trouble::Trouble;
 use tla_value::{FunValue, SetValue, Text, Value};
 
 /// An operator on one value.
 #[cycle(evaluate)]
-pub(super) fn on_one<'a>(
+pub(super) fn on_one<'c: 'a, 'a>(
     alloc: Global,
-    place: Place,
+    place: &'c Place,
     operator: Unary,
-    operand: &'a Core,
+    operand: &'c Core,
     env: Environment<'a>,
-) -> Result<Evaluated<'a>, Fault>
-    ensures { Evaluates result ((means-unary place (unary_of operator) (means (expr_of operand.now))).value (bound_in env.entry) (present_in env.entry) (next_in env.entry)) }
+) -> Result<Evaluated<'a>, Trouble<'c>>
+    ensures { Evaluates result ((means-unary place.now (unary_of operator) (means (expr_of operand.now))).value (bound_in env.entry) (present_in env.entry) (next_in env.entry)) }
 {
     let operand = evaluate(alloc, operand, env)?;
     unary(alloc, place, operator, operand)
@@ -40,15 +41,15 @@ pub(super) fn on_one<'a>(
 
 /// An operator on two values.
 #[cycle(evaluate)]
-pub(super) fn on_two<'a>(
+pub(super) fn on_two<'c: 'a, 'a>(
     alloc: Global,
-    place: Place,
+    place: &'c Place,
     operator: Binary,
-    left: &'a Core,
-    right: &'a Core,
+    left: &'c Core,
+    right: &'c Core,
     env: Environment<'a>,
-) -> Result<Evaluated<'a>, Fault>
-    ensures { Evaluates result ((means-binary place (binary_of operator) (means (expr_of left.now)) (means (expr_of right.now))).value (bound_in env.entry) (present_in env.entry) (next_in env.entry)) }
+) -> Result<Evaluated<'a>, Trouble<'c>>
+    ensures { Evaluates result ((means-binary place.now (binary_of operator) (means (expr_of left.now)) (means (expr_of right.now))).value (bound_in env.entry) (present_in env.entry) (next_in env.entry)) }
 {
     let left = evaluate(alloc, left, env)?;
     let right = evaluate(alloc, right, env)?;
@@ -57,14 +58,14 @@ pub(super) fn on_two<'a>(
 
 /// The value of a function at an argument.
 #[cycle(evaluate)]
-pub(super) fn applied<'a>(
+pub(super) fn applied<'c: 'a, 'a>(
     alloc: Global,
-    place: Place,
-    function: &'a Core,
-    argument: &'a Core,
+    place: &'c Place,
+    function: &'c Core,
+    argument: &'c Core,
     env: Environment<'a>,
-) -> Result<Evaluated<'a>, Fault>
-    ensures { Evaluates result ((means-binary place Apply (means (expr_of function.now)) (means (expr_of argument.now))).value (bound_in env.entry) (present_in env.entry) (next_in env.entry)) }
+) -> Result<Evaluated<'a>, Trouble<'c>>
+    ensures { Evaluates result ((means-binary place.now Apply (means (expr_of function.now)) (means (expr_of argument.now))).value (bound_in env.entry) (present_in env.entry) (next_in env.entry)) }
 {
     let function = evaluate(alloc, function, env)?;
     let argument = evaluate(alloc, argument, env)?;
@@ -73,12 +74,12 @@ pub(super) fn applied<'a>(
 
 /// Whether two values are the same.
 #[cycle(evaluate)]
-pub(super) fn equal<'a>(
+pub(super) fn equal<'c: 'a, 'a>(
     alloc: Global,
-    left: &'a Core,
-    right: &'a Core,
+    left: &'c Core,
+    right: &'c Core,
     env: Environment<'a>,
-) -> Result<Evaluated<'a>, Fault>
+) -> Result<Evaluated<'a>, Trouble<'c>>
     ensures { Evaluates result ((means-equal (means (expr_of left.now)).place (means (expr_of left.now)) (means (expr_of right.now))).value (bound_in env.entry) (present_in env.entry) (next_in env.entry)) }
 {
     let left = evaluate(alloc, left, env)?;
@@ -88,14 +89,14 @@ pub(super) fn equal<'a>(
 
 /// The value of a record's field.
 #[cycle(evaluate)]
-pub(super) fn field_of<'a>(
+pub(super) fn field_of<'c: 'a, 'a>(
     alloc: Global,
-    place: Place,
-    name: &'a Text,
-    base: &'a Core,
+    place: &'c Place,
+    name: &'c Text,
+    base: &'c Core,
     env: Environment<'a>,
-) -> Result<Evaluated<'a>, Fault>
-    ensures { Evaluates result ((means-unary place (Field name.now) (means (expr_of base.now))).value (bound_in env.entry) (present_in env.entry) (next_in env.entry)) }
+) -> Result<Evaluated<'a>, Trouble<'c>>
+    ensures { Evaluates result ((means-unary place.now (Field name.now) (means (expr_of base.now))).value (bound_in env.entry) (present_in env.entry) (next_in env.entry)) }
 {
     let base = evaluate(alloc, base, env)?;
     field(alloc, place, name, base)
@@ -103,15 +104,15 @@ pub(super) fn field_of<'a>(
 
 /// A part of a sequence.
 #[cycle(evaluate)]
-pub(super) fn part_of<'a>(
+pub(super) fn part_of<'c: 'a, 'a>(
     alloc: Global,
-    place: Place,
-    sequence: &'a Core,
-    low: &'a Core,
-    high: &'a Core,
+    place: &'c Place,
+    sequence: &'c Core,
+    low: &'c Core,
+    high: &'c Core,
     env: Environment<'a>,
-) -> Result<Evaluated<'a>, Fault>
-    ensures { Evaluates result ((means-sub_seq place (means (expr_of sequence.now)) (means (expr_of low.now)) (means (expr_of high.now))).value (bound_in env.entry) (present_in env.entry) (next_in env.entry)) }
+) -> Result<Evaluated<'a>, Trouble<'c>>
+    ensures { Evaluates result ((means-sub_seq place.now (means (expr_of sequence.now)) (means (expr_of low.now)) (means (expr_of high.now))).value (bound_in env.entry) (present_in env.entry) (next_in env.entry)) }
 {
     let sequence = evaluate(alloc, sequence, env)?;
     let low = evaluate(alloc, low, env)?;
@@ -121,11 +122,11 @@ pub(super) fn part_of<'a>(
 
 /// The values of some expressions, from left to right.
 #[cycle(evaluate)]
-fn values_of<'a>(
+fn values_of<'c: 'a, 'a>(
     alloc: Global,
-    cores: &'a [Core],
+    cores: &'c [Core],
     env: Environment<'a>,
-) -> Result<Vec<Value>, Fault>
+) -> Result<Vec<Value>, Trouble<'c>>
     ensures { GivesBy (λ v. map tree_of v.items) result (each (λ (m : Meaning). m.value (bound_in env.entry) (present_in env.entry) (next_in env.entry)) (parts_of_cores cores.now)) }
 {
     let mut values = Vec::with_capacity(alloc, cores.len())?;
@@ -137,11 +138,11 @@ fn values_of<'a>(
 
 /// The values of some fields, from left to right, each with its name.
 #[cycle(evaluate)]
-fn named_values<'a>(
+fn named_values<'c: 'a, 'a>(
     alloc: Global,
-    fields: &'a [(Text, Core)],
+    fields: &'c [(Text, Core)],
     env: Environment<'a>,
-) -> Result<Vec<(Value, Value)>, Fault>
+) -> Result<Vec<(Value, Value)>, Trouble<'c>>
     ensures { GivesBy (λ v. map pair_of v.items) result (each (λ (f : List ℕ × Meaning). named_value f (bound_in env.entry) (present_in env.entry) (next_in env.entry)) (fields_of_cores fields.now)) }
 {
     let mut pairs = Vec::with_capacity(alloc, fields.len())?;
@@ -154,13 +155,13 @@ fn named_values<'a>(
 
 /// The set of the values of its parts.
 #[cycle(evaluate)]
-pub(super) fn enumerated<'a>(
+pub(super) fn enumerated<'c: 'a, 'a>(
     alloc: Global,
-    place: Place,
-    parts: &'a [Core],
+    place: &'c Place,
+    parts: &'c [Core],
     env: Environment<'a>,
-) -> Result<Evaluated<'a>, Fault>
-    ensures { Evaluates result ((means-enumerated place (parts_of_cores parts.now)).value (bound_in env.entry) (present_in env.entry) (next_in env.entry)) }
+) -> Result<Evaluated<'a>, Trouble<'c>>
+    ensures { Evaluates result ((means-enumerated place.now (parts_of_cores parts.now)).value (bound_in env.entry) (present_in env.entry) (next_in env.entry)) }
 {
     let values = values_of(alloc, parts, env)?;
     Ok(Evaluated::Owned(made_set(place, SetValue::from_values(values))?))
@@ -168,13 +169,13 @@ pub(super) fn enumerated<'a>(
 
 /// The sequence of the values of its parts.
 #[cycle(evaluate)]
-pub(super) fn tuple<'a>(
+pub(super) fn tuple<'c: 'a, 'a>(
     alloc: Global,
-    place: Place,
-    parts: &'a [Core],
+    place: &'c Place,
+    parts: &'c [Core],
     env: Environment<'a>,
-) -> Result<Evaluated<'a>, Fault>
-    ensures { Evaluates result ((means-tuple place (parts_of_cores parts.now)).value (bound_in env.entry) (present_in env.entry) (next_in env.entry)) }
+) -> Result<Evaluated<'a>, Trouble<'c>>
+    ensures { Evaluates result ((means-tuple place.now (parts_of_cores parts.now)).value (bound_in env.entry) (present_in env.entry) (next_in env.entry)) }
 {
     let values = values_of(alloc, parts, env)?;
     Ok(Evaluated::Owned(sequence_of(alloc, place, values)?))
@@ -182,13 +183,13 @@ pub(super) fn tuple<'a>(
 
 /// The record of the values of its fields.
 #[cycle(evaluate)]
-pub(super) fn record_of<'a>(
+pub(super) fn record_of<'c: 'a, 'a>(
     alloc: Global,
-    place: Place,
-    fields: &'a [(Text, Core)],
+    place: &'c Place,
+    fields: &'c [(Text, Core)],
     env: Environment<'a>,
-) -> Result<Evaluated<'a>, Fault>
-    ensures { Evaluates result (record_rule place (fields_of_cores fields.now) (bound_in env.entry) (present_in env.entry) (next_in env.entry)) }
+) -> Result<Evaluated<'a>, Trouble<'c>>
+    ensures { Evaluates result (record_rule place.now (fields_of_cores fields.now) (bound_in env.entry) (present_in env.entry) (next_in env.entry)) }
 {
     let pairs = named_values(alloc, fields, env)?;
     Ok(Evaluated::Owned(made_fun(place, FunValue::from_pairs(pairs))?))

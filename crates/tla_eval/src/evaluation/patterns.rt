@@ -10,34 +10,35 @@ use crate::evaluation::choices::value_with_all;
 use crate::evaluation::evaluate;
 use crate::patterns::{open_items, try_set};
 use std::alloc::Global;
-use tla_core::{Core, Fault, Opening, Place};
+use tla_core::{Core, Opening, Place};
 use tla_operators::evaluated::Evaluated;
+use tla_operators::trouble::Trouble;
 
 /// The value of a body. Elements that it opens are opened here: `evaluate` takes much stack, and is called once for a form that binds.
 #[cycle(evaluate)]
-pub(super) fn body_value<'a>(
+pub(super) fn body_value<'c: 'a, 'a>(
     alloc: Global,
-    body: &'a Core,
+    body: &'c Core,
     env: Environment<'a>,
-) -> Result<Evaluated<'a>, Fault>
+) -> Result<Evaluated<'a>, Trouble<'c>>
     ensures { Evaluates result (val (expr_of body.now) (bound_in env.entry) (present_in env.entry) (next_in env.entry)) }
 {
     match body {
-        Core::Opened(place, openings, part) => opened(alloc, *place, openings, part, env),
+        Core::Opened(place, openings, part) => opened(alloc, place, openings, part, env),
         _ => evaluate(alloc, body, env),
     }
 }
 
 /// The value of a body under the items of elements.
 #[cycle(evaluate)]
-pub(super) fn opened<'a>(
+pub(super) fn opened<'c: 'a, 'a>(
     alloc: Global,
-    place: Place,
-    openings: &'a [Opening],
-    body: &'a Core,
+    place: &'c Place,
+    openings: &'c [Opening],
+    body: &'c Core,
     env: Environment<'a>,
-) -> Result<Evaluated<'a>, Fault>
-    ensures { Evaluates result ((means-opened place openings.now (means (expr_of body.now))).value (bound_in env.entry) (present_in env.entry) (next_in env.entry)) }
+) -> Result<Evaluated<'a>, Trouble<'c>>
+    ensures { Evaluates result ((means-opened place.now openings.now (means (expr_of body.now))).value (bound_in env.entry) (present_in env.entry) (next_in env.entry)) }
 {
     let items = open_items(alloc, place, openings, env.scope)?;
     Ok(Evaluated::Owned(value_with_all(alloc, body, items.as_slice(), env)?))
@@ -45,14 +46,14 @@ pub(super) fn opened<'a>(
 
 /// A set, all elements of which are tried.
 #[cycle(evaluate)]
-pub(super) fn tried<'a>(
+pub(super) fn tried<'c: 'a, 'a>(
     alloc: Global,
-    place: Place,
+    place: &'c Place,
     count: usize,
-    set: &'a Core,
+    set: &'c Core,
     env: Environment<'a>,
-) -> Result<Evaluated<'a>, Fault>
-    ensures { Evaluates result ((means-tried place count (means (expr_of set.now))).value (bound_in env.entry) (present_in env.entry) (next_in env.entry)) }
+) -> Result<Evaluated<'a>, Trouble<'c>>
+    ensures { Evaluates result ((means-tried place.now count (means (expr_of set.now))).value (bound_in env.entry) (present_in env.entry) (next_in env.entry)) }
 {
     let value = evaluate(alloc, set, env)?;
     try_set(place, count, value.value())?;

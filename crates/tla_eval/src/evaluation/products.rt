@@ -15,23 +15,24 @@ use crate::environment::Environment;
 use crate::evaluation::choices::evaluated_each;
 use crate::evaluation::{evaluate, has};
 use std::alloc::Global;
-use tla_core::{Core, Fault, Place};
+use tla_core::{Core, Place};
 use tla_operators::evaluated::Evaluated;
 use tla_operators::functions::if_function;
 use tla_operators::sequences::sequence_pairs;
 use tla_operators::sets::tuples_with;
+use tla_operators::trouble::Trouble;
 use tla_sets::fields::{field_in, has_just, records_with};
 use tla_value::{Text, Value};
 
 /// The records with each field in its set.
 #[cycle(evaluate)]
-pub(super) fn records<'a>(
+pub(super) fn records<'c: 'a, 'a>(
     alloc: Global,
-    place: Place,
-    fields: &'a [(Text, Core)],
+    place: &'c Place,
+    fields: &'c [(Text, Core)],
     env: Environment<'a>,
-) -> Result<Evaluated<'a>, Fault>
-    ensures { Evaluates result (record_set_rule place (fields_of_cores fields.now) (bound_in env.entry) (present_in env.entry) (next_in env.entry)) }
+) -> Result<Evaluated<'a>, Trouble<'c>>
+    ensures { Evaluates result (record_set_rule place.now (fields_of_cores fields.now) (bound_in env.entry) (present_in env.entry) (next_in env.entry)) }
 {
     let sets = field_sets(alloc, fields, env)?;
     Ok(Evaluated::Owned(records_with(alloc, place, fields, sets.as_slice())?))
@@ -39,11 +40,11 @@ pub(super) fn records<'a>(
 
 /// The values of some fields, from left to right, lent where they can be.
 #[cycle(evaluate)]
-fn field_sets<'a>(
+fn field_sets<'c: 'a, 'a>(
     alloc: Global,
-    fields: &'a [(Text, Core)],
+    fields: &'c [(Text, Core)],
     env: Environment<'a>,
-) -> Result<Vec<Evaluated<'a>>, Fault>
+) -> Result<Vec<Evaluated<'a>>, Trouble<'c>>
     ensures { GivesBy (λ v. map tree_of_evaluated v.items) result (each (λ (m : Meaning). m.value (bound_in env.entry) (present_in env.entry) (next_in env.entry)) (parts_of (fields_of_cores fields.now))) }
 {
     let mut values = Vec::with_capacity(alloc, fields.len())?;
@@ -55,13 +56,13 @@ fn field_sets<'a>(
 
 /// The tuples with one part of each set.
 #[cycle(evaluate)]
-pub(super) fn product<'a>(
+pub(super) fn product<'c: 'a, 'a>(
     alloc: Global,
-    place: Place,
-    parts: &'a [Core],
+    place: &'c Place,
+    parts: &'c [Core],
     env: Environment<'a>,
-) -> Result<Evaluated<'a>, Fault>
-    ensures { Evaluates result (product_rule place (parts_of_cores parts.now) (bound_in env.entry) (present_in env.entry) (next_in env.entry)) }
+) -> Result<Evaluated<'a>, Trouble<'c>>
+    ensures { Evaluates result (product_rule place.now (parts_of_cores parts.now) (bound_in env.entry) (present_in env.entry) (next_in env.entry)) }
 {
     let sets = evaluated_each(alloc, parts, env)?;
     Ok(Evaluated::Owned(tuples_with(alloc, place, sets.as_slice())?))
@@ -69,12 +70,12 @@ pub(super) fn product<'a>(
 
 /// Whether a value is a record with just these fields, each a member of the field's expression.
 #[cycle(evaluate)]
-pub(super) fn is_record_of<'a>(
+pub(super) fn is_record_of<'c: 'a, 'a>(
     alloc: Global,
-    fields: &'a [(Text, Core)],
+    fields: &'c [(Text, Core)],
     value: &'a Value,
     env: Environment<'a>,
-) -> Result<bool, Fault>
+) -> Result<bool, Trouble<'c>>
     ensures { (p : Place) → GivesTruth result ((means-records p (fields_of_cores fields.now)).has (tree_of value.now) (bound_in env.entry) (present_in env.entry) (next_in env.entry)) }
 {
     match if_function(value) {
@@ -91,12 +92,12 @@ pub(super) fn is_record_of<'a>(
 
 /// Whether the expression of each field has the value of that field, up to the first that has it not.
 #[cycle(evaluate)]
-fn fields_have<'a>(
+fn fields_have<'c: 'a, 'a>(
     alloc: Global,
-    fields: &'a [(Text, Core)],
+    fields: &'c [(Text, Core)],
     pairs: &'a [(Value, Value)],
     env: Environment<'a>,
-) -> Result<bool, Fault>
+) -> Result<bool, Trouble<'c>>
     ensures { GivesTruth result (all_hold (field_has (map pair_of pairs.now) (bound_in env.entry) (present_in env.entry) (next_in env.entry)) (fields_of_cores fields.now)) }
 {
     for field in fields {
@@ -114,12 +115,12 @@ fn fields_have<'a>(
 
 /// Whether a value is a tuple with each part a member of the expression at its place.
 #[cycle(evaluate)]
-pub(super) fn is_tuple_of<'a>(
+pub(super) fn is_tuple_of<'c: 'a, 'a>(
     alloc: Global,
-    parts: &'a [Core],
+    parts: &'c [Core],
     value: &'a Value,
     env: Environment<'a>,
-) -> Result<bool, Fault>
+) -> Result<bool, Trouble<'c>>
     ensures { (p : Place) → GivesTruth result ((means-product p (parts_of_cores parts.now)).has (tree_of value.now) (bound_in env.entry) (present_in env.entry) (next_in env.entry)) }
 {
     match sequence_pairs(value) {
@@ -136,12 +137,12 @@ pub(super) fn is_tuple_of<'a>(
 
 /// Whether each of these expressions has the value at its place, up to the first that has it not.
 #[cycle(evaluate)]
-fn parts_have<'a>(
+fn parts_have<'c: 'a, 'a>(
     alloc: Global,
-    parts: &'a [Core],
+    parts: &'c [Core],
     pairs: &'a [(Value, Value)],
     env: Environment<'a>,
-) -> Result<bool, Fault>
+) -> Result<bool, Trouble<'c>>
     requires { length pairs.now ≡ length parts.now }
     ensures { GivesTruth result (parts_have (parts_of_cores parts.now) (values_of (map pair_of pairs.now)) (bound_in env.entry) (present_in env.entry) (next_in env.entry)) }
 {

@@ -15,22 +15,23 @@ use crate::environment::Environment;
 use crate::evaluation::membership::has_all;
 use crate::evaluation::{evaluate, has};
 use std::alloc::Global;
-use tla_core::{Core, Fault, Place};
+use tla_core::{Core, Place};
 use tla_operators::evaluated::Evaluated;
 use tla_operators::functions::if_function;
 use tla_operators::sequences::sequence_pairs;
 use tla_operators::sets::{functions_between, has_domain, if_set, members, subsets_of};
+use tla_operators::trouble::Trouble;
 use tla_value::Value;
 
 /// All subsets of a set.
 #[cycle(evaluate)]
-pub(super) fn power<'a>(
+pub(super) fn power<'c: 'a, 'a>(
     alloc: Global,
-    place: Place,
-    set: &'a Core,
+    place: &'c Place,
+    set: &'c Core,
     env: Environment<'a>,
-) -> Result<Evaluated<'a>, Fault>
-    ensures { Evaluates result ((means-power place (means (expr_of set.now))).value (bound_in env.entry) (present_in env.entry) (next_in env.entry)) }
+) -> Result<Evaluated<'a>, Trouble<'c>>
+    ensures { Evaluates result ((means-power place.now (means (expr_of set.now))).value (bound_in env.entry) (present_in env.entry) (next_in env.entry)) }
 {
     let set = evaluate(alloc, set, env)?;
     Ok(Evaluated::Owned(subsets_of(alloc, place, set.value())?))
@@ -38,14 +39,14 @@ pub(super) fn power<'a>(
 
 /// The functions on one set with values in another.
 #[cycle(evaluate)]
-pub(super) fn functions<'a>(
+pub(super) fn functions<'c: 'a, 'a>(
     alloc: Global,
-    place: Place,
-    domain: &'a Core,
-    range: &'a Core,
+    place: &'c Place,
+    domain: &'c Core,
+    range: &'c Core,
     env: Environment<'a>,
-) -> Result<Evaluated<'a>, Fault>
-    ensures { Evaluates result ((means-functions place (means (expr_of domain.now)) (means (expr_of range.now))).value (bound_in env.entry) (present_in env.entry) (next_in env.entry)) }
+) -> Result<Evaluated<'a>, Trouble<'c>>
+    ensures { Evaluates result ((means-functions place.now (means (expr_of domain.now)) (means (expr_of range.now))).value (bound_in env.entry) (present_in env.entry) (next_in env.entry)) }
 {
     let domain = evaluate(alloc, domain, env)?;
     let range = evaluate(alloc, range, env)?;
@@ -54,12 +55,12 @@ pub(super) fn functions<'a>(
 
 /// Whether a value is a set of members of an expression.
 #[cycle(evaluate)]
-pub(super) fn is_set_within<'a>(
+pub(super) fn is_set_within<'c: 'a, 'a>(
     alloc: Global,
-    core: &'a Core,
+    core: &'c Core,
     value: &'a Value,
     env: Environment<'a>,
-) -> Result<bool, Fault>
+) -> Result<bool, Trouble<'c>>
     ensures { GivesTruth result ((means-power (means (expr_of core.now)).place (means (expr_of core.now))).has (tree_of value.now) (bound_in env.entry) (present_in env.entry) (next_in env.entry)) }
 {
     match if_set(value) {
@@ -70,12 +71,12 @@ pub(super) fn is_set_within<'a>(
 
 /// Whether a value is a sequence of members of an expression.
 #[cycle(evaluate)]
-pub(super) fn is_sequence_of<'a>(
+pub(super) fn is_sequence_of<'c: 'a, 'a>(
     alloc: Global,
-    core: &'a Core,
+    core: &'c Core,
     value: &'a Value,
     env: Environment<'a>,
-) -> Result<bool, Fault>
+) -> Result<bool, Trouble<'c>>
     ensures { GivesTruth result ((means-sequences (means (expr_of core.now)).place (means (expr_of core.now))).has (tree_of value.now) (bound_in env.entry) (present_in env.entry) (next_in env.entry)) }
 {
     match sequence_pairs(value) {
@@ -86,12 +87,12 @@ pub(super) fn is_sequence_of<'a>(
 
 /// Whether an expression has the value of each of these pairs, up to the first that it has not.
 #[cycle(evaluate)]
-fn has_values<'a>(
+fn has_values<'c: 'a, 'a>(
     alloc: Global,
-    core: &'a Core,
+    core: &'c Core,
     pairs: &'a [(Value, Value)],
     env: Environment<'a>,
-) -> Result<bool, Fault>
+) -> Result<bool, Trouble<'c>>
     ensures items { GivesTruth result (all_hold (λ v. mem v (expr_of core.now) (bound_in env.entry) (present_in env.entry) (next_in env.entry)) (values_of (map pair_of pairs.now))) }
     ensures values { GivesTruth result (all_hold (λ (q : Tree × Tree). mem q.1 (expr_of core.now) (bound_in env.entry) (present_in env.entry) (next_in env.entry)) (map pair_of pairs.now)) }
 {
@@ -105,15 +106,15 @@ fn has_values<'a>(
 
 /// Whether a value is a function on a set with values in an expression.
 #[cycle(evaluate)]
-pub(super) fn is_function_into<'a>(
+pub(super) fn is_function_into<'c: 'a, 'a>(
     alloc: Global,
-    place: Place,
-    domain: &'a Core,
-    range: &'a Core,
+    place: &'c Place,
+    domain: &'c Core,
+    range: &'c Core,
     value: &'a Value,
     env: Environment<'a>,
-) -> Result<bool, Fault>
-    ensures { GivesTruth result ((means-functions place (means (expr_of domain.now)) (means (expr_of range.now))).has (tree_of value.now) (bound_in env.entry) (present_in env.entry) (next_in env.entry)) }
+) -> Result<bool, Trouble<'c>>
+    ensures { GivesTruth result ((means-functions place.now (means (expr_of domain.now)) (means (expr_of range.now))).has (tree_of value.now) (bound_in env.entry) (present_in env.entry) (next_in env.entry)) }
 {
     match if_function(value) {
         Some(function) => {

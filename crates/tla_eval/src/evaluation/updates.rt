@@ -11,21 +11,22 @@ use crate::environment::Environment;
 use crate::evaluation::binding::value_with;
 use crate::evaluation::evaluate;
 use std::alloc::Global;
-use tla_core::{Core, Fault, Place};
+use tla_core::{Core, Place};
 use tla_operators::evaluated::Evaluated;
 use tla_operators::functions::{into_function, made_fun, unchanged};
+use tla_operators::trouble::Trouble;
 use tla_value::Value;
 
 /// A function with other values: each update on the result of the one before.
 #[cycle(evaluate)]
-pub(super) fn except<'a>(
+pub(super) fn except<'c: 'a, 'a>(
     alloc: Global,
-    place: Place,
-    updates: &'a [(Vec<Core>, Core)],
-    base: &'a Core,
+    place: &'c Place,
+    updates: &'c [(Vec<Core>, Core)],
+    base: &'c Core,
     env: Environment<'a>,
-) -> Result<Evaluated<'a>, Fault>
-    ensures { Evaluates result ((means-except place (means (expr_of base.now)) (updates_of_cores updates.now)).value (bound_in env.entry) (present_in env.entry) (next_in env.entry)) }
+) -> Result<Evaluated<'a>, Trouble<'c>>
+    ensures { Evaluates result ((means-except place.now (means (expr_of base.now)) (updates_of_cores updates.now)).value (bound_in env.entry) (present_in env.entry) (next_in env.entry)) }
 {
     let base = evaluate(alloc, base, env)?;
     updated_by_all(alloc, place, updates, base, env)
@@ -33,14 +34,14 @@ pub(super) fn except<'a>(
 
 /// A value after some updates, one after the other.
 #[cycle(evaluate)]
-fn updated_by_all<'a>(
+fn updated_by_all<'c: 'a, 'a>(
     alloc: Global,
-    place: Place,
-    updates: &'a [(Vec<Core>, Core)],
+    place: &'c Place,
+    updates: &'c [(Vec<Core>, Core)],
     base: Evaluated<'a>,
     env: Environment<'a>,
-) -> Result<Evaluated<'a>, Fault>
-    ensures { Evaluates result (update_all place (updates_of_cores updates.now) (bound_in env.entry) (present_in env.entry) (next_in env.entry) (tree_of_evaluated base.entry)) }
+) -> Result<Evaluated<'a>, Trouble<'c>>
+    ensures { Evaluates result (update_all place.now (updates_of_cores updates.now) (bound_in env.entry) (present_in env.entry) (next_in env.entry) (tree_of_evaluated base.entry)) }
 {
     let mut value = base;
     for update in updates {
@@ -52,15 +53,15 @@ fn updated_by_all<'a>(
 
 /// A value with another one along a path.
 #[cycle(evaluate)]
-fn updated<'a>(
+fn updated<'c: 'a, 'a>(
     alloc: Global,
-    place: Place,
-    keys: &'a [Core],
-    body: &'a Core,
+    place: &'c Place,
+    keys: &'c [Core],
+    body: &'c Core,
     value: Evaluated<'a>,
     env: Environment<'a>,
-) -> Result<Value, Fault>
-    ensures { Gives result (update place (parts_of_cores keys.now) (means (expr_of body.now)) (bound_in env.entry) (present_in env.entry) (next_in env.entry) (tree_of_evaluated value.entry)) }
+) -> Result<Value, Trouble<'c>>
+    ensures { Gives result (update place.now (parts_of_cores keys.now) (means (expr_of body.now)) (bound_in env.entry) (present_in env.entry) (next_in env.entry) (tree_of_evaluated value.entry)) }
 {
     match keys.split_first() {
         None => value_with(alloc, body, value.value(), env),
@@ -70,16 +71,16 @@ fn updated<'a>(
 
 /// A value with another one along a path of one key and others. Where the key is outside the domain nothing changes.
 #[cycle(evaluate)]
-fn updated_at<'a>(
+fn updated_at<'c: 'a, 'a>(
     alloc: Global,
-    place: Place,
-    rest: &'a [Core],
-    key: &'a Core,
-    body: &'a Core,
+    place: &'c Place,
+    rest: &'c [Core],
+    key: &'c Core,
+    body: &'c Core,
     value: Evaluated<'a>,
     env: Environment<'a>,
-) -> Result<Value, Fault>
-    ensures { Gives result (update place (means (expr_of key.now) ∷ parts_of_cores rest.now) (means (expr_of body.now)) (bound_in env.entry) (present_in env.entry) (next_in env.entry) (tree_of_evaluated value.entry)) }
+) -> Result<Value, Trouble<'c>>
+    ensures { Gives result (update place.now (means (expr_of key.now) ∷ parts_of_cores rest.now) (means (expr_of body.now)) (bound_in env.entry) (present_in env.entry) (next_in env.entry) (tree_of_evaluated value.entry)) }
 {
     let function = into_function(alloc, place, value)?;
     let key = evaluate(alloc, key, env)?;

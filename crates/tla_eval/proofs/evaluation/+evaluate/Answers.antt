@@ -59,88 +59,88 @@ pub binding::holds_at-returns-in_ok-ask_with-in-Some : goal.binding::holds_at-re
 binding::holds_at-returns-in_ok-ask_with-in-Some t c =
     let at : Some (tree_of_evaluated c.in-Some.element) ≡ slice_get (elements_of c.args.elements.now) c.args.number = sym (ap (option_map tree_of_evaluated) c.in-Some.is) ∙ c.element_at.ensures in
     let e : slice_get (elements_of c.args.elements.now) c.args.number ≡ Some (tree_of c.value.result.now) = sym at ∙ ap (λ v. Some v) (sym c.value.ensures) in
-    tested_there (body_of c.args.place c.args.body.now c.args.env) (slice_get (elements_of c.args.elements.now) c.args.number) (tree_of c.value.result.now) c.in_ok-ask_with-in-Some.field-0 e c.in_ok-ask_with-in-Some.ensures
+    tested_there (body_of c.args.place.now c.args.body.now c.args.env) (slice_get (elements_of c.args.elements.now) c.args.number) (tree_of c.value.result.now) c.in_ok-ask_with-in-Some.field-0 e c.in_ok-ask_with-in-Some.ensures
 
 pub binding::holds_at-returns-in_err-ask_with-in-Some : goal.binding::holds_at-returns-in_err-ask_with-in-Some
 binding::holds_at-returns-in_err-ask_with-in-Some t c =
     let at : Some (tree_of_evaluated c.in-Some.element) ≡ slice_get (elements_of c.args.elements.now) c.args.number = sym (ap (option_map tree_of_evaluated) c.in-Some.is) ∙ c.element_at.ensures in
     let e : slice_get (elements_of c.args.elements.now) c.args.number ≡ Some (tree_of c.value.result.now) = sym at ∙ ap (λ v. Some v) (sym c.value.ensures) in
-    subst (λ o. GivesBy (λ (r : Option Bool). r) c.from_residual.result o) (sym (ap (tested (body_of c.args.place c.args.body.now c.args.env)) e)) (search rules)
+    subst (λ o. GivesBy (λ (r : Option Bool). r) c.from_residual.result o) (sym (ap (tested (body_of c.args.place.now c.args.body.now c.args.env)) e)) (search rules)
 
 pub binding::holds_at-returns-in-None : goal.binding::holds_at-returns-in-None
 binding::holds_at-returns-in-None t c =
-    ap (tested (body_of c.args.place c.args.body.now c.args.env)) (sym c.element_at.ensures ∙ ap (option_map tree_of_evaluated) c.in-None.is)
+    ap (tested (body_of c.args.place.now c.args.body.now c.args.env)) (sym c.element_at.ensures ∙ ap (option_map tree_of_evaluated) c.in-None.is)
 
 pub binding::each_holds-loop-number-preserved : goal.binding::each_holds-loop-number-preserved
 binding::each_holds-loop-number-preserved t c =
     c.loop-number.invariant
-    ∙ all_more (body_of c.args.place c.args.body.now c.args.env) (elements_of c.args.elements.now) c.loop-number.number c.in-Some.holds (c.in_ok-holds.ensures ∙ ap (λ (o : Option Bool). Ok o) c.in-Some.is) c.if-not-holds.false
+    ∙ all_more (body_of c.args.place.now c.args.body.now c.args.env) (elements_of c.args.elements.now) c.loop-number.number c.in-Some.holds (c.in_ok-holds.ensures ∙ ap (λ (o : Option Bool). Ok o) c.in-Some.is) c.if-not-holds.false
 
 pub binding::each_holds-returns-then-not-holds : goal.binding::each_holds-returns-then-not-holds
 binding::each_holds-returns-then-not-holds t c =
     c.loop-number.invariant
-    ∙ all_stop (body_of c.args.place c.args.body.now c.args.env) (elements_of c.args.elements.now) c.loop-number.number c.in-Some.holds (c.in_ok-holds.ensures ∙ ap (λ (o : Option Bool). Ok o) c.in-Some.is) c.if-not-holds.true
+    ∙ all_stop (body_of c.args.place.now c.args.body.now c.args.env) (elements_of c.args.elements.now) c.loop-number.number c.in-Some.holds (c.in_ok-holds.ensures ∙ ap (λ (o : Option Bool). Ok o) c.in-Some.is) c.if-not-holds.true
 
 pub binding::each_holds-returns-in-None : goal.binding::each_holds-returns-in-None
 binding::each_holds-returns-in-None t c =
-    c.loop-number.invariant ∙ all_end (body_of c.args.place c.args.body.now c.args.env) (elements_of c.args.elements.now) c.loop-number.number (c.in_ok-holds.ensures ∙ ap (λ (o : Option Bool). Ok o) c.in-None.is)
+    c.loop-number.invariant ∙ all_end (body_of c.args.place.now c.args.body.now c.args.env) (elements_of c.args.elements.now) c.loop-number.number (c.in_ok-holds.ensures ∙ ap (λ (o : Option Bool). Ok o) c.in-None.is)
 
 pub binding::each_holds-returns-in_err-holds : goal.binding::each_holds-returns-in_err-holds
 binding::each_holds-returns-in_err-holds t c =
-    let e = c.loop-number.invariant ∙ all_first (body_of c.args.place c.args.body.now c.args.env) (elements_of c.args.elements.now) c.loop-number.number in
+    let e = c.loop-number.invariant ∙ all_first (body_of c.args.place.now c.args.body.now c.args.env) (elements_of c.args.elements.now) c.loop-number.number in
     subst (λ (o : Outcome Bool). GivesTruth c.from_residual.result o) (sym e) (search rules)
 
 pub binding::some_holds-loop-number-preserved : goal.binding::some_holds-loop-number-preserved
 binding::some_holds-loop-number-preserved t c =
     c.loop-number.invariant
-    ∙ some_more (body_of c.args.place c.args.body.now c.args.env) (elements_of c.args.elements.now) c.loop-number.number c.in-Some.holds (c.in_ok-holds.ensures ∙ ap (λ (o : Option Bool). Ok o) c.in-Some.is) c.if-holds.false
+    ∙ some_more (body_of c.args.place.now c.args.body.now c.args.env) (elements_of c.args.elements.now) c.loop-number.number c.in-Some.holds (c.in_ok-holds.ensures ∙ ap (λ (o : Option Bool). Ok o) c.in-Some.is) c.if-holds.false
 
 pub binding::some_holds-returns-then-holds : goal.binding::some_holds-returns-then-holds
 binding::some_holds-returns-then-holds t c =
     c.loop-number.invariant
-    ∙ some_stop (body_of c.args.place c.args.body.now c.args.env) (elements_of c.args.elements.now) c.loop-number.number c.in-Some.holds (c.in_ok-holds.ensures ∙ ap (λ (o : Option Bool). Ok o) c.in-Some.is) c.if-holds.true
+    ∙ some_stop (body_of c.args.place.now c.args.body.now c.args.env) (elements_of c.args.elements.now) c.loop-number.number c.in-Some.holds (c.in_ok-holds.ensures ∙ ap (λ (o : Option Bool). Ok o) c.in-Some.is) c.if-holds.true
 
 pub binding::some_holds-returns-in-None : goal.binding::some_holds-returns-in-None
 binding::some_holds-returns-in-None t c =
-    c.loop-number.invariant ∙ some_end (body_of c.args.place c.args.body.now c.args.env) (elements_of c.args.elements.now) c.loop-number.number (c.in_ok-holds.ensures ∙ ap (λ (o : Option Bool). Ok o) c.in-None.is)
+    c.loop-number.invariant ∙ some_end (body_of c.args.place.now c.args.body.now c.args.env) (elements_of c.args.elements.now) c.loop-number.number (c.in_ok-holds.ensures ∙ ap (λ (o : Option Bool). Ok o) c.in-None.is)
 
 pub binding::some_holds-returns-in_err-holds : goal.binding::some_holds-returns-in_err-holds
 binding::some_holds-returns-in_err-holds t c =
-    let e = c.loop-number.invariant ∙ some_first (body_of c.args.place c.args.body.now c.args.env) (elements_of c.args.elements.now) c.loop-number.number in
+    let e = c.loop-number.invariant ∙ some_first (body_of c.args.place.now c.args.body.now c.args.env) (elements_of c.args.elements.now) c.loop-number.number in
     subst (λ (o : Outcome Bool). GivesTruth c.from_residual.result o) (sym e) (search rules)
 
 pub binding::first_passing-loop-number-preserved : goal.binding::first_passing-loop-number-preserved
 binding::first_passing-loop-number-preserved t c =
     c.loop-number.invariant
-    ∙ least_more (body_of c.args.place c.args.body.now c.args.env) (elements_of c.args.elements.now) c.loop-number.number c.args.place c.in-Some.holds (c.in_ok-holds.ensures ∙ ap (λ (o : Option Bool). Ok o) c.in-Some.is) c.if-holds.false
+    ∙ least_more (body_of c.args.place.now c.args.body.now c.args.env) (elements_of c.args.elements.now) c.loop-number.number c.args.place.now c.in-Some.holds (c.in_ok-holds.ensures ∙ ap (λ (o : Option Bool). Ok o) c.in-Some.is) c.if-holds.false
 
 pub binding::first_passing-returns-then-holds : goal.binding::first_passing-returns-then-holds
 binding::first_passing-returns-then-holds t c =
     let e = c.loop-number.invariant
-    ∙ least_stop (body_of c.args.place c.args.body.now c.args.env) (elements_of c.args.elements.now) c.loop-number.number c.args.place c.in-Some.holds (c.in_ok-holds.ensures ∙ ap (λ (o : Option Bool). Ok o) c.in-Some.is) c.if-holds.true in
+    ∙ least_stop (body_of c.args.place.now c.args.body.now c.args.env) (elements_of c.args.elements.now) c.loop-number.number c.args.place.now c.in-Some.holds (c.in_ok-holds.ensures ∙ ap (λ (o : Option Bool). Ok o) c.in-Some.is) c.if-holds.true in
     subst (λ (o : Outcome Tree). Gives c.chosen_at.result o) (sym e) c.chosen_at.ensures
 
 pub binding::first_passing-returns-in-None : goal.binding::first_passing-returns-in-None
 binding::first_passing-returns-in-None t c =
-    inr (c.loop-number.invariant ∙ least_end (body_of c.args.place c.args.body.now c.args.env) (elements_of c.args.elements.now) c.loop-number.number c.args.place (c.in_ok-holds.ensures ∙ ap (λ (o : Option Bool). Ok o) c.in-None.is) ∙ ap (λ (f : Fault). Err f) (sym c.fault_at.ensures))
+    inr (c.loop-number.invariant ∙ least_end (body_of c.args.place.now c.args.body.now c.args.env) (elements_of c.args.elements.now) c.loop-number.number c.args.place.now (c.in_ok-holds.ensures ∙ ap (λ (o : Option Bool). Ok o) c.in-None.is) ∙ ap (λ (f : Fault). Err f) (sym c.fault_at.ensures))
 
 pub binding::first_passing-returns-in_err-holds : goal.binding::first_passing-returns-in_err-holds
 binding::first_passing-returns-in_err-holds t c =
-    let e = c.loop-number.invariant ∙ least_first (body_of c.args.place c.args.body.now c.args.env) (elements_of c.args.elements.now) c.loop-number.number c.args.place in
+    let e = c.loop-number.invariant ∙ least_first (body_of c.args.place.now c.args.body.now c.args.env) (elements_of c.args.elements.now) c.loop-number.number c.args.place.now in
     subst (λ (o : Outcome Tree). Gives c.from_residual.result o) (sym e) (search rules)
 
 pub binding::passing-loop-number-preserved : goal.binding::passing-loop-number-preserved
 binding::passing-loop-number-preserved t c =
     c.loop-number.invariant
-    ∙ kept_more (body_of c.args.place c.args.body.now c.args.env) (elements_of c.args.elements.now) c.loop-number.number (map tree_of c.loop-number.kept.items) (map tree_of c.keep_at.new.kept.items) c.in-Some.holds (c.in_ok-holds.ensures ∙ ap (λ (o : Option Bool). Ok o) c.in-Some.is) c.in_ok-keep_at-in-Some.ensures.ok
+    ∙ kept_more (body_of c.args.place.now c.args.body.now c.args.env) (elements_of c.args.elements.now) c.loop-number.number (map tree_of c.loop-number.kept.items) (map tree_of c.keep_at.new.kept.items) c.in-Some.holds (c.in_ok-holds.ensures ∙ ap (λ (o : Option Bool). Ok o) c.in-Some.is) c.in_ok-keep_at-in-Some.ensures.ok
 
 pub binding::passing-returns-in-None : goal.binding::passing-returns-in-None
 binding::passing-returns-in-None t c =
-    c.loop-number.invariant ∙ kept_end (body_of c.args.place c.args.body.now c.args.env) (elements_of c.args.elements.now) c.loop-number.number (map tree_of c.loop-number.kept.items) (c.in_ok-holds.ensures ∙ ap (λ (o : Option Bool). Ok o) c.in-None.is)
+    c.loop-number.invariant ∙ kept_end (body_of c.args.place.now c.args.body.now c.args.env) (elements_of c.args.elements.now) c.loop-number.number (map tree_of c.loop-number.kept.items) (c.in_ok-holds.ensures ∙ ap (λ (o : Option Bool). Ok o) c.in-None.is)
 
 pub binding::passing-returns-in_err-holds : goal.binding::passing-returns-in_err-holds
 binding::passing-returns-in_err-holds t c =
-    let e = c.loop-number.invariant ∙ kept_first (body_of c.args.place c.args.body.now c.args.env) (elements_of c.args.elements.now) c.loop-number.number (map tree_of c.loop-number.kept.items) in
+    let e = c.loop-number.invariant ∙ kept_first (body_of c.args.place.now c.args.body.now c.args.env) (elements_of c.args.elements.now) c.loop-number.number (map tree_of c.loop-number.kept.items) in
     subst (λ (o : Outcome (List Tree)). GivesBy (λ (v : Vec Value Global). map tree_of v.items) c.from_residual.result o) (sym e) (search rules)
 
 pub binding::elements_in-returns-in_ok-right-in-Binary : goal.binding::elements_in-returns-in_ok-right-in-Binary
@@ -149,8 +149,8 @@ binding::elements_in-returns-in_ok-right-in-Binary t c =
     let b = bound_in c.args.env in let s = present_in c.args.env in let q = next_in c.args.env in
     let left = ap (λ (k : Core). (means (expr_of k)).value b s q) (sym c.deref.ensures) ∙ c.in_ok-left-in-Binary.ensures in
     let right = ap (λ (k : Core). (means (expr_of k)).value b s q) (sym c.deref-in-Binary.ensures) ∙ c.in_ok-right-in-Binary.ensures in
-    let e = ap (λ (k : Core). elements c.args.place (means (expr_of k)) b s q) n.is
-    ∙ two_gone c.args.place (binary_rule (binary_of n.operator) n.at) ((means (expr_of n.left.value)).value b s q) ((means (expr_of n.right.value)).value b s q)
+    let e = ap (λ (k : Core). elements c.args.place.now (means (expr_of k)) b s q) n.is
+    ∙ two_gone c.args.place.now (binary_rule (binary_of n.operator) n.at) ((means (expr_of n.left.value)).value b s q) ((means (expr_of n.right.value)).value b s q)
     (tree_of_evaluated c.in_ok-left-in-Binary.left) (tree_of_evaluated c.in_ok-right-in-Binary.right) (tree_of c.value.result.now) (tree_of c.value-in-Binary.result.now)
     left right c.value.ensures c.value-in-Binary.ensures in
     subst (λ (o : Outcome (List Tree)). GivesElements c.elements_of_two.result o) (sym e) c.elements_of_two.ensures
@@ -158,7 +158,7 @@ binding::elements_in-returns-in_ok-right-in-Binary t c =
 pub membership::two_hold-returns : goal.membership::two_hold-returns
 membership::two_hold-returns t c =
     let b = bound_in c.args.env in let s = present_in c.args.env in let q = next_in c.args.env in
-    let e = two_asked c.args.place (binary_rule (binary_of c.args.operator) c.args.place) ((means (expr_of c.args.left.now)).value b s q) ((means (expr_of c.args.right.now)).value b s q)
+    let e = two_asked c.args.place.now (binary_rule (binary_of c.args.operator) c.args.place.now) ((means (expr_of c.args.left.now)).value b s q) ((means (expr_of c.args.right.now)).value b s q)
     (tree_of_evaluated c.in_ok-left.left) (tree_of_evaluated c.in_ok-right.right) (tree_of c.value.result.now) (tree_of c.value-2.result.now)
     c.in_ok-left.ensures c.in_ok-right.ensures c.value.ensures c.value-2.ensures (tree_of c.args.value.now) in
     subst (λ (o : Outcome Bool). GivesTruth c.two_have.result o) (sym e) c.two_have.ensures
@@ -298,7 +298,7 @@ choices::image-returns t c =
     let m = means (expr_of c.args.body.now) in
     let vs = map tree_of_evaluated c.as_slice.result.now in
     let lists = trees_in c.as_slice-2.result.now in
-    let e = image_step c.args.place (parts_of_cores c.args.sets.now) m (bound_in c.args.env) (present_in c.args.env) (next_in c.args.env) vs lists
+    let e = image_step c.args.place.now (parts_of_cores c.args.sets.now) m (bound_in c.args.env) (present_in c.args.env) (next_in c.args.env) vs lists
     (c.in_ok-sets.ensures ∙ ap (λ (us : List Evaluated). Ok (map tree_of_evaluated us)) (sym c.as_slice.ensures.value))
     (c.in_ok-lists.ensures ∙ ap (λ (us : List (Bor (List Value))). Ok (trees_in us)) (sym c.as_slice-2.ensures.value)) in
     e ∙ c.in_ok-into_set.ensures (values_for m (bound_in c.args.env) (present_in c.args.env) (next_in c.args.env) lists) c.in_ok-values.ensures
@@ -308,7 +308,7 @@ choices::image-returns-in_err-into_set t c =
     let m = means (expr_of c.args.body.now) in
     let vs = map tree_of_evaluated c.as_slice.result.now in
     let lists = trees_in c.as_slice-2.result.now in
-    let e = image_step c.args.place (parts_of_cores c.args.sets.now) m (bound_in c.args.env) (present_in c.args.env) (next_in c.args.env) vs lists
+    let e = image_step c.args.place.now (parts_of_cores c.args.sets.now) m (bound_in c.args.env) (present_in c.args.env) (next_in c.args.env) vs lists
     (c.in_ok-sets.ensures ∙ ap (λ (us : List Evaluated). Ok (map tree_of_evaluated us)) (sym c.as_slice.ensures.value))
     (c.in_ok-lists.ensures ∙ ap (λ (us : List (Bor (List Value))). Ok (trees_in us)) (sym c.as_slice-2.ensures.value)) in
     let g = c.in_err-into_set.ensures (values_for m (bound_in c.args.env) (present_in c.args.env) (next_in c.args.env) lists) c.in_ok-values.ensures in
@@ -316,7 +316,7 @@ choices::image-returns-in_err-into_set t c =
 
 pub choices::function_on_tuples-returns-in-Tuples : goal.choices::function_on_tuples-returns-in-Tuples
 choices::function_on_tuples-returns-in-Tuples t c =
-    let p = c.args.place in
+    let p = c.args.place.now in
     let m = means (expr_of c.args.body.now) in
     let vs = map tree_of_evaluated c.args.sets.now in
     let lists = trees_in c.as_slice-lists.result.now in
@@ -330,7 +330,7 @@ choices::function_on_tuples-returns-in-Tuples t c =
 
 pub choices::function_on_tuples-returns-in_err-pass_over-in-Refused : goal.choices::function_on_tuples-returns-in_err-pass_over-in-Refused
 choices::function_on_tuples-returns-in_err-pass_over-in-Refused t c =
-    let p = c.args.place in
+    let p = c.args.place.now in
     let m = means (expr_of c.args.body.now) in
     let vs = map tree_of_evaluated c.args.sets.now in
     let lists = trees_in c.as_slice-lists.result.now in
@@ -340,7 +340,7 @@ choices::function_on_tuples-returns-in_err-pass_over-in-Refused t c =
 
 pub choices::function_on_tuples-returns : goal.choices::function_on_tuples-returns
 choices::function_on_tuples-returns t c =
-    let p = c.args.place in
+    let p = c.args.place.now in
     let m = means (expr_of c.args.body.now) in
     let vs = map tree_of_evaluated c.args.sets.now in
     let lists = trees_in c.as_slice-lists.result.now in

@@ -12,14 +12,14 @@ items_of ps = values_of (map pair_of ps.now)
 
 pub returns-then-pairs-count : goal.returns-then-pairs-count
 returns-then-pairs-count c =
-    fits_pattern c.args.place c.args.count (tree_of c.args.element.now) c.in-Some.pairs.now (sym c.sequence_pairs.ensures ∙ ap (option_map items_of) c.in-Some.is) (omega (arith, c.if-pairs-count.true))
+    fits_pattern c.args.place.now c.args.count (tree_of c.args.element.now) c.in-Some.pairs.now (sym c.sequence_pairs.ensures ∙ ap (option_map items_of) c.in-Some.is) (omega (arith, c.if-pairs-count.true))
 
 pub returns-else-pairs-count : goal.returns-else-pairs-count
 returns-else-pairs-count c =
-    inr (fits_no_pattern c.args.place c.args.count (tree_of c.args.element.now) c.in-Some.pairs.now (sym c.sequence_pairs.ensures ∙ ap (option_map items_of) c.in-Some.is) (λ e. omega (arith, c.if-pairs-count.false))
+    inr (fits_no_pattern c.args.place.now c.args.count (tree_of c.args.element.now) c.in-Some.pairs.now (sym c.sequence_pairs.ensures ∙ ap (option_map items_of) c.in-Some.is) (λ e. omega (arith, c.if-pairs-count.false))
     ∙ ap (λ (f : Fault). Err f) (sym c.fault_at.ensures))
 
 pub returns-in-None : goal.returns-in-None
 returns-in-None c =
-    inr (has_no_items c.args.place c.args.count (tree_of c.args.element.now) (sym c.sequence_pairs.ensures ∙ ap (option_map items_of) c.in-None.is)
+    inr (has_no_items c.args.place.now c.args.count (tree_of c.args.element.now) (sym c.sequence_pairs.ensures ∙ ap (option_map items_of) c.in-None.is)
     ∙ ap (λ (f : Fault). Err f) (sym c.fault_at-in-None.ensures))

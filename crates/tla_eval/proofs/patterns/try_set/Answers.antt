@@ -8,5 +8,5 @@ use Rattle.tla_eval.proofs.patterns.try_set.Goals as goal
 
 pub returns-in-Set : goal.returns-in-Set
 returns-in-Set c =
-    set_tried c.args.place c.args.count c.args.value.now c.in-Set.set c.try_all.result c.in-Set.is
-    (subst (λ us. GivesBy (λ (u : Unit {0}). u) c.try_all.result (nothing_of (each (fitting c.args.place c.args.count) us))) c.items.ensures.items c.try_all.ensures)
+    set_tried c.args.place.now c.args.count c.args.value.now c.in-Set.set c.try_all.result c.in-Set.is
+    (subst (λ us. GivesBy (λ (u : Unit {0}). u) c.try_all.result (nothing_of (each (fitting c.args.place.now c.args.count) us))) c.items.ensures.items c.try_all.ensures)

@@ -6,5 +6,5 @@ use Rattle.tla_operators.proofs.sets.intersection_of.Goals as goal
 pub returns-in-Set-Set : goal.returns-in-Set-Set
 returns-in-Set-Set c =
     let s = c.in-Set-Set in
-    rw (on_sets_known c.args.place (λ xs ys. filter (λ v. is_member v ys) xs) c.args.left.now c.args.right.now s.left s.right s.is-0 s.is-1, set_of_kept c.args.place (λ v. is_member v s.right) s.left c.items-rising.ensures.rising)
+    rw (on_sets_known c.args.place.now (λ xs ys. filter (λ v. is_member v ys) xs) c.args.left.now c.args.right.now s.left s.right s.is-0 s.is-1, set_of_kept c.args.place.now (λ v. is_member v s.right) s.left c.items-rising.ensures.rising)
     (c.made_set.ensures (filter (λ v. is_member v s.right) s.left) c.intersect.ensures)

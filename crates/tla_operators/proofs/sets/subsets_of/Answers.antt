@@ -6,4 +6,4 @@ use Rattle.tla_operators.proofs.sets.subsets_of.Goals as goal
 pub returns-in-Set : goal.returns-in-Set
 returns-in-Set c =
     let s = c.in-Set in
-    rw (subsets_known c.args.place c.args.set.now s.set s.is) (c.made_set.ensures (set_of (subsets_of s.set)) c.power.ensures)
+    rw (subsets_known c.args.place.now c.args.set.now s.set s.is) (c.made_set.ensures (set_of (subsets_of s.set)) c.power.ensures)

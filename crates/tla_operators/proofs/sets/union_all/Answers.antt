@@ -10,4 +10,4 @@ use Rattle.tla_operators.proofs.sets.union_all.Goals as goal
 pub returns : goal.returns
 returns c =
     let ts = map tree_of c.in_ok-sets.sets.now in
-    subst (λ (o : Outcome Tree). Gives c.into_set.result o) (sym (union_is c.args.place (tree_of c.args.sets.now) ts c.in_ok-sets.ensures)) (c.into_set.ensures (joined_sets c.args.place ts) c.in_ok-joined.ensures)
+    subst (λ (o : Outcome Tree). Gives c.into_set.result o) (sym (union_is c.args.place.now (tree_of c.args.sets.now) ts c.in_ok-sets.ensures)) (c.into_set.ensures (joined_sets c.args.place.now ts) c.in_ok-joined.ensures)

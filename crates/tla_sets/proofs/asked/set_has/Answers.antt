@@ -8,5 +8,5 @@ use Rattle.tla_sets.proofs.asked.set_has.Goals as goal
 pub returns-then-are_within : goal.returns-then-are_within
 returns-then-are_within c =
     let few = c.are_within.ensures.few c.if-are_within.true in
-    stands_known c.args.place (map tree_of_evaluated c.args.values.now) (tree_of c.args.value.now) (omega (arith, few, length-map c.args.values.now tree_of_evaluated)) (c.are_within.ensures.shallow c.if-are_within.true)
+    stands_known c.args.place.now (map tree_of_evaluated c.args.values.now) (tree_of c.args.value.now) (omega (arith, few, length-map c.args.values.now tree_of_evaluated)) (c.are_within.ensures.shallow c.if-are_within.true)
     ∙ ap (λ (b : Bool). Ok b) (sym c.stands_in.ensures)

@@ -13,7 +13,7 @@ returns-in-Ok c = λ ys long.
     let rise = subst AllRise c.as_slice.ensures.value c.each_rises.ensures in
     let made = subst (λ ls. MakesSetOfFunctions (set_of (tuples_of ls)) (Ok c.in-Ok.tuples)) c.as_slice-2.ensures.value c.in-Ok.ensures in
     let several : length ts ≡ 1 → ⊥ = λ e. c.requires (sym (length-map c.args.sets.now tree_of_evaluated) ∙ e) in
-    tuples_made c.args.place ts ys lists c.in_ok-sets.ensures several rise (long lists c.in_ok-sets.ensures) c.in-Ok.tuples _ made.0 made.1 refl
+    tuples_made c.args.place.now ts ys lists c.in_ok-sets.ensures several rise (long lists c.in_ok-sets.ensures) c.in-Ok.tuples _ made.0 made.1 refl
 
 pub returns : goal.returns
 returns c = λ ys long.
@@ -22,4 +22,4 @@ returns c = λ ys long.
     let rise = subst AllRise c.as_slice.ensures.value c.each_rises.ensures in
     let made = subst (λ ls. MakesSetOfFunctions (set_of (tuples_of ls)) (Err c.in-Err.error)) c.as_slice-2.ensures.value c.in-Err.ensures in
     let several : length ts ≡ 1 → ⊥ = λ e. c.requires (sym (length-map c.args.sets.now tree_of_evaluated) ∙ e) in
-    tuples_refused c.args.place ts ys lists c.in_ok-sets.ensures several rise (long lists c.in_ok-sets.ensures) c.in-Err.error c.refused.result c.refused.ensures made
+    tuples_refused c.args.place.now ts ys lists c.in_ok-sets.ensures several rise (long lists c.in_ok-sets.ensures) c.in-Err.error c.refused.result c.refused.ensures made

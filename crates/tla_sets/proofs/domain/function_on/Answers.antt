@@ -10,7 +10,7 @@ use Rattle.tla_sets.proofs.domain.function_on.Goals as goal
 
 pub returns : goal.returns
 returns c =
-    let p = c.args.place in
+    let p = c.args.place.now in
     let xs = map tree_of c.in_ok-arguments.arguments.now in
     let vs = map tree_of c.args.values.items in
     let ts = map tree_of_evaluated c.args.sets.now in

@@ -9,4 +9,4 @@ use Rattle.tla_sets.proofs.domain.function_with.Goals as goal
 
 pub returns : goal.returns
 returns c =
-    subst (λ (o : Outcome Tree). Gives c.made_fun.result o) (ap (make_fun c.args.place) c.in_ok-pairs.ensures.ok) (c.made_fun.ensures (fun_of (map pair_of c.in_ok-pairs.pairs.items)) c.from_pairs.ensures)
+    subst (λ (o : Outcome Tree). Gives c.made_fun.result o) (ap (make_fun c.args.place.now) c.in_ok-pairs.ensures.ok) (c.made_fun.ensures (fun_of (map pair_of c.in_ok-pairs.pairs.items)) c.from_pairs.ensures)

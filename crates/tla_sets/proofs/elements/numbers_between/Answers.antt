@@ -12,6 +12,6 @@ returns c =
     let high = to_z w64 (of_z w64 c.args.high) in
     let from : c.args.low ≡ low = omega (arith, ints) in
     let to : c.args.high ≡ high = omega (arith, ints) in
-    ap (λ z. elements_rule c.args.place (rising_set c.args.at (range_of z c.args.high))) from
-    ∙ ap (λ z. elements_rule c.args.place (rising_set c.args.at (range_of low z))) to
-    ∙ elements_known c.args.place (rising_set c.args.at (range_of low high)) (range_of low high) c.in_ok-fits_range.ensures
+    ap (λ z. elements_rule c.args.place.now (rising_set c.args.at.now (range_of z c.args.high))) from
+    ∙ ap (λ z. elements_rule c.args.place.now (rising_set c.args.at.now (range_of low z))) to
+    ∙ elements_known c.args.place.now (rising_set c.args.at.now (range_of low high)) (range_of low high) c.in_ok-fits_range.ensures
