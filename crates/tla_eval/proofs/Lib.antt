@@ -10,3 +10,4 @@ pub mod Choices
 pub mod Tested
 pub mod Rows
 pub mod Fitting
+pub mod Asked

@@ -27,6 +27,7 @@ use Rattle.tla_eval.specs.Private.Environment.{bound_in, present_in, next_in}
 use Rattle.std.specs.Prelude.{slice_get}
 use Rattle.tla_core.proofs.Loops.{all_hold_step}
 use Rattle.tla_eval.proofs.Collected.{record_is}
+use Rattle.tla_eval.proofs.Asked.{conjunction_told, disjunction_told, function_into}
 use Rattle.tla_eval.proofs.Choices.{image_is, image_step, function_is, one_choice, value_here, value_more, value_first, value_end, pass_more, pass_first, pass_end, for_choices, function_of_values, function_first, function_passed}
 use Rattle.tla_sets.proofs.Chosen.{trees_in}
 use Rattle.tla_eval.proofs.Tested.{two_gone, two_asked, tested_there, all_more, all_stop, all_first, all_end, some_more, some_stop, some_first, some_end, least_more, least_stop, least_first, least_end, kept_more, kept_first, kept_end, one_of_is}
@@ -34,7 +35,7 @@ use Rattle.tla_operators.proofs.Different.{more_none}
 use Rattle.tla_core.proofs.Parts.{means_conjunction, means_disjunction, means_enumerated, means_tuple, means_record, means_image, means_function, means_except, means_cases, means_cases_or, means_records, means_product}
 use Rattle.tla_eval.proofs.RecordSets.{product_is, record_set_is, fields_long, tuple_long, tuple_other, same_number, number_same}
 use Rattle.tla_core.specs.Kinds.{items, as_set, make_fun}
-use Rattle.tla_core.specs.Lists.{each}
+use Rattle.tla_core.specs.Lists.{each, all_hold, some_hold}
 use Rattle.tla_core.specs.Operators.{binary_rule}
 use Rattle.tla_core.specs.SetForms.{means-records, means-product}
 use Rattle.tla_eval.proofs.evaluation.+evaluate.Goals as goal
@@ -507,3 +508,28 @@ has-returns-in-Product t c =
     let n = c.in-Product in
     let e = means_product c.args.core.now n.field-0 n.parts n.is ∙ ap (λ us. means-product n.field-0 (parts_of_cores us)) (sym c.deref-in-Product.ensures.value) in
     subst (λ (m : Meaning). GivesTruth c.is_tuple_of.result (m.has (tree_of c.args.value.now) (bound_in c.args.env) (present_in c.args.env) (next_in c.args.env))) (sym e) (c.is_tuple_of.ensures n.field-0)
+
+pub logic::conjunction-returns-in_err-ask : goal.logic::conjunction-returns-in_err-ask
+logic::conjunction-returns-in_err-ask t c =
+    let p = c.args.place.now in
+    let b = bound_in c.args.env in let s = present_in c.args.env in let q = next_in c.args.env in
+    let g = conjunction_told p b s q c.args.parts.now c.loop-part.part-index c.part-item.result c.part-item.is c.loop-part-test.true c.in_err-ask.field-0.0 c.in_err-ask.ensures
+    (all_hold (λ (m : Meaning). asks p m b s q) (parts_of_cores c.args.parts.now)) c.loop-part.invariant in
+    search (rules, g)
+
+pub logic::disjunction-returns-in_err-ask : goal.logic::disjunction-returns-in_err-ask
+logic::disjunction-returns-in_err-ask t c =
+    let p = c.args.place.now in
+    let b = bound_in c.args.env in let s = present_in c.args.env in let q = next_in c.args.env in
+    let g = disjunction_told p b s q c.args.parts.now c.loop-part.part-index c.part-item.result c.part-item.is c.loop-part-test.true c.in_err-ask.field-0.0 c.in_err-ask.ensures
+    (some_hold (λ (m : Meaning). asks p m b s q) (parts_of_cores c.args.parts.now)) c.loop-part.invariant in
+    search (rules, g)
+
+pub set_forms::is_function_into-returns-then-has_domain : goal.set_forms::is_function_into-returns-then-has_domain
+set_forms::is_function_into-returns-then-has_domain t c =
+    let b = bound_in c.args.env in let s = present_in c.args.env in let q = next_in c.args.env in
+    let e = function_into c.args.place.now (means (expr_of c.args.domain.now)) (means (expr_of c.args.range.now)) b s q (tree_of c.args.value.now)
+    c.in-Some.function.now (map pair_of c.pairs.result.now) (tree_of_evaluated c.in_ok-set-in-Some.set) (tree_of c.value.result.now) (map tree_of c.in_ok-arguments-in-Some.arguments.now) c.has_domain.result
+    (sym (ap (option_map (λ (f : Bor (List (Tree × Tree))). f.now)) c.in-Some.is) ∙ c.if_function.ensures)
+    c.in_ok-set-in-Some.ensures c.value.ensures c.in_ok-arguments-in-Some.ensures c.has_domain.ensures c.if-has_domain.true c.pairs.ensures.pairs in
+    subst (λ (o : Outcome Bool). GivesTruth c.has_values.result o) (sym e) c.has_values.ensures.values
