@@ -45,19 +45,33 @@ fn members(rt: HostRuntime) -> Result<(), Fail> {
     Ok(())
 }
 
-// What is refused for its number or its depth alone, where expressions come by other calls.
+// Whether a member too many is refused by the set of the numbers from 1 on, which then is as it was.
+fn refuses_a_member(alloc: Global, largest: i64) -> Result<bool, ValueError> {
+    let mut set = SetValue::range(alloc, 1, largest)?;
+    let refused = set.insert(Value::Int(0));
+    Ok(refused == Err(ValueError::TooMany) && set.get(0) == Some(&Value::Int(1)))
+}
+
+// Whether so many pairs of different numbers are refused.
+fn refuses_pairs(alloc: Global, count: i64) -> Result<bool, ValueError> {
+    let made = FunValue::from_pairs(numbered_pairs(alloc, count)?);
+    Ok(matches!(made, Err(ValueError::TooMany)))
+}
+
+// Whether a value that is nested so deep is refused by a function.
+fn refuses_depth(alloc: Global, braces: u64) -> Result<bool, ValueError> {
+    let function = one_pair(alloc)?;
+    let changed = function.except(alloc, &Value::Int(1), nested(alloc, braces)?);
+    Ok(matches!(changed, Err(ValueError::TooDeep)))
+}
+
+// What is refused for its number or its depth, where expressions come by other calls.
 #[test]
 fn beyond_the_limits(rt: HostRuntime) -> Result<(), Fail> {
     let alloc = rt.alloc();
-    let mut million = SetValue::range(alloc, 1, 1_000_000)?;
-    let one_more = million.insert(Value::Int(0));
-    assert!(rt; one_more == Err(ValueError::TooMany));
-    assert!(rt; million.len() == 1_000_000);
-    let pairs = numbered_pairs(alloc, 1_000_001)?;
-    let too_many = FunValue::from_pairs(pairs);
-    assert!(rt; matches!(too_many, Err(ValueError::TooMany)));
-    let too_deep = one_pair(alloc)?.except(alloc, &Value::Int(1), nested(alloc, 64)?);
-    assert!(rt; matches!(too_deep, Err(ValueError::TooDeep)));
+    assert!(rt; refuses_a_member(alloc, 1_000_000)?);
+    assert!(rt; refuses_pairs(alloc, 1_000_001)?);
+    assert!(rt; refuses_depth(alloc, 64)?);
     Ok(())
 }
 
