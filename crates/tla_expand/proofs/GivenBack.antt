@@ -15,7 +15,8 @@ use Rattle.tla_expand.specs.Places.{Name}
 use Rattle.tla_expand.specs.Primes.{primes, one_more, with_primes}
 use Rattle.tla_expand.specs.Meanings.{Scope, Argument, Meaning, with_name, parameter, with_parameters, operator}
 use Rattle.tla_expand.specs.Expand.{expand}
-use Rattle.tla_expand.specs.Arguments.{with_more, has_count, argument_at, argument_of, given}
+use Rattle.tla_expand.specs.Arguments.{with_more, has_count, argument_at, given}
+use Rattle.tla_expand.specs.Private.Known.{with_count}
 use Rattle.tla_expand.specs.Private.Parameters.{IsLast}
 use Rattle.tla_expand.specs.Scopes.{meaning_of, arguments_in}
 use Rattle.tla_expand.proofs.Primed.{once, unprimed}
@@ -43,10 +44,10 @@ counted [] (a ∷ args) σ f o h = refl
 counted (w ∷ ws) [] σ f o h = refl
 counted (w ∷ ws) (a ∷ args) σ f o h = counted ws args (with_name w.word (parameter a) σ) f o h
 
--- an operator whose body comes to an argument
-pub operator_given : (ws : List Written) (body : Scope → Argument) (σ : Scope) (g : Given) → ((args : List Argument) (τ : Scope) (d : ℕ) → with_parameters ws args σ ≡ Some τ → body τ d ≡ argument_of g args d)
-    → operator ws body σ ≡ given (length ws) g
-operator_given ws body σ g h = (λ i p args d. counted ws args σ (λ τ. body τ d) (argument_of g args d) (λ τ e. h args τ d e) i)
+-- an operator whose body means this of its arguments
+pub operator_counted : (ws : List Written) (body : Scope → Argument) (σ : Scope) (a : List Argument → Argument) → ((args : List Argument) (τ : Scope) (d : ℕ) → with_parameters ws args σ ≡ Some τ → body τ d ≡ a args d)
+    → operator ws body σ ≡ with_count (length ws) a
+operator_counted ws body σ a h = (λ i p args d. counted ws args σ (λ τ. body τ d) (a args d) (λ τ e. h args τ d e) i)
 
 -- the last parameter of a name means its argument
 pub last_argument : (ws : List Written) (args : List Argument) (σ τ : Scope) (x : Name) (i : ℕ) → IsLast x ws i → with_parameters ws args σ ≡ Some τ → τ x ≡ parameter (argument_at i args)
@@ -56,7 +57,7 @@ last_argument (w ∷ ws) (a ∷ args) σ τ x zero l h = absent_same ws args (wi
 last_argument (w ∷ ws) (a ∷ args) σ τ x (suc i) l h = last_argument ws args (with_name w.word (parameter a) σ) τ x i l h
 
 -- the arguments of a use
-count_row : (es : List syntax.Expr) (σ : Scope) → has_count (length es) (arguments_in es σ) ≡ true
+pub count_row : (es : List syntax.Expr) (σ : Scope) → has_count (length es) (arguments_in es σ) ≡ true
 count_row [] σ = refl
 count_row (e ∷ es) σ = count_row es σ
 

@@ -1,16 +1,16 @@
 //! Definitions that give back one of their arguments, through parentheses, primes, LET and uses of others that do so. Such
-//! a definition costs its uses nothing, however often others of the kind stand in its body.
+//! a definition costs its uses nothing, however often others of the kind stand in its body. A name of a LET may also come to
+//! an argument of parameters round the LET.
 
-ghost use Rattle.std.specs.Prelude.{◌≡◌, ◌≤◌, ◌<◌, length, ℕ, List, [], Some, None, IfSome, IfNone, map, drop};
+ghost use Rattle.std.specs.Prelude.{◌≡◌, ◌≤◌, length, ℕ, None, IfSome, IfNone, drop};
 ghost use Rattle.tla_core.specs.declared.fault.Place.{Place};
-ghost use Rattle.tla_tree.specs.Tree.{Call, Name, trees};
 ghost use Rattle.tla_tree.specs.View.{view, definition_view};
-ghost use Rattle.tla_expand.specs.Meanings.{Scope, operator};
+ghost use Rattle.tla_expand.specs.Meanings.{Scope, parameter, operator};
 ghost use Rattle.tla_expand.specs.Expand.{expand};
 ghost use Rattle.tla_expand.specs.Primes.{with_primes};
 ghost use Rattle.tla_expand.specs.Arguments as backs;
-ghost use Rattle.tla_expand.specs.declared.gives.Meant.TheVariants as meants;
-ghost use Rattle.tla_expand.specs.Private.Known.{IsSought, IsHit, IsGiven, IsMeant, IsOperator, IsTurn, ComesTo, GivesBack, defined_name};
+ghost use Rattle.tla_expand.specs.Arguments.{argument_at};
+ghost use Rattle.tla_expand.specs.Private.Known.{Layers, Means, IsRound, IsFound, IsGiven, IsMeant, IsOperator, IsTurn, IsUse, GivesBack, depth, with_layer, with_count, reached_in, defined_name};
 ghost use Rattle.tla_expand.specs.Scopes.{AreLinked, scope_at, arguments_in};
 ghost use Rattle.tla_expand.specs.Listed.{listed};
 
@@ -22,13 +22,20 @@ use crate::shortened::last_of;
 use tla_core::Place;
 use tla_tree::{Definition, Expr, Written};
 
-/// What is known of a name of a LET.
+/// An argument of a layer of parameters round a part of a body. The layer's number is how many names and layers are round it.
 #[derive(Clone, Copy)]
-pub(crate) enum Meant<'a> {
-    /// It stands for an expression.
-    Expression(&'a Expr),
+pub(crate) struct Reached {
+    pub(crate) layer: usize,
+    pub(crate) given: Given,
+}
+
+/// What is known of a name.
+#[derive(Clone, Copy)]
+pub(crate) enum Meant {
     /// An operator of so many parameters that gives back one of its arguments.
     Gives(usize, Given),
+    /// One that comes to an argument of parameters round it, whatever its own stand for.
+    Reaches(usize, Reached),
     Other,
 }
 
@@ -36,9 +43,10 @@ pub(crate) enum Meant<'a> {
 #[derive(Clone, Copy)]
 pub(crate) enum Known<'a> {
     Outside,
+    /// A layer of parameters, and what is round it.
     Parameters(&'a [Written], &'a Known<'a>),
     /// A name of a LET, and those before it.
-    Named(&'a [u8], Meant<'a>, &'a Known<'a>),
+    Named(&'a [u8], Meant, &'a Known<'a>),
 }
 
 /// A part of a body, with the names round it and primes on it, and where the last of these stands.
@@ -55,7 +63,7 @@ pub(crate) struct Part<'a> {
 pub(crate) enum Turn<'a> {
     Goes(Part<'a>),
     /// An argument.
-    Ends(Given),
+    Ends(Reached),
     Stops,
 }
 
@@ -99,45 +107,58 @@ pub(crate) fn later(before: Option<Place>, met: Option<Place>) -> Option<Place> 
     }
 }
 
-/// Behind the names of LETs that aren't the one that is sought.
-fn sought<'a>(known: &'a Known<'a>, name: &[u8]) -> &'a Known<'a>
-    ensures same { IsSought name.now known.now result.now }
-    ensures hit { IsHit name.now result.now }
+/// How many names and layers of parameters these are.
+fn depth_of(known: &Known<'_>) -> Option<usize>
+    ensures { IfSome result (λ n. n ≡ depth known.now) }
 {
     let mut at = known;
-    while let Known::Named(word, _, rest) = at {
-        if *word == name {
-            return at;
+    for met in 0..usize::MAX {
+        match at {
+            Known::Outside => return Some(met),
+            Known::Parameters(_, rest) => at = rest,
+            Known::Named(_, _, rest) => at = rest,
         }
-        at = rest;
     }
-    at
+    None
 }
 
-/// What an operator gives back.
-fn operator_of(
-    entries: &Entries<'_, '_>,
-    scope: usize,
-    known: &Known<'_>,
-    name: &[u8],
-) -> Option<(usize, Given)>
-    requires linked { AreLinked (listed entries.now) }
-    requires within { scope ≤ length (listed entries.now) }
-    ensures { IfSome result (λ g. IsGiven (scope_at (listed entries.now) scope) known.now name.now g.0 g.1) }
+/// A parameter by its number, in a layer that these names are round.
+fn argument(round: &Known<'_>, index: usize) -> Meant
+    ensures { (f : Layers) → Means f result (parameter (argument_at index (f (depth round.now)))) }
+{
+    match depth_of(round) {
+        Some(layer) => Meant::Reaches(
+            0,
+            Reached {
+                layer,
+                given: Given {
+                    index,
+                    primes: Primes::Never,
+                    primed: None,
+                },
+            },
+        ),
+        None => Meant::Other,
+    }
+}
+
+/// What is known of a name, unless it is one from outside.
+fn sought(known: &Known<'_>, name: &[u8]) -> Option<Meant>
+    ensures { IsFound name.now known.now result }
 {
     let mut at = known;
     loop {
         match at {
-            Known::Outside => return entered(entries, scope, name),
+            Known::Outside => return None,
             Known::Parameters(parameters, rest) => {
-                if last_of(parameters, name).is_some() {
-                    return None;
+                if let Some(index) = last_of(parameters, name) {
+                    return Some(argument(rest, index));
                 }
                 at = rest;
             }
             Known::Named(word, meant, rest) => {
                 if *word == name {
-                    return given_by_name(*meant);
+                    return Some(*meant);
                 }
                 at = rest;
             }
@@ -157,44 +178,35 @@ fn entered(entries: &Entries<'_, '_>, scope: usize, name: &[u8]) -> Option<(usiz
     }
 }
 
-/// What a name of a LET gives back.
-fn given_by_name(meant: Meant<'_>) -> Option<(usize, Given)>
-    ensures { IfSome result (λ g. meant.entry ≡ meants.Gives g.0 g.1) }
+/// What is known of a name, wherever it is from.
+fn name_means(entries: &Entries<'_, '_>, scope: usize, known: &Known<'_>, name: &[u8]) -> Meant
+    requires linked { AreLinked (listed entries.now) }
+    requires within { scope ≤ length (listed entries.now) }
+    ensures { IsGiven (scope_at (listed entries.now) scope) known.now name.now result }
 {
-    match meant {
-        Meant::Gives(count, given) => Some((count, given)),
-        _ => None,
-    }
-}
-
-/// A name without arguments.
-fn named<'a>(part: Part<'a>, name: &Written) -> Turn<'a>
-    ensures { (ρ : Scope) → view part.entry.tree.now ≡ Name name.now → IsTurn ρ part.entry result }
-{
-    let word = name.word.as_bytes();
-    match sought(part.known, word) {
-        Known::Outside => Turn::Stops,
-        Known::Parameters(parameters, _) => match last_of(parameters, word) {
-            Some(index) => Turn::Ends(Given {
-                index,
-                primes: part.primes,
-                primed: part.primed,
-            }),
-            None => Turn::Stops,
-        },
-        Known::Named(_, meant, rest) => match *meant {
-            Meant::Expression(tree) => Turn::Goes(Part {
-                known: rest,
-                tree,
-                ..part
-            }),
-            Meant::Gives(_, _) | Meant::Other => Turn::Stops,
+    match sought(known, name) {
+        Some(meant) => meant,
+        None => match entered(entries, scope, name) {
+            Some((count, given)) => Meant::Gives(count, given),
+            None => Meant::Other,
         },
     }
 }
 
-/// The use of an operator.
-fn called<'a>(
+/// An argument under the primes on a part.
+fn under(part: Part<'_>, given: Given) -> Given
+    ensures index { result.index ≡ given.index }
+    ensures primes { result.primes ≡ backs.with_more part.entry.primes given.primes }
+{
+    Given {
+        primes: with_more(part.primes, given.primes),
+        primed: later(part.primed, given.primed),
+        ..given
+    }
+}
+
+/// What the use of a name comes to.
+fn used<'a>(
     entries: &Entries<'_, '_>,
     scope: usize,
     part: Part<'a>,
@@ -203,20 +215,31 @@ fn called<'a>(
 ) -> Turn<'a>
     requires linked { AreLinked (listed entries.now) }
     requires within { scope ≤ length (listed entries.now) }
-    requires call { view part.tree.now ≡ Call name.now (trees (map view arguments.now)) }
-    ensures { IsTurn (scope_at (listed entries.now) scope) part.entry result }
+    ensures { IsUse (view part.entry.tree.now) name.now arguments.now → IsTurn (scope_at (listed entries.now) scope) part.entry result }
 {
-    let Some((count, given)) = operator_of(entries, scope, part.known, name.word.as_bytes()) else {
-        return Turn::Stops;
-    };
-    match given_argument(arguments, count, given) {
-        Some(tree) => Turn::Goes(Part {
-            known: part.known,
-            tree,
-            primes: with_more(part.primes, given.primes),
-            primed: later(part.primed, given.primed),
-        }),
-        None => Turn::Stops,
+    match name_means(entries, scope, part.known, name.word.as_bytes()) {
+        Meant::Gives(count, given) => match given_argument(arguments, count, given) {
+            Some(tree) => {
+                let more = under(part, given);
+                Turn::Goes(Part {
+                    known: part.known,
+                    tree,
+                    primes: more.primes,
+                    primed: more.primed,
+                })
+            }
+            None => Turn::Stops,
+        },
+        Meant::Reaches(count, reached) => {
+            if count != arguments.len() {
+                return Turn::Stops;
+            }
+            Turn::Ends(Reached {
+                layer: reached.layer,
+                given: under(part, reached.given),
+            })
+        }
+        Meant::Other => Turn::Stops,
     }
 }
 
@@ -227,8 +250,8 @@ fn one_turn<'a>(entries: &Entries<'_, '_>, scope: usize, part: Part<'a>) -> Turn
     ensures { IsTurn (scope_at (listed entries.now) scope) part.entry result }
 {
     match part.tree {
-        Expr::Name(name) => named(part, name),
-        Expr::Call(name, arguments) => called(entries, scope, part, name, arguments.as_slice()),
+        Expr::Name(name) => used(entries, scope, part, name, &[]),
+        Expr::Call(name, arguments) => used(entries, scope, part, name, arguments.as_slice()),
         Expr::Paren(_, inner) => Turn::Goes(Part {
             tree: inner,
             ..part
@@ -253,7 +276,7 @@ fn last<'a>(entries: &Entries<'_, '_>, scope: usize, start: Part<'a>) -> Turn<'a
     for _turn in 0..u64::MAX {
         match one_turn(entries, scope, part) {
             Turn::Goes(next) => part = next,
-            Turn::Ends(given) => return Turn::Ends(given),
+            Turn::Ends(reached) => return Turn::Ends(reached),
             Turn::Stops => return Turn::Goes(part),
         }
     }
@@ -270,7 +293,7 @@ fn name_of<'a>(definition: &'a Definition) -> &'a [u8]
     }
 }
 
-/// What a part of a body gives back, inside a LET of these definitions from one on.
+/// What a part of a body comes to, inside a LET of these definitions from one on.
 #[cycle(gives)]
 fn given_in(
     entries: &Entries<'_, '_>,
@@ -279,10 +302,10 @@ fn given_in(
     definitions: &[Definition],
     from: usize,
     left: usize,
-) -> Option<Given>
+) -> Option<Reached>
     requires linked { AreLinked (listed entries.now) }
     requires within { scope ≤ length (listed entries.now) }
-    ensures { IfSome result (λ g. GivesBack (scope_at (listed entries.now) scope) part.entry (drop from definitions.now) g) }
+    ensures { IfSome result (λ r. GivesBack (scope_at (listed entries.now) scope) part.entry (drop from definitions.now) r) }
 {
     if left == 0 {
         return None;
@@ -298,7 +321,7 @@ fn given_in(
         return given_in(entries, scope, inside, definitions, from + 1, left - 1);
     }
     match last(entries, scope, part) {
-        Turn::Ends(given) => Some(given),
+        Turn::Ends(reached) => Some(reached),
         Turn::Goes(end) => match end.tree {
             Expr::Let(_, inner_definitions, tree) => {
                 let inside = Part { tree, ..end };
@@ -317,15 +340,32 @@ fn given_in(
     }
 }
 
+/// What an operator of so many parameters is that comes to an argument of its own, or of a layer round it.
+fn meant_of(known: &Known<'_>, count: usize, reached: Reached) -> Meant
+    ensures means { (f : Layers) → Means f result (with_count count (λ args. reached_in reached (with_layer (depth known.now) args f))) }
+    ensures round { IsRound (depth known.now) result }
+{
+    let Some(own) = depth_of(known) else {
+        return Meant::Other;
+    };
+    if reached.layer == own {
+        return Meant::Gives(count, reached.given);
+    }
+    if reached.layer < own {
+        return Meant::Reaches(count, reached);
+    }
+    Meant::Other
+}
+
 /// What is known of a definition.
 #[cycle(gives)]
-fn meant_by<'a>(
+fn meant_by(
     entries: &Entries<'_, '_>,
     scope: usize,
     known: &Known<'_>,
-    definition: &'a Definition,
+    definition: &Definition,
     left: usize,
-) -> Meant<'a>
+) -> Meant
     requires linked { AreLinked (listed entries.now) }
     requires within { scope ≤ length (listed entries.now) }
     ensures { IsMeant (scope_at (listed entries.now) scope) known.now (definition_view definition.now) result }
@@ -333,16 +373,13 @@ fn meant_by<'a>(
     let Definition::Operator(_, parameters, body) = definition else {
         return Meant::Other;
     };
-    if parameters.len() == 0 {
-        return Meant::Expression(body);
-    }
     match given_by(entries, scope, &*known, parameters.as_slice(), body, left) {
-        Some(given) => Meant::Gives(parameters.len(), given),
+        Some(reached) => meant_of(known, parameters.len(), reached),
         None => Meant::Other,
     }
 }
 
-/// What an operator gives back.
+/// What an operator comes to.
 #[cycle(gives)]
 fn given_by(
     entries: &Entries<'_, '_>,
@@ -351,10 +388,10 @@ fn given_by(
     parameters: &[Written],
     body: &Expr,
     left: usize,
-) -> Option<Given>
+) -> Option<Reached>
     requires linked { AreLinked (listed entries.now) }
     requires within { scope ≤ length (listed entries.now) }
-    ensures { IfSome result (λ g. IsOperator (scope_at (listed entries.now) scope) known.now parameters.now (view body.now) g) }
+    ensures { IfSome result (λ r. IsOperator (scope_at (listed entries.now) scope) known.now parameters.now (view body.now) r) }
 {
     let inside = Known::Parameters(&*parameters, &*known);
     let part = Part {
@@ -380,5 +417,13 @@ pub(crate) fn gives(
     if parameters.len() == 0 {
         return None;
     }
-    given_by(entries, scope, &Known::Outside, parameters, body, DEPTH)
+    match given_by(entries, scope, &Known::Outside, parameters, body, DEPTH) {
+        Some(reached) => {
+            if reached.layer > 0 {
+                return None;
+            }
+            Some(reached.given)
+        }
+        None => None,
+    }
 }

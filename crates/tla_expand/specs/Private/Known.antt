@@ -1,60 +1,86 @@
 -- What is known of the names round a part of a body. Private contracts alone cite this.
-use Rattle.std.specs.Prelude.{◌≡◌, ℕ, true, List, [], map, length, Some}
-use Rattle.std.specs.Str.{bytes_eq}
+use Rattle.std.specs.Prelude.{◌≡◌, ◌<◌, ◌+◌, ℕ, eqb, List, [], map, length, Option, Some, None, if◌then◌else◌}
 use Rattle.tla_tree.specs.declared.tree.Definition as defining
+use Rattle.tla_tree.specs.declared.tree.Expr as syntax
 use Rattle.tla_tree.specs.declared.word.Written.{Written}
 use Rattle.tla_tree.specs.Tree as t
 use Rattle.tla_tree.specs.Tree.{DefinesOperator, DefinesFunction}
 use Rattle.tla_tree.specs.View.{view, definition_view}
-use Rattle.tla_expand.specs.declared.arena.Given.{Given}
 use Rattle.tla_expand.specs.declared.gives.Known.{Known, Outside, Parameters', Named'}
 use Rattle.tla_expand.specs.declared.gives.Meant.{Meant}
-use Rattle.tla_expand.specs.declared.gives.Meant.TheVariants.{Expression, Gives, Other}
+use Rattle.tla_expand.specs.declared.gives.Meant.TheVariants.{Gives, Reaches, Other}
 use Rattle.tla_expand.specs.declared.gives.Part.{Part}
+use Rattle.tla_expand.specs.declared.gives.Reached.{Reached}
 use Rattle.tla_expand.specs.declared.gives.Turn.{Turn}
 use Rattle.tla_expand.specs.declared.gives.Turn.TheVariants.{Goes, Ends, Stops}
-use Rattle.tla_expand.specs.Places.{Name}
+use Rattle.tla_expand.specs.Places.{Name, place_of}
 use Rattle.tla_expand.specs.Primes.{with_primes}
 use Rattle.tla_expand.specs.Meanings.{Scope, Argument, Meaning, with_name, with_parameters, operator}
 use Rattle.tla_expand.specs.Expand.{expand, definition_in, definitions_in}
-use Rattle.tla_expand.specs.Arguments.{given, argument_of}
+use Rattle.tla_expand.specs.Arguments.{given, has_count, argument_of}
+use Rattle.tla_expand.specs.Scopes.{arguments_in}
 
--- what a name of a LET means, in the scope before it
-abbrev pub Means : Meant → Meaning → Scope → Type 0
-Means (Expression e) m σ = m ≡ operator [] (expand (view e.now)) σ
-Means (Gives n g) m σ = m ≡ given n g
-Means Other m σ = Unit {0}
+-- how many names and layers of parameters these are
+abbrev pub depth : Known → ℕ
+depth Outside = 0
+depth (Parameters' ws _ rest) = depth rest + 1
+depth (Named' x w _ rest) = depth rest + 1
 
--- a scope in which these names are known, behind ρ, where the innermost parameters stand for these arguments
-abbrev pub Holds : Scope → Known → List Argument → Scope → Type 0
-Holds ρ Outside args τ = τ ≡ ρ
-Holds ρ (Parameters' ws _ rest) args τ = (others : List Argument) × (σ : Scope) × Holds ρ rest others σ × (with_parameters ws.now args σ ≡ Some τ)
-Holds ρ (Named' x w _ rest) args τ = (σ : Scope) × (m : Meaning) × Holds ρ rest args σ × Means w m σ × (τ ≡ with_name x.now m σ)
+-- what the parameters of each layer stand for, by how many names and layers are round it
+abbrev pub Layers : Type 0
+Layers = ℕ → List Argument
 
--- where a name is sought, it means the same
-abbrev pub IsSought : Name → Known → Known → Type 0
-IsSought x from to = (ρ : Scope) (args : List Argument) (τ : Scope) → Holds ρ from args τ → (σ : Scope) × Holds ρ to args σ × (τ x ≡ σ x)
+abbrev pub with_layer : ℕ → List Argument → Layers → Layers
+with_layer k args f i = if eqb i k then args else f i
 
--- a name of a LET is the one that was sought
-abbrev pub IsHit : Name → Known → Type 0
-IsHit x (Named' y w _ rest) = bytes_eq y.now x ≡ true
-IsHit x _ = Unit {0}
+abbrev pub reached_in : Reached → Layers → Argument
+reached_in r f = argument_of r.given (f r.layer)
 
--- an operator's name, wherever these names are known
-abbrev pub IsGiven : Scope → Known → Name → ℕ → Given → Type 0
-IsGiven ρ known x n g = (args : List Argument) (τ : Scope) → Holds ρ known args τ → τ x ≡ given n g
+-- an operator of so many parameters
+abbrev pub with_count : ℕ → (List Argument → Argument) → Meaning
+with_count n a p args d = if has_count n args then a args d else None
+
+-- what is known of a name
+abbrev pub Means : Layers → Meant → Meaning → Type 0
+Means f (Gives n g) m = m ≡ given n g
+Means f (Reaches n r) m = m ≡ with_count n (λ args. reached_in r f)
+Means f Other m = Unit {0}
+
+-- it speaks of layers that are round a name alone
+abbrev pub IsRound : ℕ → Meant → Type 0
+IsRound k (Reaches n r) = r.layer < k
+IsRound k _ = Unit {0}
+
+-- a scope in which these names are known, behind ρ, where the parameters stand for these arguments
+abbrev pub Holds : Scope → Known → Layers → Scope → Type 0
+Holds ρ Outside f τ = τ ≡ ρ
+Holds ρ (Parameters' ws _ rest) f τ = (σ : Scope) × Holds ρ rest f σ × (with_parameters ws.now (f (depth rest)) σ ≡ Some τ)
+Holds ρ (Named' x w _ rest) f τ = (σ : Scope) × (m : Meaning) × Holds ρ rest f σ × Means f w m × IsRound (depth rest) w × (τ ≡ with_name x.now m σ)
+
+-- a name among these, or one from outside
+abbrev pub IsFound : Name → Known → Option Meant → Type 0
+IsFound x known (Some w) = (ρ : Scope) (f : Layers) (τ : Scope) → Holds ρ known f τ → Means f w (τ x)
+IsFound x known None = (ρ : Scope) (f : Layers) (τ : Scope) → Holds ρ known f τ → τ x ≡ ρ x
+
+-- a name, wherever these names are known
+abbrev pub IsGiven : Scope → Known → Name → Meant → Type 0
+IsGiven ρ known x w = (f : Layers) (τ : Scope) → Holds ρ known f τ → Means f w (τ x)
+
+-- the use of a name
+abbrev pub IsUse : t.Tree → Written → List syntax.Expr → Type 0
+IsUse tree w es = (τ : Scope) (d : ℕ) → expand tree τ d ≡ τ w.word (place_of w.place) (arguments_in es τ) d
 
 -- a part of a body comes to another one
 abbrev pub ComesTo : Scope → Part → Part → Type 0
-ComesTo ρ a b = (args : List Argument) (τ : Scope) → Holds ρ a.known.now args τ → (σ : Scope) × Holds ρ b.known.now args σ × ((d : ℕ) → with_primes a.primes (expand (view a.tree.now) τ d) ≡ with_primes b.primes (expand (view b.tree.now) σ d))
+ComesTo ρ a b = (f : Layers) (τ : Scope) → Holds ρ a.known.now f τ → Holds ρ b.known.now f τ × ((d : ℕ) → with_primes a.primes (expand (view a.tree.now) τ d) ≡ with_primes b.primes (expand (view b.tree.now) τ d))
 
 -- a part of a body, inside a LET of these definitions, comes to an argument
-abbrev pub GivesBack : Scope → Part → List defining.Definition → Given → Type 0
-GivesBack ρ a defs g = (args : List Argument) (τ : Scope) → Holds ρ a.known.now args τ → (d : ℕ) → with_primes a.primes (expand (view a.tree.now) (definitions_in (t.definitions (map definition_view defs)) τ) d) ≡ argument_of g args d
+abbrev pub GivesBack : Scope → Part → List defining.Definition → Reached → Type 0
+GivesBack ρ a defs r = (f : Layers) (τ : Scope) → Holds ρ a.known.now f τ → (d : ℕ) → with_primes a.primes (expand (view a.tree.now) (definitions_in (t.definitions (map definition_view defs)) τ) d) ≡ reached_in r f d
 
 abbrev pub IsTurn : Scope → Part → Turn → Type 0
 IsTurn ρ a (Goes b) = ComesTo ρ a b
-IsTurn ρ a (Ends g) = GivesBack ρ a [] g
+IsTurn ρ a (Ends r) = GivesBack ρ a [] r
 IsTurn ρ a Stops = Unit {0}
 
 -- the name that is defined
@@ -64,8 +90,8 @@ defined_name (DefinesFunction w bs a) = w.word
 
 -- what is known of a definition
 abbrev pub IsMeant : Scope → Known → t.Definition → Meant → Type 0
-IsMeant ρ known def w = (args : List Argument) (τ : Scope) → Holds ρ known args τ → (m : Meaning) × Means w m τ × (definition_in def τ ≡ with_name (defined_name def) m τ)
+IsMeant ρ known def w = IsRound (depth known) w × ((f : Layers) (τ : Scope) → Holds ρ known f τ → (m : Meaning) × Means f w m × (definition_in def τ ≡ with_name (defined_name def) m τ))
 
--- what an operator gives back, wherever these names are known
-abbrev pub IsOperator : Scope → Known → List Written → t.Tree → Given → Type 0
-IsOperator ρ known ws body g = (args : List Argument) (τ : Scope) → Holds ρ known args τ → operator ws (expand body) τ ≡ given (length ws) g
+-- what an operator comes to, wherever these names are known: its own parameters are the next layer
+abbrev pub IsOperator : Scope → Known → List Written → t.Tree → Reached → Type 0
+IsOperator ρ known ws body r = (f : Layers) (τ : Scope) → Holds ρ known f τ → operator ws (expand body) τ ≡ with_count (length ws) (λ args. reached_in r (with_layer (depth known) args f))

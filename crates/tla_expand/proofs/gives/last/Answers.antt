@@ -11,7 +11,7 @@ loop-turn-preserved c =
     record { same = comes_trans (scope_at (listed c.args.entries.now) c.args.scope) c.args.start c.loop-turn.part c.in-Goes.next c.loop-turn.invariant.same c.in-Goes.ensures }
 
 pub returns-in-Ends : goal.returns-in-Ends
-returns-in-Ends c = comes_back (scope_at (listed c.args.entries.now) c.args.scope) c.args.start c.loop-turn.part c.in-Ends.given c.loop-turn.invariant.same c.in-Ends.ensures
+returns-in-Ends c = comes_back (scope_at (listed c.args.entries.now) c.args.scope) c.args.start c.loop-turn.part c.in-Ends.reached c.loop-turn.invariant.same c.in-Ends.ensures
 
 pub returns-in-Stops : goal.returns-in-Stops
 returns-in-Stops c = c.loop-turn.invariant.same

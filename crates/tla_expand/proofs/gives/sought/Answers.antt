@@ -1,10 +1,21 @@
-use Rattle.std.proofs.Common.{rules, ◌≡◌, false}
-use Rattle.std.specs.Str.{bytes_eq}
-use Rattle.tla_expand.proofs.GivenWalk.{sought_more}
+use Rattle.std.proofs.Common.{rules}
+use Rattle.tla_expand.specs.Private.Parameters.{IsAbsent}
+use Rattle.tla_expand.proofs.GivenWalk.{sought_here, sought_parameters, found_outside, found_parameter}
 use Rattle.tla_expand.proofs.gives.sought.Goals as goal
 
-pub loop-at-preserved : goal.loop-at-preserved
-loop-at-preserved c =
-    let n = c.in-Named in
-    let q : bytes_eq n.word.now c.args.name.now ≡ false = search rules in
-    record { same = sought_more c.args.name.now c.args.known.now c.loop-at.at.now n.word n.field-1 n.rest n.is q c.loop-at.invariant.same }
+pub loop-at-init : goal.loop-at-init
+loop-at-init c = record { same = sought_here c.args.name.now c.args.known.now }
+
+pub loop-at-preserved-in-Parameters : goal.loop-at-preserved-in-Parameters
+loop-at-preserved-in-Parameters c =
+    let m = c.in-Parameters in
+    let absent : IsAbsent c.args.name.now m.parameters.now = search rules in
+    record { same = sought_parameters c.args.name.now c.args.known.now c.loop-at.at.now m.parameters m.rest m.is absent c.loop-at.invariant.same }
+
+pub returns-in-Outside : goal.returns-in-Outside
+returns-in-Outside c = found_outside c.args.name.now c.args.known.now c.loop-at.at.now c.in-Outside.is c.loop-at.invariant.same
+
+pub returns-in-Some : goal.returns-in-Some
+returns-in-Some c =
+    let m = c.in-Parameters in
+    found_parameter c.args.name.now c.args.known.now c.loop-at.at.now m.parameters m.rest c.in-Some.index c.argument.result m.is c.in-Some.ensures.some c.loop-at.invariant.same c.argument.ensures

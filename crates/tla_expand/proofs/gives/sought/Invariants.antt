@@ -1,4 +1,4 @@
-use Rattle.tla_expand.specs.Private.Known.{IsSought}
+use Rattle.tla_expand.proofs.GivenWalk.{IsSought}
 use Rattle.tla_expand.proofs.gives.sought.Given as goal
 
 abbrev pub invariant-loop-at : goal.invariant-loop-at
