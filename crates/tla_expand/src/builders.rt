@@ -11,7 +11,7 @@ ghost use Rattle.tla_expand.specs.Private.Gives.{MakesLeaf};
 
 use crate::failure::Failure;
 use crate::nodes::{Binding, Fielded, Gather, Leaf, Many, One, Three, Two};
-use crate::parts::{box_beside, box_three, box_two, boxed, list_of_two, with_first};
+use crate::parts::{box_beside, boxed, list_of_two, with_first};
 use std::alloc::Global;
 use tla_core::{Core, Kind, Opening, Place};
 use tla_tree::{Constant, Word};
@@ -103,17 +103,17 @@ pub(crate) fn two_core(
     alloc: Global,
     place: Place,
     node: Two,
-    first: Core,
+    first: Box<Core>,
     second: Core,
 ) -> Result<Core, Failure>
-    ensures ok { IfOk result (λ c. expr_of c ≡ nodes.two node place (expr_of first) (expr_of second)) }
+    ensures ok { IfOk result (λ c. expr_of c ≡ nodes.two node place (expr_of first.value) (expr_of second)) }
     ensures err { IfErr result (λ e. e ≡ Failure.Memory) }
 {
     match node {
-        Two::And => Ok(conjunction(place, list_of_two(alloc, first, second)?)),
-        Two::Or => Ok(disjunction(place, list_of_two(alloc, first, second)?)),
+        Two::And => Ok(conjunction(place, list_of_two(alloc, Box::into_inner(first), second)?)),
+        Two::Or => Ok(disjunction(place, list_of_two(alloc, Box::into_inner(first), second)?)),
         _ => {
-            let (first, second) = box_two(alloc, first, second)?;
+            let (second, first) = box_beside(alloc, second, first)?;
             two_boxed(place, node, first, second)
         }
     }
@@ -146,14 +146,14 @@ pub(crate) fn three_core(
     alloc: Global,
     place: Place,
     node: Three,
-    first: Core,
-    second: Core,
+    first: Box<Core>,
+    second: Box<Core>,
     third: Core,
 ) -> Result<Core, Failure>
-    ensures ok { IfOk result (λ c. expr_of c ≡ nodes.three node place (expr_of first) (expr_of second) (expr_of third)) }
+    ensures ok { IfOk result (λ c. expr_of c ≡ nodes.three node place (expr_of first.value) (expr_of second.value) (expr_of third)) }
     ensures err { IfErr result (λ e. e ≡ Failure.Memory) }
 {
-    let (two, third) = box_three(alloc, first, second, third)?;
+    let (third, two) = box_beside(alloc, third, (first, second))?;
     let (first, second) = two;
     match node {
         Three::If => Ok(Core::If(place, first, second, third)),
@@ -219,13 +219,13 @@ pub(crate) fn binding_core(
     alloc: Global,
     place: Place,
     node: Binding,
-    set: Core,
+    set: Box<Core>,
     body: Core,
 ) -> Result<Core, Failure>
-    ensures ok { IfOk result (λ c. expr_of c ≡ nodes.binding node place (expr_of set) (expr_of body)) }
+    ensures ok { IfOk result (λ c. expr_of c ≡ nodes.binding node place (expr_of set.value) (expr_of body)) }
     ensures err { IfErr result (λ e. e ≡ Failure.Memory) }
 {
-    let (set, body) = box_two(alloc, set, body)?;
+    let (body, set) = box_beside(alloc, body, set)?;
     match node {
         Binding::ForAll => Ok(Core::ForAll(place, set, body)),
         Binding::ForSome => Ok(Core::ForSome(place, set, body)),
@@ -272,11 +272,15 @@ pub(crate) fn tried_core(
 }
 
 /// A product of a first operand and others. The only error is want of memory.
-pub(crate) fn product_core(place: Place, first: Core, others: Vec<Core>) -> Result<Core, Failure>
-    ensures ok { IfOk result (λ c. expr_of c ≡ expr.product place (exprs (expr_of first ∷ map expr_of others.items))) }
+pub(crate) fn product_core(
+    place: Place,
+    first: Box<Core>,
+    others: Vec<Core>,
+) -> Result<Core, Failure>
+    ensures ok { IfOk result (λ c. expr_of c ≡ expr.product place (exprs (expr_of first.value ∷ map expr_of others.items))) }
     ensures err { IfErr result (λ e. e ≡ Failure.Memory) }
 {
-    let parts = with_first(first, others)?;
+    let parts = with_first(Box::into_inner(first), others)?;
     Ok(product(place, parts))
 }
 
@@ -359,21 +363,8 @@ fn records(place: Place, fields: Vec<(Text, Core)>) -> Core
     Core::Records(place, fields)
 }
 
-/// EXCEPT. The only error is want of memory.
-pub(crate) fn except_core(
-    alloc: Global,
-    place: Place,
-    function: Core,
-    updates: Vec<(Vec<Core>, Core)>,
-) -> Result<Core, Failure>
-    ensures ok { IfOk result (λ c. expr_of c ≡ expr.except place (expr_of function) (updates_of (map changed_part updates.items))) }
-    ensures err { IfErr result (λ e. e ≡ Failure.Memory) }
-{
-    let (function, updates) = box_beside(alloc, function, updates)?;
-    Ok(except(place, function, updates))
-}
-
-fn except(place: Place, function: Box<Core>, updates: Vec<(Vec<Core>, Core)>) -> Core
+/// EXCEPT.
+pub(crate) fn except(place: Place, function: Box<Core>, updates: Vec<(Vec<Core>, Core)>) -> Core
     ensures { expr_of result ≡ expr.except place (expr_of function.value) (updates_of (map changed_part updates.items)) }
 {
     Core::Except(place, function, updates)

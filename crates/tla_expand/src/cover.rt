@@ -255,6 +255,36 @@ fn has_each(met: &IndexSet<usize>, variables: usize) -> bool
     true
 }
 
+/// Goes through an expression in a scope, where nothing was looked at so far; whether it stands for a variable or a nested tuple
+/// of variables that covers the first so many. The only error is want of memory.
+fn go_through<'a>(
+    walk: &mut Walk<'_, 'a>,
+    tree: &'a Expr,
+    scope: usize,
+    variables: usize,
+) -> Result<bool, Failure>
+    requires linked { AreLinked (listed walk.old.entries) }
+    requires within { scope ≤ length (listed walk.old.entries) }
+    requires left { walk.old.left.items ≡ [] }
+    requires gone { length walk.old.gone.keys ≡ 0 }
+    requires met { length walk.old.met.keys ≡ 0 }
+    ensures yes { IfOk result (λ b. b ≡ true → (e : expr.Expr) × (expansion.expand (view tree.entry.now) (scope_at (listed walk.old.entries) scope) 0 ≡ Some e) × (spec.covers variables e ≡ true)) }
+    ensures no { IfOk result (λ b. b ≡ false → (e : expr.Expr) → expansion.expand (view tree.entry.now) (scope_at (listed walk.old.entries) scope) 0 ≡ Some e → spec.covers variables e ≡ false) }
+    ensures err { IfErr result (λ f. f ≡ Failure.Memory) }
+{
+    push(&mut walk.left, Left::Part(tree, scope, Primes::Never))?;
+    for _turn in 0..u64::MAX {
+        let Some(left) = walk.left.pop() else {
+            return Ok(has_each(&walk.met, variables));
+        };
+        let goes = go_on(walk, left)?;
+        if !goes {
+            return Ok(false);
+        }
+    }
+    Err(Failure::Memory)
+}
+
 /// Whether an expression in a scope stands for a variable or a nested tuple of variables that covers the first so many. The
 /// only error is want of memory.
 pub(crate) fn covers<'a>(
@@ -279,15 +309,5 @@ pub(crate) fn covers<'a>(
         gone,
         met,
     };
-    push(&mut walk.left, Left::Part(tree, scope, Primes::Never))?;
-    for _turn in 0..u64::MAX {
-        let Some(left) = walk.left.pop() else {
-            return Ok(has_each(&walk.met, variables));
-        };
-        let goes = go_on(&mut walk, left)?;
-        if !goes {
-            return Ok(false);
-        }
-    }
-    Err(Failure::Memory)
+    go_through(&mut walk, tree, scope, variables)
 }

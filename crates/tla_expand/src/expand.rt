@@ -33,6 +33,7 @@ use crate::expanded::{Expanded, Two as Pair};
 use crate::failure::Failure;
 use crate::heads::find_head;
 use crate::nodes::{Binders, Fielded, Form, Headed, Leaf, Many, One, Three, Two};
+use crate::parts::boxed;
 use crate::primes::Primes;
 use binding::{bound_one, bound_several, gather_node};
 use kept::{angle_node, square_node};
@@ -263,8 +264,9 @@ fn three_node<'a>(
 {
     let two = two_parts(alloc, entries, first, second, at.primes, at)?;
     let left = two.left;
+    let second = boxed(alloc, two.second)?;
     let third = expand(alloc, entries, third, Setting { left, ..at })?;
-    let core = three_core(alloc, place, node, two.first, two.second, third.core)?;
+    let core = three_core(alloc, place, node, two.first, second, third.core)?;
     Ok(Expanded {
         core,
         left: third.left,
@@ -314,8 +316,9 @@ fn index_node<'a>(
 {
     let function = expand(alloc, entries, function, at)?;
     let left = function.left;
+    let function = boxed(alloc, function.core)?;
     let key = key(alloc, entries, place, items, Setting { left, ..at })?;
-    let core = two_core(alloc, place, Two::Apply, function.core, key.core)?;
+    let core = two_core(alloc, place, Two::Apply, function, key.core)?;
     Ok(Expanded {
         core,
         left: key.left,
@@ -391,8 +394,9 @@ fn product_node<'a>(
 {
     let first = expand(alloc, entries, first, at)?;
     let left = first.left;
+    let first = boxed(alloc, first.core)?;
     let others = each(alloc, entries, others, Setting { left, ..at })?;
-    let core = product_core(place, first.core, others.parts)?;
+    let core = product_core(place, first, others.parts)?;
     Ok(Expanded {
         core,
         left: others.left,
@@ -441,9 +445,10 @@ fn two_parts<'a>(
 {
     let first = expand(alloc, entries, first, Setting { primes, ..at })?;
     let left = first.left;
+    let first = boxed(alloc, first.core)?;
     let second = expand(alloc, entries, second, Setting { left, ..at })?;
     Ok(Pair {
-        first: first.core,
+        first,
         second: second.core,
         left: second.left,
     })

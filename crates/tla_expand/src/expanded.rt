@@ -1,4 +1,7 @@
 //! Expressions that were expanded, and how many nodes there may still be.
+//!
+//! One that stays in hand while another is expanded is in a box, and where one is given up, `drop` is called. The parts of one that
+//! is dropped in place are gone through by each proof.
 
 use tla_core::Core;
 use tla_value::Text;
@@ -11,7 +14,7 @@ pub(crate) struct Expanded {
 
 #[derive(Drop)]
 pub(crate) struct Two {
-    pub(crate) first: Core,
+    pub(crate) first: Box<Core>,
     pub(crate) second: Core,
     pub(crate) left: usize,
 }

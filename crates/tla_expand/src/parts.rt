@@ -15,38 +15,6 @@ pub(crate) fn boxed<T: Drop>(alloc: Global, item: T) -> Result<Box<T>, Failure>
     }
 }
 
-/// Two boxes.
-pub(crate) fn box_two<T: Drop>(
-    alloc: Global,
-    first: T,
-    second: T,
-) -> Result<(Box<T>, Box<T>), Failure>
-    ensures first { IfOk result (λ b. b.0.value ≡ first) }
-    ensures second { IfOk result (λ b. b.1.value ≡ second) }
-    ensures err { IfErr result (λ e. e ≡ Failure.Memory) }
-{
-    let first = boxed(alloc, first)?;
-    let second = boxed(alloc, second)?;
-    Ok((first, second))
-}
-
-/// Three boxes, the first two in a pair.
-pub(crate) fn box_three<T: Drop>(
-    alloc: Global,
-    first: T,
-    second: T,
-    third: T,
-) -> Result<((Box<T>, Box<T>), Box<T>), Failure>
-    ensures first { IfOk result (λ b. b.0.0.value ≡ first) }
-    ensures second { IfOk result (λ b. b.0.1.value ≡ second) }
-    ensures third { IfOk result (λ b. b.1.value ≡ third) }
-    ensures err { IfErr result (λ e. e ≡ Failure.Memory) }
-{
-    let two = box_two(alloc, first, second)?;
-    let third = boxed(alloc, third)?;
-    Ok((two, third))
-}
-
 /// A box, and what stands beside it.
 pub(crate) fn box_beside<T: Drop, U: Drop>(
     alloc: Global,

@@ -42,7 +42,11 @@ fn still_refused(found: Result<Core, Failure>) -> Failure
     ensures large { result ≡ Failure.TooLarge → (f : failure.Failure) × (found ≡ Err f) × (f ≢ Failure.Memory) }
 {
     match found {
-        Ok(core) => Failure::NoExpansion(core.place()),
+        Ok(core) => {
+            let place = core.place();
+            drop(core);
+            Failure::NoExpansion(place)
+        }
         Err(Failure::Memory) => Failure::Memory,
         Err(_) => Failure::TooLarge,
     }

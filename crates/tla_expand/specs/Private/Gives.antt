@@ -101,7 +101,7 @@ abbrev pub larger_of : {A B : Type 0} → (A → ℕ) → (B → ℕ) → A × B
 larger_of f g p = max (f p.0) (g p.1)
 
 abbrev pub parts_of : Two → Expr × Expr
-parts_of x = (expr_of x.first, expr_of x.second)
+parts_of x = (expr_of x.first.value, expr_of x.second)
 
 abbrev pub GivesTwo : ℕ → ℕ → Result Two Failure → Option (Expr × Expr) → Type 0
 GivesTwo room left (Ok x) o = Makes (sum_of nodes nodes) (larger_of depth depth) room left x.left (parts_of x) o

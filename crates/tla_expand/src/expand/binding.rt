@@ -23,7 +23,7 @@ use crate::expand::{Setting, expand};
 use crate::expanded::{Expanded, Many};
 use crate::failure::Failure;
 use crate::nodes::{Binding, Gather};
-use crate::parts::push;
+use crate::parts::{boxed, push};
 use std::alloc::Global;
 use tla_core::{Opening, Place};
 use tla_tree::{Binder, Expr, Pattern, Written};
@@ -126,8 +126,9 @@ fn nested<'a>(
         left: set.left,
         ..at
     };
+    let set = boxed(alloc, set.core)?;
     let inner = under_element(alloc, entries, under, first.names, rest, inside)?;
-    let core = binding_core(alloc, under.place, under.node, set.core, inner.core)?;
+    let core = binding_core(alloc, under.place, under.node, set, inner.core)?;
     Ok(Expanded {
         core,
         left: inner.left,

@@ -17,7 +17,7 @@ use crate::expanded::{Expanded, Many as Parts};
 use crate::failure::Failure;
 use crate::heads::find_head;
 use crate::nodes::{Form, Many, Two};
-use crate::parts::push;
+use crate::parts::{boxed, push};
 use crate::primes::{Primes, one_more};
 use std::alloc::Global;
 use tla_core::{Binary, Place};
@@ -204,8 +204,9 @@ pub(super) fn square_node<'a>(
 {
     let action = expand(alloc, entries, action, at)?;
     let left = action.left;
+    let action = boxed(alloc, action.core)?;
     let kept = kept_subscript(alloc, entries, place_v, v, Setting { left, ..at })?;
-    let core = two_core(alloc, place, Two::Or, action.core, kept.core)?;
+    let core = two_core(alloc, place, Two::Or, action, kept.core)?;
     Ok(Expanded {
         core,
         left: kept.left,
@@ -232,8 +233,9 @@ pub(super) fn angle_node<'a>(
 {
     let action = expand(alloc, entries, action, at)?;
     let left = action.left;
+    let action = boxed(alloc, action.core)?;
     let changed = changed_subscript(alloc, entries, place_v, v, Setting { left, ..at })?;
-    let core = two_core(alloc, place, Two::And, action.core, changed.core)?;
+    let core = two_core(alloc, place, Two::And, action, changed.core)?;
     Ok(Expanded {
         core,
         left: changed.left,

@@ -65,10 +65,9 @@ fn look_at_form<'a>(
     ensures kept { OnOk result (listed entries.new ≡ listed entries.old) }
     ensures fails { IfErr result (λ f. Fails (at.room + 1) (at.left + 1) f (with_primes at.primes (form_in form.entry (scope_at (listed entries.old) at.scope) at.bound))) }
 {
-    match node_of(alloc, entries, form, at) {
-        Ok(_) => Ok(()),
-        Err(failure) => Err(failure),
-    }
+    let made = node_of(alloc, entries, form, at)?;
+    drop(made);
+    Ok(())
 }
 
 /// Looks at expressions of one scope as they stand.
@@ -141,10 +140,9 @@ fn look_at<'a>(
     if !is_sought(at.sought, at.primes) {
         return Ok(());
     }
-    match expand(alloc, entries, tree, at) {
-        Ok(_) => Ok(()),
-        Err(failure) => Err(failure),
-    }
+    let made = expand(alloc, entries, tree, at)?;
+    drop(made);
+    Ok(())
 }
 
 /// Looks at what stands under UNCHANGED as it stands, where operands are looked at. A tuple is no node of what UNCHANGED

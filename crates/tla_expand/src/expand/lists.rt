@@ -122,7 +122,7 @@ pub(super) fn arms_of<'a>(
         let inside = Setting { left, ..at };
         let two = two_parts(alloc, entries, &arm.guard, &arm.value, at.primes, inside)?;
         left = two.left;
-        push(&mut made, (two.first, two.second))?;
+        push(&mut made, (Box::into_inner(two.first), two.second))?;
     }
     Ok(Arms { arms: made, left })
 }
@@ -145,9 +145,9 @@ pub(super) fn named_parts<'a>(
     let mut left = at.left;
     for i in 0..fields.len() {
         let field = &fields[i];
+        let name = text_of(alloc, &field.name.word)?;
         let part = expand(alloc, entries, &field.value, Setting { left, ..at })?;
         left = part.left;
-        let name = text_of(alloc, &field.name.word)?;
         push(&mut made, (name, part.core))?;
     }
     Ok(Fields { fields: made, left })

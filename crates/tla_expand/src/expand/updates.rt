@@ -11,14 +11,14 @@ ghost use Rattle.tla_expand.specs.Private.Gives.{both, made, part_in, step_in, u
 ghost use Rattle.tla_expand.specs.Listed.{listed};
 
 use crate::arena::{Entry, What, enter};
-use crate::builders::{except_core, place_of};
+use crate::builders::{except, place_of};
 use crate::entries::Entries;
 use crate::expand::lists::key;
 use crate::expand::{Setting, expand, leaf_of};
 use crate::expanded::{Change, Changes, Expanded, Many};
 use crate::failure::Failure;
 use crate::nodes::Leaf;
-use crate::parts::push;
+use crate::parts::{boxed, push};
 use std::alloc::Global;
 use tla_core::{Core, Place};
 use tla_tree::{Expr, Key, Update, Written};
@@ -42,10 +42,10 @@ pub(super) fn except_node<'a>(
 {
     let function = expand(alloc, entries, function, at)?;
     let left = function.left;
+    let function = boxed(alloc, function.core)?;
     let made = changes(alloc, entries, place, updates, Setting { left, ..at })?;
-    let core = except_core(alloc, place, function.core, made.updates)?;
     Ok(Expanded {
-        core,
+        core: except(place, function, made.updates),
         left: made.left,
     })
 }

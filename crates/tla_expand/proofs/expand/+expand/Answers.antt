@@ -196,7 +196,8 @@ lists::arms_of-loop-i-preserved t c =
     let old = map exprs_of_arm c.loop-i.made.items in
     let x = parts_of c.in_ok-two.two in
     let new = map exprs_of_arm c.push.new.items.items in
-    let p : new ≡ old ++ x ∷ [] = ap (λ ps. map exprs_of_arm ps) c.in_ok-push.ensures.ok ∙ map-append exprs_of_arm c.loop-i.made.items ((c.in_ok-two.two.first, c.in_ok-two.two.second) ∷ []) in
+    let pushed = rw c.into_inner.ensures at c.in_ok-push.ensures.ok in
+    let p : new ≡ old ++ x ∷ [] = ap (λ ps. map exprs_of_arm ps) pushed ∙ map-append exprs_of_arm c.loop-i.made.items ((c.in_ok-two.two.first.value, c.in_ok-two.two.second) ∷ []) in
     let n = total_more (sum_of nodes nodes) old new x p in
     record {
       kept = c.in_ok-two.ensures.kept ∙ c.loop-i.invariant.kept;
@@ -390,7 +391,7 @@ binding::nested-returns-clause-same t c =
     let g = rw c.in_ok-set.ensures.kept at c.in_ok-inner.ensures.same in
     nested_gives u.node u.place (binds_in (b ∷ c.args.rest.now) σ) (names_of b.names, expand (view b.set.now) σ) (binds_in c.args.rest.now σ) (expand (view u.body.now))
     (scope_at (listed c.args.entries.now) c.args.at.scope) c.args.at.bound c.args.at.primes refl
-    c.args.at.room c.args.at.left c.in_ok-set.set.left c.in_ok-inner.inner.left (expr_of c.in_ok-set.set.core) (expr_of c.in_ok-inner.inner.core) (expr_of c.in_ok-core.core) c.in_ok-set.ensures.same g c.in_ok-core.ensures.ok
+    c.args.at.room c.args.at.left c.in_ok-set.set.left c.in_ok-inner.inner.left (expr_of c.in_ok-set.set.core) (expr_of c.in_ok-inner.inner.core) (expr_of c.in_ok-core.core) c.in_ok-set.ensures.same g (rw c.in_ok-set-2.ensures.ok at c.in_ok-core.ensures.ok)
 
 pub binding::under_name-returns-in_err-inner-clause-same : goal.binding::under_name-returns-in_err-inner-clause-same
 binding::under_name-returns-in_err-inner-clause-same t c =
@@ -480,7 +481,7 @@ product_node-returns-clause-same t c =
     let b = each_of (part_in c.args.at.primes (scope_at (listed c.args.entries.now) c.args.at.scope) c.args.at.bound) c.args.others.now in
     let h = rw c.in_ok-first.ensures.kept at c.in_ok-others.ensures.same in
     node_gives (sum_of nodes (total nodes)) (larger_of depth (highest depth)) (λ (xs : Expr × List Expr). product c.args.place (exprs (xs.0 ∷ xs.1))) (both a b) ((expr_of c.in_ok-first.first.core), (map expr_of c.in_ok-others.others.parts.items)) (expr_of c.in_ok-core.core) c.args.at.room c.args.at.left c.in_ok-others.others.left (product_larger c.args.place)
-    (two_give nodes depth (total nodes) (highest depth) a b (expr_of c.in_ok-first.first.core) (map expr_of c.in_ok-others.others.parts.items) c.args.at.room c.args.at.left c.in_ok-first.first.left c.in_ok-others.others.left c.in_ok-first.ensures.same h) c.in_ok-core.ensures.ok
+    (two_give nodes depth (total nodes) (highest depth) a b (expr_of c.in_ok-first.first.core) (map expr_of c.in_ok-others.others.parts.items) c.args.at.room c.args.at.left c.in_ok-first.first.left c.in_ok-others.others.left c.in_ok-first.ensures.same h) (rw c.in_ok-first-2.ensures.ok at c.in_ok-core.ensures.ok)
 
 pub updates::except_node-returns-in_err-function-clause-same : goal.updates::except_node-returns-in_err-function-clause-same
 updates::except_node-returns-in_err-function-clause-same t c =
@@ -505,8 +506,8 @@ updates::except_node-returns-clause-same t c =
     let a = (part_in c.args.at.primes (scope_at (listed c.args.entries.now) c.args.at.scope) c.args.at.bound c.args.function.now) in
     let b = each_of (update_in c.args.at.primes (scope_at (listed c.args.entries.now) c.args.at.scope) c.args.at.bound) c.args.updates.now in
     let h = rw c.in_ok-function.ensures.kept at c.in_ok-made.ensures.same in
-    node_gives (sum_of nodes (total update_nodes)) (larger_of depth (highest update_depth)) (λ (xs : Expr × List (List Expr × Expr)). except c.args.place xs.0 (updates_of xs.1)) (both a b) ((expr_of c.in_ok-function.function.core), (map changed_part c.in_ok-made.made.updates.items)) (expr_of c.in_ok-core.core) c.args.at.room c.args.at.left c.in_ok-made.made.left (except_larger c.args.place)
-    (two_give nodes depth (total update_nodes) (highest update_depth) a b (expr_of c.in_ok-function.function.core) (map changed_part c.in_ok-made.made.updates.items) c.args.at.room c.args.at.left c.in_ok-function.function.left c.in_ok-made.made.left c.in_ok-function.ensures.same h) c.in_ok-core.ensures.ok
+    node_gives (sum_of nodes (total update_nodes)) (larger_of depth (highest update_depth)) (λ (xs : Expr × List (List Expr × Expr)). except c.args.place xs.0 (updates_of xs.1)) (both a b) ((expr_of c.in_ok-function.function.core), (map changed_part c.in_ok-made.made.updates.items)) (expr_of c.except.result) c.args.at.room c.args.at.left c.in_ok-made.made.left (except_larger c.args.place)
+    (two_give nodes depth (total update_nodes) (highest update_depth) a b (expr_of c.in_ok-function.function.core) (map changed_part c.in_ok-made.made.updates.items) c.args.at.room c.args.at.left c.in_ok-function.function.left c.in_ok-made.made.left c.in_ok-function.ensures.same h) (rw c.in_ok-function-2.ensures.ok at c.except.ensures)
 
 pub binding::sets_of-returns-in_err-part-clause-same : goal.binding::sets_of-returns-in_err-part-clause-same
 binding::sets_of-returns-in_err-part-clause-same t c =
@@ -603,7 +604,7 @@ updates::changes-returns-clause-same t c =
 
 pub lists::named_parts-returns-in_err-part-clause-same : goal.lists::named_parts-returns-in_err-part-clause-same
 lists::named_parts-returns-in_err-part-clause-same t c =
-    let r = err_from_is_err_and c.from_residual.result c.from_residual.ensures.1 in
+    let r = err_from_is_err_and c.from_residual-in_err-part.result c.from_residual-in_err-part.ensures.1 in
     let f = rw c.loop-i.invariant.kept at c.in_err-part.ensures.same in
     rw (r.1, r.2) (part_fails (field_in c.args.at.primes (scope_at (listed c.args.entries.now) c.args.at.scope) c.args.at.bound) c.args.fields.now field_nodes field_depth c.in_err-part.field-0.0
     (map named_part c.loop-i.made.items) c.loop-i.i c.index-fields-i.result c.args.at.room c.args.at.left c.loop-i.left
