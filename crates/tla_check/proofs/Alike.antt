@@ -1,6 +1,6 @@
 -- Two outcomes of one module and one configuration are alike.
-use Rattle.std.proofs.Common.{◌≡◌, ℕ, List, Option, Some, None, refl, sym, subst, ◌∙◌}
-use Rattle.std.specs.Prelude.{option_map}
+use Rattle.std.proofs.Common.{◌≡◌, ℕ, Bool, true, false, not, ◌&&◌, List, [], ◌∷◌, Option, Some, None, Result, Ok, Err, inl, inr, is_some, refl, sym, ap, subst, ◌∙◌}
+use Rattle.std.specs.Prelude.{IsTrue, option_map}
 use Rattle.tla_lex.specs.Module.{header_end, closing, body}
 use Rattle.tla_lex.specs.Reads.{Reads}
 use Rattle.tla_lex.specs.Tokens.{NoTokens, IsFirstFault, not_utf8, no_header, in_body, no_closing_line}
@@ -10,19 +10,38 @@ use Rattle.tla_lex.specs.declared.scan.Stop.{Stop}
 use Rattle.tla_lex.specs.declared.scan.Stop.TheVariants.{End, Fault}
 use Rattle.tla_lex.specs.declared.token.Place.{Place}
 use Rattle.tla_lex.specs.declared.token.Token.{Token}
-use Rattle.tla_lex.proofs.Module.{body_none}
+use Rattle.tla_lex.proofs.Module.{body_none, fault_means_none}
 use Rattle.tla_lex.proofs.SoFar.{reads_once}
+use Rattle.tla_tree.specs.declared.word.Written.{Written}
+use Rattle.tla_tree.specs.Tree.{Tree}
+use Rattle.tla_tree.specs.Units.{UnitTree}
+use Rattle.tla_parse.specs.declared.error.ParseCode.{ParseCode}
+use Rattle.tla_parse.specs.declared.error.ParseCode.TheVariants as parse
+use Rattle.tla_config.specs.declared.error.DefsCode.{DefsCode}
+use Rattle.tla_config.specs.declared.error.DefsCode.TheVariants as code
+use Rattle.tla_config.specs.declared.error.DefsError.{DefsError}
+use Rattle.tla_config.specs.declared.error.Source.{Source}
 use Rattle.tla_config.specs.declared.error.Source.TheVariants.{Module}
+use Rattle.tla_config.specs.Refusals.{Explains}
+use Rattle.tla_config.specs.Statements.{Statement, items_of}
+use Rattle.tla_config.specs.View.{ConfigTree}
+use Rattle.tla_defs.specs.Global.{global}
+use Rattle.tla_defs.specs.Model.{assumptions_of, invariants_named, constraints_named}
+use Rattle.tla_defs.specs.Refused as defs
+use Rattle.tla_defs.specs.Refused.{Behaviour, Named, Specified, behaviour, refused, IsOfSome, of_assumption, of_initial, of_action, of_invariant, of_constraint}
 use Rattle.tla_model.specs.ModelTree.{ModelTree}
 use Rattle.tla_search.proofs.OneAnswer.{answered-once}
 use Rattle.tla_check.specs.declared.checked.Answered.{Answered as AnsweredCheck}
 use Rattle.tla_check.specs.declared.checked.Checked.TheVariants.{Answered, Refused, NoMemory, NoWorker}
 use Rattle.tla_check.specs.declared.checked.Refusal.{Refusal}
-use Rattle.tla_check.specs.CarriesOver.{CarriesOver, lex_code, place_of}
+use Rattle.tla_check.specs.declared.checked.RefusalCode.{RefusalCode}
+use Rattle.tla_check.specs.CarriesOver.{CarriesOver, lex_code, parse_code, defs_code, place_of}
+use Rattle.tla_check.specs.Codes.{is_named_code, is_first_code}
 use Rattle.tla_check.specs.Checks.{IsAnswered, IsRefusal, of_tokens, of_module, of_configuration, of_model}
 use Rattle.tla_check.specs.Laws.{ComeOutAlike}
 use Rattle.tla_check.specs.Report.{report, refusal_line}
 use Rattle.tla_check.specs.Status.{status_of}
+use Rattle.tla_check.proofs.Once.{configuration-once, no-tree, units-once}
 
 -- ---- the first fault of a text is the only one
 none-some : {A : Type 0} (o : Option A) (x : A) → o ≡ None → o ≡ Some x → ⊥
@@ -80,13 +99,100 @@ module _ (text : List ℕ) where
       let same : end ≡ last = end-once from to ts us end last n o r q in cc
 
 -- ---- refusals
-told-once : (e : LexError) (r s : Refusal) → CarriesOver Module (lex_code e.code) e.place None r → CarriesOver Module (lex_code e.code) e.place None s → refusal_line r ≡ refusal_line s
-told-once e r s a b =
+told-once : (of : Source) (under : Option RefusalCode) (at : Option Place) (word : Option (List ℕ)) (r s : Refusal) → CarriesOver of under at word r → CarriesOver of under at word s
+    → refusal_line r ≡ refusal_line s
+told-once of under at word r s a b =
     let source : r.source ≡ s.source = a.source ∙ sym b.source in
-    let code : r.code ≡ s.code = some-once (lex_code e.code) r.code s.code a.code b.code in
-    let place : r.place ≡ s.place = some-once (option_map place_of e.place) r.place s.place a.place b.place in
+    let code : r.code ≡ s.code = some-once under r.code s.code a.code b.code in
+    let place : r.place ≡ s.place = some-once (option_map place_of at) r.place s.place a.place b.place in
     let name : r.name ≡ s.name = a.name ∙ sym b.name in
     cc
+
+-- ---- which codes are told of what
+abbrev is-first : Option RefusalCode → Bool
+is-first None = false
+is-first (Some told) = is_first_code told
+
+-- of these, one that names nothing
+abbrev is-nameless : Option RefusalCode → Bool
+is-nameless None = false
+is-nameless (Some told) = is_first_code told && not (is_named_code told)
+
+contrary : (b : Bool) → b ≡ true → b ≡ false → ⊥
+contrary b h k = cc
+
+both : (a b : Bool) → a ≡ true → b ≡ false → (a && not b) ≡ true
+both a b h k = rw (h, k) refl
+
+parse-not-first : (c : ParseCode) → is-first (parse_code c) ≡ false
+parse-not-first parse.Unexpected = refl
+parse-not-first parse.Precedence = refl
+parse-not-first parse.Column = refl
+parse-not-first parse.Nesting = refl
+parse-not-first parse.LeftOut = refl
+parse-not-first parse.NoMemory = refl
+
+explained-not-first : (config : List ℕ) (c : DefsCode) (place : Option Place) (name : Option (List ℕ)) → Explains config c place name → is-first (defs_code c) ≡ false
+explained-not-first config code.ConfigurationText place name h = refl
+explained-not-first config code.ExpansionTooLarge place name h = refl
+explained-not-first config code.StatementLeftOut place name h = refl
+explained-not-first config code.Memory place name h = refl
+explained-not-first config _ place name h = absurd h
+
+nameless-code : (c : DefsCode) → is-nameless (defs_code c) ≡ true → c ≡ code.BehaviourCount
+nameless-code code.BehaviourCount h = refl
+nameless-code _ h = (let z : ⊥ = cc in absurd z)
+
+-- ---- the last steps name nothing, and are not for the behaviour
+abbrev IsLate : DefsError → Type 0
+IsLate e = (e.name ≡ None) × (e.code ≡ code.BehaviourCount → ⊥)
+
+not-late : (e : DefsError) (r : Refusal) → IsTrue (is_first_code r.code) → CarriesOver e.source (defs_code e.code) e.place e.name r → IsLate e → ⊥
+not-late e r first over late =
+    let unnamed : is_named_code r.code ≡ false = sym r.named ∙ ap is_some (over.name ∙ late.0) in
+    let nameless : is-nameless (defs_code e.code) ≡ true = ap is-nameless over.code ∙ both (is_first_code r.code) (is_named_code r.code) first unnamed in
+    late.1 (nameless-code e.code nameless)
+
+module _ (us : List UnitTree) (cs : List Statement) (e : DefsError) where
+  late-assumption : (ts : List Tree) → defs.IsOfAssumption (global us (items_of cs)) ts e → IsLate e
+  late-assumption [] x = absurd x
+  late-assumption (t ∷ ts) (inl x) = (x.name, λ k. rw k at x.cause)
+  late-assumption (t ∷ ts) (inr x) = late-assumption ts x
+
+  late-predicate : (ws : List Written) → defs.IsOfPredicate (global us (items_of cs)) ws e → IsLate e
+  late-predicate [] x = absurd x
+  late-predicate (w ∷ ws) (inl x) = (x.name, λ k. rw k at x.cause)
+  late-predicate (w ∷ ws) (inr x) = late-predicate ws x
+
+  late-formula : IsOfSome us cs e → IsLate e
+  late-formula (of_assumption x) = late-assumption (assumptions_of us) x
+  late-formula (of_initial i a is x) = (x.name, λ k. rw k at x.cause)
+  late-formula (of_action i a is x) = (x.name, λ k. rw k at x.cause)
+  late-formula (of_invariant x) = late-predicate (invariants_named cs) x
+  late-formula (of_constraint x) = late-predicate (constraints_named cs) x
+
+  late-form : (b : Result Behaviour Place) → defs.IsFormRefused us (items_of cs) b e → IsLate e
+  late-form (Ok (Specified p w)) (inl x) =
+      (sym (ap (λ (f : DefsError). f.name) x.0), λ k. let same = ap (λ (f : DefsError). f.code) x.0 ∙ k in (let z : ⊥ = cc in z))
+  late-form (Ok (Specified p w)) (inr x) = (x.0.name, λ k. let same = sym x.0.code ∙ k in (let z : ⊥ = cc in z))
+  late-form (Ok (Named i n)) x = absurd x
+  late-form (Err p) x = absurd x
+
+  late-last : (b : Result Behaviour Place) → defs.IsLast us cs b e → IsLate e
+  late-last b (inl x) = late-form b x
+  late-last b (inr x) = late-formula x
+
+-- ---- a refusal of an earlier step is the only one
+refused-once : (us : List UnitTree) (cs : List Statement) (o : Option DefsError) (b : Result Behaviour Place) (e f : DefsError) → (IsLate e → ⊥) → is-first (defs_code e.code) ≡ true
+    → defs.refusal_is us cs o b e → defs.refusal_is us cs o b f → e ≡ f
+refused-once us cs (Some r) b e f early first h k = sym h ∙ k
+refused-once us cs None b e f early first (inl h) k =
+    let circle : false ≡ is-first (defs_code e.code) = ap (λ (x : DefsError). is-first (defs_code x.code)) h.refused in
+    absurd (contrary (is-first (defs_code e.code)) first (sym circle))
+refused-once us cs None b e f early first (inr h) k = absurd (early (late-last us cs e b h.1))
+
+same-config : (c d : ConfigTree) → c.statements ≡ d.statements → c.end ≡ d.end → c ≡ d
+same-config c d statements end = λ i. record { statements = statements i; end = end i }
 
 module _ (text config : List ℕ) where
   -- where the module has no tokens, its first fault is told
@@ -101,7 +207,30 @@ module _ (text config : List ℕ) where
       let a = by-tokens r none h in
       let b = by-tokens s none k in
       let same : b.0 ≡ a.0 = fault-once text b.0 a.0 b.1 a.1 in
-      told-once a.0 r s a.2 (subst (λ (e : LexError). CarriesOver Module (lex_code e.code) e.place None s) same b.2)
+      told-once Module (lex_code a.0.code) a.0.place None r s a.2 (subst (λ (e : LexError). CarriesOver Module (lex_code e.code) e.place None s) same b.2)
+
+  -- module and configuration have one tree and one list of statements, of which the first refusal is the same
+  same-models : (r s : Refusal) (us vs : List UnitTree) (c d : ConfigTree) (e f : DefsError) → IsTrue (is_first_code r.code) → us ≡ vs → c ≡ d
+      → defs.IsRefusal us c e → defs.IsRefusal vs d f → CarriesOver e.source (defs_code e.code) e.place e.name r → CarriesOver f.source (defs_code f.code) f.place f.name s
+      → refusal_line r ≡ refusal_line s
+  same-models r s us vs c d e f first units config h k over past =
+      let moved = subst (λ x. defs.IsRefusal vs x e) config (subst (λ x. defs.IsRefusal x c e) units h) in
+      let told : is-first (defs_code e.code) ≡ true = ap is-first over.code ∙ first in
+      let same = refused-once vs d.statements (refused vs d) (behaviour d.statements d.end None None) e f (not-late e r first over) told moved k in
+      told-once e.source (defs_code e.code) e.place e.name r s over (subst (λ (x : DefsError). CarriesOver x.source (defs_code x.code) x.place x.name s) (sym same) past)
+
+  -- a refusal under such a code is of no tokens, or of the model
+  same-first : (r s : Refusal) → IsTrue (is_first_code r.code) → IsRefusal text config r → IsRefusal text config s → refusal_line r ≡ refusal_line s
+  same-first r s first (of_tokens e fault over) k = same-refusals r s (fault_means_none text e fault) (of_tokens e fault over) k
+  same-first r s first (of_module tokens e are why over) k = absurd (contrary (is-first (parse_code e.code)) (ap is-first over.code ∙ first) (parse-not-first e.code))
+  same-first r s first (of_configuration us e tree none why over) k =
+      absurd (contrary (is-first (defs_code e.code)) (ap is-first over.code ∙ first) (explained-not-first config e.code e.place e.name why))
+  same-first r s first (of_model us c e tree says end why unnamed over) (of_tokens f fault past) = absurd (fault_means_none text f fault tree.tokens tree.are)
+  same-first r s first (of_model us c e tree says end why unnamed over) (of_module tokens f are because past) =
+      absurd (no-tree text tokens are f.code f.place f.name s.code because past.code us tree)
+  same-first r s first (of_model us c e tree says end why unnamed over) (of_configuration vs f other none because past) = absurd (none c.statements says)
+  same-first r s first (of_model us c e tree says end why unnamed over) (of_model vs d f other said ends because nameless past) =
+      same-models r s us vs c d e f first (units-once text vs us other tree) (same-config c d (configuration-once config d.statements c.statements said says) (end ∙ sym ends)) why because over past
 
   -- ---- answers
   same-answers : (m : ModelTree) (limit : ℕ) (a b : AnsweredCheck) → IsAnswered m limit a → IsAnswered m limit b
@@ -118,11 +247,16 @@ module _ (text config : List ℕ) where
   come-out-alike limit (Answered a) (Answered b) (m, names, h, exact) (n, only, k, sound) settled ended =
       let same : n ≡ m = names.only n only.named in
       let alike = same-answers m limit a b h (subst (λ (x : ModelTree). IsAnswered x limit b) same k) in
-      record { status = alike.1; named = λ _ _. alike.0; no_tokens = λ _. alike.0 }
+      record { status = alike.1; named = λ _ _. alike.0; no_tokens = λ _. alike.0; first = λ _. alike.0 }
   come-out-alike limit (Answered a) (Refused s) (m, names, h, exact) k settled ended = absurd (k.none m names.named)
   come-out-alike limit (Refused r) (Answered b) h (m, names, k, exact) settled ended = absurd (h.none m names.named)
   come-out-alike limit (Refused r) (Refused s) h k settled ended =
-      record { status = refl; named = λ m named. absurd (h.none m named); no_tokens = λ none. same-refusals r s none h.stage k.stage }
+      record {
+        status = refl;
+        named = λ m named. absurd (h.none m named);
+        no_tokens = λ none. same-refusals r s none h.stage k.stage;
+        first = λ told. same-first r s told h.stage k.stage;
+      }
   come-out-alike limit (Answered a) NoMemory h k settled ended = absurd ended
   come-out-alike limit (Answered a) NoWorker h k settled ended = absurd ended
   come-out-alike limit (Refused r) NoMemory h k settled ended = absurd ended

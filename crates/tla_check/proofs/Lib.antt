@@ -7,5 +7,6 @@ pub mod Stopped
 pub mod NamesIn
 pub mod ReportTells
 pub mod ReportsKept
+pub mod Once
 pub mod Alike
 mod Examples

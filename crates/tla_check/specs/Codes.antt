@@ -14,6 +14,23 @@ is_named_code refusal.CircularReplacement = true
 is_named_code refusal.StatementLeftOut = true
 is_named_code _ = false
 
+-- The codes whose refusal is the first in a fixed order of steps: those of tokens and, of module and configuration together,
+-- those of names, of the items of CONSTANT (a circle aside) and of the behaviour.
+abbrev pub is_first_code : RefusalCode → Bool
+is_first_code refusal.NotUtf8 = true
+is_first_code refusal.UnknownCharacter = true
+is_first_code refusal.OpenString = true
+is_first_code refusal.OpenComment = true
+is_first_code refusal.NumberTooLarge = true
+is_first_code refusal.NoHeader = true
+is_first_code refusal.NoClosingLine = true
+is_first_code refusal.UnknownName = true
+is_first_code refusal.DefinedTwice = true
+is_first_code refusal.ArgumentCount = true
+is_first_code refusal.ConstantWithoutValue = true
+is_first_code refusal.BehaviourCount = true
+is_first_code _ = false
+
 abbrev pub refusal_code : RefusalCode → List ℕ
 refusal_code refusal.NotUtf8 = codes "L1"
 refusal_code refusal.UnknownCharacter = codes "L2"

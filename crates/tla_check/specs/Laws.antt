@@ -1,5 +1,5 @@
 -- Laws of what is right of two texts, and of its report. (This project's own choice.)
-use Rattle.std.specs.Prelude.{◌≡◌, ◌↔◌, ℕ, List, ◌++◌, codes, ⊤}
+use Rattle.std.specs.Prelude.{◌≡◌, ◌↔◌, ℕ, List, ◌++◌, IsTrue, codes, ⊤}
 use Rattle.tla_lex.specs.Tokens.{NoTokens}
 use Rattle.tla_model.specs.ModelTree.{ModelTree}
 use Rattle.tla_search.specs.Kept.{IsKept, FaultsInReading, PassesLimit}
@@ -7,6 +7,7 @@ use Rattle.tla_check.specs.declared.checked.Answered.{Answered as AnsweredCheck}
 use Rattle.tla_check.specs.declared.checked.Checked.{Checked}
 use Rattle.tla_check.specs.declared.checked.Checked.TheVariants.{Answered, Refused, NoMemory, NoWorker}
 use Rattle.tla_check.specs.Checks.{IsChecked, NameModel, NameOnly}
+use Rattle.tla_check.specs.Codes.{is_first_code}
 use Rattle.tla_check.specs.Report.{report}
 use Rattle.tla_check.specs.Status.{status_of}
 
@@ -32,13 +33,20 @@ IsSettled (Refused r) = ⊤
 IsSettled NoMemory = ⊥
 IsSettled NoWorker = ⊥
 
+-- a refusal for the tokens, a name, an item of CONSTANT or the behaviour
+abbrev pub IsFirst : Checked → Type 0
+IsFirst (Refused r) = IsTrue (is_first_code r.code)
+IsFirst _ = ⊥
+
 -- Two outcomes of one module and one configuration end with one status. Their reports are the same bytes where the texts
--- name a model, and where the module has no tokens. (Of other refusals the definitions leave free which of several
--- reasons is told.)
+-- name a model, where the module has no tokens, and where the one of them is a refusal for a name, an item of CONSTANT or the
+-- behaviour, a circle of items aside. (Of other refusals the definitions leave free which of several reasons is told, or
+-- where.)
 pub record AreAlike (text config : List ℕ) (a b : Checked) : Type 0 where
   pub status : status_of a ≡ status_of b
   pub named : (m : ModelTree) → NameModel text config m → report a ≡ report b
   pub no_tokens : NoTokens text → report a ≡ report b
+  pub first : IsFirst a → report a ≡ report b
 
 -- What is right of two texts within a limit is right of them whatever the number of workers, the cut and the schedule: of
 -- these it says nothing. So two calls that differ in them alone come out alike.

@@ -14,7 +14,8 @@ pub fn no_error_means_kept()
 {}
 
 /// Two calls for the same texts and limit, neither of which wanted for memory or a worker, end with one status, whatever
-/// their workers, cuts and schedules; and with one report, where the texts name a model or the module has no tokens.
+/// their workers, cuts and schedules; and with one report, where the texts name a model, where the module has no tokens, and
+/// where one of them is a refusal for a name, an item of CONSTANT or the behaviour.
 pub fn two_calls_alike()
     ensures { (text config : List ℕ) → ComeOutAlike text config }
 {}
