@@ -21,10 +21,13 @@ use Rattle.tla_config.specs.declared.error.DefsCode.{DefsCode}
 use Rattle.tla_config.specs.declared.error.DefsCode.TheVariants as code
 use Rattle.tla_config.specs.declared.error.DefsError.{DefsError}
 use Rattle.tla_config.specs.declared.error.Source.{Source}
-use Rattle.tla_config.specs.declared.error.Source.TheVariants.{Module}
+use Rattle.tla_config.specs.declared.error.Source.TheVariants.{Module, Configuration}
 use Rattle.tla_config.specs.Refusals.{Explains}
-use Rattle.tla_config.specs.Statements.{Statement, items_of}
+use Rattle.tla_config.specs.Statements.{Item, Statement, items_of}
 use Rattle.tla_config.specs.View.{ConfigTree}
+use Rattle.tla_names.specs.Circles.{AreStraight, IsFirstCircle}
+use Rattle.tla_names.specs.Leads.{Lead, IsCircular, leads}
+use Rattle.tla_names.specs.Refusal.{refusal_of}
 use Rattle.tla_defs.specs.Global.{global}
 use Rattle.tla_defs.specs.Model.{assumptions_of, invariants_named, constraints_named}
 use Rattle.tla_defs.specs.Refused as defs
@@ -183,13 +186,26 @@ module _ (us : List UnitTree) (cs : List Statement) (e : DefsError) where
   late-last b (inr x) = late-formula x
 
 -- ---- a refusal of an earlier step is the only one
-refused-once : (us : List UnitTree) (cs : List Statement) (o : Option DefsError) (b : Result Behaviour Place) (e f : DefsError) → (IsLate e → ⊥) → is-first (defs_code e.code) ≡ true
-    → defs.refusal_is us cs o b e → defs.refusal_is us cs o b f → e ≡ f
-refused-once us cs (Some r) b e f early first h k = sym h ∙ k
-refused-once us cs None b e f early first (inl h) k =
-    let circle : false ≡ is-first (defs_code e.code) = ap (λ (x : DefsError). is-first (defs_code x.code)) h.refused in
-    absurd (contrary (is-first (defs_code e.code)) first (sym circle))
-refused-once us cs None b e f early first (inr h) k = absurd (early (late-last us cs e b h.1))
+module _ (ls : List Lead) where
+  no-circle : (is : List Item) (w : Written) → AreStraight ls is → IsFirstCircle ls is w → ⊥
+  no-circle [] w h k = k
+  no-circle (i ∷ is) w h (inl k) = h.0 (subst (λ (v : Written). IsCircular ls v.word) (sym k.0) k.1)
+  no-circle (i ∷ is) w h (inr k) = no-circle is w h.1 k.1
+
+  circle-once : (is : List Item) (v w : Written) → IsFirstCircle ls is v → IsFirstCircle ls is w → v ≡ w
+  circle-once [] v w h k = absurd h
+  circle-once (i ∷ is) v w (inl h) (inl k) = sym h.0 ∙ k.0
+  circle-once (i ∷ is) v w (inl h) (inr k) = absurd (k.0 (subst (λ (x : Written). IsCircular ls x.word) (sym h.0) h.1))
+  circle-once (i ∷ is) v w (inr h) (inl k) = absurd (h.0 (subst (λ (x : Written). IsCircular ls x.word) (sym k.0) k.1))
+  circle-once (i ∷ is) v w (inr h) (inr k) = circle-once is v w h.1 k.1
+
+refused-once : (us : List UnitTree) (cs : List Statement) (o : Option DefsError) (b : Result Behaviour Place) (e f : DefsError) → (IsLate e → ⊥) → defs.refusal_is us cs o b e → defs.refusal_is us cs o b f → e ≡ f
+refused-once us cs (Some r) b e f early h k = sym h ∙ k
+refused-once us cs None b e f early (inl h) (inl k) =
+    let same = circle-once (leads us (items_of cs)) (items_of cs) h.name k.name h.first k.first in
+    sym h.refused ∙ ap (λ w. refusal_of code.CircularReplacement Configuration w) same ∙ k.refused
+refused-once us cs None b e f early (inl h) (inr k) = absurd (no-circle (leads us (items_of cs)) (items_of cs) h.name k.0 h.first)
+refused-once us cs None b e f early (inr h) k = absurd (early (late-last us cs e b h.1))
 
 same-config : (c d : ConfigTree) → c.statements ≡ d.statements → c.end ≡ d.end → c ≡ d
 same-config c d statements end = λ i. record { statements = statements i; end = end i }
@@ -215,8 +231,7 @@ module _ (text config : List ℕ) where
       → refusal_line r ≡ refusal_line s
   same-models r s us vs c d e f first units config h k over past =
       let moved = subst (λ x. defs.IsRefusal vs x e) config (subst (λ x. defs.IsRefusal x c e) units h) in
-      let told : is-first (defs_code e.code) ≡ true = ap is-first over.code ∙ first in
-      let same = refused-once vs d.statements (refused vs d) (behaviour d.statements d.end None None) e f (not-late e r first over) told moved k in
+      let same = refused-once vs d.statements (refused vs d) (behaviour d.statements d.end None None) e f (not-late e r first over) moved k in
       told-once e.source (defs_code e.code) e.place e.name r s over (subst (λ (x : DefsError). CarriesOver x.source (defs_code x.code) x.place x.name s) (sym same) past)
 
   -- a refusal under such a code is of no tokens, or of the model

@@ -15,7 +15,7 @@ is_named_code refusal.StatementLeftOut = true
 is_named_code _ = false
 
 -- The codes whose refusal is the first in a fixed order of steps: those of tokens and, of module and configuration together,
--- those of names, of the items of CONSTANT (a circle aside) and of the behaviour.
+-- those of names, of the items of CONSTANT and of the behaviour.
 abbrev pub is_first_code : RefusalCode → Bool
 is_first_code refusal.NotUtf8 = true
 is_first_code refusal.UnknownCharacter = true
@@ -28,6 +28,7 @@ is_first_code refusal.UnknownName = true
 is_first_code refusal.DefinedTwice = true
 is_first_code refusal.ArgumentCount = true
 is_first_code refusal.ConstantWithoutValue = true
+is_first_code refusal.CircularReplacement = true
 is_first_code refusal.BehaviourCount = true
 is_first_code _ = false
 

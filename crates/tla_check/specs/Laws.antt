@@ -40,8 +40,7 @@ IsFirst _ = ⊥
 
 -- Two outcomes of one module and one configuration end with one status. Their reports are the same bytes where the texts
 -- name a model, where the module has no tokens, and where the one of them is a refusal for a name, an item of CONSTANT or the
--- behaviour, a circle of items aside. (Of other refusals the definitions leave free which of several reasons is told, or
--- where.)
+-- behaviour. (Of other refusals the definitions leave free which of several reasons is told, or where.)
 pub record AreAlike (text config : List ℕ) (a b : Checked) : Type 0 where
   pub status : status_of a ≡ status_of b
   pub named : (m : ModelTree) → NameModel text config m → report a ≡ report b
