@@ -34,16 +34,16 @@ use Rattle.tla_defs.specs.Refused as defs
 use Rattle.tla_defs.specs.Refused.{Behaviour, Named, Specified, behaviour, refused, IsOfSome, of_assumption, of_initial, of_action, of_invariant, of_constraint}
 use Rattle.tla_model.specs.ModelTree.{ModelTree}
 use Rattle.tla_search.proofs.OneAnswer.{answered-once}
-use Rattle.tla_check.specs.declared.checked.Answered.{Answered as AnsweredCheck}
-use Rattle.tla_check.specs.declared.checked.Checked.TheVariants.{Answered, Refused, NoMemory, NoWorker}
-use Rattle.tla_check.specs.declared.checked.Refusal.{Refusal}
-use Rattle.tla_check.specs.declared.checked.RefusalCode.{RefusalCode}
+use Rattle.tla_report.specs.declared.checked.Answered.{Answered as AnsweredCheck}
+use Rattle.tla_report.specs.declared.checked.Checked.TheVariants.{Answered, Refused, NoMemory, NoWorker}
+use Rattle.tla_report.specs.declared.checked.Refusal.{Refusal}
+use Rattle.tla_report.specs.declared.checked.RefusalCode.{RefusalCode}
 use Rattle.tla_check.specs.CarriesOver.{CarriesOver, lex_code, parse_code, defs_code, place_of}
-use Rattle.tla_check.specs.Codes.{is_named_code, is_first_code}
+use Rattle.tla_report.specs.Codes.{is_named_code, is_first_code}
 use Rattle.tla_check.specs.Checks.{IsAnswered, IsRefusal, of_tokens, of_module, of_configuration, of_model}
 use Rattle.tla_check.specs.Laws.{ComeOutAlike}
-use Rattle.tla_check.specs.Report.{report, refusal_line}
-use Rattle.tla_check.specs.Status.{status_of}
+use Rattle.tla_report.specs.Report.{report, refusal_line}
+use Rattle.tla_report.specs.Status.{status_of}
 use Rattle.tla_check.proofs.Once.{configuration-once, no-tree, units-once}
 
 -- ---- the first fault of a text is the only one

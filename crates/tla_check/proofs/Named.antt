@@ -12,7 +12,7 @@ use Rattle.tla_config.specs.Configuration.{IsConfiguration}
 use Rattle.tla_config.specs.Statements.{Statement}
 use Rattle.tla_defs.specs.Model.{IsModel}
 use Rattle.tla_model.specs.ModelTree.{ModelTree}
-use Rattle.tla_check.specs.declared.checked.RefusalCode.{RefusalCode}
+use Rattle.tla_report.specs.declared.checked.RefusalCode.{RefusalCode}
 use Rattle.tla_check.specs.CarriesOver.{parse_code}
 use Rattle.tla_check.specs.Checks.{IsTreeOf, NameModel, NameNone, NameOnly}
 

@@ -28,7 +28,7 @@ use Rattle.tla_parse.specs.declared.error.ParseCode.{ParseCode}
 use Rattle.tla_parse.specs.declared.error.ParseCode.TheVariants as parse
 use Rattle.tla_parse.proofs.UnitsComplete.{module_complete}
 use Rattle.tla_parse.proofs.Whole.{only}
-use Rattle.tla_check.specs.declared.checked.RefusalCode.{RefusalCode}
+use Rattle.tla_report.specs.declared.checked.RefusalCode.{RefusalCode}
 use Rattle.tla_check.specs.CarriesOver.{parse_code}
 use Rattle.tla_check.specs.Checks.{IsTreeOf}
 

@@ -5,10 +5,11 @@ use Rattle.tla_search.specs.declared.answer.Answer.{Answer}
 use Rattle.tla_search.specs.declared.answer.Answer.TheVariants.{NoError, InvariantFalse, Deadlock, Faulted, AssumptionFalse, Limit}
 use Rattle.tla_search.specs.Kept as kept
 use Rattle.tla_search.proofs.Kept.{means-kept}
-use Rattle.tla_check.specs.declared.checked.Checked.TheVariants.{Answered, Refused, NoMemory, NoWorker}
-use Rattle.tla_check.specs.Laws.{SaysNoError, SaysTruly, ReportsKept}
-use Rattle.tla_check.specs.Status.{answer_status}
-use Rattle.tla_check.proofs.ReportTells.{no-error-zero}
+use Rattle.tla_report.specs.declared.checked.Checked.TheVariants.{Answered, Refused, NoMemory, NoWorker}
+use Rattle.tla_check.specs.Laws.{SaysTruly, ReportsKept}
+use Rattle.tla_report.specs.Laws.{SaysNoError}
+use Rattle.tla_report.specs.Status.{answer_status}
+use Rattle.tla_report.proofs.ReportTells.{no-error-zero}
 
 zero-says : (answer : Answer) → (answer_status answer ≡ 0) ↔ kept.SaysNoError answer
 zero-says (NoError counts) = (λ e. tt, λ h. refl)

@@ -21,9 +21,9 @@ use Rattle.tla_config.specs.declared.error.Source.TheVariants.{Module, Configura
 use Rattle.tla_defs.specs.Model.{IsModel}
 use Rattle.tla_defs.specs.Refused as defs
 use Rattle.tla_model.specs.ModelTree.{ModelTree}
-use Rattle.tla_check.specs.declared.checked.RefusalCode.{RefusalCode}
-use Rattle.tla_check.specs.declared.checked.Checked.{Checked}
-use Rattle.tla_check.specs.declared.checked.Checked.TheVariants.{Answered, Refused, NoMemory, NoWorker}
+use Rattle.tla_report.specs.declared.checked.RefusalCode.{RefusalCode}
+use Rattle.tla_report.specs.declared.checked.Checked.{Checked}
+use Rattle.tla_report.specs.declared.checked.Checked.TheVariants.{Answered, Refused, NoMemory, NoWorker}
 use Rattle.tla_check.specs.CarriesOver.{CarriesOver, EndsBy, lex_code, parse_code, defs_code}
 use Rattle.tla_check.proofs.Told.{not-lex-memory, not-memory}
 use Rattle.tla_check.specs.Checks.{IsTreeOf, of_tokens, of_module, of_configuration, of_model, IsStopped, IsFound, IsChecked, NameNone, NameOnly}

@@ -9,9 +9,9 @@ use Rattle.tla_parse.specs.Parsing.{IsLocated}
 use Rattle.tla_config.specs.Refusals as config
 use Rattle.tla_config.specs.declared.error.DefsCode.{DefsCode}
 use Rattle.tla_config.specs.declared.error.DefsCode.TheVariants as defs
-use Rattle.tla_check.specs.declared.checked.RefusalCode.{RefusalCode}
-use Rattle.tla_check.specs.declared.checked.RefusalCode.TheVariants as refusal
-use Rattle.tla_check.specs.Codes.{is_named_code}
+use Rattle.tla_report.specs.declared.checked.RefusalCode.{RefusalCode}
+use Rattle.tla_report.specs.declared.checked.RefusalCode.TheVariants as refusal
+use Rattle.tla_report.specs.Codes.{is_named_code}
 use Rattle.tla_check.specs.CarriesOver.{IsTold, lex_code, parse_code, defs_code}
 
 none-some : (code : RefusalCode) → (let o : Option RefusalCode = None in o ≡ Some code) → ⊥

@@ -9,12 +9,12 @@ use Rattle.tla_config.specs.declared.error.DefsCode.{DefsCode}
 use Rattle.tla_config.specs.declared.error.DefsCode.TheVariants as defs
 use Rattle.tla_config.specs.declared.error.Source.{Source}
 use Rattle.tla_core.specs.declared.fault.Place.{Place}
-use Rattle.tla_check.specs.declared.checked.RefusalCode.{RefusalCode}
-use Rattle.tla_check.specs.declared.checked.RefusalCode.TheVariants as refusal
-use Rattle.tla_check.specs.declared.checked.Refusal.{Refusal}
-use Rattle.tla_check.specs.Codes.{is_named_code}
-use Rattle.tla_check.specs.declared.checked.Checked.{Checked}
-use Rattle.tla_check.specs.declared.checked.Checked.TheVariants.{Answered, Refused, NoMemory, NoWorker}
+use Rattle.tla_report.specs.declared.checked.RefusalCode.{RefusalCode}
+use Rattle.tla_report.specs.declared.checked.RefusalCode.TheVariants as refusal
+use Rattle.tla_report.specs.declared.checked.Refusal.{Refusal}
+use Rattle.tla_report.specs.Codes.{is_named_code}
+use Rattle.tla_report.specs.declared.checked.Checked.{Checked}
+use Rattle.tla_report.specs.declared.checked.Checked.TheVariants.{Answered, Refused, NoMemory, NoWorker}
 
 -- want of memory is no refusal
 abbrev pub lex_code : LexCode → Option RefusalCode

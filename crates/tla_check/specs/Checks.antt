@@ -21,10 +21,10 @@ use Rattle.tla_model.specs.ModelTree.{ModelTree}
 use Rattle.tla_core.specs.Expr.{Expr}
 use Rattle.tla_search.specs.Answers.{HasNoReadingFault, IsAnswerOf, outcome_of}
 use Rattle.tla_search.specs.Systems.{read_system, true_system}
-use Rattle.tla_check.specs.declared.checked.Answered.{Answered as AnsweredCheck}
-use Rattle.tla_check.specs.declared.checked.Checked.{Checked}
-use Rattle.tla_check.specs.declared.checked.Checked.TheVariants.{Answered, Refused, NoMemory, NoWorker}
-use Rattle.tla_check.specs.declared.checked.Refusal.{Refusal}
+use Rattle.tla_report.specs.declared.checked.Answered.{Answered as AnsweredCheck}
+use Rattle.tla_report.specs.declared.checked.Checked.{Checked}
+use Rattle.tla_report.specs.declared.checked.Checked.TheVariants.{Answered, Refused, NoMemory, NoWorker}
+use Rattle.tla_report.specs.declared.checked.Refusal.{Refusal}
 use Rattle.tla_check.specs.CarriesOver.{CarriesOver, lex_code, parse_code, defs_code}
 
 -- the units are those of the module's tokens, and their expressions are within the limit

@@ -1,19 +1,16 @@
 -- Laws of what is right of two texts, and of its report. (This project's own choice.)
-use Rattle.std.specs.Prelude.{◌≡◌, ◌↔◌, ℕ, List, ◌++◌, IsTrue, codes, ⊤}
+use Rattle.std.specs.Prelude.{◌≡◌, ◌↔◌, ℕ, List, IsTrue, ⊤}
 use Rattle.tla_lex.specs.Tokens.{NoTokens}
 use Rattle.tla_model.specs.ModelTree.{ModelTree}
 use Rattle.tla_search.specs.Kept.{IsKept, FaultsInReading, PassesLimit}
-use Rattle.tla_check.specs.declared.checked.Answered.{Answered as AnsweredCheck}
-use Rattle.tla_check.specs.declared.checked.Checked.{Checked}
-use Rattle.tla_check.specs.declared.checked.Checked.TheVariants.{Answered, Refused, NoMemory, NoWorker}
+use Rattle.tla_report.specs.declared.checked.Answered.{Answered as AnsweredCheck}
+use Rattle.tla_report.specs.declared.checked.Checked.{Checked}
+use Rattle.tla_report.specs.declared.checked.Checked.TheVariants.{Answered, Refused, NoMemory, NoWorker}
 use Rattle.tla_check.specs.Checks.{IsChecked, NameModel, NameOnly}
-use Rattle.tla_check.specs.Codes.{is_first_code}
-use Rattle.tla_check.specs.Report.{report}
-use Rattle.tla_check.specs.Status.{status_of}
-
--- the first line of the report is `No error.`
-abbrev pub SaysNoError : Checked → Type 0
-SaysNoError checked = (rest : List ℕ) × (report checked ≡ codes "No error.\n" ++ rest)
+use Rattle.tla_report.specs.Codes.{is_first_code}
+use Rattle.tla_report.specs.Report.{report}
+use Rattle.tla_report.specs.Laws.{SaysNoError}
+use Rattle.tla_report.specs.Status.{status_of}
 
 -- where the report of two texts says `No error.`, they name one model, and it is kept
 abbrev pub SaysTruly : List ℕ → List ℕ → Type 0
@@ -52,7 +49,3 @@ pub record AreAlike (text config : List ℕ) (a b : Checked) : Type 0 where
 abbrev pub ComeOutAlike : List ℕ → List ℕ → Type 0
 ComeOutAlike text config = (limit : ℕ) (a b : Checked) → IsChecked text config limit a → IsChecked text config limit b
     → IsSettled a → IsSettled b → AreAlike text config a b
-
--- the bytes of a report tell the status
-abbrev pub TellsStatus : Checked → Checked → Type 0
-TellsStatus a b = report a ≡ report b → status_of a ≡ status_of b

@@ -2,10 +2,10 @@
 ghost use Rattle.std.specs.Prelude.{◌≡◌};
 ghost use Rattle.tla_check.specs.CarriesOver.{defs_code, lex_code, parse_code};
 
-use crate::checked::RefusalCode;
 use tla_config::DefsCode;
 use tla_lex::LexCode;
 use tla_parse::ParseCode;
+use tla_report::RefusalCode;
 
 pub(crate) fn lex_code(code: LexCode) -> Option<RefusalCode>
     ensures { result ≡ lex_code code }

@@ -7,14 +7,12 @@ ghost use Rattle.counted_writer.specs.Puts.{AddsFirst};
 ghost use Rattle.std.specs.Io.KnownBytes.{Appends};
 ghost use Rattle.tla_check.specs.CarriesOver.{EndsBy, IsTold, defs_code, lex_code, parse_code};
 ghost use Rattle.tla_check.specs.Checks.{IsChecked, IsFound, IsStopped, NameOnly, names_in};
-ghost use Rattle.tla_check.specs.Codes.{is_named_code};
-ghost use Rattle.tla_check.specs.Report.{report};
-ghost use Rattle.tla_check.specs.Status.{status_of};
-ghost use Rattle.tla_check.specs.declared.checked.Checked.{Checked};
+ghost use Rattle.tla_report.specs.Codes.{is_named_code};
+ghost use Rattle.tla_report.specs.Report.{report};
+ghost use Rattle.tla_report.specs.Status.{status_of};
+ghost use Rattle.tla_report.specs.declared.checked.Checked.{Checked};
 
 use crate::carried::{defs_code, lex_code, parse_code};
-use crate::checked::{Answered, Checked, Names, Refusal, RefusalCode, RefusalName};
-use crate::report::{WriteFault, write_report};
 use std::alloc::Global;
 use std::io::Write;
 use std::sync::Wait;
@@ -25,6 +23,9 @@ use tla_defs::build;
 use tla_lex::{LexError, tokens};
 use tla_model::{Model, StatePredicate};
 use tla_parse::{ParseError, parse_module};
+use tla_report::{
+    Answered, Checked, Names, Refusal, RefusalCode, RefusalName, WriteFault, write_report,
+};
 use tla_search::{Gate, Options, SearchError, search};
 use tla_tree::Word;
 use tla_value::{Text, ValueError};

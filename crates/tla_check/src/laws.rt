@@ -1,8 +1,6 @@
 //! Laws of what is right of two texts, and of its report, over the definitions alone.
 ghost use Rattle.std.specs.Prelude.{◌≡◌, ◌↔◌, List, ℕ};
-ghost use Rattle.tla_check.specs.declared.checked.Checked.{Checked};
-ghost use Rattle.tla_check.specs.Laws.{ComeOutAlike, ReportsKept, SaysNoError, SaysTruly, TellsStatus};
-ghost use Rattle.tla_check.specs.Status.{status_of};
+ghost use Rattle.tla_check.specs.Laws.{ComeOutAlike, ReportsKept, SaysTruly};
 
 /// Where the report of two texts says `No error.`, they name one model, and it is kept: every assumption is TRUE and, at
 /// every state that is reached, every invariant is TRUE and, where deadlock is checked and every constraint is TRUE, a step
@@ -18,10 +16,4 @@ pub fn no_error_means_kept()
 /// where one of them is a refusal for a name, an item of CONSTANT or the behaviour.
 pub fn two_calls_alike()
     ensures { (text config : List ℕ) → ComeOutAlike text config }
-{}
-
-/// Reports of the same bytes have one status, and a report says `No error.` exactly where the status is 0.
-pub fn reports_tell()
-    ensures status { (a b : Checked) → TellsStatus a b }
-    ensures no_error { (checked : Checked) → SaysNoError checked ↔ (status_of checked ≡ 0) }
 {}

@@ -14,7 +14,7 @@ use Rattle.tla_line.specs.declared.line.Line.{Line}
 use Rattle.tla_line.specs.declared.line.LineFault.{LineFault}
 use Rattle.tla_line.specs.declared.line.LineFault.TheVariants.{Refused, Number, Memory}
 use Rattle.tla_line.specs.LineFault.{IsFaultOf, LacksWord}
-use Rattle.tla_check.specs.declared.checked.Checked.{Checked}
+use Rattle.tla_report.specs.declared.checked.Checked.{Checked}
 use Rattle.tla_check.specs.Checks.{IsChecked}
 use Rattle.tla_run.specs.Runs.{ComesTo, Files, GetsNothing, GetsUpTo, Holds, IsCheckOf, IsRun, IsSomeRun, Writing, no_words, on_line, on_words}
 

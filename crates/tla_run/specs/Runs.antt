@@ -7,10 +7,10 @@ use Rattle.tla_line.specs.declared.line.Line.{Line}
 use Rattle.tla_line.specs.declared.line.LineFault.{LineFault}
 use Rattle.tla_line.specs.CommandLine.{MeanLine}
 use Rattle.tla_line.specs.LineFault.{IsFaultOf, IsHelp, text_of_fault}
-use Rattle.tla_check.specs.declared.checked.Checked.{Checked}
+use Rattle.tla_report.specs.declared.checked.Checked.{Checked}
 use Rattle.tla_check.specs.Checks.{IsChecked}
-use Rattle.tla_check.specs.Report.{report}
-use Rattle.tla_check.specs.Status.{status_of}
+use Rattle.tla_report.specs.Report.{report}
+use Rattle.tla_report.specs.Status.{status_of}
 use Rattle.tla_run.specs.declared.unread.Unread.{Unread}
 use Rattle.tla_run.specs.Unread.{unread_text}
 

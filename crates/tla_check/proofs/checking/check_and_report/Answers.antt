@@ -1,10 +1,10 @@
 use Rattle.std.proofs.Common.{◌≡◌, Result, Ok, Err, IfErr}
 use Rattle.std.specs.Result.{IsErrAnd}
 use Rattle.counted_writer.specs.Puts.{AddsFirst}
-use Rattle.tla_check.specs.declared.checked.Checked.{Checked}
-use Rattle.tla_check.specs.declared.report.WriteFault.{WriteFault}
+use Rattle.tla_report.specs.declared.checked.Checked.{Checked}
+use Rattle.tla_report.specs.declared.report.WriteFault.{WriteFault}
 use Rattle.tla_check.specs.Checks.{IsChecked}
-use Rattle.tla_check.specs.Report.{report}
+use Rattle.tla_report.specs.Report.{report}
 use Rattle.tla_check.proofs.checking.check_and_report.Goals as goal
 
 exit : {A E : Type 0} (P : E → Type 0) (r : Result A E) (fault : E) → IsErrAnd r (λ e. e ≡ fault) → P fault → IfErr r P

@@ -1,8 +1,8 @@
 use Rattle.std.proofs.Common.{refl, inl, inr}
 use Rattle.std.specs.Io.KnownBytes.{Appends}
 use Rattle.counted_writer.specs.Puts.{AddsFirst}
-use Rattle.tla_check.specs.Report.{report}
-use Rattle.tla_check.specs.declared.report.WriteFault.{WriteFault}
+use Rattle.tla_report.specs.Report.{report}
+use Rattle.tla_report.specs.declared.report.WriteFault.{WriteFault}
 use Rattle.tla_run.specs.Runs.{cut_short, reported, unread}
 use Rattle.tla_run.proofs.RunLemmas.{check_of, write_done, write_failed}
 use Rattle.tla_run.proofs.running.run_line.Goals as goal

@@ -1,8 +1,0 @@
-use Rattle.tla_check.proofs.ReportTells.{tells-status, no-error-zero}
-use Rattle.tla_check.proofs.laws.reports_tell.Goals as goal
-
-pub returns-clause-status : goal.returns-clause-status
-returns-clause-status c a b = tells-status a b
-
-pub returns-clause-no_error : goal.returns-clause-no_error
-returns-clause-no_error c checked = no-error-zero checked

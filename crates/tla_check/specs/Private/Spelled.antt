@@ -1,8 +1,0 @@
--- The bytes of a name.
-use Rattle.std.specs.Prelude.{ℕ, List}
-use Rattle.tla_check.specs.declared.checked.Spelling.{Spelling}
-use Rattle.tla_check.specs.declared.checked.Spelling.TheVariants.{Bytes, Text}
-
-abbrev pub spelled : Spelling → List ℕ
-spelled (Bytes bytes) = bytes.items
-spelled (Text text) = text

@@ -1,0 +1,4 @@
+mod Lines
+mod Joins
+pub mod ReportTells
+mod Examples
