@@ -1,135 +1,90 @@
-//! Runs each case of the data folder, and names those whose report or status isn't the one that is wanted. Each case
-//! is checked with its own options, and, where levels are searched, again by 1, 2, 7 and 64 workers in pieces of 1, 3 and
-//! 65,536 states: each of the one with each of the other. Where a case has many texts, each text is checked again by one of
-//! these twelve pairs, in turn. All reports of a text have to be the same bytes.
+//! Runs worked specifications, makes calls of the libraries on fixed inputs, and prints what comes of each.
 //!
-//! The file `active` has a line for each case: the name of the case's folder, the status that is wanted, and words of the
-//! command line. The folder has `module.tla`, `model.cfg` and `report`. Where the word `prefixes` stands for the status,
-//! the module is checked cut short after 0, 1, .. bytes, each time with the next line of `report` as the report that is
-//! wanted, and status 20. Where it is `lines`, the folder has a file `lines` too: each of its lines ends the module in
-//! turn, and `report` has what is wanted of each, one behind the other. Where it is `texts`, the folder has a file `texts`
-//! and no module or configuration of its own: modules, each with its configuration behind it, a form feed between each two
-//! of these texts, and `report` has what is wanted of each. Where it is `told`, the folder has a file `told` in place of a
-//! report: what a reader is told of the check with the case's own options.
-//!
-//! It also names each code of which CODES.md, the document, doesn't say what the program tells.
+//! Each word of the command line says what is done, in turn: `cases` runs the cases of the data folder; `codes` names each code
+//! of which CODES.md, the document, doesn't say what the program tells; each other word names a call, whose answer is printed
+//! with how it leaves what it was lent. Where memory runs out in a call, also for its inputs, or a worker could not be
+//! started, the status is 22, as that of a check.
 #![tactic(auto)]
 
+mod call;
 mod case;
+mod cases;
 mod codes;
+mod hashing;
+mod inputs;
 mod outcome;
+mod refusal;
+mod subject;
+mod telling;
 mod told;
 
-use case::{Case, Wanted};
-use codes::is_in;
-use outcome::{
-    CaseFiles, is_as_wanted, lines_are_as_wanted, options_of, prefixes_are_as_wanted,
-    texts_are_as_wanted,
-};
+use cases::run_cases;
+use codes::compare_codes;
+use refusal::Refusal;
 use std::io::Write;
-use std::rt::Files;
+use std::process::ExitCode;
+use std::rt::{Env, Files};
 use std::sync::Wait;
 use std::thread::Threads;
-use std::{fs, io};
-use tla_explain::CODES;
-use told::is_told_as_wanted;
+use std::{env, io};
+use subject::{Subject, subject_of};
+use telling::{tell, tell_no_inputs};
 
-fn bytes_of<R: AllocGlobal + Files>(rt: &R, case: &str, file: &str) -> io::Result<Vec<u8>> {
-    let path = format!(in rt.alloc(); "{case}/{file}")?;
-    fs::read(rt, path.as_str())
-}
+const NO_ANSWER: u8 = 22;
 
-fn files_of<R: AllocGlobal + Files>(rt: &R, case: &str) -> io::Result<CaseFiles> {
-    Ok(CaseFiles {
-        module: bytes_of(rt, case, "module.tla")?,
-        config: bytes_of(rt, case, "model.cfg")?,
-        report: bytes_of(rt, case, "report")?,
-    })
-}
-
-/// Whether what is told of a case is what its file `told` says.
-fn tells<R: AllocGlobal + Files + Threads + Wait + Sync>(
+/// Makes a call, tells it, and answers what kept it from an answer or its inputs, if anything did.
+fn tell_made<R: AllocGlobal + Threads + Wait + Sync, W: Write>(
     rt: &R,
-    case: &Case<'_>,
-) -> io::Result<bool> {
-    let module = bytes_of(rt, case.name, "module.tla")?;
-    let configuration = bytes_of(rt, case.name, "model.cfg")?;
-    let wanted = bytes_of(rt, case.name, "told")?;
-    let Some(options) = options_of(rt.alloc(), case.options.as_slice())? else {
-        return Ok(false);
-    };
-    is_told_as_wanted(rt, rt.alloc(), &module, &configuration, &options, &wanted)
-}
-
-fn passes<R: AllocGlobal + Files + Threads + Wait + Sync>(
-    rt: &R,
-    case: &Case<'_>,
-) -> io::Result<bool> {
-    match case.wanted {
-        Wanted::Status(status) => {
-            let files = files_of(rt, case.name)?;
-            is_as_wanted(
-                rt,
-                rt.alloc(),
-                &files.module,
-                &files.config,
-                case.options.as_slice(),
-                status,
-                &files.report,
-            )
+    subject: Subject,
+    out: &mut W,
+) -> io::Result<Option<Refusal>> {
+    match call::make(rt, subject) {
+        Ok(made) => {
+            tell(out, &made)?;
+            Ok(made.answer.err())
         }
-        Wanted::Prefixes => prefixes_are_as_wanted(rt, rt.alloc(), &files_of(rt, case.name)?),
-        Wanted::Lines => {
-            let files = files_of(rt, case.name)?;
-            let lines = bytes_of(rt, case.name, "lines")?;
-            lines_are_as_wanted(rt, rt.alloc(), &files, lines.as_slice())
+        Err(refusal) => {
+            tell_no_inputs(out, &refusal)?;
+            Ok(Some(refusal))
         }
-        Wanted::Texts => {
-            let texts = bytes_of(rt, case.name, "texts")?;
-            let report = bytes_of(rt, case.name, "report")?;
-            texts_are_as_wanted(rt, rt.alloc(), texts.as_slice(), report.as_slice())
-        }
-        Wanted::Told => tells(rt, case),
     }
 }
 
-/// Runs all cases, and names those that don't pass.
-fn run_cases<R: AllocGlobal + Files + Threads + Wait + Sync, W: Write>(
+/// Makes the call of this name, and answers the status that it comes to.
+fn make_named<R: AllocGlobal + Threads + Wait + Sync, W: Write>(
+    rt: &R,
+    name: &str,
+    out: &mut W,
+) -> io::Result<u8> {
+    let Some(subject) = subject_of(name) else {
+        return Ok(0);
+    };
+    match tell_made(rt, subject, out)? {
+        Some(refusal) if refusal.says_nothing() => Ok(NO_ANSWER),
+        _ => Ok(0),
+    }
+}
+
+/// Does what the words of the command line say, and answers the status.
+fn obey_all<R: AllocGlobal + Env + Files + Threads + Wait + Sync, W: Write>(
     rt: &R,
     out: &mut W,
-) -> io::Result<()> {
-    let list = fs::read_to_string(rt, "active")?;
-    let mut cases: u64 = 0;
-    for line in list.as_str().lines() {
-        let Some(case) = Case::read(rt.alloc(), line)? else {
-            writeln!(out, "no case: {line}")?;
-            continue;
-        };
-        if !passes(rt, &case)? {
-            writeln!(out, "{}", case.name)?;
-        }
-        cases = cases.wrapping_add(1);
-    }
-    writeln!(out, "{cases} cases")?;
-    Ok(())
-}
-
-/// Names the codes of which the document says something else.
-fn compare_codes<R: AllocGlobal + Files, W: Write>(rt: &R, out: &mut W) -> io::Result<()> {
-    let page = fs::read_to_string(rt, "CODES.md")?;
-    for text in &CODES {
-        if !is_in(rt.alloc(), page.as_str(), text)? {
-            writeln!(out, "not in CODES.md: {}", text.code)?;
+) -> io::Result<u8> {
+    let mut status = 0;
+    for word in env::args(rt)?.skip(1) {
+        writeln!(out, "{word}")?;
+        match word.as_str() {
+            "cases" => run_cases(rt, out)?,
+            "codes" => compare_codes(rt, out)?,
+            name => {
+                let ended = make_named(rt, name, out)?;
+                status = status.max(ended);
+            }
         }
     }
-    let count = CODES.len();
-    writeln!(out, "{count} codes")?;
-    Ok(())
+    Ok(status)
 }
 
-fn main(rt: HostRuntime) -> io::Result<()> {
-    let mut out = io::writer(&rt);
-    run_cases(&rt, &mut out)?;
-    compare_codes(&rt, &mut out)?;
-    Ok(())
+fn main(rt: HostRuntime) -> ExitCode {
+    ExitCode::from(obey_all(&rt, &mut io::writer(&rt)).unwrap_or(NO_ANSWER))
 }
