@@ -25,8 +25,8 @@ use Rattle.tla_config.specs.declared.error.Source.TheVariants.{Module, Configura
 use Rattle.tla_config.specs.Refusals.{Explains}
 use Rattle.tla_config.specs.Statements.{Item, Statement, items_of}
 use Rattle.tla_config.specs.View.{ConfigTree}
-use Rattle.tla_names.specs.Circles.{AreStraight, IsFirstCircle}
-use Rattle.tla_names.specs.Leads.{Lead, IsCircular, leads}
+use Rattle.tla_items.specs.Circles.{AreStraight, IsFirstCircle}
+use Rattle.tla_items.specs.Leads.{Lead, IsCircular, leads}
 use Rattle.tla_names.specs.Refusal.{refusal_of}
 use Rattle.tla_defs.specs.Global.{global}
 use Rattle.tla_defs.specs.Model.{assumptions_of, invariants_named, constraints_named}

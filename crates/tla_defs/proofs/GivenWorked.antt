@@ -3,10 +3,10 @@ use Rattle.std.proofs.Common.{refl, arith, [], ◌∷◌}
 use Rattle.std.specs.Prelude.{codes}
 use Rattle.tla_tree.specs.Tree.{Name}
 use Rattle.tla_defs.specs.GivenRows.{constant_unit, given_tree, given_item, replaced_units, replacement, WithValue, WithReplacement, Circle, TwoVariables}
-use Rattle.tla_names.specs.Leads.{leads}
+use Rattle.tla_items.specs.Leads.{leads}
 use Rattle.tla_defs.specs.NamedRows.{behind}
 use Rattle.tla_defs.specs.Rows.{word, init_before}
-use Rattle.tla_names.proofs.Walks.{leads_nowhere, leads_to_end}
+use Rattle.tla_items.proofs.Walks.{leads_nowhere, leads_to_end}
 use Rattle.tla_defs.proofs.Worked.{within, by_names}
 
 pub with_value : WithValue

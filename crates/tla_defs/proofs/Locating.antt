@@ -18,7 +18,7 @@ use Rattle.tla_config.specs.View.{ConfigTree}
 use Rattle.tla_names.specs.Maybe.{or_else}
 use Rattle.tla_names.specs.Known.{Misuse, Twice, Unknown, Arguments}
 use Rattle.tla_names.specs.Constants.{unvalued}
-use Rattle.tla_names.specs.Items.{definitions_of, replaceable_of, nameable_of, replaced_names, items_misused}
+use Rattle.tla_items.specs.Items.{definitions_of, replaceable_of, nameable_of, replaced_names, items_misused}
 use Rattle.tla_names.specs.Named.{names_misused}
 use Rattle.tla_names.specs.Misuses.{misuse}
 use Rattle.tla_expand.specs.declared.primes.Primes.{Primes}
@@ -30,7 +30,8 @@ use Rattle.tla_formulas.specs.Formulas.{meaning_in}
 use Rattle.tla_defs.specs.Model.{assumptions_of, invariants_named, constraints_named}
 use Rattle.tla_formulas.specs.Refused.{IsCause, IsOfFormula}
 use Rattle.tla_defs.specs.Refused.{Behaviour, Named, Specified, behaviour, behaviour_refused, refused, IsLast, IsRefusal, refusal_is, IsOfAssumption, IsOfPredicate, IsOfSome, of_assumption, of_initial, of_action, of_invariant, of_constraint}
-use Rattle.tla_names.specs.Refusal.{items_refused, constant_refused, refusal_for}
+use Rattle.tla_names.specs.Refusal.{constant_refused, refusal_for}
+use Rattle.tla_items.specs.Refusal.{items_refused}
 
 -- the refusal, if there is one
 abbrev Located : Option DefsError → Type 0

@@ -17,15 +17,16 @@ use Rattle.tla_defs.specs.Private.Formulas.{LacksPredicate, LacksAssumption}
 use Rattle.tla_defs.specs.Global.{global}
 use Rattle.tla_names.specs.Constants.{unvalued}
 use Rattle.tla_names.specs.Misuses.{misuse, variables_of}
-use Rattle.tla_names.specs.Items.{definitions_of, replaceable_of, nameable_of, replaced_names, items_misused}
-use Rattle.tla_names.specs.Leads.{Lead, leads, IsCircular}
-use Rattle.tla_names.specs.Circles.{AreStraight, IsFirstCircle}
+use Rattle.tla_items.specs.Items.{definitions_of, replaceable_of, nameable_of, replaced_names, items_misused}
+use Rattle.tla_items.specs.Leads.{Lead, leads, IsCircular}
+use Rattle.tla_items.specs.Circles.{AreStraight, IsFirstCircle}
 use Rattle.tla_formulas.specs.Formulas.{IsInitial, IsAction}
 use Rattle.tla_defs.specs.Model.{IsModel, IsBehaviour, AreStatePredicates, AreAssumptions, assumptions_of, invariants_named, constraints_named}
 use Rattle.tla_names.specs.Named.{names_misused}
 use Rattle.tla_defs.specs.Refused.{Behaviour, Named, Specified, refused, behaviour, NoForm, HasTooMany, IsLast, IsRefusal}
 use Rattle.tla_defs.specs.Private.Specified.{form_refused, HasMany, MayBeLast, NoneMeant}
-use Rattle.tla_names.specs.Refusal.{items_refused, refusal_at, refusal_for, IsOfCircle}
+use Rattle.tla_names.specs.Refusal.{refusal_at, refusal_for}
+use Rattle.tla_items.specs.Refusal.{items_refused, IsOfCircle}
 use Rattle.tla_defs.proofs.Behaviours.{behaviour_found}
 use Rattle.tla_defs.proofs.Unique.{one_behaviour}
 

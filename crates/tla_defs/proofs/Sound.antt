@@ -20,7 +20,7 @@ use Rattle.tla_model.specs.IsSound.{IsSound, IsUsable, AreUsable, bodies}
 use Rattle.tla_model.specs.ModelTree.{ModelTree}
 use Rattle.tla_model.specs.Size.{IsWithinLimits}
 use Rattle.tla_defs.specs.Global.{global, meant, raised, units_in, unless, variables_in, with_variable, with_operator}
-use Rattle.tla_names.specs.Items.{replaced_names}
+use Rattle.tla_items.specs.Items.{replaced_names}
 use Rattle.tla_defs.specs.Given.{fixed, with_items}
 use Rattle.tla_names.specs.Scope.{signature}
 use Rattle.tla_names.specs.Misuses.{variables_of}

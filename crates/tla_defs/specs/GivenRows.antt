@@ -10,7 +10,7 @@ use Rattle.tla_tree.specs.Units.{UnitTree, Variables, Constants, Operator}
 use Rattle.tla_expand.specs.Places.{place_of}
 use Rattle.tla_config.specs.Statements.{Item}
 use Rattle.tla_config.specs.Statements as s
-use Rattle.tla_names.specs.Leads.{leads, IsCircular}
+use Rattle.tla_items.specs.Leads.{leads, IsCircular}
 use Rattle.tla_defs.specs.Model.{IsModel}
 use Rattle.tla_defs.specs.NamedRows.{behind, name_at}
 use Rattle.tla_defs.specs.Rows.{place, word, x_at, number_at, constant_at, statements, model}

@@ -8,7 +8,7 @@ use Rattle.tla_config.specs.Statements.{Item, Value, Replaces}
 use Rattle.tla_expand.specs.Meanings.{Scope, standard, with_name, variable, operator}
 use Rattle.tla_expand.specs.Expand.{expand, definition_in}
 use Rattle.tla_names.specs.Scope.{signature}
-use Rattle.tla_names.specs.Items.{replaced_names}
+use Rattle.tla_items.specs.Items.{replaced_names}
 use Rattle.tla_defs.specs.Given.{with_items}
 
 abbrev pub with_variable : ℕ → Name → Scope → Scope

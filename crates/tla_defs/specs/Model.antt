@@ -13,9 +13,9 @@ use Rattle.tla_model.specs.ModelTree.{ModelTree}
 use Rattle.tla_formulas.specs.Formulas.{IsInitial, IsAction, IsStatePredicate, IsAssumption}
 use Rattle.tla_defs.specs.Global.{global}
 use Rattle.tla_names.specs.Constants.{unvalued}
-use Rattle.tla_names.specs.Items.{definitions_of, replaceable_of, nameable_of, replaced_names, items_misused}
-use Rattle.tla_names.specs.Leads.{leads}
-use Rattle.tla_names.specs.Circles.{AreStraight}
+use Rattle.tla_items.specs.Items.{definitions_of, replaceable_of, nameable_of, replaced_names, items_misused}
+use Rattle.tla_items.specs.Leads.{leads}
+use Rattle.tla_items.specs.Circles.{AreStraight}
 use Rattle.tla_names.specs.Named.{names_misused}
 use Rattle.tla_names.specs.Misuses.{variables_of, misuse}
 use Rattle.tla_defs.specs.Specification.{IsSpecification}

@@ -14,12 +14,13 @@ use Rattle.tla_expand.specs.Expand.{expand}
 use Rattle.tla_expand.specs.Meanings.{Scope}
 use Rattle.tla_expand.specs.Primes.{with_primes}
 use Rattle.tla_names.specs.Maybe.{or_else}
-use Rattle.tla_names.specs.Items.{definitions_of}
+use Rattle.tla_items.specs.Items.{definitions_of}
 use Rattle.tla_names.specs.Misuses.{misuse, variables_of}
-use Rattle.tla_names.specs.Leads.{leads}
-use Rattle.tla_names.specs.Circles.{AreStraight}
+use Rattle.tla_items.specs.Leads.{leads}
+use Rattle.tla_items.specs.Circles.{AreStraight}
 use Rattle.tla_names.specs.Named.{names_misused}
-use Rattle.tla_names.specs.Refusal.{refusal_at, refusal_for, items_refused, IsOfCircle}
+use Rattle.tla_names.specs.Refusal.{refusal_at, refusal_for}
+use Rattle.tla_items.specs.Refusal.{items_refused, IsOfCircle}
 use Rattle.tla_defs.specs.Bodies.{body_of}
 use Rattle.tla_defs.specs.Global.{global}
 use Rattle.tla_formulas.specs.Formulas.{meaning_in}

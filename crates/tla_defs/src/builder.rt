@@ -14,13 +14,13 @@ ghost use Rattle.tla_model.specs.ModelOf.{predicate_of};
 ghost use Rattle.tla_model.specs.Models.{model_of};
 ghost use Rattle.tla_tree.specs.declared.word.Written as written;
 ghost use Rattle.tla_tree.specs.UnitsView.{unit_view};
-ghost use Rattle.tla_names.specs.Circles.{AreStraight};
+ghost use Rattle.tla_items.specs.Circles.{AreStraight};
 ghost use Rattle.tla_names.specs.Constants.{unvalued};
 ghost use Rattle.tla_formulas.specs.Formulas as formulas;
 ghost use Rattle.tla_formulas.specs.Refused as formula_refused;
 ghost use Rattle.tla_defs.specs.Private.Formulas.{LacksPredicate, LacksAssumption, Follow, mentions};
-ghost use Rattle.tla_names.specs.Items as given;
-ghost use Rattle.tla_names.specs.Leads.{leads};
+ghost use Rattle.tla_items.specs.Items as given;
+ghost use Rattle.tla_items.specs.Leads.{leads};
 ghost use Rattle.tla_defs.specs.Private.Mentions.{behaviour_of};
 ghost use Rattle.tla_names.specs.Misuses as known;
 ghost use Rattle.tla_defs.specs.Model as model;
@@ -36,11 +36,9 @@ use tla_config::{Config, DefsCode, DefsError, Source, Statement};
 use tla_core::Core;
 use tla_expand::Scopes;
 use tla_formulas::{Places, assumption, state_predicate};
+use tla_items::{Items, definitions_of, straight, valued};
 use tla_model::{Model, StatePredicate};
-use tla_names::{
-    Items, Names, definitions_of, no_memory, refusal_at, statements_named, straight, text_of,
-    valued, variables,
-};
+use tla_names::{Names, no_memory, refusal_at, statements_named, text_of, variables};
 use tla_tree::{Module, Unit, Written};
 
 /// Whether deadlock is looked for.

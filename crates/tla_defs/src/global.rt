@@ -12,13 +12,14 @@ ghost use Rattle.tla_tree.specs.UnitsView.{unit_view};
 ghost use Rattle.tla_tree.specs.View.{view, definition_view};
 ghost use Rattle.tla_defs.specs.Given as given_names;
 ghost use Rattle.tla_defs.specs.Global as global;
-ghost use Rattle.tla_names.specs.Items as items;
+ghost use Rattle.tla_items.specs.Items as items;
 ghost use Rattle.tla_names.specs.Scope.{signature};
 
 use std::alloc::Global;
 use tla_config::{DefsError, Item};
 use tla_expand::Scopes;
-use tla_names::{Items, Names, name_of, no_memory, still_open, with_operators};
+use tla_items::{Items, name_of, still_open, with_operators};
+use tla_names::{Names, no_memory};
 use tla_tree::{Definition, Expr, Unit, Word, Written};
 
 /// A scope, and how many variables are in it.

@@ -24,8 +24,9 @@ use tla_config::{DefsCode, DefsError};
 use tla_core::Core;
 use tla_expand::{Primes, Scopes};
 use tla_formulas::{Places, action, initial, refusal};
+use tla_items::Items;
 use tla_lex::Place;
-use tla_names::{Items, no_memory};
+use tla_names::no_memory;
 use tla_tree::{Expr, Unit, Written};
 
 /// The names of the initial predicate and the action, or what a specification says of them.

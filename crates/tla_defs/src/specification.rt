@@ -20,8 +20,9 @@ use indexmap::IndexSet;
 use std::alloc::Global;
 use tla_config::{DefsCode, DefsError, Source};
 use tla_expand::{Failure, Primes, Scopes};
+use tla_items::Items;
 use tla_lex::Place;
-use tla_names::{Items, no_memory, refusal_at};
+use tla_names::{no_memory, refusal_at};
 use tla_tree::{Expr, Unit, Written};
 
 /// The conjuncts of the initial predicate, and the action.

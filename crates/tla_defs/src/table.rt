@@ -18,7 +18,8 @@ use crate::temporal::is_temporal;
 use indexmap::IndexMap;
 use std::alloc::Global;
 use tla_config::DefsError;
-use tla_names::{Items, no_memory};
+use tla_items::Items;
+use tla_names::no_memory;
 use tla_tree::{Definition, Expr, Unit};
 
 /// A class of formulas, of which a name is where its definition is.

@@ -1,7 +1,7 @@
 //! Where the formulas begin that names of a configuration stand for.
 
+use tla_items::Items;
 use tla_lex::Place;
-use tla_names::Items;
 use tla_tree::{Definition, Unit, Written};
 
 /// The units of a module, and the items by which names stand for others.

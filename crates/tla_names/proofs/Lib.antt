@@ -1,9 +1,5 @@
 pub mod Stacks
 pub mod Inserted
 pub mod Latest
-pub mod Walks
 pub mod Keys
-pub mod Tables
 pub mod Tabling
-pub mod Settling
-pub mod Firsts

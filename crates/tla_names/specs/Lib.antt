@@ -4,11 +4,7 @@ pub mod Scope
 pub mod Known
 pub mod Constants
 pub mod Misuses
-pub mod Items
 pub mod Named
-pub mod Leads
-pub mod Open
-pub mod Circles
 pub mod Refusal
 pub mod Mentions
 pub mod Private

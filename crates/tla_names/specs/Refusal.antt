@@ -1,20 +1,13 @@
 -- Refusals of names, and where they stand (this project's own choice).
-use Rattle.std.specs.Prelude.{◌≡◌, ◌≢◌, List, [], Option, Some, None, Result, Ok, Err}
+use Rattle.std.specs.Prelude.{◌≡◌, ◌≢◌, Option, Some, None, Result, Ok, Err}
 use Rattle.tla_lex.specs.declared.token.Place.{Place}
 use Rattle.tla_tree.specs.declared.word.Written.{Written}
-use Rattle.tla_tree.specs.Units.{UnitTree}
 use Rattle.tla_config.specs.declared.error.DefsCode.{DefsCode}
 use Rattle.tla_config.specs.declared.error.DefsCode.TheVariants as c
 use Rattle.tla_config.specs.declared.error.DefsError.{DefsError}
 use Rattle.tla_config.specs.declared.error.Source.{Source}
 use Rattle.tla_config.specs.declared.error.Source.TheVariants as source
-use Rattle.tla_config.specs.Statements.{Item}
-use Rattle.tla_names.specs.Maybe.{or_else}
-use Rattle.tla_names.specs.Constants.{unvalued}
-use Rattle.tla_names.specs.Items.{replaceable_of, nameable_of, replaced_names, items_misused}
 use Rattle.tla_names.specs.Known.{Misuse, Twice, Unknown, Arguments}
-use Rattle.tla_names.specs.Leads.{Lead}
-use Rattle.tla_names.specs.Circles.{IsFirstCircle}
 
 -- a refusal with the name that it prints, and one without
 abbrev pub refusal_of : DefsCode → Source → Written → DefsError
@@ -42,13 +35,3 @@ Says s (Err e) o = e.code ≢ c.Memory → refusal_for s o ≡ Some e
 abbrev pub constant_refused : Option Written → Option DefsError
 constant_refused None = None
 constant_refused (Some w) = Some (refusal_of c.ConstantWithoutValue source.Module w)
-
--- the items of CONSTANT, then a constant without a value
-abbrev pub items_refused : List UnitTree → List Item → Option DefsError
-items_refused us is = or_else (refusal_for source.Configuration (items_misused (replaceable_of us) (nameable_of us) [] is)) (constant_refused (unvalued (replaced_names is) us))
-
--- the first item that leads back to its name
-pub record IsOfCircle (ls : List Lead) (is : List Item) (e : DefsError) : Type 0 where
-  pub name : Written
-  pub first : IsFirstCircle ls is name
-  pub refused : refusal_of c.CircularReplacement source.Configuration name ≡ e

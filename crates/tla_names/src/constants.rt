@@ -57,7 +57,7 @@ fn declared_unvalued<'a>(replaced: &Names<'_>, unit: &'a Unit) -> Option<Mention
 }
 
 /// The first constant that has no value.
-pub(crate) fn unvalued<'a>(replaced: &Names<'_>, units: &'a [Unit]) -> Option<Mention<'a>>
+pub fn unvalued<'a>(replaced: &Names<'_>, units: &'a [Unit]) -> Option<Mention<'a>>
     ensures { option_map written_of result ≡ spec.unvalued replaced.now (map unit_view units.entry.now) }
 {
     let mut left = units;

@@ -5,16 +5,17 @@ use tla_tree::Written;
 
 /// A name, an operator or the first word of a form, as it is written.
 #[derive(Clone, Copy)]
-pub(crate) struct Mention<'a> {
-    pub(crate) place: Place,
-    pub(crate) word: &'a [u8],
+pub struct Mention<'a> {
+    pub place: Place,
+    pub word: &'a [u8],
 }
 
 impl<'a> Mention<'a> {
     ghost use Rattle.std.specs.Prelude.{◌≡◌};
     ghost use Rattle.tla_names.specs.Mentions.{written_of};
 
-    pub(crate) fn of(written: &'a Written) -> Mention<'a>
+    /// A name as it is written in a tree.
+    pub fn of(written: &'a Written) -> Mention<'a>
         ensures { written_of result ≡ written.entry.now }
     {
         Mention {

@@ -50,12 +50,7 @@ pub fn refusal_at(code: DefsCode, source: Source, place: Place) -> DefsError
 }
 
 /// A refusal of a name, or want of memory.
-pub(crate) fn refusal_of(
-    alloc: Global,
-    code: DefsCode,
-    source: Source,
-    mention: Mention<'_>,
-) -> DefsError
+pub fn refusal_of(alloc: Global, code: DefsCode, source: Source, mention: Mention<'_>) -> DefsError
     ensures { result.code ≢ Memory → result ≡ refusal_of code source (written_of mention.entry) }
 {
     match text_of(alloc, mention.word) {

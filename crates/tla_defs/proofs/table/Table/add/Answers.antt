@@ -1,5 +1,5 @@
 use Rattle.std.proofs.Common.{refl, sym, ◌∙◌}
-use Rattle.tla_names.proofs.Tables.{absent}
+use Rattle.tla_items.proofs.Tables.{absent}
 use Rattle.tla_defs.proofs.Tabled.{added_bodies, added_found}
 use Rattle.indexmap.proofs.CallerLemmas.{insert_entry-new}
 use Rattle.tla_defs.proofs.table.Table.add.Goals as goal

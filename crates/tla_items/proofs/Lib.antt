@@ -1,0 +1,4 @@
+pub mod Walks
+pub mod Tables
+pub mod Settling
+pub mod Firsts

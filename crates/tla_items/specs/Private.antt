@@ -1,0 +1,4 @@
+-- What serves the code: no public contract cites these.
+pub mod Reached
+pub mod Settled
+pub mod Firsts

@@ -1,0 +1,17 @@
+//! The items of CONSTANT: what they name, what they stand for, and where they lead.
+//!
+//! An item is for a name that may have one, and none leads back to its name (Specifying Systems, chapter 14). Each question
+//! here answers the first item, in the order of the text, that is refused, with its code and place.
+#![tactic(auto)]
+
+mod circle;
+mod items;
+mod leads;
+mod name_set;
+mod names_in;
+mod open;
+mod waiting;
+
+pub use circle::straight;
+pub use items::{Items, definitions_of, name_of, valued};
+pub use open::{still_open, with_operators};

@@ -1,0 +1,56 @@
+//! Sets of names.
+
+ghost use Rattle.std.specs.Prelude.{◌≡◌, ◌++◌, ◌∷◌, [], true, false, IfOk, IfErr};
+ghost use Rattle.tla_config.specs.declared.error.DefsCode.TheVariants.{Memory};
+ghost use Rattle.tla_config.specs.Names.{is_among};
+
+use indexmap::IndexSet;
+use std::alloc::Global;
+use std::marker::Model;
+use tla_config::DefsError;
+use tla_names::no_memory;
+
+/// Names, each once.
+#[derive(Drop)]
+pub(crate) struct NameSet<'a> {
+    words: IndexSet<&'a [u8]>,
+}
+
+impl<'a> Model for NameSet<'a> {
+    ghost use Rattle.std.specs.Prelude.{List, ℕ, map};
+    ghost use Rattle.std.specs.Borrow.{Bor};
+
+    ghost Value = { List (List ℕ) };
+
+    ghost view = { λ n. map (λ (w : Bor (List ℕ)). w.now) n.words.keys };
+}
+
+impl<'a> NameSet<'a> {
+    /// No name.
+    pub(crate) fn new(alloc: Global) -> NameSet<'a>
+        ensures { result ≡ [] }
+    {
+        NameSet {
+            words: IndexSet::new(alloc),
+        }
+    }
+
+    /// With a name; whether it is new. The only error is want of memory.
+    pub(crate) fn insert(&mut self, name: &'a [u8]) -> Result<bool, DefsError>
+        ensures new { IfOk result (λ b. b ≡ true → self.new ≡ self.old ++ name.entry.now ∷ []) }
+        ensures same { IfOk result (λ b. b ≡ false → self.new ≡ self.old) }
+        ensures seen { IfOk result (λ b. b ≡ false → is_among name.entry.now self.old ≡ true) }
+        ensures err { IfErr result (λ e. e.code ≡ Memory) }
+    {
+        match self.words.insert(name) {
+            Ok(fresh) => Ok(fresh),
+            Err(_) => Err(no_memory()),
+        }
+    }
+
+    pub(crate) fn contains(&self, name: &'a [u8]) -> bool
+        ensures { result ≡ is_among name.entry.now self.now }
+    {
+        self.words.contains(&name)
+    }
+}
