@@ -6,28 +6,28 @@ use Rattle.tla_lex.specs.declared.token.Token.{Token}
 use Rattle.tla_lex.specs.declared.token.Kind.{Kind}
 use Rattle.tla_lex.specs.declared.token.Kind.TheVariants as k
 use Rattle.tla_tree.specs.declared.word.Written.{Written}
-use Rattle.tla_parse.specs.Modules.{is_module}
-use Rattle.tla_parse.specs.Edges.{depth}
+use Rattle.tla_grammar.specs.Modules.{is_module}
+use Rattle.tla_grammar.specs.Edges.{depth}
 use Rattle.tla_tree.specs.Words.{word_of, written}
-use Rattle.tla_parse.specs.Tokens.{seen, goes_on, Has, Names}
-use Rattle.tla_parse.specs.Kinds.{same_kind, kind_at}
+use Rattle.tla_grammar.specs.Tokens.{seen, goes_on, Has, Names}
+use Rattle.tla_grammar.specs.Kinds.{same_kind, kind_at}
 use Rattle.tla_tree.specs.Units.{UnitTree, Separator, Extends, Variables, Operator, Defines, Local, Constants, Assume, Theorem, Declared}
 use Rattle.tla_parse.specs.Units.{Blanks, Declares, MoreDeclared, AllDeclared, Claims, has_parameters, is_extends, is_separator, unit_depth, units_depth, outermost, SpellsUnit, Units, SpellsModule}
-use Rattle.tla_parse.specs.Private.ReadingLists.{name_at, following}
-use Rattle.tla_parse.specs.Private.Reading.{expr}
+use Rattle.tla_grammar.specs.Marks.{name_at, following}
+use Rattle.tla_expressions.specs.Reading.{expr}
 use Rattle.tla_parse.specs.Private.UnitsReading.{modules, blanks, declared, constants, claim_name, claim, unit_of, unit, units, whole}
-use Rattle.tla_parse.proofs.Inversion.{and_true}
-use Rattle.tla_parse.proofs.Follow.{end_plain, stops_plain}
-use Rattle.tla_parse.proofs.Shapes.{top_zero, advances, defines_advance}
-use Rattle.tla_parse.proofs.Complete.{definition_complete, expr_complete}
-use Rattle.tla_parse.specs.declared.tokens.Between.TheVariants as between
-use Rattle.tla_parse.specs.Grammar.{Spells}
+use Rattle.tla_grammar.proofs.Inversion.{and_true}
+use Rattle.tla_expressions.proofs.Follow.{end_plain, stops_plain}
+use Rattle.tla_expressions.proofs.Shapes.{top_zero, advances, defines_advance}
+use Rattle.tla_expressions.proofs.Complete.{definition_complete, expr_complete}
+use Rattle.tla_grammar.specs.declared.tokens.Between.TheVariants as between
+use Rattle.tla_grammar.specs.Grammar.{Spells}
 use Rattle.tla_tree.specs.Tree.{Tree, Definition, DefinesOperator, DefinesFunction}
-use Rattle.tla_parse.proofs.Sequence.{Behind, Follows, follows_fit, sequence_complete}
-use Rattle.tla_parse.proofs.Lists.{comma_here, rises}
-use Rattle.tla_parse.proofs.First.{second_token}
-use Rattle.tla_parse.proofs.CompleteCase.{defines_name}
-use Rattle.tla_parse.proofs.NameLists.{seen_within, named, names_fit, names_within, names_complete}
+use Rattle.tla_expressions.proofs.Sequence.{Behind, Follows, follows_fit, sequence_complete}
+use Rattle.tla_expressions.proofs.Lists.{comma_here, rises}
+use Rattle.tla_expressions.proofs.First.{second_token}
+use Rattle.tla_expressions.proofs.CompleteCase.{defines_name}
+use Rattle.tla_expressions.proofs.NameLists.{seen_within, named, names_fit, names_within, names_complete}
 use Rattle.tla_parse.proofs.UnitsSteps.{modules_more, modules_last, blanks_more, blanks_last}
 
 -- begins a unit, or closes the module

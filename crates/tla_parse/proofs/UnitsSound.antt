@@ -7,25 +7,26 @@ use Rattle.tla_lex.specs.declared.token.Token.{Token}
 use Rattle.tla_lex.specs.declared.token.Kind.{Kind}
 use Rattle.tla_lex.specs.declared.token.Kind.TheVariants as k
 use Rattle.tla_tree.specs.declared.word.Written.{Written}
-use Rattle.tla_parse.specs.LeftOut.{OnlySeparators}
-use Rattle.tla_parse.specs.Modules.{is_module}
+use Rattle.tla_grammar.specs.LeftOut.{OnlySeparators}
+use Rattle.tla_grammar.specs.Modules.{is_module}
 use Rattle.tla_tree.specs.Words.{word_of, written}
-use Rattle.tla_parse.specs.Tokens.{seen, Has, Writes, Names, KindAt}
-use Rattle.tla_parse.specs.Kinds.{kind_at}
+use Rattle.tla_grammar.specs.Tokens.{seen, Has, Writes, Names, KindAt}
+use Rattle.tla_grammar.specs.Kinds.{kind_at}
 use Rattle.tla_tree.specs.Units.{UnitTree, Separator, Extends, Variables, Local, Constants, Assume, Theorem, Declared}
 use Rattle.tla_parse.specs.Units.{Blanks, Declares, MoreDeclared, AllDeclared, Claims, is_extends, is_separator, outermost, SpellsUnit, Units, SpellsModule}
-use Rattle.tla_parse.specs.Private.Outcome.{Refused}
-use Rattle.tla_parse.specs.Private.ReadingLists.{name_at, following, names}
-use Rattle.tla_parse.specs.Private.Reading.{definition, expr}
+use Rattle.tla_grammar.specs.Outcome.{Refused}
+use Rattle.tla_grammar.specs.Marks.{name_at, following}
+use Rattle.tla_expressions.specs.ReadingLists.{names}
+use Rattle.tla_expressions.specs.Reading.{definition, expr}
 use Rattle.tla_parse.specs.Private.UnitsReading.{Claim, modules, blanks, declared, constants, claim_name, claim, unit_of, unit_by, unit, units, whole}
-use Rattle.tla_parse.proofs.Inversion.{ok_to, bind_ok, need_ok, at_op_ok, choice_ok, and_true, has_kind, has_name, seen_is}
-use Rattle.tla_parse.proofs.NameLists.{names_cons, names_sound}
-use Rattle.tla_parse.proofs.Sequence.{Behind, Follows, sequence_sound}
-use Rattle.tla_parse.proofs.Lists.{comma_is}
-use Rattle.tla_parse.proofs.SoundCase.{definition_sound}
-use Rattle.tla_parse.proofs.Sound.{expr_sound}
-use Rattle.tla_parse.specs.declared.tokens.Between.TheVariants as between
-use Rattle.tla_parse.specs.Grammar as Grammar
+use Rattle.tla_grammar.proofs.Inversion.{ok_to, bind_ok, need_ok, at_op_ok, choice_ok, and_true, has_kind, has_name, seen_is}
+use Rattle.tla_expressions.proofs.NameLists.{names_cons, names_sound}
+use Rattle.tla_expressions.proofs.Sequence.{Behind, Follows, sequence_sound}
+use Rattle.tla_expressions.proofs.Lists.{comma_is}
+use Rattle.tla_expressions.proofs.SoundCase.{definition_sound}
+use Rattle.tla_expressions.proofs.Sound.{expr_sound}
+use Rattle.tla_grammar.specs.declared.tokens.Between.TheVariants as between
+use Rattle.tla_grammar.specs.Grammar as Grammar
 use Rattle.tla_tree.specs.Tree.{Definition, DefinesOperator, DefinesFunction}
 
 or_true : (b : Bool) → (b || true) ≡ true

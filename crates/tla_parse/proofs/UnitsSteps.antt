@@ -3,19 +3,19 @@ use Rattle.std.proofs.Common.{◌≡◌, ℕ, ◌+◌, max, Bool, true, false, n
 use Rattle.tla_lex.specs.declared.token.Token.{Token}
 use Rattle.tla_lex.specs.declared.token.Kind.{Kind}
 use Rattle.tla_lex.specs.declared.token.Kind.TheVariants as k
-use Rattle.tla_parse.specs.LeftOut.{IsExtended}
+use Rattle.tla_grammar.specs.LeftOut.{IsExtended}
 use Rattle.tla_tree.specs.declared.word.Written.{Written}
-use Rattle.tla_parse.specs.declared.refusal.Refusal.{Refusal}
-use Rattle.tla_parse.specs.Private.Gives.{Fails}
-use Rattle.tla_parse.proofs.Fails.{fails_bind}
+use Rattle.tla_grammar.specs.declared.refusal.Refusal.{Refusal}
+use Rattle.tla_grammar.specs.Refusals.{Fails}
+use Rattle.tla_grammar.proofs.Fails.{fails_bind}
 use Rattle.tla_tree.specs.declared.unit.Unit.{Unit}
 use Rattle.tla_tree.specs.UnitsView.{unit_view}
-use Rattle.tla_parse.specs.Modules.{is_module}
+use Rattle.tla_grammar.specs.Modules.{is_module}
 use Rattle.tla_tree.specs.Words.{word_of, written}
-use Rattle.tla_parse.specs.Tokens.{seen, KindAt}
-use Rattle.tla_parse.specs.Kinds.{kind_at}
-use Rattle.tla_parse.specs.Private.Outcome.{Outcome, Refused, ◌>>=◌, need}
-use Rattle.tla_parse.specs.Private.ReadingLists.{name_at}
+use Rattle.tla_grammar.specs.Tokens.{seen, KindAt}
+use Rattle.tla_grammar.specs.Kinds.{kind_at}
+use Rattle.tla_grammar.specs.Outcome.{Outcome, Refused, ◌>>=◌, need}
+use Rattle.tla_grammar.specs.Marks.{name_at}
 use Rattle.tla_tree.specs.Units.{UnitTree}
 use Rattle.tla_parse.specs.Units.{is_separator, unit_depth, units_depth}
 use Rattle.tla_parse.specs.Private.UnitsReading.{modules, blanks, unit_by, unit, units}

@@ -3,17 +3,17 @@ use Rattle.std.proofs.Common.{◌≡◌, ℕ, zero, suc, ◌+◌, not, ◌&&◌,
 use Rattle.tla_lex.specs.declared.token.Token.{Token}
 use Rattle.tla_lex.specs.declared.token.Kind.{Kind}
 use Rattle.tla_lex.specs.declared.token.Kind.TheVariants as k
-use Rattle.tla_parse.specs.Tokens.{seen}
-use Rattle.tla_parse.specs.Kinds.{kind_at}
+use Rattle.tla_grammar.specs.Tokens.{seen}
+use Rattle.tla_grammar.specs.Kinds.{kind_at}
 use Rattle.tla_tree.specs.Units.{UnitTree}
 use Rattle.tla_parse.specs.Units.{is_separator, units_depth, outermost, SpellsModule}
-use Rattle.tla_parse.specs.Private.Outcome.{Outcome, Refused, Nested}
-use Rattle.tla_parse.specs.Private.Reading.{definition, expr}
+use Rattle.tla_grammar.specs.Outcome.{Outcome, Refused, Nested}
+use Rattle.tla_expressions.specs.Reading.{definition, expr}
 use Rattle.tla_parse.specs.Private.UnitsReading.{claim_name, claim, unit_by, unit, units, whole}
 use Rattle.tla_parse.specs.Parsing.{NoneSpells, NoneSpellsWithin}
-use Rattle.tla_parse.proofs.Inversion.{ok_to}
-use Rattle.tla_parse.proofs.DeeperLists.{Refines, bind, needs, ops, choices}
-use Rattle.tla_parse.proofs.Deeper.{definition_deeper, deeper}
+use Rattle.tla_grammar.proofs.Inversion.{ok_to}
+use Rattle.tla_expressions.proofs.DeeperLists.{Refines, bind, needs, ops, choices}
+use Rattle.tla_expressions.proofs.Deeper.{definition_deeper, deeper}
 use Rattle.tla_parse.proofs.UnitsSound.{module_sound}
 use Rattle.tla_parse.proofs.UnitsComplete.{module_complete}
 

@@ -1,13 +1,4 @@
-pub mod Operators
-pub mod Edges
-pub mod Tokens
-pub mod Entries
-pub mod Grammar
-pub mod Ending
-pub mod Modules
 pub mod Units
 pub mod Codes
 pub mod Parsing
-pub mod Kinds
-pub mod LeftOut
 pub mod Private

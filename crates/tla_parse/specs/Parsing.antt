@@ -5,7 +5,7 @@ use Rattle.tla_lex.specs.declared.token.Token.{Token}
 use Rattle.tla_parse.specs.declared.error.ParseCode.{ParseCode}
 use Rattle.tla_parse.specs.declared.error.ParseCode.TheVariants as code
 use Rattle.tla_tree.specs.Words.{word_of}
-use Rattle.tla_parse.specs.LeftOut.{BeginsLeftOut, IsUnknownModule}
+use Rattle.tla_grammar.specs.LeftOut.{BeginsLeftOut, IsUnknownModule}
 use Rattle.tla_tree.specs.Units.{UnitTree}
 use Rattle.tla_parse.specs.Units.{units_depth, SpellsModule}
 

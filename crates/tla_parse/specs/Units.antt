@@ -3,15 +3,15 @@ use Rattle.std.specs.Prelude.{◌≡◌, ℕ, zero, suc, ◌+◌, max, Bool, tru
 use Rattle.std.specs.List.{list_all}
 use Rattle.tla_lex.specs.declared.token.Token.{Token}
 use Rattle.tla_lex.specs.declared.token.Kind.TheVariants as k
-use Rattle.tla_parse.specs.declared.scope.Scope.{Scope}
+use Rattle.tla_grammar.specs.declared.scope.Scope.{Scope}
 use Rattle.tla_tree.specs.declared.word.Written.{Written}
-use Rattle.tla_parse.specs.Edges.{depth, definition_depth}
-use Rattle.tla_parse.specs.Tokens.{Has, Is, Writes, Names}
+use Rattle.tla_grammar.specs.Edges.{depth, definition_depth}
+use Rattle.tla_grammar.specs.Tokens.{Has, Is, Writes, Names}
 use Rattle.tla_tree.specs.Tree.{Tree, Definition, DefinesOperator}
 use Rattle.tla_tree.specs.Units.{UnitTree, Separator, Extends, Variables, Operator, Defines, Local, Constants, Assume, Theorem, Declared}
-use Rattle.tla_parse.specs.Modules.{is_module}
-use Rattle.tla_parse.specs.Grammar.{Spells}
-use Rattle.tla_parse.specs.Grammar as Grammar
+use Rattle.tla_grammar.specs.Modules.{is_module}
+use Rattle.tla_grammar.specs.Grammar.{Spells}
+use Rattle.tla_grammar.specs.Grammar as Grammar
 
 abbrev pub is_extends : UnitTree → Bool
 is_extends (Extends _ _) = true

@@ -5,15 +5,14 @@ ghost use Rattle.tla_tree.specs.Units.{UnitTree};
 ghost use Rattle.tla_parse.specs.Units.{units_depth, SpellsModule};
 ghost use Rattle.tla_tree.specs.UnitsView.{unit_view};
 ghost use Rattle.tla_parse.specs.Private.UnitsReading.{whole};
-ghost use Rattle.tla_parse.specs.LeftOut.{BeginsLeftOut, IsUnknownModule};
+ghost use Rattle.tla_grammar.specs.LeftOut.{BeginsLeftOut, IsUnknownModule};
 ghost use Rattle.tla_parse.specs.Parsing.{NoneSpells, Justified, IsLocated};
-ghost use Rattle.tla_parse.specs.Private.Gives.{Fails};
+ghost use Rattle.tla_grammar.specs.Refusals.{Fails};
 
 use crate::error::{ParseCode, ParseError};
-use crate::refusal::Refusal;
-use crate::tokens::written;
 use crate::units::module_units;
 use std::alloc::Global;
+use tla_grammar::{Refusal, written};
 use tla_lex::{Place, Token};
 use tla_tree::Module;
 

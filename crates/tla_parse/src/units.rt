@@ -4,23 +4,21 @@ ghost use Rattle.std.specs.Prelude.{◌≡◌, ◌+◌, ◌<◌, ◌≤◌, ◌+
 ghost use Rattle.tla_parse.specs.Units as units;
 ghost use Rattle.tla_tree.specs.UnitsView.{unit_view};
 ghost use Rattle.tla_parse.specs.Private.UnitsReading as reading;
-ghost use Rattle.tla_parse.specs.LeftOut.{IsExtended, OnlySeparators};
-ghost use Rattle.tla_parse.specs.Kinds.{kind_at};
-ghost use Rattle.tla_parse.specs.Tokens.{seen};
+ghost use Rattle.tla_grammar.specs.LeftOut.{IsExtended, OnlySeparators};
+ghost use Rattle.tla_grammar.specs.Kinds.{kind_at};
+ghost use Rattle.tla_grammar.specs.Tokens.{seen};
 ghost use Rattle.tla_lex.specs.declared.token.Kind.TheVariants as k;
-ghost use Rattle.tla_parse.specs.Private.Gives.{GivesNames};
+ghost use Rattle.tla_expressions.specs.Gives.{GivesNames};
 ghost use Rattle.tla_tree.specs.View.{definition_view};
 ghost use Rattle.tla_parse.specs.Private.UnitsGive.{GivesDeclared, GivesConstants, GivesClaim, GivesUnit, GivesUnits};
 
-use crate::grammar::{MAX_DEPTH, definition, expr};
-use crate::list::push;
-use crate::modules::is_module;
-use crate::names::{ParsedNames, names};
-use crate::parts::ParsedDefinition;
-use crate::refusal::Refusal;
-use crate::scope::Scope;
-use crate::tokens::{Between, following, is_kind, name_at, refused, refused_unit, seen, written};
 use std::alloc::Global;
+use tla_expressions::names::{ParsedNames, names};
+use tla_expressions::{MAX_DEPTH, ParsedDefinition, definition, expr};
+use tla_grammar::{
+    Between, Refusal, Scope, following, is_kind, is_module, name_at, push, refused, refused_unit,
+    seen, written,
+};
 use tla_lex::{Kind, Place, Token};
 use tla_tree::{Declaration, Definition, Expr, Unit, Written};
 

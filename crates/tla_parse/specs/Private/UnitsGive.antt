@@ -3,18 +3,18 @@ use Rattle.std.specs.Prelude.{◌≡◌, ◌≤◌, ℕ, map, List, Result, Ok, 
 use Rattle.tla_lex.specs.declared.token.Token.{Token}
 use Rattle.tla_parse.specs.declared.units.ParsedUnit.{ParsedUnit}
 use Rattle.tla_parse.specs.declared.units.ParsedUnits.{ParsedUnits}
-use Rattle.tla_parse.specs.declared.refusal.Refusal.{Refusal}
+use Rattle.tla_grammar.specs.declared.refusal.Refusal.{Refusal}
 use Rattle.tla_parse.specs.declared.units.ParsedDeclaration.{ParsedDeclaration}
 use Rattle.tla_parse.specs.declared.units.ParsedDeclarations.{ParsedDeclarations}
 use Rattle.tla_parse.specs.declared.units.ParsedClaim.{ParsedClaim}
-use Rattle.tla_parse.specs.Edges.{depth}
+use Rattle.tla_grammar.specs.Edges.{depth}
 use Rattle.tla_tree.specs.View.{view}
 use Rattle.tla_tree.specs.Units.{UnitTree, Declared}
 use Rattle.tla_parse.specs.Units.{unit_depth, units_depth}
 use Rattle.tla_parse.specs.Private.UnitsReading.{Claim}
 use Rattle.tla_tree.specs.UnitsView.{unit_view, declared}
-use Rattle.tla_parse.specs.Private.Outcome.{Outcome}
-use Rattle.tla_parse.specs.Private.Gives.{Fails}
+use Rattle.tla_grammar.specs.Outcome.{Outcome}
+use Rattle.tla_grammar.specs.Refusals.{Fails}
 
 abbrev pub GivesDeclared : List ℕ → List Token → Result ParsedDeclaration Refusal → Outcome Declared → Type 0
 GivesDeclared text ts (Ok x) read = read ≡ Ok (declared x.declaration, x.end)

@@ -4,17 +4,18 @@ use Rattle.tla_lex.specs.declared.token.Token.{Token}
 use Rattle.tla_lex.specs.declared.token.Kind.{Kind}
 use Rattle.tla_lex.specs.declared.token.Kind.TheVariants as k
 use Rattle.tla_tree.specs.declared.word.Written.{Written}
-use Rattle.tla_parse.specs.Modules.{is_module}
+use Rattle.tla_grammar.specs.Modules.{is_module}
 use Rattle.tla_tree.specs.Words.{word_of, written}
-use Rattle.tla_parse.specs.Tokens.{seen}
-use Rattle.tla_parse.specs.Kinds.{kind_at}
+use Rattle.tla_grammar.specs.Tokens.{seen}
+use Rattle.tla_grammar.specs.Kinds.{kind_at}
 use Rattle.tla_tree.specs.Units.{UnitTree, Separator, Extends, Variables, Operator, Defines, Local, Constants, Assume, Theorem, Declared}
 use Rattle.tla_parse.specs.Units.{is_separator, outermost}
-use Rattle.tla_parse.specs.declared.tokens.Between.TheVariants as between
+use Rattle.tla_grammar.specs.declared.tokens.Between.TheVariants as between
 use Rattle.tla_tree.specs.Tree.{Tree, Definition, DefinesOperator}
-use Rattle.tla_parse.specs.Private.Outcome.{Outcome, Refused, ◌>>=◌, need, at_op, sequence}
-use Rattle.tla_parse.specs.Private.ReadingLists.{name_at, following, names}
-use Rattle.tla_parse.specs.Private.Reading.{definition, expr}
+use Rattle.tla_grammar.specs.Outcome.{Outcome, Refused, ◌>>=◌, need, at_op, sequence}
+use Rattle.tla_grammar.specs.Marks.{name_at, following}
+use Rattle.tla_expressions.specs.ReadingLists.{names}
+use Rattle.tla_expressions.specs.Reading.{definition, expr}
 
 -- the name and the expression of an assumption or a theorem
 abbrev pub Claim : Type 0

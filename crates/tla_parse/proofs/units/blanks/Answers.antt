@@ -1,7 +1,7 @@
 use Rattle.std.proofs.Common.{◌≡◌, ◌+◌, ◌-◌, ◌&&◌, ℕ, [], true, false, arith, refl, sym, ap, ◌∙◌, length}
 use Rattle.tla_lex.specs.declared.token.Kind.TheVariants as k
-use Rattle.tla_parse.specs.Tokens.{seen}
-use Rattle.tla_parse.specs.Kinds.{kind_at}
+use Rattle.tla_grammar.specs.Tokens.{seen}
+use Rattle.tla_grammar.specs.Kinds.{kind_at}
 use Rattle.tla_parse.proofs.UnitsSteps.{blanks_last}
 use Rattle.tla_parse.proofs.units.blanks.Goals.{then-is_kind, else-is_kind}
 use Rattle.tla_parse.proofs.units.blanks.Goals as goal

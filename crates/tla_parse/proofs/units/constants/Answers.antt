@@ -1,12 +1,12 @@
 use Rattle.std.proofs.Common.{◌≡◌, ◌+◌, ◌-◌, ◌++◌, ◌∷◌, [], Some, None, arith, sym, ◌∙◌, length, map, ap}
 use Rattle.std.proofs.lemmas.Result.{err_from_is_err_and}
-use Rattle.tla_parse.specs.declared.tokens.Between.TheVariants as between
+use Rattle.tla_grammar.specs.declared.tokens.Between.TheVariants as between
 use Rattle.tla_tree.specs.UnitsView.{declared as shown}
-use Rattle.tla_parse.specs.Private.ReadingLists.{following}
+use Rattle.tla_grammar.specs.Marks.{following}
 use Rattle.tla_parse.specs.Private.UnitsReading.{declared}
-use Rattle.tla_parse.proofs.Fails.{refuses_fails}
-use Rattle.tla_parse.proofs.Sequence.{sequence_more, sequence_last, sequence_full, sequence_fails}
-use Rattle.tla_parse.proofs.Steps.{map_append}
+use Rattle.tla_grammar.proofs.Fails.{refuses_fails}
+use Rattle.tla_expressions.proofs.Sequence.{sequence_more, sequence_last, sequence_full, sequence_fails}
+use Rattle.tla_expressions.proofs.Steps.{map_append}
 use Rattle.tla_parse.proofs.units.constants.Goals as goal
 
 pub returns-in_err-found : goal.returns-in_err-found

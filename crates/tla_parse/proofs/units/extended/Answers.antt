@@ -1,13 +1,13 @@
 use Rattle.std.proofs.Common.{◌≡◌, ◌+◌, ◌-◌, ◌++◌, ◌∷◌, [], Some, None, true, false, arith, refl, sym, ap, ◌∙◌, length}
 use Rattle.std.proofs.lemmas.Option.{slice_get_within}
 use Rattle.tla_lex.specs.declared.token.Kind.TheVariants as k
-use Rattle.tla_parse.specs.Modules.{is_module}
+use Rattle.tla_grammar.specs.Modules.{is_module}
 use Rattle.tla_tree.specs.Words.{word_of, written}
-use Rattle.tla_parse.specs.Tokens.{seen, KindAt}
-use Rattle.tla_parse.specs.Kinds.{kind_at}
-use Rattle.tla_parse.specs.Private.ReadingLists.{name_at}
-use Rattle.tla_parse.proofs.Inversion.{name_is, has_kind, seen_is}
-use Rattle.tla_parse.proofs.Fails.{refuses_fails}
+use Rattle.tla_grammar.specs.Tokens.{seen, KindAt}
+use Rattle.tla_grammar.specs.Kinds.{kind_at}
+use Rattle.tla_grammar.specs.Marks.{name_at}
+use Rattle.tla_grammar.proofs.Inversion.{name_is, has_kind, seen_is}
+use Rattle.tla_grammar.proofs.Fails.{refuses_fails}
 use Rattle.tla_parse.proofs.UnitsSteps.{modules_none, modules_unknown, modules_last, modules_more, extended_more}
 use Rattle.tla_parse.proofs.units.extended.Goals as goal
 

@@ -1,6 +1,6 @@
 use Rattle.std.proofs.Common.{◌≡◌, ◌-◌, ◌≤◌, length, []}
 use Rattle.tla_parse.specs.Private.UnitsReading.{modules}
-use Rattle.tla_parse.specs.LeftOut.{IsExtended}
+use Rattle.tla_grammar.specs.LeftOut.{IsExtended}
 use Rattle.tla_parse.proofs.units.extended.Given as goal
 
 abbrev pub invariant-loop-turn : goal.invariant-loop-turn

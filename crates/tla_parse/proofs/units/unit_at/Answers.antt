@@ -1,6 +1,6 @@
 use Rattle.std.proofs.Common.{◌≡◌, Some, sym, ◌∙◌}
-use Rattle.tla_parse.specs.Tokens.{seen}
-use Rattle.tla_parse.proofs.Fails.{refuses_fails}
+use Rattle.tla_grammar.specs.Tokens.{seen}
+use Rattle.tla_grammar.proofs.Fails.{refuses_fails}
 use Rattle.tla_parse.proofs.UnitsSteps.{BeginsNone, unit_other}
 use Rattle.tla_parse.proofs.units.unit_at.Goals as goal
 

@@ -2,10 +2,10 @@ use Rattle.std.proofs.Common.{◌≡◌, ◌+◌, ◌-◌, ◌++◌, ◌∷◌, 
 use Rattle.std.proofs.lemmas.Grind.{common_steps}
 use Rattle.std.proofs.lemmas.Result.{err_from_is_err_and}
 use Rattle.tla_lex.specs.declared.token.Kind.TheVariants as k
-use Rattle.tla_parse.specs.Tokens.{seen}
-use Rattle.tla_parse.specs.Kinds.{kind_at}
+use Rattle.tla_grammar.specs.Tokens.{seen}
+use Rattle.tla_grammar.specs.Kinds.{kind_at}
 use Rattle.tla_tree.specs.UnitsView.{unit_view}
-use Rattle.tla_parse.proofs.Fails.{refuses_fails}
+use Rattle.tla_grammar.proofs.Fails.{refuses_fails}
 use Rattle.tla_parse.proofs.UnitsSteps.{units_done, units_more, units_late, units_fails, units_full, units_depth_snoc, map_snoc}
 use Rattle.tla_parse.proofs.UnitsSound.{separators_more}
 use Rattle.tla_parse.proofs.units.units_from.Goals as goal

@@ -1,6 +1,6 @@
 use Rattle.std.proofs.Common.{◌≡◌, ◌-◌, ◌≤◌, length, map, [], true}
 use Rattle.tla_parse.specs.Units.{units_depth}
-use Rattle.tla_parse.specs.LeftOut.{OnlySeparators}
+use Rattle.tla_grammar.specs.LeftOut.{OnlySeparators}
 use Rattle.tla_tree.specs.UnitsView.{unit_view}
 use Rattle.tla_parse.specs.Private.UnitsReading.{units}
 use Rattle.tla_parse.proofs.units.units_from.Given as goal

@@ -1,0 +1,7 @@
+use Rattle.std.proofs.Common.{ap}
+use Rattle.tla_tree.specs.Tree as t
+use Rattle.tla_tree.specs.View.{view, views_items}
+use Rattle.tla_expressions.proofs.parts.index_of.Goals as goal
+
+pub returns : goal.returns
+returns c = ap (λ x. t.Index c.args.at (view c.args.operand.value) x) (views_items c.args.items)

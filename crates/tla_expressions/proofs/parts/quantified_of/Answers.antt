@@ -1,0 +1,7 @@
+use Rattle.std.proofs.Common.{ap}
+use Rattle.tla_tree.specs.Tree as t
+use Rattle.tla_tree.specs.View.{view, bound_views_items}
+use Rattle.tla_expressions.proofs.parts.quantified_of.Goals as goal
+
+pub returns : goal.returns
+returns c = ap (λ x. t.Quantified c.args.at c.args.quantifier x (view c.args.body.value)) (bound_views_items c.args.groups)

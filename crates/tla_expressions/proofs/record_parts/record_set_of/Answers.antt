@@ -1,0 +1,7 @@
+use Rattle.std.proofs.Common.{ap}
+use Rattle.tla_tree.specs.Tree as t
+use Rattle.tla_tree.specs.View.{field_views_items}
+use Rattle.tla_expressions.proofs.record_parts.record_set_of.Goals as goal
+
+pub returns : goal.returns
+returns c = ap (λ x. t.RecordSet c.args.at x) (field_views_items c.args.fields)

@@ -1,0 +1,5 @@
+pub mod ReadingLists
+pub mod ReadingBrackets
+pub mod Reading
+pub mod Gives
+pub mod Private

@@ -1,0 +1,446 @@
+//! Forms in brackets and braces, and subscripts.
+
+ghost use Rattle.std.specs.Prelude.{◌≡◌, ℕ, ◌+◌, ◌-◌, ◌≤◌, ◌<◌, length, slice_get, suc, IfOk, IfErr, OnOk, IsTrue, map, [], ◌∷◌, ◌++◌};
+ghost use Rattle.tla_tree.specs.View.{view, group_view, field_view, key_view, update_view};
+ghost use Rattle.tla_tree.specs.Tree as tree;
+ghost use Rattle.tla_tree.specs.Tree.{trees, binders};
+ghost use Rattle.tla_grammar.specs.Edges as edges;
+ghost use Rattle.tla_expressions.specs.Reading.{expr};
+ghost use Rattle.tla_expressions.specs.ReadingBrackets as reading;
+ghost use Rattle.tla_expressions.specs.Gives.{Gives, GivesItems, GivesTrees};
+ghost use Rattle.tla_expressions.specs.Private.Nests.{Nests};
+
+use crate::grammar::Grammar;
+use crate::parts::{
+    Parsed, ParsedItems, child_of, image_of, listing_of, mapping_of, set_of_binder,
+};
+use std::alloc::Global;
+use tla_grammar::{
+    Between, Opened, Refusal, Scope, binds, filters, following, is_kind, opened_by, push, refused,
+    seen, written,
+};
+use tla_lex::{Kind, Place, Token};
+use tla_tree::{Brackets, Expr, Fairness, Step};
+
+impl<F: Fn(Global, &[u8], &[Token], usize, Scope, u8, usize) -> Result<Parsed, Refusal>> Grammar<
+    F,
+> {
+    /// The expressions behind the first, and the closing bracket.
+    #[tactic(auto, unfolding(crate::specs::ReadingBrackets::others))]
+    fn others(
+        &self,
+        text: &[u8],
+        tokens: &[Token],
+        scope: Scope,
+        close: Kind,
+        first: Parsed,
+    ) -> Result<ParsedItems, Refusal>
+        requires nests { Nests self.now.depth (F.pre self.now.expr) (F.post self.now.expr) }
+        requires depth { first.depth ≡ edges.depth (view first.tree) }
+        requires shallow { first.depth ≤ self.now.depth }
+        ensures { GivesTrees text.now tokens.now self.now.depth result (reading.others text.now tokens.now (expr text.now tokens.now self.now.depth) scope close (view first.tree) first.end) }
+    {
+        let mut items = Vec::new(self.alloc);
+        push(&mut items, first.tree)?;
+        let depth = first.depth;
+        let found = match following(tokens, scope.column, Between::Comma, first.end) {
+            None => ParsedItems {
+                items,
+                end: first.end,
+                depth,
+            },
+            Some(end) => {
+                let front = ParsedItems { items, end, depth };
+                self.exprs_behind(text, tokens, scope, Between::Comma, front)?
+            }
+        };
+        if !is_kind(close, seen(tokens, scope.column, found.end)) {
+            return Err(refused(tokens, scope.column, found.end));
+        }
+        Ok(ParsedItems {
+            items: found.items,
+            end: found.end + 1,
+            depth: found.depth,
+        })
+    }
+
+    /// A subscript: a name, a tuple or `(e)`.
+    #[tactic(auto, unfolding(crate::specs::ReadingBrackets::subscript), using(tla_grammar::proofs::Fails::refuses_fails))]
+    fn subscript(
+        &self,
+        text: &[u8],
+        tokens: &[Token],
+        scope: Scope,
+        from: usize,
+    ) -> Result<Parsed, Refusal>
+        requires nests { Nests self.now.depth (F.pre self.now.expr) (F.post self.now.expr) }
+        requires small { self.now.depth < 900 }
+        ensures { Gives text.now tokens.now (self.now.depth + 1) result (reading.subscript text.now tokens.now (expr text.now tokens.now self.now.depth) scope from) }
+    {
+        let Some(t) = seen(tokens, scope.column, from) else {
+            return Err(refused(tokens, scope.column, from));
+        };
+        match t.kind {
+            Kind::Name => Ok(Parsed {
+                tree: Expr::Name(written(self.alloc, text, t)?),
+                end: from + 1,
+                depth: 1,
+            }),
+            Kind::LeftTuple => self.listing(text, tokens, scope, t.place, Brackets::Tuple, from),
+            Kind::LeftParen => self.paren(text, tokens, scope, t.place, from),
+            _ => Err(refused(tokens, scope.column, from)),
+        }
+    }
+
+    /// The action that began at a token of this number, with the subscript behind its closing bracket.
+    #[tactic(auto, unfolding(crate::specs::ReadingBrackets::action))]
+    fn action(
+        &self,
+        text: &[u8],
+        tokens: &[Token],
+        scope: Scope,
+        start: usize,
+        at: Place,
+        step: Step,
+        first: Parsed,
+    ) -> Result<Parsed, Refusal>
+        requires nests { Nests self.now.depth (F.pre self.now.expr) (F.post self.now.expr) }
+        requires within { first.end < length tokens.now }
+        requires depth { first.depth ≡ edges.depth (view first.tree) }
+        requires shallow { first.depth ≤ self.now.depth }
+        requires small { self.now.depth < 900 }
+        ensures { Gives text.now tokens.now (self.now.depth + 1) result (reading.action text.now tokens.now (expr text.now tokens.now self.now.depth) (self.now.depth + 1) scope at step (view first.tree) first.end) }
+    {
+        let action = child_of(self.alloc, first)?;
+        let subscript = self.subscript(text, tokens, scope, action.end + 1)?;
+        let subscript = child_of(self.alloc, subscript)?;
+        let depth = action.depth.max(subscript.depth) + 1;
+        if depth > self.depth + 1 {
+            return Err(Refusal::Nesting(start));
+        }
+        Ok(Parsed {
+            tree: Expr::Action(at, step, action.tree, subscript.tree),
+            end: subscript.end,
+            depth,
+        })
+    }
+
+    /// `WF_v(A)` or `SF_v(A)`
+    #[tactic(auto, unfolding(crate::specs::ReadingBrackets::fair))]
+    pub fn fair(
+        &self,
+        text: &[u8],
+        tokens: &[Token],
+        scope: Scope,
+        at: Place,
+        fairness: Fairness,
+        from: usize,
+    ) -> Result<Parsed, Refusal>
+        requires nests { Nests self.now.depth (F.pre self.now.expr) (F.post self.now.expr) }
+        requires within { from < length tokens.now }
+        requires small { self.now.depth < 900 }
+        ensures { Gives text.now tokens.now (self.now.depth + 1) result (reading.fair text.now tokens.now (expr text.now tokens.now self.now.depth) (self.now.depth + 1) scope at fairness from) }
+    {
+        let subscript = self.subscript(text, tokens, scope, from + 1)?;
+        let subscript = child_of(self.alloc, subscript)?;
+        if !is_kind(Kind::LeftParen, seen(tokens, scope.column, subscript.end)) {
+            return Err(refused(tokens, scope.column, subscript.end));
+        }
+        let action = self.child(text, tokens, scope, 0, subscript.end + 1)?;
+        if !is_kind(Kind::RightParen, seen(tokens, scope.column, action.end)) {
+            return Err(refused(tokens, scope.column, action.end));
+        }
+        let depth = subscript.depth.max(action.depth) + 1;
+        if depth > self.depth + 1 {
+            return Err(Refusal::Nesting(from));
+        }
+        Ok(Parsed {
+            tree: Expr::Fair(at, fairness, subscript.tree, action.tree),
+            end: action.end + 1,
+            depth,
+        })
+    }
+
+    /// `{x \in S : p}`
+    #[tactic(auto, unfolding(crate::specs::ReadingBrackets::filter))]
+    fn filter(
+        &self,
+        text: &[u8],
+        tokens: &[Token],
+        scope: Scope,
+        at: Place,
+        from: usize,
+    ) -> Result<Parsed, Refusal>
+        requires nests { Nests self.now.depth (F.pre self.now.expr) (F.post self.now.expr) }
+        requires within { from < length tokens.now }
+        requires small { self.now.depth < 900 }
+        ensures { Gives text.now tokens.now (self.now.depth + 1) result (reading.filter text.now tokens.now (expr text.now tokens.now self.now.depth) scope at from) }
+    {
+        let found = self.one_group(text, tokens, scope, None, from + 1)?;
+        let set = set_of_binder(self.alloc, found)?;
+        if !is_kind(Kind::Colon, seen(tokens, scope.column, set.end)) {
+            return Err(refused(tokens, scope.column, set.end));
+        }
+        let test = self.child(text, tokens, scope, 0, set.end + 1)?;
+        if !is_kind(Kind::RightBrace, seen(tokens, scope.column, test.end)) {
+            return Err(refused(tokens, scope.column, test.end));
+        }
+        Ok(Parsed {
+            tree: Expr::Filter(at, set.pattern, set.set, test.tree),
+            end: test.end + 1,
+            depth: set.depth.max(test.depth) + 1,
+        })
+    }
+
+    /// `{e : x, y \in S}`, behind e.
+    #[tactic(auto, unfolding(crate::specs::ReadingBrackets::image))]
+    fn image(
+        &self,
+        text: &[u8],
+        tokens: &[Token],
+        scope: Scope,
+        at: Place,
+        first: Parsed,
+    ) -> Result<Parsed, Refusal>
+        requires nests { Nests self.now.depth (F.pre self.now.expr) (F.post self.now.expr) }
+        requires within { first.end < length tokens.now }
+        requires depth { first.depth ≡ edges.depth (view first.tree) }
+        requires shallow { first.depth ≤ self.now.depth }
+        requires small { self.now.depth < 900 }
+        ensures { Gives text.now tokens.now (self.now.depth + 1) result (reading.image text.now tokens.now (expr text.now tokens.now self.now.depth) scope at (view first.tree) first.end) }
+    {
+        let element = child_of(self.alloc, first)?;
+        let found = self.groups(text, tokens, scope, None, element.end + 1)?;
+        if !is_kind(Kind::RightBrace, seen(tokens, scope.column, found.end)) {
+            return Err(refused(tokens, scope.column, found.end));
+        }
+        Ok(Parsed {
+            tree: image_of(at, element.tree, found.binders),
+            end: found.end + 1,
+            depth: element.depth.max(found.depth) + 1,
+        })
+    }
+
+    /// A set, behind its first expression.
+    #[tactic(auto, unfolding(crate::specs::ReadingBrackets::set_of))]
+    fn set_of(
+        &self,
+        text: &[u8],
+        tokens: &[Token],
+        scope: Scope,
+        at: Place,
+        from: usize,
+        first: Parsed,
+    ) -> Result<Parsed, Refusal>
+        requires nests { Nests self.now.depth (F.pre self.now.expr) (F.post self.now.expr) }
+        requires within { from < length tokens.now }
+        requires depth { first.depth ≡ edges.depth (view first.tree) }
+        requires shallow { first.depth ≤ self.now.depth }
+        requires small { self.now.depth < 900 }
+        ensures { Gives text.now tokens.now (self.now.depth + 1) result (reading.set_of text.now tokens.now (expr text.now tokens.now self.now.depth) scope at from (view first.tree) first.end) }
+    {
+        if is_kind(Kind::Colon, seen(tokens, scope.column, first.end)) {
+            if binds(tokens, scope.column, from + 1).is_some() {
+                let end = first.end;
+                drop(first);
+                return Err(refused(tokens, scope.column, end));
+            }
+            return self.image(text, tokens, scope, at, first);
+        }
+        let found = self.others(text, tokens, scope, Kind::RightBrace, first)?;
+        let end = found.end;
+        let depth = found.depth + 1;
+        Ok(Parsed {
+            tree: listing_of(at, Brackets::Set, found.items),
+            end,
+            depth,
+        })
+    }
+
+    /// A form in braces.
+    #[tactic(auto, unfolding(crate::specs::ReadingBrackets::brace))]
+    pub fn brace(
+        &self,
+        text: &[u8],
+        tokens: &[Token],
+        scope: Scope,
+        at: Place,
+        from: usize,
+    ) -> Result<Parsed, Refusal>
+        requires nests { Nests self.now.depth (F.pre self.now.expr) (F.post self.now.expr) }
+        requires within { from < length tokens.now }
+        requires small { self.now.depth < 900 }
+        ensures { Gives text.now tokens.now (self.now.depth + 1) result (reading.brace text.now tokens.now (expr text.now tokens.now self.now.depth) scope at from) }
+    {
+        if is_kind(Kind::RightBrace, seen(tokens, scope.column, from + 1)) {
+            return Ok(Parsed {
+                tree: listing_of(at, Brackets::Set, Vec::new(self.alloc)),
+                end: from + 2,
+                depth: 1,
+            });
+        }
+        if filters(tokens, scope.column, from + 1) {
+            return self.filter(text, tokens, scope, at, from);
+        }
+        let first = self.inner(text, tokens, scope, 0, from + 1)?;
+        self.set_of(text, tokens, scope, at, from, first)
+    }
+
+    /// `<<e, ..>>` or `<<A>>_v`
+    #[tactic(auto, unfolding(crate::specs::ReadingBrackets::tuple))]
+    pub fn tuple(
+        &self,
+        text: &[u8],
+        tokens: &[Token],
+        scope: Scope,
+        at: Place,
+        from: usize,
+    ) -> Result<Parsed, Refusal>
+        requires nests { Nests self.now.depth (F.pre self.now.expr) (F.post self.now.expr) }
+        requires within { from < length tokens.now }
+        requires small { self.now.depth < 900 }
+        ensures { Gives text.now tokens.now (self.now.depth + 1) result (reading.tuple text.now tokens.now (expr text.now tokens.now self.now.depth) (self.now.depth + 1) scope at from) }
+    {
+        if is_kind(Kind::RightTuple, seen(tokens, scope.column, from + 1)) {
+            return Ok(Parsed {
+                tree: listing_of(at, Brackets::Tuple, Vec::new(self.alloc)),
+                end: from + 2,
+                depth: 1,
+            });
+        }
+        let first = self.inner(text, tokens, scope, 0, from + 1)?;
+        if is_kind(
+            Kind::RightTupleSubscript,
+            seen(tokens, scope.column, first.end),
+        ) {
+            return self.action(text, tokens, scope, from, at, Step::Angle, first);
+        }
+        let found = self.others(text, tokens, scope, Kind::RightTuple, first)?;
+        let end = found.end;
+        let depth = found.depth + 1;
+        Ok(Parsed {
+            tree: listing_of(at, Brackets::Tuple, found.items),
+            end,
+            depth,
+        })
+    }
+
+    /// `[x, y \in S |-> e]`
+    #[tactic(auto, unfolding(crate::specs::ReadingBrackets::mapping))]
+    fn mapping(
+        &self,
+        text: &[u8],
+        tokens: &[Token],
+        scope: Scope,
+        at: Place,
+        from: usize,
+    ) -> Result<Parsed, Refusal>
+        requires nests { Nests self.now.depth (F.pre self.now.expr) (F.post self.now.expr) }
+        requires within { from < length tokens.now }
+        requires small { self.now.depth < 900 }
+        ensures { Gives text.now tokens.now (self.now.depth + 1) result (reading.mapping text.now tokens.now (expr text.now tokens.now self.now.depth) scope at from) }
+    {
+        let found = self.groups(text, tokens, scope, None, from + 1)?;
+        if !is_kind(Kind::MapsTo, seen(tokens, scope.column, found.end)) {
+            return Err(refused(tokens, scope.column, found.end));
+        }
+        let body = self.child(text, tokens, scope, 0, found.end + 1)?;
+        if !is_kind(Kind::RightBracket, seen(tokens, scope.column, body.end)) {
+            return Err(refused(tokens, scope.column, body.end));
+        }
+        Ok(Parsed {
+            tree: mapping_of(at, found.binders, body.tree),
+            end: body.end + 1,
+            depth: found.depth.max(body.depth) + 1,
+        })
+    }
+
+    /// `[S -> T]`, behind S.
+    #[tactic(auto, unfolding(crate::specs::ReadingBrackets::function_set))]
+    fn function_set(
+        &self,
+        text: &[u8],
+        tokens: &[Token],
+        scope: Scope,
+        at: Place,
+        first: Parsed,
+    ) -> Result<Parsed, Refusal>
+        requires nests { Nests self.now.depth (F.pre self.now.expr) (F.post self.now.expr) }
+        requires within { first.end < length tokens.now }
+        requires depth { first.depth ≡ edges.depth (view first.tree) }
+        requires shallow { first.depth ≤ self.now.depth }
+        requires small { self.now.depth < 900 }
+        ensures { Gives text.now tokens.now (self.now.depth + 1) result (reading.function_set text.now tokens.now (expr text.now tokens.now self.now.depth) scope at (view first.tree) first.end) }
+    {
+        let domain = child_of(self.alloc, first)?;
+        let range = self.child(text, tokens, scope, 0, domain.end + 1)?;
+        if !is_kind(Kind::RightBracket, seen(tokens, scope.column, range.end)) {
+            return Err(refused(tokens, scope.column, range.end));
+        }
+        Ok(Parsed {
+            tree: Expr::FunctionSet(at, domain.tree, range.tree),
+            end: range.end + 1,
+            depth: domain.depth.max(range.depth) + 1,
+        })
+    }
+
+    /// A form in brackets that begins with an expression, behind that.
+    #[tactic(auto, unfolding(crate::specs::ReadingBrackets::behind_first))]
+    fn behind_first(
+        &self,
+        text: &[u8],
+        tokens: &[Token],
+        scope: Scope,
+        at: Place,
+        start: usize,
+        first: Parsed,
+    ) -> Result<Parsed, Refusal>
+        requires nests { Nests self.now.depth (F.pre self.now.expr) (F.post self.now.expr) }
+        requires depth { first.depth ≡ edges.depth (view first.tree) }
+        requires shallow { first.depth ≤ self.now.depth }
+        requires small { self.now.depth < 900 }
+        ensures { Gives text.now tokens.now (self.now.depth + 1) result (reading.behind_first text.now tokens.now (expr text.now tokens.now self.now.depth) (self.now.depth + 1) scope at (view first.tree) first.end) }
+    {
+        if is_kind(Kind::Arrow, seen(tokens, scope.column, first.end)) {
+            return self.function_set(text, tokens, scope, at, first);
+        }
+        if is_kind(Kind::Except, seen(tokens, scope.column, first.end)) {
+            return self.except(text, tokens, scope, at, first);
+        }
+        if !is_kind(
+            Kind::RightBracketSubscript,
+            seen(tokens, scope.column, first.end),
+        ) {
+            let end = first.end;
+            drop(first);
+            return Err(refused(tokens, scope.column, end));
+        }
+        self.action(text, tokens, scope, start, at, Step::Box, first)
+    }
+
+    /// A form in brackets.
+    #[tactic(auto, unfolding(crate::specs::ReadingBrackets::bracket))]
+    pub fn bracket(
+        &self,
+        text: &[u8],
+        tokens: &[Token],
+        scope: Scope,
+        at: Place,
+        from: usize,
+    ) -> Result<Parsed, Refusal>
+        requires nests { Nests self.now.depth (F.pre self.now.expr) (F.post self.now.expr) }
+        requires within { from < length tokens.now }
+        requires small { self.now.depth < 900 }
+        ensures { Gives text.now tokens.now (self.now.depth + 1) result (reading.bracket text.now tokens.now (expr text.now tokens.now self.now.depth) (self.now.depth + 1) scope at from) }
+    {
+        match opened_by(tokens, scope.column, from + 1) {
+            Opened::Record => self.record(text, tokens, scope, at, from),
+            Opened::RecordSet => self.record_set(text, tokens, scope, at, from),
+            Opened::Binders => self.mapping(text, tokens, scope, at, from),
+            Opened::Expression => {
+                let first = self.inner(text, tokens, scope, 0, from + 1)?;
+                self.behind_first(text, tokens, scope, at, from, first)
+            }
+        }
+    }
+}

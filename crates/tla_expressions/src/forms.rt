@@ -1,0 +1,377 @@
+//! Forms that begin with a word or a quantifier, and definitions.
+
+ghost use Rattle.std.specs.Prelude.{◌+◌, ◌-◌, ◌≤◌, ◌<◌, length, []};
+ghost use Rattle.tla_expressions.specs.Reading as reading;
+ghost use Rattle.tla_expressions.specs.Gives.{Gives, GivesArm, GivesArms, GivesDefinition, GivesDefinitions};
+ghost use Rattle.tla_expressions.specs.Private.Nests.{Nests};
+
+use crate::grammar::Grammar;
+use crate::names::parameters;
+use crate::parts::{
+    Parsed, ParsedArm, ParsedArms, ParsedDefinition, ParsedDefinitions, arm_of, case_of,
+    case_with_other, function_of, let_of, quantified_of, set_of_binder,
+};
+use std::alloc::Global;
+use tla_grammar::{
+    Between, Refusal, Scope, following, is_kind, name_at, push, refused, refused_parameter, seen,
+    written,
+};
+use tla_lex::{Kind, Place, Token};
+use tla_tree::{Definition, Expr, Quantifier};
+
+impl<F: Fn(Global, &[u8], &[Token], usize, Scope, u8, usize) -> Result<Parsed, Refusal>> Grammar<
+    F,
+> {
+    /// `\A x, y \in S, z \in T : p` or `\E x, y \in S, z \in T : p`
+    #[tactic(auto, unfolding(crate::specs::Reading::quantified))]
+    pub fn quantified(
+        &self,
+        text: &[u8],
+        tokens: &[Token],
+        scope: Scope,
+        at: Place,
+        quantifier: Quantifier,
+        from: usize,
+    ) -> Result<Parsed, Refusal>
+        requires nests { Nests self.now.depth (F.pre self.now.expr) (F.post self.now.expr) }
+        requires within { from < length tokens.now }
+        requires small { self.now.depth < 900 }
+        ensures { Gives text.now tokens.now (self.now.depth + 1) result (reading.quantified text.now tokens.now (reading.expr text.now tokens.now self.now.depth) scope at quantifier from) }
+    {
+        let found = self.groups(text, tokens, scope, Some(from), from + 1)?;
+        if !is_kind(Kind::Colon, seen(tokens, scope.column, found.end)) {
+            return Err(refused(tokens, scope.column, found.end));
+        }
+        let body = self.child(text, tokens, scope, 0, found.end + 1)?;
+        Ok(Parsed {
+            tree: quantified_of(at, quantifier, found.binders, body.tree),
+            end: body.end,
+            depth: found.depth.max(body.depth) + 1,
+        })
+    }
+
+    /// `CHOOSE x \in S : p`
+    #[tactic(auto, unfolding(crate::specs::Reading::chosen))]
+    pub fn chosen(
+        &self,
+        text: &[u8],
+        tokens: &[Token],
+        scope: Scope,
+        at: Place,
+        from: usize,
+    ) -> Result<Parsed, Refusal>
+        requires nests { Nests self.now.depth (F.pre self.now.expr) (F.post self.now.expr) }
+        requires within { from < length tokens.now }
+        requires small { self.now.depth < 900 }
+        ensures { Gives text.now tokens.now (self.now.depth + 1) result (reading.chosen text.now tokens.now (reading.expr text.now tokens.now self.now.depth) scope at from) }
+    {
+        let found = self.one_group(text, tokens, scope, Some(from), from + 1)?;
+        let set = set_of_binder(self.alloc, found)?;
+        if !is_kind(Kind::Colon, seen(tokens, scope.column, set.end)) {
+            return Err(refused(tokens, scope.column, set.end));
+        }
+        let body = self.child(text, tokens, scope, 0, set.end + 1)?;
+        Ok(Parsed {
+            tree: Expr::Choose(at, set.pattern, set.set, body.tree),
+            end: body.end,
+            depth: set.depth.max(body.depth) + 1,
+        })
+    }
+
+    /// `IF p THEN a ELSE b`
+    #[tactic(auto, unfolding(crate::specs::Reading::choice))]
+    pub fn choice(
+        &self,
+        text: &[u8],
+        tokens: &[Token],
+        scope: Scope,
+        at: Place,
+        from: usize,
+    ) -> Result<Parsed, Refusal>
+        requires nests { Nests self.now.depth (F.pre self.now.expr) (F.post self.now.expr) }
+        requires within { from < length tokens.now }
+        requires small { self.now.depth < 900 }
+        ensures { Gives text.now tokens.now (self.now.depth + 1) result (reading.choice text.now tokens.now (reading.expr text.now tokens.now self.now.depth) scope at from) }
+    {
+        let condition = self.child(text, tokens, scope, 0, from + 1)?;
+        if !is_kind(Kind::Then, seen(tokens, scope.column, condition.end)) {
+            return Err(refused(tokens, scope.column, condition.end));
+        }
+        let first = self.child(text, tokens, scope, 0, condition.end + 1)?;
+        if !is_kind(Kind::Else, seen(tokens, scope.column, first.end)) {
+            return Err(refused(tokens, scope.column, first.end));
+        }
+        let second = self.child(text, tokens, scope, 0, first.end + 1)?;
+        Ok(Parsed {
+            tree: Expr::If(at, condition.tree, first.tree, second.tree),
+            end: second.end,
+            depth: condition.depth.max(first.depth.max(second.depth)) + 1,
+        })
+    }
+
+    /// An arm of CASE.
+    #[tactic(auto, unfolding(crate::specs::Reading::arm_at))]
+    fn arm_at(
+        &self,
+        text: &[u8],
+        tokens: &[Token],
+        scope: Scope,
+        from: usize,
+    ) -> Result<ParsedArm, Refusal>
+        requires nests { Nests self.now.depth (F.pre self.now.expr) (F.post self.now.expr) }
+        ensures { GivesArm text.now tokens.now self.now.depth result (reading.arm_at text.now tokens.now (reading.expr text.now tokens.now self.now.depth) scope from) }
+    {
+        let guard = self.inner(text, tokens, scope, 0, from)?;
+        let end = guard.end;
+        if !is_kind(Kind::Arrow, seen(tokens, scope.column, end)) {
+            drop(guard);
+            return Err(refused(tokens, scope.column, end));
+        }
+        match self.inner(text, tokens, scope, 0, end + 1) {
+            Ok(value) => Ok(arm_of(guard, value)),
+            Err(refusal) => {
+                drop(guard);
+                Err(refusal)
+            }
+        }
+    }
+
+    /// The arms of CASE, but for OTHER.
+    #[tactic(auto, using(crate::proofs::Steps::arms_depth_snoc))]
+    fn arms_at(
+        &self,
+        text: &[u8],
+        tokens: &[Token],
+        scope: Scope,
+        from: usize,
+    ) -> Result<ParsedArms, Refusal>
+        requires nests { Nests self.now.depth (F.pre self.now.expr) (F.post self.now.expr) }
+        ensures { GivesArms text.now tokens.now self.now.depth result (reading.arms_at text.now tokens.now (reading.expr text.now tokens.now self.now.depth) (length tokens.now) [] scope from) }
+    {
+        let mut arms = Vec::new(self.alloc);
+        let mut depth = 0;
+        let mut at = from;
+        for _turn in 0..tokens.len() {
+            let found = self.arm_at(text, tokens, scope, at)?;
+            let end = found.end;
+            depth = depth.max(found.depth);
+            push(&mut arms, found.arm)?;
+            let Some(next) = following(tokens, scope.column, Between::Arm, end) else {
+                return Ok(ParsedArms { arms, end, depth });
+            };
+            at = next;
+        }
+        Err(refused(tokens, scope.column, at))
+    }
+
+    /// `CASE p -> a [] .. [] OTHER -> b`
+    #[tactic(auto, unfolding(crate::specs::Reading::cases))]
+    pub fn cases(
+        &self,
+        text: &[u8],
+        tokens: &[Token],
+        scope: Scope,
+        at: Place,
+        from: usize,
+    ) -> Result<Parsed, Refusal>
+        requires nests { Nests self.now.depth (F.pre self.now.expr) (F.post self.now.expr) }
+        requires within { from < length tokens.now }
+        requires small { self.now.depth < 900 }
+        ensures { Gives text.now tokens.now (self.now.depth + 1) result (reading.cases text.now tokens.now (reading.expr text.now tokens.now self.now.depth) scope at from) }
+    {
+        let found = self.arms_at(text, tokens, scope, from + 1)?;
+        let end = found.end;
+        if !is_kind(Kind::Box, seen(tokens, scope.column, end)) {
+            let depth = found.depth + 1;
+            return Ok(Parsed {
+                tree: case_of(at, found.arms),
+                end,
+                depth,
+            });
+        }
+        if !is_kind(Kind::Other, seen(tokens, scope.column, end + 1)) {
+            return Err(refused(tokens, scope.column, end + 1));
+        }
+        if !is_kind(Kind::Arrow, seen(tokens, scope.column, end + 2)) {
+            return Err(refused(tokens, scope.column, end + 2));
+        }
+        let value = self.child(text, tokens, scope, 0, end + 3)?;
+        Ok(Parsed {
+            tree: case_with_other(at, found.arms, value.tree),
+            end: value.end,
+            depth: found.depth.max(value.depth) + 1,
+        })
+    }
+
+    /// `Op(p, ..) == e`, from its first parameter on; the name is the token at `form`.
+    #[tactic(auto, unfolding(crate::specs::Reading::operator))]
+    fn operator(
+        &self,
+        text: &[u8],
+        tokens: &[Token],
+        scope: Scope,
+        t: Token,
+        form: usize,
+        from: usize,
+    ) -> Result<ParsedDefinition, Refusal>
+        requires nests { Nests self.now.depth (F.pre self.now.expr) (F.post self.now.expr) }
+        requires within { from ≤ length tokens.now }
+        ensures { GivesDefinition text.now tokens.now self.now.depth result (reading.operator text.now tokens.now (reading.expr text.now tokens.now self.now.depth) scope t from) }
+    {
+        let found = parameters(self.alloc, text, tokens, scope.column, form, from)?;
+        let end = found.end;
+        if !is_kind(Kind::RightParen, seen(tokens, scope.column, end)) {
+            return Err(refused_parameter(tokens, scope.column, form, end));
+        }
+        if !is_kind(Kind::Define, seen(tokens, scope.column, end + 1)) {
+            return Err(refused(tokens, scope.column, end + 1));
+        }
+        let name = written(self.alloc, text, t)?;
+        let body = self.inner(text, tokens, scope, 0, end + 2)?;
+        Ok(ParsedDefinition {
+            definition: Definition::Operator(name, found.names, body.tree),
+            end: body.end,
+            depth: body.depth,
+        })
+    }
+
+    /// `f[x \in S, ..] == e`, where the name is the token at `form`.
+    #[tactic(auto, unfolding(crate::specs::Reading::function))]
+    fn function(
+        &self,
+        text: &[u8],
+        tokens: &[Token],
+        scope: Scope,
+        t: Token,
+        form: usize,
+    ) -> Result<ParsedDefinition, Refusal>
+        requires nests { Nests self.now.depth (F.pre self.now.expr) (F.post self.now.expr) }
+        requires within { form + 2 ≤ length tokens.now }
+        ensures { GivesDefinition text.now tokens.now self.now.depth result (reading.function text.now tokens.now (reading.expr text.now tokens.now self.now.depth) scope t (form + 2)) }
+    {
+        let found = self.groups(text, tokens, scope, None, form + 2)?;
+        let end = found.end;
+        if !is_kind(Kind::RightBracket, seen(tokens, scope.column, end)) {
+            return Err(refused(tokens, scope.column, end));
+        }
+        if !is_kind(Kind::Define, seen(tokens, scope.column, end + 1)) {
+            return Err(refused(tokens, scope.column, end + 1));
+        }
+        let name = written(self.alloc, text, t)?;
+        let body = self.inner(text, tokens, scope, 0, end + 2)?;
+        Ok(ParsedDefinition {
+            definition: function_of(name, found.binders, body.tree),
+            end: body.end,
+            depth: found.depth.max(body.depth),
+        })
+    }
+
+    /// The definition that begins with this name.
+    #[tactic(auto, unfolding(crate::specs::Reading::defined))]
+    fn defined(
+        &self,
+        text: &[u8],
+        tokens: &[Token],
+        scope: Scope,
+        t: Token,
+        from: usize,
+    ) -> Result<ParsedDefinition, Refusal>
+        requires nests { Nests self.now.depth (F.pre self.now.expr) (F.post self.now.expr) }
+        requires within { from < length tokens.now }
+        ensures { GivesDefinition text.now tokens.now self.now.depth result (reading.defined text.now tokens.now (reading.expr text.now tokens.now self.now.depth) scope t from) }
+    {
+        if is_kind(Kind::Define, seen(tokens, scope.column, from + 1)) {
+            let name = written(self.alloc, text, t)?;
+            let body = self.inner(text, tokens, scope, 0, from + 2)?;
+            return Ok(ParsedDefinition {
+                definition: Definition::Operator(name, Vec::new(self.alloc), body.tree),
+                end: body.end,
+                depth: body.depth,
+            });
+        }
+        if is_kind(Kind::LeftParen, seen(tokens, scope.column, from + 1)) {
+            return self.operator(text, tokens, scope, t, from, from + 2);
+        }
+        if !is_kind(Kind::LeftBracket, seen(tokens, scope.column, from + 1)) {
+            return Err(refused(tokens, scope.column, from + 1));
+        }
+        self.function(text, tokens, scope, t, from)
+    }
+
+    /// A definition.
+    #[tactic(auto, unfolding(crate::specs::Reading::definition))]
+    pub fn definition(
+        &self,
+        text: &[u8],
+        tokens: &[Token],
+        scope: Scope,
+        from: usize,
+    ) -> Result<ParsedDefinition, Refusal>
+        requires nests { Nests self.now.depth (F.pre self.now.expr) (F.post self.now.expr) }
+        ensures { GivesDefinition text.now tokens.now self.now.depth result (reading.definition text.now tokens.now (reading.expr text.now tokens.now self.now.depth) scope from) }
+    {
+        let Some(t) = name_at(seen(tokens, scope.column, from)) else {
+            return Err(refused(tokens, scope.column, from));
+        };
+        self.defined(text, tokens, scope, t, from)
+    }
+
+    /// The definitions of LET.
+    #[tactic(auto, using(crate::proofs::Steps::definitions_depth_snoc))]
+    fn definitions_at(
+        &self,
+        text: &[u8],
+        tokens: &[Token],
+        scope: Scope,
+        from: usize,
+    ) -> Result<ParsedDefinitions, Refusal>
+        requires nests { Nests self.now.depth (F.pre self.now.expr) (F.post self.now.expr) }
+        ensures { GivesDefinitions text.now tokens.now self.now.depth result (reading.definitions_at text.now tokens.now (reading.expr text.now tokens.now self.now.depth) (length tokens.now) [] scope from) }
+    {
+        let mut definitions = Vec::new(self.alloc);
+        let mut depth = 0;
+        let mut at = from;
+        for _turn in 0..tokens.len() {
+            let found = self.definition(text, tokens, scope, at)?;
+            let end = found.end;
+            depth = depth.max(found.depth);
+            push(&mut definitions, found.definition)?;
+            let Some(next) = following(tokens, scope.column, Between::Nothing, end) else {
+                return Ok(ParsedDefinitions {
+                    definitions,
+                    end,
+                    depth,
+                });
+            };
+            at = next;
+        }
+        Err(refused(tokens, scope.column, at))
+    }
+
+    /// `LET` definitions `IN e`
+    #[tactic(auto, unfolding(crate::specs::Reading::lets))]
+    pub fn lets(
+        &self,
+        text: &[u8],
+        tokens: &[Token],
+        scope: Scope,
+        at: Place,
+        from: usize,
+    ) -> Result<Parsed, Refusal>
+        requires nests { Nests self.now.depth (F.pre self.now.expr) (F.post self.now.expr) }
+        requires within { from < length tokens.now }
+        requires small { self.now.depth < 900 }
+        ensures { Gives text.now tokens.now (self.now.depth + 1) result (reading.lets text.now tokens.now (reading.expr text.now tokens.now self.now.depth) scope at from) }
+    {
+        let found = self.definitions_at(text, tokens, scope, from + 1)?;
+        if !is_kind(Kind::In, seen(tokens, scope.column, found.end)) {
+            return Err(refused(tokens, scope.column, found.end));
+        }
+        let body = self.child(text, tokens, scope, 0, found.end + 1)?;
+        Ok(Parsed {
+            tree: let_of(at, found.definitions, body.tree),
+            end: body.end,
+            depth: found.depth.max(body.depth) + 1,
+        })
+    }
+}

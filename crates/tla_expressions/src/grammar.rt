@@ -1,0 +1,464 @@
+//! Expressions, by precedence climbing. The rules take the reader of inner expressions as a parameter, so that each is proved by itself.
+
+ghost use Rattle.std.specs.Prelude.{◌≡◌, ◌+◌, ◌-◌, ◌≤◌, ◌<◌, length, [], Some};
+ghost use Rattle.tla_tree.specs.View.{view};
+ghost use Rattle.tla_grammar.specs.Edges as edges;
+ghost use Rattle.tla_grammar.specs.Tokens as spec;
+ghost use Rattle.tla_expressions.specs.Reading as reading;
+ghost use Rattle.tla_expressions.specs.Gives.{Gives, GivesChild, GivesDefinition};
+ghost use Rattle.tla_expressions.specs.Private.Nests.{Nests};
+
+use crate::parts::{Parsed, ParsedChild, ParsedDefinition, child_of, index_of};
+use std::alloc::Global;
+use tla_grammar::{
+    Postfix, Refusal, Scope, bullet_of, constant_of, edge_allows, high, is_product, name_at,
+    operator_at, postfix_at, prefix_high, prefix_of, quantifier_of, refused, seen, text_of,
+    written,
+};
+use tla_lex::{Kind, Place, Token};
+use tla_tree::{Expr, Fairness, Infix, Prefix};
+
+/// How deep the tree of an expression may be.
+pub const MAX_DEPTH: usize = 200;
+
+/// The rules of expressions, over a reader of the expressions in them.
+#[derive(Clone, Copy)]
+pub struct Grammar<F> {
+    pub alloc: Global,
+    /// How deep inner expressions may be.
+    pub depth: usize,
+    pub expr: F,
+}
+
+impl<F: Fn(Global, &[u8], &[Token], usize, Scope, u8, usize) -> Result<Parsed, Refusal>> Grammar<
+    F,
+> {
+    /// An expression one level deeper.
+    pub fn inner(
+        &self,
+        text: &[u8],
+        tokens: &[Token],
+        scope: Scope,
+        floor: u8,
+        at: usize,
+    ) -> Result<Parsed, Refusal>
+        requires { Nests self.now.depth (F.pre self.now.expr) (F.post self.now.expr) }
+        ensures { Gives text.now tokens.now self.now.depth result (reading.expr text.now tokens.now self.now.depth scope floor at) }
+    {
+        (self.expr)(self.alloc, text, tokens, self.depth, scope, floor, at)
+    }
+
+    /// The same, for a place in another tree.
+    pub fn child(
+        &self,
+        text: &[u8],
+        tokens: &[Token],
+        scope: Scope,
+        floor: u8,
+        at: usize,
+    ) -> Result<ParsedChild, Refusal>
+        requires { Nests self.now.depth (F.pre self.now.expr) (F.post self.now.expr) }
+        ensures { GivesChild text.now tokens.now self.now.depth result (reading.expr text.now tokens.now self.now.depth scope floor at) }
+    {
+        let found = self.inner(text, tokens, scope, floor, at)?;
+        child_of(self.alloc, found)
+    }
+
+    /// `f[e, ..]`, behind the tree, which begins at a token of this number.
+    #[tactic(auto, unfolding(crate::specs::Reading::indexed))]
+    fn indexed(
+        &self,
+        text: &[u8],
+        tokens: &[Token],
+        scope: Scope,
+        start: usize,
+        first: Parsed,
+    ) -> Result<Parsed, Refusal>
+        requires nests { Nests self.now.depth (F.pre self.now.expr) (F.post self.now.expr) }
+        requires within { first.end < length tokens.now }
+        requires depth { first.depth ≡ edges.depth (view first.tree) }
+        requires shallow { first.depth ≤ self.now.depth + 1 }
+        requires small { self.now.depth < 900 }
+        ensures { Gives text.now tokens.now (self.now.depth + 1) result (reading.indexed text.now tokens.now (reading.expr text.now tokens.now self.now.depth) (self.now.depth + 1) scope (view first.tree) first.end) }
+    {
+        let operand = child_of(self.alloc, first)?;
+        let found = self.some(text, tokens, scope, Kind::RightBracket, operand.end + 1)?;
+        let depth = operand.depth.max(found.depth) + 1;
+        if depth > self.depth + 1 {
+            return Err(Refusal::Nesting(start));
+        }
+        let at = operand.tree.place();
+        Ok(Parsed {
+            tree: index_of(at, operand.tree, found.items),
+            end: found.end,
+            depth,
+        })
+    }
+
+    /// One more postfix form behind the tree, which begins at a token of this number.
+    fn behind(
+        &self,
+        text: &[u8],
+        tokens: &[Token],
+        scope: Scope,
+        start: usize,
+        first: Parsed,
+        form: Postfix,
+    ) -> Result<Parsed, Refusal>
+        requires nests { Nests self.now.depth (F.pre self.now.expr) (F.post self.now.expr) }
+        requires within { first.end < length tokens.now }
+        requires depth { first.depth ≡ edges.depth (view first.tree) }
+        requires shallow { first.depth ≤ self.now.depth + 1 }
+        requires small { self.now.depth < 900 }
+        ensures { Gives text.now tokens.now (self.now.depth + 1) result (reading.behind text.now tokens.now (reading.expr text.now tokens.now self.now.depth) (self.now.depth + 1) scope (view first.tree) form first.end) }
+    {
+        match form {
+            Postfix::Index => self.indexed(text, tokens, scope, start, first),
+            Postfix::Prime => {
+                let operand = child_of(self.alloc, first)?;
+                let depth = operand.depth + 1;
+                if depth > self.depth + 1 {
+                    return Err(Refusal::Nesting(start));
+                }
+                let at = operand.tree.place();
+                Ok(Parsed {
+                    tree: Expr::Prime(at, operand.tree),
+                    end: operand.end + 1,
+                    depth,
+                })
+            }
+            Postfix::Field => {
+                let operand = child_of(self.alloc, first)?;
+                let Some(name) = name_at(seen(tokens, scope.column, operand.end + 1)) else {
+                    return Err(refused(tokens, scope.column, operand.end + 1));
+                };
+                let depth = operand.depth + 1;
+                if depth > self.depth + 1 {
+                    return Err(Refusal::Nesting(start));
+                }
+                let name = written(self.alloc, text, name)?;
+                let at = operand.tree.place();
+                Ok(Parsed {
+                    tree: Expr::Field(at, operand.tree, name),
+                    end: operand.end + 2,
+                    depth,
+                })
+            }
+        }
+    }
+
+    /// The closed form that begins at a token of this number, under the postfix forms that follow.
+    #[tactic(auto, using(crate::proofs::Steps::postfix_done, crate::proofs::Steps::postfix_more, crate::proofs::Steps::postfix_full))]
+    fn postfixes(
+        &self,
+        text: &[u8],
+        tokens: &[Token],
+        scope: Scope,
+        start: usize,
+        first: Parsed,
+    ) -> Result<Parsed, Refusal>
+        requires nests { Nests self.now.depth (F.pre self.now.expr) (F.post self.now.expr) }
+        requires depth { first.depth ≡ edges.depth (view first.tree) }
+        requires shallow { first.depth ≤ self.now.depth + 1 }
+        requires small { self.now.depth < 900 }
+        ensures { Gives text.now tokens.now (self.now.depth + 1) result (reading.postfixes text.now tokens.now (reading.expr text.now tokens.now self.now.depth) (self.now.depth + 1) scope (view first.tree) first.end) }
+    {
+        let mut left = first;
+        for _turn in 0..self.depth + 1 {
+            let Some(form) = postfix_at(seen(tokens, scope.column, left.end)) else {
+                return Ok(left);
+            };
+            left = self.behind(text, tokens, scope, start, left, form)?;
+        }
+        match postfix_at(seen(tokens, scope.column, left.end)) {
+            None => Ok(left),
+            Some(_) => {
+                drop(left);
+                Err(Refusal::Nesting(start))
+            }
+        }
+    }
+
+    /// A prefix operator, and its operand.
+    #[tactic(auto, unfolding(crate::specs::Reading::prefix))]
+    fn prefix(
+        &self,
+        text: &[u8],
+        tokens: &[Token],
+        scope: Scope,
+        op: Prefix,
+        at: Place,
+        from: usize,
+    ) -> Result<Parsed, Refusal>
+        requires nests { Nests self.now.depth (F.pre self.now.expr) (F.post self.now.expr) }
+        requires within { from < length tokens.now }
+        requires small { self.now.depth < 900 }
+        ensures { Gives text.now tokens.now (self.now.depth + 1) result (reading.prefix text.now tokens.now (reading.expr text.now tokens.now self.now.depth) scope op at from) }
+    {
+        let e = self.child(text, tokens, scope, prefix_high(op), from + 1)?;
+        Ok(Parsed {
+            tree: Expr::Unary(at, op, e.tree),
+            end: e.end,
+            depth: e.depth + 1,
+        })
+    }
+
+    /// The tree, which begins at a token of this number, under one more operator.
+    #[tactic(auto, unfolding(crate::specs::Reading::turn))]
+    fn turn(
+        &self,
+        text: &[u8],
+        tokens: &[Token],
+        scope: Scope,
+        start: usize,
+        left: Parsed,
+        op: Infix,
+    ) -> Result<Parsed, Refusal>
+        requires nests { Nests self.now.depth (F.pre self.now.expr) (F.post self.now.expr) }
+        requires within { left.end < length tokens.now }
+        requires depth { left.depth ≡ edges.depth (view left.tree) }
+        requires shallow { left.depth ≤ self.now.depth + 1 }
+        requires small { self.now.depth < 900 }
+        ensures { Gives text.now tokens.now (self.now.depth + 1) result (reading.turn text.now tokens.now (reading.expr text.now tokens.now self.now.depth) (self.now.depth + 1) scope (view left.tree) op left.end) }
+    {
+        if is_product(op) {
+            return self.product(text, tokens, scope, start, left);
+        }
+        let is_allowed = edge_allows(&left.tree, op);
+        let left = child_of(self.alloc, left)?;
+        if !is_allowed {
+            return Err(Refusal::Precedence(left.end));
+        }
+        let Some(sign) = seen(tokens, scope.column, left.end) else {
+            return Err(refused(tokens, scope.column, left.end));
+        };
+        let sign = written(self.alloc, text, sign)?;
+        let right = self.child(text, tokens, scope, high(op), left.end + 1)?;
+        let depth = left.depth.max(right.depth) + 1;
+        if depth > self.depth + 1 {
+            return Err(Refusal::Nesting(start));
+        }
+        let at = left.tree.place();
+        Ok(Parsed {
+            tree: Expr::Binary(at, op, sign, left.tree, right.tree),
+            end: right.end,
+            depth,
+        })
+    }
+
+    /// The operand that begins at a token of this number, under the operators that follow.
+    #[tactic(auto, using(crate::proofs::Steps::climb_done, crate::proofs::Steps::climb_more, crate::proofs::Steps::climb_full))]
+    fn climb(
+        &self,
+        text: &[u8],
+        tokens: &[Token],
+        scope: Scope,
+        floor: u8,
+        start: usize,
+        first: Parsed,
+    ) -> Result<Parsed, Refusal>
+        requires nests { Nests self.now.depth (F.pre self.now.expr) (F.post self.now.expr) }
+        requires depth { first.depth ≡ edges.depth (view first.tree) }
+        requires shallow { first.depth ≤ self.now.depth + 1 }
+        requires small { self.now.depth < 900 }
+        ensures { Gives text.now tokens.now (self.now.depth + 1) result (reading.climb text.now tokens.now (reading.expr text.now tokens.now self.now.depth) self.now.depth (self.now.depth + 1) scope floor (view first.tree) first.end) }
+    {
+        let mut left = first;
+        for _turn in 0..self.depth {
+            let Some(op) = operator_at(seen(tokens, scope.column, left.end), floor) else {
+                return Ok(left);
+            };
+            left = self.turn(text, tokens, scope, start, left, op)?;
+        }
+        match operator_at(seen(tokens, scope.column, left.end), floor) {
+            None => Ok(left),
+            Some(_) => {
+                drop(left);
+                Err(Refusal::Nesting(start))
+            }
+        }
+    }
+
+    /// A form of one token, and the postfix forms behind it.
+    fn atom(
+        &self,
+        text: &[u8],
+        tokens: &[Token],
+        scope: Scope,
+        from: usize,
+        tree: Expr,
+    ) -> Result<Parsed, Refusal>
+        requires nests { Nests self.now.depth (F.pre self.now.expr) (F.post self.now.expr) }
+        requires within { from < length tokens.now }
+        requires flat { edges.depth (view tree) ≡ 1 }
+        requires small { self.now.depth < 900 }
+        ensures { Gives text.now tokens.now (self.now.depth + 1) result (reading.postfixes text.now tokens.now (reading.expr text.now tokens.now self.now.depth) (self.now.depth + 1) scope (view tree) (from + 1)) }
+    {
+        let first = Parsed {
+            tree,
+            end: from + 1,
+            depth: 1,
+        };
+        self.postfixes(text, tokens, scope, from, first)
+    }
+
+    /// A form that begins with a bullet, a prefix operator, a quantifier or a word for a value.
+    #[tactic(auto, unfolding(crate::specs::Reading::by_class))]
+    fn by_class(
+        &self,
+        text: &[u8],
+        tokens: &[Token],
+        scope: Scope,
+        t: Token,
+        from: usize,
+    ) -> Result<Parsed, Refusal>
+        requires nests { Nests self.now.depth (F.pre self.now.expr) (F.post self.now.expr) }
+        requires within { from < length tokens.now }
+        requires token { spec.seen tokens.now scope.column from ≡ Some t }
+        requires small { self.now.depth < 900 }
+        ensures { Gives text.now tokens.now (self.now.depth + 1) result (reading.by_class text.now tokens.now (reading.expr text.now tokens.now self.now.depth) (self.now.depth + 1) scope t from) }
+    {
+        let at = t.place;
+        if let Some(bullet) = bullet_of(t.kind) {
+            let e = self.junction(text, tokens, scope, at, bullet, from)?;
+            return self.postfixes(text, tokens, scope, from, e);
+        }
+        if let Some(op) = prefix_of(t.kind) {
+            return self.prefix(text, tokens, scope, op, at, from);
+        }
+        if let Some(quantifier) = quantifier_of(t.kind) {
+            return self.quantified(text, tokens, scope, at, quantifier, from);
+        }
+        match constant_of(t.kind) {
+            Some(constant) => { self.atom(text, tokens, scope, from, Expr::Constant(at, constant)) }
+            None => Err(refused(tokens, scope.column, from)),
+        }
+    }
+
+    /// An expression whose top is no infix operator.
+    #[tactic(auto, unfolding(crate::specs::Reading::operand))]
+    fn operand(
+        &self,
+        text: &[u8],
+        tokens: &[Token],
+        scope: Scope,
+        from: usize,
+    ) -> Result<Parsed, Refusal>
+        requires nests { Nests self.now.depth (F.pre self.now.expr) (F.post self.now.expr) }
+        requires small { self.now.depth < 900 }
+        ensures { Gives text.now tokens.now (self.now.depth + 1) result (reading.operand text.now tokens.now (reading.expr text.now tokens.now self.now.depth) (self.now.depth + 1) scope from) }
+    {
+        let Some(t) = seen(tokens, scope.column, from) else {
+            return Err(refused(tokens, scope.column, from));
+        };
+        let at = t.place;
+        match t.kind {
+            Kind::Name => {
+                let e = self.named(text, tokens, scope, t, from)?;
+                self.postfixes(text, tokens, scope, from, e)
+            }
+            Kind::Number(n) => self.atom(text, tokens, scope, from, Expr::Number(at, n)),
+            Kind::At => {
+                if scope.updating {
+                    self.atom(text, tokens, scope, from, Expr::At(at))
+                } else {
+                    Err(refused(tokens, scope.column, from))
+                }
+            }
+            Kind::LeftParen => {
+                let e = self.paren(text, tokens, scope, at, from)?;
+                self.postfixes(text, tokens, scope, from, e)
+            }
+            Kind::Text => {
+                let word = text_of(self.alloc, text, t)?;
+                self.atom(text, tokens, scope, from, Expr::Text(at, word))
+            }
+            Kind::LeftBrace => {
+                let e = self.brace(text, tokens, scope, at, from)?;
+                self.postfixes(text, tokens, scope, from, e)
+            }
+            Kind::LeftTuple => {
+                let e = self.tuple(text, tokens, scope, at, from)?;
+                self.postfixes(text, tokens, scope, from, e)
+            }
+            Kind::LeftBracket => {
+                let e = self.bracket(text, tokens, scope, at, from)?;
+                self.postfixes(text, tokens, scope, from, e)
+            }
+            Kind::WeakFairness => {
+                let e = self.fair(text, tokens, scope, at, Fairness::Weak, from)?;
+                self.postfixes(text, tokens, scope, from, e)
+            }
+            Kind::StrongFairness => {
+                let e = self.fair(text, tokens, scope, at, Fairness::Strong, from)?;
+                self.postfixes(text, tokens, scope, from, e)
+            }
+            Kind::Choose => self.chosen(text, tokens, scope, at, from),
+            Kind::Case => self.cases(text, tokens, scope, at, from),
+            Kind::Let => self.lets(text, tokens, scope, at, from),
+            Kind::If => self.choice(text, tokens, scope, at, from),
+            _ => self.by_class(text, tokens, scope, t, from),
+        }
+    }
+
+    /// An expression, whose operand and operators may be one level deeper than inner expressions.
+    #[tactic(auto, unfolding(crate::specs::Reading::level))]
+    fn level(
+        &self,
+        text: &[u8],
+        tokens: &[Token],
+        scope: Scope,
+        floor: u8,
+        at: usize,
+    ) -> Result<Parsed, Refusal>
+        requires nests { Nests self.now.depth (F.pre self.now.expr) (F.post self.now.expr) }
+        requires small { self.now.depth < 900 }
+        ensures { Gives text.now tokens.now (self.now.depth + 1) result (reading.level text.now tokens.now (reading.expr text.now tokens.now self.now.depth) self.now.depth scope floor at) }
+    {
+        let first = self.operand(text, tokens, scope, at)?;
+        self.climb(text, tokens, scope, floor, at, first)
+    }
+}
+
+/// An expression of so many levels at most, in a scope, whose top is above a floor.
+#[tactic(auto, unfolding(crate::specs::Reading::expr))]
+pub fn expr(
+    alloc: Global,
+    text: &[u8],
+    tokens: &[Token],
+    depth: usize,
+    scope: Scope,
+    floor: u8,
+    at: usize,
+) -> Result<Parsed, Refusal>
+    requires { depth ≤ 200 }
+    ensures { Gives text.now tokens.now depth result (reading.expr text.now tokens.now depth scope floor at) }
+{
+    if depth == 0 {
+        return Err(Refusal::Nesting(at));
+    }
+    Grammar {
+        alloc,
+        depth: depth - 1,
+        expr,
+    }
+    .level(text, tokens, scope, floor, at)
+}
+
+/// A definition in a scope, whose expressions are of 200 levels at most.
+pub fn definition(
+    alloc: Global,
+    text: &[u8],
+    tokens: &[Token],
+    scope: Scope,
+    from: usize,
+) -> Result<ParsedDefinition, Refusal>
+    ensures { GivesDefinition text.now tokens.now 200 result (reading.definition text.now tokens.now (reading.expr text.now tokens.now 200) scope from) }
+{
+    Grammar {
+        alloc,
+        depth: MAX_DEPTH,
+        expr,
+    }
+    .definition(text, tokens, scope, from)
+}

@@ -1,0 +1,322 @@
+//! Lists of expressions, the forms that are lists, and binder lists.
+
+ghost use Rattle.std.specs.Prelude.{◌≡◌, ◌+◌, ◌-◌, ◌≤◌, ◌<◌, length, map, []};
+ghost use Rattle.tla_tree.specs.View.{view, pattern_view};
+ghost use Rattle.tla_tree.specs.Tree.{trees};
+ghost use Rattle.tla_grammar.specs.Edges as edges;
+ghost use Rattle.tla_expressions.specs.Reading as reading;
+ghost use Rattle.tla_expressions.specs.ReadingLists as lists;
+ghost use Rattle.tla_expressions.specs.Gives.{Gives, GivesItems, GivesTrees, GivesGroup, GivesGroups};
+ghost use Rattle.tla_expressions.specs.Private.Nests.{Nests};
+
+use crate::grammar::Grammar;
+use crate::names::{ParsedPattern, pattern, single};
+use crate::parts::{
+    Parsed, ParsedBinder, ParsedBinders, ParsedItems, call_of, junction_of, listing_of,
+};
+use std::alloc::Global;
+use tla_grammar::{
+    Between, Refusal, Scope, closing, following, is_kind, may_follow, push, refused,
+    refused_binder, seen, written,
+};
+use tla_lex::{Kind, Place, Token};
+use tla_tree::{Binder, Brackets, Bullet, Expr};
+
+impl<F: Fn(Global, &[u8], &[Token], usize, Scope, u8, usize) -> Result<Parsed, Refusal>> Grammar<
+    F,
+> {
+    /// Expressions with commas or bullets between them, one or more, behind those of a front that ends where the next begins.
+    #[tactic(auto, using(crate::proofs::Steps::depths_snoc))]
+    pub fn exprs_behind(
+        &self,
+        text: &[u8],
+        tokens: &[Token],
+        scope: Scope,
+        between: Between,
+        front: ParsedItems,
+    ) -> Result<ParsedItems, Refusal>
+        requires nests { Nests self.now.depth (F.pre self.now.expr) (F.post self.now.expr) }
+        requires depth { front.depth ≡ edges.depths (trees (map view front.items.items)) }
+        requires shallow { front.depth ≤ self.now.depth }
+        ensures { GivesItems text.now tokens.now self.now.depth result (lists.exprs text.now tokens.now (reading.expr text.now tokens.now self.now.depth) (length tokens.now) (map view front.items.items) scope between front.end) }
+    {
+        let mut items = front.items;
+        let mut depth = front.depth;
+        let mut at = front.end;
+        for _turn in 0..tokens.len() {
+            let e = self.inner(text, tokens, scope, 0, at)?;
+            let end = e.end;
+            depth = depth.max(e.depth);
+            push(&mut items, e.tree)?;
+            let Some(next) = following(tokens, scope.column, between, end) else {
+                return Ok(ParsedItems { items, end, depth });
+            };
+            at = next;
+        }
+        Err(refused(tokens, scope.column, at))
+    }
+
+    /// Expressions with commas or bullets between them, one or more.
+    pub fn exprs(
+        &self,
+        text: &[u8],
+        tokens: &[Token],
+        scope: Scope,
+        between: Between,
+        from: usize,
+    ) -> Result<ParsedItems, Refusal>
+        requires nests { Nests self.now.depth (F.pre self.now.expr) (F.post self.now.expr) }
+        ensures { GivesItems text.now tokens.now self.now.depth result (lists.exprs text.now tokens.now (reading.expr text.now tokens.now self.now.depth) (length tokens.now) [] scope between from) }
+    {
+        let front = ParsedItems {
+            items: Vec::new(self.alloc),
+            end: from,
+            depth: 0,
+        };
+        self.exprs_behind(text, tokens, scope, between, front)
+    }
+
+    /// Expressions with commas between them, one or more, and the closing bracket.
+    #[tactic(auto, unfolding(crate::specs::ReadingLists::some))]
+    pub fn some(
+        &self,
+        text: &[u8],
+        tokens: &[Token],
+        scope: Scope,
+        close: Kind,
+        from: usize,
+    ) -> Result<ParsedItems, Refusal>
+        requires nests { Nests self.now.depth (F.pre self.now.expr) (F.post self.now.expr) }
+        ensures { GivesTrees text.now tokens.now self.now.depth result (lists.some text.now tokens.now (reading.expr text.now tokens.now self.now.depth) scope close from) }
+    {
+        let found = self.exprs(text, tokens, scope, Between::Comma, from)?;
+        if !is_kind(close, seen(tokens, scope.column, found.end)) {
+            return Err(refused(tokens, scope.column, found.end));
+        }
+        Ok(ParsedItems {
+            items: found.items,
+            end: found.end + 1,
+            depth: found.depth,
+        })
+    }
+
+    /// `{e, ..}` or `<<e, ..>>`
+    #[tactic(auto, unfolding(crate::specs::ReadingLists::listing))]
+    pub fn listing(
+        &self,
+        text: &[u8],
+        tokens: &[Token],
+        scope: Scope,
+        at: Place,
+        brackets: Brackets,
+        from: usize,
+    ) -> Result<Parsed, Refusal>
+        requires nests { Nests self.now.depth (F.pre self.now.expr) (F.post self.now.expr) }
+        requires within { from < length tokens.now }
+        requires small { self.now.depth < 900 }
+        ensures { Gives text.now tokens.now (self.now.depth + 1) result (lists.listing text.now tokens.now (reading.expr text.now tokens.now self.now.depth) scope at brackets from) }
+    {
+        let close = closing(brackets);
+        if is_kind(close, seen(tokens, scope.column, from + 1)) {
+            return Ok(Parsed {
+                tree: listing_of(at, brackets, Vec::new(self.alloc)),
+                end: from + 2,
+                depth: 1,
+            });
+        }
+        let found = self.some(text, tokens, scope, close, from + 1)?;
+        let end = found.end;
+        let depth = found.depth + 1;
+        Ok(Parsed {
+            tree: listing_of(at, brackets, found.items),
+            end,
+            depth,
+        })
+    }
+
+    /// A name alone, or with arguments.
+    #[tactic(auto, unfolding(crate::specs::Reading::named, crate::specs::ReadingLists::call))]
+    pub fn named(
+        &self,
+        text: &[u8],
+        tokens: &[Token],
+        scope: Scope,
+        t: Token,
+        from: usize,
+    ) -> Result<Parsed, Refusal>
+        requires nests { Nests self.now.depth (F.pre self.now.expr) (F.post self.now.expr) }
+        requires within { from < length tokens.now }
+        requires small { self.now.depth < 900 }
+        ensures { Gives text.now tokens.now (self.now.depth + 1) result (reading.named text.now tokens.now (reading.expr text.now tokens.now self.now.depth) scope t from) }
+    {
+        let name = written(self.alloc, text, t)?;
+        if !is_kind(Kind::LeftParen, seen(tokens, scope.column, from + 1)) {
+            return Ok(Parsed {
+                tree: Expr::Name(name),
+                end: from + 1,
+                depth: 1,
+            });
+        }
+        let found = self.some(text, tokens, scope, Kind::RightParen, from + 2)?;
+        let end = found.end;
+        let depth = found.depth + 1;
+        Ok(Parsed {
+            tree: call_of(name, found.items),
+            end,
+            depth,
+        })
+    }
+
+    /// `(e)`
+    #[tactic(auto, unfolding(crate::specs::ReadingLists::paren))]
+    pub fn paren(
+        &self,
+        text: &[u8],
+        tokens: &[Token],
+        scope: Scope,
+        at: Place,
+        from: usize,
+    ) -> Result<Parsed, Refusal>
+        requires nests { Nests self.now.depth (F.pre self.now.expr) (F.post self.now.expr) }
+        requires within { from < length tokens.now }
+        requires small { self.now.depth < 900 }
+        ensures { Gives text.now tokens.now (self.now.depth + 1) result (lists.paren text.now tokens.now (reading.expr text.now tokens.now self.now.depth) scope at from) }
+    {
+        let e = self.child(text, tokens, scope, 0, from + 1)?;
+        if !is_kind(Kind::RightParen, seen(tokens, scope.column, e.end)) {
+            return Err(refused(tokens, scope.column, e.end));
+        }
+        Ok(Parsed {
+            tree: Expr::Paren(at, e.tree),
+            end: e.end + 1,
+            depth: e.depth + 1,
+        })
+    }
+
+    /// The set of an entry, behind its names. The form at `form` may be left out for its binders.
+    #[tactic(auto, unfolding(crate::specs::ReadingLists::set_behind))]
+    fn set_behind(
+        &self,
+        text: &[u8],
+        tokens: &[Token],
+        scope: Scope,
+        form: Option<usize>,
+        front: ParsedPattern,
+    ) -> Result<ParsedBinder, Refusal>
+        requires { Nests self.now.depth (F.pre self.now.expr) (F.post self.now.expr) }
+        ensures { GivesGroup text.now tokens.now self.now.depth result (lists.set_behind text.now tokens.now (reading.expr text.now tokens.now self.now.depth) scope (pattern_view front.pattern) front.end) }
+    {
+        if !is_kind(Kind::Member, seen(tokens, scope.column, front.end)) {
+            return Err(refused_binder(tokens, scope.column, form, front.end));
+        }
+        let set = self.inner(text, tokens, scope, 0, front.end + 1)?;
+        Ok(ParsedBinder {
+            binder: Binder {
+                pattern: front.pattern,
+                set: set.tree,
+            },
+            end: set.end,
+            depth: set.depth,
+        })
+    }
+
+    /// An entry of a binder list. The form at `form` may be left out for its binders.
+    #[tactic(auto, unfolding(crate::specs::ReadingLists::group))]
+    pub fn group(
+        &self,
+        text: &[u8],
+        tokens: &[Token],
+        scope: Scope,
+        form: Option<usize>,
+        from: usize,
+    ) -> Result<ParsedBinder, Refusal>
+        requires nests { Nests self.now.depth (F.pre self.now.expr) (F.post self.now.expr) }
+        requires within { from ≤ length tokens.now }
+        ensures { GivesGroup text.now tokens.now self.now.depth result (lists.group text.now tokens.now (reading.expr text.now tokens.now self.now.depth) scope from) }
+    {
+        let front = pattern(self.alloc, text, tokens, scope.column, from)?;
+        self.set_behind(text, tokens, scope, form, front)
+    }
+
+    /// An entry of one element. The form at `form` may be left out for it.
+    #[tactic(auto, unfolding(crate::specs::ReadingLists::one_group))]
+    pub fn one_group(
+        &self,
+        text: &[u8],
+        tokens: &[Token],
+        scope: Scope,
+        form: Option<usize>,
+        from: usize,
+    ) -> Result<ParsedBinder, Refusal>
+        requires nests { Nests self.now.depth (F.pre self.now.expr) (F.post self.now.expr) }
+        requires within { from ≤ length tokens.now }
+        ensures { GivesGroup text.now tokens.now self.now.depth result (lists.one_group text.now tokens.now (reading.expr text.now tokens.now self.now.depth) scope from) }
+    {
+        let front = single(self.alloc, text, tokens, scope.column, from)?;
+        self.set_behind(text, tokens, scope, form, front)
+    }
+
+    /// A binder list. The form at `form` may be left out for its binders.
+    #[tactic(auto, using(crate::proofs::Steps::bound_depth_snoc))]
+    pub fn groups(
+        &self,
+        text: &[u8],
+        tokens: &[Token],
+        scope: Scope,
+        form: Option<usize>,
+        from: usize,
+    ) -> Result<ParsedBinders, Refusal>
+        requires nests { Nests self.now.depth (F.pre self.now.expr) (F.post self.now.expr) }
+        requires within { from ≤ length tokens.now }
+        ensures { GivesGroups text.now tokens.now self.now.depth result (lists.groups text.now tokens.now (reading.expr text.now tokens.now self.now.depth) (length tokens.now) [] scope from) }
+    {
+        let mut binders = Vec::new(self.alloc);
+        let mut depth = 0;
+        let mut at = from;
+        for _turn in 0..tokens.len() {
+            let group = self.group(text, tokens, scope, form, at)?;
+            let end = group.end;
+            depth = depth.max(group.depth);
+            push(&mut binders, group.binder)?;
+            let Some(next) = following(tokens, scope.column, Between::Comma, end) else {
+                return Ok(ParsedBinders {
+                    binders,
+                    end,
+                    depth,
+                });
+            };
+            at = next;
+        }
+        Err(refused(tokens, scope.column, at))
+    }
+
+    /// A junction list.
+    #[tactic(auto, unfolding(crate::specs::Reading::junction))]
+    pub fn junction(
+        &self,
+        text: &[u8],
+        tokens: &[Token],
+        scope: Scope,
+        at: Place,
+        bullet: Bullet,
+        from: usize,
+    ) -> Result<Parsed, Refusal>
+        requires nests { Nests self.now.depth (F.pre self.now.expr) (F.post self.now.expr) }
+        requires within { from < length tokens.now }
+        requires small { self.now.depth < 900 }
+        ensures { Gives text.now tokens.now (self.now.depth + 1) result (reading.junction text.now tokens.now (reading.expr text.now tokens.now self.now.depth) scope at bullet from) }
+    {
+        let items_scope = scope.of_items(at.column);
+        let found = self.exprs(text, tokens, items_scope, Between::Bullet(bullet), from + 1)?;
+        if !may_follow(tokens, at.column, found.end) {
+            return Err(refused(tokens, scope.column, found.end));
+        }
+        let end = found.end;
+        let depth = found.depth + 1;
+        Ok(Parsed {
+            tree: junction_of(at, bullet, found.items),
+            end,
+            depth,
+        })
+    }
+}

@@ -1,0 +1,16 @@
+//! The trees of expressions and definitions, from tokens.
+#![tactic(auto)]
+
+mod brackets;
+mod forms;
+mod grammar;
+mod items;
+pub mod laws;
+pub mod names;
+mod parts;
+mod product;
+mod record_parts;
+mod records;
+
+pub use grammar::{MAX_DEPTH, definition, expr};
+pub use parts::{Parsed, ParsedDefinition};

@@ -1,0 +1,107 @@
+//! `a \X b \X c`: one product of all its operands.
+
+ghost use Rattle.std.specs.Prelude.{◌≡◌, ◌+◌, ◌≤◌, ◌<◌, length, []};
+ghost use Rattle.tla_tree.specs.View.{view};
+ghost use Rattle.tla_grammar.specs.Edges as edges;
+ghost use Rattle.tla_expressions.specs.Reading as reading;
+ghost use Rattle.tla_expressions.specs.Gives.{Gives, GivesItems};
+ghost use Rattle.tla_expressions.specs.Private.Nests.{Nests};
+
+use crate::grammar::Grammar;
+use crate::parts::{Parsed, ParsedItems, child_of, product_of};
+use std::alloc::Global;
+use tla_grammar::{
+    Between, Refusal, Scope, edge_allows, following, high, is_kind, push, refused, seen,
+};
+use tla_lex::{Kind, Token};
+use tla_tree::Infix;
+
+impl<F: Fn(Global, &[u8], &[Token], usize, Scope, u8, usize) -> Result<Parsed, Refusal>> Grammar<
+    F,
+> {
+    /// An operand behind the first.
+    #[tactic(auto, unfolding(crate::specs::Reading::factor))]
+    fn factor(
+        &self,
+        text: &[u8],
+        tokens: &[Token],
+        scope: Scope,
+        from: usize,
+    ) -> Result<Parsed, Refusal>
+        requires { Nests self.now.depth (F.pre self.now.expr) (F.post self.now.expr) }
+        ensures { Gives text.now tokens.now self.now.depth result (reading.factor text.now tokens.now (reading.expr text.now tokens.now self.now.depth) scope from) }
+    {
+        let e = self.inner(text, tokens, scope, high(Infix::Product), from)?;
+        if is_kind(Kind::Product, seen(tokens, scope.column, e.end))
+            && !edge_allows(&e.tree, Infix::Product)
+        {
+            let end = e.end;
+            drop(e);
+            return Err(Refusal::Precedence(end));
+        }
+        Ok(e)
+    }
+
+    /// The operands behind the first.
+    #[tactic(auto, using(crate::proofs::Steps::depths_snoc))]
+    fn factors(
+        &self,
+        text: &[u8],
+        tokens: &[Token],
+        scope: Scope,
+        from: usize,
+    ) -> Result<ParsedItems, Refusal>
+        requires nests { Nests self.now.depth (F.pre self.now.expr) (F.post self.now.expr) }
+        ensures { GivesItems text.now tokens.now self.now.depth result (reading.factors text.now tokens.now (reading.expr text.now tokens.now self.now.depth) (length tokens.now) [] scope from) }
+    {
+        let mut items = Vec::new(self.alloc);
+        let mut depth = 0;
+        let mut at = from;
+        for _turn in 0..tokens.len() {
+            let e = self.factor(text, tokens, scope, at)?;
+            let end = e.end;
+            depth = depth.max(e.depth);
+            push(&mut items, e.tree)?;
+            let Some(next) = following(tokens, scope.column, Between::Product, end) else {
+                return Ok(ParsedItems { items, end, depth });
+            };
+            at = next;
+        }
+        Err(refused(tokens, scope.column, at))
+    }
+
+    /// The product of the tree, which begins at a token of this number, and the operands behind it.
+    #[tactic(auto, unfolding(crate::specs::Reading::product))]
+    pub fn product(
+        &self,
+        text: &[u8],
+        tokens: &[Token],
+        scope: Scope,
+        start: usize,
+        first: Parsed,
+    ) -> Result<Parsed, Refusal>
+        requires nests { Nests self.now.depth (F.pre self.now.expr) (F.post self.now.expr) }
+        requires within { first.end < length tokens.now }
+        requires depth { first.depth ≡ edges.depth (view first.tree) }
+        requires shallow { first.depth ≤ self.now.depth + 1 }
+        requires small { self.now.depth < 900 }
+        ensures { Gives text.now tokens.now (self.now.depth + 1) result (reading.product text.now tokens.now (reading.expr text.now tokens.now self.now.depth) (self.now.depth + 1) scope (view first.tree) first.end) }
+    {
+        let is_allowed = edge_allows(&first.tree, Infix::Product);
+        let operand = child_of(self.alloc, first)?;
+        if !is_allowed {
+            return Err(Refusal::Precedence(operand.end));
+        }
+        let found = self.factors(text, tokens, scope, operand.end + 1)?;
+        let depth = operand.depth.max(found.depth) + 1;
+        if depth > self.depth + 1 {
+            return Err(Refusal::Nesting(start));
+        }
+        let at = operand.tree.place();
+        Ok(Parsed {
+            tree: product_of(at, operand.tree, found.items),
+            end: found.end,
+            depth,
+        })
+    }
+}

@@ -1,0 +1,304 @@
+//! Records, and EXCEPT.
+
+ghost use Rattle.std.specs.Prelude.{◌≡◌, ℕ, ◌+◌, ◌-◌, ◌≤◌, ◌<◌, length, slice_get, suc, IfOk, IfErr, OnOk, map, [], ◌∷◌, ◌++◌};
+ghost use Rattle.tla_tree.specs.View.{view, group_view, field_view, key_view, update_view};
+ghost use Rattle.tla_tree.specs.Tree as tree;
+ghost use Rattle.tla_tree.specs.Tree.{trees, binders};
+ghost use Rattle.tla_grammar.specs.Edges as edges;
+ghost use Rattle.tla_expressions.specs.Reading.{expr};
+ghost use Rattle.tla_expressions.specs.ReadingBrackets as reading;
+ghost use Rattle.tla_expressions.specs.Gives.{Gives, GivesItems, GivesTrees};
+ghost use Rattle.tla_expressions.specs.Private.Nests.{Nests};
+ghost use Rattle.tla_expressions.specs.Private.GivesRecords.{GivesField, GivesFields, GivesKey, GivesKeys, GivesUpdate, GivesUpdates};
+
+use crate::grammar::Grammar;
+use crate::parts::{Parsed, child_of};
+use crate::record_parts::{
+    ParsedField, ParsedFields, ParsedKey, ParsedKeys, ParsedUpdate, ParsedUpdates, except_of,
+    key_of, record_of, record_set_of,
+};
+use std::alloc::Global;
+use tla_grammar::{
+    Between, Refusal, Scope, following, is_kind, name_at, push, refused, refused_update, seen,
+    written,
+};
+use tla_lex::{Kind, Place, Token};
+use tla_tree::{Field, Key, Update};
+
+impl<F: Fn(Global, &[u8], &[Token], usize, Scope, u8, usize) -> Result<Parsed, Refusal>> Grammar<
+    F,
+> {
+    /// A field, with this mark behind its name.
+    #[tactic(auto, unfolding(crate::specs::ReadingBrackets::entry))]
+    fn entry(
+        &self,
+        text: &[u8],
+        tokens: &[Token],
+        scope: Scope,
+        mark: Kind,
+        from: usize,
+    ) -> Result<ParsedField, Refusal>
+        requires nests { Nests self.now.depth (F.pre self.now.expr) (F.post self.now.expr) }
+        ensures { GivesField text.now tokens.now self.now.depth result (reading.entry text.now tokens.now (expr text.now tokens.now self.now.depth) scope mark from) }
+    {
+        let Some(name) = name_at(seen(tokens, scope.column, from)) else {
+            return Err(refused(tokens, scope.column, from));
+        };
+        let name = written(self.alloc, text, name)?;
+        if !is_kind(mark, seen(tokens, scope.column, from + 1)) {
+            return Err(refused(tokens, scope.column, from + 1));
+        }
+        let value = self.inner(text, tokens, scope, 0, from + 2)?;
+        Ok(ParsedField {
+            field: Field {
+                name,
+                value: value.tree,
+            },
+            end: value.end,
+            depth: value.depth,
+        })
+    }
+
+    /// Fields, with this mark behind each name.
+    #[tactic(auto, using(crate::proofs::StepsRecords::fields_depth_snoc))]
+    fn entries(
+        &self,
+        text: &[u8],
+        tokens: &[Token],
+        scope: Scope,
+        mark: Kind,
+        from: usize,
+    ) -> Result<ParsedFields, Refusal>
+        requires nests { Nests self.now.depth (F.pre self.now.expr) (F.post self.now.expr) }
+        ensures { GivesFields text.now tokens.now self.now.depth result (reading.entries text.now tokens.now (expr text.now tokens.now self.now.depth) (length tokens.now) [] scope mark from) }
+    {
+        let mut fields = Vec::new(self.alloc);
+        let mut depth = 0;
+        let mut at = from;
+        for _turn in 0..tokens.len() {
+            let found = self.entry(text, tokens, scope, mark, at)?;
+            let end = found.end;
+            depth = depth.max(found.depth);
+            push(&mut fields, found.field)?;
+            let Some(next) = following(tokens, scope.column, Between::Comma, end) else {
+                return Ok(ParsedFields { fields, end, depth });
+            };
+            at = next;
+        }
+        Err(refused(tokens, scope.column, at))
+    }
+
+    /// `[a |-> e, ..]`
+    #[tactic(auto, unfolding(crate::specs::ReadingBrackets::record_of))]
+    pub fn record(
+        &self,
+        text: &[u8],
+        tokens: &[Token],
+        scope: Scope,
+        at: Place,
+        from: usize,
+    ) -> Result<Parsed, Refusal>
+        requires nests { Nests self.now.depth (F.pre self.now.expr) (F.post self.now.expr) }
+        requires within { from < length tokens.now }
+        requires small { self.now.depth < 900 }
+        ensures { Gives text.now tokens.now (self.now.depth + 1) result (reading.record_of text.now tokens.now (expr text.now tokens.now self.now.depth) scope at from) }
+    {
+        let found = self.entries(text, tokens, scope, Kind::MapsTo, from + 1)?;
+        if !is_kind(Kind::RightBracket, seen(tokens, scope.column, found.end)) {
+            return Err(refused(tokens, scope.column, found.end));
+        }
+        let end = found.end + 1;
+        let depth = found.depth + 1;
+        Ok(Parsed {
+            tree: record_of(at, found.fields),
+            end,
+            depth,
+        })
+    }
+
+    /// `[a : S, ..]`
+    #[tactic(auto, unfolding(crate::specs::ReadingBrackets::records_of))]
+    pub fn record_set(
+        &self,
+        text: &[u8],
+        tokens: &[Token],
+        scope: Scope,
+        at: Place,
+        from: usize,
+    ) -> Result<Parsed, Refusal>
+        requires nests { Nests self.now.depth (F.pre self.now.expr) (F.post self.now.expr) }
+        requires within { from < length tokens.now }
+        requires small { self.now.depth < 900 }
+        ensures { Gives text.now tokens.now (self.now.depth + 1) result (reading.records_of text.now tokens.now (expr text.now tokens.now self.now.depth) scope at from) }
+    {
+        let found = self.entries(text, tokens, scope, Kind::Colon, from + 1)?;
+        if !is_kind(Kind::RightBracket, seen(tokens, scope.column, found.end)) {
+            return Err(refused(tokens, scope.column, found.end));
+        }
+        let end = found.end + 1;
+        let depth = found.depth + 1;
+        Ok(Parsed {
+            tree: record_set_of(at, found.fields),
+            end,
+            depth,
+        })
+    }
+
+    /// A step of a path.
+    #[tactic(auto, unfolding(crate::specs::ReadingBrackets::key_at))]
+    fn key(
+        &self,
+        text: &[u8],
+        tokens: &[Token],
+        scope: Scope,
+        from: usize,
+    ) -> Result<ParsedKey, Refusal>
+        requires nests { Nests self.now.depth (F.pre self.now.expr) (F.post self.now.expr) }
+        ensures { GivesKey text.now tokens.now self.now.depth result (reading.key_at text.now tokens.now (expr text.now tokens.now self.now.depth) scope from) }
+    {
+        if is_kind(Kind::LeftBracket, seen(tokens, scope.column, from)) {
+            let found = self.some(text, tokens, scope, Kind::RightBracket, from + 1)?;
+            let end = found.end;
+            let depth = found.depth;
+            return Ok(ParsedKey {
+                key: key_of(found.items),
+                end,
+                depth,
+            });
+        }
+        if !is_kind(Kind::Dot, seen(tokens, scope.column, from)) {
+            return Err(refused(tokens, scope.column, from));
+        }
+        let Some(name) = name_at(seen(tokens, scope.column, from + 1)) else {
+            return Err(refused(tokens, scope.column, from + 1));
+        };
+        Ok(ParsedKey {
+            key: Key::Field(written(self.alloc, text, name)?),
+            end: from + 2,
+            depth: 0,
+        })
+    }
+
+    /// The path of an update.
+    #[tactic(auto, using(crate::proofs::StepsRecords::keys_depth_snoc))]
+    fn path(
+        &self,
+        text: &[u8],
+        tokens: &[Token],
+        scope: Scope,
+        from: usize,
+    ) -> Result<ParsedKeys, Refusal>
+        requires nests { Nests self.now.depth (F.pre self.now.expr) (F.post self.now.expr) }
+        ensures { GivesKeys text.now tokens.now self.now.depth result (reading.path text.now tokens.now (expr text.now tokens.now self.now.depth) (length tokens.now) [] scope from) }
+    {
+        let mut keys = Vec::new(self.alloc);
+        let mut depth = 0;
+        let mut at = from;
+        for _turn in 0..tokens.len() {
+            let found = self.key(text, tokens, scope, at)?;
+            let end = found.end;
+            depth = depth.max(found.depth);
+            push(&mut keys, found.key)?;
+            let Some(next) = following(tokens, scope.column, Between::Key, end) else {
+                return Ok(ParsedKeys { keys, end, depth });
+            };
+            at = next;
+        }
+        Err(refused(tokens, scope.column, at))
+    }
+
+    /// An update.
+    #[tactic(auto, unfolding(crate::specs::ReadingBrackets::change))]
+    fn change(
+        &self,
+        text: &[u8],
+        tokens: &[Token],
+        scope: Scope,
+        from: usize,
+    ) -> Result<ParsedUpdate, Refusal>
+        requires nests { Nests self.now.depth (F.pre self.now.expr) (F.post self.now.expr) }
+        ensures { GivesUpdate text.now tokens.now self.now.depth result (reading.change text.now tokens.now (expr text.now tokens.now self.now.depth) scope from) }
+    {
+        if !is_kind(Kind::Bang, seen(tokens, scope.column, from)) {
+            return Err(refused_update(tokens, scope.column, from));
+        }
+        let found = self.path(text, tokens, scope, from + 1)?;
+        if !is_kind(Kind::Equal, seen(tokens, scope.column, found.end)) {
+            return Err(refused(tokens, scope.column, found.end));
+        }
+        let value_scope = Scope {
+            updating: true,
+            ..scope
+        };
+        let value = self.inner(text, tokens, value_scope, 0, found.end + 1)?;
+        Ok(ParsedUpdate {
+            update: Update {
+                path: found.keys,
+                value: value.tree,
+            },
+            end: value.end,
+            depth: found.depth.max(value.depth),
+        })
+    }
+
+    /// The updates of EXCEPT.
+    #[tactic(auto, using(crate::proofs::StepsRecords::updates_depth_snoc))]
+    fn changes(
+        &self,
+        text: &[u8],
+        tokens: &[Token],
+        scope: Scope,
+        from: usize,
+    ) -> Result<ParsedUpdates, Refusal>
+        requires nests { Nests self.now.depth (F.pre self.now.expr) (F.post self.now.expr) }
+        ensures { GivesUpdates text.now tokens.now self.now.depth result (reading.changes text.now tokens.now (expr text.now tokens.now self.now.depth) (length tokens.now) [] scope from) }
+    {
+        let mut updates = Vec::new(self.alloc);
+        let mut depth = 0;
+        let mut at = from;
+        for _turn in 0..tokens.len() {
+            let found = self.change(text, tokens, scope, at)?;
+            let end = found.end;
+            depth = depth.max(found.depth);
+            push(&mut updates, found.update)?;
+            let Some(next) = following(tokens, scope.column, Between::Comma, end) else {
+                return Ok(ParsedUpdates {
+                    updates,
+                    end,
+                    depth,
+                });
+            };
+            at = next;
+        }
+        Err(refused(tokens, scope.column, at))
+    }
+
+    /// `[f EXCEPT !p = e, ..]`, behind f.
+    #[tactic(auto, unfolding(crate::specs::ReadingBrackets::except))]
+    pub fn except(
+        &self,
+        text: &[u8],
+        tokens: &[Token],
+        scope: Scope,
+        at: Place,
+        first: Parsed,
+    ) -> Result<Parsed, Refusal>
+        requires nests { Nests self.now.depth (F.pre self.now.expr) (F.post self.now.expr) }
+        requires within { first.end < length tokens.now }
+        requires depth { first.depth ≡ edges.depth (view first.tree) }
+        requires shallow { first.depth ≤ self.now.depth }
+        requires small { self.now.depth < 900 }
+        ensures { Gives text.now tokens.now (self.now.depth + 1) result (reading.except text.now tokens.now (expr text.now tokens.now self.now.depth) scope at (view first.tree) first.end) }
+    {
+        let function = child_of(self.alloc, first)?;
+        let found = self.changes(text, tokens, scope, function.end + 1)?;
+        if !is_kind(Kind::RightBracket, seen(tokens, scope.column, found.end)) {
+            return Err(refused(tokens, scope.column, found.end));
+        }
+        Ok(Parsed {
+            tree: except_of(at, function.tree, found.updates),
+            end: found.end + 1,
+            depth: function.depth.max(found.depth) + 1,
+        })
+    }
+}

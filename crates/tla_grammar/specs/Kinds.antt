@@ -1,0 +1,97 @@
+-- Whether a token is of a kind that a reading asks for, and what it does to the parts of a bracket.
+use Rattle.std.specs.Prelude.{Bool, true, false, Option, Some, None}
+use Rattle.tla_lex.specs.declared.token.Kind.{Kind}
+use Rattle.tla_lex.specs.declared.token.Kind.TheVariants as k
+use Rattle.tla_lex.specs.declared.token.Token.{Token}
+use Rattle.tla_grammar.specs.declared.ahead.Role.{Role}
+use Rattle.tla_grammar.specs.declared.ahead.Role.TheVariants as role
+use Rattle.tla_tree.specs.declared.tree.Brackets.{Brackets}
+use Rattle.tla_tree.specs.declared.tree.Brackets.TheVariants as b
+use Rattle.tla_tree.specs.declared.tree.Step.{Step}
+use Rattle.tla_tree.specs.declared.tree.Step.TheVariants as step
+use Rattle.tla_tree.specs.declared.tree.Fairness.{Fairness}
+use Rattle.tla_tree.specs.declared.tree.Fairness.TheVariants as fair
+
+-- the same kind, of those that stand between the parts of forms and units
+abbrev pub same_kind : Kind → Kind → Bool
+same_kind k.Name k.Name = true
+same_kind k.Separator k.Separator = true
+same_kind k.Closing k.Closing = true
+same_kind k.LeftParen k.LeftParen = true
+same_kind k.RightParen k.RightParen = true
+same_kind k.LeftBracket k.LeftBracket = true
+same_kind k.RightBracket k.RightBracket = true
+same_kind k.RightBrace k.RightBrace = true
+same_kind k.RightTuple k.RightTuple = true
+same_kind k.Underscore k.Underscore = true
+same_kind k.Comma k.Comma = true
+same_kind k.Colon k.Colon = true
+same_kind k.Prime k.Prime = true
+same_kind k.Define k.Define = true
+same_kind k.Module k.Module = true
+same_kind k.Member k.Member = true
+same_kind k.Then k.Then = true
+same_kind k.Else k.Else = true
+same_kind k.In k.In = true
+same_kind k.Box k.Box = true
+same_kind k.Arrow k.Arrow = true
+same_kind k.MapsTo k.MapsTo = true
+same_kind k.Other k.Other = true
+same_kind k.Equal k.Equal = true
+same_kind k.RightBracketSubscript k.RightBracketSubscript = true
+same_kind k.RightTupleSubscript k.RightTupleSubscript = true
+same_kind k.Except k.Except = true
+same_kind k.Bang k.Bang = true
+same_kind k.Dot k.Dot = true
+same_kind k.LeftTuple k.LeftTuple = true
+same_kind k.Extends k.Extends = true
+same_kind k.Choose k.Choose = true
+same_kind k.Product k.Product = true
+same_kind _ _ = false
+
+abbrev pub kind_at : Kind → Option Token → Bool
+kind_at kind None = false
+kind_at kind (Some t) = same_kind kind t.kind
+
+-- the tokens round an action with a subscript
+abbrev pub step_opening : Step → Kind
+step_opening step.Box = k.LeftBracket
+step_opening step.Angle = k.LeftTuple
+
+abbrev pub step_closing : Step → Kind
+step_closing step.Box = k.RightBracketSubscript
+step_closing step.Angle = k.RightTupleSubscript
+
+abbrev pub fairness_word : Fairness → Kind
+fairness_word fair.Weak = k.WeakFairness
+fairness_word fair.Strong = k.StrongFairness
+
+-- the tokens of two kinds of brackets
+abbrev pub opening : Brackets → Kind
+opening b.Set = k.LeftBrace
+opening b.Tuple = k.LeftTuple
+
+abbrev pub closing : Brackets → Kind
+closing b.Set = k.RightBrace
+closing b.Tuple = k.RightTuple
+
+-- what a token does to the parts of a bracket
+abbrev pub role_of : Kind → Role
+role_of k.LeftParen = role.Opens
+role_of k.LeftBracket = role.Opens
+role_of k.LeftBrace = role.Opens
+role_of k.LeftTuple = role.Opens
+role_of k.RightParen = role.Closes
+role_of k.RightBracket = role.Closes
+role_of k.RightBracketSubscript = role.Closes
+role_of k.RightBrace = role.Closes
+role_of k.RightTuple = role.Closes
+role_of k.RightTupleSubscript = role.Closes
+role_of k.ForAll = role.Binds
+role_of k.Exists = role.Binds
+role_of k.Choose = role.Binds
+role_of k.Colon = role.Colon
+role_of k.Comma = role.Separates
+role_of k.MapsTo = role.Separates
+role_of k.Except = role.Separates
+role_of _ = role.Plain

@@ -1,0 +1,13 @@
+pub mod Operators
+pub mod Edges
+pub mod Tokens
+pub mod Kinds
+pub mod Entries
+pub mod Grammar
+pub mod Ending
+pub mod Modules
+pub mod LeftOut
+pub mod Ahead
+pub mod Marks
+pub mod Outcome
+pub mod Refusals

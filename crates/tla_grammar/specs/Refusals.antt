@@ -1,0 +1,27 @@
+-- What a refusal says of the tokens, and of a reading.
+use Rattle.std.specs.Prelude.{◌≡◌, ℕ, List, Err}
+use Rattle.tla_lex.specs.declared.token.Token.{Token}
+use Rattle.tla_grammar.specs.declared.refusal.Refusal.{Refusal}
+use Rattle.tla_grammar.specs.declared.refusal.Refusal.TheVariants as refusal
+use Rattle.tla_grammar.specs.LeftOut.{BeginsLeftOut, IsUnknownModule}
+use Rattle.tla_grammar.specs.Outcome.{Outcome, Refused, Nested}
+
+-- a refusal of a token where it stands: a form left out is one of those
+abbrev pub Refuses : List Token → Refusal → Type 0
+Refuses ts (refusal.Unexpected at) = Unit {0}
+Refuses ts (refusal.Precedence at) = Unit {0}
+Refuses ts (refusal.Column at) = Unit {0}
+Refuses ts (refusal.Nesting at) = ⊥
+Refuses ts (refusal.LeftOut at) = BeginsLeftOut ts at
+Refuses ts (refusal.UnknownModule at) = ⊥
+Refuses ts refusal.NoMemory = Unit {0}
+
+-- a refusal says how the reading ends; want of memory says nothing
+abbrev pub Fails : {A : Type 0} → List ℕ → List Token → Refusal → Outcome A → Type 0
+Fails text ts (refusal.Unexpected at) read = read ≡ Err Refused
+Fails text ts (refusal.Precedence at) read = read ≡ Err Refused
+Fails text ts (refusal.Column at) read = read ≡ Err Refused
+Fails text ts (refusal.Nesting at) read = read ≡ Err Nested
+Fails text ts (refusal.LeftOut at) read = (read ≡ Err Refused) × BeginsLeftOut ts at
+Fails text ts (refusal.UnknownModule at) read = (read ≡ Err Refused) × IsUnknownModule ts text at
+Fails text ts refusal.NoMemory read = Unit {0}

@@ -1,7 +1,0 @@
-use Rattle.std.proofs.Common.{ap}
-use Rattle.tla_tree.specs.Tree as t
-use Rattle.tla_tree.specs.View.{views_items}
-use Rattle.tla_parse.proofs.record_parts.key_of.Goals as goal
-
-pub returns : goal.returns
-returns c = ap (λ x. t.AtIndex x) (views_items c.args.arguments)
