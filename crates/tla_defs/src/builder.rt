@@ -1,6 +1,6 @@
 //! The model of a module and a configuration.
 
-ghost use Rattle.std.specs.Prelude.{◌≡◌, ◌≢◌, ◌++◌, ◌∷◌, [], None, Ok, IfOk, IfErr, OnOk, List, map};
+ghost use Rattle.std.specs.Prelude.{◌≡◌, ◌≢◌, ◌++◌, ◌∷◌, [], None, Ok, Err, IfOk, IfErr, OnOk, List, map};
 ghost use Rattle.tla_config.specs.declared.error.DefsCode.TheVariants.{Memory};
 ghost use Rattle.tla_config.specs.Refusals.{IsLocated};
 ghost use Rattle.tla_config.specs.Statements.{items_of, checks_deadlock};
@@ -119,6 +119,20 @@ fn push<T: Drop>(items: &mut Vec<T>, item: T) -> Result<(), DefsError>
     }
 }
 
+/// What was found, in a box.
+fn boxed<T: Drop>(alloc: Global, found: Result<T, DefsError>) -> Result<Box<T>, DefsError>
+    ensures ok { IfOk result (λ b. found ≡ Ok b.value) }
+    ensures err { IfErr result (λ e. e.code ≢ Memory → found ≡ Err e) }
+{
+    match found {
+        Ok(item) => match Box::new(alloc, item) {
+            Ok(b) => Ok(b),
+            Err(_) => Err(no_memory()),
+        },
+        Err(e) => Err(e),
+    }
+}
+
 /// The invariant or the constraint of this name.
 fn named_predicate(
     alloc: Global,
@@ -131,9 +145,9 @@ fn named_predicate(
     ensures formula { IfErr result (λ e. e.code ≢ Memory → formula_refused.IsOfFormula (formulas.meaning_in (scope_of scopes.now) name.now) read.Once e) }
     ensures none { IfErr result (λ e. e.code ≢ Memory → (x : expr.Expr) → formulas.IsStatePredicate (scope_of scopes.now) name.now x → ⊥) }
 {
+    let word = text_of(alloc, name.word.as_bytes())?;
     let core = state_predicate(alloc, places, scopes, name)?;
-    let name = text_of(alloc, name.word.as_bytes())?;
-    Ok(StatePredicate { name, core })
+    Ok(StatePredicate { name: word, core })
 }
 
 /// One invariant or constraint more. Contracts see what it adds to the lists that may still follow.
@@ -253,8 +267,8 @@ fn model<'a>(
     let count = variables.words().len();
     let meant = meaning(alloc, units, items, &scopes, count, behaviour)?;
     let assumptions = assumptions(alloc, units, &scopes)?;
-    let init = initial_predicate(alloc, &places, &scopes, &meant)?;
-    let next = next_action(alloc, &places, &scopes, &meant)?;
+    let init = boxed(alloc, initial_predicate(alloc, &places, &scopes, &meant))?;
+    let next = boxed(alloc, next_action(alloc, &places, &scopes, &meant))?;
     let invariants = invariants(alloc, &places, &scopes, statements)?;
     let constraints = constraints(alloc, &places, &scopes, statements)?;
     let names = variables.texts(alloc)?;
@@ -262,8 +276,8 @@ fn model<'a>(
     Ok(Model::new(
         names,
         assumptions,
-        init,
-        next,
+        Box::into_inner(init),
+        Box::into_inner(next),
         invariants,
         constraints,
         check,

@@ -69,7 +69,11 @@ fn of_state_level<'a>(
     ensures none { IfErr result (λ e. e.code ≢ Memory → with_primes Primes.Once (expand (view tree.entry.now) (scope_of scopes.now) 0) ≡ None) }
 {
     match scopes.expansion(alloc, tree, Primes::Once) {
-        Ok(_) | Err(Failure::TooLarge) => Ok(()),
+        Ok(core) => {
+            drop(core);
+            Ok(())
+        }
+        Err(Failure::TooLarge) => Ok(()),
         Err(Failure::Memory) => Err(no_memory()),
         Err(Failure::NoExpansion(_)) => Err(not_of_form(place)),
     }

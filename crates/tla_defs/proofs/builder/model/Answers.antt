@@ -26,9 +26,9 @@ new-requires c =
     let at = c.in_ok-scopes.ensures.ok ∙ ap (λ is. global us is) c.requires.items in
     let counted = sym (length-map c.words-count.result.now (λ (w : Bor (List ℕ)). w.now)) ∙ ap (λ (xs : List (List ℕ)). length xs) c.words-count.ensures ∙ ap (λ (xs : List (List ℕ)). length xs) c.requires.variables in
     let means = meaning_behaviour us cs c.args.items.now (scope_of c.in_ok-scopes.scopes) (length c.words-count.result.now) (behaviour_of c.args.behaviour) c.in_ok-meant.meant c.requires.items at counted c.requires.only c.in_ok-meant.ensures.found in
-    sound us cs _ (parts_model us cs (scope_of c.in_ok-scopes.scopes) c.in_ok-names.names.items c.in_ok-assumptions.assumptions.items c.in_ok-init.init c.in_ok-next.next c.in_ok-invariants.invariants.items c.in_ok-constraints.constraints.items c.looks_for_deadlock-check.result means.0 (action_tree c.in_ok-meant.meant)
+    rw (c.into_inner.ensures, c.into_inner-2.ensures) (sound us cs _ (parts_model us cs (scope_of c.in_ok-scopes.scopes) c.in_ok-names.names.items c.in_ok-assumptions.assumptions.items c.in_ok-init.init.value c.in_ok-next.next.value c.in_ok-invariants.invariants.items c.in_ok-constraints.constraints.items c.looks_for_deadlock-check.result means.0 (action_tree c.in_ok-meant.meant)
     at c.requires.known (rw c.requires.items at c.requires.given) (rw c.requires.items at c.requires.valued) c.requires.named (rw c.requires.items at c.requires.straight) means.2 (c.in_ok-names.ensures.ok ∙ c.requires.variables)
-    c.in_ok-assumptions.ensures.found (c.in_ok-init.ensures.found means.0 means.1) c.in_ok-next.ensures.found c.in_ok-invariants.ensures.found c.in_ok-constraints.ensures.found c.looks_for_deadlock-check.ensures)
+    c.in_ok-assumptions.ensures.found (rw c.in_ok-init.ensures.ok at (c.initial_predicate.ensures.found means.0 means.1)) (rw c.in_ok-next.ensures.ok at c.next_action.ensures.found) c.in_ok-invariants.ensures.found c.in_ok-constraints.ensures.found c.looks_for_deadlock-check.ensures))
 
 pub returns-clause-found : goal.returns-clause-found
 returns-clause-found c =
@@ -37,9 +37,9 @@ returns-clause-found c =
     let at = c.in_ok-scopes.ensures.ok ∙ ap (λ is. global us is) c.requires.items in
     let counted = sym (length-map c.words-count.result.now (λ (w : Bor (List ℕ)). w.now)) ∙ ap (λ (xs : List (List ℕ)). length xs) c.words-count.ensures ∙ ap (λ (xs : List (List ℕ)). length xs) c.requires.variables in
     let means = meaning_behaviour us cs c.args.items.now (scope_of c.in_ok-scopes.scopes) (length c.words-count.result.now) (behaviour_of c.args.behaviour) c.in_ok-meant.meant c.requires.items at counted c.requires.only c.in_ok-meant.ensures.found in
-    rw c.new.ensures (parts_model us cs (scope_of c.in_ok-scopes.scopes) c.in_ok-names.names.items c.in_ok-assumptions.assumptions.items c.in_ok-init.init c.in_ok-next.next c.in_ok-invariants.invariants.items c.in_ok-constraints.constraints.items c.looks_for_deadlock-check.result means.0 (action_tree c.in_ok-meant.meant)
+    rw (c.new.ensures, c.into_inner.ensures, c.into_inner-2.ensures) (parts_model us cs (scope_of c.in_ok-scopes.scopes) c.in_ok-names.names.items c.in_ok-assumptions.assumptions.items c.in_ok-init.init.value c.in_ok-next.next.value c.in_ok-invariants.invariants.items c.in_ok-constraints.constraints.items c.looks_for_deadlock-check.result means.0 (action_tree c.in_ok-meant.meant)
     at c.requires.known (rw c.requires.items at c.requires.given) (rw c.requires.items at c.requires.valued) c.requires.named (rw c.requires.items at c.requires.straight) means.2 (c.in_ok-names.ensures.ok ∙ c.requires.variables)
-    c.in_ok-assumptions.ensures.found (c.in_ok-init.ensures.found means.0 means.1) c.in_ok-next.ensures.found c.in_ok-invariants.ensures.found c.in_ok-constraints.ensures.found c.looks_for_deadlock-check.ensures)
+    c.in_ok-assumptions.ensures.found (rw c.in_ok-init.ensures.ok at (c.initial_predicate.ensures.found means.0 means.1)) (rw c.in_ok-next.ensures.ok at c.next_action.ensures.found) c.in_ok-invariants.ensures.found c.in_ok-constraints.ensures.found c.looks_for_deadlock-check.ensures)
 
 pub returns-in_err-meant-clause-none : goal.returns-in_err-meant-clause-none
 returns-in_err-meant-clause-none c =
@@ -67,7 +67,7 @@ returns-in_err-init-clause-none c =
     let counted = sym (length-map c.words-count.result.now (λ (w : Bor (List ℕ)). w.now)) ∙ ap (λ (xs : List (List ℕ)). length xs) c.words-count.ensures ∙ ap (λ (xs : List (List ℕ)). length xs) c.requires.variables in
     let means = meaning_behaviour us cs c.args.items.now (scope_of c.in_ok-scopes.scopes) (length c.words-count.result.now) (behaviour_of c.args.behaviour) c.in_ok-meant.meant c.requires.items at counted c.requires.only c.in_ok-meant.ensures.found in
     let e = err_from_is_err_and c.from_residual-in_err-init.result c.from_residual-in_err-init.ensures.1 in
-    rw (e.1, e.2) (λ h. no_init us cs _ means.0 (action_tree c.in_ok-meant.meant) at means.2 (c.in_err-init.ensures.none means.0 means.1 h))
+    rw (e.1, e.2) (λ h. no_init us cs _ means.0 (action_tree c.in_ok-meant.meant) at means.2 ((rw (c.in_err-init.ensures.err h) at (c.initial_predicate.ensures.none means.0 means.1)) h))
 
 pub returns-in_err-next-clause-none : goal.returns-in_err-next-clause-none
 returns-in_err-next-clause-none c =
@@ -77,7 +77,7 @@ returns-in_err-next-clause-none c =
     let counted = sym (length-map c.words-count.result.now (λ (w : Bor (List ℕ)). w.now)) ∙ ap (λ (xs : List (List ℕ)). length xs) c.words-count.ensures ∙ ap (λ (xs : List (List ℕ)). length xs) c.requires.variables in
     let means = meaning_behaviour us cs c.args.items.now (scope_of c.in_ok-scopes.scopes) (length c.words-count.result.now) (behaviour_of c.args.behaviour) c.in_ok-meant.meant c.requires.items at counted c.requires.only c.in_ok-meant.ensures.found in
     let e = err_from_is_err_and c.from_residual-in_err-next.result c.from_residual-in_err-next.ensures.1 in
-    rw (e.1, e.2) (λ h. no_next us cs _ means.0 (action_tree c.in_ok-meant.meant) at means.2 (c.in_err-next.ensures.none h))
+    rw (e.1, e.2) (λ h. no_next us cs _ means.0 (action_tree c.in_ok-meant.meant) at means.2 ((rw (c.in_err-next.ensures.err h) at c.next_action.ensures.none) h))
 
 pub returns-in_err-invariants-clause-none : goal.returns-in_err-invariants-clause-none
 returns-in_err-invariants-clause-none c =
@@ -126,7 +126,7 @@ returns-in_err-init-clause-refused c =
     let counted = sym (length-map c.words-count.result.now (λ (w : Bor (List ℕ)). w.now)) ∙ ap (λ (xs : List (List ℕ)). length xs) c.words-count.ensures ∙ ap (λ (xs : List (List ℕ)). length xs) c.requires.variables in
     let means = meaning_behaviour us cs c.args.items.now (scope_of c.in_ok-scopes.scopes) (length c.words-count.result.now) (behaviour_of c.args.behaviour) c.in_ok-meant.meant c.requires.items at counted c.requires.only c.in_ok-meant.ensures.found in
     let e = err_from_is_err_and c.from_residual-in_err-init.result c.from_residual-in_err-init.ensures.1 in
-    rw (e.1, e.2) (λ h. inr (of_initial means.0 (action_tree c.in_ok-meant.meant) means.2 (subst (λ ρ. IsOfFormula (expand means.0 ρ 0) read.Once c.in_err-init.field-0.0) at (c.in_err-init.ensures.formula means.0 means.1 h))))
+    rw (e.1, e.2) (λ h. inr (of_initial means.0 (action_tree c.in_ok-meant.meant) means.2 (subst (λ ρ. IsOfFormula (expand means.0 ρ 0) read.Once c.in_err-init.field-0.0) at ((rw (c.in_err-init.ensures.err h) at (c.initial_predicate.ensures.formula means.0 means.1)) h))))
 
 pub returns-in_err-next-clause-refused : goal.returns-in_err-next-clause-refused
 returns-in_err-next-clause-refused c =
@@ -136,7 +136,7 @@ returns-in_err-next-clause-refused c =
     let counted = sym (length-map c.words-count.result.now (λ (w : Bor (List ℕ)). w.now)) ∙ ap (λ (xs : List (List ℕ)). length xs) c.words-count.ensures ∙ ap (λ (xs : List (List ℕ)). length xs) c.requires.variables in
     let means = meaning_behaviour us cs c.args.items.now (scope_of c.in_ok-scopes.scopes) (length c.words-count.result.now) (behaviour_of c.args.behaviour) c.in_ok-meant.meant c.requires.items at counted c.requires.only c.in_ok-meant.ensures.found in
     let e = err_from_is_err_and c.from_residual-in_err-next.result c.from_residual-in_err-next.ensures.1 in
-    rw (e.1, e.2) (λ h. inr (of_action means.0 (action_tree c.in_ok-meant.meant) means.2 (subst (λ ρ. IsOfFormula (expand (action_tree c.in_ok-meant.meant) ρ 0) read.Never c.in_err-next.field-0.0) at (c.in_err-next.ensures.formula h))))
+    rw (e.1, e.2) (λ h. inr (of_action means.0 (action_tree c.in_ok-meant.meant) means.2 (subst (λ ρ. IsOfFormula (expand (action_tree c.in_ok-meant.meant) ρ 0) read.Never c.in_err-next.field-0.0) at ((rw (c.in_err-next.ensures.err h) at c.next_action.ensures.formula) h))))
 
 pub returns-in_err-invariants-clause-refused : goal.returns-in_err-invariants-clause-refused
 returns-in_err-invariants-clause-refused c =
