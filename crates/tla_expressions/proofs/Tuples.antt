@@ -1,5 +1,5 @@
 -- What stands before `\in`: how it is read, and where it ends.
-use Rattle.std.proofs.Common.{◌≡◌, ℕ, zero, suc, ◌+◌, ◌-◌, ◌≤◌, true, false, inl, inr, length, List, [], ◌∷◌, Option, Some, None, Ok, Err, refl, ◌∙◌, arith, add-one}
+use Rattle.std.proofs.Common.{◌≡◌, ℕ, zero, suc, ◌+◌, ◌-◌, ◌≤◌, true, false, inl, inr, length, List, [], ◌∷◌, Option, Some, None, Ok, Err, refl, ◌∙◌, arith}
 use Rattle.std.specs.Prelude.{is_none}
 use Rattle.tla_lex.specs.declared.token.Token.{Token}
 use Rattle.tla_lex.specs.declared.token.Kind.TheVariants as k

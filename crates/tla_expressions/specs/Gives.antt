@@ -2,7 +2,6 @@
 use Rattle.std.specs.Prelude.{◌≡◌, ◌≤◌, ℕ, max, map, List, Result, Ok, Err}
 use Rattle.tla_lex.specs.declared.token.Token.{Token}
 use Rattle.tla_expressions.specs.declared.parts.Parsed.{Parsed}
-use Rattle.tla_expressions.specs.declared.parts.ParsedChild.{ParsedChild}
 use Rattle.tla_expressions.specs.declared.parts.ParsedItems.{ParsedItems}
 use Rattle.tla_expressions.specs.declared.parts.ParsedBinder.{ParsedBinder}
 use Rattle.tla_expressions.specs.declared.parts.ParsedBinders.{ParsedBinders}
@@ -22,13 +21,8 @@ use Rattle.tla_grammar.specs.Refusals.{Fails}
 
 -- so deep at most
 abbrev pub Gives : List ℕ → List Token → ℕ → Result Parsed Refusal → Outcome Tree → Type 0
-Gives text ts most (Ok x) read = (read ≡ Ok (view x.tree, x.end)) × (x.depth ≡ depth (view x.tree)) × (x.depth ≤ most)
+Gives text ts most (Ok x) read = (read ≡ Ok (view x.tree.value, x.end)) × (x.depth ≡ depth (view x.tree.value)) × (x.depth ≤ most)
 Gives text ts most (Err e) read = Fails text ts e read
-
--- the same, of a tree in a box
-abbrev pub GivesChild : List ℕ → List Token → ℕ → Result ParsedChild Refusal → Outcome Tree → Type 0
-GivesChild text ts most (Ok x) read = (read ≡ Ok (view x.tree.value, x.end)) × (x.depth ≡ depth (view x.tree.value)) × (x.depth ≤ most)
-GivesChild text ts most (Err e) read = Fails text ts e read
 
 abbrev pub GivesItems : List ℕ → List Token → ℕ → Result ParsedItems Refusal → Outcome (List Tree) → Type 0
 GivesItems text ts most (Ok x) read = (read ≡ Ok (map view x.items.items, x.end)) × (x.depth ≡ depths (trees (map view x.items.items))) × (x.depth ≤ most)
@@ -40,7 +34,7 @@ GivesTrees text ts most (Ok x) read = (read ≡ Ok (trees (map view x.items.item
 GivesTrees text ts most (Err e) read = Fails text ts e read
 
 abbrev pub GivesGroup : List ℕ → List Token → ℕ → Result ParsedBinder Refusal → Outcome Group → Type 0
-GivesGroup text ts most (Ok x) read = (read ≡ Ok (group_view x.binder, x.end)) × (x.depth ≡ depth (view x.binder.set)) × (x.depth ≤ most)
+GivesGroup text ts most (Ok x) read = (read ≡ Ok ((pattern_view x.pattern, view x.set.value), x.end)) × (x.depth ≡ depth (view x.set.value)) × (x.depth ≤ most)
 GivesGroup text ts most (Err e) read = Fails text ts e read
 
 abbrev pub GivesGroups : List ℕ → List Token → ℕ → Result ParsedBinders Refusal → Outcome (List Group) → Type 0

@@ -1,5 +1,5 @@
 -- The one tree that tokens can spell, found from the left. It has the shape of the code; what a tree spells is said in Grammar.
-use Rattle.std.specs.Prelude.{ℕ, zero, suc, ◌+◌, not, ◌||◌, nat_le, if◌then◌else◌, List, [], length, Option, Some, None, slice_get, Ok, Err}
+use Rattle.std.specs.Prelude.{ℕ, zero, suc, ◌+◌, not, ◌||◌, nat_le, if◌then◌else◌, List, [], length, slice_get, Ok, Err}
 use Rattle.tla_lex.specs.declared.token.Place.{Place}
 use Rattle.tla_lex.specs.declared.token.Token.{Token}
 use Rattle.tla_lex.specs.declared.token.Kind.{Kind}

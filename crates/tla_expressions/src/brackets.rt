@@ -11,13 +11,11 @@ ghost use Rattle.tla_expressions.specs.Gives.{Gives, GivesItems, GivesTrees};
 ghost use Rattle.tla_expressions.specs.Private.Nests.{Nests};
 
 use crate::grammar::Grammar;
-use crate::parts::{
-    Parsed, ParsedItems, child_of, image_of, listing_of, mapping_of, set_of_binder,
-};
+use crate::parts::{Parsed, ParsedItems, image_of, listing_of, mapping_of, node};
 use std::alloc::Global;
 use tla_grammar::{
-    Between, Opened, Refusal, Scope, binds, filters, following, is_kind, opened_by, push, refused,
-    seen, written,
+    Between, Opened, Refusal, Scope, binds, filters, following, is_kind, opened_by, push_inner,
+    refused, seen, written,
 };
 use tla_lex::{Kind, Place, Token};
 use tla_tree::{Brackets, Expr, Fairness, Step};
@@ -36,12 +34,12 @@ impl<F: Fn(Global, &[u8], &[Token], usize, Scope, u8, usize) -> Result<Parsed, R
         first: Parsed,
     ) -> Result<ParsedItems, Refusal>
         requires nests { Nests self.now.depth (F.pre self.now.expr) (F.post self.now.expr) }
-        requires depth { first.depth ≡ edges.depth (view first.tree) }
+        requires depth { first.depth ≡ edges.depth (view first.tree.value) }
         requires shallow { first.depth ≤ self.now.depth }
-        ensures { GivesTrees text.now tokens.now self.now.depth result (reading.others text.now tokens.now (expr text.now tokens.now self.now.depth) scope close (view first.tree) first.end) }
+        ensures { GivesTrees text.now tokens.now self.now.depth result (reading.others text.now tokens.now (expr text.now tokens.now self.now.depth) scope close (view first.tree.value) first.end) }
     {
         let mut items = Vec::new(self.alloc);
-        push(&mut items, first.tree)?;
+        push_inner(&mut items, first.tree)?;
         let depth = first.depth;
         let found = match following(tokens, scope.column, Between::Comma, first.end) {
             None => ParsedItems {
@@ -81,11 +79,12 @@ impl<F: Fn(Global, &[u8], &[Token], usize, Scope, u8, usize) -> Result<Parsed, R
             return Err(refused(tokens, scope.column, from));
         };
         match t.kind {
-            Kind::Name => Ok(Parsed {
-                tree: Expr::Name(written(self.alloc, text, t)?),
-                end: from + 1,
-                depth: 1,
-            }),
+            Kind::Name => node(
+                self.alloc,
+                Expr::Name(written(self.alloc, text, t)?),
+                from + 1,
+                1,
+            ),
             Kind::LeftTuple => self.listing(text, tokens, scope, t.place, Brackets::Tuple, from),
             Kind::LeftParen => self.paren(text, tokens, scope, t.place, from),
             _ => Err(refused(tokens, scope.column, from)),
@@ -106,23 +105,22 @@ impl<F: Fn(Global, &[u8], &[Token], usize, Scope, u8, usize) -> Result<Parsed, R
     ) -> Result<Parsed, Refusal>
         requires nests { Nests self.now.depth (F.pre self.now.expr) (F.post self.now.expr) }
         requires within { first.end < length tokens.now }
-        requires depth { first.depth ≡ edges.depth (view first.tree) }
+        requires depth { first.depth ≡ edges.depth (view first.tree.value) }
         requires shallow { first.depth ≤ self.now.depth }
         requires small { self.now.depth < 900 }
-        ensures { Gives text.now tokens.now (self.now.depth + 1) result (reading.action text.now tokens.now (expr text.now tokens.now self.now.depth) (self.now.depth + 1) scope at step (view first.tree) first.end) }
+        ensures { Gives text.now tokens.now (self.now.depth + 1) result (reading.action text.now tokens.now (expr text.now tokens.now self.now.depth) (self.now.depth + 1) scope at step (view first.tree.value) first.end) }
     {
-        let action = child_of(self.alloc, first)?;
-        let subscript = self.subscript(text, tokens, scope, action.end + 1)?;
-        let subscript = child_of(self.alloc, subscript)?;
-        let depth = action.depth.max(subscript.depth) + 1;
+        let subscript = self.subscript(text, tokens, scope, first.end + 1)?;
+        let depth = first.depth.max(subscript.depth) + 1;
         if depth > self.depth + 1 {
             return Err(Refusal::Nesting(start));
         }
-        Ok(Parsed {
-            tree: Expr::Action(at, step, action.tree, subscript.tree),
-            end: subscript.end,
+        node(
+            self.alloc,
+            Expr::Action(at, step, first.tree, subscript.tree),
+            subscript.end,
             depth,
-        })
+        )
     }
 
     /// `WF_v(A)` or `SF_v(A)`
@@ -142,11 +140,10 @@ impl<F: Fn(Global, &[u8], &[Token], usize, Scope, u8, usize) -> Result<Parsed, R
         ensures { Gives text.now tokens.now (self.now.depth + 1) result (reading.fair text.now tokens.now (expr text.now tokens.now self.now.depth) (self.now.depth + 1) scope at fairness from) }
     {
         let subscript = self.subscript(text, tokens, scope, from + 1)?;
-        let subscript = child_of(self.alloc, subscript)?;
         if !is_kind(Kind::LeftParen, seen(tokens, scope.column, subscript.end)) {
             return Err(refused(tokens, scope.column, subscript.end));
         }
-        let action = self.child(text, tokens, scope, 0, subscript.end + 1)?;
+        let action = self.inner(text, tokens, scope, 0, subscript.end + 1)?;
         if !is_kind(Kind::RightParen, seen(tokens, scope.column, action.end)) {
             return Err(refused(tokens, scope.column, action.end));
         }
@@ -154,11 +151,12 @@ impl<F: Fn(Global, &[u8], &[Token], usize, Scope, u8, usize) -> Result<Parsed, R
         if depth > self.depth + 1 {
             return Err(Refusal::Nesting(from));
         }
-        Ok(Parsed {
-            tree: Expr::Fair(at, fairness, subscript.tree, action.tree),
-            end: action.end + 1,
+        node(
+            self.alloc,
+            Expr::Fair(at, fairness, subscript.tree, action.tree),
+            action.end + 1,
             depth,
-        })
+        )
     }
 
     /// `{x \in S : p}`
@@ -176,20 +174,20 @@ impl<F: Fn(Global, &[u8], &[Token], usize, Scope, u8, usize) -> Result<Parsed, R
         requires small { self.now.depth < 900 }
         ensures { Gives text.now tokens.now (self.now.depth + 1) result (reading.filter text.now tokens.now (expr text.now tokens.now self.now.depth) scope at from) }
     {
-        let found = self.one_group(text, tokens, scope, None, from + 1)?;
-        let set = set_of_binder(self.alloc, found)?;
+        let set = self.one_group(text, tokens, scope, None, from + 1)?;
         if !is_kind(Kind::Colon, seen(tokens, scope.column, set.end)) {
             return Err(refused(tokens, scope.column, set.end));
         }
-        let test = self.child(text, tokens, scope, 0, set.end + 1)?;
+        let test = self.inner(text, tokens, scope, 0, set.end + 1)?;
         if !is_kind(Kind::RightBrace, seen(tokens, scope.column, test.end)) {
             return Err(refused(tokens, scope.column, test.end));
         }
-        Ok(Parsed {
-            tree: Expr::Filter(at, set.pattern, set.set, test.tree),
-            end: test.end + 1,
-            depth: set.depth.max(test.depth) + 1,
-        })
+        node(
+            self.alloc,
+            Expr::Filter(at, set.pattern, set.set, test.tree),
+            test.end + 1,
+            set.depth.max(test.depth) + 1,
+        )
     }
 
     /// `{e : x, y \in S}`, behind e.
@@ -204,21 +202,21 @@ impl<F: Fn(Global, &[u8], &[Token], usize, Scope, u8, usize) -> Result<Parsed, R
     ) -> Result<Parsed, Refusal>
         requires nests { Nests self.now.depth (F.pre self.now.expr) (F.post self.now.expr) }
         requires within { first.end < length tokens.now }
-        requires depth { first.depth ≡ edges.depth (view first.tree) }
+        requires depth { first.depth ≡ edges.depth (view first.tree.value) }
         requires shallow { first.depth ≤ self.now.depth }
         requires small { self.now.depth < 900 }
-        ensures { Gives text.now tokens.now (self.now.depth + 1) result (reading.image text.now tokens.now (expr text.now tokens.now self.now.depth) scope at (view first.tree) first.end) }
+        ensures { Gives text.now tokens.now (self.now.depth + 1) result (reading.image text.now tokens.now (expr text.now tokens.now self.now.depth) scope at (view first.tree.value) first.end) }
     {
-        let element = child_of(self.alloc, first)?;
-        let found = self.groups(text, tokens, scope, None, element.end + 1)?;
+        let found = self.groups(text, tokens, scope, None, first.end + 1)?;
         if !is_kind(Kind::RightBrace, seen(tokens, scope.column, found.end)) {
             return Err(refused(tokens, scope.column, found.end));
         }
-        Ok(Parsed {
-            tree: image_of(at, element.tree, found.binders),
-            end: found.end + 1,
-            depth: element.depth.max(found.depth) + 1,
-        })
+        node(
+            self.alloc,
+            image_of(at, first.tree, found.binders),
+            found.end + 1,
+            first.depth.max(found.depth) + 1,
+        )
     }
 
     /// A set, behind its first expression.
@@ -234,10 +232,10 @@ impl<F: Fn(Global, &[u8], &[Token], usize, Scope, u8, usize) -> Result<Parsed, R
     ) -> Result<Parsed, Refusal>
         requires nests { Nests self.now.depth (F.pre self.now.expr) (F.post self.now.expr) }
         requires within { from < length tokens.now }
-        requires depth { first.depth ≡ edges.depth (view first.tree) }
+        requires depth { first.depth ≡ edges.depth (view first.tree.value) }
         requires shallow { first.depth ≤ self.now.depth }
         requires small { self.now.depth < 900 }
-        ensures { Gives text.now tokens.now (self.now.depth + 1) result (reading.set_of text.now tokens.now (expr text.now tokens.now self.now.depth) scope at from (view first.tree) first.end) }
+        ensures { Gives text.now tokens.now (self.now.depth + 1) result (reading.set_of text.now tokens.now (expr text.now tokens.now self.now.depth) scope at from (view first.tree.value) first.end) }
     {
         if is_kind(Kind::Colon, seen(tokens, scope.column, first.end)) {
             if binds(tokens, scope.column, from + 1).is_some() {
@@ -250,11 +248,12 @@ impl<F: Fn(Global, &[u8], &[Token], usize, Scope, u8, usize) -> Result<Parsed, R
         let found = self.others(text, tokens, scope, Kind::RightBrace, first)?;
         let end = found.end;
         let depth = found.depth + 1;
-        Ok(Parsed {
-            tree: listing_of(at, Brackets::Set, found.items),
+        node(
+            self.alloc,
+            listing_of(at, Brackets::Set, found.items),
             end,
             depth,
-        })
+        )
     }
 
     /// A form in braces.
@@ -273,11 +272,12 @@ impl<F: Fn(Global, &[u8], &[Token], usize, Scope, u8, usize) -> Result<Parsed, R
         ensures { Gives text.now tokens.now (self.now.depth + 1) result (reading.brace text.now tokens.now (expr text.now tokens.now self.now.depth) scope at from) }
     {
         if is_kind(Kind::RightBrace, seen(tokens, scope.column, from + 1)) {
-            return Ok(Parsed {
-                tree: listing_of(at, Brackets::Set, Vec::new(self.alloc)),
-                end: from + 2,
-                depth: 1,
-            });
+            return node(
+                self.alloc,
+                listing_of(at, Brackets::Set, Vec::new(self.alloc)),
+                from + 2,
+                1,
+            );
         }
         if filters(tokens, scope.column, from + 1) {
             return self.filter(text, tokens, scope, at, from);
@@ -302,11 +302,12 @@ impl<F: Fn(Global, &[u8], &[Token], usize, Scope, u8, usize) -> Result<Parsed, R
         ensures { Gives text.now tokens.now (self.now.depth + 1) result (reading.tuple text.now tokens.now (expr text.now tokens.now self.now.depth) (self.now.depth + 1) scope at from) }
     {
         if is_kind(Kind::RightTuple, seen(tokens, scope.column, from + 1)) {
-            return Ok(Parsed {
-                tree: listing_of(at, Brackets::Tuple, Vec::new(self.alloc)),
-                end: from + 2,
-                depth: 1,
-            });
+            return node(
+                self.alloc,
+                listing_of(at, Brackets::Tuple, Vec::new(self.alloc)),
+                from + 2,
+                1,
+            );
         }
         let first = self.inner(text, tokens, scope, 0, from + 1)?;
         if is_kind(
@@ -318,11 +319,12 @@ impl<F: Fn(Global, &[u8], &[Token], usize, Scope, u8, usize) -> Result<Parsed, R
         let found = self.others(text, tokens, scope, Kind::RightTuple, first)?;
         let end = found.end;
         let depth = found.depth + 1;
-        Ok(Parsed {
-            tree: listing_of(at, Brackets::Tuple, found.items),
+        node(
+            self.alloc,
+            listing_of(at, Brackets::Tuple, found.items),
             end,
             depth,
-        })
+        )
     }
 
     /// `[x, y \in S |-> e]`
@@ -344,15 +346,16 @@ impl<F: Fn(Global, &[u8], &[Token], usize, Scope, u8, usize) -> Result<Parsed, R
         if !is_kind(Kind::MapsTo, seen(tokens, scope.column, found.end)) {
             return Err(refused(tokens, scope.column, found.end));
         }
-        let body = self.child(text, tokens, scope, 0, found.end + 1)?;
+        let body = self.inner(text, tokens, scope, 0, found.end + 1)?;
         if !is_kind(Kind::RightBracket, seen(tokens, scope.column, body.end)) {
             return Err(refused(tokens, scope.column, body.end));
         }
-        Ok(Parsed {
-            tree: mapping_of(at, found.binders, body.tree),
-            end: body.end + 1,
-            depth: found.depth.max(body.depth) + 1,
-        })
+        node(
+            self.alloc,
+            mapping_of(at, found.binders, body.tree),
+            body.end + 1,
+            found.depth.max(body.depth) + 1,
+        )
     }
 
     /// `[S -> T]`, behind S.
@@ -367,21 +370,21 @@ impl<F: Fn(Global, &[u8], &[Token], usize, Scope, u8, usize) -> Result<Parsed, R
     ) -> Result<Parsed, Refusal>
         requires nests { Nests self.now.depth (F.pre self.now.expr) (F.post self.now.expr) }
         requires within { first.end < length tokens.now }
-        requires depth { first.depth ≡ edges.depth (view first.tree) }
+        requires depth { first.depth ≡ edges.depth (view first.tree.value) }
         requires shallow { first.depth ≤ self.now.depth }
         requires small { self.now.depth < 900 }
-        ensures { Gives text.now tokens.now (self.now.depth + 1) result (reading.function_set text.now tokens.now (expr text.now tokens.now self.now.depth) scope at (view first.tree) first.end) }
+        ensures { Gives text.now tokens.now (self.now.depth + 1) result (reading.function_set text.now tokens.now (expr text.now tokens.now self.now.depth) scope at (view first.tree.value) first.end) }
     {
-        let domain = child_of(self.alloc, first)?;
-        let range = self.child(text, tokens, scope, 0, domain.end + 1)?;
+        let range = self.inner(text, tokens, scope, 0, first.end + 1)?;
         if !is_kind(Kind::RightBracket, seen(tokens, scope.column, range.end)) {
             return Err(refused(tokens, scope.column, range.end));
         }
-        Ok(Parsed {
-            tree: Expr::FunctionSet(at, domain.tree, range.tree),
-            end: range.end + 1,
-            depth: domain.depth.max(range.depth) + 1,
-        })
+        node(
+            self.alloc,
+            Expr::FunctionSet(at, first.tree, range.tree),
+            range.end + 1,
+            first.depth.max(range.depth) + 1,
+        )
     }
 
     /// A form in brackets that begins with an expression, behind that.
@@ -396,10 +399,10 @@ impl<F: Fn(Global, &[u8], &[Token], usize, Scope, u8, usize) -> Result<Parsed, R
         first: Parsed,
     ) -> Result<Parsed, Refusal>
         requires nests { Nests self.now.depth (F.pre self.now.expr) (F.post self.now.expr) }
-        requires depth { first.depth ≡ edges.depth (view first.tree) }
+        requires depth { first.depth ≡ edges.depth (view first.tree.value) }
         requires shallow { first.depth ≤ self.now.depth }
         requires small { self.now.depth < 900 }
-        ensures { Gives text.now tokens.now (self.now.depth + 1) result (reading.behind_first text.now tokens.now (expr text.now tokens.now self.now.depth) (self.now.depth + 1) scope at (view first.tree) first.end) }
+        ensures { Gives text.now tokens.now (self.now.depth + 1) result (reading.behind_first text.now tokens.now (expr text.now tokens.now self.now.depth) (self.now.depth + 1) scope at (view first.tree.value) first.end) }
     {
         if is_kind(Kind::Arrow, seen(tokens, scope.column, first.end)) {
             return self.function_set(text, tokens, scope, at, first);

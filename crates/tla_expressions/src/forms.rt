@@ -9,7 +9,7 @@ use crate::grammar::Grammar;
 use crate::names::parameters;
 use crate::parts::{
     Parsed, ParsedArm, ParsedArms, ParsedDefinition, ParsedDefinitions, arm_of, case_of,
-    case_with_other, function_of, let_of, quantified_of, set_of_binder,
+    case_with_other, function_of, let_of, node, quantified_of,
 };
 use std::alloc::Global;
 use tla_grammar::{
@@ -42,12 +42,13 @@ impl<F: Fn(Global, &[u8], &[Token], usize, Scope, u8, usize) -> Result<Parsed, R
         if !is_kind(Kind::Colon, seen(tokens, scope.column, found.end)) {
             return Err(refused(tokens, scope.column, found.end));
         }
-        let body = self.child(text, tokens, scope, 0, found.end + 1)?;
-        Ok(Parsed {
-            tree: quantified_of(at, quantifier, found.binders, body.tree),
-            end: body.end,
-            depth: found.depth.max(body.depth) + 1,
-        })
+        let body = self.inner(text, tokens, scope, 0, found.end + 1)?;
+        node(
+            self.alloc,
+            quantified_of(at, quantifier, found.binders, body.tree),
+            body.end,
+            found.depth.max(body.depth) + 1,
+        )
     }
 
     /// `CHOOSE x \in S : p`
@@ -65,17 +66,17 @@ impl<F: Fn(Global, &[u8], &[Token], usize, Scope, u8, usize) -> Result<Parsed, R
         requires small { self.now.depth < 900 }
         ensures { Gives text.now tokens.now (self.now.depth + 1) result (reading.chosen text.now tokens.now (reading.expr text.now tokens.now self.now.depth) scope at from) }
     {
-        let found = self.one_group(text, tokens, scope, Some(from), from + 1)?;
-        let set = set_of_binder(self.alloc, found)?;
+        let set = self.one_group(text, tokens, scope, Some(from), from + 1)?;
         if !is_kind(Kind::Colon, seen(tokens, scope.column, set.end)) {
             return Err(refused(tokens, scope.column, set.end));
         }
-        let body = self.child(text, tokens, scope, 0, set.end + 1)?;
-        Ok(Parsed {
-            tree: Expr::Choose(at, set.pattern, set.set, body.tree),
-            end: body.end,
-            depth: set.depth.max(body.depth) + 1,
-        })
+        let body = self.inner(text, tokens, scope, 0, set.end + 1)?;
+        node(
+            self.alloc,
+            Expr::Choose(at, set.pattern, set.set, body.tree),
+            body.end,
+            set.depth.max(body.depth) + 1,
+        )
     }
 
     /// `IF p THEN a ELSE b`
@@ -93,20 +94,21 @@ impl<F: Fn(Global, &[u8], &[Token], usize, Scope, u8, usize) -> Result<Parsed, R
         requires small { self.now.depth < 900 }
         ensures { Gives text.now tokens.now (self.now.depth + 1) result (reading.choice text.now tokens.now (reading.expr text.now tokens.now self.now.depth) scope at from) }
     {
-        let condition = self.child(text, tokens, scope, 0, from + 1)?;
+        let condition = self.inner(text, tokens, scope, 0, from + 1)?;
         if !is_kind(Kind::Then, seen(tokens, scope.column, condition.end)) {
             return Err(refused(tokens, scope.column, condition.end));
         }
-        let first = self.child(text, tokens, scope, 0, condition.end + 1)?;
+        let first = self.inner(text, tokens, scope, 0, condition.end + 1)?;
         if !is_kind(Kind::Else, seen(tokens, scope.column, first.end)) {
             return Err(refused(tokens, scope.column, first.end));
         }
-        let second = self.child(text, tokens, scope, 0, first.end + 1)?;
-        Ok(Parsed {
-            tree: Expr::If(at, condition.tree, first.tree, second.tree),
-            end: second.end,
-            depth: condition.depth.max(first.depth.max(second.depth)) + 1,
-        })
+        let second = self.inner(text, tokens, scope, 0, first.end + 1)?;
+        node(
+            self.alloc,
+            Expr::If(at, condition.tree, first.tree, second.tree),
+            second.end,
+            condition.depth.max(first.depth.max(second.depth)) + 1,
+        )
     }
 
     /// An arm of CASE.
@@ -122,18 +124,11 @@ impl<F: Fn(Global, &[u8], &[Token], usize, Scope, u8, usize) -> Result<Parsed, R
         ensures { GivesArm text.now tokens.now self.now.depth result (reading.arm_at text.now tokens.now (reading.expr text.now tokens.now self.now.depth) scope from) }
     {
         let guard = self.inner(text, tokens, scope, 0, from)?;
-        let end = guard.end;
-        if !is_kind(Kind::Arrow, seen(tokens, scope.column, end)) {
-            drop(guard);
-            return Err(refused(tokens, scope.column, end));
+        if !is_kind(Kind::Arrow, seen(tokens, scope.column, guard.end)) {
+            return Err(refused(tokens, scope.column, guard.end));
         }
-        match self.inner(text, tokens, scope, 0, end + 1) {
-            Ok(value) => Ok(arm_of(guard, value)),
-            Err(refusal) => {
-                drop(guard);
-                Err(refusal)
-            }
-        }
+        let value = self.inner(text, tokens, scope, 0, guard.end + 1)?;
+        Ok(arm_of(guard, value))
     }
 
     /// The arms of CASE, but for OTHER.
@@ -183,11 +178,7 @@ impl<F: Fn(Global, &[u8], &[Token], usize, Scope, u8, usize) -> Result<Parsed, R
         let end = found.end;
         if !is_kind(Kind::Box, seen(tokens, scope.column, end)) {
             let depth = found.depth + 1;
-            return Ok(Parsed {
-                tree: case_of(at, found.arms),
-                end,
-                depth,
-            });
+            return node(self.alloc, case_of(at, found.arms), end, depth);
         }
         if !is_kind(Kind::Other, seen(tokens, scope.column, end + 1)) {
             return Err(refused(tokens, scope.column, end + 1));
@@ -195,12 +186,13 @@ impl<F: Fn(Global, &[u8], &[Token], usize, Scope, u8, usize) -> Result<Parsed, R
         if !is_kind(Kind::Arrow, seen(tokens, scope.column, end + 2)) {
             return Err(refused(tokens, scope.column, end + 2));
         }
-        let value = self.child(text, tokens, scope, 0, end + 3)?;
-        Ok(Parsed {
-            tree: case_with_other(at, found.arms, value.tree),
-            end: value.end,
-            depth: found.depth.max(value.depth) + 1,
-        })
+        let value = self.inner(text, tokens, scope, 0, end + 3)?;
+        node(
+            self.alloc,
+            case_with_other(at, found.arms, value.tree),
+            value.end,
+            found.depth.max(value.depth) + 1,
+        )
     }
 
     /// `Op(p, ..) == e`, from its first parameter on; the name is the token at `form`.
@@ -229,7 +221,7 @@ impl<F: Fn(Global, &[u8], &[Token], usize, Scope, u8, usize) -> Result<Parsed, R
         let name = written(self.alloc, text, t)?;
         let body = self.inner(text, tokens, scope, 0, end + 2)?;
         Ok(ParsedDefinition {
-            definition: Definition::Operator(name, found.names, body.tree),
+            definition: Definition::Operator(name, found.names, Box::into_inner(body.tree)),
             end: body.end,
             depth: body.depth,
         })
@@ -284,7 +276,11 @@ impl<F: Fn(Global, &[u8], &[Token], usize, Scope, u8, usize) -> Result<Parsed, R
             let name = written(self.alloc, text, t)?;
             let body = self.inner(text, tokens, scope, 0, from + 2)?;
             return Ok(ParsedDefinition {
-                definition: Definition::Operator(name, Vec::new(self.alloc), body.tree),
+                definition: Definition::Operator(
+                    name,
+                    Vec::new(self.alloc),
+                    Box::into_inner(body.tree),
+                ),
                 end: body.end,
                 depth: body.depth,
             });
@@ -367,11 +363,12 @@ impl<F: Fn(Global, &[u8], &[Token], usize, Scope, u8, usize) -> Result<Parsed, R
         if !is_kind(Kind::In, seen(tokens, scope.column, found.end)) {
             return Err(refused(tokens, scope.column, found.end));
         }
-        let body = self.child(text, tokens, scope, 0, found.end + 1)?;
-        Ok(Parsed {
-            tree: let_of(at, found.definitions, body.tree),
-            end: body.end,
-            depth: found.depth.max(body.depth) + 1,
-        })
+        let body = self.inner(text, tokens, scope, 0, found.end + 1)?;
+        node(
+            self.alloc,
+            let_of(at, found.definitions, body.tree),
+            body.end,
+            found.depth.max(body.depth) + 1,
+        )
     }
 }

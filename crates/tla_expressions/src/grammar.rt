@@ -5,10 +5,10 @@ ghost use Rattle.tla_tree.specs.View.{view};
 ghost use Rattle.tla_grammar.specs.Edges as edges;
 ghost use Rattle.tla_grammar.specs.Tokens as spec;
 ghost use Rattle.tla_expressions.specs.Reading as reading;
-ghost use Rattle.tla_expressions.specs.Gives.{Gives, GivesChild, GivesDefinition};
+ghost use Rattle.tla_expressions.specs.Gives.{Gives, GivesDefinition};
 ghost use Rattle.tla_expressions.specs.Private.Nests.{Nests};
 
-use crate::parts::{Parsed, ParsedChild, ParsedDefinition, child_of, index_of};
+use crate::parts::{Parsed, ParsedDefinition, index_of, node};
 use std::alloc::Global;
 use tla_grammar::{
     Postfix, Refusal, Scope, bullet_of, constant_of, edge_allows, high, is_product, name_at,
@@ -48,22 +48,6 @@ impl<F: Fn(Global, &[u8], &[Token], usize, Scope, u8, usize) -> Result<Parsed, R
         (self.expr)(self.alloc, text, tokens, self.depth, scope, floor, at)
     }
 
-    /// The same, for a place in another tree.
-    pub fn child(
-        &self,
-        text: &[u8],
-        tokens: &[Token],
-        scope: Scope,
-        floor: u8,
-        at: usize,
-    ) -> Result<ParsedChild, Refusal>
-        requires { Nests self.now.depth (F.pre self.now.expr) (F.post self.now.expr) }
-        ensures { GivesChild text.now tokens.now self.now.depth result (reading.expr text.now tokens.now self.now.depth scope floor at) }
-    {
-        let found = self.inner(text, tokens, scope, floor, at)?;
-        child_of(self.alloc, found)
-    }
-
     /// `f[e, ..]`, behind the tree, which begins at a token of this number.
     #[tactic(auto, unfolding(crate::specs::Reading::indexed))]
     fn indexed(
@@ -76,23 +60,23 @@ impl<F: Fn(Global, &[u8], &[Token], usize, Scope, u8, usize) -> Result<Parsed, R
     ) -> Result<Parsed, Refusal>
         requires nests { Nests self.now.depth (F.pre self.now.expr) (F.post self.now.expr) }
         requires within { first.end < length tokens.now }
-        requires depth { first.depth ≡ edges.depth (view first.tree) }
+        requires depth { first.depth ≡ edges.depth (view first.tree.value) }
         requires shallow { first.depth ≤ self.now.depth + 1 }
         requires small { self.now.depth < 900 }
-        ensures { Gives text.now tokens.now (self.now.depth + 1) result (reading.indexed text.now tokens.now (reading.expr text.now tokens.now self.now.depth) (self.now.depth + 1) scope (view first.tree) first.end) }
+        ensures { Gives text.now tokens.now (self.now.depth + 1) result (reading.indexed text.now tokens.now (reading.expr text.now tokens.now self.now.depth) (self.now.depth + 1) scope (view first.tree.value) first.end) }
     {
-        let operand = child_of(self.alloc, first)?;
-        let found = self.some(text, tokens, scope, Kind::RightBracket, operand.end + 1)?;
-        let depth = operand.depth.max(found.depth) + 1;
+        let found = self.some(text, tokens, scope, Kind::RightBracket, first.end + 1)?;
+        let depth = first.depth.max(found.depth) + 1;
         if depth > self.depth + 1 {
             return Err(Refusal::Nesting(start));
         }
-        let at = operand.tree.place();
-        Ok(Parsed {
-            tree: index_of(at, operand.tree, found.items),
-            end: found.end,
+        let at = first.tree.place();
+        node(
+            self.alloc,
+            index_of(at, first.tree, found.items),
+            found.end,
             depth,
-        })
+        )
     }
 
     /// One more postfix form behind the tree, which begins at a token of this number.
@@ -107,42 +91,42 @@ impl<F: Fn(Global, &[u8], &[Token], usize, Scope, u8, usize) -> Result<Parsed, R
     ) -> Result<Parsed, Refusal>
         requires nests { Nests self.now.depth (F.pre self.now.expr) (F.post self.now.expr) }
         requires within { first.end < length tokens.now }
-        requires depth { first.depth ≡ edges.depth (view first.tree) }
+        requires depth { first.depth ≡ edges.depth (view first.tree.value) }
         requires shallow { first.depth ≤ self.now.depth + 1 }
         requires small { self.now.depth < 900 }
-        ensures { Gives text.now tokens.now (self.now.depth + 1) result (reading.behind text.now tokens.now (reading.expr text.now tokens.now self.now.depth) (self.now.depth + 1) scope (view first.tree) form first.end) }
+        ensures { Gives text.now tokens.now (self.now.depth + 1) result (reading.behind text.now tokens.now (reading.expr text.now tokens.now self.now.depth) (self.now.depth + 1) scope (view first.tree.value) form first.end) }
     {
         match form {
             Postfix::Index => self.indexed(text, tokens, scope, start, first),
             Postfix::Prime => {
-                let operand = child_of(self.alloc, first)?;
-                let depth = operand.depth + 1;
+                let depth = first.depth + 1;
                 if depth > self.depth + 1 {
                     return Err(Refusal::Nesting(start));
                 }
-                let at = operand.tree.place();
-                Ok(Parsed {
-                    tree: Expr::Prime(at, operand.tree),
-                    end: operand.end + 1,
+                let at = first.tree.place();
+                node(
+                    self.alloc,
+                    Expr::Prime(at, first.tree),
+                    first.end + 1,
                     depth,
-                })
+                )
             }
             Postfix::Field => {
-                let operand = child_of(self.alloc, first)?;
-                let Some(name) = name_at(seen(tokens, scope.column, operand.end + 1)) else {
-                    return Err(refused(tokens, scope.column, operand.end + 1));
+                let Some(name) = name_at(seen(tokens, scope.column, first.end + 1)) else {
+                    return Err(refused(tokens, scope.column, first.end + 1));
                 };
-                let depth = operand.depth + 1;
+                let depth = first.depth + 1;
                 if depth > self.depth + 1 {
                     return Err(Refusal::Nesting(start));
                 }
                 let name = written(self.alloc, text, name)?;
-                let at = operand.tree.place();
-                Ok(Parsed {
-                    tree: Expr::Field(at, operand.tree, name),
-                    end: operand.end + 2,
+                let at = first.tree.place();
+                node(
+                    self.alloc,
+                    Expr::Field(at, first.tree, name),
+                    first.end + 2,
                     depth,
-                })
+                )
             }
         }
     }
@@ -158,10 +142,10 @@ impl<F: Fn(Global, &[u8], &[Token], usize, Scope, u8, usize) -> Result<Parsed, R
         first: Parsed,
     ) -> Result<Parsed, Refusal>
         requires nests { Nests self.now.depth (F.pre self.now.expr) (F.post self.now.expr) }
-        requires depth { first.depth ≡ edges.depth (view first.tree) }
+        requires depth { first.depth ≡ edges.depth (view first.tree.value) }
         requires shallow { first.depth ≤ self.now.depth + 1 }
         requires small { self.now.depth < 900 }
-        ensures { Gives text.now tokens.now (self.now.depth + 1) result (reading.postfixes text.now tokens.now (reading.expr text.now tokens.now self.now.depth) (self.now.depth + 1) scope (view first.tree) first.end) }
+        ensures { Gives text.now tokens.now (self.now.depth + 1) result (reading.postfixes text.now tokens.now (reading.expr text.now tokens.now self.now.depth) (self.now.depth + 1) scope (view first.tree.value) first.end) }
     {
         let mut left = first;
         for _turn in 0..self.depth + 1 {
@@ -195,12 +179,8 @@ impl<F: Fn(Global, &[u8], &[Token], usize, Scope, u8, usize) -> Result<Parsed, R
         requires small { self.now.depth < 900 }
         ensures { Gives text.now tokens.now (self.now.depth + 1) result (reading.prefix text.now tokens.now (reading.expr text.now tokens.now self.now.depth) scope op at from) }
     {
-        let e = self.child(text, tokens, scope, prefix_high(op), from + 1)?;
-        Ok(Parsed {
-            tree: Expr::Unary(at, op, e.tree),
-            end: e.end,
-            depth: e.depth + 1,
-        })
+        let e = self.inner(text, tokens, scope, prefix_high(op), from + 1)?;
+        node(self.alloc, Expr::Unary(at, op, e.tree), e.end, e.depth + 1)
     }
 
     /// The tree, which begins at a token of this number, under one more operator.
@@ -216,34 +196,33 @@ impl<F: Fn(Global, &[u8], &[Token], usize, Scope, u8, usize) -> Result<Parsed, R
     ) -> Result<Parsed, Refusal>
         requires nests { Nests self.now.depth (F.pre self.now.expr) (F.post self.now.expr) }
         requires within { left.end < length tokens.now }
-        requires depth { left.depth ≡ edges.depth (view left.tree) }
+        requires depth { left.depth ≡ edges.depth (view left.tree.value) }
         requires shallow { left.depth ≤ self.now.depth + 1 }
         requires small { self.now.depth < 900 }
-        ensures { Gives text.now tokens.now (self.now.depth + 1) result (reading.turn text.now tokens.now (reading.expr text.now tokens.now self.now.depth) (self.now.depth + 1) scope (view left.tree) op left.end) }
+        ensures { Gives text.now tokens.now (self.now.depth + 1) result (reading.turn text.now tokens.now (reading.expr text.now tokens.now self.now.depth) (self.now.depth + 1) scope (view left.tree.value) op left.end) }
     {
         if is_product(op) {
             return self.product(text, tokens, scope, start, left);
         }
-        let is_allowed = edge_allows(&left.tree, op);
-        let left = child_of(self.alloc, left)?;
-        if !is_allowed {
+        if !edge_allows(left.tree.as_ref(), op) {
             return Err(Refusal::Precedence(left.end));
         }
         let Some(sign) = seen(tokens, scope.column, left.end) else {
             return Err(refused(tokens, scope.column, left.end));
         };
         let sign = written(self.alloc, text, sign)?;
-        let right = self.child(text, tokens, scope, high(op), left.end + 1)?;
+        let right = self.inner(text, tokens, scope, high(op), left.end + 1)?;
         let depth = left.depth.max(right.depth) + 1;
         if depth > self.depth + 1 {
             return Err(Refusal::Nesting(start));
         }
         let at = left.tree.place();
-        Ok(Parsed {
-            tree: Expr::Binary(at, op, sign, left.tree, right.tree),
-            end: right.end,
+        node(
+            self.alloc,
+            Expr::Binary(at, op, sign, left.tree, right.tree),
+            right.end,
             depth,
-        })
+        )
     }
 
     /// The operand that begins at a token of this number, under the operators that follow.
@@ -258,10 +237,10 @@ impl<F: Fn(Global, &[u8], &[Token], usize, Scope, u8, usize) -> Result<Parsed, R
         first: Parsed,
     ) -> Result<Parsed, Refusal>
         requires nests { Nests self.now.depth (F.pre self.now.expr) (F.post self.now.expr) }
-        requires depth { first.depth ≡ edges.depth (view first.tree) }
+        requires depth { first.depth ≡ edges.depth (view first.tree.value) }
         requires shallow { first.depth ≤ self.now.depth + 1 }
         requires small { self.now.depth < 900 }
-        ensures { Gives text.now tokens.now (self.now.depth + 1) result (reading.climb text.now tokens.now (reading.expr text.now tokens.now self.now.depth) self.now.depth (self.now.depth + 1) scope floor (view first.tree) first.end) }
+        ensures { Gives text.now tokens.now (self.now.depth + 1) result (reading.climb text.now tokens.now (reading.expr text.now tokens.now self.now.depth) self.now.depth (self.now.depth + 1) scope floor (view first.tree.value) first.end) }
     {
         let mut left = first;
         for _turn in 0..self.depth {
@@ -294,11 +273,7 @@ impl<F: Fn(Global, &[u8], &[Token], usize, Scope, u8, usize) -> Result<Parsed, R
         requires small { self.now.depth < 900 }
         ensures { Gives text.now tokens.now (self.now.depth + 1) result (reading.postfixes text.now tokens.now (reading.expr text.now tokens.now self.now.depth) (self.now.depth + 1) scope (view tree) (from + 1)) }
     {
-        let first = Parsed {
-            tree,
-            end: from + 1,
-            depth: 1,
-        };
+        let first = node(self.alloc, tree, from + 1, 1)?;
         self.postfixes(text, tokens, scope, from, first)
     }
 

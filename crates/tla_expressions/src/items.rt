@@ -12,15 +12,16 @@ ghost use Rattle.tla_expressions.specs.Private.Nests.{Nests};
 use crate::grammar::Grammar;
 use crate::names::{ParsedPattern, pattern, single};
 use crate::parts::{
-    Parsed, ParsedBinder, ParsedBinders, ParsedItems, call_of, junction_of, listing_of,
+    Parsed, ParsedBinder, ParsedBinders, ParsedItems, binder_of, call_of, junction_of, listing_of,
+    node,
 };
 use std::alloc::Global;
 use tla_grammar::{
-    Between, Refusal, Scope, closing, following, is_kind, may_follow, push, refused,
+    Between, Refusal, Scope, closing, following, is_kind, may_follow, push, push_inner, refused,
     refused_binder, seen, written,
 };
 use tla_lex::{Kind, Place, Token};
-use tla_tree::{Binder, Brackets, Bullet, Expr};
+use tla_tree::{Brackets, Bullet, Expr};
 
 impl<F: Fn(Global, &[u8], &[Token], usize, Scope, u8, usize) -> Result<Parsed, Refusal>> Grammar<
     F,
@@ -47,7 +48,7 @@ impl<F: Fn(Global, &[u8], &[Token], usize, Scope, u8, usize) -> Result<Parsed, R
             let e = self.inner(text, tokens, scope, 0, at)?;
             let end = e.end;
             depth = depth.max(e.depth);
-            push(&mut items, e.tree)?;
+            push_inner(&mut items, e.tree)?;
             let Some(next) = following(tokens, scope.column, between, end) else {
                 return Ok(ParsedItems { items, end, depth });
             };
@@ -118,20 +119,22 @@ impl<F: Fn(Global, &[u8], &[Token], usize, Scope, u8, usize) -> Result<Parsed, R
     {
         let close = closing(brackets);
         if is_kind(close, seen(tokens, scope.column, from + 1)) {
-            return Ok(Parsed {
-                tree: listing_of(at, brackets, Vec::new(self.alloc)),
-                end: from + 2,
-                depth: 1,
-            });
+            return node(
+                self.alloc,
+                listing_of(at, brackets, Vec::new(self.alloc)),
+                from + 2,
+                1,
+            );
         }
         let found = self.some(text, tokens, scope, close, from + 1)?;
         let end = found.end;
         let depth = found.depth + 1;
-        Ok(Parsed {
-            tree: listing_of(at, brackets, found.items),
+        node(
+            self.alloc,
+            listing_of(at, brackets, found.items),
             end,
             depth,
-        })
+        )
     }
 
     /// A name alone, or with arguments.
@@ -151,20 +154,12 @@ impl<F: Fn(Global, &[u8], &[Token], usize, Scope, u8, usize) -> Result<Parsed, R
     {
         let name = written(self.alloc, text, t)?;
         if !is_kind(Kind::LeftParen, seen(tokens, scope.column, from + 1)) {
-            return Ok(Parsed {
-                tree: Expr::Name(name),
-                end: from + 1,
-                depth: 1,
-            });
+            return node(self.alloc, Expr::Name(name), from + 1, 1);
         }
         let found = self.some(text, tokens, scope, Kind::RightParen, from + 2)?;
         let end = found.end;
         let depth = found.depth + 1;
-        Ok(Parsed {
-            tree: call_of(name, found.items),
-            end,
-            depth,
-        })
+        node(self.alloc, call_of(name, found.items), end, depth)
     }
 
     /// `(e)`
@@ -182,15 +177,11 @@ impl<F: Fn(Global, &[u8], &[Token], usize, Scope, u8, usize) -> Result<Parsed, R
         requires small { self.now.depth < 900 }
         ensures { Gives text.now tokens.now (self.now.depth + 1) result (lists.paren text.now tokens.now (reading.expr text.now tokens.now self.now.depth) scope at from) }
     {
-        let e = self.child(text, tokens, scope, 0, from + 1)?;
+        let e = self.inner(text, tokens, scope, 0, from + 1)?;
         if !is_kind(Kind::RightParen, seen(tokens, scope.column, e.end)) {
             return Err(refused(tokens, scope.column, e.end));
         }
-        Ok(Parsed {
-            tree: Expr::Paren(at, e.tree),
-            end: e.end + 1,
-            depth: e.depth + 1,
-        })
+        node(self.alloc, Expr::Paren(at, e.tree), e.end + 1, e.depth + 1)
     }
 
     /// The set of an entry, behind its names. The form at `form` may be left out for its binders.
@@ -211,10 +202,8 @@ impl<F: Fn(Global, &[u8], &[Token], usize, Scope, u8, usize) -> Result<Parsed, R
         }
         let set = self.inner(text, tokens, scope, 0, front.end + 1)?;
         Ok(ParsedBinder {
-            binder: Binder {
-                pattern: front.pattern,
-                set: set.tree,
-            },
+            pattern: front.pattern,
+            set: set.tree,
             end: set.end,
             depth: set.depth,
         })
@@ -277,7 +266,7 @@ impl<F: Fn(Global, &[u8], &[Token], usize, Scope, u8, usize) -> Result<Parsed, R
             let group = self.group(text, tokens, scope, form, at)?;
             let end = group.end;
             depth = depth.max(group.depth);
-            push(&mut binders, group.binder)?;
+            push(&mut binders, binder_of(group.pattern, group.set))?;
             let Some(next) = following(tokens, scope.column, Between::Comma, end) else {
                 return Ok(ParsedBinders {
                     binders,
@@ -313,10 +302,6 @@ impl<F: Fn(Global, &[u8], &[Token], usize, Scope, u8, usize) -> Result<Parsed, R
         }
         let end = found.end;
         let depth = found.depth + 1;
-        Ok(Parsed {
-            tree: junction_of(at, bullet, found.items),
-            end,
-            depth,
-        })
+        node(self.alloc, junction_of(at, bullet, found.items), end, depth)
     }
 }

@@ -1,6 +1,9 @@
 //! What the rules of expressions hand on, and nodes made of lists.
 
-ghost use Rattle.std.specs.Prelude.{◌≡◌, max, IfOk, IfErr, OnOk, map, [], ◌∷◌, ◌++◌};
+ghost use Rattle.std.specs.Prelude.{◌≡◌, ◌≤◌, ℕ, List, Ok, max, IfOk, IfErr, map};
+ghost use Rattle.tla_lex.specs.declared.token.Token.{Token};
+ghost use Rattle.tla_grammar.specs.Edges as edges;
+ghost use Rattle.tla_expressions.specs.Gives.{Gives};
 ghost use Rattle.tla_tree.specs.View.{view, group_view, choice_view, definition_view};
 ghost use Rattle.tla_tree.specs.Tree as tree;
 ghost use Rattle.tla_tree.specs.Tree.{trees, binders};
@@ -12,10 +15,10 @@ use tla_tree::{Arm, Binder, Brackets, Bullet, Definition, Expr, Pattern, Quantif
 
 /// A tree, the number of the token after it, and its depth.
 ///
-/// Where one is given up, `drop` is called: it is proved once, while the tree's parts, dropped in place, are gone through by each proof.
+/// It stands in a box, which a rule lets go in one step where it stops early; of a tree in place each proof would go through all parts.
 #[derive(Drop)]
 pub struct Parsed {
-    pub tree: Expr,
+    pub tree: Box<Expr>,
     pub end: usize,
     pub depth: usize,
 }
@@ -28,17 +31,9 @@ pub struct ParsedItems {
     pub depth: usize,
 }
 
-/// A group of a binder list, the number of the token after it, and the depth of its set.
+/// An entry of a binder list, the number of the token after it, and the depth of its set.
 #[derive(Drop)]
 pub struct ParsedBinder {
-    pub binder: Binder,
-    pub end: usize,
-    pub depth: usize,
-}
-
-/// The same, with its set for a place in another tree.
-#[derive(Drop)]
-pub struct ParsedSet {
     pub pattern: Pattern,
     pub set: Box<Expr>,
     pub end: usize,
@@ -53,49 +48,32 @@ pub struct ParsedBinders {
     pub depth: usize,
 }
 
-pub fn boxed(alloc: Global, tree: Expr) -> Result<Box<Expr>, Refusal>
+fn boxed(alloc: Global, tree: Expr) -> Result<Box<Expr>, Refusal>
     ensures ok { IfOk result (λ b. b.value ≡ tree) }
     ensures err { IfErr result (λ e. e ≡ Refusal.NoMemory) }
 {
     Box::new(alloc, tree).ok().ok_or(Refusal::NoMemory)
 }
 
-/// An entry of a binder, with its set in a box. The only error is want of memory.
-pub fn set_of_binder(alloc: Global, found: ParsedBinder) -> Result<ParsedSet, Refusal>
-    ensures pattern { IfOk result (λ x. x.pattern ≡ found.binder.pattern) }
-    ensures set { IfOk result (λ x. x.set.value ≡ found.binder.set) }
-    ensures end { IfOk result (λ x. x.end ≡ found.end) }
-    ensures depth { IfOk result (λ x. x.depth ≡ found.depth) }
+/// The tree, which has this depth, in a box, with the number of the token after it. The only error is want of memory.
+pub fn node(alloc: Global, tree: Expr, end: usize, depth: usize) -> Result<Parsed, Refusal>
+    requires { depth ≡ edges.depth (view tree) }
+    ensures gives { (text : List ℕ) (tokens : List Token) (most : ℕ) → depth ≤ most → Gives text tokens most result (Ok (view tree, end)) }
     ensures err { IfErr result (λ e. e ≡ Refusal.NoMemory) }
 {
-    let ParsedBinder { binder, end, depth } = found;
-    let Binder { pattern, set } = binder;
-    let set = boxed(alloc, set)?;
-    Ok(ParsedSet {
-        pattern,
-        set,
-        end,
-        depth,
-    })
-}
-
-/// A tree that stands in another one, the number of the token after it, and its depth.
-#[derive(Drop)]
-pub struct ParsedChild {
-    pub tree: Box<Expr>,
-    pub end: usize,
-    pub depth: usize,
-}
-
-pub fn child_of(alloc: Global, found: Parsed) -> Result<ParsedChild, Refusal>
-    ensures tree { IfOk result (λ c. c.tree.value ≡ found.tree) }
-    ensures end { IfOk result (λ c. c.end ≡ found.end) }
-    ensures depth { IfOk result (λ c. c.depth ≡ found.depth) }
-    ensures err { IfErr result (λ e. e ≡ Refusal.NoMemory) }
-{
-    let Parsed { tree, end, depth } = found;
     let tree = boxed(alloc, tree)?;
-    Ok(ParsedChild { tree, end, depth })
+    Ok(Parsed { tree, end, depth })
+}
+
+/// An entry of a binder list.
+pub fn binder_of(pattern: Pattern, set: Box<Expr>) -> Binder
+    ensures pattern { result.pattern ≡ pattern }
+    ensures set { result.set ≡ set.value }
+{
+    Binder {
+        pattern,
+        set: Box::into_inner(set),
+    }
 }
 
 /// An arm of CASE, the number of the token after it, and the greatest depth in it.
@@ -108,28 +86,18 @@ pub struct ParsedArm {
 
 /// An arm of CASE, from its guard and its value.
 pub fn arm_of(guard: Parsed, value: Parsed) -> ParsedArm
-    ensures guard { result.arm.guard ≡ guard.tree }
-    ensures value { result.arm.value ≡ value.tree }
+    ensures guard { result.arm.guard ≡ guard.tree.value }
+    ensures value { result.arm.value ≡ value.tree.value }
     ensures end { result.end ≡ value.end }
     ensures depth { result.depth ≡ max guard.depth value.depth }
 {
-    let Parsed {
-        tree: first,
-        end: _,
-        depth,
-    } = guard;
-    let Parsed {
-        tree,
-        end,
-        depth: other,
-    } = value;
     ParsedArm {
         arm: Arm {
-            guard: first,
-            value: tree,
+            guard: Box::into_inner(guard.tree),
+            value: Box::into_inner(value.tree),
         },
-        end,
-        depth: depth.max(other),
+        end: value.end,
+        depth: guard.depth.max(value.depth),
     }
 }
 
@@ -216,10 +184,10 @@ pub fn let_of(at: Place, definitions: Vec<Definition>, body: Box<Expr>) -> Expr
     Expr::Let(at, definitions, body)
 }
 
-pub fn function_of(name: Written, groups: Vec<Binder>, body: Expr) -> Definition
-    ensures { definition_view result ≡ tree.DefinesFunction name (binders (map group_view groups.items)) (view body) }
+pub fn function_of(name: Written, groups: Vec<Binder>, body: Box<Expr>) -> Definition
+    ensures { definition_view result ≡ tree.DefinesFunction name (binders (map group_view groups.items)) (view body.value) }
 {
-    Definition::Function(name, groups, body)
+    Definition::Function(name, groups, Box::into_inner(body))
 }
 
 pub fn image_of(at: Place, element: Box<Expr>, groups: Vec<Binder>) -> Expr

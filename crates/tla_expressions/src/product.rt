@@ -8,10 +8,10 @@ ghost use Rattle.tla_expressions.specs.Gives.{Gives, GivesItems};
 ghost use Rattle.tla_expressions.specs.Private.Nests.{Nests};
 
 use crate::grammar::Grammar;
-use crate::parts::{Parsed, ParsedItems, child_of, product_of};
+use crate::parts::{Parsed, ParsedItems, node, product_of};
 use std::alloc::Global;
 use tla_grammar::{
-    Between, Refusal, Scope, edge_allows, following, high, is_kind, push, refused, seen,
+    Between, Refusal, Scope, edge_allows, following, high, is_kind, push_inner, refused, seen,
 };
 use tla_lex::{Kind, Token};
 use tla_tree::Infix;
@@ -33,7 +33,7 @@ impl<F: Fn(Global, &[u8], &[Token], usize, Scope, u8, usize) -> Result<Parsed, R
     {
         let e = self.inner(text, tokens, scope, high(Infix::Product), from)?;
         if is_kind(Kind::Product, seen(tokens, scope.column, e.end))
-            && !edge_allows(&e.tree, Infix::Product)
+            && !edge_allows(e.tree.as_ref(), Infix::Product)
         {
             let end = e.end;
             drop(e);
@@ -61,7 +61,7 @@ impl<F: Fn(Global, &[u8], &[Token], usize, Scope, u8, usize) -> Result<Parsed, R
             let e = self.factor(text, tokens, scope, at)?;
             let end = e.end;
             depth = depth.max(e.depth);
-            push(&mut items, e.tree)?;
+            push_inner(&mut items, e.tree)?;
             let Some(next) = following(tokens, scope.column, Between::Product, end) else {
                 return Ok(ParsedItems { items, end, depth });
             };
@@ -82,26 +82,25 @@ impl<F: Fn(Global, &[u8], &[Token], usize, Scope, u8, usize) -> Result<Parsed, R
     ) -> Result<Parsed, Refusal>
         requires nests { Nests self.now.depth (F.pre self.now.expr) (F.post self.now.expr) }
         requires within { first.end < length tokens.now }
-        requires depth { first.depth ≡ edges.depth (view first.tree) }
+        requires depth { first.depth ≡ edges.depth (view first.tree.value) }
         requires shallow { first.depth ≤ self.now.depth + 1 }
         requires small { self.now.depth < 900 }
-        ensures { Gives text.now tokens.now (self.now.depth + 1) result (reading.product text.now tokens.now (reading.expr text.now tokens.now self.now.depth) (self.now.depth + 1) scope (view first.tree) first.end) }
+        ensures { Gives text.now tokens.now (self.now.depth + 1) result (reading.product text.now tokens.now (reading.expr text.now tokens.now self.now.depth) (self.now.depth + 1) scope (view first.tree.value) first.end) }
     {
-        let is_allowed = edge_allows(&first.tree, Infix::Product);
-        let operand = child_of(self.alloc, first)?;
-        if !is_allowed {
-            return Err(Refusal::Precedence(operand.end));
+        if !edge_allows(first.tree.as_ref(), Infix::Product) {
+            return Err(Refusal::Precedence(first.end));
         }
-        let found = self.factors(text, tokens, scope, operand.end + 1)?;
-        let depth = operand.depth.max(found.depth) + 1;
+        let found = self.factors(text, tokens, scope, first.end + 1)?;
+        let depth = first.depth.max(found.depth) + 1;
         if depth > self.depth + 1 {
             return Err(Refusal::Nesting(start));
         }
-        let at = operand.tree.place();
-        Ok(Parsed {
-            tree: product_of(at, operand.tree, found.items),
-            end: found.end,
+        let at = first.tree.place();
+        node(
+            self.alloc,
+            product_of(at, first.tree, found.items),
+            found.end,
             depth,
-        })
+        )
     }
 }

@@ -12,7 +12,7 @@ ghost use Rattle.tla_expressions.specs.Private.Nests.{Nests};
 ghost use Rattle.tla_expressions.specs.Private.GivesRecords.{GivesField, GivesFields, GivesKey, GivesKeys, GivesUpdate, GivesUpdates};
 
 use crate::grammar::Grammar;
-use crate::parts::{Parsed, child_of};
+use crate::parts::{Parsed, node};
 use crate::record_parts::{
     ParsedField, ParsedFields, ParsedKey, ParsedKeys, ParsedUpdate, ParsedUpdates, except_of,
     key_of, record_of, record_set_of,
@@ -52,7 +52,7 @@ impl<F: Fn(Global, &[u8], &[Token], usize, Scope, u8, usize) -> Result<Parsed, R
         Ok(ParsedField {
             field: Field {
                 name,
-                value: value.tree,
+                value: Box::into_inner(value.tree),
             },
             end: value.end,
             depth: value.depth,
@@ -109,11 +109,7 @@ impl<F: Fn(Global, &[u8], &[Token], usize, Scope, u8, usize) -> Result<Parsed, R
         }
         let end = found.end + 1;
         let depth = found.depth + 1;
-        Ok(Parsed {
-            tree: record_of(at, found.fields),
-            end,
-            depth,
-        })
+        node(self.alloc, record_of(at, found.fields), end, depth)
     }
 
     /// `[a : S, ..]`
@@ -137,11 +133,7 @@ impl<F: Fn(Global, &[u8], &[Token], usize, Scope, u8, usize) -> Result<Parsed, R
         }
         let end = found.end + 1;
         let depth = found.depth + 1;
-        Ok(Parsed {
-            tree: record_set_of(at, found.fields),
-            end,
-            depth,
-        })
+        node(self.alloc, record_set_of(at, found.fields), end, depth)
     }
 
     /// A step of a path.
@@ -234,7 +226,7 @@ impl<F: Fn(Global, &[u8], &[Token], usize, Scope, u8, usize) -> Result<Parsed, R
         Ok(ParsedUpdate {
             update: Update {
                 path: found.keys,
-                value: value.tree,
+                value: Box::into_inner(value.tree),
             },
             end: value.end,
             depth: found.depth.max(value.depth),
@@ -285,20 +277,20 @@ impl<F: Fn(Global, &[u8], &[Token], usize, Scope, u8, usize) -> Result<Parsed, R
     ) -> Result<Parsed, Refusal>
         requires nests { Nests self.now.depth (F.pre self.now.expr) (F.post self.now.expr) }
         requires within { first.end < length tokens.now }
-        requires depth { first.depth ≡ edges.depth (view first.tree) }
+        requires depth { first.depth ≡ edges.depth (view first.tree.value) }
         requires shallow { first.depth ≤ self.now.depth }
         requires small { self.now.depth < 900 }
-        ensures { Gives text.now tokens.now (self.now.depth + 1) result (reading.except text.now tokens.now (expr text.now tokens.now self.now.depth) scope at (view first.tree) first.end) }
+        ensures { Gives text.now tokens.now (self.now.depth + 1) result (reading.except text.now tokens.now (expr text.now tokens.now self.now.depth) scope at (view first.tree.value) first.end) }
     {
-        let function = child_of(self.alloc, first)?;
-        let found = self.changes(text, tokens, scope, function.end + 1)?;
+        let found = self.changes(text, tokens, scope, first.end + 1)?;
         if !is_kind(Kind::RightBracket, seen(tokens, scope.column, found.end)) {
             return Err(refused(tokens, scope.column, found.end));
         }
-        Ok(Parsed {
-            tree: except_of(at, function.tree, found.updates),
-            end: found.end + 1,
-            depth: function.depth.max(found.depth) + 1,
-        })
+        node(
+            self.alloc,
+            except_of(at, first.tree, found.updates),
+            found.end + 1,
+            first.depth.max(found.depth) + 1,
+        )
     }
 }

@@ -12,7 +12,7 @@ mod tokens;
 
 pub use ahead::{Opened, binds, filters, opened_by};
 pub use binders::refused_binder;
-pub use list::push;
+pub use list::{push, push_inner};
 pub use modules::is_module;
 pub use operators::{
     bullet_of, constant_of, edge_allows, high, is_product, prefix_high, prefix_of, quantifier_of,

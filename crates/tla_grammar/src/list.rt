@@ -14,3 +14,11 @@ pub fn push<T: Drop>(items: &mut Vec<T>, item: T) -> Result<(), Refusal>
         Err(_) => Err(Refusal::NoMemory),
     }
 }
+
+/// Adds what stands in the box behind the others.
+pub fn push_inner<T: Drop>(items: &mut Vec<T>, item: Box<T>) -> Result<(), Refusal>
+    ensures ok { OnOk result (items.new.items ≡ items.old.items ++ item.value ∷ []) }
+    ensures err { IfErr result (λ e. e ≡ Refusal.NoMemory) }
+{
+    push(items, Box::into_inner(item))
+}

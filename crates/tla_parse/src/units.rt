@@ -213,7 +213,7 @@ fn claim(alloc: Global, text: &[u8], tokens: &[Token], from: usize) -> Result<Pa
             let e = expr(alloc, text, tokens, MAX_DEPTH, OUTERMOST, 0, from)?;
             Ok(ParsedClaim {
                 name: None,
-                body: e.tree,
+                body: Box::into_inner(e.tree),
                 end: e.end,
             })
         }
@@ -222,7 +222,7 @@ fn claim(alloc: Global, text: &[u8], tokens: &[Token], from: usize) -> Result<Pa
             let e = expr(alloc, text, tokens, MAX_DEPTH, OUTERMOST, 0, from + 2)?;
             Ok(ParsedClaim {
                 name: Some(name),
-                body: e.tree,
+                body: Box::into_inner(e.tree),
                 end: e.end,
             })
         }
