@@ -2,7 +2,7 @@
 ghost use Rattle.std.specs.Prelude.{◌≡◌, length, IfOk};
 
 use crate::hashing::Zero;
-use crate::inputs::{deepest, formula, model, model_of_action, numbers};
+use crate::inputs::{TwoNumbers, deepest, formula, model, model_of_action, numbers, two_numbers};
 use crate::refusal::Refusal;
 use crate::subject::{Pieces, Subject};
 use std::alloc::{AllocError, Global};
@@ -24,15 +24,16 @@ pub enum Call {
     InsertDeep,
     Power,
     Configure,
-    Build,
-    /// Of the places of an action.
-    Places,
     On(OnModel),
 }
 
 /// A call on the model of a module.
 #[derive(Clone, Copy)]
 pub enum OnModel {
+    /// None: whether there is a model is asked.
+    Build,
+    /// Of the places of its action.
+    Places,
     Evaluate,
     Member,
     Initials,
@@ -78,13 +79,13 @@ where
 }
 
 /// Puts a value into a set of two that has no room for a third.
-fn inserted(alloc: Global, value: Value) -> Result<Made, Refusal> {
-    let lent = numbers(alloc, &[1, 3])?;
-    let mut set = SetValue::from_values(numbers(alloc, &[1, 3])?)?;
+fn inserted(two: TwoNumbers, value: Value) -> Result<Made, Refusal> {
+    let mut set = two.set;
     let answer = set.insert(value);
+    let left = set.into_items()?;
     Ok(Made {
-        lent,
-        left: set.into_items()?,
+        lent: two.list,
+        left,
         answer: answer.map(Answer::Truth).map_err(Refusal::from),
     })
 }
@@ -102,11 +103,6 @@ fn configured(alloc: Global) -> Made {
     unlent(alloc, answer.map(|_| Answer::Configuration))
 }
 
-/// The model of a module that assumes this formula.
-fn built(alloc: Global, formula: Pieces) -> Made {
-    unlent(alloc, model(alloc, formula).map(|_| Answer::Model))
-}
-
 /// The place of a node, and those of its parts where it is a list of truths. No fault can stand there, so no report tells
 /// them.
 fn places_of(alloc: Global, core: &Core) -> Result<Vec<Place>, AllocError> {
@@ -120,11 +116,9 @@ fn places_of(alloc: Global, core: &Core) -> Result<Vec<Place>, AllocError> {
     Ok(places)
 }
 
-/// The places of the action A of these definitions.
-fn placed(alloc: Global, definitions: Pieces) -> Result<Made, Refusal> {
-    let model = model_of_action(alloc, definitions)?;
-    let places = places_of(alloc, model.next());
-    Ok(unlent(alloc, places.map(Answer::Places)))
+/// The places of the next-state action.
+fn placed(alloc: Global, model: &Model) -> Made {
+    unlent(alloc, places_of(alloc, model.next()).map(Answer::Places))
 }
 
 /// No next value, and twice the values of the bound names, of which b is 7.
@@ -235,12 +229,39 @@ fn make_on<R: AllocGlobal + Threads + Wait + Sync>(
 ) -> Result<Made, Refusal> {
     let alloc = rt.alloc();
     match call {
+        OnModel::Build => Ok(unlent(alloc, Ok::<Answer, Refusal>(Answer::Model))),
+        OnModel::Places => Ok(placed(alloc, model)),
         OnModel::Evaluate => evaluated(alloc, model),
         OnModel::Member => tested(alloc, model),
         OnModel::Initials => Ok(begun(alloc, model)),
         OnModel::Successors => followed(alloc, model),
         OnModel::Search(workers, limit) => Ok(searched(rt, alloc, model, workers, limit)),
         OnModel::SearchOfOneHash => Ok(searched_by_one_hash(rt, alloc, model)),
+    }
+}
+
+/// Makes a call on the model of a module. The model is let go by `drop`, which is proved once: let go in place, its formulas
+/// would be gone through by this proof.
+fn make_on_model<R: AllocGlobal + Threads + Wait + Sync>(
+    rt: &R,
+    formula: Pieces,
+    call: OnModel,
+) -> Result<Made, Refusal> {
+    let alloc = rt.alloc();
+    let found = match call {
+        OnModel::Places => model_of_action(alloc, formula),
+        _ => model(alloc, formula),
+    };
+    match found {
+        Ok(model) => {
+            let made = make_on(rt, &model, call);
+            drop(model);
+            made
+        }
+        Err(refusal) => match call {
+            OnModel::Build => Ok(unlent(alloc, Err::<Answer, Refusal>(refusal))),
+            _ => Err(refusal),
+        },
     }
 }
 
@@ -251,12 +272,10 @@ pub fn make<R: AllocGlobal + Threads + Wait + Sync>(
 ) -> Result<Made, Refusal> {
     let alloc = rt.alloc();
     match subject.call {
-        Call::Insert => inserted(alloc, Value::Int(2)),
-        Call::InsertDeep => inserted(alloc, deepest(alloc)?),
+        Call::Insert => inserted(two_numbers(alloc)?, Value::Int(2)),
+        Call::InsertDeep => inserted(two_numbers(alloc)?, deepest(alloc)?),
         Call::Power => power(alloc),
         Call::Configure => Ok(configured(alloc)),
-        Call::Build => Ok(built(alloc, subject.formula)),
-        Call::Places => placed(alloc, subject.formula),
-        Call::On(call) => make_on(rt, &model(alloc, subject.formula)?, call),
+        Call::On(call) => make_on_model(rt, subject.formula, call),
     }
 }

@@ -22,6 +22,20 @@ pub fn numbers(alloc: Global, list: &[i64]) -> Result<Vec<Value>, AllocError> {
     Ok(values)
 }
 
+/// Two numbers in a list, and in a set that has no room for a third.
+#[derive(Drop)]
+pub struct TwoNumbers {
+    pub list: Vec<Value>,
+    pub set: SetValue,
+}
+
+/// The numbers 1 and 3.
+pub fn two_numbers(alloc: Global) -> Result<TwoNumbers, Refusal> {
+    let list = numbers(alloc, &[1, 3])?;
+    let set = SetValue::from_values(numbers(alloc, &[1, 3])?)?;
+    Ok(TwoNumbers { list, set })
+}
+
 /// The deepest value: 1 in a set, in a set, and so on.
 pub fn deepest(alloc: Global) -> Result<Value, Refusal> {
     let mut value = Value::Int(1);

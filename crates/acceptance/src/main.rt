@@ -18,6 +18,7 @@ mod subject;
 mod telling;
 mod told;
 
+use call::{Made, make};
 use cases::run_cases;
 use codes::compare_codes;
 use refusal::Refusal;
@@ -27,30 +28,24 @@ use std::rt::{Env, Files};
 use std::sync::Wait;
 use std::thread::Threads;
 use std::{env, io};
-use subject::{Subject, subject_of};
-use telling::{tell, tell_no_inputs};
+use subject::subject_of;
+use telling::tell;
 
 const NO_ANSWER: u8 = 22;
 
-/// Makes a call, tells it, and answers what kept it from an answer or its inputs, if anything did.
-fn tell_made<R: AllocGlobal + Threads + Wait + Sync, W: Write>(
-    rt: &R,
-    subject: Subject,
-    out: &mut W,
-) -> io::Result<Option<Refusal>> {
-    match call::make(rt, subject) {
-        Ok(made) => {
-            tell(out, &made)?;
-            Ok(made.answer.err())
-        }
-        Err(refusal) => {
-            tell_no_inputs(out, &refusal)?;
-            Ok(Some(refusal))
-        }
+/// The status that a call comes to.
+fn status_of(made: &Result<Made, Refusal>) -> u8 {
+    let refusal = match made {
+        Ok(made) => made.answer.as_ref().err(),
+        Err(refusal) => Some(refusal),
+    };
+    match refusal {
+        Some(refusal) if refusal.says_nothing() => NO_ANSWER,
+        _ => 0,
     }
 }
 
-/// Makes the call of this name, and answers the status that it comes to.
+/// Makes the call of this name, tells it, and answers the status that it comes to.
 fn make_named<R: AllocGlobal + Threads + Wait + Sync, W: Write>(
     rt: &R,
     name: &str,
@@ -59,10 +54,12 @@ fn make_named<R: AllocGlobal + Threads + Wait + Sync, W: Write>(
     let Some(subject) = subject_of(name) else {
         return Ok(0);
     };
-    match tell_made(rt, subject, out)? {
-        Some(refusal) if refusal.says_nothing() => Ok(NO_ANSWER),
-        _ => Ok(0),
-    }
+    let made = make(rt, subject);
+    let told = tell(out, &made);
+    let status = status_of(&made);
+    drop(made);
+    told?;
+    Ok(status)
 }
 
 /// Does what the words of the command line say, and answers the status.

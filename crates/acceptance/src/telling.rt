@@ -79,41 +79,31 @@ fn put_refusal<W: Write>(out: &mut W, refusal: &Refusal) -> io::Result<()> {
     match refusal {
         Refusal::Value(error) => write!(out, " {error}"),
         Refusal::Search(error) => write!(out, " {error}"),
-        Refusal::Tokens(error) => {
-            write!(out, " {}", error.code.name())?;
-            put_place(out, error.place)
-        }
-        Refusal::Module(error) => {
-            write!(out, " {}", error.code.name())?;
-            put_place(out, error.place)
-        }
-        Refusal::Definitions(error) => {
-            write!(out, " {}", error.code.name())?;
-            put_place(out, error.place)
-        }
-        Refusal::Evaluation(fault) => {
-            write!(out, " {}", fault.code)?;
-            match fault.place {
-                Some(place) => put_line_and_column(out, place.line, place.column),
-                None => Ok(()),
-            }
-        }
+        Refusal::Tokens(error) => put_code(out, error.code.name(), core_place(error.place)),
+        Refusal::Module(error) => put_code(out, error.code.name(), core_place(error.place)),
+        Refusal::Definitions(error) => put_code(out, error.code.name(), core_place(error.place)),
+        Refusal::Evaluation(fault) => put_code(out, fault.code.name(), fault.place),
     }
 }
 
-fn put_place<W: Write>(out: &mut W, place: Option<tla_lex::Place>) -> io::Result<()> {
+/// A place of a token as one of an expression.
+fn core_place(place: Option<tla_lex::Place>) -> Option<Place> {
     match place {
-        Some(place) => put_line_and_column(out, place.line, place.column),
+        Some(tla_lex::Place { line, column }) => Some(Place { line, column }),
+        None => None,
+    }
+}
+
+fn put_code<W: Write>(out: &mut W, code: &str, place: Option<Place>) -> io::Result<()> {
+    write!(out, " {code}")?;
+    match place {
+        Some(Place { line, column }) => write!(out, " at line {line}, column {column}"),
         None => Ok(()),
     }
 }
 
-fn put_line_and_column<W: Write>(out: &mut W, line: u64, column: u128) -> io::Result<()> {
-    write!(out, " at line {line}, column {column}")
-}
-
 /// Tells what a call was lent, what it answered, and what it left.
-pub fn tell<W: Write>(out: &mut W, made: &Made) -> io::Result<()> {
+fn tell_answer<W: Write>(out: &mut W, made: &Made) -> io::Result<()> {
     tell_values(out, "lent", &made.lent)?;
     out.write_all(b"  answer")?;
     match &made.answer {
@@ -125,8 +115,16 @@ pub fn tell<W: Write>(out: &mut W, made: &Made) -> io::Result<()> {
 }
 
 /// Tells that a call had no inputs.
-pub fn tell_no_inputs<W: Write>(out: &mut W, refusal: &Refusal) -> io::Result<()> {
+fn tell_no_inputs<W: Write>(out: &mut W, refusal: &Refusal) -> io::Result<()> {
     out.write_all(b"  no inputs")?;
     put_refusal(out, refusal)?;
     out.write_all(b"\n")
+}
+
+/// Tells a call that was made, or that it had no inputs.
+pub fn tell<W: Write>(out: &mut W, made: &Result<Made, Refusal>) -> io::Result<()> {
+    match made {
+        Ok(made) => tell_answer(out, made),
+        Err(refusal) => tell_no_inputs(out, refusal),
+    }
 }
