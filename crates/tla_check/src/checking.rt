@@ -44,7 +44,11 @@ pub fn check<G: Gate, R: Threads + Wait + Sync>(
     ensures { IsChecked «module».now config.now options.now.limit result }
 {
     match read_model(alloc, module, config) {
-        Ok(model) => answered(rt, alloc, &model, options, gate),
+        Ok(model) => {
+            let checked = answered(rt, alloc, &model, options, gate);
+            drop(model);
+            checked
+        }
         Err(stopped) => stopped,
     }
 }

@@ -28,12 +28,24 @@ pub(crate) fn tell(
         }
         _ => match rebuild(page.alloc(), sources) {
             Some(rebuilt) => {
-                let starts = starts_of(page.alloc(), &rebuilt.tree.units, &rebuilt.tokens)?;
-                tell_with(page, sources, answered, &rebuilt, &starts)
+                let told = tell_rebuilt(page, sources, answered, &rebuilt);
+                drop(rebuilt);
+                told
             }
             None => Err(AllocError),
         },
     }
+}
+
+/// Tells an answer by what the two texts name.
+fn tell_rebuilt(
+    page: &mut Page,
+    sources: &Sources<'_>,
+    answered: &Answered,
+    rebuilt: &Rebuilt,
+) -> Result<(), AllocError> {
+    let starts = starts_of(page.alloc(), &rebuilt.tree.units, &rebuilt.tokens)?;
+    tell_with(page, sources, answered, rebuilt, &starts)
 }
 
 /// Tells an answer by the model that the two texts name.
