@@ -63,7 +63,7 @@ fn make_named<R: AllocGlobal + Threads + Wait + Sync, W: Write>(
 }
 
 /// Does what the words of the command line say, and answers the status.
-fn obey_all<R: AllocGlobal + Env + Files + Threads + Wait + Sync, W: Write>(
+fn run_words<R: AllocGlobal + Env + Files + Threads + Wait + Sync, W: Write>(
     rt: &R,
     out: &mut W,
 ) -> io::Result<u8> {
@@ -83,5 +83,5 @@ fn obey_all<R: AllocGlobal + Env + Files + Threads + Wait + Sync, W: Write>(
 }
 
 fn main(rt: HostRuntime) -> ExitCode {
-    ExitCode::from(obey_all(&rt, &mut io::writer(&rt)).unwrap_or(NO_ANSWER))
+    ExitCode::from(run_words(&rt, &mut io::writer(&rt)).unwrap_or(NO_ANSWER))
 }
