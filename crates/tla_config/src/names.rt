@@ -3,11 +3,12 @@
 ghost use Rattle.std.specs.Prelude.{◌≤◌, ◌<◌, length, IfSome, IfOk, IfErr, OnOk};
 ghost use Rattle.tla_config.specs.Private.Gives as spec;
 
+use crate::list::push;
 use crate::refusal::Refusal;
-use crate::tokens::{is_kind, name_at};
+use crate::tokens::{is_kind, name_at, written};
 use std::alloc::Global;
 use tla_lex::{Kind, Token};
-use tla_tree::{Written, push};
+use tla_tree::Written;
 
 /// Names, and the number of the token behind the last.
 #[derive(Drop)]
@@ -23,10 +24,7 @@ pub fn name(alloc: Global, text: &[u8], tokens: &[Token], at: usize) -> Result<W
     ensures within { OnOk result (at < length tokens.now) }
 {
     match name_at(text, tokens, at) {
-        Some(t) => {
-            let name = Written::of_token(alloc, text, t)?;
-            Ok(name)
-        }
+        Some(t) => written(alloc, text, t),
         None => Err(Refusal::Unexpected(at)),
     }
 }

@@ -1,7 +1,4 @@
 //! Why reading stops.
-ghost use Rattle.std.specs.Prelude.{◌≡◌};
-
-use std::alloc::AllocError;
 
 /// Why tokens are refused, and at which of them by its number.
 #[derive(Clone, Copy, Debug)]
@@ -13,14 +10,4 @@ pub enum Refusal {
     /// The value of the item that begins here is beyond the limits of values.
     TooLarge(usize),
     NoMemory,
-}
-
-impl From<AllocError> for Refusal {
-    ghost use Rattle.tla_config.specs.declared.refusal.Refusal.TheVariants.{NoMemory};
-
-    ghost from_gives = { λ _ e. e ≡ NoMemory };
-
-    fn from(_error: AllocError) -> Refusal {
-        Refusal::NoMemory
-    }
 }

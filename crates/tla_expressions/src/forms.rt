@@ -13,12 +13,13 @@ use crate::parts::{
 };
 use std::alloc::Global;
 use tla_grammar::{
-    Between, Context, Refusal, following, is_kind, name_at, refused, refused_parameter, seen,
+    Between, Refusal, Scope, following, is_kind, name_at, push, refused, refused_parameter, seen,
+    written,
 };
 use tla_lex::{Kind, Place, Token};
-use tla_tree::{Definition, Expr, Quantifier, Written, push};
+use tla_tree::{Definition, Expr, Quantifier};
 
-impl<F: Fn(Global, &[u8], &[Token], usize, Context, u8, usize) -> Result<Parsed, Refusal>> Grammar<
+impl<F: Fn(Global, &[u8], &[Token], usize, Scope, u8, usize) -> Result<Parsed, Refusal>> Grammar<
     F,
 > {
     /// `\A x, y \in S, z \in T : p` or `\E x, y \in S, z \in T : p`
@@ -27,7 +28,7 @@ impl<F: Fn(Global, &[u8], &[Token], usize, Context, u8, usize) -> Result<Parsed,
         &self,
         text: &[u8],
         tokens: &[Token],
-        scope: Context,
+        scope: Scope,
         at: Place,
         quantifier: Quantifier,
         from: usize,
@@ -56,7 +57,7 @@ impl<F: Fn(Global, &[u8], &[Token], usize, Context, u8, usize) -> Result<Parsed,
         &self,
         text: &[u8],
         tokens: &[Token],
-        scope: Context,
+        scope: Scope,
         at: Place,
         from: usize,
     ) -> Result<Parsed, Refusal>
@@ -84,7 +85,7 @@ impl<F: Fn(Global, &[u8], &[Token], usize, Context, u8, usize) -> Result<Parsed,
         &self,
         text: &[u8],
         tokens: &[Token],
-        scope: Context,
+        scope: Scope,
         at: Place,
         from: usize,
     ) -> Result<Parsed, Refusal>
@@ -116,7 +117,7 @@ impl<F: Fn(Global, &[u8], &[Token], usize, Context, u8, usize) -> Result<Parsed,
         &self,
         text: &[u8],
         tokens: &[Token],
-        scope: Context,
+        scope: Scope,
         from: usize,
     ) -> Result<ParsedArm, Refusal>
         requires nests { Nests self.now.depth (F.pre self.now.expr) (F.post self.now.expr) }
@@ -136,7 +137,7 @@ impl<F: Fn(Global, &[u8], &[Token], usize, Context, u8, usize) -> Result<Parsed,
         &self,
         text: &[u8],
         tokens: &[Token],
-        scope: Context,
+        scope: Scope,
         from: usize,
     ) -> Result<ParsedArms, Refusal>
         requires nests { Nests self.now.depth (F.pre self.now.expr) (F.post self.now.expr) }
@@ -164,7 +165,7 @@ impl<F: Fn(Global, &[u8], &[Token], usize, Context, u8, usize) -> Result<Parsed,
         &self,
         text: &[u8],
         tokens: &[Token],
-        scope: Context,
+        scope: Scope,
         at: Place,
         from: usize,
     ) -> Result<Parsed, Refusal>
@@ -200,7 +201,7 @@ impl<F: Fn(Global, &[u8], &[Token], usize, Context, u8, usize) -> Result<Parsed,
         &self,
         text: &[u8],
         tokens: &[Token],
-        scope: Context,
+        scope: Scope,
         t: Token,
         form: usize,
         from: usize,
@@ -217,7 +218,7 @@ impl<F: Fn(Global, &[u8], &[Token], usize, Context, u8, usize) -> Result<Parsed,
         if !is_kind(Kind::Define, seen(tokens, scope.column, end + 1)) {
             return Err(refused(tokens, scope.column, end + 1));
         }
-        let name = Written::of_token(self.alloc, text, t)?;
+        let name = written(self.alloc, text, t)?;
         let body = self.inner(text, tokens, scope, 0, end + 2)?;
         Ok(ParsedDefinition {
             definition: Definition::Operator(name, found.names, Box::into_inner(body.tree)),
@@ -232,7 +233,7 @@ impl<F: Fn(Global, &[u8], &[Token], usize, Context, u8, usize) -> Result<Parsed,
         &self,
         text: &[u8],
         tokens: &[Token],
-        scope: Context,
+        scope: Scope,
         t: Token,
         form: usize,
     ) -> Result<ParsedDefinition, Refusal>
@@ -248,7 +249,7 @@ impl<F: Fn(Global, &[u8], &[Token], usize, Context, u8, usize) -> Result<Parsed,
         if !is_kind(Kind::Define, seen(tokens, scope.column, end + 1)) {
             return Err(refused(tokens, scope.column, end + 1));
         }
-        let name = Written::of_token(self.alloc, text, t)?;
+        let name = written(self.alloc, text, t)?;
         let body = self.inner(text, tokens, scope, 0, end + 2)?;
         Ok(ParsedDefinition {
             definition: function_of(name, found.binders, body.tree),
@@ -263,7 +264,7 @@ impl<F: Fn(Global, &[u8], &[Token], usize, Context, u8, usize) -> Result<Parsed,
         &self,
         text: &[u8],
         tokens: &[Token],
-        scope: Context,
+        scope: Scope,
         t: Token,
         from: usize,
     ) -> Result<ParsedDefinition, Refusal>
@@ -272,7 +273,7 @@ impl<F: Fn(Global, &[u8], &[Token], usize, Context, u8, usize) -> Result<Parsed,
         ensures { GivesDefinition text.now tokens.now self.now.depth result (reading.defined text.now tokens.now (reading.expr text.now tokens.now self.now.depth) scope t from) }
     {
         if is_kind(Kind::Define, seen(tokens, scope.column, from + 1)) {
-            let name = Written::of_token(self.alloc, text, t)?;
+            let name = written(self.alloc, text, t)?;
             let body = self.inner(text, tokens, scope, 0, from + 2)?;
             return Ok(ParsedDefinition {
                 definition: Definition::Operator(
@@ -299,7 +300,7 @@ impl<F: Fn(Global, &[u8], &[Token], usize, Context, u8, usize) -> Result<Parsed,
         &self,
         text: &[u8],
         tokens: &[Token],
-        scope: Context,
+        scope: Scope,
         from: usize,
     ) -> Result<ParsedDefinition, Refusal>
         requires nests { Nests self.now.depth (F.pre self.now.expr) (F.post self.now.expr) }
@@ -317,7 +318,7 @@ impl<F: Fn(Global, &[u8], &[Token], usize, Context, u8, usize) -> Result<Parsed,
         &self,
         text: &[u8],
         tokens: &[Token],
-        scope: Context,
+        scope: Scope,
         from: usize,
     ) -> Result<ParsedDefinitions, Refusal>
         requires nests { Nests self.now.depth (F.pre self.now.expr) (F.post self.now.expr) }
@@ -349,7 +350,7 @@ impl<F: Fn(Global, &[u8], &[Token], usize, Context, u8, usize) -> Result<Parsed,
         &self,
         text: &[u8],
         tokens: &[Token],
-        scope: Context,
+        scope: Scope,
         at: Place,
         from: usize,
     ) -> Result<Parsed, Refusal>

@@ -11,11 +11,15 @@ ghost use Rattle.tla_expressions.specs.Private.Nests.{Nests};
 use crate::parts::{Parsed, ParsedDefinition, index_of, node};
 use std::alloc::Global;
 use tla_grammar::{
-    Context, Postfix, Refusal, bullet_of, constant_of, edge_allows, high, is_product, name_at,
+    Postfix, Refusal, Scope, bullet_of, constant_of, edge_allows, high, is_product, name_at,
     operator_at, postfix_at, prefix_high, prefix_of, quantifier_of, refused, seen, text_of,
+    written,
 };
 use tla_lex::{Kind, Place, Token};
-use tla_tree::{Expr, Fairness, Infix, MAX_DEPTH, Prefix, Written};
+use tla_tree::{Expr, Fairness, Infix, Prefix};
+
+/// How deep the tree of an expression may be.
+pub const MAX_DEPTH: usize = 200;
 
 /// The rules of expressions, over a reader of the expressions in them.
 #[derive(Clone, Copy)]
@@ -26,7 +30,7 @@ pub struct Grammar<F> {
     pub expr: F,
 }
 
-impl<F: Fn(Global, &[u8], &[Token], usize, Context, u8, usize) -> Result<Parsed, Refusal>> Grammar<
+impl<F: Fn(Global, &[u8], &[Token], usize, Scope, u8, usize) -> Result<Parsed, Refusal>> Grammar<
     F,
 > {
     /// An expression one level deeper.
@@ -34,7 +38,7 @@ impl<F: Fn(Global, &[u8], &[Token], usize, Context, u8, usize) -> Result<Parsed,
         &self,
         text: &[u8],
         tokens: &[Token],
-        scope: Context,
+        scope: Scope,
         floor: u8,
         at: usize,
     ) -> Result<Parsed, Refusal>
@@ -50,7 +54,7 @@ impl<F: Fn(Global, &[u8], &[Token], usize, Context, u8, usize) -> Result<Parsed,
         &self,
         text: &[u8],
         tokens: &[Token],
-        scope: Context,
+        scope: Scope,
         start: usize,
         first: Parsed,
     ) -> Result<Parsed, Refusal>
@@ -80,7 +84,7 @@ impl<F: Fn(Global, &[u8], &[Token], usize, Context, u8, usize) -> Result<Parsed,
         &self,
         text: &[u8],
         tokens: &[Token],
-        scope: Context,
+        scope: Scope,
         start: usize,
         first: Parsed,
         form: Postfix,
@@ -115,7 +119,7 @@ impl<F: Fn(Global, &[u8], &[Token], usize, Context, u8, usize) -> Result<Parsed,
                 if depth > self.depth + 1 {
                     return Err(Refusal::Nesting(start));
                 }
-                let name = Written::of_token(self.alloc, text, name)?;
+                let name = written(self.alloc, text, name)?;
                 let at = first.tree.place();
                 node(
                     self.alloc,
@@ -133,7 +137,7 @@ impl<F: Fn(Global, &[u8], &[Token], usize, Context, u8, usize) -> Result<Parsed,
         &self,
         text: &[u8],
         tokens: &[Token],
-        scope: Context,
+        scope: Scope,
         start: usize,
         first: Parsed,
     ) -> Result<Parsed, Refusal>
@@ -165,7 +169,7 @@ impl<F: Fn(Global, &[u8], &[Token], usize, Context, u8, usize) -> Result<Parsed,
         &self,
         text: &[u8],
         tokens: &[Token],
-        scope: Context,
+        scope: Scope,
         op: Prefix,
         at: Place,
         from: usize,
@@ -185,7 +189,7 @@ impl<F: Fn(Global, &[u8], &[Token], usize, Context, u8, usize) -> Result<Parsed,
         &self,
         text: &[u8],
         tokens: &[Token],
-        scope: Context,
+        scope: Scope,
         start: usize,
         left: Parsed,
         op: Infix,
@@ -206,7 +210,7 @@ impl<F: Fn(Global, &[u8], &[Token], usize, Context, u8, usize) -> Result<Parsed,
         let Some(sign) = seen(tokens, scope.column, left.end) else {
             return Err(refused(tokens, scope.column, left.end));
         };
-        let sign = Written::of_token(self.alloc, text, sign)?;
+        let sign = written(self.alloc, text, sign)?;
         let right = self.inner(text, tokens, scope, high(op), left.end + 1)?;
         let depth = left.depth.max(right.depth) + 1;
         if depth > self.depth + 1 {
@@ -227,7 +231,7 @@ impl<F: Fn(Global, &[u8], &[Token], usize, Context, u8, usize) -> Result<Parsed,
         &self,
         text: &[u8],
         tokens: &[Token],
-        scope: Context,
+        scope: Scope,
         floor: u8,
         start: usize,
         first: Parsed,
@@ -259,7 +263,7 @@ impl<F: Fn(Global, &[u8], &[Token], usize, Context, u8, usize) -> Result<Parsed,
         &self,
         text: &[u8],
         tokens: &[Token],
-        scope: Context,
+        scope: Scope,
         from: usize,
         tree: Expr,
     ) -> Result<Parsed, Refusal>
@@ -279,7 +283,7 @@ impl<F: Fn(Global, &[u8], &[Token], usize, Context, u8, usize) -> Result<Parsed,
         &self,
         text: &[u8],
         tokens: &[Token],
-        scope: Context,
+        scope: Scope,
         t: Token,
         from: usize,
     ) -> Result<Parsed, Refusal>
@@ -312,7 +316,7 @@ impl<F: Fn(Global, &[u8], &[Token], usize, Context, u8, usize) -> Result<Parsed,
         &self,
         text: &[u8],
         tokens: &[Token],
-        scope: Context,
+        scope: Scope,
         from: usize,
     ) -> Result<Parsed, Refusal>
         requires nests { Nests self.now.depth (F.pre self.now.expr) (F.post self.now.expr) }
@@ -378,7 +382,7 @@ impl<F: Fn(Global, &[u8], &[Token], usize, Context, u8, usize) -> Result<Parsed,
         &self,
         text: &[u8],
         tokens: &[Token],
-        scope: Context,
+        scope: Scope,
         floor: u8,
         at: usize,
     ) -> Result<Parsed, Refusal>
@@ -398,11 +402,11 @@ pub fn expr(
     text: &[u8],
     tokens: &[Token],
     depth: usize,
-    scope: Context,
+    scope: Scope,
     floor: u8,
     at: usize,
 ) -> Result<Parsed, Refusal>
-    requires { depth ≤ MAX_DEPTH }
+    requires { depth ≤ 200 }
     ensures { Gives text.now tokens.now depth result (reading.expr text.now tokens.now depth scope floor at) }
 {
     if depth == 0 {
@@ -416,15 +420,15 @@ pub fn expr(
     .level(text, tokens, scope, floor, at)
 }
 
-/// A definition in a scope, whose expressions are as deep as they may be at most.
+/// A definition in a scope, whose expressions are of 200 levels at most.
 pub fn definition(
     alloc: Global,
     text: &[u8],
     tokens: &[Token],
-    scope: Context,
+    scope: Scope,
     from: usize,
 ) -> Result<ParsedDefinition, Refusal>
-    ensures { GivesDefinition text.now tokens.now MAX_DEPTH result (reading.definition text.now tokens.now (reading.expr text.now tokens.now MAX_DEPTH) scope from) }
+    ensures { GivesDefinition text.now tokens.now 200 result (reading.definition text.now tokens.now (reading.expr text.now tokens.now 200) scope from) }
 {
     Grammar {
         alloc,

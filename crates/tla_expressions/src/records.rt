@@ -19,12 +19,13 @@ use crate::record_parts::{
 };
 use std::alloc::Global;
 use tla_grammar::{
-    Between, Context, Refusal, following, is_kind, name_at, refused, refused_update, seen,
+    Between, Refusal, Scope, following, is_kind, name_at, push, refused, refused_update, seen,
+    written,
 };
 use tla_lex::{Kind, Place, Token};
-use tla_tree::{Field, Key, Update, Written, push};
+use tla_tree::{Field, Key, Update};
 
-impl<F: Fn(Global, &[u8], &[Token], usize, Context, u8, usize) -> Result<Parsed, Refusal>> Grammar<
+impl<F: Fn(Global, &[u8], &[Token], usize, Scope, u8, usize) -> Result<Parsed, Refusal>> Grammar<
     F,
 > {
     /// A field, with this mark behind its name.
@@ -33,7 +34,7 @@ impl<F: Fn(Global, &[u8], &[Token], usize, Context, u8, usize) -> Result<Parsed,
         &self,
         text: &[u8],
         tokens: &[Token],
-        scope: Context,
+        scope: Scope,
         mark: Kind,
         from: usize,
     ) -> Result<ParsedField, Refusal>
@@ -43,7 +44,7 @@ impl<F: Fn(Global, &[u8], &[Token], usize, Context, u8, usize) -> Result<Parsed,
         let Some(name) = name_at(seen(tokens, scope.column, from)) else {
             return Err(refused(tokens, scope.column, from));
         };
-        let name = Written::of_token(self.alloc, text, name)?;
+        let name = written(self.alloc, text, name)?;
         if !is_kind(mark, seen(tokens, scope.column, from + 1)) {
             return Err(refused(tokens, scope.column, from + 1));
         }
@@ -64,7 +65,7 @@ impl<F: Fn(Global, &[u8], &[Token], usize, Context, u8, usize) -> Result<Parsed,
         &self,
         text: &[u8],
         tokens: &[Token],
-        scope: Context,
+        scope: Scope,
         mark: Kind,
         from: usize,
     ) -> Result<ParsedFields, Refusal>
@@ -93,7 +94,7 @@ impl<F: Fn(Global, &[u8], &[Token], usize, Context, u8, usize) -> Result<Parsed,
         &self,
         text: &[u8],
         tokens: &[Token],
-        scope: Context,
+        scope: Scope,
         at: Place,
         from: usize,
     ) -> Result<Parsed, Refusal>
@@ -117,7 +118,7 @@ impl<F: Fn(Global, &[u8], &[Token], usize, Context, u8, usize) -> Result<Parsed,
         &self,
         text: &[u8],
         tokens: &[Token],
-        scope: Context,
+        scope: Scope,
         at: Place,
         from: usize,
     ) -> Result<Parsed, Refusal>
@@ -141,7 +142,7 @@ impl<F: Fn(Global, &[u8], &[Token], usize, Context, u8, usize) -> Result<Parsed,
         &self,
         text: &[u8],
         tokens: &[Token],
-        scope: Context,
+        scope: Scope,
         from: usize,
     ) -> Result<ParsedKey, Refusal>
         requires nests { Nests self.now.depth (F.pre self.now.expr) (F.post self.now.expr) }
@@ -164,7 +165,7 @@ impl<F: Fn(Global, &[u8], &[Token], usize, Context, u8, usize) -> Result<Parsed,
             return Err(refused(tokens, scope.column, from + 1));
         };
         Ok(ParsedKey {
-            key: Key::Field(Written::of_token(self.alloc, text, name)?),
+            key: Key::Field(written(self.alloc, text, name)?),
             end: from + 2,
             depth: 0,
         })
@@ -176,7 +177,7 @@ impl<F: Fn(Global, &[u8], &[Token], usize, Context, u8, usize) -> Result<Parsed,
         &self,
         text: &[u8],
         tokens: &[Token],
-        scope: Context,
+        scope: Scope,
         from: usize,
     ) -> Result<ParsedKeys, Refusal>
         requires nests { Nests self.now.depth (F.pre self.now.expr) (F.post self.now.expr) }
@@ -204,7 +205,7 @@ impl<F: Fn(Global, &[u8], &[Token], usize, Context, u8, usize) -> Result<Parsed,
         &self,
         text: &[u8],
         tokens: &[Token],
-        scope: Context,
+        scope: Scope,
         from: usize,
     ) -> Result<ParsedUpdate, Refusal>
         requires nests { Nests self.now.depth (F.pre self.now.expr) (F.post self.now.expr) }
@@ -217,7 +218,7 @@ impl<F: Fn(Global, &[u8], &[Token], usize, Context, u8, usize) -> Result<Parsed,
         if !is_kind(Kind::Equal, seen(tokens, scope.column, found.end)) {
             return Err(refused(tokens, scope.column, found.end));
         }
-        let value_scope = Context {
+        let value_scope = Scope {
             updating: true,
             ..scope
         };
@@ -238,7 +239,7 @@ impl<F: Fn(Global, &[u8], &[Token], usize, Context, u8, usize) -> Result<Parsed,
         &self,
         text: &[u8],
         tokens: &[Token],
-        scope: Context,
+        scope: Scope,
         from: usize,
     ) -> Result<ParsedUpdates, Refusal>
         requires nests { Nests self.now.depth (F.pre self.now.expr) (F.post self.now.expr) }
@@ -270,7 +271,7 @@ impl<F: Fn(Global, &[u8], &[Token], usize, Context, u8, usize) -> Result<Parsed,
         &self,
         text: &[u8],
         tokens: &[Token],
-        scope: Context,
+        scope: Scope,
         at: Place,
         first: Parsed,
     ) -> Result<Parsed, Refusal>

@@ -3,21 +3,23 @@
 
 mod ahead;
 mod binders;
-mod context;
+mod list;
 mod modules;
 mod operators;
 mod refusal;
+mod scope;
 mod tokens;
 
 pub use ahead::{Opened, binds, filters, opened_by};
 pub use binders::refused_binder;
-pub use context::Context;
+pub use list::{push, push_inner};
 pub use modules::is_module;
 pub use operators::{
     bullet_of, constant_of, edge_allows, high, is_product, prefix_high, prefix_of, quantifier_of,
 };
 pub use refusal::Refusal;
+pub use scope::Scope;
 pub use tokens::{
     Between, Postfix, closing, following, is_kind, may_follow, name_at, operator_at, postfix_at,
-    refused, refused_parameter, refused_unit, refused_update, seen, text_of,
+    refused, refused_parameter, refused_unit, refused_update, seen, text_of, written,
 };
