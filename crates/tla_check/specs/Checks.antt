@@ -6,6 +6,7 @@ use Rattle.tla_lex.specs.declared.token.Token.{Token}
 use Rattle.tla_lex.specs.declared.error.LexError.{LexError}
 use Rattle.tla_parse.specs.Parsing.{Justified}
 use Rattle.tla_tree.specs.Units.{UnitTree}
+use Rattle.tla_tree.specs.declared.tree.TheConstants.{MAX_DEPTH}
 use Rattle.tla_parse.specs.Units.{units_depth, SpellsModule}
 use Rattle.tla_parse.specs.declared.error.ParseError.{ParseError}
 use Rattle.tla_config.specs.Configuration.{IsConfiguration}
@@ -32,7 +33,7 @@ pub record IsTreeOf (text : List ℕ) (units : List UnitTree) : Type 0 where
   pub tokens : List Token
   pub are : AreTokens text tokens
   pub spelled : SpellsModule text tokens units
-  pub shallow : units_depth units ≤ 200
+  pub shallow : units_depth units ≤ MAX_DEPTH
 
 -- the two texts name the model
 pub record NameModel (text config : List ℕ) (m : ModelTree) : Type 0 where

@@ -43,7 +43,7 @@ pub fn read_whole<R: Read>(alloc: Global, reader: &mut R) -> Result<Vec<u8>, Rea
     ensures end { OnOk result (IsAtEnd (R.remaining reader.new)) }
     ensures size { IfOk result (λ v. vec_len v ≤ 999_999 * 65_536) }
     ensures endless { result ≡ Err Endless
-        → IfSome (R.remaining reader.old) (λ bytes. 1_000_000 ≤ length bytes) }
+        → IfSome (R.remaining reader.old) (λ bytes. MOST_READS ≤ length bytes) }
 {
     let mut buffer = vec![in alloc; 0u8; BUFFER_BYTES]?;
     read_through(alloc, reader, buffer.as_mut_slice())
@@ -60,7 +60,7 @@ fn read_through<R: Read>(
     ensures end { OnOk result (IsAtEnd (R.remaining reader.new)) }
     ensures size { IfOk result (λ v. vec_len v ≤ 999_999 * 65_536) }
     ensures endless { result ≡ Err Endless
-        → IfSome (R.remaining reader.old) (λ bytes. 1_000_000 ≤ length bytes) }
+        → IfSome (R.remaining reader.old) (λ bytes. MOST_READS ≤ length bytes) }
 {
     let mut bytes = Vec::new(alloc);
     for _ in 0..MOST_READS {

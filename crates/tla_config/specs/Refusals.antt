@@ -10,6 +10,7 @@ use Rattle.tla_lex.specs.declared.token.Place.{Place}
 use Rattle.tla_lex.specs.declared.token.Token.{Token}
 use Rattle.tla_tree.specs.Words.{word_of}
 use Rattle.tla_tree.specs.declared.word.Written.{Written}
+use Rattle.tla_value.specs.declared.set.TheConstants.{MAX_NESTING}
 use Rattle.tla_config.specs.declared.error.DefsCode.{DefsCode}
 use Rattle.tla_config.specs.declared.error.DefsCode.TheVariants as code
 use Rattle.tla_config.specs.Beyond.{IsBeyond}
@@ -35,7 +36,7 @@ module _ (text : Bytes) (ts : List Token) where
 
   -- `c = value` begins here, with a value beyond the limits
   abbrev pub IsTooLargeItem : ℕ → Type 0
-  IsTooLargeItem at = ((c : Written) × IsName text ts c at) × Has text ts k.Equal (at + 1) × IsBeyond text ts 64 (at + 2)
+  IsTooLargeItem at = ((c : Written) × IsName text ts c at) × Has text ts k.Equal (at + 1) × IsBeyond text ts MAX_NESTING (at + 2)
 
   -- items stand between two tokens, each with a comma behind it or none
   abbrev pub ItemsUpTo : List Item → ℕ → ℕ → Type 0

@@ -4,14 +4,15 @@ ghost use Rattle.std.specs.Prelude.{◌≤◌, ◌<◌, length, IfOk, IfErr, OnO
 ghost use Rattle.tla_config.specs.Private.Gives.{Because, LeftOutHere, TooLargeHere, ClearItem, LeftOutBehind, TooLargeBehind, ClearItems};
 ghost use Rattle.tla_config.specs.Private.GivesValues as spec;
 
-use crate::list::push;
 use crate::names::{name, next_name};
 use crate::refusal::Refusal;
 use crate::statement::Item;
 use crate::tokens::is_kind;
-use crate::values::{MAX_NESTING, value};
+use crate::values::value;
 use std::alloc::Global;
 use tla_lex::{Kind, Token};
+use tla_tree::push;
+use tla_value::MAX_NESTING;
 
 /// An item, and the number of the token behind it.
 #[derive(Drop)]
@@ -36,7 +37,7 @@ fn item(alloc: Global, text: &[u8], tokens: &[Token], at: usize) -> Result<Parse
 {
     let constant = name(alloc, text, tokens, at)?;
     if is_kind(Kind::Equal, tokens, at + 1) {
-        let found = value(alloc, text, tokens, at, MAX_NESTING, at + 2)?;
+        let found = value(alloc, text, tokens, at, MAX_NESTING as usize, at + 2)?;
         return Ok(ParsedItem {
             item: Item::Value(constant, found.value),
             end: found.end,

@@ -7,7 +7,6 @@ mod config;
 mod error;
 mod items;
 mod keyword;
-mod list;
 mod names;
 mod parse;
 mod refusal;

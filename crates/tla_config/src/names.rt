@@ -3,12 +3,11 @@
 ghost use Rattle.std.specs.Prelude.{◌≤◌, ◌<◌, length, IfSome, IfOk, IfErr, OnOk};
 ghost use Rattle.tla_config.specs.Private.Gives as spec;
 
-use crate::list::push;
 use crate::refusal::Refusal;
-use crate::tokens::{is_kind, name_at, written};
+use crate::tokens::{is_kind, name_at};
 use std::alloc::Global;
 use tla_lex::{Kind, Token};
-use tla_tree::Written;
+use tla_tree::{Written, push};
 
 /// Names, and the number of the token behind the last.
 #[derive(Drop)]
@@ -24,7 +23,10 @@ pub fn name(alloc: Global, text: &[u8], tokens: &[Token], at: usize) -> Result<W
     ensures within { OnOk result (at < length tokens.now) }
 {
     match name_at(text, tokens, at) {
-        Some(t) => written(alloc, text, t),
+        Some(t) => {
+            let name = Written::of_token(alloc, text, t)?;
+            Ok(name)
+        }
         None => Err(Refusal::Unexpected(at)),
     }
 }

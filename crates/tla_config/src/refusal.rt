@@ -1,4 +1,7 @@
 //! Why reading stops.
+ghost use Rattle.std.specs.Prelude.{◌≡◌};
+
+use std::alloc::AllocError;
 
 /// Why tokens are refused, and at which of them by its number.
 #[derive(Clone, Copy, Debug)]
@@ -10,4 +13,14 @@ pub enum Refusal {
     /// The value of the item that begins here is beyond the limits of values.
     TooLarge(usize),
     NoMemory,
+}
+
+impl From<AllocError> for Refusal {
+    ghost use Rattle.tla_config.specs.declared.refusal.Refusal.TheVariants.{NoMemory};
+
+    ghost from_gives = { λ _ e. e ≡ NoMemory };
+
+    fn from(_error: AllocError) -> Refusal {
+        Refusal::NoMemory
+    }
 }

@@ -6,13 +6,13 @@ ghost use Rattle.tla_config.specs.View.{statement_view};
 
 use crate::items::items;
 use crate::keyword::Keyword;
-use crate::list::push;
 use crate::names::{name, names};
 use crate::refusal::Refusal;
 use crate::statement::Statement;
 use crate::tokens::{keyword_at, truth_at};
 use std::alloc::Global;
 use tla_lex::Token;
+use tla_tree::push;
 
 /// A statement, and the number of the token behind it.
 #[derive(Drop)]

@@ -1,25 +1,11 @@
 //! Tokens as the reader asks for them, by their number in the list.
 
-ghost use Rattle.std.specs.Prelude.{◌≡◌, ◌<◌, length, slice_get, IfOk, IfErr, OnSome, IsTrue};
-ghost use Rattle.tla_tree.specs.Words as words;
+ghost use Rattle.std.specs.Prelude.{◌≡◌, ◌<◌, length, slice_get, OnSome, IsTrue};
 ghost use Rattle.tla_config.specs.Private.Fronts as spec;
 
 use crate::keyword::{Keyword, keyword_of};
-use crate::refusal::Refusal;
-use std::alloc::Global;
 use tla_lex::{Kind, Place, Token};
-use tla_tree::{Written, slice_of};
-
-/// The token as it is written, and where.
-pub fn written(alloc: Global, text: &[u8], token: Token) -> Result<Written, Refusal>
-    ensures ok { IfOk result (λ w. w ≡ words.written text.now token) }
-    ensures err { IfErr result (λ e. e ≡ Refusal.NoMemory) }
-{
-    match Written::of_token(alloc, text, token) {
-        Ok(word) => Ok(word),
-        Err(_) => Err(Refusal::NoMemory),
-    }
-}
+use tla_tree::slice_of;
 
 /// The token of this number, where it is a name and no word of a statement.
 pub fn name_at(text: &[u8], tokens: &[Token], at: usize) -> Option<Token>

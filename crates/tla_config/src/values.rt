@@ -17,16 +17,12 @@ ghost use Rattle.tla_config.specs.Private.GivesValues as spec;
 ghost use Rattle.tla_config.specs.Literals.{number};
 
 use crate::keyword::keyword_of;
-use crate::list::push;
 use crate::refusal::Refusal;
 use crate::tokens::{digits_at, is_kind, token_at};
 use std::alloc::Global;
 use tla_lex::{Kind, Token, string_text};
-use tla_tree::slice_of;
+use tla_tree::{push, slice_of};
 use tla_value::{SetValue, Text, Value, ValueError};
-
-/// How deep a value may be nested.
-pub const MAX_NESTING: usize = tla_value::MAX_NESTING as usize;
 
 /// A value, and the number of the token behind it.
 #[derive(Drop)]

@@ -1,9 +1,10 @@
 -- The kinds of values, and the limits of those that are made. A value of the wrong kind is a fault of the node. (Book, chapter 16; the limits are this project's own choice.)
-use Rattle.std.specs.Prelude.{ℕ, max, nat_lt, ℤ, pos, negsuc, int_le, Bool, ◌&&◌, List, length, Option, Some, None, Ok, if◌then◌else◌}
+use Rattle.std.specs.Prelude.{ℕ, ◌-◌, max, nat_lt, ℤ, pos, negsuc, int_le, Bool, ◌&&◌, List, length, Option, Some, None, Ok, if◌then◌else◌}
 use Rattle.tla_value.specs.Tree.{Tree, truth, int, set, fun, trees, pairs, members, entries, deepest, deepest_pair}
 use Rattle.tla_value.specs.Sets.{set_of, most_pairs}
 use Rattle.tla_value.specs.Funs.{fun_of, items_of}
 use Rattle.tla_value.specs.Choices.{numbered}
+use Rattle.tla_value.specs.declared.set.TheConstants.{MAX_ELEMENTS, MAX_NESTING}
 use Rattle.tla_core.specs.Fault.{Place, FaultCode, WrongKind, Overflow, TooMany, TooDeep, Outcome, fault}
 
 abbrev pub as_truth : Place → Tree → Outcome Bool
@@ -46,8 +47,8 @@ as_sequence p t = or_fault WrongKind p (items t)
 -- ---- values that are made: first the number of members or pairs, then the nesting
 abbrev pub within : Place → ℕ → ℕ → Tree → Outcome Tree
 within p count depth t =
-    if nat_lt 1000000 count then fault TooMany p
-    else (if nat_lt 63 depth then fault TooDeep p else Ok t)
+    if nat_lt MAX_ELEMENTS count then fault TooMany p
+    else (if nat_lt (MAX_NESTING - 1) depth then fault TooDeep p else Ok t)
 
 -- how many functions there are in a set of them, or how many pairs the longest has if that is more: this is held against the limit on elements
 abbrev pub size_of_functions : List Tree → ℕ

@@ -12,8 +12,8 @@ use crate::fairness::is_fair;
 use crate::table::Definitions;
 use std::alloc::Global;
 use tla_config::{DefsCode, DefsError, Source};
-use tla_expand::MAX_NODES;
 use tla_lex::Place;
+use tla_model::MAX_NODES;
 use tla_names::{no_memory, refusal_at};
 use tla_tree::{Expr, Prefix, Step};
 

@@ -15,31 +15,31 @@ use tla_value::{State, Value};
 
 /// The values of the bound names: those of the caller, and then those of each form that binds, one or several at once.
 #[derive(Clone, Copy)]
-pub(crate) enum Scope<'a> {
+pub(crate) enum Frame<'a> {
     Outer(&'a [Value]),
-    One(&'a Scope<'a>, &'a Value),
-    Many(&'a Scope<'a>, &'a [Value]),
+    One(&'a Frame<'a>, &'a Value),
+    Many(&'a Frame<'a>, &'a [Value]),
 }
 
 /// The values of the bound names and of the variables.
 #[derive(Clone, Copy)]
 pub(crate) struct Environment<'a> {
-    pub(crate) scope: &'a Scope<'a>,
+    pub(crate) scope: &'a Frame<'a>,
     pub(crate) now: Option<&'a State>,
     pub(crate) next: &'a Partial,
 }
 
 /// The value of a bound name, or how many names are bound. As many calls as forms that bind stand around it.
-fn bound_name<'a>(scope: &'a Scope<'a>, index: usize) -> Result<&'a Value, usize>
+fn bound_name<'a>(scope: &'a Frame<'a>, index: usize) -> Result<&'a Value, usize>
     ensures found { IfOk result (λ v. slice_get (bound_of scope.entry.now) index ≡ Some (tree_of v.now)) }
     ensures absent { IfErr result (λ n. (n ≡ length (bound_of scope.entry.now)) × (n ≤ index)) }
 {
     match scope {
-        Scope::Outer(values) => match values.get(index) {
+        Frame::Outer(values) => match values.get(index) {
             Some(value) => Ok(value),
             None => Err(values.len()),
         },
-        Scope::One(outer, value) => match bound_name(outer, index) {
+        Frame::One(outer, value) => match bound_name(outer, index) {
             Ok(value) => Ok(value),
             Err(count) => {
                 if count == index {
@@ -49,7 +49,7 @@ fn bound_name<'a>(scope: &'a Scope<'a>, index: usize) -> Result<&'a Value, usize
                 }
             }
         },
-        Scope::Many(outer, values) => match bound_name(outer, index) {
+        Frame::Many(outer, values) => match bound_name(outer, index) {
             Ok(value) => Ok(value),
             Err(count) => match values.get(index - count) {
                 Some(value) => Ok(value),
@@ -60,7 +60,7 @@ fn bound_name<'a>(scope: &'a Scope<'a>, index: usize) -> Result<&'a Value, usize
 }
 
 /// The value of a bound name; FALSE for one that isn't there.
-pub(crate) fn bound_value<'a>(scope: &'a Scope<'a>, index: usize) -> Evaluated<'a>
+pub(crate) fn bound_value<'a>(scope: &'a Frame<'a>, index: usize) -> Evaluated<'a>
     ensures { tree_of_evaluated result ≡ get_or (bound_of scope.entry.now) index (truth false) }
 {
     match bound_name(scope, index) {

@@ -7,7 +7,7 @@ ghost use Rattle.tla_eval.specs.Private.Environment.{bound_of};
 ghost use Rattle.tla_operators.specs.Gives.{GivesBy, values_of};
 ghost use Rattle.tla_eval.specs.Private.Parts.{nothing_of};
 
-use crate::environment::{Scope, bound_value};
+use crate::environment::{Frame, bound_value};
 use std::alloc::Global;
 use tla_core::{Fault, FaultCode, Opening, Place};
 use tla_operators::sequences::{add_items, sequence_pairs};
@@ -39,7 +39,7 @@ pub(crate) fn open_items<'p, 'a>(
     alloc: Global,
     place: &'p Place,
     openings: &[Opening],
-    scope: &'a Scope<'a>,
+    scope: &'a Frame<'a>,
 ) -> Result<Vec<Value>, Trouble<'p>>
     ensures { GivesBy (λ v. map tree_of v.items) result (opened_items place.now openings.now (bound_of scope.entry.now)) }
 {
@@ -62,7 +62,7 @@ pub fn opened(
 ) -> Result<Vec<Value>, Fault>
     ensures { GivesBy (λ v. map tree_of v.items) result (opened_items place openings.now (map tree_of bound.now)) }
 {
-    let scope = Scope::Outer(&*bound);
+    let scope = Frame::Outer(&*bound);
     Ok(open_items(alloc, &place, openings, &scope)?)
 }
 

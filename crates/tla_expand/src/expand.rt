@@ -15,13 +15,13 @@ ghost use Rattle.tla_expand.specs.Expand as expansion;
 ghost use Rattle.tla_expand.specs.Scopes.{AreLinked, scope_at};
 ghost use Rattle.tla_expand.specs.Private.Forms.{form_in};
 ghost use Rattle.tla_model.specs.Size.{IsWithinLimits};
-ghost use Rattle.tla_expand.specs.Private.Gives.{part_in, key_in, arm_in, field_in, both, made, Gives, GivesTwo};
+ghost use Rattle.tla_expand.specs.Private.Gives.{part_in, key_in, arm_in, field_in, both, made, Gives, GivesTwo, most_named};
 ghost use Rattle.tla_expand.specs.Listed.{listed};
 
 mod binding;
-mod kept;
 mod levels;
 mod lists;
+mod unchanged;
 mod updates;
 
 use crate::builders::{
@@ -29,26 +29,21 @@ use crate::builders::{
     three_core, two_core,
 };
 use crate::entries::Entries;
-use crate::expanded::{Expanded, Two as Pair};
+use crate::expanded::{Expanded, Pair};
 use crate::failure::Failure;
-use crate::heads::find_head;
 use crate::nodes::{Binders, Fielded, Form, Headed, Leaf, Many, One, Three, Two};
 use crate::parts::boxed;
 use crate::primes::Primes;
+use crate::uses::find_head;
 use binding::{bound_one, bound_several, gather_node};
-use kept::{angle_node, square_node};
 use levels::{node_behind, unchanged_node};
 use lists::{arms_of, each, key, named_parts};
 use std::alloc::Global;
 use tla_core::{Core, Place};
+use tla_model::{MAX_NODES, MAX_PATH};
 use tla_tree::{Arm, Expr, Field, Step};
+use unchanged::{angle_node, square_node};
 use updates::except_node;
-
-/// The most nodes on a path of an expansion.
-pub(crate) const MAX_PATH: usize = 300;
-
-/// The most nodes of an expansion.
-pub const MAX_NODES: usize = 200_000;
 
 /// The most nodes on a path below the outermost node.
 pub(crate) const PATH_BELOW: usize = MAX_PATH - 1;
@@ -117,7 +112,7 @@ pub(crate) fn expand<'a>(
 ) -> Result<Expanded, Failure>
     requires linked { AreLinked (listed entries.old) }
     requires scope { at.scope ≤ length (listed entries.old) }
-    requires small { at.bound + at.left ≤ 1000000 }
+    requires small { at.bound + at.left ≤ most_named }
     ensures kept { OnOk result (listed entries.new ≡ listed entries.old) }
     ensures same { Gives at.room at.left result (part_in at.primes (scope_at (listed entries.old) at.scope) at.bound tree.now) }
 {
@@ -152,7 +147,7 @@ pub(crate) fn node_of<'a>(
 ) -> Result<Expanded, Failure>
     requires linked { AreLinked (listed entries.old) }
     requires scope { at.scope ≤ length (listed entries.old) }
-    requires small { at.bound + at.left < 1000000 }
+    requires small { at.bound + at.left < most_named }
     ensures kept { OnOk result (listed entries.new ≡ listed entries.old) }
     ensures same { Gives (at.room + 1) (at.left + 1) result (with_primes at.primes (form_in form.entry (scope_at (listed entries.old) at.scope) at.bound)) }
 {
@@ -205,7 +200,7 @@ fn one_node<'a>(
 ) -> Result<Expanded, Failure>
     requires linked { AreLinked (listed entries.old) }
     requires scope { at.scope ≤ length (listed entries.old) }
-    requires small { at.bound + at.left ≤ 1000000 }
+    requires small { at.bound + at.left ≤ most_named }
     ensures kept { OnOk result (listed entries.new ≡ listed entries.old) }
     ensures same { Gives (at.room + 1) (at.left + 1) result (made (λ x. nodes.one node.entry place x) (part_in at.primes (scope_at (listed entries.old) at.scope) at.bound part.now)) }
 {
@@ -231,7 +226,7 @@ fn two_node<'a>(
 ) -> Result<Expanded, Failure>
     requires linked { AreLinked (listed entries.old) }
     requires scope { at.scope ≤ length (listed entries.old) }
-    requires small { at.bound + at.left ≤ 1000000 }
+    requires small { at.bound + at.left ≤ most_named }
     ensures kept { OnOk result (listed entries.new ≡ listed entries.old) }
     ensures same { Gives (at.room + 1) (at.left + 1) result (made (λ xy. nodes.two node place xy.0 xy.1) (both (part_in at.primes (scope_at (listed entries.old) at.scope) at.bound first.now) (part_in at.primes (scope_at (listed entries.old) at.scope) at.bound second.now))) }
 {
@@ -258,7 +253,7 @@ fn three_node<'a>(
 ) -> Result<Expanded, Failure>
     requires linked { AreLinked (listed entries.old) }
     requires scope { at.scope ≤ length (listed entries.old) }
-    requires small { at.bound + at.left ≤ 1000000 }
+    requires small { at.bound + at.left ≤ most_named }
     ensures kept { OnOk result (listed entries.new ≡ listed entries.old) }
     ensures same { Gives (at.room + 1) (at.left + 1) result (made (λ t. nodes.three node place t.0.0 t.0.1 t.1) (both (both (part_in at.primes (scope_at (listed entries.old) at.scope) at.bound first.now) (part_in at.primes (scope_at (listed entries.old) at.scope) at.bound second.now)) (part_in at.primes (scope_at (listed entries.old) at.scope) at.bound third.now))) }
 {
@@ -286,7 +281,7 @@ fn many_node<'a>(
 ) -> Result<Expanded, Failure>
     requires linked { AreLinked (listed entries.old) }
     requires scope { at.scope ≤ length (listed entries.old) }
-    requires small { at.bound + at.left ≤ 1000000 }
+    requires small { at.bound + at.left ≤ most_named }
     ensures kept { OnOk result (listed entries.new ≡ listed entries.old) }
     ensures same { Gives (at.room + 1) (at.left + 1) result (made (λ xs. nodes.many node place (exprs xs)) (each_of (part_in at.primes (scope_at (listed entries.old) at.scope) at.bound) items.now)) }
 {
@@ -310,7 +305,7 @@ fn index_node<'a>(
 ) -> Result<Expanded, Failure>
     requires linked { AreLinked (listed entries.old) }
     requires scope { at.scope ≤ length (listed entries.old) }
-    requires small { at.bound + at.left ≤ 1000000 }
+    requires small { at.bound + at.left ≤ most_named }
     ensures kept { OnOk result (listed entries.new ≡ listed entries.old) }
     ensures same { Gives (at.room + 1) (at.left + 1) result (made (λ xy. nodes.two Two.Apply place xy.0 xy.1) (both (part_in at.primes (scope_at (listed entries.old) at.scope) at.bound function.now) (key_in at.primes (scope_at (listed entries.old) at.scope) at.bound items.now))) }
 {
@@ -337,7 +332,7 @@ fn cases_node<'a>(
 ) -> Result<Expanded, Failure>
     requires linked { AreLinked (listed entries.old) }
     requires scope { at.scope ≤ length (listed entries.old) }
-    requires small { at.bound + at.left ≤ 1000000 }
+    requires small { at.bound + at.left ≤ most_named }
     ensures kept { OnOk result (listed entries.new ≡ listed entries.old) }
     ensures same { Gives (at.room + 1) (at.left + 1) result (made (λ xs. expr.cases place (arms_with xs expr.no_arms)) (each_of (arm_in at.primes (scope_at (listed entries.old) at.scope) at.bound) arms.now)) }
 {
@@ -361,7 +356,7 @@ fn cases_or_node<'a>(
 ) -> Result<Expanded, Failure>
     requires linked { AreLinked (listed entries.old) }
     requires scope { at.scope ≤ length (listed entries.old) }
-    requires small { at.bound + at.left ≤ 1000000 }
+    requires small { at.bound + at.left ≤ most_named }
     ensures kept { OnOk result (listed entries.new ≡ listed entries.old) }
     ensures same { Gives (at.room + 1) (at.left + 1) result (made (λ xs. expr.cases place (arms_with xs.0 (expr.other xs.1))) (both (each_of (arm_in at.primes (scope_at (listed entries.old) at.scope) at.bound) arms.now) (part_in at.primes (scope_at (listed entries.old) at.scope) at.bound last.now))) }
 {
@@ -388,7 +383,7 @@ fn product_node<'a>(
 ) -> Result<Expanded, Failure>
     requires linked { AreLinked (listed entries.old) }
     requires scope { at.scope ≤ length (listed entries.old) }
-    requires small { at.bound + at.left ≤ 1000000 }
+    requires small { at.bound + at.left ≤ most_named }
     ensures kept { OnOk result (listed entries.new ≡ listed entries.old) }
     ensures same { Gives (at.room + 1) (at.left + 1) result (made (λ xs. expr.product place (exprs (xs.0 ∷ xs.1))) (both (part_in at.primes (scope_at (listed entries.old) at.scope) at.bound first.now) (each_of (part_in at.primes (scope_at (listed entries.old) at.scope) at.bound) others.now))) }
 {
@@ -416,7 +411,7 @@ fn fields_node<'a>(
 ) -> Result<Expanded, Failure>
     requires linked { AreLinked (listed entries.old) }
     requires scope { at.scope ≤ length (listed entries.old) }
-    requires small { at.bound + at.left ≤ 1000000 }
+    requires small { at.bound + at.left ≤ most_named }
     ensures kept { OnOk result (listed entries.new ≡ listed entries.old) }
     ensures same { Gives (at.room + 1) (at.left + 1) result (made (λ xs. nodes.fielded node place (fields_of xs)) (each_of (field_in at.primes (scope_at (listed entries.old) at.scope) at.bound) fields.now)) }
 {
@@ -439,7 +434,7 @@ fn two_parts<'a>(
 ) -> Result<Pair, Failure>
     requires linked { AreLinked (listed entries.old) }
     requires scope { at.scope ≤ length (listed entries.old) }
-    requires small { at.bound + at.left ≤ 1000000 }
+    requires small { at.bound + at.left ≤ most_named }
     ensures kept { OnOk result (listed entries.new ≡ listed entries.old) }
     ensures same { GivesTwo at.room at.left result (both (part_in primes (scope_at (listed entries.old) at.scope) at.bound first.now) (part_in at.primes (scope_at (listed entries.old) at.scope) at.bound second.now)) }
 {

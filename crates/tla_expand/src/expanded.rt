@@ -13,7 +13,7 @@ pub(crate) struct Expanded {
 }
 
 #[derive(Drop)]
-pub(crate) struct Two {
+pub(crate) struct Pair {
     pub(crate) first: Box<Core>,
     pub(crate) second: Core,
     pub(crate) left: usize,

@@ -15,7 +15,6 @@ mod expanded;
 mod failure;
 mod forms;
 mod gives;
-mod heads;
 mod index;
 pub mod laws;
 mod named;
@@ -25,8 +24,8 @@ mod parts;
 mod primes;
 mod scopes;
 mod shortened;
+mod uses;
 
-pub use expand::MAX_NODES;
 pub use failure::Failure;
 pub use primes::Primes;
 pub use scopes::Scopes;

@@ -13,12 +13,13 @@ ghost use Rattle.tla_expand.specs.Listed.{listed};
 
 use crate::builders::place_of;
 use crate::entries::Entries;
-use crate::expand::{MAX_NODES, MAX_PATH, NODES_BELOW, PATH_BELOW, Setting, expand, node_of};
+use crate::expand::{NODES_BELOW, PATH_BELOW, Setting, expand, node_of};
 use crate::failure::Failure;
-use crate::heads::{Step, use_of};
 use crate::primes::Primes;
+use crate::uses::{Step, use_of};
 use std::alloc::Global;
 use tla_core::Core;
+use tla_model::{MAX_NODES, MAX_PATH};
 use tla_tree::Written;
 
 /// The expansion of a name without arguments in a scope, under so many primes, with at most 200,000 nodes, of which at

@@ -3,7 +3,7 @@ use Rattle.std.proofs.Common.{◌≡◌, ℕ, List, Some, None, refl}
 use Rattle.tla_lex.specs.declared.token.Token.{Token}
 use Rattle.tla_lex.specs.declared.token.Kind.{Kind}
 use Rattle.tla_lex.specs.declared.token.Kind.TheVariants as k
-use Rattle.tla_grammar.specs.declared.scope.Scope.{Scope}
+use Rattle.tla_grammar.specs.declared.context.Context.{Context}
 use Rattle.tla_tree.specs.declared.tree.Prefix.{Prefix}
 use Rattle.tla_tree.specs.declared.tree.Bullet.{Bullet}
 use Rattle.tla_tree.specs.declared.tree.Quantifier.{Quantifier}
@@ -13,7 +13,7 @@ use Rattle.tla_grammar.specs.Operators.{prefix_of, bullet_of, quantifier_of, con
 use Rattle.tla_grammar.specs.Outcome.{Outcome}
 use Rattle.tla_expressions.specs.Reading.{by_class, operand_by}
 
-module _ (text : List ℕ) (ts : List Token) (inner : Scope → ℕ → ℕ → Outcome Tree) (most : ℕ) (s : Scope) (t : Token) (at : ℕ) where
+module _ (text : List ℕ) (ts : List Token) (inner : Context → ℕ → ℕ → Outcome Tree) (most : ℕ) (s : Context) (t : Token) (at : ℕ) where
   abbrev ByClass : Kind → Type 0
   ByClass kind = operand_by text ts inner most s t at kind ≡ by_class text ts inner most s t at
 

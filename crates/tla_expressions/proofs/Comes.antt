@@ -3,7 +3,7 @@ use Rattle.std.proofs.Common.{◌≡◌, ℕ, zero, suc, ◌+◌, ◌-◌, ◌<�
 use Rattle.tla_lex.specs.declared.token.Token.{Token}
 use Rattle.tla_lex.specs.declared.token.Kind.{Kind}
 use Rattle.tla_lex.specs.declared.token.Kind.TheVariants as k
-use Rattle.tla_grammar.specs.declared.scope.Scope.{Scope}
+use Rattle.tla_grammar.specs.declared.context.Context.{Context}
 use Rattle.tla_grammar.specs.declared.tokens.Postfix.{Postfix}
 use Rattle.tla_tree.specs.Tree.{Tree, Name, Trees, Binders, Arms, Other, Definition, Definitions, none, more, unbound, bound, no_arms, arm, no_other, other, DefinesOperator, DefinesFunction, undefined, defined, Fields, Key, Keys, Updates, no_fields, field, AtIndex, AtField, no_keys, key, no_updates, update}
 use Rattle.tla_grammar.specs.Edges.{top_above, is_closed, depth}
@@ -23,30 +23,30 @@ is_name _ = false
 
 module _ (text : List ℕ) (ts : List Token) where
   -- The next token doesn't go on with the tree.
-  abbrev pub Fits : Scope → Tree → ℕ → Type 0
+  abbrev pub Fits : Context → Tree → ℕ → Type 0
   Fits s t at = may_end t (seen ts s.column at) ≡ true
 
   -- No operator above the floor comes next.
-  abbrev pub Stops : Scope → ℕ → ℕ → Type 0
+  abbrev pub Stops : Context → ℕ → ℕ → Type 0
   Stops s floor at = above floor (infix_at (seen ts s.column at)) ≡ None
 
   -- No arguments come next.
-  abbrev pub NoCall : Scope → ℕ → Type 0
+  abbrev pub NoCall : Context → ℕ → Type 0
   NoCall s at = kind_at k.LeftParen (seen ts s.column at) ≡ false
 
   -- the reading comes by this tree
   abbrev pub Comes : Tree → Type 0
-  Comes t = (n : ℕ) (s : Scope) (floor from to : ℕ) → Spells text ts s t from to → Fits s t to → top_above floor t ≡ true → depth t ≤ suc n
+  Comes t = (n : ℕ) (s : Context) (floor from to : ℕ) → Spells text ts s t from to → Fits s t to → top_above floor t ≡ true → depth t ≤ suc n
       → expr text ts (suc n) s floor from ≡ climb text ts (expr text ts n) (n - spine t) (n + 1) s floor t to
 
   -- a closed form is read up to its postfix forms
   abbrev pub Stands : Tree → Type 0
-  Stands t = (n : ℕ) (s : Scope) (from to : ℕ) → Spells text ts s t from to → is_closed t ≡ true → depth t ≤ n + 1 → (is_name t ≡ true → NoCall s to)
+  Stands t = (n : ℕ) (s : Context) (from to : ℕ) → Spells text ts s t from to → is_closed t ≡ true → depth t ≤ n + 1 → (is_name t ≡ true → NoCall s to)
       → operand text ts (expr text ts n) (n + 1) s from ≡ postfix text ts (expr text ts n) (n + 1 - tails t) (n + 1) s t to
 
   -- a closed form that is no postfix form
   abbrev pub Opens : Tree → Type 0
-  Opens t = (n : ℕ) (s : Scope) (from to : ℕ) → Spells text ts s t from to → depth t ≤ n + 1 → (is_name t ≡ true → NoCall s to)
+  Opens t = (n : ℕ) (s : Context) (from to : ℕ) → Spells text ts s t from to → depth t ≤ n + 1 → (is_name t ≡ true → NoCall s to)
       → operand text ts (expr text ts n) (n + 1) s from ≡ postfix text ts (expr text ts n) (n + 1) (n + 1) s t to
 
   pub record Both (t : Tree) : Type 0 where
@@ -93,13 +93,13 @@ module _ (text : List ℕ) (ts : List Token) where
   AllUpdates no_updates = Unit {0}
   AllUpdates (update ks e us) = AllKeys ks × Comes e × AllUpdates us
 
-  pub finish : (t : Tree) → Comes t → (n : ℕ) (s : Scope) (floor from to : ℕ) → Spells text ts s t from to → Fits s t to → top_above floor t ≡ true → depth t ≤ n → Stops s floor to
+  pub finish : (t : Tree) → Comes t → (n : ℕ) (s : Context) (floor from to : ℕ) → Spells text ts s t from to → Fits s t to → top_above floor t ≡ true → depth t ≤ n → Stops s floor to
       → expr text ts n s floor from ≡ Ok (t, to)
   finish t h zero s floor from to x f a d z = absurd (let y = spine_depth t in omega (arith, y, d))
   finish t h (suc n) s floor from to x f a d z = h n s floor from to x f a d ∙ climb_done text ts (expr text ts n) (n - spine t) (n + 1) s floor t to z
 
   -- where the operand is whole, the reading comes by it
-  pub by_operand : (t : Tree) (n : ℕ) (s : Scope) (floor from to : ℕ) → spine t ≡ 0 → operand text ts (expr text ts n) (n + 1) s from ≡ Ok (t, to)
+  pub by_operand : (t : Tree) (n : ℕ) (s : Context) (floor from to : ℕ) → spine t ≡ 0 → operand text ts (expr text ts n) (n + 1) s from ≡ Ok (t, to)
       → expr text ts (suc n) s floor from ≡ climb text ts (expr text ts n) (n - spine t) (n + 1) s floor t to
   unfolding expr level
   by_operand t n s floor from to x h = let z : n - spine t ≡ n = omega (arith, x) in rw (h, z) refl
@@ -116,7 +116,7 @@ module _ (text : List ℕ) (ts : List Token) where
   opens_both t c z e h = closed_both t c z (λ n s from to x cl d nc. let m : n + 1 - tails t ≡ n + 1 = omega (arith, e) in rw m (h n s from to x d nc))
 
   -- one postfix form more
-  pub behind_stands : (t u : Tree) → Stands t → tails u ≡ tails t + 1 → (n : ℕ) (s : Scope) (from mid to : ℕ) (v : Postfix) → Spells text ts s t from mid → is_closed t ≡ true → depth t ≤ n → NoCall s mid
+  pub behind_stands : (t u : Tree) → Stands t → tails u ≡ tails t + 1 → (n : ℕ) (s : Context) (from mid to : ℕ) (v : Postfix) → Spells text ts s t from mid → is_closed t ≡ true → depth t ≤ n → NoCall s mid
       → postfix_at (seen ts s.column mid) ≡ Some v → behind text ts (expr text ts n) (n + 1) s t v mid ≡ Ok (u, to)
       → operand text ts (expr text ts n) (n + 1) s from ≡ postfix text ts (expr text ts n) (n + 1 - tails u) (n + 1) s u to
   behind_stands t u h e n s from mid to v x c d nc p b =
@@ -125,10 +125,10 @@ module _ (text : List ℕ) (ts : List Token) where
       h n s from mid x c (omega (arith, d)) (λ w. nc) ∙ postfix_more text ts (expr text ts n) (n + 1 - tails t) (n + 1 - tails u) (n + 1) s t mid v u to m p b
 
   -- an expression that is read whole
-  abbrev pub ReadAt : ℕ → Scope → Tree → ℕ → ℕ → Type 0
+  abbrev pub ReadAt : ℕ → Context → Tree → ℕ → ℕ → Type 0
   ReadAt n s e from to = (expr text ts n s 0 from ≡ Ok (e, to)) × (from < to)
 
   -- before a token that goes on with nothing
-  pub before_plain : (e : Tree) → Comes e → (n : ℕ) (s : Scope) (from to : ℕ) (kind : Kind) → Spells text ts s e from to → Has ts s.column kind to → goes_on kind ≡ false → depth e ≤ n → ReadAt n s e from to
+  pub before_plain : (e : Tree) → Comes e → (n : ℕ) (s : Context) (from to : ℕ) (kind : Kind) → Spells text ts s e from to → Has ts s.column kind to → goes_on kind ≡ false → depth e ≤ n → ReadAt n s e from to
   before_plain e h n s from to kind x has plain d =
       (finish e h n s 0 from to x (end_plain e ts s.column to kind has plain) (top_zero e) d (stops_plain ts s.column 0 to kind has plain), advances text ts e s from to x)

@@ -5,7 +5,7 @@ use Rattle.tla_lex.specs.declared.token.Place.{Place}
 use Rattle.tla_lex.specs.declared.token.Token.{Token}
 use Rattle.tla_lex.specs.declared.token.Kind.{Kind}
 use Rattle.tla_lex.specs.declared.token.Kind.TheVariants as k
-use Rattle.tla_grammar.specs.declared.scope.Scope.{Scope}
+use Rattle.tla_grammar.specs.declared.context.Context.{Context}
 use Rattle.tla_grammar.specs.declared.tokens.Postfix.TheVariants as form
 use Rattle.tla_tree.specs.declared.word.Written.{Written}
 use Rattle.tla_tree.specs.declared.tree.Infix.{Infix}
@@ -162,7 +162,7 @@ module _ (text : List ℕ) (ts : List Token) where
       by_operand text ts (If p a b e) n s floor from to refl (rw (x.2.1, x.2.2, ra, x.4.1, x.4.2, rb, x.6.1, x.6.2, re, x.2.3) refl)
 
   -- an open form ends where any expression may
-  any_ends : (t : Tree) → ((y : Infix) → edge_allows t y ≡ true → ⊥) → (s : Scope) (to : ℕ) → Fits text ts s t to → AnyEnds text ts s to
+  any_ends : (t : Tree) → ((y : Infix) → edge_allows t y ≡ true → ⊥) → (s : Context) (to : ℕ) → Fits text ts s t to → AnyEnds text ts s to
   any_ends t h s to f e = (end_mono t e (seen ts s.column to) (λ y w. absurd (h y w)) f, stop_by t 0 (seen ts s.column to) (λ y w. absurd (h y w)) f)
 
   cases_comes : (p : Place) (cs : Arms) (o : Other) → AllArms text ts cs → OtherComes text ts o → Comes text ts (Case p cs o)
@@ -288,17 +288,17 @@ module _ (text : List ℕ) (ts : List Token) where
     main_defined undefined = tt
     main_defined (defined d ds) = (main_definition d, main_defined ds)
 
-  pub definition_complete : (d : Definition) (n : ℕ) (s : Scope) (from to : ℕ) (kind : Kind) → Defines text ts s d from to → Has ts s.column kind to → goes_on kind ≡ false → definition_depth d ≤ n
+  pub definition_complete : (d : Definition) (n : ℕ) (s : Context) (from to : ℕ) (kind : Kind) → Defines text ts s d from to → Has ts s.column kind to → goes_on kind ≡ false → definition_depth d ≤ n
       → definition text ts (expr text ts n) s from ≡ Ok (d, to)
   definition_complete d n s from to kind x has plain l = (definition_read text ts d (main_definition d) n s from to kind x has plain l).0
 
   -- What is spelled is read.
-  pub expr_complete : (t : Tree) (n : ℕ) (s : Scope) (floor from to : ℕ) → Spells text ts s t from to → Fits text ts s t to → top_above floor t ≡ true → depth t ≤ n → Stops text ts s floor to
+  pub expr_complete : (t : Tree) (n : ℕ) (s : Context) (floor from to : ℕ) → Spells text ts s t from to → Fits text ts s t to → top_above floor t ≡ true → depth t ≤ n → Stops text ts s floor to
       → expr text ts n s floor from ≡ Ok (t, to)
   expr_complete t n s floor from to x f a d z = finish text ts t (main t).comes n s floor from to x f a d z
 
   -- No two trees are spelled from one place, where each ends before a token that doesn't go on with it.
-  pub one_tree : (t u : Tree) (s : Scope) (floor from to end : ℕ) → Spells text ts s t from to → Fits text ts s t to → top_above floor t ≡ true → Stops text ts s floor to
+  pub one_tree : (t u : Tree) (s : Context) (floor from to end : ℕ) → Spells text ts s t from to → Fits text ts s t to → top_above floor t ≡ true → Stops text ts s floor to
       → Spells text ts s u from end → Fits text ts s u end → top_above floor u ≡ true → Stops text ts s floor end → (t ≡ u) × (to ≡ end)
   one_tree t u s floor from to end x f a z x' f' a' z' =
       let n = depth t + depth u in

@@ -5,7 +5,7 @@ use Rattle.tla_lex.specs.declared.token.Place.{Place}
 use Rattle.tla_lex.specs.declared.token.Token.{Token}
 use Rattle.tla_lex.specs.declared.token.Kind.{Kind}
 use Rattle.tla_lex.specs.declared.token.Kind.TheVariants as k
-use Rattle.tla_grammar.specs.declared.scope.Scope.{Scope}
+use Rattle.tla_grammar.specs.declared.context.Context.{Context}
 use Rattle.tla_grammar.specs.declared.tokens.Between.TheVariants as between
 use Rattle.tla_tree.specs.declared.tree.Brackets.TheVariants as br
 use Rattle.tla_tree.specs.declared.tree.Step.{Step}
@@ -45,7 +45,7 @@ tuple_ends = record { plain = refl; no_comma = refl; same = refl }
 module _ (text : List ℕ) (ts : List Token) where
   -- ---- lists behind a first expression
 
-  resumed_read : (e : Tree) (xs : List Tree) (n : ℕ) (s : Scope) (at mid : ℕ) → Behind (ReadAt text ts n s) (following ts s.column between.Comma) xs at mid → mid ≤ length ts
+  resumed_read : (e : Tree) (xs : List Tree) (n : ℕ) (s : Context) (at mid : ℕ) → Behind (ReadAt text ts n s) (following ts s.column between.Comma) xs at mid → mid ≤ length ts
       → at_op (following ts s.column between.Comma at) (Ok (e ∷ [], at)) (λ next. exprs text ts (expr text ts n) (length ts) (e ∷ []) s between.Comma next) ≡ Ok (e ∷ xs, mid)
   resumed_read e [] n s at mid b w = rw (b.0, b.1) refl
   resumed_read e (x ∷ xs) n s at mid b w =
@@ -53,13 +53,13 @@ module _ (text : List ℕ) (ts : List Token) where
       let fit = follows_fit (ReadAt text ts n s) (following ts s.column between.Comma) (λ u a c y. y.1) (rises text ts s.column between.Comma) (x ∷ xs) b.0 mid f in
       rw b.2 (sequence_complete (ReadAt text ts n s) (following ts s.column between.Comma) (expr text ts n s 0) (λ u a c y. y.0) (x ∷ xs) (length ts) (e ∷ []) b.0 mid f (omega (arith, fit, w)))
 
-  others_by : (e : Tree) (es : Trees) (n : ℕ) (s : Scope) (close : Kind) (at mid to : ℕ) → Ends close
+  others_by : (e : Tree) (es : Trees) (n : ℕ) (s : Context) (close : Kind) (at mid to : ℕ) → Ends close
       → at_op (following ts s.column between.Comma at) (Ok (e ∷ [], at)) (λ next. exprs text ts (expr text ts n) (length ts) (e ∷ []) s between.Comma next) ≡ Ok (e ∷ list es, mid)
       → Has ts s.column close mid → to ≡ mid + 1 → others text ts (expr text ts n) s close e at ≡ Ok (more e es, to)
   unfolding others
   others_by e es n s close at mid to p r h q = let same = p.same in rw (r, h.1, h.2, same, trees_list es, q) refl
 
-  others_complete : (e : Tree) (es : Trees) → AllCome text ts es → (n : ℕ) (s : Scope) (close : Kind) (at to : ℕ) → Ends close → Others text ts s close es at to → depths es ≤ n → others text ts (expr text ts n) s close e at ≡ Ok (more e es, to)
+  others_complete : (e : Tree) (es : Trees) → AllCome text ts es → (n : ℕ) (s : Context) (close : Kind) (at to : ℕ) → Ends close → Others text ts s close es at to → depths es ≤ n → others text ts (expr text ts n) s close e at ≡ Ok (more e es, to)
   others_complete e es h n s close at to p x d =
       let q = others_read text ts es h n s close at to p x d in
       let w = seen_within text ts s.column q.0 q.2.0 q.2.1 in
@@ -67,7 +67,7 @@ module _ (text : List ℕ) (ts : List Token) where
       others_by e es n s close at q.0 to p r q.2 q.3
 
   -- what stands behind the first is no such mark
-  no_mark : (mark : Kind) (es : Trees) (s : Scope) (close : Kind) (from to : ℕ) → same_kind mark k.Comma ≡ false → same_kind mark close ≡ false → Others text ts s close es from to → kind_at mark (seen ts s.column from) ≡ false
+  no_mark : (mark : Kind) (es : Trees) (s : Context) (close : Kind) (from to : ℕ) → same_kind mark k.Comma ≡ false → same_kind mark close ≡ false → Others text ts s close es from to → kind_at mark (seen ts s.column from) ≡ false
   no_mark mark none s close from to a b x = let y = x.0 in rw (y.1, y.2, b) refl
   no_mark mark (more e es) s close from to a b x = let y = x.1 in rw (y.1, y.2, a) refl
 
@@ -79,7 +79,7 @@ module _ (text : List ℕ) (ts : List Token) where
   PartsCome (Listing p b es) = AllCome text ts es
   PartsCome _ = Unit {0}
 
-  subscript_complete : (v : Tree) → PartsCome v → (n : ℕ) (s : Scope) (from to : ℕ) → Spells text ts s v from to → is_subscript v ≡ true → depth v ≤ n + 1 → subscript text ts (expr text ts n) s from ≡ Ok (v, to)
+  subscript_complete : (v : Tree) → PartsCome v → (n : ℕ) (s : Context) (from to : ℕ) → Spells text ts s v from to → is_subscript v ≡ true → depth v ≤ n + 1 → subscript text ts (expr text ts n) s from ≡ Ok (v, to)
   unfolding subscript paren
   subscript_complete (Name w) h n s from to x i d = let y = x.0 in rw (y.1, y.2, y.3, x.1) refl
   subscript_complete (Paren p e) h n s from to x i d =
@@ -90,7 +90,7 @@ module _ (text : List ℕ) (ts : List Token) where
       rw (x.0.1, x.0.2, x.0.3, r) refl
   subscript_complete _ h n s from to x i d = absurd (let z : ⊥ = cc in z)
 
-  action_complete : (p : Place) (g : Step) (a v : Tree) → PartsCome v → (n : ℕ) (s : Scope) (mid to : ℕ) → Spells text ts s v (mid + 1) to → is_subscript v ≡ true → depth (Action p g a v) ≤ n + 1
+  action_complete : (p : Place) (g : Step) (a v : Tree) → PartsCome v → (n : ℕ) (s : Context) (mid to : ℕ) → Spells text ts s v (mid + 1) to → is_subscript v ≡ true → depth (Action p g a v) ≤ n + 1
       → action text ts (expr text ts n) (n + 1) s p g a mid ≡ Ok (Action p g a v, to)
   unfolding action
   action_complete p g a v h n s mid to x i d =
@@ -132,11 +132,11 @@ module _ (text : List ℕ) (ts : List Token) where
       let rb = bound_complete text ts bs hs n s (x.0 + 1) x.1 k.RightBrace brace_ends x.7 x.6 (omega (arith, d)) in
       rw (x.2.1, x.2.2, x.2.3, none, f.1, c, re.0, x.5.1, x.5.2, none, rb, x.7.1, x.7.2, binders_list bs, x.8) refl
 
-  set_no_filter : (e : Tree) (es : Trees) (s : Scope) (from mid to : ℕ) → Spells text ts s e from mid → Others text ts s k.RightBrace es mid to → filters ts s.column from ≡ false
+  set_no_filter : (e : Tree) (es : Trees) (s : Context) (from mid to : ℕ) → Spells text ts s e from mid → Others text ts s k.RightBrace es mid to → filters ts s.column from ≡ false
   set_no_filter e none s from mid to x y = no_filter text ts e s from mid k.RightBrace x y.0 refl refl
   set_no_filter e (more u es) s from mid to x y = no_filter text ts e s from mid k.Comma x y.1 refl refl
 
-  set_complete : (es : Trees) → AllCome text ts es → (n : ℕ) (s : Scope) (p : Place) (from to : ℕ) → Listed text ts s k.RightBrace es (from + 1) to → depths es ≤ n → brace text ts (expr text ts n) s p from ≡ Ok (Listing p br.Set es, to)
+  set_complete : (es : Trees) → AllCome text ts es → (n : ℕ) (s : Context) (p : Place) (from to : ℕ) → Listed text ts s k.RightBrace es (from + 1) to → depths es ≤ n → brace text ts (expr text ts n) s p from ≡ Ok (Listing p br.Set es, to)
   unfolding brace set_of
   set_complete none h n s p from to x d = let e : to ≡ from + 2 = omega (arith, x.1) in rw (x.0.1, x.0.2, e) refl
   set_complete (more e es) h n s p from to x d =
@@ -149,7 +149,7 @@ module _ (text : List ℕ) (ts : List Token) where
       let r = others_complete e es h.1 n s k.RightBrace x.0 to brace_ends x.2 (omega (arith, d)) in
       rw (no, f.1, c, re.0, nc, r) refl
 
-  tuple_complete : (es : Trees) → AllCome text ts es → (n : ℕ) (s : Scope) (p : Place) (from to : ℕ) → Listed text ts s k.RightTuple es (from + 1) to → depths es ≤ n → tuple text ts (expr text ts n) (n + 1) s p from ≡ Ok (Listing p br.Tuple es, to)
+  tuple_complete : (es : Trees) → AllCome text ts es → (n : ℕ) (s : Context) (p : Place) (from to : ℕ) → Listed text ts s k.RightTuple es (from + 1) to → depths es ≤ n → tuple text ts (expr text ts n) (n + 1) s p from ≡ Ok (Listing p br.Tuple es, to)
   unfolding tuple
   tuple_complete none h n s p from to x d = let e : to ≡ from + 2 = omega (arith, x.1) in rw (x.0.1, x.0.2, e) refl
   tuple_complete (more e es) h n s p from to x d =

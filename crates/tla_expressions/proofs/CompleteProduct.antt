@@ -5,7 +5,7 @@ use Rattle.tla_lex.specs.declared.token.Place.{Place}
 use Rattle.tla_lex.specs.declared.token.Token.{Token}
 use Rattle.tla_lex.specs.declared.token.Kind.{Kind}
 use Rattle.tla_lex.specs.declared.token.Kind.TheVariants as k
-use Rattle.tla_grammar.specs.declared.scope.Scope.{Scope}
+use Rattle.tla_grammar.specs.declared.context.Context.{Context}
 use Rattle.tla_grammar.specs.declared.tokens.Between.TheVariants as between
 use Rattle.tla_tree.specs.declared.tree.Infix.TheVariants as i
 use Rattle.tla_tree.specs.Tree.{Tree, Trees, none, more, Product}
@@ -38,13 +38,13 @@ no_product t (Some u) e h = no_product_by t u.kind e (and_true (not (is_suffix u
 
 module _ (text : List ℕ) (ts : List Token) where
   -- what follows is no `\X`, or one that the tree may stand left of
-  abbrev Passes : Scope → Tree → ℕ → Type 0
+  abbrev Passes : Context → Tree → ℕ → Type 0
   Passes s e at = (not (kind_at k.Product (seen ts s.column at)) || edge_allows e i.Product) ≡ true
 
-  abbrev FactorRead : ℕ → Scope → Tree → ℕ → ℕ → Type 0
+  abbrev FactorRead : ℕ → Context → Tree → ℕ → ℕ → Type 0
   FactorRead n s e from to = (factor text ts (expr text ts n) s from ≡ Ok (e, to)) × (from < to)
 
-  factor_read : (e : Tree) → Comes text ts e → (n : ℕ) (s : Scope) (from to : ℕ) → Spells text ts s e from to → top_above (high i.Product) e ≡ true → Fits text ts s e to → Stops text ts s (high i.Product) to
+  factor_read : (e : Tree) → Comes text ts e → (n : ℕ) (s : Context) (from to : ℕ) → Spells text ts s e from to → top_above (high i.Product) e ≡ true → Fits text ts s e to → Stops text ts s (high i.Product) to
       → Passes s e to → depth e ≤ n → FactorRead n s e from to
   unfolding factor
   factor_read e h n s from to x top f z p d =
@@ -52,7 +52,7 @@ module _ (text : List ℕ) (ts : List Token) where
       (rw (r, p) refl, advances text ts e s from to x)
 
   -- before the next `\X`
-  inner_read : (e : Tree) → Comes text ts e → (n : ℕ) (s : Scope) (from to : ℕ) → Spells text ts s e from to → top_above (high i.Product) e ≡ true → edge_allows e i.Product ≡ true → Has ts s.column k.Product to → depth e ≤ n
+  inner_read : (e : Tree) → Comes text ts e → (n : ℕ) (s : Context) (from to : ℕ) → Spells text ts s e from to → top_above (high i.Product) e ≡ true → edge_allows e i.Product ≡ true → Has ts s.column k.Product to → depth e ≤ n
       → FactorRead n s e from to
   inner_read e h n s from to x top edge has d =
       let is_op : infix_of has.0.kind ≡ Some i.Product = rw has.2 refl in
@@ -62,7 +62,7 @@ module _ (text : List ℕ) (ts : List Token) where
       factor_read e h n s from to x top f z p d
 
   -- the last one, where the whole product may end
-  last_read : (p : Place) (first e : Tree) → Comes text ts e → (n : ℕ) (s : Scope) (from to : ℕ) → Spells text ts s e from to → top_above (high i.Product) e ≡ true → Fits text ts s (Product p first (more e none)) to → depth e ≤ n
+  last_read : (p : Place) (first e : Tree) → Comes text ts e → (n : ℕ) (s : Context) (from to : ℕ) → Spells text ts s e from to → top_above (high i.Product) e ≡ true → Fits text ts s (Product p first (more e none)) to → depth e ≤ n
       → FactorRead n s e from to
   last_read p first e h n s from to x top f d =
       let whole = Product p first (more e none) in
@@ -73,7 +73,7 @@ module _ (text : List ℕ) (ts : List Token) where
       let p : Passes s e to = rw none_next refl in
       factor_read e h n s from to x top fits stops p d
 
-  factors_read : (es : Trees) → AllCome text ts es → (p : Place) (first : Tree) (n : ℕ) (s : Scope) (from to : ℕ) → Factors text ts s es from to → Fits text ts s (Product p first es) to → depths es ≤ n
+  factors_read : (es : Trees) → AllCome text ts es → (p : Place) (first : Tree) (n : ℕ) (s : Context) (from to : ℕ) → Factors text ts s es from to → Fits text ts s (Product p first es) to → depths es ≤ n
       → Behind (FactorRead n s) (following ts s.column between.Product) (list es) from to
   factors_read none h p first n s from to x f d =
       let f' : Fits text ts s (Product p first none) from = rw (← x) f in
@@ -89,7 +89,7 @@ module _ (text : List ℕ) (ts : List Token) where
       let g = end_mono (Product p first (more e (more e' es))) (Product p first (more e' es)) (seen ts s.column to) (λ y w. w) f in
       (from + 1, x.0, rw (x.1.1, x.1.2) refl, r, factors_read (more e' es) h.1 p first n s x.0 to x.5 g (omega (arith, d)))
 
-  factors_complete : (e : Tree) (es : Trees) → AllCome text ts (more e es) → (p : Place) (first : Tree) (n : ℕ) (s : Scope) (from to : ℕ) → Factors text ts s (more e es) from to
+  factors_complete : (e : Tree) (es : Trees) → AllCome text ts (more e es) → (p : Place) (first : Tree) (n : ℕ) (s : Context) (from to : ℕ) → Factors text ts s (more e es) from to
       → Behind (FactorRead n s) (following ts s.column between.Product) (e ∷ list es) from to
       → factors text ts (expr text ts n) (length ts) [] s (from + 1) ≡ Ok (e ∷ list es, to)
   factors_complete e es h p first n s from to x b =

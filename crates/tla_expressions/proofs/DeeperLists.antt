@@ -5,7 +5,7 @@ use Rattle.tla_lex.specs.declared.token.Place.{Place}
 use Rattle.tla_lex.specs.declared.token.Token.{Token}
 use Rattle.tla_lex.specs.declared.token.Kind.{Kind}
 use Rattle.tla_lex.specs.declared.token.Kind.TheVariants as k
-use Rattle.tla_grammar.specs.declared.scope.Scope.{Scope}
+use Rattle.tla_grammar.specs.declared.context.Context.{Context}
 use Rattle.tla_tree.specs.declared.tree.Brackets.{Brackets}
 use Rattle.tla_grammar.specs.declared.tokens.Between.TheVariants as between
 use Rattle.tla_tree.specs.Tree.{Tree, Pattern}
@@ -52,37 +52,37 @@ sequences f g next d zero front at = inr refl
 sequences f g next d (suc n) front at = bind (f at) (g at) _ _ (d at) (λ x after. ops (next after) _ _ _ _ (inr refl) (λ start. sequences f g next d n (front ++ x ∷ []) start))
 
 module _ (text : List ℕ) (ts : List Token) where
-  module _ (inner outer : Scope → ℕ → ℕ → Outcome Tree) (deeper : (s : Scope) (floor at : ℕ) → Refines (inner s floor at) (outer s floor at)) where
-    pub somes : (s : Scope) (close : Kind) (at : ℕ) → Refines (some text ts inner s close at) (some text ts outer s close at)
+  module _ (inner outer : Context → ℕ → ℕ → Outcome Tree) (deeper : (s : Context) (floor at : ℕ) → Refines (inner s floor at) (outer s floor at)) where
+    pub somes : (s : Context) (close : Kind) (at : ℕ) → Refines (some text ts inner s close at) (some text ts outer s close at)
     unfolding some
     somes s close at = bind (exprs text ts inner (length ts) [] s between.Comma at) (exprs text ts outer (length ts) [] s between.Comma at) _ _
         (sequences (inner s 0) (outer s 0) (following ts s.column between.Comma) (deeper s 0) (length ts) [] at) (λ es after. inr refl)
 
-    pub listings : (s : Scope) (p : Place) (b : Brackets) (at : ℕ) → Refines (listing text ts inner s p b at) (listing text ts outer s p b at)
+    pub listings : (s : Context) (p : Place) (b : Brackets) (at : ℕ) → Refines (listing text ts inner s p b at) (listing text ts outer s p b at)
     unfolding listing
     listings s p b at = choices (kind_at (closing b) (seen ts s.column (at + 1))) _ _ _ _ (inr refl)
         (bind (some text ts inner s (closing b) (at + 1)) (some text ts outer s (closing b) (at + 1)) _ _ (somes s (closing b) (at + 1)) (λ es end. inr refl))
 
-    pub calls : (s : Scope) (t : Token) (at : ℕ) → Refines (call text ts inner s t at) (call text ts outer s t at)
+    pub calls : (s : Context) (t : Token) (at : ℕ) → Refines (call text ts inner s t at) (call text ts outer s t at)
     unfolding call
     calls s t at = bind (some text ts inner s k.RightParen (at + 2)) (some text ts outer s k.RightParen (at + 2)) _ _ (somes s k.RightParen (at + 2)) (λ es end. inr refl)
 
-    pub nameds : (s : Scope) (t : Token) (at : ℕ) → Refines (named text ts inner s t at) (named text ts outer s t at)
+    pub nameds : (s : Context) (t : Token) (at : ℕ) → Refines (named text ts inner s t at) (named text ts outer s t at)
     unfolding named
     nameds s t at = choices (kind_at k.LeftParen (seen ts s.column (at + 1))) _ _ _ _ (calls s t at) (inr refl)
 
-    sets_behind : (s : Scope) (w : Pattern) (at : ℕ) → Refines (set_behind text ts inner s w at) (set_behind text ts outer s w at)
+    sets_behind : (s : Context) (w : Pattern) (at : ℕ) → Refines (set_behind text ts inner s w at) (set_behind text ts outer s w at)
     unfolding set_behind
     sets_behind s w at = needs (kind_at k.Member (seen ts s.column at)) _ _ (bind (inner s 0 (at + 1)) (outer s 0 (at + 1)) _ _ (deeper s 0 (at + 1)) (λ e end. inr refl))
 
-    pub group_deeper : (s : Scope) (at : ℕ) → Refines (group text ts inner s at) (group text ts outer s at)
+    pub group_deeper : (s : Context) (at : ℕ) → Refines (group text ts inner s at) (group text ts outer s at)
     unfolding group
     group_deeper s at = bind (pattern text ts s.column at) (pattern text ts s.column at) (set_behind text ts inner s) (set_behind text ts outer s) (inr refl) (λ w after. sets_behind s w after)
 
-    pub one_group_deeper : (s : Scope) (at : ℕ) → Refines (one_group text ts inner s at) (one_group text ts outer s at)
+    pub one_group_deeper : (s : Context) (at : ℕ) → Refines (one_group text ts inner s at) (one_group text ts outer s at)
     unfolding one_group
     one_group_deeper s at = bind (single text ts s.column at) (single text ts s.column at) (set_behind text ts inner s) (set_behind text ts outer s) (inr refl) (λ w after. sets_behind s w after)
 
-    pub parens : (s : Scope) (p : Place) (at : ℕ) → Refines (paren text ts inner s p at) (paren text ts outer s p at)
+    pub parens : (s : Context) (p : Place) (at : ℕ) → Refines (paren text ts inner s p at) (paren text ts outer s p at)
     unfolding paren
     parens s p at = bind (inner s 0 (at + 1)) (outer s 0 (at + 1)) _ _ (deeper s 0 (at + 1)) (λ e after. inr refl)

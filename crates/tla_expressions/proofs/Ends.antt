@@ -3,7 +3,7 @@ use Rattle.std.proofs.Common.{◌≡◌, ℕ, zero, suc, ◌+◌, ◌-◌, ◌<�
 use Rattle.std.proofs.lemmas.Bool.{leb-true, leb-false}
 use Rattle.tla_lex.specs.declared.token.Token.{Token}
 use Rattle.tla_lex.specs.declared.token.Kind.TheVariants as k
-use Rattle.tla_grammar.specs.declared.scope.Scope.{Scope}
+use Rattle.tla_grammar.specs.declared.context.Context.{Context}
 use Rattle.tla_grammar.specs.declared.tokens.Postfix.{Postfix}
 use Rattle.tla_grammar.specs.declared.tokens.Postfix.TheVariants as form
 use Rattle.tla_tree.specs.Tree.{Tree, Name, Prime, Index, Field}
@@ -35,19 +35,19 @@ delimited_name : (t : Tree) → is_delimited t ≡ true → is_name t ≡ false
 delimited_name (Name w) h = sym h
 delimited_name _ h = refl
 
-module _ (text : List ℕ) (ts : List Token) (inner : Scope → ℕ → ℕ → Outcome Tree) where
+module _ (text : List ℕ) (ts : List Token) (inner : Context → ℕ → ℕ → Outcome Tree) where
   -- a tree under a postfix form more
   abbrev Under : Tree × ℕ → Type 0
   Under z = 0 < tails z.0
 
-  indexed_under : (most : ℕ) (s : Scope) (t : Tree) (at : ℕ) (z : Tree × ℕ) → indexed text ts inner most s t at ≡ Ok z → Under z
+  indexed_under : (most : ℕ) (s : Context) (t : Tree) (at : ℕ) (z : Tree × ℕ) → indexed text ts inner most s t at ≡ Ok z → Under z
   unfolding indexed
   indexed_under most s t at z h =
       let x = bind_ok (some text ts inner s k.RightBracket (at + 1)) _ z h in
       let r = room_ok _ _ z x.3 in
       ok_to (Index (place t) t x.0, x.1) z r.1 Under (omega arith)
 
-  behind_under : (most : ℕ) (s : Scope) (t : Tree) (p : Postfix) (at : ℕ) (z : Tree × ℕ) → behind text ts inner most s t p at ≡ Ok z → Under z
+  behind_under : (most : ℕ) (s : Context) (t : Tree) (p : Postfix) (at : ℕ) (z : Tree × ℕ) → behind text ts inner most s t p at ≡ Ok z → Under z
   behind_under most s t form.Prime at z h = let r = room_ok _ _ z h in ok_to (Prime (place t) t, at + 1) z r.1 Under (omega arith)
   behind_under most s t form.Index at z h = indexed_under most s t at z h
   behind_under most s t form.Field at z h = elim (at_op_ok (name_at (seen ts s.column (at + 1))) _ _ z h) [
@@ -59,7 +59,7 @@ module _ (text : List ℕ) (ts : List Token) (inner : Scope → ℕ → ℕ → 
   abbrev Kept : Tree → ℕ → Tree × ℕ → Type 0
   Kept t at z = Under z ⊎ ((t ≡ z.0) × (at ≡ z.1))
 
-  postfix_keeps : (n most : ℕ) (s : Scope) (t : Tree) (at : ℕ) (z : Tree × ℕ) → postfix text ts inner n most s t at ≡ Ok z → Kept t at z
+  postfix_keeps : (n most : ℕ) (s : Context) (t : Tree) (at : ℕ) (z : Tree × ℕ) → postfix text ts inner n most s t at ≡ Ok z → Kept t at z
   unfolding postfix
   postfix_keeps zero most s t at z h = elim (at_op_ok (postfix_at (seen ts s.column at)) _ _ z h) [
     | inl w ↦ ok_to (t, at) z w.1 (Kept t at) (inr (refl, refl))
@@ -78,7 +78,7 @@ module _ (text : List ℕ) (ts : List Token) (inner : Scope → ℕ → ℕ → 
 
 module _ (text : List ℕ) (ts : List Token) where
   -- the second ends with the tokens
-  last_end : (t u : Tree) (s : Scope) (from to end : ℕ) → is_delimited t ≡ true → is_delimited u ≡ true → Spells text ts s t from to → Spells text ts s u from end
+  last_end : (t u : Tree) (s : Context) (from to end : ℕ) → is_delimited t ≡ true → is_delimited u ≡ true → Spells text ts s t from to → Spells text ts s u from end
       → seen ts s.column end ≡ None → to ≡ end
   last_end t u s from to end dt du x y p =
       let n = depth t + depth u in
@@ -92,7 +92,7 @@ module _ (text : List ℕ) (ts : List Token) where
       ]
 
 module _ (text : List ℕ) (ts : List Token) where
-  end_by : (t u : Tree) (s : Scope) (from to end : ℕ) (b : Bool) → nat_le to end ≡ b → is_delimited t ≡ true → is_delimited u ≡ true → Spells text ts s t from to → Spells text ts s u from end → to ≡ end
+  end_by : (t u : Tree) (s : Context) (from to end : ℕ) (b : Bool) → nat_le to end ≡ b → is_delimited t ≡ true → is_delimited u ≡ true → Spells text ts s t from to → Spells text ts s u from end → to ≡ end
   end_by t u s from to end true e dt du x y =
       last_end text (take end ts) t u s from to end dt du (shorter text ts end t s from to (leb-true to end e) x) (shorter text ts end u s from end (omega arith) y) (seen_past ts end s.column end (omega arith))
   end_by t u s from to end false e dt du x y =
@@ -100,11 +100,11 @@ module _ (text : List ℕ) (ts : List Token) where
       sym (last_end text (take to ts) u t s from end to du dt (shorter text ts to u s from end (omega (arith, l)) y) (shorter text ts to t s from to (omega arith) x) (seen_past ts to s.column to (omega arith)))
 
   -- A bracket or a junction list has one end.
-  pub delimited_end : (t u : Tree) (s : Scope) (from to end : ℕ) → is_delimited t ≡ true → is_delimited u ≡ true → Spells text ts s t from to → Spells text ts s u from end → to ≡ end
+  pub delimited_end : (t u : Tree) (s : Context) (from to end : ℕ) → is_delimited t ≡ true → is_delimited u ≡ true → Spells text ts s t from to → Spells text ts s u from end → to ≡ end
   delimited_end t u s from to end dt du x y = end_by t u s from to end (nat_le to end) refl dt du x y
 
   -- Between two ends stands one tree.
-  pub same_ends : (t u : Tree) (s : Scope) (from to : ℕ) → Spells text ts s t from to → Spells text ts s u from to → t ≡ u
+  pub same_ends : (t u : Tree) (s : Context) (from to : ℕ) → Spells text ts s t from to → Spells text ts s u from to → t ≡ u
   same_ends t u s from to x y =
       let cut = take to ts in
       let p = seen_past ts to s.column to (omega arith) in

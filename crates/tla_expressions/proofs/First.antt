@@ -3,7 +3,7 @@ use Rattle.std.proofs.Common.{◌≡◌, ℕ, ◌+◌, Bool, true, false, ◌⊎
 use Rattle.tla_lex.specs.declared.token.Token.{Token}
 use Rattle.tla_lex.specs.declared.token.Kind.{Kind}
 use Rattle.tla_lex.specs.declared.token.Kind.TheVariants as k
-use Rattle.tla_grammar.specs.declared.scope.Scope.{Scope}
+use Rattle.tla_grammar.specs.declared.context.Context.{Context}
 use Rattle.tla_tree.specs.declared.tree.Infix.{Infix}
 use Rattle.tla_tree.specs.declared.tree.Prefix.{Prefix}
 use Rattle.tla_tree.specs.declared.tree.Bullet.{Bullet}
@@ -122,10 +122,10 @@ infix_goes : (kind : Kind) (op : Infix) → infix_of kind ≡ Some op → goes_o
 infix_goes kind op h = let n = infix_no_suffix kind op h in rw (n, h) refl
 
 module _ (text : List ℕ) (ts : List Token) where
-  abbrev Begins : Scope → ℕ → Type 0
+  abbrev Begins : Context → ℕ → Type 0
   Begins s at = (t : Token) × (seen ts s.column at ≡ Some t) × (never_begins t.kind ≡ false)
 
-  pub first_token : (t : Tree) (s : Scope) (from to : ℕ) → Spells text ts s t from to → Begins s from
+  pub first_token : (t : Tree) (s : Context) (from to : ℕ) → Spells text ts s t from to → Begins s from
   first_token (Name w) s from to x = (x.0.0, x.0.1, rw x.0.2 refl)
   first_token (Number p n) s from to x = (x.0.0, x.0.1, rw x.0.2 refl)
   first_token (Text p y) s from to x = (x.0, x.1, rw x.2 refl)
@@ -158,10 +158,10 @@ module _ (text : List ℕ) (ts : List Token) where
 
   -- it begins with no name, or no such mark is its second token, or it is one token
   module _ (mark : Kind) (plain : goes_on mark ≡ false) where
-    abbrev Second : Scope → ℕ → ℕ → Type 0
+    abbrev Second : Context → ℕ → ℕ → Type 0
     Second s from to = (kind_at k.Name (seen ts s.column from) ≡ false) ⊎ ((kind_at mark (seen ts s.column (from + 1)) ≡ false) ⊎ (to ≡ from + 1))
 
-    longer : (s : Scope) (from mid to : ℕ) (kind : Kind) → same_kind mark kind ≡ false → Second s from mid → Has ts s.column kind mid → Second s from to
+    longer : (s : Context) (from mid to : ℕ) (kind : Kind) → same_kind mark kind ≡ false → Second s from mid → Has ts s.column kind mid → Second s from to
     longer s from mid to kind p x h = elim x [
       | inl a ↦ inl a
       | inr a ↦ (elim a [
@@ -170,7 +170,7 @@ module _ (text : List ℕ) (ts : List Token) where
       ])
     ]
 
-    pub second_token : (t : Tree) (s : Scope) (from to : ℕ) → Spells text ts s t from to → Second s from to
+    pub second_token : (t : Tree) (s : Context) (from to : ℕ) → Spells text ts s t from to → Second s from to
     second_token (Name w) s from to x = inr (inr x.1)
     second_token (Number p n) s from to x = inl (rw (x.0.1, x.0.2) refl)
     second_token (Text p y) s from to x = inl (rw (x.1, x.2) refl)

@@ -3,7 +3,7 @@ use Rattle.std.proofs.Common.{◌≡◌, ℕ, ◌+◌, ◌≤◌, true, false, i
 use Rattle.tla_lex.specs.declared.token.Token.{Token}
 use Rattle.tla_lex.specs.declared.token.Kind.{Kind}
 use Rattle.tla_lex.specs.declared.token.Kind.TheVariants as k
-use Rattle.tla_grammar.specs.declared.scope.Scope.{Scope}
+use Rattle.tla_grammar.specs.declared.context.Context.{Context}
 use Rattle.tla_grammar.specs.declared.tokens.Between.{Between}
 use Rattle.tla_grammar.specs.declared.tokens.Between.TheVariants as between
 use Rattle.tla_tree.specs.declared.tree.Bullet.{Bullet}
@@ -113,35 +113,35 @@ module _ (text : List ℕ) (ts : List Token) where
 
   -- ---- from what was read
 
-  abbrev pub Spelled : Scope → Tree → ℕ → ℕ → Type 0
+  abbrev pub Spelled : Context → Tree → ℕ → ℕ → Type 0
   Spelled s e from to = Spells text ts s e from to
 
-  abbrev pub GroupAt : Scope → Group → ℕ → ℕ → Type 0
+  abbrev pub GroupAt : Context → Group → ℕ → ℕ → Type 0
   GroupAt s g from to = Entry text ts s.column g.0 (Spells text ts s g.1) from to
 
-  pub others_of : (xs : List Tree) (s : Scope) (close : Kind) (from to : ℕ) → Behind (Spelled s) (following ts s.column between.Comma) xs from to → Has ts s.column close to
+  pub others_of : (xs : List Tree) (s : Context) (close : Kind) (from to : ℕ) → Behind (Spelled s) (following ts s.column between.Comma) xs from to → Has ts s.column close to
       → Others text ts s close (trees xs) from (to + 1)
   others_of [] s close from to x h = rw (← x.1) (h, refl)
   others_of (e ∷ es) s close from to x h =
       let c = comma_is s.column from x.0 x.2 in
       (x.1, c.0, rw (← c.1) x.3, others_of es s close x.1 to x.4 h)
 
-  pub listed_of : (xs : List Tree) (s : Scope) (close : Kind) (from to : ℕ) → Follows (Spelled s) (following ts s.column between.Comma) xs from to → Has ts s.column close to
+  pub listed_of : (xs : List Tree) (s : Context) (close : Kind) (from to : ℕ) → Follows (Spelled s) (following ts s.column between.Comma) xs from to → Has ts s.column close to
       → Listed text ts s close (trees xs) from (to + 1) × (is_some (trees xs) ≡ true)
   listed_of [] s close from to x h = absurd x
   listed_of (e ∷ es) s close from to x h = ((x.0, x.1, others_of es s close x.0 to x.2 h), refl)
 
-  pub more_bound_of : (gs : List Group) (s : Scope) (from to : ℕ) → Behind (GroupAt s) (following ts s.column between.Comma) gs from to → MoreBound text ts s (binders gs) from to
+  pub more_bound_of : (gs : List Group) (s : Context) (from to : ℕ) → Behind (GroupAt s) (following ts s.column between.Comma) gs from to → MoreBound text ts s (binders gs) from to
   more_bound_of [] s from to x = x.1
   more_bound_of (g ∷ gs) s from to x =
       let c = comma_is s.column from x.0 x.2 in
       (x.1, c.0, rw (← c.1) x.3, more_bound_of gs s x.1 to x.4)
 
-  pub bound_of : (gs : List Group) (s : Scope) (from to : ℕ) → Follows (GroupAt s) (following ts s.column between.Comma) gs from to → Bound text ts s (binders gs) from to
+  pub bound_of : (gs : List Group) (s : Context) (from to : ℕ) → Follows (GroupAt s) (following ts s.column between.Comma) gs from to → Bound text ts s (binders gs) from to
   bound_of [] s from to x = absurd x
   bound_of (g ∷ gs) s from to x = (x.0, x.1, more_bound_of gs s x.0 to x.2)
 
-  items_behind : (xs : List Tree) (s : Scope) (b : Bullet) (from to : ℕ) → Behind (Spelled s) (following ts s.column (between.Bullet b)) xs from to
+  items_behind : (xs : List Tree) (s : Context) (b : Bullet) (from to : ℕ) → Behind (Spelled s) (following ts s.column (between.Bullet b)) xs from to
       → Items text ts s b (trees xs) from to × (is_bullet_at s.column b (slice_get ts to) ≡ false)
   items_behind [] s b from to x = (x.1, rw x.1 (no_bullet s.column b from x.0))
   items_behind (e ∷ es) s b from to x =
@@ -149,34 +149,34 @@ module _ (text : List ℕ) (ts : List Token) where
       let r = items_behind es s b x.1 to x.4 in
       ((x.1, c.0, rw (← c.1) x.3, r.0), r.1)
 
-  pub items_of : (xs : List Tree) (s : Scope) (b : Bullet) (at to : ℕ) → is_bullet_at s.column b (slice_get ts at) ≡ true
+  pub items_of : (xs : List Tree) (s : Context) (b : Bullet) (at to : ℕ) → is_bullet_at s.column b (slice_get ts at) ≡ true
       → Follows (Spelled s) (following ts s.column (between.Bullet b)) xs (at + 1) to → Items text ts s b (trees xs) at to × (is_bullet_at s.column b (slice_get ts to) ≡ false)
   items_of [] s b at to i x = absurd x
   items_of (e ∷ es) s b at to i x = let r = items_behind es s b x.0 to x.2 in ((x.0, i, x.1, r.0), r.1)
 
-  abbrev pub ArmAt : Scope → Choice → ℕ → ℕ → Type 0
+  abbrev pub ArmAt : Context → Choice → ℕ → ℕ → Type 0
   ArmAt s c from to = (m : ℕ) × Spells text ts s c.0 from m × Has ts s.column k.Arrow m × Spells text ts s c.1 (m + 1) to
 
-  abbrev pub DefinesAt : Scope → Definition → ℕ → ℕ → Type 0
+  abbrev pub DefinesAt : Context → Definition → ℕ → ℕ → Type 0
   DefinesAt s d from to = Defines text ts s d from to
 
-  more_chosen_of : (cs : List Choice) (s : Scope) (from to : ℕ) → Behind (ArmAt s) (following ts s.column between.Arm) cs from to → MoreChosen text ts s (arms cs) from to × (following ts s.column between.Arm to ≡ None)
+  more_chosen_of : (cs : List Choice) (s : Context) (from to : ℕ) → Behind (ArmAt s) (following ts s.column between.Arm) cs from to → MoreChosen text ts s (arms cs) from to × (following ts s.column between.Arm to ≡ None)
   more_chosen_of [] s from to x = (x.1, rw x.1 x.0)
   more_chosen_of (c ∷ cs) s from to x =
       let b = arm_is s.column from x.0 x.2 in
       let r = more_chosen_of cs s x.1 to x.4 in
       ((x.3.0, x.1, b.0, rw (← b.1) x.3.1, x.3.2, x.3.3, r.0), r.1)
 
-  pub chosen_of : (cs : List Choice) (s : Scope) (from to : ℕ) → Follows (ArmAt s) (following ts s.column between.Arm) cs from to → Chosen text ts s (arms cs) from to × (following ts s.column between.Arm to ≡ None)
+  pub chosen_of : (cs : List Choice) (s : Context) (from to : ℕ) → Follows (ArmAt s) (following ts s.column between.Arm) cs from to → Chosen text ts s (arms cs) from to × (following ts s.column between.Arm to ≡ None)
   chosen_of [] s from to x = absurd x
   chosen_of (c ∷ cs) s from to x = let r = more_chosen_of cs s x.0 to x.2 in ((x.1.0, x.0, x.1.1, x.1.2, x.1.3, r.0), r.1)
 
-  more_defined_of : (ds : List Definition) (s : Scope) (from to : ℕ) → Behind (DefinesAt s) (following ts s.column between.Nothing) ds from to → Defined text ts s (definitions ds) from to
+  more_defined_of : (ds : List Definition) (s : Context) (from to : ℕ) → Behind (DefinesAt s) (following ts s.column between.Nothing) ds from to → Defined text ts s (definitions ds) from to
   more_defined_of [] s from to x = x.1
   more_defined_of (d ∷ ds) s from to x =
       let e = name_here s.column from x.0 x.2 in
       (x.1, rw (← e) x.3, more_defined_of ds s x.1 to x.4)
 
-  pub defined_of : (ds : List Definition) (s : Scope) (from to : ℕ) → Follows (DefinesAt s) (following ts s.column between.Nothing) ds from to → Defined text ts s (definitions ds) from to × (is_defined (definitions ds) ≡ true)
+  pub defined_of : (ds : List Definition) (s : Context) (from to : ℕ) → Follows (DefinesAt s) (following ts s.column between.Nothing) ds from to → Defined text ts s (definitions ds) from to × (is_defined (definitions ds) ≡ true)
   defined_of [] s from to x = absurd x
   defined_of (d ∷ ds) s from to x = ((x.0, x.1, more_defined_of ds s x.0 to x.2), refl)

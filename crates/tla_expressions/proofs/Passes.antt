@@ -3,7 +3,7 @@ use Rattle.std.proofs.Common.{◌≡◌, ℕ, zero, suc, ◌+◌, true, List, []
 use Rattle.tla_lex.specs.declared.token.Token.{Token}
 use Rattle.tla_lex.specs.declared.token.Kind.{Kind}
 use Rattle.tla_lex.specs.declared.token.Kind.TheVariants as k
-use Rattle.tla_grammar.specs.declared.scope.Scope.{Scope}
+use Rattle.tla_grammar.specs.declared.context.Context.{Context}
 use Rattle.tla_grammar.specs.declared.ahead.Role.{Role}
 use Rattle.tla_grammar.specs.declared.ahead.Role.TheVariants as role
 use Rattle.tla_tree.specs.declared.word.Written.{Written}
@@ -75,7 +75,7 @@ module _ (text : List ℕ) (ts : List Token) where
   -- ---- trees
 
   mutual
-    pub passes : (t : Tree) (s : Scope) (from to : ℕ) → Spells text ts s t from to → (d b : ℕ) → ending d b (drop from ts) ≡ ending d b (drop to ts)
+    pub passes : (t : Tree) (s : Context) (from to : ℕ) → Spells text ts s t from to → (d b : ℕ) → ending d b (drop from ts) ≡ ending d b (drop to ts)
     passes (Name w) s from to x d b = rw x.1 (name s.column from w x.0 d b)
     passes (Number p n) s from to x d b = rw x.1 (plain s.column from (k.Number n) (x.0.0, x.0.1, x.0.2) refl d b)
     passes (Text p y) s from to x d b = rw x.5 (plain s.column from k.Text (x.0, x.1, x.2) refl d b)
@@ -146,51 +146,51 @@ module _ (text : List ℕ) (ts : List Token) where
         ∙ passes a s (x.0 + 1) x.1 x.6 (suc d) b ∙ closes s.column x.1 k.RightParen x.7 refl d b)
     passes (Product p e es) s from to x d b = passes e s from x.0 x.1 d b ∙ factors es s x.0 to x.2 d b
 
-    factors : (es : Trees) (s : Scope) (from to : ℕ) → Factors text ts s es from to → (d b : ℕ) → ending d b (drop from ts) ≡ ending d b (drop to ts)
+    factors : (es : Trees) (s : Context) (from to : ℕ) → Factors text ts s es from to → (d b : ℕ) → ending d b (drop from ts) ≡ ending d b (drop to ts)
     factors none s from to x d b = rw x refl
     factors (more e es) s from to x d b =
         plain s.column from k.Product x.1 refl d b ∙ passes e s (from + 1) x.0 x.2 d b ∙ factors es s x.0 to x.5 d b
 
     -- inside the bracket, and past its end
-    listed : (es : Trees) (s : Scope) (close : Kind) (from to : ℕ) → role_of close ≡ role.Closes → Listed text ts s close es from to → (d b : ℕ) → ending (suc d) b (drop from ts) ≡ ending d b (drop to ts)
+    listed : (es : Trees) (s : Context) (close : Kind) (from to : ℕ) → role_of close ≡ role.Closes → Listed text ts s close es from to → (d b : ℕ) → ending (suc d) b (drop from ts) ≡ ending d b (drop to ts)
     listed none s close from to r x d b = rw x.1 (closes s.column from close x.0 r d b)
     listed (more e es) s close from to r x d b = passes e s from x.0 x.1 (suc d) b ∙ others es s close x.0 to r x.2 d b
 
-    others : (es : Trees) (s : Scope) (close : Kind) (from to : ℕ) → role_of close ≡ role.Closes → Others text ts s close es from to → (d b : ℕ) → ending (suc d) b (drop from ts) ≡ ending d b (drop to ts)
+    others : (es : Trees) (s : Context) (close : Kind) (from to : ℕ) → role_of close ≡ role.Closes → Others text ts s close es from to → (d b : ℕ) → ending (suc d) b (drop from ts) ≡ ending d b (drop to ts)
     others none s close from to r x d b = rw x.1 (closes s.column from close x.0 r d b)
     others (more e es) s close from to r x d b =
         separates s.column from k.Comma x.1 refl (suc d) b refl ∙ passes e s (from + 1) x.0 x.2 (suc d) b ∙ others es s close x.0 to r x.3 d b
 
-    bound_passes : (bs : Binders) (s : Scope) (from to : ℕ) → Bound text ts s bs from to → (d b : ℕ) → Open d b → ending d b (drop from ts) ≡ ending d b (drop to ts)
+    bound_passes : (bs : Binders) (s : Context) (from to : ℕ) → Bound text ts s bs from to → (d b : ℕ) → Open d b → ending d b (drop from ts) ≡ ending d b (drop to ts)
     bound_passes unbound s from to x d b o = absurd x
     bound_passes (bound w e bs) s from to x d b o =
         let y = x.1 in
         pattern w s.column from y.0 y.1 d b o ∙ plain s.column y.0 k.Member y.2 refl d b ∙ passes e s (y.0 + 1) x.0 y.3 d b ∙ more_bound bs s x.0 to x.2 d b o
 
-    more_bound : (bs : Binders) (s : Scope) (from to : ℕ) → MoreBound text ts s bs from to → (d b : ℕ) → Open d b → ending d b (drop from ts) ≡ ending d b (drop to ts)
+    more_bound : (bs : Binders) (s : Context) (from to : ℕ) → MoreBound text ts s bs from to → (d b : ℕ) → Open d b → ending d b (drop from ts) ≡ ending d b (drop to ts)
     more_bound unbound s from to x d b o = rw x refl
     more_bound (bound w e bs) s from to x d b o =
         let y = x.2 in
         separates s.column from k.Comma x.1 refl d b o ∙ pattern w s.column (from + 1) y.0 y.1 d b o ∙ plain s.column y.0 k.Member y.2 refl d b ∙ passes e s (y.0 + 1) x.0 y.3 d b ∙ more_bound bs s x.0 to x.3 d b o
 
-    chosen : (cs : Arms) (s : Scope) (from to : ℕ) → Chosen text ts s cs from to → (d b : ℕ) → ending d b (drop from ts) ≡ ending d b (drop to ts)
+    chosen : (cs : Arms) (s : Context) (from to : ℕ) → Chosen text ts s cs from to → (d b : ℕ) → ending d b (drop from ts) ≡ ending d b (drop to ts)
     chosen no_arms s from to x d b = absurd x
     chosen (arm g e cs) s from to x d b =
         passes g s from x.0 x.2 d b ∙ plain s.column x.0 k.Arrow x.3 refl d b ∙ passes e s (x.0 + 1) x.1 x.4 d b ∙ more_chosen cs s x.1 to x.5 d b
 
-    more_chosen : (cs : Arms) (s : Scope) (from to : ℕ) → MoreChosen text ts s cs from to → (d b : ℕ) → ending d b (drop from ts) ≡ ending d b (drop to ts)
+    more_chosen : (cs : Arms) (s : Context) (from to : ℕ) → MoreChosen text ts s cs from to → (d b : ℕ) → ending d b (drop from ts) ≡ ending d b (drop to ts)
     more_chosen no_arms s from to x d b = rw x refl
     more_chosen (arm g e cs) s from to x d b =
         plain s.column from k.Box x.2 refl d b ∙ passes g s (from + 1) x.0 x.3 d b ∙ plain s.column x.0 k.Arrow x.4 refl d b ∙ passes e s (x.0 + 1) x.1 x.5 d b ∙ more_chosen cs s x.1 to x.6 d b
 
-    otherwise : (o : Other) (s : Scope) (from to : ℕ) → Otherwise text ts s o from to → (d b : ℕ) → ending d b (drop from ts) ≡ ending d b (drop to ts)
+    otherwise : (o : Other) (s : Context) (from to : ℕ) → Otherwise text ts s o from to → (d b : ℕ) → ending d b (drop from ts) ≡ ending d b (drop to ts)
     otherwise no_other s from to x d b = rw x.1 refl
     otherwise (other e) s from to x d b =
         let q : from + 1 + 1 ≡ from + 2 = omega arith in
         let r : from + 2 + 1 ≡ from + 3 = omega arith in
         plain s.column from k.Box x.0 refl d b ∙ plain s.column (from + 1) k.Other x.1 refl d b ∙ stay _ _ _ _ q ∙ (plain s.column (from + 2) k.Arrow x.2 refl d b) ∙ stay _ _ _ _ r ∙ (passes e s (from + 3) to x.3 d b)
 
-    defines : (y : Definition) (s : Scope) (from to : ℕ) → Defines text ts s y from to → (d b : ℕ) → ending d b (drop from ts) ≡ ending d b (drop to ts)
+    defines : (y : Definition) (s : Context) (from to : ℕ) → Defines text ts s y from to → (d b : ℕ) → ending d b (drop from ts) ≡ ending d b (drop to ts)
     defines (DefinesOperator w [] e) s from to x d b =
         let q : from + 1 + 1 ≡ from + 2 = omega arith in
         name s.column from w x.0 d b ∙ plain s.column (from + 1) k.Define x.1 refl d b ∙ stay _ _ _ _ q ∙ (passes e s (from + 2) to x.2 d b)
@@ -205,24 +205,24 @@ module _ (text : List ℕ) (ts : List Token) where
         name s.column from w x.1 d b ∙ opens s.column (from + 1) k.LeftBracket x.2 refl d b ∙ stay _ _ _ _ q ∙ (bound_passes bs s (from + 2) x.0 x.3 (suc d) b refl) ∙ closes s.column x.0 k.RightBracket x.4 refl d b
         ∙ plain s.column (x.0 + 1) k.Define x.5 refl d b ∙ stay _ _ _ _ r ∙ (passes e s (x.0 + 2) to x.6 d b)
 
-    all_defined : (ds : Definitions) (s : Scope) (from to : ℕ) → Defined text ts s ds from to → (d b : ℕ) → ending d b (drop from ts) ≡ ending d b (drop to ts)
+    all_defined : (ds : Definitions) (s : Context) (from to : ℕ) → Defined text ts s ds from to → (d b : ℕ) → ending d b (drop from ts) ≡ ending d b (drop to ts)
     all_defined undefined s from to x d b = rw x refl
     all_defined (defined y ds) s from to x d b = defines y s from x.0 x.1 d b ∙ all_defined ds s x.0 to x.2 d b
 
-    items : (es : Trees) (s : Scope) (g : Bullet) (from to : ℕ) → Items text ts s g es from to → (d b : ℕ) → ending d b (drop from ts) ≡ ending d b (drop to ts)
+    items : (es : Trees) (s : Context) (g : Bullet) (from to : ℕ) → Items text ts s g es from to → (d b : ℕ) → ending d b (drop from ts) ≡ ending d b (drop to ts)
     items none s g from to x d b = rw x refl
     items (more e es) s g from to x d b =
         let t = bullet_token ts s.column g from x.1 in
         token_moves from t.0 role.Plain d b d b t.1 t.2 refl ∙ passes e s (from + 1) x.0 x.2 d b ∙ items es s g x.0 to x.3 d b
 
     -- inside the bracket
-    fielded : (fs : Fields) (s : Scope) (mark : Kind) (from to : ℕ) → ((d b : ℕ) → behind (suc d) b (role_of mark) ≡ Some (suc d, b)) → Fielded text ts s mark fs from to → (d b : ℕ) → ending (suc d) b (drop from ts) ≡ ending (suc d) b (drop to ts)
+    fielded : (fs : Fields) (s : Context) (mark : Kind) (from to : ℕ) → ((d b : ℕ) → behind (suc d) b (role_of mark) ≡ Some (suc d, b)) → Fielded text ts s mark fs from to → (d b : ℕ) → ending (suc d) b (drop from ts) ≡ ending (suc d) b (drop to ts)
     fielded no_fields s mark from to r x d b = absurd x
     fielded (field w e fs) s mark from to r x d b =
         let q : from + 1 + 1 ≡ from + 2 = omega arith in
         name s.column from w x.1 (suc d) b ∙ moves s.column (from + 1) mark (role_of mark) (suc d) b (suc d) b x.2 refl (r d b) ∙ stay _ _ _ _ q ∙ (passes e s (from + 2) x.0 x.3 (suc d) b) ∙ more_fields fs s mark x.0 to r x.4 d b
 
-    more_fields : (fs : Fields) (s : Scope) (mark : Kind) (from to : ℕ) → ((d b : ℕ) → behind (suc d) b (role_of mark) ≡ Some (suc d, b)) → MoreFields text ts s mark fs from to → (d b : ℕ) → ending (suc d) b (drop from ts) ≡ ending (suc d) b (drop to ts)
+    more_fields : (fs : Fields) (s : Context) (mark : Kind) (from to : ℕ) → ((d b : ℕ) → behind (suc d) b (role_of mark) ≡ Some (suc d, b)) → MoreFields text ts s mark fs from to → (d b : ℕ) → ending (suc d) b (drop from ts) ≡ ending (suc d) b (drop to ts)
     more_fields no_fields s mark from to r x d b = rw x refl
     more_fields (field w e fs) s mark from to r x d b =
         let q : from + 1 + 1 ≡ from + 2 = omega arith in
@@ -230,22 +230,22 @@ module _ (text : List ℕ) (ts : List Token) where
         separates s.column from k.Comma x.1 refl (suc d) b refl ∙ name s.column (from + 1) w x.2 (suc d) b ∙ stay _ _ _ _ q ∙ (moves s.column (from + 2) mark (role_of mark) (suc d) b (suc d) b x.3 refl (r d b))
         ∙ stay _ _ _ _ u ∙ (passes e s (from + 3) x.0 x.4 (suc d) b) ∙ more_fields fs s mark x.0 to r x.5 d b
 
-    selects : (y : Key) (s : Scope) (from to : ℕ) → Selects text ts s y from to → (d b : ℕ) → ending d b (drop from ts) ≡ ending d b (drop to ts)
+    selects : (y : Key) (s : Context) (from to : ℕ) → Selects text ts s y from to → (d b : ℕ) → ending d b (drop from ts) ≡ ending d b (drop to ts)
     selects (AtIndex es) s from to x d b = opens s.column from k.LeftBracket x.0 refl d b ∙ listed es s k.RightBracket (from + 1) to refl x.1 d b
     selects (AtField w) s from to x d b =
         let q : from + 1 + 1 ≡ to = omega (arith, x.2) in
         plain s.column from k.Dot x.0 refl d b ∙ name s.column (from + 1) w x.1 d b ∙ stay _ _ _ _ q
 
-    leads : (ks : Keys) (s : Scope) (from to : ℕ) → Leads text ts s ks from to → (d b : ℕ) → ending d b (drop from ts) ≡ ending d b (drop to ts)
+    leads : (ks : Keys) (s : Context) (from to : ℕ) → Leads text ts s ks from to → (d b : ℕ) → ending d b (drop from ts) ≡ ending d b (drop to ts)
     leads no_keys s from to x d b = rw x refl
     leads (key y ks) s from to x d b = selects y s from x.0 x.1 d b ∙ leads ks s x.0 to x.2 d b
 
-    updated : (us : Updates) (s : Scope) (from to : ℕ) → Updated text ts s us from to → (d b : ℕ) → ending (suc d) b (drop from ts) ≡ ending (suc d) b (drop to ts)
+    updated : (us : Updates) (s : Context) (from to : ℕ) → Updated text ts s us from to → (d b : ℕ) → ending (suc d) b (drop from ts) ≡ ending (suc d) b (drop to ts)
     updated no_updates s from to x d b = absurd x
     updated (update ks e us) s from to x d b =
         plain s.column from k.Bang x.2 refl (suc d) b ∙ leads ks s (from + 1) x.0 x.3 (suc d) b ∙ plain s.column x.0 k.Equal x.5 refl (suc d) b ∙ passes e (updating s) (x.0 + 1) x.1 x.6 (suc d) b ∙ more_updates us s x.1 to x.7 d b
 
-    more_updates : (us : Updates) (s : Scope) (from to : ℕ) → MoreUpdates text ts s us from to → (d b : ℕ) → ending (suc d) b (drop from ts) ≡ ending (suc d) b (drop to ts)
+    more_updates : (us : Updates) (s : Context) (from to : ℕ) → MoreUpdates text ts s us from to → (d b : ℕ) → ending (suc d) b (drop from ts) ≡ ending (suc d) b (drop to ts)
     more_updates no_updates s from to x d b = rw x refl
     more_updates (update ks e us) s from to x d b =
         let q : from + 1 + 1 ≡ from + 2 = omega arith in

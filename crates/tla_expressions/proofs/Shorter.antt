@@ -5,7 +5,7 @@ use Rattle.tla_lex.specs.declared.token.Place.{Place}
 use Rattle.tla_lex.specs.declared.token.Token.{Token}
 use Rattle.tla_lex.specs.declared.token.Kind.{Kind}
 use Rattle.tla_lex.specs.declared.token.Kind.TheVariants as k
-use Rattle.tla_grammar.specs.declared.scope.Scope.{Scope}
+use Rattle.tla_grammar.specs.declared.context.Context.{Context}
 use Rattle.tla_tree.specs.declared.tree.Bullet.{Bullet}
 use Rattle.tla_tree.specs.declared.word.Written.{Written}
 use Rattle.tla_tree.specs.Tree.{Tree, Trees, Pattern, Each, Tuple, Binders, Arms, Other, Definition, Definitions, none, more, unbound, bound, no_arms, arm, no_other, other, DefinesOperator, DefinesFunction, undefined, defined, Case, Let, Name, Number, Text, Word, At, Paren, Listing, Call, Prime, Index, Field, Unary, Binary, Quantified, Choose, If, Junction, Filter, Image, Function, FunctionSet, Record, RecordSet, Except, Action, Fair, Product, Fields, Key, Keys, Updates, no_fields, field, AtIndex, AtField, no_keys, key, no_updates, update}
@@ -97,7 +97,7 @@ module _ (text : List ℕ) (ts : List Token) (m : ℕ) where
   last_by column to false e l x = rw (cut_beyond m ts to (ltb-false to m e)) refl
 
   mutual
-    pub shorter : (t : Tree) (s : Scope) (from to : ℕ) → to ≤ m → Spells text ts s t from to → Spells text (take m ts) s t from to
+    pub shorter : (t : Tree) (s : Context) (from to : ℕ) → to ≤ m → Spells text ts s t from to → Spells text (take m ts) s t from to
     shorter (Name w) s from to l x = (writes_cut s.column k.Name w from (omega (arith, l, x.1)) x.0, x.1)
     shorter (Number p n) s from to l x = (is_cut s.column (k.Number n) p from (omega (arith, l, x.1)) x.0, x.1)
     shorter (Text p y) s from to l x = (x.0, seen_cut s.column from (omega (arith, l, x.5)) ∙ x.1, x.2, x.3, x.4, x.5)
@@ -263,31 +263,31 @@ module _ (text : List ℕ) (ts : List Token) (m : ℕ) where
         let h = factors_rise text ts es s x.0 to x.2 in
         (x.0, shorter e s from x.0 (omega (arith, l, h)) x.1, factors_cut es s x.0 to l x.2, x.3, x.4, x.5)
 
-    fielded_cut : (fs : Fields) (s : Scope) (mark : Kind) (from to : ℕ) → to ≤ m → Fielded text ts s mark fs from to → Fielded text (take m ts) s mark fs from to
+    fielded_cut : (fs : Fields) (s : Context) (mark : Kind) (from to : ℕ) → to ≤ m → Fielded text ts s mark fs from to → Fielded text (take m ts) s mark fs from to
     fielded_cut no_fields s mark from to l x = x
     fielded_cut (field w e fs) s mark from to l x =
         let g = advances text ts e s (from + 2) x.0 x.3 in
         let h = more_fields_rise text ts fs s mark x.0 to x.4 in
         (x.0, writes_cut s.column k.Name w from (omega (arith, l, g, h)) x.1, has_cut s.column mark (from + 1) (omega (arith, l, g, h)) x.2, shorter e s (from + 2) x.0 (omega (arith, l, h)) x.3, more_fields_cut fs s mark x.0 to l x.4)
 
-    more_fields_cut : (fs : Fields) (s : Scope) (mark : Kind) (from to : ℕ) → to ≤ m → MoreFields text ts s mark fs from to → MoreFields text (take m ts) s mark fs from to
+    more_fields_cut : (fs : Fields) (s : Context) (mark : Kind) (from to : ℕ) → to ≤ m → MoreFields text ts s mark fs from to → MoreFields text (take m ts) s mark fs from to
     more_fields_cut no_fields s mark from to l x = x
     more_fields_cut (field w e fs) s mark from to l x =
         let g = advances text ts e s (from + 3) x.0 x.4 in
         let h = more_fields_rise text ts fs s mark x.0 to x.5 in
         (x.0, has_cut s.column k.Comma from (omega (arith, l, g, h)) x.1, writes_cut s.column k.Name w (from + 1) (omega (arith, l, g, h)) x.2, has_cut s.column mark (from + 2) (omega (arith, l, g, h)) x.3, shorter e s (from + 3) x.0 (omega (arith, l, h)) x.4, more_fields_cut fs s mark x.0 to l x.5)
 
-    selects_cut : (y : Key) (s : Scope) (from to : ℕ) → to ≤ m → Selects text ts s y from to → Selects text (take m ts) s y from to
+    selects_cut : (y : Key) (s : Context) (from to : ℕ) → to ≤ m → Selects text ts s y from to → Selects text (take m ts) s y from to
     selects_cut (AtIndex es) s from to l x =
         let h = listed_advance text ts es s k.RightBracket (from + 1) to x.1 in
         (has_cut s.column k.LeftBracket from (omega (arith, l, h)) x.0, listed_cut es s k.RightBracket (from + 1) to l x.1, x.2)
     selects_cut (AtField w) s from to l x = let r = x.2 in (has_cut s.column k.Dot from (omega (arith, l, r)) x.0, writes_cut s.column k.Name w (from + 1) (omega (arith, l, r)) x.1, r)
 
-    leads_cut : (ks : Keys) (s : Scope) (from to : ℕ) → to ≤ m → Leads text ts s ks from to → Leads text (take m ts) s ks from to
+    leads_cut : (ks : Keys) (s : Context) (from to : ℕ) → to ≤ m → Leads text ts s ks from to → Leads text (take m ts) s ks from to
     leads_cut no_keys s from to l x = x
     leads_cut (key y ks) s from to l x = let h = leads_rise text ts ks s x.0 to x.2 in (x.0, selects_cut y s from x.0 (omega (arith, l, h)) x.1, leads_cut ks s x.0 to l x.2)
 
-    updated_cut : (us : Updates) (s : Scope) (from to : ℕ) → to ≤ m → Updated text ts s us from to → Updated text (take m ts) s us from to
+    updated_cut : (us : Updates) (s : Context) (from to : ℕ) → to ≤ m → Updated text ts s us from to → Updated text (take m ts) s us from to
     updated_cut no_updates s from to l x = x
     updated_cut (update ks e us) s from to l x =
         let f = leads_rise text ts ks s (from + 1) x.0 x.3 in
@@ -303,7 +303,7 @@ module _ (text : List ℕ) (ts : List Token) (m : ℕ) where
           more_updates_cut us s x.1 to l x.7,
         )
 
-    more_updates_cut : (us : Updates) (s : Scope) (from to : ℕ) → to ≤ m → MoreUpdates text ts s us from to → MoreUpdates text (take m ts) s us from to
+    more_updates_cut : (us : Updates) (s : Context) (from to : ℕ) → to ≤ m → MoreUpdates text ts s us from to → MoreUpdates text (take m ts) s us from to
     more_updates_cut no_updates s from to l x = x
     more_updates_cut (update ks e us) s from to l x =
         let f = leads_rise text ts ks s (from + 2) x.0 x.4 in
@@ -320,34 +320,34 @@ module _ (text : List ℕ) (ts : List Token) (m : ℕ) where
           more_updates_cut us s x.1 to l x.8,
         )
 
-    factors_cut : (es : Trees) (s : Scope) (from to : ℕ) → to ≤ m → Factors text ts s es from to → Factors text (take m ts) s es from to
+    factors_cut : (es : Trees) (s : Context) (from to : ℕ) → to ≤ m → Factors text ts s es from to → Factors text (take m ts) s es from to
     factors_cut none s from to l x = x
     factors_cut (more e es) s from to l x =
         let g = advances text ts e s (from + 1) x.0 x.2 in
         let h = factors_rise text ts es s x.0 to x.5 in
         (x.0, has_cut s.column k.Product from (omega (arith, l, g, h)) x.1, shorter e s (from + 1) x.0 (omega (arith, l, h)) x.2, x.3, x.4, factors_cut es s x.0 to l x.5)
 
-    items_cut : (es : Trees) (s : Scope) (b : Bullet) (from to : ℕ) → to ≤ m → Items text ts s b es from to → Items text (take m ts) s b es from to
+    items_cut : (es : Trees) (s : Context) (b : Bullet) (from to : ℕ) → to ≤ m → Items text ts s b es from to → Items text (take m ts) s b es from to
     items_cut none s b from to l x = x
     items_cut (more e es) s b from to l x =
         let g = advances text ts e s (from + 1) x.0 x.2 in
         let h = items_rise text ts es s b x.0 to x.3 in
         (x.0, bullet_cut s.column b from (omega (arith, l, g, h)) x.1, shorter e s (from + 1) x.0 (omega (arith, l, h)) x.2, items_cut es s b x.0 to l x.3)
 
-    pub listed_cut : (es : Trees) (s : Scope) (close : Kind) (from to : ℕ) → to ≤ m → Listed text ts s close es from to → Listed text (take m ts) s close es from to
+    pub listed_cut : (es : Trees) (s : Context) (close : Kind) (from to : ℕ) → to ≤ m → Listed text ts s close es from to → Listed text (take m ts) s close es from to
     listed_cut none s close from to l x = (has_cut s.column close from (omega (arith, l, x.1)) x.0, x.1)
     listed_cut (more e es) s close from to l x =
         let h = others_advance text ts es s close x.0 to x.2 in
         (x.0, shorter e s from x.0 (omega (arith, l, h)) x.1, others_cut es s close x.0 to l x.2)
 
-    others_cut : (es : Trees) (s : Scope) (close : Kind) (from to : ℕ) → to ≤ m → Others text ts s close es from to → Others text (take m ts) s close es from to
+    others_cut : (es : Trees) (s : Context) (close : Kind) (from to : ℕ) → to ≤ m → Others text ts s close es from to → Others text (take m ts) s close es from to
     others_cut none s close from to l x = (has_cut s.column close from (omega (arith, l, x.1)) x.0, x.1)
     others_cut (more e es) s close from to l x =
         let g = advances text ts e s (from + 1) x.0 x.2 in
         let h = others_advance text ts es s close x.0 to x.3 in
         (x.0, has_cut s.column k.Comma from (omega (arith, l, g, h)) x.1, shorter e s (from + 1) x.0 (omega (arith, l, h)) x.2, others_cut es s close x.0 to l x.3)
 
-    pub bound_cut : (bs : Binders) (s : Scope) (from to : ℕ) → to ≤ m → Bound text ts s bs from to → Bound text (take m ts) s bs from to
+    pub bound_cut : (bs : Binders) (s : Context) (from to : ℕ) → to ≤ m → Bound text ts s bs from to → Bound text (take m ts) s bs from to
     bound_cut unbound s from to l x = x
     bound_cut (bound w e bs) s from to l x =
         let y = x.1 in
@@ -355,7 +355,7 @@ module _ (text : List ℕ) (ts : List Token) (m : ℕ) where
         let h = bound_rise text ts bs s x.0 to x.2 in
         (x.0, (y.0, pattern_cut w s.column from y.0 (omega (arith, l, g, h)) y.1, has_cut s.column k.Member y.0 (omega (arith, l, g, h)) y.2, shorter e s (y.0 + 1) x.0 (omega (arith, l, h)) y.3), more_bound_cut bs s x.0 to l x.2)
 
-    more_bound_cut : (bs : Binders) (s : Scope) (from to : ℕ) → to ≤ m → MoreBound text ts s bs from to → MoreBound text (take m ts) s bs from to
+    more_bound_cut : (bs : Binders) (s : Context) (from to : ℕ) → to ≤ m → MoreBound text ts s bs from to → MoreBound text (take m ts) s bs from to
     more_bound_cut unbound s from to l x = x
     more_bound_cut (bound w e bs) s from to l x =
         let y = x.2 in
@@ -368,14 +368,14 @@ module _ (text : List ℕ) (ts : List Token) (m : ℕ) where
           more_bound_cut bs s x.0 to l x.3,
         )
 
-    chosen_cut : (cs : Arms) (s : Scope) (from to : ℕ) → to ≤ m → Chosen text ts s cs from to → Chosen text (take m ts) s cs from to
+    chosen_cut : (cs : Arms) (s : Context) (from to : ℕ) → to ≤ m → Chosen text ts s cs from to → Chosen text (take m ts) s cs from to
     chosen_cut no_arms s from to l x = x
     chosen_cut (arm a e cs) s from to l x =
         let g = advances text ts e s (x.0 + 1) x.1 x.4 in
         let h = chosen_rise text ts cs s x.1 to x.5 in
         (x.0, x.1, shorter a s from x.0 (omega (arith, l, g, h)) x.2, has_cut s.column k.Arrow x.0 (omega (arith, l, g, h)) x.3, shorter e s (x.0 + 1) x.1 (omega (arith, l, h)) x.4, more_chosen_cut cs s x.1 to l x.5)
 
-    more_chosen_cut : (cs : Arms) (s : Scope) (from to : ℕ) → to ≤ m → MoreChosen text ts s cs from to → MoreChosen text (take m ts) s cs from to
+    more_chosen_cut : (cs : Arms) (s : Context) (from to : ℕ) → to ≤ m → MoreChosen text ts s cs from to → MoreChosen text (take m ts) s cs from to
     more_chosen_cut no_arms s from to l x = x
     more_chosen_cut (arm a e cs) s from to l x =
         let f = advances text ts a s (from + 1) x.0 x.3 in
@@ -390,13 +390,13 @@ module _ (text : List ℕ) (ts : List Token) (m : ℕ) where
           more_chosen_cut cs s x.1 to l x.6,
         )
 
-    otherwise_cut : (o : Other) (s : Scope) (from to : ℕ) → to ≤ m → Otherwise text ts s o from to → Otherwise text (take m ts) s o from to
+    otherwise_cut : (o : Other) (s : Context) (from to : ℕ) → to ≤ m → Otherwise text ts s o from to → Otherwise text (take m ts) s o from to
     otherwise_cut no_other s from to l x = (last_by s.column to (nat_lt to m) refl l x.0, x.1)
     otherwise_cut (other e) s from to l x =
         let h = advances text ts e s (from + 3) to x.3 in
         (has_cut s.column k.Box from (omega (arith, l, h)) x.0, has_cut s.column k.Other (from + 1) (omega (arith, l, h)) x.1, has_cut s.column k.Arrow (from + 2) (omega (arith, l, h)) x.2, shorter e s (from + 3) to l x.3)
 
-    defines_cut : (d : Definition) (s : Scope) (from to : ℕ) → to ≤ m → Defines text ts s d from to → Defines text (take m ts) s d from to
+    defines_cut : (d : Definition) (s : Context) (from to : ℕ) → to ≤ m → Defines text ts s d from to → Defines text (take m ts) s d from to
     defines_cut (DefinesOperator w [] e) s from to l x =
         let h = advances text ts e s (from + 2) to x.2 in
         (writes_cut s.column k.Name w from (omega (arith, l, h)) x.0, has_cut s.column k.Define (from + 1) (omega (arith, l, h)) x.1, shorter e s (from + 2) to l x.2)
@@ -423,7 +423,7 @@ module _ (text : List ℕ) (ts : List Token) (m : ℕ) where
           shorter e s (x.0 + 2) to l x.6,
         )
 
-    defined_cut : (ds : Definitions) (s : Scope) (from to : ℕ) → to ≤ m → Defined text ts s ds from to → Defined text (take m ts) s ds from to
+    defined_cut : (ds : Definitions) (s : Context) (from to : ℕ) → to ≤ m → Defined text ts s ds from to → Defined text (take m ts) s ds from to
     defined_cut undefined s from to l x = x
     defined_cut (defined d ds) s from to l x =
         let h = defined_rise text ts ds s x.0 to x.2 in

@@ -4,7 +4,7 @@ use Rattle.tla_lex.specs.declared.token.Token.{Token}
 use Rattle.tla_lex.specs.declared.token.Kind.{Kind}
 use Rattle.tla_lex.specs.declared.token.Kind.TheVariants as k
 use Rattle.tla_lex.specs.Strings.{string_text}
-use Rattle.tla_grammar.specs.declared.scope.Scope.{Scope}
+use Rattle.tla_grammar.specs.declared.context.Context.{Context}
 use Rattle.tla_tree.specs.declared.tree.Infix.{Infix}
 use Rattle.tla_tree.specs.declared.tree.Prefix.{Prefix}
 use Rattle.tla_tree.specs.declared.tree.Bullet.{Bullet}
@@ -34,10 +34,10 @@ use Rattle.tla_expressions.proofs.SoundProduct.{product_op, product_kind, produc
 use Rattle.tla_expressions.proofs.SoundCase.{cases_sound, lets_sound}
 
 module _ (text : List ℕ) (ts : List Token) where
-  module _ (inner : Scope → ℕ → ℕ → Outcome Tree) (good : (s : Scope) (floor at : ℕ) (z : Tree × ℕ) → inner s floor at ≡ Ok z → Good text ts s floor at z) where
+  module _ (inner : Context → ℕ → ℕ → Outcome Tree) (good : (s : Context) (floor at : ℕ) (z : Tree × ℕ) → inner s floor at ≡ Ok z → Good text ts s floor at z) where
     -- ---- the forms
 
-    prefix_sound : (s : Scope) (t : Token) (op : Prefix) (at : ℕ) (z : Tree × ℕ) → seen ts s.column at ≡ Some t → prefix_of t.kind ≡ Some op
+    prefix_sound : (s : Context) (t : Token) (op : Prefix) (at : ℕ) (z : Tree × ℕ) → seen ts s.column at ≡ Some t → prefix_of t.kind ≡ Some op
         → prefix text ts inner s op t.place at ≡ Ok z → Whole text ts s at z
     unfolding prefix
     prefix_sound s t op at z i e h floor =
@@ -45,7 +45,7 @@ module _ (text : List ℕ) (ts : List Token) where
         let w = good s (prefix_high op) (at + 1) (x.0, x.1) x.2 in
         ok_to (Unary t.place op x.0, x.1) z x.3 (Good text ts s floor at) ((t.kind, (t, i, refl, refl), e, w.0, w.1), refl)
 
-    quantified_sound : (s : Scope) (t : Token) (q : Quantifier) (at : ℕ) (z : Tree × ℕ) → seen ts s.column at ≡ Some t → quantifier_of t.kind ≡ Some q
+    quantified_sound : (s : Context) (t : Token) (q : Quantifier) (at : ℕ) (z : Tree × ℕ) → seen ts s.column at ≡ Some t → quantifier_of t.kind ≡ Some q
         → quantified text ts inner s t.place q at ≡ Ok z → Whole text ts s at z
     unfolding quantified
     quantified_sound s t q at z i e h floor =
@@ -57,7 +57,7 @@ module _ (text : List ℕ) (ts : List Token) where
         ok_to (Quantified t.place q (binders x.0) y.0, y.1) z y.3 (Good text ts s floor at)
         ((x.1, t.kind, (t, i, refl, refl), e, rw r.1 l, has_kind ts s.column x.1 k.Colon n.0, (good s 0 (x.1 + 1) (y.0, y.1) y.2).0), refl)
 
-    chosen_sound : (s : Scope) (t : Token) (at : ℕ) (z : Tree × ℕ) → seen ts s.column at ≡ Some t → t.kind ≡ k.Choose
+    chosen_sound : (s : Context) (t : Token) (at : ℕ) (z : Tree × ℕ) → seen ts s.column at ≡ Some t → t.kind ≡ k.Choose
         → chosen text ts inner s t.place at ≡ Ok z → Whole text ts s at z
     unfolding chosen
     chosen_sound s t at z i e h floor =
@@ -68,7 +68,7 @@ module _ (text : List ℕ) (ts : List Token) where
         ok_to (Choose t.place x.0.0 x.0.1 y.0, y.1) z y.3 (Good text ts s floor at)
         ((x.1, (t, i, e, refl), g.0, g.1, has_kind ts s.column x.1 k.Colon b.0, (good s 0 (x.1 + 1) (y.0, y.1) y.2).0), refl)
 
-    choice_sound : (s : Scope) (t : Token) (at : ℕ) (z : Tree × ℕ) → seen ts s.column at ≡ Some t → t.kind ≡ k.If → choice text ts inner s t.place at ≡ Ok z → Whole text ts s at z
+    choice_sound : (s : Context) (t : Token) (at : ℕ) (z : Tree × ℕ) → seen ts s.column at ≡ Some t → t.kind ≡ k.If → choice text ts inner s t.place at ≡ Ok z → Whole text ts s at z
     unfolding choice
     choice_sound s t at z i e h floor =
         let x = bind_ok (inner s 0 (at + 1)) _ z h in
@@ -90,7 +90,7 @@ module _ (text : List ℕ) (ts : List Token) where
           refl,
         )
 
-    junction_sound : (s : Scope) (t : Token) (b : Bullet) (at : ℕ) (z : Tree × ℕ) → seen ts s.column at ≡ Some t → bullet_of t.kind ≡ Some b
+    junction_sound : (s : Context) (t : Token) (b : Bullet) (at : ℕ) (z : Tree × ℕ) → seen ts s.column at ≡ Some t → bullet_of t.kind ≡ Some b
         → junction text ts inner s t.place b at ≡ Ok z → Closed text ts s at z
     unfolding junction
     junction_sound s t b at z i e h =
@@ -103,7 +103,7 @@ module _ (text : List ℕ) (ts : List Token) where
         let it : Items text ts (within s p.column) b (trees x.0) at x.1 = rw r.1 l.0 in
         ok_to (Junction p b (trees x.0), x.1) z n.1 (Closed text ts s at) ((t.kind, (t, i, refl, refl), e, it, follows), refl)
 
-    class_sound : (most : ℕ) (s : Scope) (t : Token) (at : ℕ) (z : Tree × ℕ) → seen ts s.column at ≡ Some t → by_class text ts inner most s t at ≡ Ok z → Whole text ts s at z
+    class_sound : (most : ℕ) (s : Context) (t : Token) (at : ℕ) (z : Tree × ℕ) → seen ts s.column at ≡ Some t → by_class text ts inner most s t at ≡ Ok z → Whole text ts s at z
     unfolding by_class
     class_sound most s t at z i h = elim (at_op_ok (bullet_of t.kind) _ _ z h) [
       | inl w ↦ (elim (at_op_ok (prefix_of t.kind) _ _ z w.1) [
@@ -121,7 +121,7 @@ module _ (text : List ℕ) (ts : List Token) where
           postfixes_sound text ts inner good most s at x.0 x.1 z (junction_sound s t w.0 at (x.0, x.1) i w.1 x.2) x.3
     ]
 
-    by_sound : (most : ℕ) (s : Scope) (t : Token) (at : ℕ) (kind : Kind) (z : Tree × ℕ) → seen ts s.column at ≡ Some t → t.kind ≡ kind → operand_by text ts inner most s t at kind ≡ Ok z → Whole text ts s at z
+    by_sound : (most : ℕ) (s : Context) (t : Token) (at : ℕ) (kind : Kind) (z : Tree × ℕ) → seen ts s.column at ≡ Some t → t.kind ≡ kind → operand_by text ts inner most s t at kind ≡ Ok z → Whole text ts s at z
     by_sound most s t at k.Name z i e h =
         let x = bind_ok (named text ts inner s t at) (postfixes text ts inner most s) z h in
         postfixes_sound text ts inner good most s at x.0 x.1 z (named_sound text ts inner good s t at (x.0, x.1) i e x.2) x.3
@@ -154,14 +154,14 @@ module _ (text : List ℕ) (ts : List Token) where
     by_sound most s t at k.If z i e h = choice_sound s t at z i e h
     by_sound most s t at kind z i e h = class_sound most s t at z i h
 
-    operand_sound : (most : ℕ) (s : Scope) (at : ℕ) (z : Tree × ℕ) → operand text ts inner most s at ≡ Ok z → Whole text ts s at z
+    operand_sound : (most : ℕ) (s : Context) (at : ℕ) (z : Tree × ℕ) → operand text ts inner most s at ≡ Ok z → Whole text ts s at z
     unfolding operand
     operand_sound most s at z h = elim (at_op_ok (seen ts s.column at) (Err Refused) _ z h) [
       | inl w ↦ absurd (let z : ⊥ = cc in z)
       | inr w ↦ by_sound most s w.0 at w.0.kind z w.1 refl w.2
     ]
 
-    turn_sound : (most : ℕ) (s : Scope) (floor from : ℕ) (t : Tree) (op : Infix) (at : ℕ) (sign : Token) (z : Tree × ℕ) → Spells text ts s t from at
+    turn_sound : (most : ℕ) (s : Context) (floor from : ℕ) (t : Tree) (op : Infix) (at : ℕ) (sign : Token) (z : Tree × ℕ) → Spells text ts s t from at
         → seen ts s.column at ≡ Some sign → infix_of sign.kind ≡ Some op → nat_lt floor (low op) ≡ true → turn text ts inner most s t op at ≡ Ok z → Good text ts s floor from z
     unfolding turn
     turn_sound most s floor from t op at sign z c i e f h =
@@ -185,7 +185,7 @@ module _ (text : List ℕ) (ts : List Token) where
               ]
         ]
 
-    climb_sound : (n most : ℕ) (s : Scope) (floor from : ℕ) (t : Tree) (at : ℕ) (z : Tree × ℕ) → Good text ts s floor from (t, at) → climb text ts inner n most s floor t at ≡ Ok z → Good text ts s floor from z
+    climb_sound : (n most : ℕ) (s : Context) (floor from : ℕ) (t : Tree) (at : ℕ) (z : Tree × ℕ) → Good text ts s floor from (t, at) → climb text ts inner n most s floor t at ≡ Ok z → Good text ts s floor from z
     unfolding climb
     climb_sound zero most s floor from t at z c h = elim (at_op_ok (above floor (infix_at (seen ts s.column at))) (Ok (t, at)) _ z h) [
       | inl w ↦ ok_to (t, at) z w.1 (Good text ts s floor from) c
@@ -199,14 +199,14 @@ module _ (text : List ℕ) (ts : List Token) where
           climb_sound n most s floor from x.0 x.1 z (turn_sound most s floor from t w.0 at i.0 (x.0, x.1) c.0 i.1 i.2 i.3 x.2) x.3
     ]
 
-    level_sound : (n : ℕ) (s : Scope) (floor at : ℕ) (z : Tree × ℕ) → level text ts inner n s floor at ≡ Ok z → Good text ts s floor at z
+    level_sound : (n : ℕ) (s : Context) (floor at : ℕ) (z : Tree × ℕ) → level text ts inner n s floor at ≡ Ok z → Good text ts s floor at z
     unfolding level
     level_sound n s floor at z h =
         let x = bind_ok (operand text ts inner (n + 1) s at) (climb text ts inner n (n + 1) s floor) z h in
         climb_sound n (n + 1) s floor at x.0 x.1 z (operand_sound (n + 1) s at (x.0, x.1) x.2 floor) x.3
 
   -- What is read is spelled so, and its top is above the floor.
-  pub expr_sound : (n : ℕ) (s : Scope) (floor at : ℕ) (z : Tree × ℕ) → expr text ts n s floor at ≡ Ok z → Good text ts s floor at z
+  pub expr_sound : (n : ℕ) (s : Context) (floor at : ℕ) (z : Tree × ℕ) → expr text ts n s floor at ≡ Ok z → Good text ts s floor at z
   unfolding expr
   expr_sound zero s floor at z h = absurd (let z : ⊥ = cc in z)
   expr_sound (suc n) s floor at z h = level_sound (expr text ts n) (λ c f a y e. expr_sound n c f a y e) n s floor at z h

@@ -3,7 +3,7 @@ use Rattle.std.proofs.Common.{◌≡◌, ℕ, ◌+◌, true, not, ◌||◌, nat_
 use Rattle.tla_lex.specs.declared.token.Token.{Token}
 use Rattle.tla_lex.specs.declared.token.Kind.{Kind}
 use Rattle.tla_lex.specs.declared.token.Kind.TheVariants as k
-use Rattle.tla_grammar.specs.declared.scope.Scope.{Scope}
+use Rattle.tla_grammar.specs.declared.context.Context.{Context}
 use Rattle.tla_grammar.specs.declared.tokens.Between.TheVariants as between
 use Rattle.tla_tree.specs.declared.tree.Infix.{Infix}
 use Rattle.tla_tree.specs.declared.tree.Infix.TheVariants as i
@@ -32,33 +32,33 @@ product_kind _ h = cc
 
 module _ (text : List ℕ) (ts : List Token) where
   -- an operand behind the first, and what may follow it
-  abbrev FactorAt : Scope → Tree → ℕ → ℕ → Type 0
+  abbrev FactorAt : Context → Tree → ℕ → ℕ → Type 0
   FactorAt s e from to = Spells text ts s e from to × (top_above (high i.Product) e ≡ true) × ((not (kind_at k.Product (seen ts s.column to)) || edge_allows e i.Product) ≡ true)
 
-  abbrev Rest : Scope → List Tree → ℕ → ℕ → Type 0
+  abbrev Rest : Context → List Tree → ℕ → ℕ → Type 0
   Rest s es from to = Behind (FactorAt s) (following ts s.column between.Product) es from to
 
-  last_ok : (es : List Tree) (e : Tree) (s : Scope) (from to : ℕ) → Rest s es from to → (not (kind_at k.Product (seen ts s.column from)) || edge_allows e i.Product) ≡ true → (not (is_some (trees es)) || edge_allows e i.Product) ≡ true
+  last_ok : (es : List Tree) (e : Tree) (s : Context) (from to : ℕ) → Rest s es from to → (not (kind_at k.Product (seen ts s.column from)) || edge_allows e i.Product) ≡ true → (not (is_some (trees es)) || edge_allows e i.Product) ≡ true
   last_ok [] e s from to x h = refl
   last_ok (f ∷ fs) e s from to x h =
       let c = product_is text ts s.column from x.0 x.2 in
       let here : kind_at k.Product (seen ts s.column from) ≡ true = rw (c.0.1, c.0.2) refl in
       rw here at h
 
-  rest_of : (es : List Tree) (s : Scope) (from to : ℕ) → Rest s es from to → Factors text ts s (trees es) from to
+  rest_of : (es : List Tree) (s : Context) (from to : ℕ) → Rest s es from to → Factors text ts s (trees es) from to
   rest_of [] s from to x = x.1
   rest_of (e ∷ es) s from to x =
       let c = product_is text ts s.column from x.0 x.2 in
       let y : FactorAt s e (from + 1) x.1 = rw (← c.1) x.3 in
       (x.1, c.0, y.0, y.1, last_ok es e s x.1 to x.4 y.2, rest_of es s x.1 to x.4)
 
-  factors_of : (es : List Tree) (s : Scope) (at to : ℕ) → Has ts s.column k.Product at → Follows (FactorAt s) (following ts s.column between.Product) es (at + 1) to
+  factors_of : (es : List Tree) (s : Context) (at to : ℕ) → Has ts s.column k.Product at → Follows (FactorAt s) (following ts s.column between.Product) es (at + 1) to
       → Factors text ts s (trees es) at to × (is_some (trees es) ≡ true)
   factors_of [] s at to h x = absurd x
   factors_of (e ∷ es) s at to h x = let y = x.1 in ((x.0, h, y.0, y.1, last_ok es e s x.0 to x.2 y.2, rest_of es s x.0 to x.2), refl)
 
-  module _ (inner : Scope → ℕ → ℕ → Outcome Tree) (good : (s : Scope) (floor at : ℕ) (z : Tree × ℕ) → inner s floor at ≡ Ok z → Good text ts s floor at z) where
-    factor_sound : (s : Scope) (at : ℕ) (e : Tree) (to : ℕ) → factor text ts inner s at ≡ Ok (e, to) → FactorAt s e at to
+  module _ (inner : Context → ℕ → ℕ → Outcome Tree) (good : (s : Context) (floor at : ℕ) (z : Tree × ℕ) → inner s floor at ≡ Ok z → Good text ts s floor at z) where
+    factor_sound : (s : Context) (at : ℕ) (e : Tree) (to : ℕ) → factor text ts inner s at ≡ Ok (e, to) → FactorAt s e at to
     unfolding factor
     factor_sound s at e to h =
         let x = bind_ok (inner s (high i.Product) at) _ (e, to) h in
@@ -66,7 +66,7 @@ module _ (text : List ℕ) (ts : List Token) where
         let g = good s (high i.Product) at (x.0, x.1) x.2 in
         ok_to (x.0, x.1) (e, to) n.1 (λ v. FactorAt s v.0 at v.1) (g.0, g.1, n.0)
 
-    pub product_sound : (most : ℕ) (s : Scope) (floor from : ℕ) (t : Tree) (at : ℕ) (z : Tree × ℕ) → Spells text ts s t from at → Has ts s.column k.Product at → nat_lt floor (low i.Product) ≡ true
+    pub product_sound : (most : ℕ) (s : Context) (floor from : ℕ) (t : Tree) (at : ℕ) (z : Tree × ℕ) → Spells text ts s t from at → Has ts s.column k.Product at → nat_lt floor (low i.Product) ≡ true
         → product text ts inner most s t at ≡ Ok z → Good text ts s floor from z
     unfolding product
     product_sound most s floor from t at z c has f h =

@@ -3,7 +3,7 @@ use Rattle.std.proofs.Common.{◌≡◌, ℕ, ◌+◌, true, inl, inr, length, L
 use Rattle.tla_lex.specs.declared.token.Token.{Token}
 use Rattle.tla_lex.specs.declared.token.Kind.{Kind}
 use Rattle.tla_lex.specs.declared.token.Kind.TheVariants as k
-use Rattle.tla_grammar.specs.declared.scope.Scope.{Scope}
+use Rattle.tla_grammar.specs.declared.context.Context.{Context}
 use Rattle.tla_grammar.specs.declared.tokens.Between.TheVariants as between
 use Rattle.tla_tree.specs.Tree.{Tree, Entry, Key, Change, fields, keys, updates, AtIndex, AtField, Record, RecordSet, Except}
 use Rattle.tla_tree.specs.Words.{written}
@@ -20,8 +20,8 @@ use Rattle.tla_expressions.proofs.ListsRecords.{EntryAt, KeyAt, ChangeAt, fielde
 use Rattle.tla_expressions.proofs.SoundParts.{Closed, Good, some_sound}
 
 module _ (text : List ℕ) (ts : List Token) where
-  module _ (inner : Scope → ℕ → ℕ → Outcome Tree) (good : (s : Scope) (floor at : ℕ) (z : Tree × ℕ) → inner s floor at ≡ Ok z → Good text ts s floor at z) where
-    entry_sound : (s : Scope) (mark : Kind) (at : ℕ) (c : Entry) (to : ℕ) → entry text ts inner s mark at ≡ Ok (c, to) → EntryAt text ts s mark c at to
+  module _ (inner : Context → ℕ → ℕ → Outcome Tree) (good : (s : Context) (floor at : ℕ) (z : Tree × ℕ) → inner s floor at ≡ Ok z → Good text ts s floor at z) where
+    entry_sound : (s : Context) (mark : Kind) (at : ℕ) (c : Entry) (to : ℕ) → entry text ts inner s mark at ≡ Ok (c, to) → EntryAt text ts s mark c at to
     unfolding entry
     entry_sound s mark at c to h = elim (at_op_ok (name_at (seen ts s.column at)) (Err Refused) _ (c, to) h) [
       | inl w ↦ absurd (let z : ⊥ = cc in z)
@@ -31,26 +31,26 @@ module _ (text : List ℕ) (ts : List Token) where
           ok_to ((written text w.0, x.0), x.1) (c, to) x.3 (λ v. EntryAt text ts s mark v.0 at v.1) (has_name ts text s.column at w.0 w.1, has_kind ts s.column (at + 1) mark n.0, (good s 0 (at + 2) (x.0, x.1) x.2).0)
     ]
 
-    entries_sound : (s : Scope) (mark : Kind) (at : ℕ) (z : List Entry × ℕ) → entries text ts inner (length ts) [] s mark at ≡ Ok z → Fielded text ts s mark (fields z.0) at z.1
+    entries_sound : (s : Context) (mark : Kind) (at : ℕ) (z : List Entry × ℕ) → entries text ts inner (length ts) [] s mark at ≡ Ok z → Fielded text ts s mark (fields z.0) at z.1
     entries_sound s mark at z h =
         let r = sequence_sound (EntryAt text ts s mark) (following ts s.column between.Comma) (entry text ts inner s mark) (entry_sound s mark) (length ts) [] at z h in
         let l = fielded_of text ts r.0 s mark at z.1 r.2 in rw r.1 l
 
-    pub record_sound : (s : Scope) (t : Token) (at : ℕ) (z : Tree × ℕ) → seen ts s.column at ≡ Some t → t.kind ≡ k.LeftBracket → record_of text ts inner s t.place at ≡ Ok z → Closed text ts s at z
+    pub record_sound : (s : Context) (t : Token) (at : ℕ) (z : Tree × ℕ) → seen ts s.column at ≡ Some t → t.kind ≡ k.LeftBracket → record_of text ts inner s t.place at ≡ Ok z → Closed text ts s at z
     unfolding record_of
     record_sound s t at z i e h =
         let x = bind_ok (entries text ts inner (length ts) [] s k.MapsTo (at + 1)) _ z h in
         let n = need_ok (kind_at k.RightBracket (seen ts s.column x.1)) _ z x.3 in
         ok_to (Record t.place (fields x.0), x.1 + 1) z n.1 (Closed text ts s at) ((x.1, (t, i, e, refl), entries_sound s k.MapsTo (at + 1) (x.0, x.1) x.2, has_kind ts s.column x.1 k.RightBracket n.0, refl), refl)
 
-    pub record_set_sound : (s : Scope) (t : Token) (at : ℕ) (z : Tree × ℕ) → seen ts s.column at ≡ Some t → t.kind ≡ k.LeftBracket → records_of text ts inner s t.place at ≡ Ok z → Closed text ts s at z
+    pub record_set_sound : (s : Context) (t : Token) (at : ℕ) (z : Tree × ℕ) → seen ts s.column at ≡ Some t → t.kind ≡ k.LeftBracket → records_of text ts inner s t.place at ≡ Ok z → Closed text ts s at z
     unfolding records_of
     record_set_sound s t at z i e h =
         let x = bind_ok (entries text ts inner (length ts) [] s k.Colon (at + 1)) _ z h in
         let n = need_ok (kind_at k.RightBracket (seen ts s.column x.1)) _ z x.3 in
         ok_to (RecordSet t.place (fields x.0), x.1 + 1) z n.1 (Closed text ts s at) ((x.1, (t, i, e, refl), entries_sound s k.Colon (at + 1) (x.0, x.1) x.2, has_kind ts s.column x.1 k.RightBracket n.0, refl), refl)
 
-    key_sound : (s : Scope) (at : ℕ) (x : Key) (to : ℕ) → key_at text ts inner s at ≡ Ok (x, to) → KeyAt text ts s x at to
+    key_sound : (s : Context) (at : ℕ) (x : Key) (to : ℕ) → key_at text ts inner s at ≡ Ok (x, to) → KeyAt text ts s x at to
     unfolding key_at
     key_sound s at x to h = elim (choice_ok (kind_at k.LeftBracket (seen ts s.column at)) _ _ (Ok (x, to)) h) [
       | inl w ↦
@@ -65,12 +65,12 @@ module _ (text : List ℕ) (ts : List Token) where
           ]
     ]
 
-    path_sound : (s : Scope) (at : ℕ) (z : List Key × ℕ) → path text ts inner (length ts) [] s at ≡ Ok z → Leads text ts s (keys z.0) at z.1 × (is_path (keys z.0) ≡ true)
+    path_sound : (s : Context) (at : ℕ) (z : List Key × ℕ) → path text ts inner (length ts) [] s at ≡ Ok z → Leads text ts s (keys z.0) at z.1 × (is_path (keys z.0) ≡ true)
     path_sound s at z h =
         let r = sequence_sound (KeyAt text ts s) (following ts s.column between.Key) (key_at text ts inner s) (key_sound s) (length ts) [] at z h in
         let l = leads_of text ts r.0 s at z.1 r.2 in rw r.1 l
 
-    change_sound : (s : Scope) (at : ℕ) (c : Change) (to : ℕ) → change text ts inner s at ≡ Ok (c, to) → ChangeAt text ts s c at to
+    change_sound : (s : Context) (at : ℕ) (c : Change) (to : ℕ) → change text ts inner s at ≡ Ok (c, to) → ChangeAt text ts s c at to
     unfolding change
     change_sound s at c to h =
         let a = need_ok (kind_at k.Bang (seen ts s.column at)) _ (c, to) h in
@@ -80,7 +80,7 @@ module _ (text : List ℕ) (ts : List Token) where
         let l = path_sound s (at + 1) (x.0, x.1) x.2 in
         ok_to ((keys x.0, y.0), y.1) (c, to) y.3 (λ v. ChangeAt text ts s v.0 at v.1) (x.1, has_kind ts s.column at k.Bang a.0, l.0, l.1, has_kind ts s.column x.1 k.Equal n.0, (good (updating s) 0 (x.1 + 1) (y.0, y.1) y.2).0)
 
-    pub except_sound : (s : Scope) (t : Token) (from at : ℕ) (f : Tree) (z : Tree × ℕ) → seen ts s.column from ≡ Some t → t.kind ≡ k.LeftBracket → Spells text ts s f (from + 1) at → Has ts s.column k.Except at
+    pub except_sound : (s : Context) (t : Token) (from at : ℕ) (f : Tree) (z : Tree × ℕ) → seen ts s.column from ≡ Some t → t.kind ≡ k.LeftBracket → Spells text ts s f (from + 1) at → Has ts s.column k.Except at
         → except text ts inner s t.place f at ≡ Ok z → Closed text ts s from z
     unfolding except
     except_sound s t from at f z i e p m h =

@@ -2,7 +2,7 @@
 use Rattle.std.proofs.Common.{◌≡◌, ℕ, zero, suc, ◌+◌, ◌<◌, max, true, slice_get, length, map, List, [], ◌∷◌, ◌++◌, Option, Some, None, Ok, Err, refl, ap, sym, ◌∙◌, arith, add-one, subst}
 use Rattle.std.proofs.lemmas.Option.{slice_get_within}
 use Rattle.tla_lex.specs.declared.token.Token.{Token}
-use Rattle.tla_grammar.specs.declared.scope.Scope.{Scope}
+use Rattle.tla_grammar.specs.declared.context.Context.{Context}
 use Rattle.tla_grammar.specs.declared.tokens.Postfix.{Postfix}
 use Rattle.tla_grammar.specs.declared.refusal.Refusal.{Refusal}
 use Rattle.tla_tree.specs.declared.tree.Infix.{Infix}
@@ -17,54 +17,54 @@ use Rattle.tla_expressions.specs.Reading.{behind, postfix, climb, turn}
 use Rattle.tla_grammar.specs.Refusals.{Fails}
 use Rattle.tla_grammar.proofs.Fails.{fails_bind}
 
-module _ (text : List ℕ) (ts : List Token) (inner : Scope → ℕ → ℕ → Outcome Tree) where
-  pub postfix_done : (n most : ℕ) (s : Scope) (t : Tree) (at : ℕ) → postfix_at (seen ts s.column at) ≡ None → postfix text ts inner n most s t at ≡ Ok (t, at)
+module _ (text : List ℕ) (ts : List Token) (inner : Context → ℕ → ℕ → Outcome Tree) where
+  pub postfix_done : (n most : ℕ) (s : Context) (t : Tree) (at : ℕ) → postfix_at (seen ts s.column at) ≡ None → postfix text ts inner n most s t at ≡ Ok (t, at)
   unfolding postfix
   postfix_done zero most s t at p = rw p refl
   postfix_done (suc n) most s t at p = rw p refl
 
-  pub postfix_is : (n m most : ℕ) (s : Scope) (t : Tree) (at : ℕ) (u : Postfix) → n ≡ m + 1 → postfix_at (seen ts s.column at) ≡ Some u
+  pub postfix_is : (n m most : ℕ) (s : Context) (t : Tree) (at : ℕ) (u : Postfix) → n ≡ m + 1 → postfix_at (seen ts s.column at) ≡ Some u
       → postfix text ts inner n most s t at ≡ (behind text ts inner most s t u at >>= postfix text ts inner m most s)
   unfolding postfix
   postfix_is n m most s t at u h p = rw (h, add-one, p) refl
 
-  pub postfix_more : (n m most : ℕ) (s : Scope) (t : Tree) (at : ℕ) (u : Postfix) (r : Tree) (after : ℕ) → n ≡ m + 1
+  pub postfix_more : (n m most : ℕ) (s : Context) (t : Tree) (at : ℕ) (u : Postfix) (r : Tree) (after : ℕ) → n ≡ m + 1
       → postfix_at (seen ts s.column at) ≡ Some u → behind text ts inner most s t u at ≡ Ok (r, after)
       → postfix text ts inner n most s t at ≡ postfix text ts inner m most s r after
   postfix_more n m most s t at u r after h p q = postfix_is n m most s t at u h p ∙ ap (λ x. x >>= postfix text ts inner m most s) q
 
-  pub postfix_full : (n most : ℕ) (s : Scope) (t : Tree) (at : ℕ) (u : Postfix) → n ≡ 0 → postfix_at (seen ts s.column at) ≡ Some u → postfix text ts inner n most s t at ≡ Err Nested
+  pub postfix_full : (n most : ℕ) (s : Context) (t : Tree) (at : ℕ) (u : Postfix) → n ≡ 0 → postfix_at (seen ts s.column at) ≡ Some u → postfix text ts inner n most s t at ≡ Err Nested
   unfolding postfix
   postfix_full n most s t at u z p = rw (z, p) refl
 
-  pub postfix_fails : (e : Refusal) (n m most : ℕ) (s : Scope) (t : Tree) (at : ℕ) (u : Postfix) → n ≡ m + 1
+  pub postfix_fails : (e : Refusal) (n m most : ℕ) (s : Context) (t : Tree) (at : ℕ) (u : Postfix) → n ≡ m + 1
       → postfix_at (seen ts s.column at) ≡ Some u → Fails text ts e (behind text ts inner most s t u at) → Fails text ts e (postfix text ts inner n most s t at)
   postfix_fails e n m most s t at u h p f =
       let P : Outcome Tree → Type 0 = λ x. Fails text ts e x in
       subst P (sym (postfix_is n m most s t at u h p)) (fails_bind text ts e (behind text ts inner most s t u at) (postfix text ts inner m most s) f)
 
-  pub climb_done : (n most : ℕ) (s : Scope) (floor : ℕ) (t : Tree) (at : ℕ) → above floor (infix_at (seen ts s.column at)) ≡ None
+  pub climb_done : (n most : ℕ) (s : Context) (floor : ℕ) (t : Tree) (at : ℕ) → above floor (infix_at (seen ts s.column at)) ≡ None
       → climb text ts inner n most s floor t at ≡ Ok (t, at)
   unfolding climb
   climb_done zero most s floor t at p = rw p refl
   climb_done (suc n) most s floor t at p = rw p refl
 
-  pub climb_is : (n m most : ℕ) (s : Scope) (floor : ℕ) (t : Tree) (at : ℕ) (op : Infix) → n ≡ m + 1 → above floor (infix_at (seen ts s.column at)) ≡ Some op
+  pub climb_is : (n m most : ℕ) (s : Context) (floor : ℕ) (t : Tree) (at : ℕ) (op : Infix) → n ≡ m + 1 → above floor (infix_at (seen ts s.column at)) ≡ Some op
       → climb text ts inner n most s floor t at ≡ (turn text ts inner most s t op at >>= climb text ts inner m most s floor)
   unfolding climb
   climb_is n m most s floor t at op h p = rw (h, add-one, p) refl
 
-  pub climb_more : (n m most : ℕ) (s : Scope) (floor : ℕ) (t : Tree) (at : ℕ) (op : Infix) (r : Tree) (after : ℕ) → n ≡ m + 1
+  pub climb_more : (n m most : ℕ) (s : Context) (floor : ℕ) (t : Tree) (at : ℕ) (op : Infix) (r : Tree) (after : ℕ) → n ≡ m + 1
       → above floor (infix_at (seen ts s.column at)) ≡ Some op → turn text ts inner most s t op at ≡ Ok (r, after)
       → climb text ts inner n most s floor t at ≡ climb text ts inner m most s floor r after
   climb_more n m most s floor t at op r after h p q = climb_is n m most s floor t at op h p ∙ ap (λ x. x >>= climb text ts inner m most s floor) q
 
-  pub climb_full : (n most : ℕ) (s : Scope) (floor : ℕ) (t : Tree) (at : ℕ) (op : Infix) → n ≡ 0 → above floor (infix_at (seen ts s.column at)) ≡ Some op
+  pub climb_full : (n most : ℕ) (s : Context) (floor : ℕ) (t : Tree) (at : ℕ) (op : Infix) → n ≡ 0 → above floor (infix_at (seen ts s.column at)) ≡ Some op
       → climb text ts inner n most s floor t at ≡ Err Nested
   unfolding climb
   climb_full n most s floor t at op z p = rw (z, p) refl
 
-  pub climb_fails : (e : Refusal) (n m most : ℕ) (s : Scope) (floor : ℕ) (t : Tree) (at : ℕ) (op : Infix) → n ≡ m + 1
+  pub climb_fails : (e : Refusal) (n m most : ℕ) (s : Context) (floor : ℕ) (t : Tree) (at : ℕ) (op : Infix) → n ≡ m + 1
       → above floor (infix_at (seen ts s.column at)) ≡ Some op → Fails text ts e (turn text ts inner most s t op at)
       → Fails text ts e (climb text ts inner n most s floor t at)
   climb_fails e n m most s floor t at op h p f =

@@ -5,7 +5,7 @@ use Rattle.tla_lex.specs.declared.token.Token.{Token}
 use Rattle.tla_lex.specs.declared.token.Kind.{Kind}
 use Rattle.tla_lex.specs.declared.token.Kind.TheVariants as k
 use Rattle.tla_lex.specs.Strings.{string_text}
-use Rattle.tla_grammar.specs.declared.scope.Scope.{Scope}
+use Rattle.tla_grammar.specs.declared.context.Context.{Context}
 use Rattle.tla_grammar.specs.declared.tokens.Between.TheVariants as between
 use Rattle.tla_tree.specs.declared.tree.Infix.{Infix}
 use Rattle.tla_tree.specs.declared.tree.Infix.TheVariants as i
@@ -31,102 +31,102 @@ use Rattle.tla_grammar.specs.Outcome.{Refused, Nested, Outcome, ◌>>=◌, need,
 
 module _ (text : List ℕ) (ts : List Token) where
   -- `inner` reads an expression in a scope, whose top is above a floor, one level deeper
-  module _ (inner : Scope → ℕ → ℕ → Outcome Tree) where
-    unfoldable pub indexed : ℕ → Scope → Tree → ℕ → Outcome Tree
+  module _ (inner : Context → ℕ → ℕ → Outcome Tree) where
+    unfoldable pub indexed : ℕ → Context → Tree → ℕ → Outcome Tree
     indexed most s t at = some text ts inner s k.RightBracket (at + 1) >>= λ es end. room (nat_le (depth (Index (place t) t es)) most) (Ok (Index (place t) t es, end))
 
     -- one more postfix form behind the tree
-    abbrev pub behind : ℕ → Scope → Tree → Postfix → ℕ → Outcome Tree
+    abbrev pub behind : ℕ → Context → Tree → Postfix → ℕ → Outcome Tree
     behind most s t form.Prime at = room (nat_le (depth (Prime (place t) t)) most) (Ok (Prime (place t) t, at + 1))
     behind most s t form.Index at = indexed most s t at
     behind most s t form.Field at = at_op (name_at (seen ts s.column (at + 1))) (Err Refused) (λ w. room (nat_le (depth (Field (place t) t (written text w))) most) (Ok (Field (place t) t (written text w), at + 2)))
 
     -- the postfix forms behind a closed form, of which so many may come
-    unfoldable pub postfix : ℕ → ℕ → Scope → Tree → ℕ → Outcome Tree
+    unfoldable pub postfix : ℕ → ℕ → Context → Tree → ℕ → Outcome Tree
     postfix zero most s t at = at_op (postfix_at (seen ts s.column at)) (Ok (t, at)) (λ u. Err Nested)
     postfix (suc n) most s t at = at_op (postfix_at (seen ts s.column at)) (Ok (t, at)) (λ u. behind most s t u at >>= postfix n most s)
 
-    abbrev pub postfixes : ℕ → Scope → Tree → ℕ → Outcome Tree
+    abbrev pub postfixes : ℕ → Context → Tree → ℕ → Outcome Tree
     postfixes most s t at = postfix most most s t at
 
     -- an operand of a product behind the first
-    unfoldable pub factor : Scope → ℕ → Outcome Tree
+    unfoldable pub factor : Context → ℕ → Outcome Tree
     factor s at = inner s (high i.Product) at >>= λ e after. need (not (kind_at k.Product (seen ts s.column after)) || edge_allows e i.Product) (Ok (e, after))
 
-    abbrev pub factors : ℕ → List Tree → Scope → ℕ → Outcome (List Tree)
+    abbrev pub factors : ℕ → List Tree → Context → ℕ → Outcome (List Tree)
     factors n front s at = sequence (factor s) (following ts s.column between.Product) n front at
 
     -- the product of the tree and the operands behind it
-    unfoldable pub product : ℕ → Scope → Tree → ℕ → Outcome Tree
+    unfoldable pub product : ℕ → Context → Tree → ℕ → Outcome Tree
     product most s t at = need (edge_allows t i.Product) (factors (length ts) [] s (at + 1) >>= λ es after.
         room (nat_le (depth (Product (place t) t (trees es))) most) (Ok (Product (place t) t (trees es), after)))
 
     -- the tree under one more operator
-    unfoldable pub turn : ℕ → Scope → Tree → Infix → ℕ → Outcome Tree
+    unfoldable pub turn : ℕ → Context → Tree → Infix → ℕ → Outcome Tree
     turn most s t op at = if is_product op then product most s t at else need (edge_allows t op) (at_op (seen ts s.column at) (Err Refused) (λ sign. inner s (high op) (at + 1) >>= λ r after.
         room (nat_le (depth (Binary (place t) op (written text sign) t r)) most) (Ok (Binary (place t) op (written text sign) t r, after))))
 
     -- under the operators that follow, of which so many may come
-    unfoldable pub climb : ℕ → ℕ → Scope → ℕ → Tree → ℕ → Outcome Tree
+    unfoldable pub climb : ℕ → ℕ → Context → ℕ → Tree → ℕ → Outcome Tree
     climb zero most s floor t at = at_op (above floor (infix_at (seen ts s.column at))) (Ok (t, at)) (λ op. Err Nested)
     climb (suc n) most s floor t at = at_op (above floor (infix_at (seen ts s.column at))) (Ok (t, at)) (λ op.
         turn most s t op at >>= climb n most s floor)
 
-    unfoldable pub junction : Scope → Place → Bullet → ℕ → Outcome Tree
+    unfoldable pub junction : Context → Place → Bullet → ℕ → Outcome Tree
     junction s p b at = exprs text ts inner (length ts) [] (within s p.column) (between.Bullet b) (at + 1) >>= λ es after.
         need (may_follow p.column (slice_get ts after)) (Ok (Junction p b (trees es), after))
 
-    unfoldable pub quantified : Scope → Place → Quantifier → ℕ → Outcome Tree
+    unfoldable pub quantified : Context → Place → Quantifier → ℕ → Outcome Tree
     quantified s p q at = groups text ts inner (length ts) [] s (at + 1) >>= λ gs after. need (kind_at k.Colon (seen ts s.column after)) (inner s 0 (after + 1) >>= λ e end. Ok (Quantified p q (binders gs) e, end))
 
-    unfoldable pub chosen : Scope → Place → ℕ → Outcome Tree
+    unfoldable pub chosen : Context → Place → ℕ → Outcome Tree
     chosen s p at = one_group text ts inner s (at + 1) >>= λ g after. need (kind_at k.Colon (seen ts s.column after)) (inner s 0 (after + 1) >>= λ e end. Ok (Choose p g.0 g.1 e, end))
 
-    unfoldable pub choice : Scope → Place → ℕ → Outcome Tree
+    unfoldable pub choice : Context → Place → ℕ → Outcome Tree
     choice s p at = inner s 0 (at + 1) >>= λ a after. need (kind_at k.Then (seen ts s.column after))
         (inner s 0 (after + 1) >>= λ b mid. need (kind_at k.Else (seen ts s.column mid)) (inner s 0 (mid + 1) >>= λ e end. Ok (If p a b e, end)))
 
     -- an arm of CASE
-    unfoldable pub arm_at : Scope → ℕ → Outcome Choice
+    unfoldable pub arm_at : Context → ℕ → Outcome Choice
     arm_at s at = inner s 0 at >>= λ g after. need (kind_at k.Arrow (seen ts s.column after)) (inner s 0 (after + 1) >>= λ e end. Ok ((g, e), end))
 
-    abbrev pub arms_at : ℕ → List Choice → Scope → ℕ → Outcome (List Choice)
+    abbrev pub arms_at : ℕ → List Choice → Context → ℕ → Outcome (List Choice)
     arms_at n front s at = sequence (arm_at s) (following ts s.column between.Arm) n front at
 
-    unfoldable pub cases : Scope → Place → ℕ → Outcome Tree
+    unfoldable pub cases : Context → Place → ℕ → Outcome Tree
     cases s p at = arms_at (length ts) [] s (at + 1) >>= λ cs after. if kind_at k.Box (seen ts s.column after)
         then need (kind_at k.Other (seen ts s.column (after + 1))) (need (kind_at k.Arrow (seen ts s.column (after + 2))) (inner s 0 (after + 3) >>= λ e end. Ok (Case p (arms cs) (other e), end)))
         else Ok (Case p (arms cs) no_other, after)
 
     -- Op(p, ..) == e, behind the bracket
-    unfoldable pub operator : Scope → Token → ℕ → Outcome Definition
+    unfoldable pub operator : Context → Token → ℕ → Outcome Definition
     operator s t at = names text ts (length ts) [] s.column at >>= λ ws after. need (kind_at k.RightParen (seen ts s.column after))
         (need (kind_at k.Define (seen ts s.column (after + 1))) (inner s 0 (after + 2) >>= λ e end. Ok (DefinesOperator (written text t) ws e, end)))
 
     -- f[x \in S, ..] == e, behind the bracket
-    unfoldable pub function : Scope → Token → ℕ → Outcome Definition
+    unfoldable pub function : Context → Token → ℕ → Outcome Definition
     function s t at = groups text ts inner (length ts) [] s at >>= λ gs after. need (kind_at k.RightBracket (seen ts s.column after))
         (need (kind_at k.Define (seen ts s.column (after + 1))) (inner s 0 (after + 2) >>= λ e end. Ok (DefinesFunction (written text t) (binders gs) e, end)))
 
-    unfoldable pub defined : Scope → Token → ℕ → Outcome Definition
+    unfoldable pub defined : Context → Token → ℕ → Outcome Definition
     defined s t at = if kind_at k.Define (seen ts s.column (at + 1)) then (inner s 0 (at + 2) >>= λ e end. Ok (DefinesOperator (written text t) [] e, end))
         else if kind_at k.LeftParen (seen ts s.column (at + 1)) then operator s t (at + 2)
         else need (kind_at k.LeftBracket (seen ts s.column (at + 1))) (function s t (at + 2))
 
-    unfoldable pub definition : Scope → ℕ → Outcome Definition
+    unfoldable pub definition : Context → ℕ → Outcome Definition
     definition s at = at_op (name_at (seen ts s.column at)) (Err Refused) (λ t. defined s t at)
 
-    abbrev pub definitions_at : ℕ → List Definition → Scope → ℕ → Outcome (List Definition)
+    abbrev pub definitions_at : ℕ → List Definition → Context → ℕ → Outcome (List Definition)
     definitions_at n front s at = sequence (definition s) (following ts s.column between.Nothing) n front at
 
-    unfoldable pub lets : Scope → Place → ℕ → Outcome Tree
+    unfoldable pub lets : Context → Place → ℕ → Outcome Tree
     lets s p at = definitions_at (length ts) [] s (at + 1) >>= λ ds after. need (kind_at k.In (seen ts s.column after)) (inner s 0 (after + 1) >>= λ e end. Ok (Let p (definitions ds) e, end))
 
-    unfoldable pub prefix : Scope → Prefix → Place → ℕ → Outcome Tree
+    unfoldable pub prefix : Context → Prefix → Place → ℕ → Outcome Tree
     prefix s op p at = inner s (prefix_high op) (at + 1) >>= λ e end. Ok (Unary p op e, end)
 
     -- a form that begins with a token of a class
-    unfoldable pub by_class : ℕ → Scope → Token → ℕ → Outcome Tree
+    unfoldable pub by_class : ℕ → Context → Token → ℕ → Outcome Tree
     by_class most s t at = at_op (bullet_of t.kind)
         (at_op (prefix_of t.kind)
         (at_op (quantifier_of t.kind)
@@ -137,11 +137,11 @@ module _ (text : List ℕ) (ts : List Token) where
         (λ b. junction s t.place b at >>= postfixes most s)
 
     -- a name alone, or with arguments
-    unfoldable pub named : Scope → Token → ℕ → Outcome Tree
+    unfoldable pub named : Context → Token → ℕ → Outcome Tree
     named s t at = if kind_at k.LeftParen (seen ts s.column (at + 1)) then call text ts inner s t at else Ok (Name (written text t), at + 1)
 
     -- a form that its first token's kind tells
-    abbrev pub operand_by : ℕ → Scope → Token → ℕ → Kind → Outcome Tree
+    abbrev pub operand_by : ℕ → Context → Token → ℕ → Kind → Outcome Tree
     operand_by most s t at k.Name = named s t at >>= postfixes most s
     operand_by most s t at (k.Number n) = postfixes most s (Number t.place n) (at + 1)
     operand_by most s t at k.Text = postfixes most s (Text t.place (string_text (word_of text t))) (at + 1)
@@ -158,13 +158,13 @@ module _ (text : List ℕ) (ts : List Token) where
     operand_by most s t at k.Let = lets s t.place at
     operand_by most s t at kind = by_class most s t at
 
-    unfoldable pub operand : ℕ → Scope → ℕ → Outcome Tree
+    unfoldable pub operand : ℕ → Context → ℕ → Outcome Tree
     operand most s at = at_op (seen ts s.column at) (Err Refused) (λ t. operand_by most s t at t.kind)
 
-    unfoldable pub level : ℕ → Scope → ℕ → ℕ → Outcome Tree
+    unfoldable pub level : ℕ → Context → ℕ → ℕ → Outcome Tree
     level n s floor at = operand (n + 1) s at >>= climb n (n + 1) s floor
 
   -- an expression of so many levels at most, in a scope, whose top is above a floor
-  unfoldable pub expr : ℕ → Scope → ℕ → ℕ → Outcome Tree
+  unfoldable pub expr : ℕ → Context → ℕ → ℕ → Outcome Tree
   expr zero s floor at = Err Nested
   expr (suc n) s floor at = level (expr n) n s floor at

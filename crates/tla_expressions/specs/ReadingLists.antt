@@ -4,7 +4,7 @@ use Rattle.tla_lex.specs.declared.token.Place.{Place}
 use Rattle.tla_lex.specs.declared.token.Token.{Token}
 use Rattle.tla_lex.specs.declared.token.Kind.{Kind}
 use Rattle.tla_lex.specs.declared.token.Kind.TheVariants as k
-use Rattle.tla_grammar.specs.declared.scope.Scope.{Scope}
+use Rattle.tla_grammar.specs.declared.context.Context.{Context}
 use Rattle.tla_grammar.specs.declared.tokens.Between.{Between}
 use Rattle.tla_grammar.specs.declared.tokens.Between.TheVariants as between
 use Rattle.tla_tree.specs.declared.tree.Brackets.{Brackets}
@@ -36,35 +36,35 @@ module _ (text : List ℕ) (ts : List Token) where
   single column at = if kind_at k.LeftTuple (seen ts column at) then tuple_of_names column (at + 1) else at_op (name_at (seen ts column at)) (Err Refused) (λ t. Ok (Each (written text t ∷ []), at + 1))
 
   -- `inner` reads an expression in a scope, whose top is above a floor, one level deeper
-  module _ (inner : Scope → ℕ → ℕ → Outcome Tree) where
+  module _ (inner : Context → ℕ → ℕ → Outcome Tree) where
     -- expressions with commas or bullets between them
-    abbrev pub exprs : ℕ → List Tree → Scope → Between → ℕ → Outcome (List Tree)
+    abbrev pub exprs : ℕ → List Tree → Context → Between → ℕ → Outcome (List Tree)
     exprs n front s m at = sequence (inner s 0) (following ts s.column m) n front at
 
     -- one expression or more, and the closing bracket
-    unfoldable pub some : Scope → Kind → ℕ → Outcome Trees
+    unfoldable pub some : Context → Kind → ℕ → Outcome Trees
     some s close at = exprs (length ts) [] s between.Comma at >>= λ es after. need (kind_at close (seen ts s.column after)) (Ok (trees es, after + 1))
 
-    unfoldable pub listing : Scope → Place → Brackets → ℕ → Outcome Tree
+    unfoldable pub listing : Context → Place → Brackets → ℕ → Outcome Tree
     listing s p b at = if kind_at (closing b) (seen ts s.column (at + 1)) then Ok (Listing p b none, at + 2) else (some s (closing b) (at + 1) >>= λ es end. Ok (Listing p b es, end))
 
-    unfoldable pub call : Scope → Token → ℕ → Outcome Tree
+    unfoldable pub call : Context → Token → ℕ → Outcome Tree
     call s t at = some s k.RightParen (at + 2) >>= λ es end. Ok (Call (written text t) es, end)
 
     -- the set of an entry, behind its names
-    unfoldable pub set_behind : Scope → Pattern → ℕ → Outcome Group
+    unfoldable pub set_behind : Context → Pattern → ℕ → Outcome Group
     set_behind s w at = need (kind_at k.Member (seen ts s.column at)) (inner s 0 (at + 1) >>= λ e end. Ok ((w, e), end))
 
     -- an entry of a binder list
-    unfoldable pub group : Scope → ℕ → Outcome Group
+    unfoldable pub group : Context → ℕ → Outcome Group
     group s at = pattern s.column at >>= set_behind s
 
     -- an entry of one element
-    unfoldable pub one_group : Scope → ℕ → Outcome Group
+    unfoldable pub one_group : Context → ℕ → Outcome Group
     one_group s at = single s.column at >>= set_behind s
 
-    abbrev pub groups : ℕ → List Group → Scope → ℕ → Outcome (List Group)
+    abbrev pub groups : ℕ → List Group → Context → ℕ → Outcome (List Group)
     groups n front s at = sequence (group s) (following ts s.column between.Comma) n front at
 
-    unfoldable pub paren : Scope → Place → ℕ → Outcome Tree
+    unfoldable pub paren : Context → Place → ℕ → Outcome Tree
     paren s p at = inner s 0 (at + 1) >>= λ e after. need (kind_at k.RightParen (seen ts s.column after)) (Ok (Paren p e, after + 1))

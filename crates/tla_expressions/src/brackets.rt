@@ -14,13 +14,12 @@ use crate::grammar::Grammar;
 use crate::parts::{Parsed, ParsedItems, image_of, listing_of, mapping_of, node};
 use std::alloc::Global;
 use tla_grammar::{
-    Between, Opened, Refusal, Scope, binds, filters, following, is_kind, opened_by, push_inner,
-    refused, seen, written,
+    Between, Context, Opened, Refusal, binds, filters, following, is_kind, opened_by, refused, seen,
 };
 use tla_lex::{Kind, Place, Token};
-use tla_tree::{Brackets, Expr, Fairness, Step};
+use tla_tree::{Brackets, Expr, Fairness, Step, Written, push_inner};
 
-impl<F: Fn(Global, &[u8], &[Token], usize, Scope, u8, usize) -> Result<Parsed, Refusal>> Grammar<
+impl<F: Fn(Global, &[u8], &[Token], usize, Context, u8, usize) -> Result<Parsed, Refusal>> Grammar<
     F,
 > {
     /// The expressions behind the first, and the closing bracket.
@@ -29,7 +28,7 @@ impl<F: Fn(Global, &[u8], &[Token], usize, Scope, u8, usize) -> Result<Parsed, R
         &self,
         text: &[u8],
         tokens: &[Token],
-        scope: Scope,
+        scope: Context,
         close: Kind,
         first: Parsed,
     ) -> Result<ParsedItems, Refusal>
@@ -68,7 +67,7 @@ impl<F: Fn(Global, &[u8], &[Token], usize, Scope, u8, usize) -> Result<Parsed, R
         &self,
         text: &[u8],
         tokens: &[Token],
-        scope: Scope,
+        scope: Context,
         from: usize,
     ) -> Result<Parsed, Refusal>
         requires nests { Nests self.now.depth (F.pre self.now.expr) (F.post self.now.expr) }
@@ -81,7 +80,7 @@ impl<F: Fn(Global, &[u8], &[Token], usize, Scope, u8, usize) -> Result<Parsed, R
         match t.kind {
             Kind::Name => node(
                 self.alloc,
-                Expr::Name(written(self.alloc, text, t)?),
+                Expr::Name(Written::of_token(self.alloc, text, t)?),
                 from + 1,
                 1,
             ),
@@ -97,7 +96,7 @@ impl<F: Fn(Global, &[u8], &[Token], usize, Scope, u8, usize) -> Result<Parsed, R
         &self,
         text: &[u8],
         tokens: &[Token],
-        scope: Scope,
+        scope: Context,
         start: usize,
         at: Place,
         step: Step,
@@ -129,7 +128,7 @@ impl<F: Fn(Global, &[u8], &[Token], usize, Scope, u8, usize) -> Result<Parsed, R
         &self,
         text: &[u8],
         tokens: &[Token],
-        scope: Scope,
+        scope: Context,
         at: Place,
         fairness: Fairness,
         from: usize,
@@ -165,7 +164,7 @@ impl<F: Fn(Global, &[u8], &[Token], usize, Scope, u8, usize) -> Result<Parsed, R
         &self,
         text: &[u8],
         tokens: &[Token],
-        scope: Scope,
+        scope: Context,
         at: Place,
         from: usize,
     ) -> Result<Parsed, Refusal>
@@ -196,7 +195,7 @@ impl<F: Fn(Global, &[u8], &[Token], usize, Scope, u8, usize) -> Result<Parsed, R
         &self,
         text: &[u8],
         tokens: &[Token],
-        scope: Scope,
+        scope: Context,
         at: Place,
         first: Parsed,
     ) -> Result<Parsed, Refusal>
@@ -225,7 +224,7 @@ impl<F: Fn(Global, &[u8], &[Token], usize, Scope, u8, usize) -> Result<Parsed, R
         &self,
         text: &[u8],
         tokens: &[Token],
-        scope: Scope,
+        scope: Context,
         at: Place,
         from: usize,
         first: Parsed,
@@ -262,7 +261,7 @@ impl<F: Fn(Global, &[u8], &[Token], usize, Scope, u8, usize) -> Result<Parsed, R
         &self,
         text: &[u8],
         tokens: &[Token],
-        scope: Scope,
+        scope: Context,
         at: Place,
         from: usize,
     ) -> Result<Parsed, Refusal>
@@ -292,7 +291,7 @@ impl<F: Fn(Global, &[u8], &[Token], usize, Scope, u8, usize) -> Result<Parsed, R
         &self,
         text: &[u8],
         tokens: &[Token],
-        scope: Scope,
+        scope: Context,
         at: Place,
         from: usize,
     ) -> Result<Parsed, Refusal>
@@ -333,7 +332,7 @@ impl<F: Fn(Global, &[u8], &[Token], usize, Scope, u8, usize) -> Result<Parsed, R
         &self,
         text: &[u8],
         tokens: &[Token],
-        scope: Scope,
+        scope: Context,
         at: Place,
         from: usize,
     ) -> Result<Parsed, Refusal>
@@ -364,7 +363,7 @@ impl<F: Fn(Global, &[u8], &[Token], usize, Scope, u8, usize) -> Result<Parsed, R
         &self,
         text: &[u8],
         tokens: &[Token],
-        scope: Scope,
+        scope: Context,
         at: Place,
         first: Parsed,
     ) -> Result<Parsed, Refusal>
@@ -393,7 +392,7 @@ impl<F: Fn(Global, &[u8], &[Token], usize, Scope, u8, usize) -> Result<Parsed, R
         &self,
         text: &[u8],
         tokens: &[Token],
-        scope: Scope,
+        scope: Context,
         at: Place,
         start: usize,
         first: Parsed,
@@ -427,7 +426,7 @@ impl<F: Fn(Global, &[u8], &[Token], usize, Scope, u8, usize) -> Result<Parsed, R
         &self,
         text: &[u8],
         tokens: &[Token],
-        scope: Scope,
+        scope: Context,
         at: Place,
         from: usize,
     ) -> Result<Parsed, Refusal>

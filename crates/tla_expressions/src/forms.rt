@@ -13,13 +13,12 @@ use crate::parts::{
 };
 use std::alloc::Global;
 use tla_grammar::{
-    Between, Refusal, Scope, following, is_kind, name_at, push, refused, refused_parameter, seen,
-    written,
+    Between, Context, Refusal, following, is_kind, name_at, refused, refused_parameter, seen,
 };
 use tla_lex::{Kind, Place, Token};
-use tla_tree::{Definition, Expr, Quantifier};
+use tla_tree::{Definition, Expr, Quantifier, Written, push};
 
-impl<F: Fn(Global, &[u8], &[Token], usize, Scope, u8, usize) -> Result<Parsed, Refusal>> Grammar<
+impl<F: Fn(Global, &[u8], &[Token], usize, Context, u8, usize) -> Result<Parsed, Refusal>> Grammar<
     F,
 > {
     /// `\A x, y \in S, z \in T : p` or `\E x, y \in S, z \in T : p`
@@ -28,7 +27,7 @@ impl<F: Fn(Global, &[u8], &[Token], usize, Scope, u8, usize) -> Result<Parsed, R
         &self,
         text: &[u8],
         tokens: &[Token],
-        scope: Scope,
+        scope: Context,
         at: Place,
         quantifier: Quantifier,
         from: usize,
@@ -57,7 +56,7 @@ impl<F: Fn(Global, &[u8], &[Token], usize, Scope, u8, usize) -> Result<Parsed, R
         &self,
         text: &[u8],
         tokens: &[Token],
-        scope: Scope,
+        scope: Context,
         at: Place,
         from: usize,
     ) -> Result<Parsed, Refusal>
@@ -85,7 +84,7 @@ impl<F: Fn(Global, &[u8], &[Token], usize, Scope, u8, usize) -> Result<Parsed, R
         &self,
         text: &[u8],
         tokens: &[Token],
-        scope: Scope,
+        scope: Context,
         at: Place,
         from: usize,
     ) -> Result<Parsed, Refusal>
@@ -117,7 +116,7 @@ impl<F: Fn(Global, &[u8], &[Token], usize, Scope, u8, usize) -> Result<Parsed, R
         &self,
         text: &[u8],
         tokens: &[Token],
-        scope: Scope,
+        scope: Context,
         from: usize,
     ) -> Result<ParsedArm, Refusal>
         requires nests { Nests self.now.depth (F.pre self.now.expr) (F.post self.now.expr) }
@@ -137,7 +136,7 @@ impl<F: Fn(Global, &[u8], &[Token], usize, Scope, u8, usize) -> Result<Parsed, R
         &self,
         text: &[u8],
         tokens: &[Token],
-        scope: Scope,
+        scope: Context,
         from: usize,
     ) -> Result<ParsedArms, Refusal>
         requires nests { Nests self.now.depth (F.pre self.now.expr) (F.post self.now.expr) }
@@ -165,7 +164,7 @@ impl<F: Fn(Global, &[u8], &[Token], usize, Scope, u8, usize) -> Result<Parsed, R
         &self,
         text: &[u8],
         tokens: &[Token],
-        scope: Scope,
+        scope: Context,
         at: Place,
         from: usize,
     ) -> Result<Parsed, Refusal>
@@ -201,7 +200,7 @@ impl<F: Fn(Global, &[u8], &[Token], usize, Scope, u8, usize) -> Result<Parsed, R
         &self,
         text: &[u8],
         tokens: &[Token],
-        scope: Scope,
+        scope: Context,
         t: Token,
         form: usize,
         from: usize,
@@ -218,7 +217,7 @@ impl<F: Fn(Global, &[u8], &[Token], usize, Scope, u8, usize) -> Result<Parsed, R
         if !is_kind(Kind::Define, seen(tokens, scope.column, end + 1)) {
             return Err(refused(tokens, scope.column, end + 1));
         }
-        let name = written(self.alloc, text, t)?;
+        let name = Written::of_token(self.alloc, text, t)?;
         let body = self.inner(text, tokens, scope, 0, end + 2)?;
         Ok(ParsedDefinition {
             definition: Definition::Operator(name, found.names, Box::into_inner(body.tree)),
@@ -233,7 +232,7 @@ impl<F: Fn(Global, &[u8], &[Token], usize, Scope, u8, usize) -> Result<Parsed, R
         &self,
         text: &[u8],
         tokens: &[Token],
-        scope: Scope,
+        scope: Context,
         t: Token,
         form: usize,
     ) -> Result<ParsedDefinition, Refusal>
@@ -249,7 +248,7 @@ impl<F: Fn(Global, &[u8], &[Token], usize, Scope, u8, usize) -> Result<Parsed, R
         if !is_kind(Kind::Define, seen(tokens, scope.column, end + 1)) {
             return Err(refused(tokens, scope.column, end + 1));
         }
-        let name = written(self.alloc, text, t)?;
+        let name = Written::of_token(self.alloc, text, t)?;
         let body = self.inner(text, tokens, scope, 0, end + 2)?;
         Ok(ParsedDefinition {
             definition: function_of(name, found.binders, body.tree),
@@ -264,7 +263,7 @@ impl<F: Fn(Global, &[u8], &[Token], usize, Scope, u8, usize) -> Result<Parsed, R
         &self,
         text: &[u8],
         tokens: &[Token],
-        scope: Scope,
+        scope: Context,
         t: Token,
         from: usize,
     ) -> Result<ParsedDefinition, Refusal>
@@ -273,7 +272,7 @@ impl<F: Fn(Global, &[u8], &[Token], usize, Scope, u8, usize) -> Result<Parsed, R
         ensures { GivesDefinition text.now tokens.now self.now.depth result (reading.defined text.now tokens.now (reading.expr text.now tokens.now self.now.depth) scope t from) }
     {
         if is_kind(Kind::Define, seen(tokens, scope.column, from + 1)) {
-            let name = written(self.alloc, text, t)?;
+            let name = Written::of_token(self.alloc, text, t)?;
             let body = self.inner(text, tokens, scope, 0, from + 2)?;
             return Ok(ParsedDefinition {
                 definition: Definition::Operator(
@@ -300,7 +299,7 @@ impl<F: Fn(Global, &[u8], &[Token], usize, Scope, u8, usize) -> Result<Parsed, R
         &self,
         text: &[u8],
         tokens: &[Token],
-        scope: Scope,
+        scope: Context,
         from: usize,
     ) -> Result<ParsedDefinition, Refusal>
         requires nests { Nests self.now.depth (F.pre self.now.expr) (F.post self.now.expr) }
@@ -318,7 +317,7 @@ impl<F: Fn(Global, &[u8], &[Token], usize, Scope, u8, usize) -> Result<Parsed, R
         &self,
         text: &[u8],
         tokens: &[Token],
-        scope: Scope,
+        scope: Context,
         from: usize,
     ) -> Result<ParsedDefinitions, Refusal>
         requires nests { Nests self.now.depth (F.pre self.now.expr) (F.post self.now.expr) }
@@ -350,7 +349,7 @@ impl<F: Fn(Global, &[u8], &[Token], usize, Scope, u8, usize) -> Result<Parsed, R
         &self,
         text: &[u8],
         tokens: &[Token],
-        scope: Scope,
+        scope: Context,
         at: Place,
         from: usize,
     ) -> Result<Parsed, Refusal>

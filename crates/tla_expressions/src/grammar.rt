@@ -11,15 +11,11 @@ ghost use Rattle.tla_expressions.specs.Private.Nests.{Nests};
 use crate::parts::{Parsed, ParsedDefinition, index_of, node};
 use std::alloc::Global;
 use tla_grammar::{
-    Postfix, Refusal, Scope, bullet_of, constant_of, edge_allows, high, is_product, name_at,
+    Context, Postfix, Refusal, bullet_of, constant_of, edge_allows, high, is_product, name_at,
     operator_at, postfix_at, prefix_high, prefix_of, quantifier_of, refused, seen, text_of,
-    written,
 };
 use tla_lex::{Kind, Place, Token};
-use tla_tree::{Expr, Fairness, Infix, Prefix};
-
-/// How deep the tree of an expression may be.
-pub const MAX_DEPTH: usize = 200;
+use tla_tree::{Expr, Fairness, Infix, MAX_DEPTH, Prefix, Written};
 
 /// The rules of expressions, over a reader of the expressions in them.
 #[derive(Clone, Copy)]
@@ -30,7 +26,7 @@ pub struct Grammar<F> {
     pub expr: F,
 }
 
-impl<F: Fn(Global, &[u8], &[Token], usize, Scope, u8, usize) -> Result<Parsed, Refusal>> Grammar<
+impl<F: Fn(Global, &[u8], &[Token], usize, Context, u8, usize) -> Result<Parsed, Refusal>> Grammar<
     F,
 > {
     /// An expression one level deeper.
@@ -38,7 +34,7 @@ impl<F: Fn(Global, &[u8], &[Token], usize, Scope, u8, usize) -> Result<Parsed, R
         &self,
         text: &[u8],
         tokens: &[Token],
-        scope: Scope,
+        scope: Context,
         floor: u8,
         at: usize,
     ) -> Result<Parsed, Refusal>
@@ -54,7 +50,7 @@ impl<F: Fn(Global, &[u8], &[Token], usize, Scope, u8, usize) -> Result<Parsed, R
         &self,
         text: &[u8],
         tokens: &[Token],
-        scope: Scope,
+        scope: Context,
         start: usize,
         first: Parsed,
     ) -> Result<Parsed, Refusal>
@@ -84,7 +80,7 @@ impl<F: Fn(Global, &[u8], &[Token], usize, Scope, u8, usize) -> Result<Parsed, R
         &self,
         text: &[u8],
         tokens: &[Token],
-        scope: Scope,
+        scope: Context,
         start: usize,
         first: Parsed,
         form: Postfix,
@@ -119,7 +115,7 @@ impl<F: Fn(Global, &[u8], &[Token], usize, Scope, u8, usize) -> Result<Parsed, R
                 if depth > self.depth + 1 {
                     return Err(Refusal::Nesting(start));
                 }
-                let name = written(self.alloc, text, name)?;
+                let name = Written::of_token(self.alloc, text, name)?;
                 let at = first.tree.place();
                 node(
                     self.alloc,
@@ -137,7 +133,7 @@ impl<F: Fn(Global, &[u8], &[Token], usize, Scope, u8, usize) -> Result<Parsed, R
         &self,
         text: &[u8],
         tokens: &[Token],
-        scope: Scope,
+        scope: Context,
         start: usize,
         first: Parsed,
     ) -> Result<Parsed, Refusal>
@@ -169,7 +165,7 @@ impl<F: Fn(Global, &[u8], &[Token], usize, Scope, u8, usize) -> Result<Parsed, R
         &self,
         text: &[u8],
         tokens: &[Token],
-        scope: Scope,
+        scope: Context,
         op: Prefix,
         at: Place,
         from: usize,
@@ -189,7 +185,7 @@ impl<F: Fn(Global, &[u8], &[Token], usize, Scope, u8, usize) -> Result<Parsed, R
         &self,
         text: &[u8],
         tokens: &[Token],
-        scope: Scope,
+        scope: Context,
         start: usize,
         left: Parsed,
         op: Infix,
@@ -210,7 +206,7 @@ impl<F: Fn(Global, &[u8], &[Token], usize, Scope, u8, usize) -> Result<Parsed, R
         let Some(sign) = seen(tokens, scope.column, left.end) else {
             return Err(refused(tokens, scope.column, left.end));
         };
-        let sign = written(self.alloc, text, sign)?;
+        let sign = Written::of_token(self.alloc, text, sign)?;
         let right = self.inner(text, tokens, scope, high(op), left.end + 1)?;
         let depth = left.depth.max(right.depth) + 1;
         if depth > self.depth + 1 {
@@ -231,7 +227,7 @@ impl<F: Fn(Global, &[u8], &[Token], usize, Scope, u8, usize) -> Result<Parsed, R
         &self,
         text: &[u8],
         tokens: &[Token],
-        scope: Scope,
+        scope: Context,
         floor: u8,
         start: usize,
         first: Parsed,
@@ -263,7 +259,7 @@ impl<F: Fn(Global, &[u8], &[Token], usize, Scope, u8, usize) -> Result<Parsed, R
         &self,
         text: &[u8],
         tokens: &[Token],
-        scope: Scope,
+        scope: Context,
         from: usize,
         tree: Expr,
     ) -> Result<Parsed, Refusal>
@@ -283,7 +279,7 @@ impl<F: Fn(Global, &[u8], &[Token], usize, Scope, u8, usize) -> Result<Parsed, R
         &self,
         text: &[u8],
         tokens: &[Token],
-        scope: Scope,
+        scope: Context,
         t: Token,
         from: usize,
     ) -> Result<Parsed, Refusal>
@@ -316,7 +312,7 @@ impl<F: Fn(Global, &[u8], &[Token], usize, Scope, u8, usize) -> Result<Parsed, R
         &self,
         text: &[u8],
         tokens: &[Token],
-        scope: Scope,
+        scope: Context,
         from: usize,
     ) -> Result<Parsed, Refusal>
         requires nests { Nests self.now.depth (F.pre self.now.expr) (F.post self.now.expr) }
@@ -382,7 +378,7 @@ impl<F: Fn(Global, &[u8], &[Token], usize, Scope, u8, usize) -> Result<Parsed, R
         &self,
         text: &[u8],
         tokens: &[Token],
-        scope: Scope,
+        scope: Context,
         floor: u8,
         at: usize,
     ) -> Result<Parsed, Refusal>
@@ -402,11 +398,11 @@ pub fn expr(
     text: &[u8],
     tokens: &[Token],
     depth: usize,
-    scope: Scope,
+    scope: Context,
     floor: u8,
     at: usize,
 ) -> Result<Parsed, Refusal>
-    requires { depth ≤ 200 }
+    requires { depth ≤ MAX_DEPTH }
     ensures { Gives text.now tokens.now depth result (reading.expr text.now tokens.now depth scope floor at) }
 {
     if depth == 0 {
@@ -420,15 +416,15 @@ pub fn expr(
     .level(text, tokens, scope, floor, at)
 }
 
-/// A definition in a scope, whose expressions are of 200 levels at most.
+/// A definition in a scope, whose expressions are as deep as they may be at most.
 pub fn definition(
     alloc: Global,
     text: &[u8],
     tokens: &[Token],
-    scope: Scope,
+    scope: Context,
     from: usize,
 ) -> Result<ParsedDefinition, Refusal>
-    ensures { GivesDefinition text.now tokens.now 200 result (reading.definition text.now tokens.now (reading.expr text.now tokens.now 200) scope from) }
+    ensures { GivesDefinition text.now tokens.now MAX_DEPTH result (reading.definition text.now tokens.now (reading.expr text.now tokens.now MAX_DEPTH) scope from) }
 {
     Grammar {
         alloc,

@@ -17,13 +17,13 @@ use crate::parts::{
 };
 use std::alloc::Global;
 use tla_grammar::{
-    Between, Refusal, Scope, closing, following, is_kind, may_follow, push, push_inner, refused,
-    refused_binder, seen, written,
+    Between, Context, Refusal, closing, following, is_kind, may_follow, refused, refused_binder,
+    seen,
 };
 use tla_lex::{Kind, Place, Token};
-use tla_tree::{Brackets, Bullet, Expr};
+use tla_tree::{Brackets, Bullet, Expr, Written, push, push_inner};
 
-impl<F: Fn(Global, &[u8], &[Token], usize, Scope, u8, usize) -> Result<Parsed, Refusal>> Grammar<
+impl<F: Fn(Global, &[u8], &[Token], usize, Context, u8, usize) -> Result<Parsed, Refusal>> Grammar<
     F,
 > {
     /// Expressions with commas or bullets between them, one or more, behind those of a front that ends where the next begins.
@@ -32,7 +32,7 @@ impl<F: Fn(Global, &[u8], &[Token], usize, Scope, u8, usize) -> Result<Parsed, R
         &self,
         text: &[u8],
         tokens: &[Token],
-        scope: Scope,
+        scope: Context,
         between: Between,
         front: ParsedItems,
     ) -> Result<ParsedItems, Refusal>
@@ -62,7 +62,7 @@ impl<F: Fn(Global, &[u8], &[Token], usize, Scope, u8, usize) -> Result<Parsed, R
         &self,
         text: &[u8],
         tokens: &[Token],
-        scope: Scope,
+        scope: Context,
         between: Between,
         from: usize,
     ) -> Result<ParsedItems, Refusal>
@@ -83,7 +83,7 @@ impl<F: Fn(Global, &[u8], &[Token], usize, Scope, u8, usize) -> Result<Parsed, R
         &self,
         text: &[u8],
         tokens: &[Token],
-        scope: Scope,
+        scope: Context,
         close: Kind,
         from: usize,
     ) -> Result<ParsedItems, Refusal>
@@ -107,7 +107,7 @@ impl<F: Fn(Global, &[u8], &[Token], usize, Scope, u8, usize) -> Result<Parsed, R
         &self,
         text: &[u8],
         tokens: &[Token],
-        scope: Scope,
+        scope: Context,
         at: Place,
         brackets: Brackets,
         from: usize,
@@ -143,7 +143,7 @@ impl<F: Fn(Global, &[u8], &[Token], usize, Scope, u8, usize) -> Result<Parsed, R
         &self,
         text: &[u8],
         tokens: &[Token],
-        scope: Scope,
+        scope: Context,
         t: Token,
         from: usize,
     ) -> Result<Parsed, Refusal>
@@ -152,7 +152,7 @@ impl<F: Fn(Global, &[u8], &[Token], usize, Scope, u8, usize) -> Result<Parsed, R
         requires small { self.now.depth < 900 }
         ensures { Gives text.now tokens.now (self.now.depth + 1) result (reading.named text.now tokens.now (reading.expr text.now tokens.now self.now.depth) scope t from) }
     {
-        let name = written(self.alloc, text, t)?;
+        let name = Written::of_token(self.alloc, text, t)?;
         if !is_kind(Kind::LeftParen, seen(tokens, scope.column, from + 1)) {
             return node(self.alloc, Expr::Name(name), from + 1, 1);
         }
@@ -168,7 +168,7 @@ impl<F: Fn(Global, &[u8], &[Token], usize, Scope, u8, usize) -> Result<Parsed, R
         &self,
         text: &[u8],
         tokens: &[Token],
-        scope: Scope,
+        scope: Context,
         at: Place,
         from: usize,
     ) -> Result<Parsed, Refusal>
@@ -190,7 +190,7 @@ impl<F: Fn(Global, &[u8], &[Token], usize, Scope, u8, usize) -> Result<Parsed, R
         &self,
         text: &[u8],
         tokens: &[Token],
-        scope: Scope,
+        scope: Context,
         form: Option<usize>,
         front: ParsedPattern,
     ) -> Result<ParsedBinder, Refusal>
@@ -215,7 +215,7 @@ impl<F: Fn(Global, &[u8], &[Token], usize, Scope, u8, usize) -> Result<Parsed, R
         &self,
         text: &[u8],
         tokens: &[Token],
-        scope: Scope,
+        scope: Context,
         form: Option<usize>,
         from: usize,
     ) -> Result<ParsedBinder, Refusal>
@@ -233,7 +233,7 @@ impl<F: Fn(Global, &[u8], &[Token], usize, Scope, u8, usize) -> Result<Parsed, R
         &self,
         text: &[u8],
         tokens: &[Token],
-        scope: Scope,
+        scope: Context,
         form: Option<usize>,
         from: usize,
     ) -> Result<ParsedBinder, Refusal>
@@ -251,7 +251,7 @@ impl<F: Fn(Global, &[u8], &[Token], usize, Scope, u8, usize) -> Result<Parsed, R
         &self,
         text: &[u8],
         tokens: &[Token],
-        scope: Scope,
+        scope: Context,
         form: Option<usize>,
         from: usize,
     ) -> Result<ParsedBinders, Refusal>
@@ -285,7 +285,7 @@ impl<F: Fn(Global, &[u8], &[Token], usize, Scope, u8, usize) -> Result<Parsed, R
         &self,
         text: &[u8],
         tokens: &[Token],
-        scope: Scope,
+        scope: Context,
         at: Place,
         bullet: Bullet,
         from: usize,

@@ -12,5 +12,5 @@ mod product;
 mod record_parts;
 mod records;
 
-pub use grammar::{MAX_DEPTH, definition, expr};
+pub use grammar::{definition, expr};
 pub use parts::{Parsed, ParsedDefinition};

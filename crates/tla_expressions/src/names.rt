@@ -5,9 +5,9 @@ ghost use Rattle.tla_expressions.specs.ReadingLists as lists;
 ghost use Rattle.tla_expressions.specs.Gives.{GivesNames, GivesPattern};
 
 use std::alloc::Global;
-use tla_grammar::{Refusal, is_kind, name_at, push, refused, refused_parameter, seen, written};
+use tla_grammar::{Refusal, is_kind, name_at, refused, refused_parameter, seen};
 use tla_lex::{Kind, Token};
-use tla_tree::{Pattern, Written};
+use tla_tree::{Pattern, Written, push};
 
 /// Names, and the number of the token after the last.
 #[derive(Drop)]
@@ -34,7 +34,7 @@ pub fn names(
         let Some(name) = name_at(seen(tokens, column, at)) else {
             return Err(refused(tokens, column, at));
         };
-        let name = written(alloc, text, name)?;
+        let name = Written::of_token(alloc, text, name)?;
         push(&mut names, name)?;
         if !is_kind(Kind::Comma, seen(tokens, column, at + 1)) {
             return Ok(ParsedNames { names, end: at + 1 });
@@ -132,7 +132,7 @@ pub fn single(
         return Err(refused(tokens, column, from));
     };
     let mut names = Vec::new(alloc);
-    push(&mut names, written(alloc, text, name)?)?;
+    push(&mut names, Written::of_token(alloc, text, name)?)?;
     Ok(ParsedPattern {
         pattern: Pattern::Each(names),
         end: from + 1,

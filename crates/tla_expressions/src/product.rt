@@ -11,12 +11,12 @@ use crate::grammar::Grammar;
 use crate::parts::{Parsed, ParsedItems, node, product_of};
 use std::alloc::Global;
 use tla_grammar::{
-    Between, Refusal, Scope, edge_allows, following, high, is_kind, push_inner, refused, seen,
+    Between, Context, Refusal, edge_allows, following, high, is_kind, refused, seen,
 };
 use tla_lex::{Kind, Token};
-use tla_tree::Infix;
+use tla_tree::{Infix, push_inner};
 
-impl<F: Fn(Global, &[u8], &[Token], usize, Scope, u8, usize) -> Result<Parsed, Refusal>> Grammar<
+impl<F: Fn(Global, &[u8], &[Token], usize, Context, u8, usize) -> Result<Parsed, Refusal>> Grammar<
     F,
 > {
     /// An operand behind the first.
@@ -25,7 +25,7 @@ impl<F: Fn(Global, &[u8], &[Token], usize, Scope, u8, usize) -> Result<Parsed, R
         &self,
         text: &[u8],
         tokens: &[Token],
-        scope: Scope,
+        scope: Context,
         from: usize,
     ) -> Result<Parsed, Refusal>
         requires { Nests self.now.depth (F.pre self.now.expr) (F.post self.now.expr) }
@@ -48,7 +48,7 @@ impl<F: Fn(Global, &[u8], &[Token], usize, Scope, u8, usize) -> Result<Parsed, R
         &self,
         text: &[u8],
         tokens: &[Token],
-        scope: Scope,
+        scope: Context,
         from: usize,
     ) -> Result<ParsedItems, Refusal>
         requires nests { Nests self.now.depth (F.pre self.now.expr) (F.post self.now.expr) }
@@ -76,7 +76,7 @@ impl<F: Fn(Global, &[u8], &[Token], usize, Scope, u8, usize) -> Result<Parsed, R
         &self,
         text: &[u8],
         tokens: &[Token],
-        scope: Scope,
+        scope: Context,
         start: usize,
         first: Parsed,
     ) -> Result<Parsed, Refusal>

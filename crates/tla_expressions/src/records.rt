@@ -19,13 +19,12 @@ use crate::record_parts::{
 };
 use std::alloc::Global;
 use tla_grammar::{
-    Between, Refusal, Scope, following, is_kind, name_at, push, refused, refused_update, seen,
-    written,
+    Between, Context, Refusal, following, is_kind, name_at, refused, refused_update, seen,
 };
 use tla_lex::{Kind, Place, Token};
-use tla_tree::{Field, Key, Update};
+use tla_tree::{Field, Key, Update, Written, push};
 
-impl<F: Fn(Global, &[u8], &[Token], usize, Scope, u8, usize) -> Result<Parsed, Refusal>> Grammar<
+impl<F: Fn(Global, &[u8], &[Token], usize, Context, u8, usize) -> Result<Parsed, Refusal>> Grammar<
     F,
 > {
     /// A field, with this mark behind its name.
@@ -34,7 +33,7 @@ impl<F: Fn(Global, &[u8], &[Token], usize, Scope, u8, usize) -> Result<Parsed, R
         &self,
         text: &[u8],
         tokens: &[Token],
-        scope: Scope,
+        scope: Context,
         mark: Kind,
         from: usize,
     ) -> Result<ParsedField, Refusal>
@@ -44,7 +43,7 @@ impl<F: Fn(Global, &[u8], &[Token], usize, Scope, u8, usize) -> Result<Parsed, R
         let Some(name) = name_at(seen(tokens, scope.column, from)) else {
             return Err(refused(tokens, scope.column, from));
         };
-        let name = written(self.alloc, text, name)?;
+        let name = Written::of_token(self.alloc, text, name)?;
         if !is_kind(mark, seen(tokens, scope.column, from + 1)) {
             return Err(refused(tokens, scope.column, from + 1));
         }
@@ -65,7 +64,7 @@ impl<F: Fn(Global, &[u8], &[Token], usize, Scope, u8, usize) -> Result<Parsed, R
         &self,
         text: &[u8],
         tokens: &[Token],
-        scope: Scope,
+        scope: Context,
         mark: Kind,
         from: usize,
     ) -> Result<ParsedFields, Refusal>
@@ -94,7 +93,7 @@ impl<F: Fn(Global, &[u8], &[Token], usize, Scope, u8, usize) -> Result<Parsed, R
         &self,
         text: &[u8],
         tokens: &[Token],
-        scope: Scope,
+        scope: Context,
         at: Place,
         from: usize,
     ) -> Result<Parsed, Refusal>
@@ -118,7 +117,7 @@ impl<F: Fn(Global, &[u8], &[Token], usize, Scope, u8, usize) -> Result<Parsed, R
         &self,
         text: &[u8],
         tokens: &[Token],
-        scope: Scope,
+        scope: Context,
         at: Place,
         from: usize,
     ) -> Result<Parsed, Refusal>
@@ -142,7 +141,7 @@ impl<F: Fn(Global, &[u8], &[Token], usize, Scope, u8, usize) -> Result<Parsed, R
         &self,
         text: &[u8],
         tokens: &[Token],
-        scope: Scope,
+        scope: Context,
         from: usize,
     ) -> Result<ParsedKey, Refusal>
         requires nests { Nests self.now.depth (F.pre self.now.expr) (F.post self.now.expr) }
@@ -165,7 +164,7 @@ impl<F: Fn(Global, &[u8], &[Token], usize, Scope, u8, usize) -> Result<Parsed, R
             return Err(refused(tokens, scope.column, from + 1));
         };
         Ok(ParsedKey {
-            key: Key::Field(written(self.alloc, text, name)?),
+            key: Key::Field(Written::of_token(self.alloc, text, name)?),
             end: from + 2,
             depth: 0,
         })
@@ -177,7 +176,7 @@ impl<F: Fn(Global, &[u8], &[Token], usize, Scope, u8, usize) -> Result<Parsed, R
         &self,
         text: &[u8],
         tokens: &[Token],
-        scope: Scope,
+        scope: Context,
         from: usize,
     ) -> Result<ParsedKeys, Refusal>
         requires nests { Nests self.now.depth (F.pre self.now.expr) (F.post self.now.expr) }
@@ -205,7 +204,7 @@ impl<F: Fn(Global, &[u8], &[Token], usize, Scope, u8, usize) -> Result<Parsed, R
         &self,
         text: &[u8],
         tokens: &[Token],
-        scope: Scope,
+        scope: Context,
         from: usize,
     ) -> Result<ParsedUpdate, Refusal>
         requires nests { Nests self.now.depth (F.pre self.now.expr) (F.post self.now.expr) }
@@ -218,7 +217,7 @@ impl<F: Fn(Global, &[u8], &[Token], usize, Scope, u8, usize) -> Result<Parsed, R
         if !is_kind(Kind::Equal, seen(tokens, scope.column, found.end)) {
             return Err(refused(tokens, scope.column, found.end));
         }
-        let value_scope = Scope {
+        let value_scope = Context {
             updating: true,
             ..scope
         };
@@ -239,7 +238,7 @@ impl<F: Fn(Global, &[u8], &[Token], usize, Scope, u8, usize) -> Result<Parsed, R
         &self,
         text: &[u8],
         tokens: &[Token],
-        scope: Scope,
+        scope: Context,
         from: usize,
     ) -> Result<ParsedUpdates, Refusal>
         requires nests { Nests self.now.depth (F.pre self.now.expr) (F.post self.now.expr) }
@@ -271,7 +270,7 @@ impl<F: Fn(Global, &[u8], &[Token], usize, Scope, u8, usize) -> Result<Parsed, R
         &self,
         text: &[u8],
         tokens: &[Token],
-        scope: Scope,
+        scope: Context,
         at: Place,
         first: Parsed,
     ) -> Result<Parsed, Refusal>

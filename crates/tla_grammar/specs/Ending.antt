@@ -1,7 +1,7 @@
 -- Where an expression ends.
 use Rattle.std.specs.Prelude.{◌≡◌, ℕ, Bool, true, not, ◌&&◌, nat_lt, if◌then◌else◌, List, Option, Some, None}
 use Rattle.tla_lex.specs.declared.token.Token.{Token}
-use Rattle.tla_grammar.specs.declared.scope.Scope.{Scope}
+use Rattle.tla_grammar.specs.declared.context.Context.{Context}
 use Rattle.tla_tree.specs.declared.tree.Infix.{Infix}
 use Rattle.tla_grammar.specs.Operators.{low, infix_of}
 use Rattle.tla_grammar.specs.Edges.{edge_allows, top_above}
@@ -28,7 +28,7 @@ may_end t None = true
 may_end t (Some u) = not (is_suffix u.kind) && allows t (infix_of u.kind)
 
 -- An expression whose top is above a floor, before a token that doesn't go on with it.
-pub record EndsAt (text : List ℕ) (ts : List Token) (s : Scope) (floor : ℕ) (t : Tree) (from to : ℕ) : Type 0 where
+pub record EndsAt (text : List ℕ) (ts : List Token) (s : Context) (floor : ℕ) (t : Tree) (from to : ℕ) : Type 0 where
   pub spells : Spells text ts s t from to
   pub fits : may_end t (seen ts s.column to) ≡ true
   pub top : top_above floor t ≡ true

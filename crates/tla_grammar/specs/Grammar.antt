@@ -4,7 +4,7 @@ use Rattle.tla_lex.specs.declared.token.Token.{Token}
 use Rattle.tla_lex.specs.declared.token.Kind.{Kind}
 use Rattle.tla_lex.specs.declared.token.Kind.TheVariants as k
 use Rattle.tla_lex.specs.Strings.{string_text}
-use Rattle.tla_grammar.specs.declared.scope.Scope.{Scope}
+use Rattle.tla_grammar.specs.declared.context.Context.{Context}
 use Rattle.tla_tree.specs.declared.tree.Bullet.{Bullet}
 use Rattle.tla_tree.specs.declared.tree.Infix.TheVariants as i
 use Rattle.tla_grammar.specs.Operators.{high, prefix_high, is_product, infix_of, prefix_of, bullet_of, quantifier_of, constant_of}
@@ -18,11 +18,11 @@ use Rattle.tla_grammar.specs.Entries.{Entry, BeginsEntry, is_single}
 use Rattle.tla_tree.specs.Tree.{Filter, Image, Function, FunctionSet, Record, RecordSet, Except, Action, Fair, Product, Fields, Key, Keys, Updates, no_fields, field, AtIndex, AtField, no_keys, key, no_updates, update, Tree, Trees, Binders, Arms, Other, Definition, Definitions, none, more, unbound, bound, no_arms, arm, no_other, other, DefinesOperator, DefinesFunction, undefined, defined, Case, Let, Name, Number, Text, Word, At, Paren, Listing, Call, Prime, Index, Field, Unary, Binary, Quantified, Choose, If, Junction}
 
 -- the scope of an item: every token stands right of the list's column
-abbrev pub within : Scope → ℕ → Scope
+abbrev pub within : Context → ℕ → Context
 within s column = record s { column = column }
 
 -- the scope of the expression of an update, where `@` has a meaning
-abbrev pub updating : Scope → Scope
+abbrev pub updating : Context → Context
 updating s = record s { updating = true }
 
 -- what the subscript of an action or of fairness may be: a name, a tuple or (e)
@@ -47,7 +47,7 @@ is_defined (defined d ds) = true
 module _ (text : List ℕ) (ts : List Token) where
   -- The tree spells the tokens from the first number up to the second, all of them right of the scope's column.
   abbrev mutual
-    pub Spells : Scope → Tree → ℕ → ℕ → Type 0
+    pub Spells : Context → Tree → ℕ → ℕ → Type 0
     Spells s (Name w) from to = Writes ts text s.column k.Name w from × (to ≡ from + 1)
     Spells s (Number p n) from to = Is ts s.column (k.Number n) p from × (to ≡ from + 1)
     Spells s (Text p x) from to = (t : Token) × (seen ts s.column from ≡ Some t) × (t.kind ≡ k.Text) × (t.place ≡ p) × (string_text (word_of text t) ≡ x) × (to ≡ from + 1)
@@ -86,84 +86,84 @@ module _ (text : List ℕ) (ts : List Token) where
     Spells s (Product p e es) from to = (mid : ℕ) × Spells s e from mid × Factors s es mid to × IsTrue (edge_allows e i.Product) × IsTrue (is_some es) × (p ≡ place e)
 
     -- Each item of a list has the bullet before it, in the list's column, and stands right of that column.
-    pub Items : Scope → Bullet → Trees → ℕ → ℕ → Type 0
+    pub Items : Context → Bullet → Trees → ℕ → ℕ → Type 0
     Items s b none from to = to ≡ from
     Items s b (more e es) from to = (mid : ℕ) × IsTrue (is_bullet_at s.column b (slice_get ts from)) × Spells s e (from + 1) mid × Items s b es mid to
 
     -- The operands of a product behind the first: each may stand right of `\X`, and each but the last left of it. (What may stand left may stand right.)
-    pub Factors : Scope → Trees → ℕ → ℕ → Type 0
+    pub Factors : Context → Trees → ℕ → ℕ → Type 0
     Factors s none from to = to ≡ from
     Factors s (more e es) from to = (mid : ℕ) × Has ts s.column k.Product from × Spells s e (from + 1) mid × IsTrue (top_above (high i.Product) e) × IsTrue (not (is_some es) || edge_allows e i.Product) × Factors s es mid to
 
     -- expressions with commas between them, and the closing bracket
-    pub Listed : Scope → Kind → Trees → ℕ → ℕ → Type 0
+    pub Listed : Context → Kind → Trees → ℕ → ℕ → Type 0
     Listed s close none from to = Has ts s.column close from × (to ≡ from + 1)
     Listed s close (more e es) from to = (mid : ℕ) × Spells s e from mid × Others s close es mid to
 
     -- those behind the first, each with a comma before it
-    pub Others : Scope → Kind → Trees → ℕ → ℕ → Type 0
+    pub Others : Context → Kind → Trees → ℕ → ℕ → Type 0
     Others s close none from to = Has ts s.column close from × (to ≡ from + 1)
     Others s close (more e es) from to = (mid : ℕ) × Has ts s.column k.Comma from × Spells s e (from + 1) mid × Others s close es mid to
 
     -- x, y \in S, <<z, w>> \in T
-    pub Bound : Scope → Binders → ℕ → ℕ → Type 0
+    pub Bound : Context → Binders → ℕ → ℕ → Type 0
     Bound s unbound from to = ⊥
     Bound s (bound w e bs) from to = (n : ℕ) × Entry text ts s.column w (Spells s e) from n × MoreBound s bs n to
 
-    pub MoreBound : Scope → Binders → ℕ → ℕ → Type 0
+    pub MoreBound : Context → Binders → ℕ → ℕ → Type 0
     MoreBound s unbound from to = to ≡ from
     MoreBound s (bound w e bs) from to = (n : ℕ) × Has ts s.column k.Comma from × Entry text ts s.column w (Spells s e) (from + 1) n × MoreBound s bs n to
 
     -- a |-> e, b |-> e, or with colons
-    pub Fielded : Scope → Kind → Fields → ℕ → ℕ → Type 0
+    pub Fielded : Context → Kind → Fields → ℕ → ℕ → Type 0
     Fielded s mark no_fields from to = ⊥
     Fielded s mark (field w e fs) from to = (m : ℕ) × Writes ts text s.column k.Name w from × Has ts s.column mark (from + 1) × Spells s e (from + 2) m × MoreFields s mark fs m to
 
-    pub MoreFields : Scope → Kind → Fields → ℕ → ℕ → Type 0
+    pub MoreFields : Context → Kind → Fields → ℕ → ℕ → Type 0
     MoreFields s mark no_fields from to = to ≡ from
     MoreFields s mark (field w e fs) from to = (m : ℕ) × Has ts s.column k.Comma from × Writes ts text s.column k.Name w (from + 1) × Has ts s.column mark (from + 2) × Spells s e (from + 3) m × MoreFields s mark fs m to
 
     -- the path of an update
-    pub Leads : Scope → Keys → ℕ → ℕ → Type 0
+    pub Leads : Context → Keys → ℕ → ℕ → Type 0
     Leads s no_keys from to = to ≡ from
     Leads s (key x ks) from to = (m : ℕ) × Selects s x from m × Leads s ks m to
 
     -- [e, ..] or .a
-    pub Selects : Scope → Key → ℕ → ℕ → Type 0
+    pub Selects : Context → Key → ℕ → ℕ → Type 0
     Selects s (AtIndex es) from to = Has ts s.column k.LeftBracket from × Listed s k.RightBracket es (from + 1) to × IsTrue (is_some es)
     Selects s (AtField w) from to = Has ts s.column k.Dot from × Writes ts text s.column k.Name w (from + 1) × (to ≡ from + 2)
 
     -- !p = e, !p = e
-    pub Updated : Scope → Updates → ℕ → ℕ → Type 0
+    pub Updated : Context → Updates → ℕ → ℕ → Type 0
     Updated s no_updates from to = ⊥
     Updated s (update ks e us) from to = (m n : ℕ) × Has ts s.column k.Bang from × Leads s ks (from + 1) m × IsTrue (is_path ks) × Has ts s.column k.Equal m × Spells (updating s) e (m + 1) n × MoreUpdates s us n to
 
-    pub MoreUpdates : Scope → Updates → ℕ → ℕ → Type 0
+    pub MoreUpdates : Context → Updates → ℕ → ℕ → Type 0
     MoreUpdates s no_updates from to = to ≡ from
     MoreUpdates s (update ks e us) from to = (m n : ℕ) × Has ts s.column k.Comma from × Has ts s.column k.Bang (from + 1) × Leads s ks (from + 2) m × IsTrue (is_path ks) × Has ts s.column k.Equal m
         × Spells (updating s) e (m + 1) n × MoreUpdates s us n to
 
     -- p -> e, with `[]` between
-    pub Chosen : Scope → Arms → ℕ → ℕ → Type 0
+    pub Chosen : Context → Arms → ℕ → ℕ → Type 0
     Chosen s no_arms from to = ⊥
     Chosen s (arm g e cs) from to = (m n : ℕ) × Spells s g from m × Has ts s.column k.Arrow m × Spells s e (m + 1) n × MoreChosen s cs n to
 
-    pub MoreChosen : Scope → Arms → ℕ → ℕ → Type 0
+    pub MoreChosen : Context → Arms → ℕ → ℕ → Type 0
     MoreChosen s no_arms from to = to ≡ from
     MoreChosen s (arm g e cs) from to = (m n : ℕ) × Has ts s.column k.Box from × Spells s g (from + 1) m × Has ts s.column k.Arrow m × Spells s e (m + 1) n × MoreChosen s cs n to
 
     -- A CASE takes every `[]` that follows an arm.
-    pub Otherwise : Scope → Other → ℕ → ℕ → Type 0
+    pub Otherwise : Context → Other → ℕ → ℕ → Type 0
     Otherwise s no_other from to = IsTrue (not (kind_at k.Box (seen ts s.column to))) × (to ≡ from)
     Otherwise s (other e) from to = Has ts s.column k.Box from × Has ts s.column k.Other (from + 1) × Has ts s.column k.Arrow (from + 2) × Spells s e (from + 3) to
 
-    pub Defines : Scope → Definition → ℕ → ℕ → Type 0
+    pub Defines : Context → Definition → ℕ → ℕ → Type 0
     Defines s (DefinesOperator w [] e) from to = Writes ts text s.column k.Name w from × Has ts s.column k.Define (from + 1) × Spells s e (from + 2) to
     Defines s (DefinesOperator w (v ∷ vs) e) from to = (m : ℕ) × Writes ts text s.column k.Name w from × Has ts s.column k.LeftParen (from + 1) × Names ts text s.column (v ∷ vs) (from + 2) m
         × Has ts s.column k.RightParen m × Has ts s.column k.Define (m + 1) × Spells s e (m + 2) to
     Defines s (DefinesFunction w bs e) from to = (m : ℕ) × Writes ts text s.column k.Name w from × Has ts s.column k.LeftBracket (from + 1) × Bound s bs (from + 2) m
         × Has ts s.column k.RightBracket m × Has ts s.column k.Define (m + 1) × Spells s e (m + 2) to
 
-    pub Defined : Scope → Definitions → ℕ → ℕ → Type 0
+    pub Defined : Context → Definitions → ℕ → ℕ → Type 0
     Defined s undefined from to = to ≡ from
     Defined s (defined d ds) from to = (mid : ℕ) × Defines s d from mid × Defined s ds mid to

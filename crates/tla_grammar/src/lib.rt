@@ -3,23 +3,21 @@
 
 mod ahead;
 mod binders;
-mod list;
+mod context;
 mod modules;
 mod operators;
 mod refusal;
-mod scope;
 mod tokens;
 
 pub use ahead::{Opened, binds, filters, opened_by};
 pub use binders::refused_binder;
-pub use list::{push, push_inner};
+pub use context::Context;
 pub use modules::is_module;
 pub use operators::{
     bullet_of, constant_of, edge_allows, high, is_product, prefix_high, prefix_of, quantifier_of,
 };
 pub use refusal::Refusal;
-pub use scope::Scope;
 pub use tokens::{
     Between, Postfix, closing, following, is_kind, may_follow, name_at, operator_at, postfix_at,
-    refused, refused_parameter, refused_unit, refused_update, seen, text_of, written,
+    refused, refused_parameter, refused_unit, refused_update, seen, text_of,
 };

@@ -1,4 +1,7 @@
 //! Why a reading stops.
+ghost use Rattle.std.specs.Prelude.{◌≡◌};
+
+use std::alloc::AllocError;
 
 /// Why there is no tree, and at which token by its number.
 #[derive(Clone, Copy)]
@@ -16,4 +19,14 @@ pub enum Refusal {
     /// The module, a name under EXTENDS, is not known.
     UnknownModule(usize),
     NoMemory,
+}
+
+impl From<AllocError> for Refusal {
+    ghost use Rattle.tla_grammar.specs.declared.refusal.Refusal.TheVariants.{NoMemory};
+
+    ghost from_gives = { λ _ e. e ≡ NoMemory };
+
+    fn from(_error: AllocError) -> Refusal {
+        Refusal::NoMemory
+    }
 }

@@ -15,7 +15,7 @@ use crate::operators::{bullet_of, infix_of, low, prefix_of};
 use crate::refusal::Refusal;
 use std::alloc::Global;
 use tla_lex::{Kind, Token, string_text};
-use tla_tree::{Brackets, Bullet, Infix, Word, Written, slice_of};
+use tla_tree::{Brackets, Bullet, Infix, Word, slice_of};
 
 /// What stands between the items of a list.
 #[derive(Clone, Copy)]
@@ -247,17 +247,6 @@ pub fn name_at(token: Option<Token>) -> Option<Token>
     match token {
         Some(t) if matches!(t.kind, Kind::Name) => Some(t),
         _ => None,
-    }
-}
-
-/// The token as it is written, and where.
-pub fn written(alloc: Global, text: &[u8], token: Token) -> Result<Written, Refusal>
-    ensures ok { IfOk result (λ w. w ≡ words.written text.now token) }
-    ensures err { IfErr result (λ e. e ≡ Refusal.NoMemory) }
-{
-    match Written::of_token(alloc, text, token) {
-        Ok(word) => Ok(word),
-        Err(_) => Err(Refusal::NoMemory),
     }
 }
 

@@ -10,6 +10,7 @@ use Rattle.clap.specs.Simple.{on_top}
 use Rattle.clap.specs.declared.builder.action.ArgAction.TheVariants.{Set, SetTrue}
 use Rattle.clap.specs.declared.error.kind.ErrorKind.TheVariants.{MissingRequiredArgument}
 use Rattle.tla_search.specs.Options.{IsCount, IsWithinLimits}
+use Rattle.tla_search.specs.declared.options.TheConstants.{MOST_WORKERS, MOST_IN_PIECE, MOST_STATES}
 use Rattle.tla_line.specs.declared.line.Line.{Line}
 
 -- ---- the command
@@ -110,5 +111,5 @@ NamesNoCount words option most = IsSomeAnd (text_of words option) (WritesNoCount
 
 -- one of the three texts writes no number, or one outside its limits
 abbrev pub NamesBadNumber : List Text → Type 0
-NamesBadNumber words = NamesNoCount words (codes "workers") 64
-    ⊎ (NamesNoCount words (codes "cut") 65536 ⊎ NamesNoCount words (codes "max-states") 16777216)
+NamesBadNumber words = NamesNoCount words (codes "workers") MOST_WORKERS
+    ⊎ (NamesNoCount words (codes "cut") MOST_IN_PIECE ⊎ NamesNoCount words (codes "max-states") MOST_STATES)

@@ -5,11 +5,12 @@ use Rattle.tla_core.specs.Expr.{Expr}
 use Rattle.tla_core.specs.Fits.{fits}
 use Rattle.tla_model.specs.ModelTree.{ModelTree}
 use Rattle.tla_model.specs.Size.{depth}
+use Rattle.tla_model.specs.declared.limits.TheConstants.{MAX_PATH}
 
--- Over so many variables the names of the expression exist, with a present value only where there is a present state, and at most 300 nodes stand on a path.
+-- Over so many variables the names of the expression exist, with a present value only where there is a present state, and at most MAX_PATH nodes stand on a path.
 pub record IsUsable (variables : ℕ) (present : Bool) (e : Expr) : Type 0 where
   pub named : IsTrue (fits e 0 variables present)
-  pub shallow : depth e ≤ 300
+  pub shallow : depth e ≤ MAX_PATH
 
 abbrev pub AreUsable : ℕ → Bool → List Expr → Type 0
 AreUsable variables present [] = ⊤

@@ -2,6 +2,7 @@
 use Rattle.std.specs.Prelude.{ℕ, ◌+◌, ◌≤◌, max}
 use Rattle.tla_core.specs.Patterns.{items_in}
 use Rattle.tla_core.specs.Expr.{Expr, Exprs, Fields, Arms, Updates, constant, bound, now, next, unary, binary, equal, sub_seq, enumerated, tuple, record_of, conjunction, disjunction, implies, conditional, cases, assert, for_all, for_some, choose, image, function, except, member, not_member, subset, kind_set, booleans, sequences, power, functions, records, product, cup, cap, minus, filtered, opened, tried, no_exprs, more_exprs, no_fields, more_fields, no_arms, other, more_arms, no_updates, more_updates}
+use Rattle.tla_model.specs.declared.limits.TheConstants.{MAX_NODES, MAX_PATH}
 
 abbrev mutual
   pub nodes : Expr → ℕ
@@ -124,5 +125,5 @@ abbrev mutual
 
 -- the limits of an expression (this project's own choice)
 pub record IsWithinLimits (e : Expr) : Type 0 where
-  pub small : nodes e ≤ 200000
-  pub shallow : depth e ≤ 300
+  pub small : nodes e ≤ MAX_NODES
+  pub shallow : depth e ≤ MAX_PATH

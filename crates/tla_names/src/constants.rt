@@ -6,9 +6,9 @@ ghost use Rattle.tla_names.specs.Constants as spec;
 ghost use Rattle.tla_names.specs.Mentions.{written_of};
 ghost use Rattle.tla_names.specs.Refusal.{Says};
 
-use crate::known::new_name;
 use crate::mention::Mention;
 use crate::names::Names;
+use crate::resolve::new_name;
 use crate::scope::Scope;
 use std::alloc::Global;
 use tla_config::{DefsError, Source};

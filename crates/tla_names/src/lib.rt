@@ -6,11 +6,11 @@
 #![tactic(auto)]
 
 mod constants;
-mod known;
 mod mention;
 mod named;
 mod names;
 mod refusal;
+mod resolve;
 mod scope;
 mod units;
 

@@ -9,8 +9,8 @@ ghost use Rattle.tla_names.specs.Misuses as misuses;
 ghost use Rattle.tla_names.specs.Refusal.{refusal_for};
 
 use crate::constants::declare;
-use crate::known::{definition, expression, new_name, new_names};
 use crate::names::Names;
+use crate::resolve::{definition, expression, new_name, new_names};
 use crate::scope::Scope;
 use std::alloc::Global;
 use tla_config::{DefsError, Source};

@@ -3,6 +3,7 @@ use Rattle.std.specs.Prelude.{◌≡◌, ◌⊎◌, ℕ, ◌<◌, ◌≤◌, ◌
 use Rattle.tla_value.specs.Tree.{Tree}
 use Rattle.tla_value.specs.TreeOf.{tree_of}
 use Rattle.tla_value.specs.Sets.{set_of}
+use Rattle.tla_value.specs.declared.set.TheConstants.{MAX_ELEMENTS}
 use Rattle.tla_core.specs.declared.fault.Fault.{Fault}
 use Rattle.tla_core.specs.declared.fault.Place.{Place}
 use Rattle.tla_core.specs.Fault.{Outcome, ◌>>=◌, out_of_memory}
@@ -15,11 +16,11 @@ different ts = length (set_of ts)
 
 -- two lists make the same set, or each has more different members than a set may have
 abbrev pub MakeSameSet : List Tree → List Tree → Type 0
-MakeSameSet us ts = (set_of us ≡ set_of ts) ⊎ ((1000000 < different us) × (1000000 < different ts))
+MakeSameSet us ts = (set_of us ≡ set_of ts) ⊎ ((MAX_ELEMENTS < different us) × (MAX_ELEMENTS < different ts))
 
 -- how many values are held at most: 1024, or twice as many as their set has
 abbrev pub most_held : List Tree → ℕ
-most_held ts = max 1024 (2 * min 1000000 (different ts))
+most_held ts = max 1024 (2 * min MAX_ELEMENTS (different ts))
 
 -- the values that are held of those that came
 pub record IsHeld (ts us : List Tree) : Type 0 where
@@ -29,7 +30,7 @@ pub record IsHeld (ts us : List Tree) : Type 0 where
 -- the same with the room for more, and whether no more are needed
 pub record IsGathered (ts : List Tree) (g : Gathered) : Type 0 where
   pub held : IsHeld ts (map tree_of g.values.items)
-  pub full : g.is_full ≡ true → 1000000 < different (map tree_of g.values.items)
+  pub full : g.is_full ≡ true → MAX_ELEMENTS < different (map tree_of g.values.items)
   pub free : g.is_full ≡ false → (length g.values.items < g.room) × (g.room ≤ most_held ts)
 
 -- some values came after those that came before

@@ -3,6 +3,7 @@ ghost use Rattle.std.specs.Prelude.{◌≡◌, ◌<◌, ◌≤◌, ◌-◌, ◌+
 ghost use Rattle.tla_value.specs.Tree.{deepest_pair, pairs};
 ghost use Rattle.tla_value.specs.TreeOf.{tree_of, pair_of};
 ghost use Rattle.tla_value.specs.Choices.{numbered, sequence};
+ghost use Rattle.tla_value.specs.declared.set.TheConstants.{MAX_NESTING};
 ghost use Rattle.tla_core.specs.Fault.{out_of_memory};
 ghost use Rattle.tla_core.specs.Expr.{Len, Head, Tail, Concat, Append};
 ghost use Rattle.tla_core.specs.Kinds.{as_sequence, items, make_sequence};
@@ -26,8 +27,8 @@ pub(crate) fn items_of<'p, 'a>(
     sequence: &'a Value,
 ) -> Result<&'a [(Value, Value)], Trouble<'p>>
     ensures value { GivesBy (λ ps. values_of (map pair_of ps.now)) result (as_sequence place.now (tree_of sequence.now)) }
-    ensures few { IfOk result (λ ps. length ps.now ≤ 1000000) }
-    ensures shallow { IfOk result (λ ps. deepest_pair (pairs (map pair_of ps.now)) < 64) }
+    ensures few { IfOk result (λ ps. length ps.now ≤ MAX_ELEMENTS) }
+    ensures shallow { IfOk result (λ ps. deepest_pair (pairs (map pair_of ps.now)) < MAX_NESTING) }
 {
     match sequence {
         Value::Fun(fun) => match fun.as_sequence() {
@@ -69,7 +70,7 @@ pub fn add_items<'p>(
 
 /// The values, each with its place from 1.
 fn number_items<'p>(alloc: Global, values: Vec<Value>) -> Result<Vec<(Value, Value)>, Trouble<'p>>
-    requires { length values.items ≤ 1000000 }
+    requires { length values.items ≤ MAX_ELEMENTS }
     ensures ok { IfOk result (λ v. map pair_of v.items ≡ numbered 1 (map tree_of values.items)) }
     ensures err { IfErr result (λ f. f ≡ out_of_memory) }
 {
@@ -101,8 +102,8 @@ fn part<'p>(
 ) -> Result<Value, Trouble<'p>>
     requires within { to ≤ length items.now }
     requires order { from ≤ to }
-    requires few { length items.now ≤ 1000000 }
-    requires shallow { deepest_pair (pairs (map pair_of items.now)) < 64 }
+    requires few { length items.now ≤ MAX_ELEMENTS }
+    requires shallow { deepest_pair (pairs (map pair_of items.now)) < MAX_NESTING }
     ensures { Gives result (Ok (sequence (take (to - from) (drop from (values_of (map pair_of items.now)))))) }
 {
     let mut values = Vec::new(alloc);
@@ -220,8 +221,8 @@ fn items_between<'p>(
     low: i64,
     high: i64,
 ) -> Result<Value, Trouble<'p>>
-    requires few { length items.now ≤ 1000000 }
-    requires shallow { deepest_pair (pairs (map pair_of items.now)) < 64 }
+    requires few { length items.now ≤ MAX_ELEMENTS }
+    requires shallow { deepest_pair (pairs (map pair_of items.now)) < MAX_NESTING }
     ensures { Gives result (part_of place.now (values_of (map pair_of items.now)) low high) }
 {
     if high < low {

@@ -7,6 +7,7 @@ use Rattle.tla_parse.specs.declared.error.ParseCode.TheVariants as code
 use Rattle.tla_tree.specs.Words.{word_of}
 use Rattle.tla_grammar.specs.LeftOut.{BeginsLeftOut, IsUnknownModule}
 use Rattle.tla_tree.specs.Units.{UnitTree}
+use Rattle.tla_tree.specs.declared.tree.TheConstants.{MAX_DEPTH}
 use Rattle.tla_parse.specs.Units.{units_depth, SpellsModule}
 
 module _ (text : List ℕ) (ts : List Token) where
@@ -26,7 +27,7 @@ module _ (text : List ℕ) (ts : List Token) where
   Justified code.Unexpected p x = NoneSpells
   Justified code.Precedence p x = NoneSpells
   Justified code.Column p x = NoneSpells
-  Justified code.Nesting p x = NoneSpellsWithin 200
+  Justified code.Nesting p x = NoneSpellsWithin MAX_DEPTH
   Justified code.LeftOut p x = IsLeftOut p x × NoneSpells
   Justified code.NoMemory p x = Unit {0}
 

@@ -3,7 +3,7 @@ use Rattle.std.specs.Prelude.{◌≡◌, ℕ, zero, suc, ◌+◌, max, Bool, tru
 use Rattle.std.specs.List.{list_all}
 use Rattle.tla_lex.specs.declared.token.Token.{Token}
 use Rattle.tla_lex.specs.declared.token.Kind.TheVariants as k
-use Rattle.tla_grammar.specs.declared.scope.Scope.{Scope}
+use Rattle.tla_grammar.specs.declared.context.Context.{Context}
 use Rattle.tla_tree.specs.declared.word.Written.{Written}
 use Rattle.tla_grammar.specs.Edges.{depth, definition_depth}
 use Rattle.tla_grammar.specs.Tokens.{Has, Is, Writes, Names}
@@ -40,7 +40,7 @@ units_depth [] = 0
 units_depth (u ∷ us) = max (unit_depth u) (units_depth us)
 
 -- outside all lists and updates
-abbrev pub outermost : Scope
+abbrev pub outermost : Context
 outermost = record { column = 0; updating = false }
 
 module _ (text : List ℕ) (ts : List Token) where

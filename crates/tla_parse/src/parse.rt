@@ -4,6 +4,7 @@ ghost use Rattle.std.specs.Prelude.{◌≡◌, ◌≤◌, ◌⊎◌, List, map, 
 ghost use Rattle.tla_tree.specs.Units.{UnitTree};
 ghost use Rattle.tla_parse.specs.Units.{units_depth, SpellsModule};
 ghost use Rattle.tla_tree.specs.UnitsView.{unit_view};
+ghost use Rattle.tla_tree.specs.declared.tree.TheConstants.{MAX_DEPTH};
 ghost use Rattle.tla_parse.specs.Private.UnitsReading.{whole};
 ghost use Rattle.tla_grammar.specs.LeftOut.{BeginsLeftOut, IsUnknownModule};
 ghost use Rattle.tla_parse.specs.Parsing.{NoneSpells, Justified, IsLocated};
@@ -12,9 +13,9 @@ ghost use Rattle.tla_grammar.specs.Refusals.{Fails};
 use crate::error::{ParseCode, ParseError};
 use crate::units::module_units;
 use std::alloc::Global;
-use tla_grammar::{Refusal, written};
+use tla_grammar::Refusal;
 use tla_lex::{Place, Token};
-use tla_tree::Module;
+use tla_tree::{Module, Written};
 
 /// The place of the token, or of the last one where there are fewer.
 fn place_of(tokens: &[Token], at: usize) -> Place {
@@ -57,7 +58,7 @@ fn left_out(alloc: Global, text: &[u8], tokens: &[Token], at: usize) -> ParseErr
     let Some(t) = tokens.get(at) else {
         return error_at(ParseCode::Unexpected, place_of(tokens, at));
     };
-    match written(alloc, text, *t) {
+    match Written::of_token(alloc, text, *t) {
         Ok(first) => ParseError {
             code: ParseCode::LeftOut,
             place: Some(t.place),
@@ -69,7 +70,7 @@ fn left_out(alloc: Global, text: &[u8], tokens: &[Token], at: usize) -> ParseErr
 
 /// A refusal as callers see it.
 fn error_of(alloc: Global, text: &[u8], tokens: &[Token], refusal: Refusal) -> ParseError
-    requires { Fails text.now tokens.now refusal (whole text.now tokens.now 200) }
+    requires { Fails text.now tokens.now refusal (whole text.now tokens.now MAX_DEPTH) }
     ensures justified { Justified text.now tokens.now result.code result.place result.name }
     ensures located { IsLocated result.code result.place result.name }
 {
@@ -88,7 +89,7 @@ fn error_of(alloc: Global, text: &[u8], tokens: &[Token], refusal: Refusal) -> P
 pub fn parse_module(alloc: Global, text: &[u8], tokens: &[Token]) -> Result<Module, ParseError>
     // The units spell the tokens, and their expressions are no deeper than the limit.
     ensures found { IfOk result (λ m. SpellsModule text.now tokens.now (map unit_view m.units.items)) }
-    ensures shallow { IfOk result (λ m. units_depth (map unit_view m.units.items) ≤ 200) }
+    ensures shallow { IfOk result (λ m. units_depth (map unit_view m.units.items) ≤ MAX_DEPTH) }
     // No other units spell them.
     ensures only { IfOk result (λ m. (us : List UnitTree) → SpellsModule text.now tokens.now us → us ≡ map unit_view m.units.items) }
     // Tokens are refused only where no units spell them, or for nesting none within the limit; a form left out is on the list.

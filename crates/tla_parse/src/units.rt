@@ -14,16 +14,15 @@ ghost use Rattle.tla_parse.specs.Private.UnitsGive.{GivesDeclared, GivesConstant
 
 use std::alloc::Global;
 use tla_expressions::names::{ParsedNames, names};
-use tla_expressions::{MAX_DEPTH, ParsedDefinition, definition, expr};
+use tla_expressions::{ParsedDefinition, definition, expr};
 use tla_grammar::{
-    Between, Refusal, Scope, following, is_kind, is_module, name_at, push, refused, refused_unit,
-    seen, written,
+    Between, Context, Refusal, following, is_kind, is_module, name_at, refused, refused_unit, seen,
 };
 use tla_lex::{Kind, Place, Token};
-use tla_tree::{Declaration, Definition, Expr, Unit, Written};
+use tla_tree::{Declaration, Definition, Expr, MAX_DEPTH, Unit, Written, push};
 
 /// The scope of a unit's expressions.
-const OUTERMOST: Scope = Scope {
+const OUTERMOST: Context = Context {
     column: 0,
     updating: false,
 };
@@ -96,7 +95,7 @@ fn extended(
         let Some(name) = name_at(seen(tokens, 0, at)) else {
             return Err(refused(tokens, 0, at));
         };
-        let name = written(alloc, text, name)?;
+        let name = Written::of_token(alloc, text, name)?;
         if !is_module(name.word.as_bytes()) {
             return Err(Refusal::UnknownModule(at));
         }
@@ -143,7 +142,7 @@ fn constant(
     let Some(t) = name_at(seen(tokens, 0, from)) else {
         return Err(refused(tokens, 0, from));
     };
-    let name = written(alloc, text, t)?;
+    let name = Written::of_token(alloc, text, t)?;
     if !is_kind(Kind::LeftParen, seen(tokens, 0, from + 1)) {
         return Ok(ParsedDeclaration {
             declaration: Declaration { name, arity: 0 },
@@ -206,7 +205,7 @@ fn claim_name(tokens: &[Token], from: usize) -> Option<Token>
 #[tactic(auto, unfolding(crate::specs::Private::UnitsReading::claim))]
 fn claim(alloc: Global, text: &[u8], tokens: &[Token], from: usize) -> Result<ParsedClaim, Refusal>
     requires { from ≤ length tokens.now }
-    ensures { GivesClaim text.now tokens.now result (reading.claim text.now tokens.now 200 from) }
+    ensures { GivesClaim text.now tokens.now result (reading.claim text.now tokens.now MAX_DEPTH from) }
 {
     match claim_name(tokens, from) {
         None => {
@@ -218,7 +217,7 @@ fn claim(alloc: Global, text: &[u8], tokens: &[Token], from: usize) -> Result<Pa
             })
         }
         Some(t) => {
-            let name = written(alloc, text, t)?;
+            let name = Written::of_token(alloc, text, t)?;
             let e = expr(alloc, text, tokens, MAX_DEPTH, OUTERMOST, 0, from + 2)?;
             Ok(ParsedClaim {
                 name: Some(name),
@@ -251,7 +250,7 @@ fn unit_of(definition: Definition) -> Unit
 #[tactic(auto, unfolding(crate::specs::Private::UnitsReading::unit))]
 fn unit_at(alloc: Global, text: &[u8], tokens: &[Token], from: usize) -> Result<ParsedUnit, Refusal>
     requires extends { IsTrue (kind_at k.Extends (seen tokens.now 0 from)) → OnlySeparators tokens.now from }
-    ensures { GivesUnit text.now tokens.now result (reading.unit text.now tokens.now 200 from) }
+    ensures { GivesUnit text.now tokens.now result (reading.unit text.now tokens.now MAX_DEPTH from) }
 {
     let Some(t) = seen(tokens, 0, from) else {
         return Err(refused(tokens, 0, from));
@@ -339,7 +338,7 @@ fn units_from(
     from: usize,
 ) -> Result<ParsedUnits, Refusal>
     requires { OnlySeparators tokens.now from }
-    ensures { GivesUnits text.now tokens.now result (reading.units text.now tokens.now 200 (length tokens.now) [] true from) }
+    ensures { GivesUnits text.now tokens.now result (reading.units text.now tokens.now MAX_DEPTH (length tokens.now) [] true from) }
 {
     let mut units = Vec::new(alloc);
     let mut first = true;
@@ -362,7 +361,7 @@ fn units_from(
 /// The units of a module, whose tokens are its name, a separator, the units and the closing line.
 #[tactic(auto, unfolding(crate::specs::Private::UnitsReading::whole))]
 pub fn module_units(alloc: Global, text: &[u8], tokens: &[Token]) -> Result<ParsedUnits, Refusal>
-    ensures { GivesUnits text.now tokens.now result (reading.whole text.now tokens.now 200) }
+    ensures { GivesUnits text.now tokens.now result (reading.whole text.now tokens.now MAX_DEPTH) }
 {
     if !is_kind(Kind::Name, seen(tokens, 0, 0)) {
         return Err(refused(tokens, 0, 0));

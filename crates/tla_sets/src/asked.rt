@@ -110,8 +110,8 @@ pub fn set_has<'p>(
 
 /// Whether the set of some values is surely within the limits.
 fn are_within(values: &[Evaluated<'_>]) -> bool
-    ensures few { result ≡ true → length values.now ≤ 1000000 }
-    ensures shallow { result ≡ true → deepest (trees (map tree_of_evaluated values.now)) < 64 }
+    ensures few { result ≡ true → length values.now ≤ MAX_ELEMENTS }
+    ensures shallow { result ≡ true → deepest (trees (map tree_of_evaluated values.now)) < MAX_NESTING }
 {
     if values.len() > MAX_ELEMENTS {
         return false;
@@ -121,7 +121,7 @@ fn are_within(values: &[Evaluated<'_>]) -> bool
 
 /// Whether none of some values is nested too deep for a member.
 fn are_shallow(values: &[Evaluated<'_>]) -> bool
-    ensures { result ≡ true → deepest (trees (map tree_of_evaluated values.now)) < 64 }
+    ensures { result ≡ true → deepest (trees (map tree_of_evaluated values.now)) < MAX_NESTING }
 {
     for value in values {
         if nesting_of(value) >= MAX_NESTING {

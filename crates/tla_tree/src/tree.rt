@@ -3,6 +3,9 @@
 use crate::word::{Word, Written};
 use tla_lex::Place;
 
+/// How deep the tree of an expression may be.
+pub const MAX_DEPTH: usize = 200;
+
 /// An infix operator.
 #[derive(Clone, Copy, Debug)]
 pub enum Infix {

@@ -52,7 +52,7 @@ pub struct Written {
 impl Written {
     /// The token as it is written, and where. The error is want of memory.
     pub fn of_token(alloc: Global, text: &[u8], token: Token) -> Result<Written, AllocError>
-        ensures { IfOk result (λ w. w ≡ words.written text.now token) }
+        ensures ok { IfOk result (λ w. w ≡ words.written text.now token) }
     {
         let bytes = slice_of(text, token).to_vec(alloc)?;
         Ok(Written {

@@ -5,6 +5,7 @@ use Rattle.std.specs.Map.{lookup}
 use Rattle.tla_value.specs.Tree.{Tree, int, fun, pairs, deepest_pair}
 use Rattle.tla_value.specs.IsValue.{IsValue}
 use Rattle.tla_value.specs.declared.error.ValueError.{ValueError}
+use Rattle.tla_value.specs.declared.set.TheConstants.{MAX_ELEMENTS, MAX_NESTING}
 use Rattle.tla_value.specs.declared.error.ValueError.TheVariants.{TooMany, TooDeep, Memory}
 use Rattle.tla_value.specs.Order.{tree_cmp, tree_eq}
 
@@ -41,8 +42,8 @@ items_of ps = items_from 1 ps
 
 -- why these pairs make no function: the first limit that they pass. Memory may be refused at any time.
 abbrev pub RefusesFun : List (Tree × Tree) → ValueError → Type 0
-RefusesFun ps TooMany = 1000000 < length ps
-RefusesFun ps TooDeep = (length ps ≤ 1000000) × (64 ≤ deepest_pair (pairs ps))
+RefusesFun ps TooMany = MAX_ELEMENTS < length ps
+RefusesFun ps TooDeep = (length ps ≤ MAX_ELEMENTS) × (MAX_NESTING ≤ deepest_pair (pairs ps))
 RefusesFun ps Memory = Unit {0}
 
 -- the answer is the function of these pairs, or says why there is none

@@ -6,6 +6,7 @@ use Rattle.tla_value.specs.Tree.{Tree, trees, set, fun, pair_count, deepest}
 use Rattle.tla_value.specs.Order.{tree_cmp, tree_eq}
 use Rattle.tla_value.specs.IsValue.{IsValue}
 use Rattle.tla_value.specs.declared.error.ValueError.{ValueError}
+use Rattle.tla_value.specs.declared.set.TheConstants.{MAX_ELEMENTS, MAX_NESTING}
 use Rattle.tla_value.specs.declared.error.ValueError.TheVariants.{TooMany, TooDeep, Memory}
 
 -- whether a tree stands in a list
@@ -20,8 +21,8 @@ set_of (t ∷ ts) = insert_key tree_cmp (set_of ts) t
 -- why these members make no set: the first limit that is passed, where `size` is the greatest number of members or
 -- pairs in it. Memory may be refused at any time.
 abbrev pub RefusesSetOfSize : ℕ → List Tree → ValueError → Type 0
-RefusesSetOfSize size ts TooMany = 1000000 < size
-RefusesSetOfSize size ts TooDeep = (size ≤ 1000000) × (64 ≤ deepest (trees ts))
+RefusesSetOfSize size ts TooMany = MAX_ELEMENTS < size
+RefusesSetOfSize size ts TooDeep = (size ≤ MAX_ELEMENTS) × (MAX_NESTING ≤ deepest (trees ts))
 RefusesSetOfSize size ts Memory = Unit {0}
 
 -- the answer is the set of these members, or says why there is none

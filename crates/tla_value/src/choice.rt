@@ -11,6 +11,7 @@ ghost use Rattle.tla_value.specs.TreeOf.{tree_of, pair_of};
 ghost use Rattle.tla_value.specs.Choices.{functions_by, functions_of, tuples_of, subsets_of, keys_of, records_of, is_each_once};
 ghost use Rattle.tla_value.specs.Private.Inner.{ways, choice_of, sublist_of, keyed, field_of};
 ghost use Rattle.tla_value.specs.declared.error.ValueError.TheVariants.{Memory};
+ghost use Rattle.tla_value.specs.declared.set.TheConstants.{MAX_NESTING};
 
 use crate::error::ValueError;
 use crate::fun::{drop_repeats, fun_within, sort_pairs};
@@ -37,7 +38,7 @@ fn has_empty(sets: &[&SetValue]) -> bool
 
 // How many ways there are to choose a member of each set, where there are at most a million.
 fn count_of(sets: &[&SetValue]) -> Option<usize>
-    ensures count { MatchOption result (1000000 < ways (map (λ s. s.now) sets.now)) (λ n. (n ≡ ways (map (λ s. s.now) sets.now)) × (n ≤ 1000000)) }
+    ensures count { MatchOption result (MAX_ELEMENTS < ways (map (λ s. s.now) sets.now)) (λ n. (n ≡ ways (map (λ s. s.now) sets.now)) × (n ≤ MAX_ELEMENTS)) }
     ensures rising { AllByRecursion (IsStrictlySortedBy tree_cmp) (map (λ s. s.now) sets.now) }
 {
     if has_empty(sets) {
@@ -61,9 +62,9 @@ fn pick(
     at: usize,
 ) -> Result<(Value, Value), ValueError>
     requires at { at < length set.now }
-    requires shallow { depth (tree_of argument.now) < 64 }
+    requires shallow { depth (tree_of argument.now) < MAX_NESTING }
     ensures ok { IfOk result (λ p. pair_of p ≡ (tree_of argument.now, slice_index_or set.now at (truth false))) }
-    ensures shallow { IfOk result (λ p. max (depth (tree_of p.0)) (depth (tree_of p.1)) < 64) }
+    ensures shallow { IfOk result (λ p. max (depth (tree_of p.0)) (depth (tree_of p.1)) < MAX_NESTING) }
     ensures err { IfErr result (λ e. e ≡ Memory) }
 {
     let member = &set.items()[at];
@@ -81,9 +82,9 @@ fn choice_at(
     requires sets { length arguments.now ≡ length sets.now }
     requires count { count ≡ ways (map (λ s. s.now) sets.now) }
     requires number { number < count }
-    requires shallow { deepest (trees (map tree_of arguments.now)) < 64 }
+    requires shallow { deepest (trees (map tree_of arguments.now)) < MAX_NESTING }
     ensures ok { IfOk result (λ v. map pair_of v.items ≡ zip (map tree_of arguments.now) (choice_of (map (λ s. s.now) sets.now) number)) }
-    ensures shallow { IfOk result (λ v. deepest_pair (pairs_of (map pair_of v.items)) < 64) }
+    ensures shallow { IfOk result (λ v. deepest_pair (pairs_of (map pair_of v.items)) < MAX_NESTING) }
     ensures err { IfErr result (λ e. e ≡ Memory) }
 {
     let mut pairs = Vec::with_capacity(alloc, arguments.len())?;
@@ -107,9 +108,9 @@ fn functions(
 ) -> Result<Vec<Value>, ValueError>
     requires sets { length arguments.now ≡ length sets.now }
     requires count { count ≡ ways (map (λ s. s.now) sets.now) }
-    requires few { length arguments.now ≤ 1000000 }
+    requires few { length arguments.now ≤ MAX_ELEMENTS }
     requires rising { IsStrictlySortedBy tree_cmp (map tree_of arguments.now) }
-    requires shallow { deepest (trees (map tree_of arguments.now)) < 64 }
+    requires shallow { deepest (trees (map tree_of arguments.now)) < MAX_NESTING }
     ensures ok { IfOk result (λ v. map tree_of v.items ≡ functions_by (map tree_of arguments.now) (map (λ s. s.now) sets.now)) }
     ensures err { IfErr result (λ e. e ≡ Memory) }
 {
@@ -159,9 +160,9 @@ fn set_of_functions(
 ) -> Result<SetValue, ValueError>
     requires sets { length arguments.now ≡ length sets.now }
     requires count { count ≡ ways (map (λ s. s.now) sets.now) }
-    requires few { length arguments.now ≤ 1000000 }
+    requires few { length arguments.now ≤ MAX_ELEMENTS }
     requires rising { IsStrictlySortedBy tree_cmp (map tree_of arguments.now) }
-    requires shallow { deepest (trees (map tree_of arguments.now)) < 64 }
+    requires shallow { deepest (trees (map tree_of arguments.now)) < MAX_NESTING }
     requires lists { AllByRecursion (IsStrictlySortedBy tree_cmp) (map (λ s. s.now) sets.now) }
     ensures { MakesSet (set_of (functions_by (map tree_of arguments.now) (map (λ s. s.now) sets.now))) result }
 {
@@ -288,7 +289,7 @@ fn set_of_records(
 ) -> Result<SetValue, ValueError>
     requires sets { length names.now ≡ length sets.now }
     requires rising { IsStrictlySortedBy tree_cmp (map tree_of names.now) }
-    requires shallow { deepest (trees (map tree_of names.now)) < 64 }
+    requires shallow { deepest (trees (map tree_of names.now)) < MAX_NESTING }
     ensures made { MakesSetOfFunctions (set_of (functions_by (map tree_of names.now) (map (λ s. s.now) sets.now))) result }
     ensures rising { AllByRecursion (IsStrictlySortedBy tree_cmp) (map (λ s. s.now) sets.now) }
 {

@@ -76,7 +76,7 @@ pub(crate) fn count_up(
     count: u64,
 ) -> Result<Vec<Value>, ValueError>
     requires last { low +ℤ pos count ≡ high +ℤ pos 1 }
-    requires few { count ≤ 1000000 }
+    requires few { count ≤ MAX_ELEMENTS }
     ensures ok { IfOk result (λ v. map tree_of v.items ≡ counted_up count low) }
     ensures err { IfErr result (λ e. e ≡ Memory) }
 {

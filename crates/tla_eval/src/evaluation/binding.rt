@@ -13,7 +13,7 @@ ghost use Rattle.tla_eval.specs.Private.Parts.{tested};
 ghost use Rattle.tla_operators.specs.Evaluated.{Evaluates};
 ghost use Rattle.tla_eval.specs.Private.Environment.{bound_in, present_in, next_in};
 
-use crate::environment::{Environment, Scope};
+use crate::environment::{Environment, Frame};
 use crate::evaluation::patterns::body_value;
 use crate::evaluation::{ask, evaluate};
 use std::alloc::Global;
@@ -190,7 +190,7 @@ pub(super) fn ask_with<'c: 'a, 'a>(
 ) -> Result<bool, Trouble<'c>>
     ensures { GivesTruth result (asks place.now (means (expr_of body.now)) (bound_in env.entry ++ tree_of value.now ∷ []) (present_in env.entry) (next_in env.entry)) }
 {
-    let scope = Scope::One(env.scope, value);
+    let scope = Frame::One(env.scope, value);
     let inner = Environment {
         scope: &scope,
         now: env.now,
@@ -209,7 +209,7 @@ pub(super) fn value_with<'c: 'a, 'a>(
 ) -> Result<Value, Trouble<'c>>
     ensures { Gives result ((means (expr_of body.now)).value (bound_in env.entry ++ tree_of value.now ∷ []) (present_in env.entry) (next_in env.entry)) }
 {
-    let scope = Scope::One(env.scope, value);
+    let scope = Frame::One(env.scope, value);
     let inner = Environment {
         scope: &scope,
         now: env.now,

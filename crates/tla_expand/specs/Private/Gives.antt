@@ -17,11 +17,11 @@ use Rattle.tla_tree.specs.View.{view, key_view}
 use Rattle.tla_expand.specs.declared.arena.Entry.{Entry}
 use Rattle.tla_expand.specs.declared.failure.Failure.{Failure}
 use Rattle.tla_expand.specs.declared.failure.Failure.TheVariants.{NoExpansion, TooLarge, Memory}
-use Rattle.tla_expand.specs.declared.heads.Head.{Head}
-use Rattle.tla_expand.specs.declared.heads.Step.{Step}
-use Rattle.tla_expand.specs.declared.heads.Step.TheVariants as step
+use Rattle.tla_expand.specs.declared.uses.Head.{Head}
+use Rattle.tla_expand.specs.declared.uses.Step.{Step}
+use Rattle.tla_expand.specs.declared.uses.Step.TheVariants as step
 use Rattle.tla_expand.specs.declared.expanded.Expanded.{Expanded}
-use Rattle.tla_expand.specs.declared.expanded.Two.{Two}
+use Rattle.tla_expand.specs.declared.expanded.Pair.{Pair}
 use Rattle.tla_expand.specs.declared.expanded.Many.{Many}
 use Rattle.tla_expand.specs.declared.expanded.Arms.{Arms}
 use Rattle.tla_expand.specs.declared.expanded.Fields.{Fields}
@@ -42,6 +42,10 @@ use Rattle.tla_expand.specs.Bound.{set_for}
 use Rattle.tla_expand.specs.Private.Binders.{names_of}
 use Rattle.tla_expand.specs.Private.Forms.{form_in}
 use Rattle.tla_expand.specs.Scopes.{scope_at}
+
+-- how many names may be bound round an expression and how many nodes may be left for it, both together: so many fit a number of the code
+abbrev pub most_named : ℕ
+most_named = 1000000
 
 abbrev pub head_gives : List Entry → Head → Argument
 head_gives es h d = with_primes h.primes (form_in h.form (scope_at es h.scope) d)
@@ -100,10 +104,10 @@ sum_of f g p = f p.0 + g p.1
 abbrev pub larger_of : {A B : Type 0} → (A → ℕ) → (B → ℕ) → A × B → ℕ
 larger_of f g p = max (f p.0) (g p.1)
 
-abbrev pub parts_of : Two → Expr × Expr
+abbrev pub parts_of : Pair → Expr × Expr
 parts_of x = (expr_of x.first.value, expr_of x.second)
 
-abbrev pub GivesTwo : ℕ → ℕ → Result Two Failure → Option (Expr × Expr) → Type 0
+abbrev pub GivesTwo : ℕ → ℕ → Result Pair Failure → Option (Expr × Expr) → Type 0
 GivesTwo room left (Ok x) o = Makes (sum_of nodes nodes) (larger_of depth depth) room left x.left (parts_of x) o
 GivesTwo room left (Err f) o = FailsBy (sum_of nodes nodes) (larger_of depth depth) room left f o
 

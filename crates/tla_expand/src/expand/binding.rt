@@ -12,7 +12,7 @@ ghost use Rattle.tla_expand.specs.Scopes.{AreLinked, Extends, scope_at};
 ghost use Rattle.tla_expand.specs.Private.Binders.{names_of, binds_in, opened_at, with_element, item_names};
 ghost use Rattle.tla_expand.specs.Maybe.{each_of};
 ghost use Rattle.tla_expand.specs.Meanings.{Scope};
-ghost use Rattle.tla_expand.specs.Private.Gives.{Gives, GivesMany, set_in};
+ghost use Rattle.tla_expand.specs.Private.Gives.{Gives, GivesMany, set_in, most_named};
 ghost use Rattle.tla_expand.specs.Listed.{listed};
 
 use crate::arena::{Entry, What, enter};
@@ -51,7 +51,7 @@ pub(super) fn bound_several<'a>(
 ) -> Result<Expanded, Failure>
     requires linked { AreLinked (listed entries.old) }
     requires scope { at.scope ≤ length (listed entries.old) }
-    requires small { at.bound + at.left < 1000000 }
+    requires small { at.bound + at.left < most_named }
     ensures kept { OnOk result (listed entries.new ≡ listed entries.old) }
     ensures same { Gives (at.room + 1) (at.left + 1) result (with_primes at.primes (bounds.nested node place (expansion.binds_of (binders (map group_view groups.now)) (scope_at (listed entries.old) at.scope)) (expansion.expand (view body.now)) (scope_at (listed entries.old) at.scope) at.bound)) }
 {
@@ -83,7 +83,7 @@ pub(super) fn bound_one<'a>(
 ) -> Result<Expanded, Failure>
     requires linked { AreLinked (listed entries.old) }
     requires scope { at.scope ≤ length (listed entries.old) }
-    requires small { at.bound + at.left < 1000000 }
+    requires small { at.bound + at.left < most_named }
     ensures kept { OnOk result (listed entries.new ≡ listed entries.old) }
     ensures same { Gives (at.room + 1) (at.left + 1) result (with_primes at.primes (bounds.nested node place (bind_entry (pattern_view pattern.now) (expansion.expand (view set.now) (scope_at (listed entries.old) at.scope)) []) (expansion.expand (view body.now)) (scope_at (listed entries.old) at.scope) at.bound)) }
 {
@@ -113,7 +113,7 @@ fn nested<'a>(
     requires linked { AreLinked (listed entries.old) }
     requires home { under.home ≤ length (listed entries.old) }
     requires scope { at.scope ≤ length (listed entries.old) }
-    requires small { at.bound + at.left < 1000000 }
+    requires small { at.bound + at.left < most_named }
     ensures kept { OnOk result (listed entries.new ≡ listed entries.old) }
     ensures same { Gives (at.room + 1) (at.left + 1) result (with_primes at.primes (bounds.nested under.entry.node under.entry.place (binds_in (first.entry ∷ rest.now) (scope_at (listed entries.old) under.entry.home)) (expansion.expand (view under.entry.body.now)) (scope_at (listed entries.old) at.scope) at.bound)) }
 {
@@ -148,7 +148,7 @@ fn under_element<'a>(
     requires linked { AreLinked (listed entries.old) }
     requires home { under.home ≤ length (listed entries.old) }
     requires scope { at.scope ≤ length (listed entries.old) }
-    requires small { at.bound + at.left < 1000000 }
+    requires small { at.bound + at.left < most_named }
     ensures kept { OnOk result (listed entries.new ≡ listed entries.old) }
     ensures same { Gives at.room at.left result (with_primes at.primes (bounds.under under.entry.place (names_of names.entry) (last_or (binds_in rest.now (scope_at (listed entries.old) under.entry.home)) (expansion.expand (view under.entry.body.now)) (bounds.nested under.entry.node under.entry.place (binds_in rest.now (scope_at (listed entries.old) under.entry.home)) (expansion.expand (view under.entry.body.now)))) (scope_at (listed entries.old) at.scope) at.bound)) }
 {
@@ -171,7 +171,7 @@ fn under_name<'a>(
     requires linked { AreLinked (listed entries.old) }
     requires home { under.home ≤ length (listed entries.old) }
     requires scope { at.scope ≤ length (listed entries.old) }
-    requires small { at.bound + at.left < 1000000 }
+    requires small { at.bound + at.left < most_named }
     ensures kept { OnOk result (listed entries.new ≡ listed entries.old) }
     ensures same { Gives at.room at.left result (with_primes at.primes (bounds.under under.entry.place (bounds.named name.now.word) (last_or (binds_in rest.now (scope_at (listed entries.old) under.entry.home)) (expansion.expand (view under.entry.body.now)) (bounds.nested under.entry.node under.entry.place (binds_in rest.now (scope_at (listed entries.old) under.entry.home)) (expansion.expand (view under.entry.body.now)))) (scope_at (listed entries.old) at.scope) at.bound)) }
 {
@@ -205,7 +205,7 @@ fn under_tuple<'a>(
     requires linked { AreLinked (listed entries.old) }
     requires home { under.home ≤ length (listed entries.old) }
     requires scope { at.scope ≤ length (listed entries.old) }
-    requires small { at.bound + at.left < 1000000 }
+    requires small { at.bound + at.left < most_named }
     ensures kept { OnOk result (listed entries.new ≡ listed entries.old) }
     ensures same { Gives at.room at.left result (with_primes at.primes (bounds.under under.entry.place (bounds.tupled names.now) (last_or (binds_in rest.now (scope_at (listed entries.old) under.entry.home)) (expansion.expand (view under.entry.body.now)) (bounds.nested under.entry.node under.entry.place (binds_in rest.now (scope_at (listed entries.old) under.entry.home)) (expansion.expand (view under.entry.body.now)))) (scope_at (listed entries.old) at.scope) at.bound)) }
 {
@@ -244,7 +244,7 @@ fn within<'a>(
     requires linked { AreLinked (listed entries.old) }
     requires home { under.home ≤ length (listed entries.old) }
     requires scope { at.scope ≤ length (listed entries.old) }
-    requires small { at.bound + at.left ≤ 1000000 }
+    requires small { at.bound + at.left ≤ most_named }
     ensures kept { OnOk result (listed entries.new ≡ listed entries.old) }
     ensures same { Gives at.room at.left result (with_primes at.primes (last_or (binds_in binds.now (scope_at (listed entries.old) under.entry.home)) (expansion.expand (view under.entry.body.now)) (bounds.nested under.entry.node under.entry.place (binds_in binds.now (scope_at (listed entries.old) under.entry.home)) (expansion.expand (view under.entry.body.now))) (scope_at (listed entries.old) at.scope) at.bound)) }
 {
@@ -279,7 +279,7 @@ pub(super) fn gather_node<'a>(
 ) -> Result<Expanded, Failure>
     requires linked { AreLinked (listed entries.old) }
     requires scope { at.scope ≤ length (listed entries.old) }
-    requires small { at.bound + at.left ≤ 1000000 }
+    requires small { at.bound + at.left ≤ most_named }
     ensures kept { OnOk result (listed entries.new ≡ listed entries.old) }
     ensures same { Gives (at.room + 1) (at.left + 1) result (with_primes at.primes (bounds.gathered node place (expansion.binds_of (binders (map group_view groups.now)) (scope_at (listed entries.old) at.scope)) (expansion.expand (view body.now)) (scope_at (listed entries.old) at.scope) at.bound)) }
 {
@@ -318,7 +318,7 @@ fn set_for<'a>(
 ) -> Result<Expanded, Failure>
     requires linked { AreLinked (listed entries.old) }
     requires scope { at.scope ≤ length (listed entries.old) }
-    requires small { at.bound + at.left ≤ 1000000 }
+    requires small { at.bound + at.left ≤ most_named }
     ensures kept { OnOk result (listed entries.new ≡ listed entries.old) }
     ensures same { Gives at.room at.left result (set_in place at.primes (scope_at (listed entries.old) at.scope) at.bound bind.entry) }
 {
@@ -346,7 +346,7 @@ fn sets_of<'a>(
 ) -> Result<Many, Failure>
     requires linked { AreLinked (listed entries.old) }
     requires scope { at.scope ≤ length (listed entries.old) }
-    requires small { at.bound + at.left ≤ 1000000 }
+    requires small { at.bound + at.left ≤ most_named }
     ensures kept { OnOk result (listed entries.new ≡ listed entries.old) }
     ensures same { GivesMany at.room at.left result (each_of (set_in place at.primes (scope_at (listed entries.old) at.scope) at.bound) binds.now) }
 {
@@ -393,7 +393,7 @@ fn push_opening(openings: &mut Vec<Opening>, names: Names<'_>, bound: usize) -> 
 
 /// The elements that are opened, of those with numbers from `bound` on. The only error is want of memory.
 fn openings_of(alloc: Global, binds: &[Bind<'_>], bound: usize) -> Result<Vec<Opening>, Failure>
-    requires { bound + length binds.now ≤ 1000000 }
+    requires { bound + length binds.now ≤ most_named }
     ensures ok { IfOk result (λ os. (σ : Scope) → os.items ≡ bounds.openings (binds_in binds.now σ) bound) }
     ensures err { IfErr result (λ e. e ≡ Failure.Memory) }
 {
@@ -429,7 +429,7 @@ fn name_each<'a>(
 ) -> Result<usize, Failure>
     requires linked { AreLinked (listed entries.old) }
     requires scope { scope ≤ length (listed entries.old) }
-    requires small { bound + length names.now ≤ 1000000 }
+    requires small { bound + length names.now ≤ most_named }
     ensures linked { OnOk result (AreLinked (listed entries.new)) }
     ensures extends { OnOk result (Extends (listed entries.new) (listed entries.old)) }
     ensures within { IfOk result (λ s. s ≤ length (listed entries.new)) }
@@ -457,7 +457,7 @@ fn name_all<'a>(
 ) -> Result<usize, Failure>
     requires linked { AreLinked (listed entries.old) }
     requires scope { scope ≤ length (listed entries.old) }
-    requires small { (σ : Scope) (d : ℕ) → bound + length binds.now + items_in (bounds.openings (binds_in binds.now σ) d) ≤ 1000000 }
+    requires small { (σ : Scope) (d : ℕ) → bound + length binds.now + items_in (bounds.openings (binds_in binds.now σ) d) ≤ most_named }
     ensures linked { OnOk result (AreLinked (listed entries.new)) }
     ensures extends { OnOk result (Extends (listed entries.new) (listed entries.old)) }
     ensures within { IfOk result (λ s. s ≤ length (listed entries.new)) }
@@ -505,7 +505,7 @@ fn name_elements<'a>(
 ) -> Result<usize, Failure>
     requires linked { AreLinked (listed entries.old) }
     requires scope { scope ≤ length (listed entries.old) }
-    requires small { bound + length binds.now ≤ 1000000 }
+    requires small { bound + length binds.now ≤ most_named }
     ensures linked { OnOk result (AreLinked (listed entries.new)) }
     ensures extends { OnOk result (Extends (listed entries.new) (listed entries.old)) }
     ensures within { IfOk result (λ s. s ≤ length (listed entries.new)) }
@@ -539,7 +539,7 @@ fn name_items<'a>(
 ) -> Result<usize, Failure>
     requires linked { AreLinked (listed entries.old) }
     requires scope { scope ≤ length (listed entries.old) }
-    requires small { (σ : Scope) (d : ℕ) → bound + items_in (bounds.openings (binds_in binds.now σ) d) ≤ 1000000 }
+    requires small { (σ : Scope) (d : ℕ) → bound + items_in (bounds.openings (binds_in binds.now σ) d) ≤ most_named }
     ensures linked { OnOk result (AreLinked (listed entries.new)) }
     ensures extends { OnOk result (Extends (listed entries.new) (listed entries.old)) }
     ensures within { IfOk result (λ s. s ≤ length (listed entries.new)) }

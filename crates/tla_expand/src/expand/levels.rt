@@ -7,19 +7,19 @@ ghost use Rattle.tla_expand.specs.Maybe.{each_of};
 ghost use Rattle.tla_expand.specs.Primes.{settled_primes, with_primes};
 ghost use Rattle.tla_expand.specs.Scopes.{AreLinked, scope_at};
 ghost use Rattle.tla_expand.specs.Private.Forms.{form_in, tuple_parts};
-ghost use Rattle.tla_expand.specs.Private.Gives.{kept_part, changed_in, part_in, both, total, highest, Fails, FailsBy, Gives, GivesTwo, SaysNone};
+ghost use Rattle.tla_expand.specs.Private.Gives.{kept_part, changed_in, part_in, both, total, highest, Fails, FailsBy, Gives, GivesTwo, SaysNone, most_named};
 ghost use Rattle.tla_model.specs.Size.{nodes, depth};
 ghost use Rattle.tla_expand.specs.Listed.{listed};
 
 use crate::entries::Entries;
-use crate::expand::kept::{changed, kept, settled, tuple_items};
 use crate::expand::lists::each;
+use crate::expand::unchanged::{changed, kept, settled, tuple_items};
 use crate::expand::{Setting, expand, node_of, two_parts};
-use crate::expanded::{Expanded, Two as Pair};
+use crate::expanded::{Expanded, Pair};
 use crate::failure::Failure;
-use crate::heads::{Head, find_head};
 use crate::nodes::Form;
 use crate::primes::{Primes, are_fewer};
+use crate::uses::{Head, find_head};
 use std::alloc::Global;
 use tla_core::Place;
 use tla_tree::Expr;
@@ -61,7 +61,7 @@ fn look_at_form<'a>(
 ) -> Result<(), Failure>
     requires linked { AreLinked (listed entries.old) }
     requires scope { at.scope ≤ length (listed entries.old) }
-    requires small { at.bound + at.left < 1000000 }
+    requires small { at.bound + at.left < most_named }
     ensures kept { OnOk result (listed entries.new ≡ listed entries.old) }
     ensures fails { IfErr result (λ f. Fails (at.room + 1) (at.left + 1) f (with_primes at.primes (form_in form.entry (scope_at (listed entries.old) at.scope) at.bound))) }
 {
@@ -80,7 +80,7 @@ fn look_at_each<'a>(
 ) -> Result<(), Failure>
     requires linked { AreLinked (listed entries.old) }
     requires scope { at.scope ≤ length (listed entries.old) }
-    requires small { at.bound + at.left ≤ 1000000 }
+    requires small { at.bound + at.left ≤ most_named }
     ensures kept { OnOk result (listed entries.new ≡ listed entries.old) }
     ensures fails { IfErr result (λ f. FailsBy (total nodes) (highest depth) at.room at.left f (each_of (part_in at.primes (scope_at (listed entries.old) at.scope) at.bound) trees.now)) }
 {
@@ -103,7 +103,7 @@ fn look_at_tuple<'a>(
 ) -> Result<(), Failure>
     requires linked { AreLinked (listed entries.old) }
     requires scope { at.scope ≤ length (listed entries.old) }
-    requires small { at.bound + at.left ≤ 1000000 }
+    requires small { at.bound + at.left ≤ most_named }
     requires tuple { tuple_parts head.form ≡ Some items }
     ensures kept { OnOk result (listed entries.new ≡ listed entries.old) }
     ensures fails { IfErr result (λ f. Fails (at.room + 1) (at.left + 1) f (with_primes at.primes (form_in head.entry.form (scope_at (listed entries.old) at.scope) at.bound))) }
@@ -133,7 +133,7 @@ fn look_at<'a>(
 ) -> Result<(), Failure>
     requires linked { AreLinked (listed entries.old) }
     requires scope { at.scope ≤ length (listed entries.old) }
-    requires small { at.bound + at.left ≤ 1000000 }
+    requires small { at.bound + at.left ≤ most_named }
     ensures kept { OnOk result (listed entries.new ≡ listed entries.old) }
     ensures fails { IfErr result (λ f. Fails at.room at.left f (part_in at.primes (scope_at (listed entries.old) at.scope) at.bound tree.now)) }
 {
@@ -156,7 +156,7 @@ fn look_at_operand<'a>(
 ) -> Result<(), Failure>
     requires linked { AreLinked (listed entries.old) }
     requires scope { at.scope ≤ length (listed entries.old) }
-    requires small { at.bound + at.left ≤ 1000000 }
+    requires small { at.bound + at.left ≤ most_named }
     ensures kept { OnOk result (listed entries.new ≡ listed entries.old) }
     ensures fails { IfErr result (λ f. (p : fault.Place) → Fails (at.room + 1) (at.left + 1) f (kept_part (settled_primes at.primes) p (scope_at (listed entries.old) at.scope) at.bound tree.now)) }
 {
@@ -194,7 +194,7 @@ pub(super) fn node_behind<'a>(
 ) -> Result<Expanded, Failure>
     requires linked { AreLinked (listed entries.old) }
     requires scope { at.scope ≤ length (listed entries.old) }
-    requires small { at.bound + at.left < 1000000 }
+    requires small { at.bound + at.left < most_named }
     ensures kept { OnOk result (listed entries.new ≡ listed entries.old) }
     ensures same { Gives (at.room + 1) (at.left + 1) result (with_primes at.primes (form_in head.entry.form (scope_at (listed entries.old) at.scope) at.bound)) }
 {
@@ -227,7 +227,7 @@ pub(super) fn unchanged_node<'a>(
 ) -> Result<Expanded, Failure>
     requires linked { AreLinked (listed entries.old) }
     requires scope { at.scope ≤ length (listed entries.old) }
-    requires small { at.bound + at.left < 1000000 }
+    requires small { at.bound + at.left < most_named }
     ensures kept { OnOk result (listed entries.new ≡ listed entries.old) }
     ensures same { Gives (at.room + 1) (at.left + 1) result (kept_part (settled_primes at.primes) place (scope_at (listed entries.old) at.scope) at.bound tree.now) }
 {
@@ -248,7 +248,7 @@ pub(super) fn kept_parts<'a>(
 ) -> Result<Pair, Failure>
     requires linked { AreLinked (listed entries.old) }
     requires scope { at.scope ≤ length (listed entries.old) }
-    requires small { at.bound + at.left ≤ 1000000 }
+    requires small { at.bound + at.left ≤ most_named }
     ensures kept { OnOk result (listed entries.new ≡ listed entries.old) }
     ensures same { GivesTwo at.room at.left result (both (part_in primes (scope_at (listed entries.old) at.scope) at.bound tree.now) (part_in at.primes (scope_at (listed entries.old) at.scope) at.bound tree.now)) }
 {
@@ -270,7 +270,7 @@ pub(super) fn kept_subscript<'a>(
 ) -> Result<Expanded, Failure>
     requires linked { AreLinked (listed entries.old) }
     requires scope { at.scope ≤ length (listed entries.old) }
-    requires small { at.bound + at.left ≤ 1000000 }
+    requires small { at.bound + at.left ≤ most_named }
     ensures kept { OnOk result (listed entries.new ≡ listed entries.old) }
     ensures same { Gives at.room at.left result (kept_part (settled_primes at.primes) place (scope_at (listed entries.old) at.scope) at.bound tree.now) }
 {
@@ -317,7 +317,7 @@ pub(super) fn changed_subscript<'a>(
 ) -> Result<Expanded, Failure>
     requires linked { AreLinked (listed entries.old) }
     requires scope { at.scope ≤ length (listed entries.old) }
-    requires small { at.bound + at.left ≤ 1000000 }
+    requires small { at.bound + at.left ≤ most_named }
     ensures kept { OnOk result (listed entries.new ≡ listed entries.old) }
     ensures same { Gives at.room at.left result (changed_in at.primes place (scope_at (listed entries.old) at.scope) at.bound tree.now) }
 {

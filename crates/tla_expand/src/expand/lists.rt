@@ -5,7 +5,7 @@ ghost use Rattle.tla_core.specs.Expr as expr;
 ghost use Rattle.tla_expand.specs.Maybe.{each_of};
 ghost use Rattle.tla_expand.specs.Lists.{exprs};
 ghost use Rattle.tla_expand.specs.Scopes.{AreLinked, scope_at};
-ghost use Rattle.tla_expand.specs.Private.Gives.{part_in, key_in, arm_in, field_in, made, Gives, GivesMany, GivesArms, GivesFields};
+ghost use Rattle.tla_expand.specs.Private.Gives.{part_in, key_in, arm_in, field_in, made, Gives, GivesMany, GivesArms, GivesFields, most_named};
 ghost use Rattle.tla_expand.specs.Listed.{listed};
 
 use crate::builders::{place_of, text_of, tuple};
@@ -29,7 +29,7 @@ pub(super) fn each<'a>(
 ) -> Result<Many, Failure>
     requires linked { AreLinked (listed entries.old) }
     requires scope { at.scope ≤ length (listed entries.old) }
-    requires small { at.bound + at.left ≤ 1000000 }
+    requires small { at.bound + at.left ≤ most_named }
     ensures kept { OnOk result (listed entries.new ≡ listed entries.old) }
     ensures same { GivesMany at.room at.left result (each_of (part_in at.primes (scope_at (listed entries.old) at.scope) at.bound) trees.now) }
 {
@@ -54,7 +54,7 @@ pub(super) fn key<'a>(
 ) -> Result<Expanded, Failure>
     requires linked { AreLinked (listed entries.old) }
     requires scope { at.scope ≤ length (listed entries.old) }
-    requires small { at.bound + at.left ≤ 1000000 }
+    requires small { at.bound + at.left ≤ most_named }
     ensures kept { OnOk result (listed entries.new ≡ listed entries.old) }
     ensures same { Gives at.room at.left result (key_in at.primes (scope_at (listed entries.old) at.scope) at.bound items.now) }
 {
@@ -79,7 +79,7 @@ fn tuple_of<'a>(
 ) -> Result<Expanded, Failure>
     requires linked { AreLinked (listed entries.old) }
     requires scope { at.scope ≤ length (listed entries.old) }
-    requires small { at.bound + at.left ≤ 1000000 }
+    requires small { at.bound + at.left ≤ most_named }
     ensures kept { OnOk result (listed entries.new ≡ listed entries.old) }
     ensures same { Gives at.room at.left result (made (λ xs. expr.tuple place (exprs xs)) (each_of (part_in at.primes (scope_at (listed entries.old) at.scope) at.bound) items.now)) }
 {
@@ -111,7 +111,7 @@ pub(super) fn arms_of<'a>(
 ) -> Result<Arms, Failure>
     requires linked { AreLinked (listed entries.old) }
     requires scope { at.scope ≤ length (listed entries.old) }
-    requires small { at.bound + at.left ≤ 1000000 }
+    requires small { at.bound + at.left ≤ most_named }
     ensures kept { OnOk result (listed entries.new ≡ listed entries.old) }
     ensures same { GivesArms at.room at.left result (each_of (arm_in at.primes (scope_at (listed entries.old) at.scope) at.bound) arms.now) }
 {
@@ -137,7 +137,7 @@ pub(super) fn named_parts<'a>(
 ) -> Result<Fields, Failure>
     requires linked { AreLinked (listed entries.old) }
     requires scope { at.scope ≤ length (listed entries.old) }
-    requires small { at.bound + at.left ≤ 1000000 }
+    requires small { at.bound + at.left ≤ most_named }
     ensures kept { OnOk result (listed entries.new ≡ listed entries.old) }
     ensures same { GivesFields at.room at.left result (each_of (field_in at.primes (scope_at (listed entries.old) at.scope) at.bound) fields.now) }
 {

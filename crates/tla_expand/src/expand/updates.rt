@@ -7,7 +7,7 @@ ghost use Rattle.tla_expand.specs.Places as places;
 ghost use Rattle.tla_expand.specs.Maybe.{each_of};
 ghost use Rattle.tla_expand.specs.Lists.{updates_of};
 ghost use Rattle.tla_expand.specs.Scopes.{AreLinked, scope_at};
-ghost use Rattle.tla_expand.specs.Private.Gives.{both, made, part_in, step_in, update_in, value_in, Gives, GivesMany, GivesChange, GivesChanges};
+ghost use Rattle.tla_expand.specs.Private.Gives.{both, made, part_in, step_in, update_in, value_in, Gives, GivesMany, GivesChange, GivesChanges, most_named};
 ghost use Rattle.tla_expand.specs.Listed.{listed};
 
 use crate::arena::{Entry, What, enter};
@@ -36,7 +36,7 @@ pub(super) fn except_node<'a>(
 ) -> Result<Expanded, Failure>
     requires linked { AreLinked (listed entries.old) }
     requires scope { at.scope ≤ length (listed entries.old) }
-    requires small { at.bound + at.left < 1000000 }
+    requires small { at.bound + at.left < most_named }
     ensures kept { OnOk result (listed entries.new ≡ listed entries.old) }
     ensures same { Gives (at.room + 1) (at.left + 1) result (made (λ xs. expr.except place xs.0 (updates_of xs.1)) (both (part_in at.primes (scope_at (listed entries.old) at.scope) at.bound function.now) (each_of (update_in at.primes (scope_at (listed entries.old) at.scope) at.bound) updates.now))) }
 {
@@ -61,7 +61,7 @@ fn changes<'a>(
 ) -> Result<Changes, Failure>
     requires linked { AreLinked (listed entries.old) }
     requires scope { at.scope ≤ length (listed entries.old) }
-    requires small { at.bound + at.left < 1000000 }
+    requires small { at.bound + at.left < most_named }
     ensures kept { OnOk result (listed entries.new ≡ listed entries.old) }
     ensures same { GivesChanges at.room at.left result (each_of (update_in at.primes (scope_at (listed entries.old) at.scope) at.bound) updates.now) }
 {
@@ -89,7 +89,7 @@ fn change<'a>(
 ) -> Result<Change, Failure>
     requires linked { AreLinked (listed entries.old) }
     requires scope { at.scope ≤ length (listed entries.old) }
-    requires small { at.bound + at.left < 1000000 }
+    requires small { at.bound + at.left < most_named }
     ensures kept { OnOk result (listed entries.new ≡ listed entries.old) }
     ensures same { GivesChange at.room at.left result (update_in at.primes (scope_at (listed entries.old) at.scope) at.bound update.now) }
 {
@@ -113,7 +113,7 @@ fn new_value<'a>(
 ) -> Result<Expanded, Failure>
     requires linked { AreLinked (listed entries.old) }
     requires scope { at.scope ≤ length (listed entries.old) }
-    requires small { at.bound + at.left < 1000000 }
+    requires small { at.bound + at.left < most_named }
     ensures kept { OnOk result (listed entries.new ≡ listed entries.old) }
     ensures same { Gives at.room at.left result (value_in at.primes (scope_at (listed entries.old) at.scope) at.bound value.now) }
 {
@@ -145,7 +145,7 @@ fn path_of<'a>(
 ) -> Result<Many, Failure>
     requires linked { AreLinked (listed entries.old) }
     requires scope { at.scope ≤ length (listed entries.old) }
-    requires small { at.bound + at.left ≤ 1000000 }
+    requires small { at.bound + at.left ≤ most_named }
     ensures kept { OnOk result (listed entries.new ≡ listed entries.old) }
     ensures same { GivesMany at.room at.left result (each_of (step_in at.primes (scope_at (listed entries.old) at.scope) at.bound) keys.now) }
 {
@@ -170,7 +170,7 @@ fn step_of<'a>(
 ) -> Result<Expanded, Failure>
     requires linked { AreLinked (listed entries.old) }
     requires scope { at.scope ≤ length (listed entries.old) }
-    requires small { at.bound + at.left ≤ 1000000 }
+    requires small { at.bound + at.left ≤ most_named }
     ensures kept { OnOk result (listed entries.new ≡ listed entries.old) }
     ensures same { Gives at.room at.left result (step_in at.primes (scope_at (listed entries.old) at.scope) at.bound step.now) }
 {

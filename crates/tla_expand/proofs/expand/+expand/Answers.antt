@@ -230,8 +230,8 @@ lists::tuple_of-returns-clause-same t c =
     (many_larger manies.Tuple c.args.place) c.in_ok-many.ensures.same c.tuple.ensures in
     rw (l.0, l.1) at g
 
-pub kept::kept_one-returns-then-at-eq0-clause-same : goal.kept::kept_one-returns-then-at-eq0-clause-same
-kept::kept_one-returns-then-at-eq0-clause-same t c =
+pub unchanged::kept_one-returns-then-at-eq0-clause-same : goal.unchanged::kept_one-returns-then-at-eq0-clause-same
+unchanged::kept_one-returns-then-at-eq0-clause-same t c =
     no_room (kept_part c.args.at.primes c.args.place (scope_at (listed c.args.entries.now) c.args.at.scope) c.args.at.bound c.args.tree.now) c.args.at.room c.args.at.left c.if-at-eq0.true
 
 pub levels::node_behind-returns-in_err-look_at_form-clause-same : goal.levels::node_behind-returns-in_err-look_at_form-clause-same
@@ -306,16 +306,16 @@ pub levels::kept_subscript-returns-then-at-eq0-clause-same : goal.levels::kept_s
 levels::kept_subscript-returns-then-at-eq0-clause-same t c =
     no_room (kept_part (settled_primes c.args.at.primes) c.args.place (scope_at (listed c.args.entries.now) c.args.at.scope) c.args.at.bound c.args.tree.now) c.args.at.room c.args.at.left c.if-at-eq0.true
 
-pub kept::kept_each-returns-in_err-part-clause-same : goal.kept::kept_each-returns-in_err-part-clause-same
-kept::kept_each-returns-in_err-part-clause-same t c =
+pub unchanged::kept_each-returns-in_err-part-clause-same : goal.unchanged::kept_each-returns-in_err-part-clause-same
+unchanged::kept_each-returns-in_err-part-clause-same t c =
     let r = err_from_is_err_and c.from_residual.result c.from_residual.ensures.1 in
     let f = rw c.loop-i.invariant.kept at c.in_err-part.ensures.same in
     rw (r.1, r.2) (part_fails (kept_part c.args.at.primes c.args.place (scope_at (listed c.args.entries.now) c.args.at.scope) c.args.at.bound) c.args.trees.now nodes depth c.in_err-part.field-0.0
     (map expr_of c.loop-i.parts.items) c.loop-i.i c.index-trees-i.result c.args.at.room c.args.at.left c.loop-i.left
     c.loop-i.invariant.so_far (omega arith) c.index-trees-i.is c.loop-i.invariant.left f)
 
-pub kept::kept_each-loop-i-preserved : goal.kept::kept_each-loop-i-preserved
-kept::kept_each-loop-i-preserved t c =
+pub unchanged::kept_each-loop-i-preserved : goal.unchanged::kept_each-loop-i-preserved
+unchanged::kept_each-loop-i-preserved t c =
     let f = rw c.loop-i.invariant.kept at c.in_ok-part.ensures.same in
     let old = map expr_of c.loop-i.parts.items in
     let x = expr_of c.in_ok-part.part.core in
@@ -329,16 +329,16 @@ kept::kept_each-loop-i-preserved t c =
       depth = highest_more depth old (map expr_of c.push.new.items.items) x c.args.at.room p c.loop-i.invariant.depth f.2;
     }
 
-pub kept::kept_each-returns-clause-same : goal.kept::kept_each-returns-clause-same
-kept::kept_each-returns-clause-same t c =
+pub unchanged::kept_each-returns-clause-same : goal.unchanged::kept_each-returns-clause-same
+unchanged::kept_each-returns-clause-same t c =
     let z : drop c.loop-i.i c.args.trees.now ≡ [] = drop_all c.loop-i.i c.args.trees.now (omega arith) in (
       all_done (kept_part c.args.at.primes c.args.place (scope_at (listed c.args.entries.now) c.args.at.scope) c.args.at.bound) c.args.trees.now (map expr_of c.loop-i.parts.items) c.loop-i.i z c.loop-i.invariant.so_far,
       c.loop-i.invariant.left,
       c.loop-i.invariant.depth,
     )
 
-pub kept::kept-returns-in_err-two-in-None-clause-same : goal.kept::kept-returns-in_err-two-in-None-clause-same
-kept::kept-returns-in_err-two-in-None-clause-same t c =
+pub unchanged::kept-returns-in_err-two-in-None-clause-same : goal.unchanged::kept-returns-in_err-two-in-None-clause-same
+unchanged::kept-returns-in_err-two-in-None-clause-same t c =
     let old = listed c.args.entries.now in
     let m : c.len-mark.result ≡ length old = search rules in
     let p : listed c.truncate-in-None.new.self ≡ old = cut_back old (listed c.find_head.new.entries) (listed c.truncate-in-None.new.self) c.len-mark.result c.in_ok-found.ensures.extends m c.truncate-in-None.ensures.items in
@@ -348,8 +348,8 @@ kept::kept-returns-in_err-two-in-None-clause-same t c =
     let f = rw p at c.in_err-two-in-None.ensures.same in
     rw (r.1, r.2) (equal_fails o c.args.at.primes c.one_more-more.result c.args.place c.in_err-two-in-None.field-0.0 c.args.at.room c.args.at.left h c.one_more-more.ensures f)
 
-pub kept::kept-returns-in_ok-core-in-None-clause-same : goal.kept::kept-returns-in_ok-core-in-None-clause-same
-kept::kept-returns-in_ok-core-in-None-clause-same t c =
+pub unchanged::kept-returns-in_ok-core-in-None-clause-same : goal.unchanged::kept-returns-in_ok-core-in-None-clause-same
+unchanged::kept-returns-in_ok-core-in-None-clause-same t c =
     let old = listed c.args.entries.now in
     let m : c.len-mark.result ≡ length old = search rules in
     let p : listed c.truncate-in-None.new.self ≡ old = cut_back old (listed c.find_head.new.entries) (listed c.truncate-in-None.new.self) c.len-mark.result c.in_ok-found.ensures.extends m c.truncate-in-None.ensures.items in
@@ -359,15 +359,15 @@ kept::kept-returns-in_ok-core-in-None-clause-same t c =
     equal_gives o c.args.at.primes c.one_more-more.result c.args.place (parts_of c.in_ok-two-in-None.two) (expr_of c.in_ok-core-in-None.core)
     c.in_ok-two-in-None.two.left c.args.at.room c.args.at.left h c.one_more-more.ensures g c.in_ok-core-in-None.ensures.ok
 
-pub kept::kept-returns-in_err-many-in-Some-clause-same : goal.kept::kept-returns-in_err-many-in-Some-clause-same
-kept::kept-returns-in_err-many-in-Some-clause-same t c =
+pub unchanged::kept-returns-in_err-many-in-Some-clause-same : goal.unchanged::kept-returns-in_err-many-in-Some-clause-same
+unchanged::kept-returns-in_err-many-in-Some-clause-same t c =
     let r = err_from_is_err_and c.from_residual-in_err-many-in-Some.result c.from_residual-in_err-many-in-Some.ensures.1 in
     rw (r.1, r.2) (tuple_fails (part_in c.args.at.primes (scope_at (listed c.args.entries.now) c.args.at.scope) c.args.at.bound c.args.tree.now) c.in_ok-found.found.form c.in-Some.items
     (scope_at (listed c.find_head.new.entries) c.in_ok-found.found.scope) c.args.at.bound c.in_ok-found.found.primes c.args.place c.in_err-many-in-Some.field-0.0 c.args.at.room c.args.at.left
     (c.in_ok-found.ensures.same c.args.at.bound) (sym c.tuple_items.ensures ∙ c.in-Some.is) c.in_err-many-in-Some.ensures.same)
 
-pub kept::kept-returns-in_ok-many-in-Some-clause-same : goal.kept::kept-returns-in_ok-many-in-Some-clause-same
-kept::kept-returns-in_ok-many-in-Some-clause-same t c =
+pub unchanged::kept-returns-in_ok-many-in-Some-clause-same : goal.unchanged::kept-returns-in_ok-many-in-Some-clause-same
+unchanged::kept-returns-in_ok-many-in-Some-clause-same t c =
     tuple_gives (part_in c.args.at.primes (scope_at (listed c.args.entries.now) c.args.at.scope) c.args.at.bound c.args.tree.now) c.in_ok-found.found.form c.in-Some.items
     (scope_at (listed c.find_head.new.entries) c.in_ok-found.found.scope) c.args.at.bound c.in_ok-found.found.primes c.args.place (map expr_of c.in_ok-many-in-Some.many.parts.items) (expr_of c.kept_core.result) c.in_ok-many-in-Some.many.left c.args.at.room c.args.at.left
     (c.in_ok-found.ensures.same c.args.at.bound) (sym c.tuple_items.ensures ∙ c.in-Some.is) c.in_ok-many-in-Some.ensures.same c.kept_core.ensures
@@ -658,16 +658,16 @@ updates::change-returns-clause-same t c =
     let h = rw c.in_ok-path.ensures.kept at c.in_ok-value.ensures.same in
     two_give (total nodes) (highest depth) nodes depth a b (map expr_of c.in_ok-path.path.parts.items) (expr_of c.in_ok-value.value.core) c.args.at.room c.args.at.left c.in_ok-path.path.left c.in_ok-value.value.left g h
 
-pub kept::changed-returns-in_err-two-clause-same : goal.kept::changed-returns-in_err-two-clause-same
-kept::changed-returns-in_err-two-clause-same t c =
+pub unchanged::changed-returns-in_err-two-clause-same : goal.unchanged::changed-returns-in_err-two-clause-same
+unchanged::changed-returns-in_err-two-clause-same t c =
     let r = err_from_is_err_and c.from_residual.result c.from_residual.ensures.1 in
     let o = both (part_in (one_more c.args.at.primes) (scope_at (listed c.args.entries.now) c.args.at.scope) c.args.at.bound c.args.tree.now) (part_in c.args.at.primes (scope_at (listed c.args.entries.now) c.args.at.scope) c.args.at.bound c.args.tree.now) in
     let f = rw c.one_more-more.ensures at c.in_err-two.ensures.same in
     rw (r.1, r.2) (same_limits c.in_err-two.field-0.0 (o >>= λ xy. Some (two (twos.Binary Unequal) c.args.place xy.0 xy.1)) c.args.at.room c.args.at.left c.if-at-eq0.false c.if-at-eq0-2.false
     (node_fails (sum_of nodes nodes) (larger_of depth depth) (λ (xy : Expr × Expr). two (twos.Binary Unequal) c.args.place xy.0 xy.1) c.in_err-two.field-0.0 o (c.args.at.room - 1) (c.args.at.left - 1) (two_larger (twos.Binary Unequal) c.args.place) f))
 
-pub kept::changed-returns-clause-same : goal.kept::changed-returns-clause-same
-kept::changed-returns-clause-same t c =
+pub unchanged::changed-returns-clause-same : goal.unchanged::changed-returns-clause-same
+unchanged::changed-returns-clause-same t c =
     let o = both (part_in (one_more c.args.at.primes) (scope_at (listed c.args.entries.now) c.args.at.scope) c.args.at.bound c.args.tree.now) (part_in c.args.at.primes (scope_at (listed c.args.entries.now) c.args.at.scope) c.args.at.bound c.args.tree.now) in
     let l = limits_are c.args.at.room c.args.at.left c.if-at-eq0.false c.if-at-eq0-2.false in
     let f = rw c.one_more-more.ensures at c.in_ok-two.ensures.same in
@@ -763,8 +763,8 @@ binding::gather_node-returns-clause-same t c =
     c.args.at.room c.args.at.left c.in_ok-sets.sets.left c.in_ok-body.body.left (map expr_of c.in_ok-sets.sets.parts.items) y (expr_of c.in_ok-core.core)
     c.in_ok-sets.ensures.same inner c.in_ok-core.ensures.ok
 
-pub kept::angle_node-returns-in_err-changed-clause-same : goal.kept::angle_node-returns-in_err-changed-clause-same
-kept::angle_node-returns-in_err-changed-clause-same t c =
+pub unchanged::angle_node-returns-in_err-changed-clause-same : goal.unchanged::angle_node-returns-in_err-changed-clause-same
+unchanged::angle_node-returns-in_err-changed-clause-same t c =
     let r = err_from_is_err_and c.from_residual-in_err-changed.result c.from_residual-in_err-changed.ensures.1 in
     let a = part_in c.args.at.primes (scope_at (listed c.args.entries.now) c.args.at.scope) c.args.at.bound c.args.action.now in
     let b = changed_in c.args.at.primes c.args.place_v (scope_at (listed c.args.entries.now) c.args.at.scope) c.args.at.bound c.args.v.now in
@@ -773,8 +773,8 @@ kept::angle_node-returns-in_err-changed-clause-same t c =
     rw (r.1, r.2) (node_fails (sum_of nodes nodes) (larger_of depth depth) (λ (xy : Expr × Expr). two twos.And c.args.place xy.0 xy.1) c.in_err-changed.field-0.0 (both a b) c.args.at.room c.args.at.left (two_larger twos.And c.args.place)
     (second_fails nodes depth nodes depth c.in_err-changed.field-0.0 a b (expr_of c.in_ok-action.action.core) c.args.at.room c.args.at.left c.in_ok-action.action.left g.0 g.1 f))
 
-pub kept::square_node-returns-in_err-kept-clause-same : goal.kept::square_node-returns-in_err-kept-clause-same
-kept::square_node-returns-in_err-kept-clause-same t c =
+pub unchanged::square_node-returns-in_err-kept-clause-same : goal.unchanged::square_node-returns-in_err-kept-clause-same
+unchanged::square_node-returns-in_err-kept-clause-same t c =
     let r = err_from_is_err_and c.from_residual-in_err-kept.result c.from_residual-in_err-kept.ensures.1 in
     let a = part_in c.args.at.primes (scope_at (listed c.args.entries.now) c.args.at.scope) c.args.at.bound c.args.action.now in
     let b = kept_part (settled_primes c.args.at.primes) c.args.place_v (scope_at (listed c.args.entries.now) c.args.at.scope) c.args.at.bound c.args.v.now in

@@ -80,14 +80,14 @@ decreases-lists::tuple_of l = 12 * l.at.room + 1
 abbrev pub decreases-lists::arms_of : goal.decreases-lists::arms_of
 decreases-lists::arms_of l = 12 * l.at.room + 2
 
-abbrev pub decreases-kept::kept : goal.decreases-kept::kept
-decreases-kept::kept l = 12 * l.at.room + 3
+abbrev pub decreases-unchanged::kept : goal.decreases-unchanged::kept
+decreases-unchanged::kept l = 12 * l.at.room + 3
 
-abbrev pub decreases-kept::kept_each : goal.decreases-kept::kept_each
-decreases-kept::kept_each l = 12 * l.at.room + 1
+abbrev pub decreases-unchanged::kept_each : goal.decreases-unchanged::kept_each
+decreases-unchanged::kept_each l = 12 * l.at.room + 1
 
-abbrev pub decreases-kept::kept_one : goal.decreases-kept::kept_one
-decreases-kept::kept_one l = 12 * l.at.room
+abbrev pub decreases-unchanged::kept_one : goal.decreases-unchanged::kept_one
+decreases-unchanged::kept_one l = 12 * l.at.room
 
 abbrev pub decreases-binding::bound_several : goal.decreases-binding::bound_several
 decreases-binding::bound_several l = 12 * l.at.room + 5
@@ -128,14 +128,14 @@ decreases-binding::sets_of l = 12 * l.at.room + 2
 abbrev pub decreases-binding::set_for : goal.decreases-binding::set_for
 decreases-binding::set_for l = 12 * l.at.room + 1
 
-abbrev pub decreases-kept::changed : goal.decreases-kept::changed
-decreases-kept::changed l = 12 * l.at.room
+abbrev pub decreases-unchanged::changed : goal.decreases-unchanged::changed
+decreases-unchanged::changed l = 12 * l.at.room
 
-abbrev pub decreases-kept::square_node : goal.decreases-kept::square_node
-decreases-kept::square_node l = 12 * l.at.room + 4
+abbrev pub decreases-unchanged::square_node : goal.decreases-unchanged::square_node
+decreases-unchanged::square_node l = 12 * l.at.room + 4
 
-abbrev pub decreases-kept::angle_node : goal.decreases-kept::angle_node
-decreases-kept::angle_node l = 12 * l.at.room + 4
+abbrev pub decreases-unchanged::angle_node : goal.decreases-unchanged::angle_node
+decreases-unchanged::angle_node l = 12 * l.at.room + 4
 
 abbrev pub decreases-updates::except_node : goal.decreases-updates::except_node
 decreases-updates::except_node l = 12 * l.at.room + 7
@@ -171,8 +171,8 @@ invariant-lists::arms_of-loop-i l = record {
   depth : highest (larger_of depth depth) (map exprs_of_arm l.made.items) ≤ l.at.room;
 }
 
-abbrev pub invariant-kept::kept_each-loop-i : goal.invariant-kept::kept_each-loop-i
-invariant-kept::kept_each-loop-i l = record {
+abbrev pub invariant-unchanged::kept_each-loop-i : goal.invariant-unchanged::kept_each-loop-i
+invariant-unchanged::kept_each-loop-i l = record {
   kept : listed l.entries ≡ listed l.fn.entries;
   so_far : so_far (kept_part l.at.primes l.place (scope_at (listed l.fn.entries) l.at.scope) l.at.bound) l.trees (map expr_of l.parts.items) l.i;
   left : l.left + total nodes (map expr_of l.parts.items) ≡ l.at.left;

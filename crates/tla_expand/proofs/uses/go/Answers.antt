@@ -8,7 +8,7 @@ use Rattle.tla_expand.specs.Private.Gives.{step_gives, Explains}
 use Rattle.tla_expand.specs.Primes.{with_primes}
 use Rattle.tla_expand.proofs.Steps.{expand_call, shown_once}
 use Rattle.tla_expand.specs.Listed.{listed}
-use Rattle.tla_expand.proofs.heads.go.Goals as goal
+use Rattle.tla_expand.proofs.uses.go.Goals as goal
 
 pub returns-in-Call-clause-same : goal.returns-in-Call-clause-same
 returns-in-Call-clause-same c =

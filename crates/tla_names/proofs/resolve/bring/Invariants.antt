@@ -1,7 +1,7 @@
 use Rattle.std.proofs.Common.{◌≡◌, ◌++◌, length}
 use Rattle.tla_config.specs.Names.{words}
 use Rattle.tla_names.specs.Known.{brought}
-use Rattle.tla_names.proofs.known.bring.Given as goal
+use Rattle.tla_names.proofs.resolve.bring.Given as goal
 
 abbrev pub invariant-loop-left : goal.invariant-loop-left
 invariant-loop-left l = record {

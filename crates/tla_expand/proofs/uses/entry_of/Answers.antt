@@ -1,7 +1,7 @@
 use Rattle.std.proofs.Common.{◌≡◌, map, ap, refl}
 use Rattle.tla_tree.specs.Tree as t
 use Rattle.tla_tree.specs.View.{view, group_view, definition_view, bound_views_items}
-use Rattle.tla_expand.proofs.heads.entry_of.Goals as goal
+use Rattle.tla_expand.proofs.uses.entry_of.Goals as goal
 
 pub returns-in-Operator-clause-scope : goal.returns-in-Operator-clause-scope
 returns-in-Operator-clause-scope c =

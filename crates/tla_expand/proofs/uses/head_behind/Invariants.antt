@@ -4,7 +4,7 @@ use Rattle.tla_expand.specs.Expand.{expand}
 use Rattle.tla_expand.specs.Primes.{with_primes}
 use Rattle.tla_tree.specs.View.{view}
 use Rattle.tla_expand.specs.Listed.{listed}
-use Rattle.tla_expand.proofs.heads.head_behind.Given as goal
+use Rattle.tla_expand.proofs.uses.head_behind.Given as goal
 
 abbrev pub invariant-loop-turn : goal.invariant-loop-turn
 invariant-loop-turn l = record {

@@ -11,7 +11,7 @@ use Rattle.tla_tree.specs.declared.tree.Binder.{size-Binder}
 use Rattle.tla_tree.specs.declared.tree.Field.{size-Field}
 use Rattle.tla_tree.specs.declared.tree.Update.{size-Update}
 use Rattle.tla_tree.specs.declared.tree.Key.{size-Key}
-use Rattle.tla_names.proofs.known.+known.Given as goal
+use Rattle.tla_names.proofs.resolve.+known.Given as goal
 
 abbrev pub invariant-each-loop-left : goal.invariant-each-loop-left
 invariant-each-loop-left l = record {

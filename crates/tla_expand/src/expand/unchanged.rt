@@ -6,7 +6,7 @@ ghost use Rattle.tla_expand.specs.Maybe.{each_of};
 ghost use Rattle.tla_expand.specs.Primes.{settled_primes};
 ghost use Rattle.tla_expand.specs.Scopes.{AreLinked, scope_at};
 ghost use Rattle.tla_expand.specs.Private.Forms.{tuple_parts};
-ghost use Rattle.tla_expand.specs.Private.Gives.{kept_part, changed_in, part_in, both, made, Gives, GivesMany};
+ghost use Rattle.tla_expand.specs.Private.Gives.{kept_part, changed_in, part_in, both, made, Gives, GivesMany, most_named};
 ghost use Rattle.tla_expand.specs.Listed.{listed};
 
 use crate::builders::{kept_core, two_core};
@@ -15,10 +15,10 @@ use crate::expand::levels::{changed_subscript, kept_parts, kept_subscript, told_
 use crate::expand::{Setting, expand, two_parts};
 use crate::expanded::{Expanded, Many as Parts};
 use crate::failure::Failure;
-use crate::heads::find_head;
 use crate::nodes::{Form, Many, Two};
 use crate::parts::{boxed, push};
 use crate::primes::{Primes, one_more};
+use crate::uses::find_head;
 use std::alloc::Global;
 use tla_core::{Binary, Place};
 use tla_tree::Expr;
@@ -54,7 +54,7 @@ pub(super) fn kept<'a>(
 ) -> Result<Expanded, Failure>
     requires linked { AreLinked (listed entries.old) }
     requires scope { at.scope ≤ length (listed entries.old) }
-    requires small { at.bound + at.left < 1000000 }
+    requires small { at.bound + at.left < most_named }
     ensures kept { OnOk result (listed entries.new ≡ listed entries.old) }
     ensures same { Gives (at.room + 1) (at.left + 1) result (kept_part at.primes place (scope_at (listed entries.old) at.scope) at.bound tree.now) }
 {
@@ -99,7 +99,7 @@ fn kept_each<'a>(
 ) -> Result<Parts, Failure>
     requires linked { AreLinked (listed entries.old) }
     requires scope { at.scope ≤ length (listed entries.old) }
-    requires small { at.bound + at.left ≤ 1000000 }
+    requires small { at.bound + at.left ≤ most_named }
     ensures kept { OnOk result (listed entries.new ≡ listed entries.old) }
     ensures same { GivesMany at.room at.left result (each_of (kept_part at.primes place (scope_at (listed entries.old) at.scope) at.bound) trees.now) }
 {
@@ -125,7 +125,7 @@ pub(super) fn kept_one<'a>(
 ) -> Result<Expanded, Failure>
     requires linked { AreLinked (listed entries.old) }
     requires scope { at.scope ≤ length (listed entries.old) }
-    requires small { at.bound + at.left ≤ 1000000 }
+    requires small { at.bound + at.left ≤ most_named }
     ensures kept { OnOk result (listed entries.new ≡ listed entries.old) }
     ensures same { Gives at.room at.left result (kept_part at.primes place (scope_at (listed entries.old) at.scope) at.bound tree.now) }
 {
@@ -154,7 +154,7 @@ pub(super) fn changed<'a>(
 ) -> Result<Expanded, Failure>
     requires linked { AreLinked (listed entries.old) }
     requires scope { at.scope ≤ length (listed entries.old) }
-    requires small { at.bound + at.left ≤ 1000000 }
+    requires small { at.bound + at.left ≤ most_named }
     ensures kept { OnOk result (listed entries.new ≡ listed entries.old) }
     ensures same { Gives at.room at.left result (changed_in at.primes place (scope_at (listed entries.old) at.scope) at.bound tree.now) }
 {
@@ -198,7 +198,7 @@ pub(super) fn square_node<'a>(
 ) -> Result<Expanded, Failure>
     requires linked { AreLinked (listed entries.old) }
     requires scope { at.scope ≤ length (listed entries.old) }
-    requires small { at.bound + at.left ≤ 1000000 }
+    requires small { at.bound + at.left ≤ most_named }
     ensures kept { OnOk result (listed entries.new ≡ listed entries.old) }
     ensures same { Gives (at.room + 1) (at.left + 1) result (made (λ xy. nodes.two Two.Or place xy.0 xy.1) (both (part_in at.primes (scope_at (listed entries.old) at.scope) at.bound action.now) (kept_part (settled_primes at.primes) place_v (scope_at (listed entries.old) at.scope) at.bound v.now))) }
 {
@@ -227,7 +227,7 @@ pub(super) fn angle_node<'a>(
 ) -> Result<Expanded, Failure>
     requires linked { AreLinked (listed entries.old) }
     requires scope { at.scope ≤ length (listed entries.old) }
-    requires small { at.bound + at.left ≤ 1000000 }
+    requires small { at.bound + at.left ≤ most_named }
     ensures kept { OnOk result (listed entries.new ≡ listed entries.old) }
     ensures same { Gives (at.room + 1) (at.left + 1) result (made (λ xy. nodes.two Two.And place xy.0 xy.1) (both (part_in at.primes (scope_at (listed entries.old) at.scope) at.bound action.now) (changed_in at.primes place_v (scope_at (listed entries.old) at.scope) at.bound v.now))) }
 {

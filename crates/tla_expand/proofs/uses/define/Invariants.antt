@@ -4,7 +4,7 @@ use Rattle.tla_tree.specs.View.{definition_view}
 use Rattle.tla_expand.specs.Scopes.{scope_at, AreLinked, Extends}
 use Rattle.tla_expand.specs.Expand.{definitions_in}
 use Rattle.tla_expand.specs.Listed.{listed}
-use Rattle.tla_expand.proofs.heads.define.Given as goal
+use Rattle.tla_expand.proofs.uses.define.Given as goal
 
 abbrev pub invariant-loop-i : goal.invariant-loop-i
 invariant-loop-i l = record {

@@ -8,7 +8,7 @@ use Rattle.tla_expand.proofs.Links.{below_more}
 use Rattle.tla_expand.proofs.Binds.{extends_more}
 use Rattle.tla_expand.proofs.Steps.{define_more}
 use Rattle.tla_expand.specs.Listed.{listed}
-use Rattle.tla_expand.proofs.heads.define.Goals as goal
+use Rattle.tla_expand.proofs.uses.define.Goals as goal
 
 pub enter-requires-clause-below : goal.enter-requires-clause-below
 enter-requires-clause-below c =

@@ -8,7 +8,7 @@ use Rattle.tla_tree.specs.View.{view}
 use Rattle.tla_expand.proofs.Binds.{extends_trans, extends_length}
 use Rattle.tla_expand.proofs.Steps.{explains_by}
 use Rattle.tla_expand.specs.Listed.{listed}
-use Rattle.tla_expand.proofs.heads.head_behind.Goals as goal
+use Rattle.tla_expand.proofs.uses.head_behind.Goals as goal
 
 pub returns-in_err-head-clause-err : goal.returns-in_err-head-clause-err
 returns-in_err-head-clause-err c =

@@ -2,7 +2,7 @@ use Rattle.tla_expand.specs.Scopes.{scope_at}
 use Rattle.tla_expand.proofs.Binds.{mismatch}
 use Rattle.tla_expand.proofs.GivenBack.{use_gives, use_gives_none}
 use Rattle.tla_expand.specs.Listed.{listed}
-use Rattle.tla_expand.proofs.heads.use_of.Goals as goal
+use Rattle.tla_expand.proofs.uses.use_of.Goals as goal
 
 pub returns-then-parameters-arguments-clause-err :
     goal.returns-then-parameters-arguments-clause-err

@@ -5,7 +5,7 @@ use Rattle.tla_names.specs.Maybe.{or_else}
 use Rattle.tla_names.specs.Known.{misused, misused_key, misused_fields, misused_updates, misused_each, misused_arms, misused_sets, misused_definition, misused_definitions, used, new_name, count}
 use Rattle.tla_names.specs.Scope.{plain, bound_names, signatures}
 use Rattle.tla_names.proofs.Stacks.{count_trees, or_else_none}
-use Rattle.tla_names.proofs.known.+known.Goals as goal
+use Rattle.tla_names.proofs.resolve.+known.Goals as goal
 
 pub expression-returns-in-Listing-clause-first : goal.expression-returns-in-Listing-clause-first
 expression-returns-in-Listing-clause-first t c =

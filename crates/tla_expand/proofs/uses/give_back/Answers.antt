@@ -1,7 +1,7 @@
 use Rattle.std.proofs.Common.{arith, length}
 use Rattle.tla_expand.proofs.Cuts.{linked_cut, length_cut, scope_cut, extends_cut}
 use Rattle.tla_expand.specs.Listed.{listed}
-use Rattle.tla_expand.proofs.heads.give_back.Goals as goal
+use Rattle.tla_expand.proofs.uses.give_back.Goals as goal
 
 pub returns-clause-linked : goal.returns-clause-linked
 returns-clause-linked c = linked_cut (listed c.args.entries.now) (listed c.truncate.new.self) c.larger-end.result c.truncate.ensures.items c.requires.linked
