@@ -74,15 +74,27 @@ fn put_answer<W: Write>(out: &mut W, answer: &Answer) -> io::Result<()> {
     }
 }
 
-/// The code of a refusal, and its place, if it has one.
+/// Why something is refused, in the words of its code, and its place, if it has one.
 fn put_refusal<W: Write>(out: &mut W, refusal: &Refusal) -> io::Result<()> {
     match refusal {
         Refusal::Value(error) => write!(out, " {error}"),
         Refusal::Search(error) => write!(out, " {error}"),
-        Refusal::Tokens(error) => put_code(out, error.code.name(), core_place(error.place)),
-        Refusal::Module(error) => put_code(out, error.code.name(), core_place(error.place)),
-        Refusal::Definitions(error) => put_code(out, error.code.name(), core_place(error.place)),
-        Refusal::Evaluation(fault) => put_code(out, fault.code.name(), fault.place),
+        Refusal::Tokens(error) => {
+            write!(out, " {:?}", error.code)?;
+            put_place(out, core_place(error.place))
+        }
+        Refusal::Module(error) => {
+            write!(out, " {:?}", error.code)?;
+            put_place(out, core_place(error.place))
+        }
+        Refusal::Definitions(error) => {
+            write!(out, " {:?}", error.code)?;
+            put_place(out, core_place(error.place))
+        }
+        Refusal::Evaluation(fault) => {
+            write!(out, " {}", fault.code)?;
+            put_place(out, fault.place)
+        }
     }
 }
 
@@ -94,8 +106,7 @@ fn core_place(place: Option<tla_lex::Place>) -> Option<Place> {
     }
 }
 
-fn put_code<W: Write>(out: &mut W, code: &str, place: Option<Place>) -> io::Result<()> {
-    write!(out, " {code}")?;
+fn put_place<W: Write>(out: &mut W, place: Option<Place>) -> io::Result<()> {
     match place {
         Some(Place { line, column }) => write!(out, " at line {line}, column {column}"),
         None => Ok(()),

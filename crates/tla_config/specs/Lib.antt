@@ -3,7 +3,6 @@ pub mod Literals
 pub mod Statements
 pub mod Configuration
 pub mod View
-pub mod Codes
 pub mod Refusals
 pub mod Beyond
 pub mod Private

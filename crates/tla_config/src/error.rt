@@ -1,8 +1,5 @@
 //! Refusals of a configuration, and of what it and a module name.
 
-ghost use Rattle.std.specs.Prelude.{◌≡◌};
-ghost use Rattle.tla_config.specs.Codes.{code_name};
-
 use tla_lex::Place;
 use tla_value::Text;
 
@@ -38,30 +35,8 @@ pub enum DefsCode {
     StatementLeftOut,
     /// C11: an expansion or a value beyond the limits.
     ExpansionTooLarge,
-    /// C12: want of memory.
+    /// Want of memory, of which a report tells no code.
     Memory,
-}
-
-impl DefsCode {
-    /// The code in a report, as `C1`.
-    pub fn name(self) -> &'static str
-        ensures { result.now ≡ code_name self }
-    {
-        match self {
-            DefsCode::ConfigurationText => "C1",
-            DefsCode::UnknownName => "C2",
-            DefsCode::DefinedTwice => "C3",
-            DefsCode::ArgumentCount => "C4",
-            DefsCode::Level => "C5",
-            DefsCode::ConstantWithoutValue => "C6",
-            DefsCode::CircularReplacement => "C7",
-            DefsCode::SpecificationForm => "C8",
-            DefsCode::BehaviourCount => "C9",
-            DefsCode::StatementLeftOut => "C10",
-            DefsCode::ExpansionTooLarge => "C11",
-            DefsCode::Memory => "C12",
-        }
-    }
 }
 
 /// A refusal: where, but for want of memory, and the name that it prints, if any.

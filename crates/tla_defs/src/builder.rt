@@ -30,6 +30,7 @@ ghost use Rattle.tla_defs.specs.Private.Specified.{IsOnly};
 
 use crate::behaviour::{Behaviour, named_behaviour};
 use crate::global::global_scope;
+use crate::list::push;
 use crate::meant::{initial_predicate, meaning, next_action};
 use std::alloc::Global;
 use tla_config::{Config, DefsCode, DefsError, Source, Statement};
@@ -106,17 +107,6 @@ fn constraints_named<'a>(
         left = rest;
     }
     Ok(names)
-}
-
-/// Adds an item behind the others. The only error is want of memory.
-fn push<T: Drop>(items: &mut Vec<T>, item: T) -> Result<(), DefsError>
-    ensures ok { OnOk result (items.new.items ≡ items.old.items ++ item ∷ []) }
-    ensures err { IfErr result (λ e. e.code ≡ Memory) }
-{
-    match items.push(item) {
-        Ok(()) => Ok(()),
-        Err(_) => Err(no_memory()),
-    }
 }
 
 /// What was found, in a box.

@@ -12,6 +12,7 @@ ghost use Rattle.tla_defs.specs.Private.Shapes.{conjuncts_by};
 ghost use Rattle.tla_defs.specs.Specification as spec;
 
 use crate::fairness::is_fair;
+use crate::list::push;
 use crate::parts::Parts;
 use crate::table::Definitions;
 use std::alloc::Global;
@@ -25,17 +26,6 @@ use tla_tree::{Bullet, Expr, Infix, Word};
 pub(crate) struct Formula<'a> {
     pub(crate) tree: &'a Expr,
     pub(crate) names: usize,
-}
-
-/// One formula more. The only error is want of memory.
-fn push<'a>(formulas: &mut Vec<Formula<'a>>, formula: Formula<'a>) -> Result<(), DefsError>
-    ensures ok { OnOk result (formulas.new.items ≡ formulas.old.items ++ formula.entry ∷ []) }
-    ensures err { IfErr result (λ e. e.code ≡ Memory) }
-{
-    match formulas.push(formula) {
-        Ok(()) => Ok(()),
-        Err(_) => Err(no_memory()),
-    }
 }
 
 /// Formulas more, of which the first one comes last. The only error is want of memory.

@@ -10,6 +10,7 @@ mod conjuncts;
 mod fairness;
 mod global;
 pub mod laws;
+mod list;
 mod meant;
 mod parts;
 mod specification;

@@ -9,6 +9,7 @@ ghost use Rattle.tla_defs.specs.Private.Seen.{tree_at, seen};
 ghost use Rattle.tla_defs.specs.Specification as spec;
 
 use crate::fairness::is_fair;
+use crate::list::push;
 use crate::table::Definitions;
 use std::alloc::Global;
 use tla_config::{DefsCode, DefsError, Source};
@@ -52,26 +53,6 @@ fn always<'a>(tree: &'a Expr) -> Option<Boxed<'a>>
     }
 }
 
-fn push_step<'a>(steps: &mut Vec<Boxed<'a>>, step: Boxed<'a>) -> Result<(), DefsError>
-    ensures ok { OnOk result (steps.new.items ≡ steps.old.items ++ step.entry ∷ []) }
-    ensures err { IfErr result (λ e. e.code ≡ Memory) }
-{
-    match steps.push(step) {
-        Ok(()) => Ok(()),
-        Err(_) => Err(no_memory()),
-    }
-}
-
-fn push_tree<'a>(trees: &mut Vec<&'a Expr>, tree: &'a Expr) -> Result<(), DefsError>
-    ensures ok { OnOk result (trees.new.items ≡ trees.old.items ++ tree.entry ∷ []) }
-    ensures err { IfErr result (λ e. e.code ≡ Memory) }
-{
-    match trees.push(tree) {
-        Ok(()) => Ok(()),
-        Err(_) => Err(no_memory()),
-    }
-}
-
 impl<'a> Parts<'a> {
     /// No conjunct.
     pub(crate) fn new(alloc: Global) -> Parts<'a>
@@ -96,12 +77,12 @@ impl<'a> Parts<'a> {
         ensures err { IfErr result (λ e. e.code ≡ Memory) }
     {
         if let Some(step) = always(tree) {
-            return push_step(&mut self.steps, step);
+            return push(&mut self.steps, step);
         }
         if is_fair(alloc, definitions, tree)? {
             return Ok(());
         }
-        push_tree(&mut self.initial, tree)
+        push(&mut self.initial, tree)
     }
 
     /// The refusal of two steps, or of more other conjuncts than an expression within the limits has nodes, where

@@ -9,6 +9,7 @@ ghost use Rattle.tla_expand.specs.Expand.{binds_of, expand};
 ghost use Rattle.tla_expand.specs.Private.Binders.{binds_in};
 
 use crate::failure::Failure;
+use crate::parts::push;
 use std::alloc::Global;
 use tla_tree::{Binder, Expr, Pattern, Written};
 
@@ -27,16 +28,6 @@ pub(crate) struct Bind<'a> {
     pub(crate) set: &'a Expr,
 }
 
-fn push_bind<'a>(binds: &mut Vec<Bind<'a>>, bind: Bind<'a>) -> Result<(), Failure>
-    ensures ok { OnOk result (binds.new.items ≡ binds.old.items ++ bind.entry ∷ []) }
-    ensures err { IfErr result (λ e. e ≡ Failure.Memory) }
-{
-    match binds.push(bind) {
-        Ok(()) => Ok(()),
-        Err(_) => Err(Failure::Memory),
-    }
-}
-
 /// Adds elements with these names.
 fn push_each<'a>(
     binds: &mut Vec<Bind<'a>>,
@@ -51,7 +42,7 @@ fn push_each<'a>(
             names: Names::Name(&names[i]),
             set,
         };
-        push_bind(binds, bind)?;
+        push(binds, bind)?;
     }
     Ok(())
 }
@@ -69,7 +60,7 @@ fn push_entry<'a>(
         Pattern::Each(names) => push_each(binds, names.as_slice(), set),
         Pattern::Tuple(names) => {
             let names = Names::Tuple(names.as_slice());
-            push_bind(binds, Bind { names, set })
+            push(binds, Bind { names, set })
         }
     }
 }

@@ -1,4 +1,3 @@
-pub mod Codes
 pub mod Bytes
 pub mod Places
 pub mod Comments

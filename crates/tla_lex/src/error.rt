@@ -1,7 +1,6 @@
 //! Refusals of a text.
 
 ghost use Rattle.std.specs.Prelude.{◌≡◌, Some};
-ghost use Rattle.tla_lex.specs.Codes.{code_name};
 
 use crate::token::Place;
 
@@ -22,26 +21,8 @@ pub enum LexCode {
     NoHeader,
     /// L7: a module without a closing line.
     NoClosingLine,
-    /// L8: want of memory.
+    /// Want of memory, of which a report tells no code.
     NoMemory,
-}
-
-impl LexCode {
-    /// The code in a report, as `L1`.
-    pub fn name(self) -> &'static str
-        ensures { result.now ≡ code_name self }
-    {
-        match self {
-            LexCode::NotUtf8 => "L1",
-            LexCode::Unknown => "L2",
-            LexCode::OpenString => "L3",
-            LexCode::OpenComment => "L4",
-            LexCode::NumberTooLarge => "L5",
-            LexCode::NoHeader => "L6",
-            LexCode::NoClosingLine => "L7",
-            LexCode::NoMemory => "L8",
-        }
-    }
 }
 
 /// A fault of a text, and where it stands: nowhere for want of memory.

@@ -1,4 +1,3 @@
 pub mod Units
-pub mod Codes
 pub mod Parsing
 pub mod Private

@@ -1,8 +1,5 @@
 //! Refusals of a module's tokens.
 
-ghost use Rattle.std.specs.Prelude.{◌≡◌};
-ghost use Rattle.tla_parse.specs.Codes.{code_name};
-
 use tla_lex::Place;
 use tla_tree::Word;
 
@@ -19,24 +16,8 @@ pub enum ParseCode {
     Nesting,
     /// P5: a form that is left out of the language.
     LeftOut,
-    /// P6: want of memory.
+    /// Want of memory, of which a report tells no code.
     NoMemory,
-}
-
-impl ParseCode {
-    /// The code in a report, as `P1`.
-    pub fn name(self) -> &'static str
-        ensures { result.now ≡ code_name self }
-    {
-        match self {
-            ParseCode::Unexpected => "P1",
-            ParseCode::Precedence => "P2",
-            ParseCode::Column => "P3",
-            ParseCode::Nesting => "P4",
-            ParseCode::LeftOut => "P5",
-            ParseCode::NoMemory => "P6",
-        }
-    }
 }
 
 /// Why a module has no tree: where, but for want of memory, and for a form left out its word or symbol as written, or the module's name.

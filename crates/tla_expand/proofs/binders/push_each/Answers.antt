@@ -6,5 +6,5 @@ use Rattle.tla_expand.proofs.binders.push_each.Goals as goal
 
 pub loop-i-preserved : goal.loop-i-preserved
 loop-i-preserved c = record {
-  same = λ σ. one_name c.loop-i.binds.items c.push_bind.new.binds.items _ c.args.names.now c.loop-i.i c.index-names-i.result σ (expand (view c.args.set.now) σ) _ c.in_ok-push_bind.ensures.ok (omega arith) c.index-names-i.is refl refl (c.loop-i.invariant.same σ);
+  same = λ σ. one_name c.loop-i.binds.items c.push.new.items.items _ c.args.names.now c.loop-i.i c.index-names-i.result σ (expand (view c.args.set.now) σ) _ c.in_ok-push.ensures.ok (omega arith) c.index-names-i.is refl refl (c.loop-i.invariant.same σ);
 }
