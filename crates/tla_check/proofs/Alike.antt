@@ -25,8 +25,8 @@ use Rattle.tla_config.specs.declared.error.Source.TheVariants.{Module, Configura
 use Rattle.tla_config.specs.Refusals.{Explains}
 use Rattle.tla_config.specs.Statements.{Item, Statement, items_of}
 use Rattle.tla_config.specs.View.{ConfigTree}
-use Rattle.tla_items.specs.Circles.{AreStraight, IsFirstCircle}
-use Rattle.tla_items.specs.Leads.{Lead, IsCircular, leads}
+use Rattle.tla_items.specs.Cycles.{AreStraight, IsFirstCycle}
+use Rattle.tla_items.specs.References.{Reference, IsCircular, references}
 use Rattle.tla_names.specs.Refusal.{refusal_of}
 use Rattle.tla_defs.specs.Global.{global}
 use Rattle.tla_defs.specs.Model.{assumptions_of, invariants_named, constraints_named}
@@ -186,25 +186,25 @@ module _ (us : List UnitTree) (cs : List Statement) (e : DefsError) where
   late-last b (inr x) = late-formula x
 
 -- ---- a refusal of an earlier step is the only one
-module _ (ls : List Lead) where
-  no-circle : (is : List Item) (w : Written) → AreStraight ls is → IsFirstCircle ls is w → ⊥
-  no-circle [] w h k = k
-  no-circle (i ∷ is) w h (inl k) = h.0 (subst (λ (v : Written). IsCircular ls v.word) (sym k.0) k.1)
-  no-circle (i ∷ is) w h (inr k) = no-circle is w h.1 k.1
+module _ (ls : List Reference) where
+  no-cycle : (is : List Item) (w : Written) → AreStraight ls is → IsFirstCycle ls is w → ⊥
+  no-cycle [] w h k = k
+  no-cycle (i ∷ is) w h (inl k) = h.0 (subst (λ (v : Written). IsCircular ls v.word) (sym k.0) k.1)
+  no-cycle (i ∷ is) w h (inr k) = no-cycle is w h.1 k.1
 
-  circle-once : (is : List Item) (v w : Written) → IsFirstCircle ls is v → IsFirstCircle ls is w → v ≡ w
-  circle-once [] v w h k = absurd h
-  circle-once (i ∷ is) v w (inl h) (inl k) = sym h.0 ∙ k.0
-  circle-once (i ∷ is) v w (inl h) (inr k) = absurd (k.0 (subst (λ (x : Written). IsCircular ls x.word) (sym h.0) h.1))
-  circle-once (i ∷ is) v w (inr h) (inl k) = absurd (h.0 (subst (λ (x : Written). IsCircular ls x.word) (sym k.0) k.1))
-  circle-once (i ∷ is) v w (inr h) (inr k) = circle-once is v w h.1 k.1
+  cycle-once : (is : List Item) (v w : Written) → IsFirstCycle ls is v → IsFirstCycle ls is w → v ≡ w
+  cycle-once [] v w h k = absurd h
+  cycle-once (i ∷ is) v w (inl h) (inl k) = sym h.0 ∙ k.0
+  cycle-once (i ∷ is) v w (inl h) (inr k) = absurd (k.0 (subst (λ (x : Written). IsCircular ls x.word) (sym h.0) h.1))
+  cycle-once (i ∷ is) v w (inr h) (inl k) = absurd (h.0 (subst (λ (x : Written). IsCircular ls x.word) (sym k.0) k.1))
+  cycle-once (i ∷ is) v w (inr h) (inr k) = cycle-once is v w h.1 k.1
 
 refused-once : (us : List UnitTree) (cs : List Statement) (o : Option DefsError) (b : Result Behaviour Place) (e f : DefsError) → (IsLate e → ⊥) → defs.refusal_is us cs o b e → defs.refusal_is us cs o b f → e ≡ f
 refused-once us cs (Some r) b e f early h k = sym h ∙ k
 refused-once us cs None b e f early (inl h) (inl k) =
-    let same = circle-once (leads us (items_of cs)) (items_of cs) h.name k.name h.first k.first in
+    let same = cycle-once (references us (items_of cs)) (items_of cs) h.name k.name h.first k.first in
     sym h.refused ∙ ap (λ w. refusal_of code.CircularReplacement Configuration w) same ∙ k.refused
-refused-once us cs None b e f early (inl h) (inr k) = absurd (no-circle (leads us (items_of cs)) (items_of cs) h.name k.0 h.first)
+refused-once us cs None b e f early (inl h) (inr k) = absurd (no-cycle (references us (items_of cs)) (items_of cs) h.name k.0 h.first)
 refused-once us cs None b e f early (inr h) k = absurd (early (late-last us cs e b h.1))
 
 same-config : (c d : ConfigTree) → c.statements ≡ d.statements → c.end ≡ d.end → c ≡ d

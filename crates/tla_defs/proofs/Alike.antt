@@ -14,7 +14,7 @@ use Rattle.tla_tree.specs.declared.tree.Step.TheVariants as steps
 use Rattle.tla_tree.specs.Places.{place}
 use Rattle.tla_tree.specs.Tree as t
 use Rattle.tla_tree.specs.Tree.{Tree, Trees, none, more, Binders, unbound, Arms, no_arms, arm, Other, no_other, other, Definition, DefinesOperator, DefinesFunction, Definitions, undefined, defined, Fields, no_fields, field, Key, AtIndex, AtField, Keys, no_keys, key, Updates, no_updates, update, Pattern}
-use Rattle.tla_items.specs.Leads.{names_in, names_each, names_sets, names_arms, names_other, names_fields, names_key, names_keys, names_updates, names_definition, names_definitions}
+use Rattle.tla_items.specs.References.{names_in, names_each, names_sets, names_arms, names_other, names_fields, names_key, names_keys, names_updates, names_definition, names_definitions}
 use Rattle.tla_expand.specs.declared.primes.Primes.TheVariants.{Once}
 use Rattle.tla_expand.specs.Lists.{exprs}
 use Rattle.tla_expand.specs.Maybe.{◌>>=◌, each_of}

@@ -19,8 +19,8 @@ use Rattle.tla_defs.specs.Global.{global}
 use Rattle.tla_names.specs.Constants.{unvalued}
 use Rattle.tla_names.specs.Misuses.{misuse, variables_of}
 use Rattle.tla_items.specs.Items.{definitions_of, replaceable_of, nameable_of, replaced_names, items_misused}
-use Rattle.tla_items.specs.Leads.{leads}
-use Rattle.tla_items.specs.Circles.{AreStraight}
+use Rattle.tla_items.specs.References.{references}
+use Rattle.tla_items.specs.Cycles.{AreStraight}
 use Rattle.tla_names.specs.Named.{names_misused}
 use Rattle.tla_formulas.specs.Formulas.{IsInitial, IsAction, IsStatePredicate}
 use Rattle.tla_defs.specs.Model.{IsModel, IsBehaviour, AreStatePredicates, AreAssumptions, assumptions_of, invariants_named, constraints_named}
@@ -29,7 +29,7 @@ use Rattle.tla_defs.specs.Model.{IsModel, IsBehaviour, AreStatePredicates, AreAs
 pub parts_model : (us : List UnitTree) (cs : List Statement) (σ : Scope) (vs : List Name) (assumed : List Core) (init next : Core) (is ks : List StatePredicate) (check : Bool) (i n : Tree)
     → σ ≡ global us (items_of cs)
     → misuse us ≡ None → items_misused (replaceable_of us) (nameable_of us) [] (items_of cs) ≡ None → unvalued (replaced_names (items_of cs)) us ≡ None → names_misused (definitions_of us) cs ≡ None
-    → AreStraight (leads us (items_of cs)) (items_of cs)
+    → AreStraight (references us (items_of cs)) (items_of cs)
     → IsBehaviour us cs i n → vs ≡ variables_of us → AreAssumptions σ (assumptions_of us) (map expr_of assumed)
     → IsInitial σ i (expr_of init) → IsAction σ n (expr_of next)
     → AreStatePredicates σ (invariants_named cs) (map predicate_of is) → AreStatePredicates σ (constraints_named cs) (map predicate_of ks) → check ≡ checks_deadlock cs

@@ -2,8 +2,8 @@
 use Rattle.std.proofs.Common.{refl, arith, [], ◌∷◌}
 use Rattle.std.specs.Prelude.{codes}
 use Rattle.tla_tree.specs.Tree.{Name}
-use Rattle.tla_defs.specs.GivenRows.{constant_unit, given_tree, given_item, replaced_units, replacement, WithValue, WithReplacement, Circle, TwoVariables}
-use Rattle.tla_items.specs.Leads.{leads}
+use Rattle.tla_defs.specs.GivenRows.{constant_unit, given_tree, given_item, replaced_units, replacement, WithValue, WithReplacement, Cycle, TwoVariables}
+use Rattle.tla_items.specs.References.{references}
 use Rattle.tla_defs.specs.NamedRows.{behind}
 use Rattle.tla_defs.specs.Rows.{word, init_before}
 use Rattle.tla_items.proofs.Walks.{leads_nowhere, leads_to_end}
@@ -16,7 +16,7 @@ with_value =
       given = refl;
       valued = refl;
       named = refl;
-      straight = (leads_nowhere (leads (behind constant_unit given_tree) (given_item ∷ [])) (codes "N") refl, tt);
+      straight = (leads_nowhere (references (behind constant_unit given_tree) (given_item ∷ [])) (codes "N") refl, tt);
       initial = Name (word 1 6 (codes "Init"));
       action = Name (word 2 6 (codes "Next"));
       behaviour = by_names _ _ _ _ refl refl refl;
@@ -36,7 +36,7 @@ with_replacement =
       given = refl;
       valued = refl;
       named = refl;
-      straight = (leads_to_end (leads replaced_units (replacement ∷ [])) (codes "N") (codes "Three") refl refl refl, tt);
+      straight = (leads_to_end (references replaced_units (replacement ∷ [])) (codes "N") (codes "Three") refl refl refl, tt);
       initial = Name (word 1 6 (codes "Init"));
       action = Name (word 2 6 (codes "Next"));
       behaviour = by_names _ _ _ _ refl refl refl;
@@ -49,8 +49,8 @@ with_replacement =
       check_deadlock = refl;
     }
 
-pub circle : Circle
-circle = (codes "Three" ∷ [], (refl, refl))
+pub cycle : Cycle
+cycle = (codes "Three" ∷ [], (refl, refl))
 
 pub two_variables : TwoVariables
 two_variables =

@@ -18,15 +18,15 @@ use Rattle.tla_defs.specs.Global.{global}
 use Rattle.tla_names.specs.Constants.{unvalued}
 use Rattle.tla_names.specs.Misuses.{misuse, variables_of}
 use Rattle.tla_items.specs.Items.{definitions_of, replaceable_of, nameable_of, replaced_names, items_misused}
-use Rattle.tla_items.specs.Leads.{Lead, leads, IsCircular}
-use Rattle.tla_items.specs.Circles.{AreStraight, IsFirstCircle}
+use Rattle.tla_items.specs.References.{Reference, references, IsCircular}
+use Rattle.tla_items.specs.Cycles.{AreStraight, IsFirstCycle}
 use Rattle.tla_formulas.specs.Formulas.{IsInitial, IsAction}
 use Rattle.tla_defs.specs.Model.{IsModel, IsBehaviour, AreStatePredicates, AreAssumptions, assumptions_of, invariants_named, constraints_named}
 use Rattle.tla_names.specs.Named.{names_misused}
 use Rattle.tla_defs.specs.Refused.{Behaviour, Named, Specified, refused, behaviour, NoForm, HasTooMany, IsLast, IsRefusal}
 use Rattle.tla_defs.specs.Private.Specified.{form_refused, HasMany, MayBeLast, NoneMeant}
 use Rattle.tla_names.specs.Refusal.{refusal_at, refusal_for}
-use Rattle.tla_items.specs.Refusal.{items_refused, IsOfCircle}
+use Rattle.tla_items.specs.Refusal.{items_refused, IsOfCycle}
 use Rattle.tla_defs.proofs.Behaviours.{behaviour_found}
 use Rattle.tla_defs.proofs.Unique.{one_behaviour}
 
@@ -39,7 +39,7 @@ no_refusal us config m h =
 -- where the steps that look at names refuse nothing, and no item leads back to its name, a refusal is one of the last steps
 pub last_refusal : (us : List UnitTree) (config : ConfigTree) (is : List Item) (b : Behaviour) (e : DefsError) → misuse us ≡ None → is ≡ items_of config.statements
     → items_misused (replaceable_of us) (nameable_of us) [] is ≡ None → unvalued (replaced_names is) us ≡ None → behaviour config.statements config.end None None ≡ Ok b
-    → names_misused (definitions_of us) config.statements ≡ None → AreStraight (leads us is) is → IsLast us config.statements (Ok b) e → IsRefusal us config e
+    → names_misused (definitions_of us) config.statements ≡ None → AreStraight (references us is) is → IsLast us config.statements (Ok b) e → IsRefusal us config e
 last_refusal us config is b e known at given valued behaves named straight last =
     let g = rw at at given in
     let v = rw at at valued in
@@ -78,13 +78,13 @@ name_refusal us config is b e known at given valued behaves named =
     rw some refl
 
 -- where the steps that look at names refuse nothing, an item that leads back to its name is what is refused
-pub circle_refusal : (us : List UnitTree) (config : ConfigTree) (is : List Item) (b : Behaviour) (e : DefsError) → misuse us ≡ None → is ≡ items_of config.statements
+pub cycle_refusal : (us : List UnitTree) (config : ConfigTree) (is : List Item) (b : Behaviour) (e : DefsError) → misuse us ≡ None → is ≡ items_of config.statements
     → items_misused (replaceable_of us) (nameable_of us) [] is ≡ None → unvalued (replaced_names is) us ≡ None → behaviour config.statements config.end None None ≡ Ok b
-    → names_misused (definitions_of us) config.statements ≡ None → IsOfCircle (leads us is) is e → IsRefusal us config e
-circle_refusal us config is b e known at given valued behaves named circle =
+    → names_misused (definitions_of us) config.statements ≡ None → IsOfCycle (references us is) is e → IsRefusal us config e
+cycle_refusal us config is b e known at given valued behaves named cycle =
     let g = rw at at given in
     let v = rw at at valued in
-    let c = rw at at circle in
+    let c = rw at at cycle in
     let none : refused us config ≡ None = rw (known, g, v, behaves, named) refl in
     rw none (inl c)
 
@@ -107,14 +107,14 @@ no_names us cs e p m h =
     let z : ⊥ = cc in
     z
 
--- the first circle is one
-circle_stops : (ls : List Lead) (is : List Item) (w : Written) → IsFirstCircle ls is w → AreStraight ls is → ⊥
-circle_stops ls [] w c h = c
-circle_stops ls (i ∷ is) w (inl c) h = h.0 (subst (λ (v : Written). IsCircular ls v.word) (sym c.0) c.1)
-circle_stops ls (i ∷ is) w (inr c) h = circle_stops ls is w c.1 h.1
+-- the first cycle is one
+cycle_stops : (ls : List Reference) (is : List Item) (w : Written) → IsFirstCycle ls is w → AreStraight ls is → ⊥
+cycle_stops ls [] w c h = c
+cycle_stops ls (i ∷ is) w (inl c) h = h.0 (subst (λ (v : Written). IsCircular ls v.word) (sym c.0) c.1)
+cycle_stops ls (i ∷ is) w (inr c) h = cycle_stops ls is w c.1 h.1
 
-pub no_circle : (us : List UnitTree) (cs : List Statement) (e : DefsError) → IsOfCircle (leads us (items_of cs)) (items_of cs) e → (m : ModelTree) → IsModel us cs m → ⊥
-no_circle us cs e c m h = circle_stops (leads us (items_of cs)) (items_of cs) c.name c.first h.straight
+pub no_cycle : (us : List UnitTree) (cs : List Statement) (e : DefsError) → IsOfCycle (references us (items_of cs)) (items_of cs) e → (m : ModelTree) → IsModel us cs m → ⊥
+no_cycle us cs e c m h = cycle_stops (references us (items_of cs)) (items_of cs) c.name c.first h.straight
 
 -- a name that is no state predicate stands for no list of them
 pub lacks_predicate : (σ : Scope) (ws : List Written) (is : List (Name × Expr)) → LacksPredicate σ ws → AreStatePredicates σ ws is → ⊥

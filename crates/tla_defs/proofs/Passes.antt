@@ -11,7 +11,7 @@ use Rattle.tla_config.specs.Names.{Name, is_among}
 use Rattle.tla_config.specs.Statements.{Item, Value, Replaces}
 use Rattle.tla_names.specs.Scope.{signature}
 use Rattle.tla_items.specs.Items.{replaced_names}
-use Rattle.tla_items.specs.Leads.{names_in, names_definition, names_sets}
+use Rattle.tla_items.specs.References.{names_in, names_definition, names_sets}
 use Rattle.tla_items.specs.Open.{meets, with_touched, touched, with_operators, with_operators_of, still_open, at_word}
 use Rattle.tla_expand.specs.Meanings.{Argument, Scope, Meaning, standard, with_name, variable, parameter, operator}
 use Rattle.tla_expand.specs.Expand.{expand, definition_in}

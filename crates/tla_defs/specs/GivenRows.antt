@@ -10,7 +10,7 @@ use Rattle.tla_tree.specs.Units.{UnitTree, Variables, Constants, Operator}
 use Rattle.tla_expand.specs.Places.{place_of}
 use Rattle.tla_config.specs.Statements.{Item}
 use Rattle.tla_config.specs.Statements as s
-use Rattle.tla_items.specs.Leads.{leads, IsCircular}
+use Rattle.tla_items.specs.References.{references, IsCircular}
 use Rattle.tla_defs.specs.Model.{IsModel}
 use Rattle.tla_defs.specs.NamedRows.{behind, name_at}
 use Rattle.tla_defs.specs.Rows.{place, word, x_at, number_at, constant_at, statements, model}
@@ -51,8 +51,8 @@ WithReplacement = IsModel replaced_units (statements (s.Constants (place 3 1) (r
 abbrev pub circular_units : List UnitTree
 circular_units = behind constant_unit given_tree ++ Operator (word 6 1 (codes "Three")) (Binary (place 6 10) op.Plus (word 6 12 (codes "+")) (name_at 6 10 (codes "N")) (number_at 6 14 1)) ∷ []
 
-abbrev pub Circle : Type 0
-Circle = IsCircular (leads circular_units (replacement ∷ [])) (codes "N")
+abbrev pub Cycle : Type 0
+Cycle = IsCircular (references circular_units (replacement ∷ [])) (codes "N")
 
 -- VARIABLE y
 abbrev pub variable_unit : UnitTree

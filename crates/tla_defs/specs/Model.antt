@@ -14,8 +14,8 @@ use Rattle.tla_formulas.specs.Formulas.{IsInitial, IsAction, IsStatePredicate, I
 use Rattle.tla_defs.specs.Global.{global}
 use Rattle.tla_names.specs.Constants.{unvalued}
 use Rattle.tla_items.specs.Items.{definitions_of, replaceable_of, nameable_of, replaced_names, items_misused}
-use Rattle.tla_items.specs.Leads.{leads}
-use Rattle.tla_items.specs.Circles.{AreStraight}
+use Rattle.tla_items.specs.References.{references}
+use Rattle.tla_items.specs.Cycles.{AreStraight}
 use Rattle.tla_names.specs.Named.{names_misused}
 use Rattle.tla_names.specs.Misuses.{variables_of, misuse}
 use Rattle.tla_defs.specs.Specification.{IsSpecification}
@@ -105,7 +105,7 @@ pub record IsModel (us : List UnitTree) (cs : List Statement) (m : ModelTree) : 
   pub given : items_misused (replaceable_of us) (nameable_of us) [] (items_of cs) ≡ None
   pub valued : unvalued (replaced_names (items_of cs)) us ≡ None
   pub named : names_misused (definitions_of us) cs ≡ None
-  pub straight : AreStraight (leads us (items_of cs)) (items_of cs)
+  pub straight : AreStraight (references us (items_of cs)) (items_of cs)
   pub initial : Tree
   pub action : Tree
   pub behaviour : IsBehaviour us cs initial action

@@ -16,11 +16,11 @@ use Rattle.tla_expand.specs.Primes.{with_primes}
 use Rattle.tla_names.specs.Maybe.{or_else}
 use Rattle.tla_items.specs.Items.{definitions_of}
 use Rattle.tla_names.specs.Misuses.{misuse, variables_of}
-use Rattle.tla_items.specs.Leads.{leads}
-use Rattle.tla_items.specs.Circles.{AreStraight}
+use Rattle.tla_items.specs.References.{references}
+use Rattle.tla_items.specs.Cycles.{AreStraight}
 use Rattle.tla_names.specs.Named.{names_misused}
 use Rattle.tla_names.specs.Refusal.{refusal_at, refusal_for}
-use Rattle.tla_items.specs.Refusal.{items_refused, IsOfCircle}
+use Rattle.tla_items.specs.Refusal.{items_refused, IsOfCycle}
 use Rattle.tla_defs.specs.Bodies.{body_of}
 use Rattle.tla_defs.specs.Global.{global}
 use Rattle.tla_formulas.specs.Formulas.{meaning_in}
@@ -118,7 +118,7 @@ IsLast us cs b e = IsFormRefused us (items_of cs) b e ⊎ IsOfSome us cs e
 -- behind the steps that look at names: an item that leads back to its name, or the last steps
 abbrev pub refusal_is : List UnitTree → List Statement → Option DefsError → Result Behaviour Place → DefsError → Type 0
 refusal_is us cs (Some r) b e = r ≡ e
-refusal_is us cs None b e = IsOfCircle (leads us (items_of cs)) (items_of cs) e ⊎ (AreStraight (leads us (items_of cs)) (items_of cs) × IsLast us cs b e)
+refusal_is us cs None b e = IsOfCycle (references us (items_of cs)) (items_of cs) e ⊎ (AreStraight (references us (items_of cs)) (items_of cs) × IsLast us cs b e)
 
 -- The first step that refuses a module and a configuration, or, where none does, the first item that leads back to its name, or else the specification or a formula.
 abbrev pub IsRefusal : List UnitTree → ConfigTree → DefsError → Type 0

@@ -14,13 +14,13 @@ ghost use Rattle.tla_model.specs.ModelOf.{predicate_of};
 ghost use Rattle.tla_model.specs.Models.{model_of};
 ghost use Rattle.tla_tree.specs.declared.word.Written as written;
 ghost use Rattle.tla_tree.specs.UnitsView.{unit_view};
-ghost use Rattle.tla_items.specs.Circles.{AreStraight};
+ghost use Rattle.tla_items.specs.Cycles.{AreStraight};
 ghost use Rattle.tla_names.specs.Constants.{unvalued};
 ghost use Rattle.tla_formulas.specs.Formulas as formulas;
 ghost use Rattle.tla_formulas.specs.Refused as formula_refused;
 ghost use Rattle.tla_defs.specs.Private.Formulas.{LacksPredicate, LacksAssumption, Follow, mentions};
 ghost use Rattle.tla_items.specs.Items as given;
-ghost use Rattle.tla_items.specs.Leads.{leads};
+ghost use Rattle.tla_items.specs.References.{references};
 ghost use Rattle.tla_defs.specs.Private.Mentions.{behaviour_of};
 ghost use Rattle.tla_names.specs.Misuses as known;
 ghost use Rattle.tla_defs.specs.Model as model;
@@ -245,7 +245,7 @@ fn model<'a>(
     requires given { given.items_misused (given.replaceable_of (map unit_view units.now)) (given.nameable_of (map unit_view units.now)) [] items.now ≡ None }
     requires valued { unvalued (given.replaced_names items.now) (map unit_view units.now) ≡ None }
     requires named { named.names_misused (given.definitions_of (map unit_view units.now)) (map statement_view statements.now) ≡ None }
-    requires straight { AreStraight (leads (map unit_view units.now) items.now) items.now }
+    requires straight { AreStraight (references (map unit_view units.now) items.now) items.now }
     requires variables { variables.now ≡ known.variables_of (map unit_view units.now) }
     requires only { IsOnly (map statement_view statements.now) (behaviour_of behaviour) }
     ensures found { IfOk result (λ m. model.IsModel (map unit_view units.now) (map statement_view statements.now) (model_of m)) }

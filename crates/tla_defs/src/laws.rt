@@ -2,7 +2,7 @@
 
 ghost use Rattle.tla_defs.specs.Laws.{OnlyModel, NoneRefused, IsAlwaysSound};
 ghost use Rattle.tla_defs.specs.Rows.{CounterOfThree, CounterOfFive, BoundedSteps, BoundedStepsMayEnd, CountsWithin, LargestNumber};
-ghost use Rattle.tla_defs.specs.GivenRows.{WithValue, WithReplacement, Circle, TwoVariables};
+ghost use Rattle.tla_defs.specs.GivenRows.{WithValue, WithReplacement, Cycle, TwoVariables};
 ghost use Rattle.tla_defs.specs.SpecificationRows.{Specified, SpecifiedInParts, SpecifiedByNames};
 ghost use Rattle.tla_defs.specs.NamedRows.{WithParameter, WithLet, WithoutCapture};
 
@@ -41,6 +41,6 @@ pub fn models()
 {}
 
 /// A replacement that leads back to its name.
-pub fn circle()
-    ensures { Circle }
+pub fn cycle()
+    ensures { Cycle }
 {}

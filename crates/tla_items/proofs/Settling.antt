@@ -2,7 +2,7 @@
 use Rattle.std.proofs.Common.{◌≡◌, refl, ap, sym, ◌∙◌, inl, inr, Bool, true, false, List, [], ◌∷◌, ◌++◌}
 use Rattle.std.specs.Prelude.{◌⊎◌}
 use Rattle.tla_config.specs.Names.{Name, is_among}
-use Rattle.tla_items.specs.Leads.{Lead, next_names, IsCircular}
+use Rattle.tla_items.specs.References.{Reference, next_names, IsCircular}
 use Rattle.tla_items.specs.Private.Reached.{AreAmong}
 use Rattle.tla_items.specs.Private.Settled.{AreSettled, all_among}
 use Rattle.tla_items.proofs.Walks.{one, among_append, among_first, stays}
@@ -22,7 +22,7 @@ each_among (x ∷ xs) ys h z m = at (is_among x ys) refl h (λ r. each_among xs 
     at true k r rest = pick k (rest (rw k at r)) (among_append z (x ∷ []) xs m)
     at false k r rest = let wrong : false ≡ true = rw k at r in let n : ⊥ = cc in absurd n
 
-module _ (ls : List Lead) where
+module _ (ls : List Reference) where
   pub settled_more : (xs : List Name) (x : Name) → AreAmong (next_names ls x) xs → AreSettled ls xs → AreSettled ls (xs ++ x ∷ [])
   settled_more xs x h s = record {
     covers = λ y k. covered y (among_append y xs (x ∷ []) k);

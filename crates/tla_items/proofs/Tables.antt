@@ -1,4 +1,4 @@
--- Leads in a table.
+-- References in a table.
 use Rattle.std.proofs.Common.{◌≡◌, refl, ap, ◌∙◌, sym, Bool, true, false, List, [], ◌∷◌, ◌++◌, map, Option, Some, None}
 use Rattle.std.specs.Prelude.{is_some, unwrap_or}
 use Rattle.std.specs.Borrow.{Bor}
@@ -6,12 +6,12 @@ use Rattle.std.specs.Map.{lookup}
 use Rattle.std.specs.Str.{bytes_eq}
 use Rattle.std.proofs.lemmas.Slice.Eq.{bytes_eq-Decides}
 use Rattle.tla_config.specs.Names.{Name}
-use Rattle.tla_items.specs.Leads.{Lead, next_names}
+use Rattle.tla_items.specs.References.{Reference, next_names}
 
 abbrev pub Row : Type 0
 Row = Bor Name × List Name
 
-abbrev pub row : Row → Lead
+abbrev pub row : Row → Reference
 row e = (e.0.now, e.1)
 
 abbrev pub named : Name → Bor Name → Bool
@@ -32,7 +32,7 @@ pub none_next : (x : Name) (es : List Row) → None ≡ lookup (named x) es → 
 none_next x es h = next_lookup x es ∙ sym (ap (λ o. unwrap_or o []) h)
 
 -- of another name nothing new is known
-another : (x : Name) (l : Lead) (rest : List Lead) (es : List Row) → bytes_eq x l.0 ≡ false → next_names (map row es ++ rest) x ≡ next_names (map row es ++ l ∷ rest) x
+another : (x : Name) (l : Reference) (rest : List Reference) (es : List Row) → bytes_eq x l.0 ≡ false → next_names (map row es ++ rest) x ≡ next_names (map row es ++ l ∷ rest) x
 another x l rest [] h = rw h refl
 another x l rest (e ∷ es) h = at (bytes_eq x e.0.now) refl (another x l rest es h)
   where
@@ -41,7 +41,7 @@ another x l rest (e ∷ es) h = at (bytes_eq x e.0.now) refl (another x l rest e
     at false k r = rw k r
 
 -- nor of a name that is known already
-pub known_before : (x : Name) (l : Lead) (rest : List Lead) (es : List Row) → is_some (lookup (named l.0) es) ≡ true → next_names (map row es ++ rest) x ≡ next_names (map row es ++ l ∷ rest) x
+pub known_before : (x : Name) (l : Reference) (rest : List Reference) (es : List Row) → is_some (lookup (named l.0) es) ≡ true → next_names (map row es ++ rest) x ≡ next_names (map row es ++ l ∷ rest) x
 known_before x l rest [] h = let z : ⊥ = cc in absurd z
 known_before x l rest (e ∷ es) h = at (bytes_eq x e.0.now) (bytes_eq l.0 e.0.now) refl refl (λ k. known_before x l rest es k)
   where
@@ -61,6 +61,6 @@ pub absent_lookup : (x : Name) (es : List Row) → is_some (lookup (named x) es)
 absent_lookup x es h = absent (lookup (named x) es) h
 
 -- a new row at the end
-pub added : (es : List Row) (e : Row) (rest : List Lead) → map row (es ++ e ∷ []) ++ rest ≡ map row es ++ row e ∷ rest
+pub added : (es : List Row) (e : Row) (rest : List Reference) → map row (es ++ e ∷ []) ++ rest ≡ map row es ++ row e ∷ rest
 added [] e rest = refl
 added (f ∷ es) e rest = ap (λ ls. row f ∷ ls) (added es e rest)

@@ -9,10 +9,10 @@ use Rattle.tla_config.specs.Names.{Name, is_among}
 use Rattle.tla_config.specs.Statements.{Item}
 use Rattle.tla_config.specs.declared.statement.Item as c
 use Rattle.tla_tree.specs.declared.word.Written.{Written}
-use Rattle.tla_items.specs.Circles.{AreStraight, IsFirstCircle}
+use Rattle.tla_items.specs.Cycles.{AreStraight, IsFirstCycle}
 use Rattle.tla_items.specs.Items.{replaced_name}
 use Rattle.tla_names.specs.Mentions.{item_of}
-use Rattle.tla_items.specs.Leads.{Lead, next_names, LeadsBy, IsCircular}
+use Rattle.tla_items.specs.References.{Reference, next_names, LeadsBy, IsCircular}
 use Rattle.tla_items.specs.Private.Reached.{AreAmong, AreLed, Covers, GoesOn}
 
 either : (a b : Bool) → (a || b) ≡ true → (a ≡ true) ⊎ (b ≡ true)
@@ -50,7 +50,7 @@ among_cases z xs ys zs h = cases (among_append z xs (ys ++ zs) h)
     cases (inl k) = inl k
     cases (inr k) = inr (among_append z ys zs k)
 
-module _ (ls : List Lead) where
+module _ (ls : List Reference) where
   -- one step more
   pub led_more : (x y z : Name) (zs : List Name) → LeadsBy ls x zs y → is_among z (next_names ls y) ≡ true → LeadsBy ls x (zs ++ y ∷ []) z
   led_more x y z [] p h = (p, h)
@@ -123,7 +123,7 @@ module _ (ls : List Lead) where
       → GoesOn ls name passed waiting passed_after waiting_after
   goes_to name passed waiting passed_after waiting_after h k = rw (h, k) (goes_new name passed waiting (next_names ls name) refl)
 
-  -- a name that leads to none leads to no circle
+  -- a name that leads to none leads to no cycle
   pub leads_nowhere : (x : Name) → next_names ls x ≡ [] → IsCircular ls x → ⊥
   leads_nowhere x e ([], h) = let k : is_among x [] ≡ true = ap (λ xs. is_among x xs) (sym e) ∙ h in let z : ⊥ = cc in z
   leads_nowhere x e (z ∷ zs, h) = let k : is_among z [] ≡ true = ap (λ xs. is_among z xs) (sym e) ∙ h.0 in let n : ⊥ = cc in n
@@ -142,7 +142,7 @@ module _ (ls : List Lead) where
           absurd n
 
 -- what leads to the same names leads the same ways
-module _ (ks ls : List Lead) (same : (x : Name) → next_names ks x ≡ next_names ls x) where
+module _ (ks ls : List Reference) (same : (x : Name) → next_names ks x ≡ next_names ls x) where
   ways_same : (x y : Name) (zs : List Name) → LeadsBy ks x zs y → LeadsBy ls x zs y
   ways_same x y [] h = ap (λ xs. is_among y xs) (sym (same x)) ∙ h
   ways_same x y (z ∷ zs) h = (ap (λ xs. is_among z xs) (sym (same x)) ∙ h.0, ways_same z y zs h.1)
@@ -150,7 +150,7 @@ module _ (ks ls : List Lead) (same : (x : Name) → next_names ks x ≡ next_nam
   pub circular_same : (x : Name) → IsCircular ks x → IsCircular ls x
   circular_same x h = (h.0, ways_same x x h.0 h.1)
 
-module _ (ks ls : List Lead) (same : (x : Name) → next_names ks x ≡ next_names ls x) where
+module _ (ks ls : List Reference) (same : (x : Name) → next_names ks x ≡ next_names ls x) where
   back : (x : Name) → IsCircular ls x → IsCircular ks x
   back x h = circular_same ls ks (λ y. sym (same y)) x h
 
@@ -158,13 +158,13 @@ module _ (ks ls : List Lead) (same : (x : Name) → next_names ks x ≡ next_nam
   straight_same [] h = tt
   straight_same (i ∷ is) h = (λ c. h.0 (back (replaced_name i).word c), straight_same is h.1)
 
-  pub first_same : (is : List Item) (w : Written) → IsFirstCircle ks is w → IsFirstCircle ls is w
+  pub first_same : (is : List Item) (w : Written) → IsFirstCycle ks is w → IsFirstCycle ls is w
   first_same [] w h = h
   first_same (i ∷ is) w (inl h) = inl (h.0, circular_same ks ls same w.word h.1)
   first_same (i ∷ is) w (inr h) = inr (λ c. h.0 (back (replaced_name i).word c), first_same is w h.1)
 
 -- the first item of those that are left
-pub first_here : (ls : List Lead) (left : List (Bor c.Item)) (i : Bor c.Item) (w : Written) → 0 < length left → i ≡ get_or left 0 i → replaced_name (item_of i) ≡ w → IsCircular ls w.word
-    → IsFirstCircle ls (map item_of left) w
+pub first_here : (ls : List Reference) (left : List (Bor c.Item)) (i : Bor c.Item) (w : Written) → 0 < length left → i ≡ get_or left 0 i → replaced_name (item_of i) ≡ w → IsCircular ls w.word
+    → IsFirstCycle ls (map item_of left) w
 first_here ls [] i w h g e k = absurd (omega arith)
 first_here ls (x ∷ left) i w h g e k = inl (ap (λ y. replaced_name (item_of y)) (sym g) ∙ e, k)

@@ -1,6 +1,6 @@
 pub mod Items
-pub mod Leads
+pub mod References
 pub mod Open
-pub mod Circles
+pub mod Cycles
 pub mod Refusal
 pub mod Private

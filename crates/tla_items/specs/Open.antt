@@ -4,7 +4,7 @@ use Rattle.tla_tree.specs.Units.{UnitTree, Operator, Defines, Local, Assume}
 use Rattle.tla_config.specs.Names.{Name, is_among}
 use Rattle.tla_config.specs.Statements.{Item, Value, Replaces}
 use Rattle.tla_names.specs.Scope.{signature}
-use Rattle.tla_items.specs.Leads.{names_in, names_definition}
+use Rattle.tla_items.specs.References.{names_in, names_definition}
 
 -- `@` is looked up as a name is
 abbrev pub at_word : Name

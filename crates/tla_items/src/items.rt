@@ -9,7 +9,7 @@ ghost use Rattle.tla_tree.specs.UnitsView.{unit_view};
 ghost use Rattle.tla_value.specs.Tree as value;
 ghost use Rattle.tla_items.specs.Private.Firsts.{AreFirst, AreFirst-prop};
 ghost use Rattle.tla_items.specs.Items as spec;
-ghost use Rattle.tla_items.specs.Leads as leads;
+ghost use Rattle.tla_items.specs.References as references;
 ghost use Rattle.tla_names.specs.Scope as scopes;
 ghost use Rattle.tla_names.specs.Mentions.{item_of};
 ghost use Rattle.tla_names.specs.Constants as constants;
@@ -235,7 +235,7 @@ pub fn definitions_of<'a>(alloc: Global, units: &'a [Unit]) -> Result<Scope<'a>,
 
 /// What a unit brings in, more.
 pub(crate) fn push_brought<'a>(scope: &mut Scope<'a>, unit: &'a Unit) -> Result<(), DefsError>
-    ensures ok { OnOk result (scope.new ≡ scope.old ++ leads.brings (unit_view unit.entry.now)) }
+    ensures ok { OnOk result (scope.new ≡ scope.old ++ references.brings (unit_view unit.entry.now)) }
     ensures err { IfErr result (λ e. e.code ≡ Memory) }
 {
     match unit {

@@ -4,14 +4,14 @@
 //! here answers the first item, in the order of the text, that is refused, with its code and place.
 #![tactic(auto)]
 
-mod circle;
+mod cycle;
 mod items;
-mod leads;
 mod name_set;
 mod names_in;
 mod open;
+mod references;
 mod waiting;
 
-pub use circle::straight;
+pub use cycle::straight;
 pub use items::{Items, definitions_of, name_of, valued};
 pub use open::{still_open, with_operators};

@@ -4,7 +4,7 @@ ghost use Rattle.std.specs.Prelude.{◌≡◌, ◌++◌, OnOk, IfErr, map};
 ghost use Rattle.tla_config.specs.declared.error.DefsCode.TheVariants.{Memory};
 ghost use Rattle.tla_tree.specs.Tree.{trees, binders, arms, definitions, fields, keys, updates};
 ghost use Rattle.tla_tree.specs.View.{view, group_view, choice_view, definition_view, field_view, key_view, update_view};
-ghost use Rattle.tla_items.specs.Leads as leads;
+ghost use Rattle.tla_items.specs.References as references;
 
 use tla_config::DefsError;
 use tla_names::Names;
@@ -13,7 +13,7 @@ use tla_tree::{Arm, Binder, Definition, Expr, Field, Key, Update};
 /// The names of an expression more. The only error is want of memory.
 #[cycle(names_in)]
 pub(crate) fn expression<'a>(names: &mut Names<'a>, tree: &'a Expr) -> Result<(), DefsError>
-    ensures ok { OnOk result (names.new ≡ names.old ++ leads.names_in (view tree.entry.now)) }
+    ensures ok { OnOk result (names.new ≡ names.old ++ references.names_in (view tree.entry.now)) }
     ensures err { IfErr result (λ e. e.code ≡ Memory) }
 {
     match tree {
@@ -69,7 +69,7 @@ fn first_and<'a>(
     first: &'a Expr,
     others: &'a [Expr],
 ) -> Result<(), DefsError>
-    ensures ok { OnOk result (names.new ≡ names.old ++ (leads.names_in (view first.entry.now) ++ leads.names_each (trees (map view others.entry.now)))) }
+    ensures ok { OnOk result (names.new ≡ names.old ++ (references.names_in (view first.entry.now) ++ references.names_each (trees (map view others.entry.now)))) }
     ensures err { IfErr result (λ e. e.code ≡ Memory) }
 {
     expression(names, first)?;
@@ -79,7 +79,7 @@ fn first_and<'a>(
 /// The names of a binder list's sets and of a body more.
 #[cycle(names_in)]
 fn bound<'a>(names: &mut Names<'a>, groups: &'a [Binder], body: &'a Expr) -> Result<(), DefsError>
-    ensures ok { OnOk result (names.new ≡ names.old ++ (leads.names_sets (binders (map group_view groups.entry.now)) ++ leads.names_in (view body.entry.now))) }
+    ensures ok { OnOk result (names.new ≡ names.old ++ (references.names_sets (binders (map group_view groups.entry.now)) ++ references.names_in (view body.entry.now))) }
     ensures err { IfErr result (λ e. e.code ≡ Memory) }
 {
     each_set(names, groups)?;
@@ -93,7 +93,7 @@ fn within<'a>(
     items: &'a [Definition],
     body: &'a Expr,
 ) -> Result<(), DefsError>
-    ensures ok { OnOk result (names.new ≡ names.old ++ (leads.names_definitions (definitions (map definition_view items.entry.now)) ++ leads.names_in (view body.entry.now))) }
+    ensures ok { OnOk result (names.new ≡ names.old ++ (references.names_definitions (definitions (map definition_view items.entry.now)) ++ references.names_in (view body.entry.now))) }
     ensures err { IfErr result (λ e. e.code ≡ Memory) }
 {
     each_definition(names, items)?;
@@ -107,7 +107,7 @@ fn except<'a>(
     function: &'a Expr,
     items: &'a [Update],
 ) -> Result<(), DefsError>
-    ensures ok { OnOk result (names.new ≡ names.old ++ (leads.names_in (view function.entry.now) ++ leads.names_updates (updates (map update_view items.entry.now)))) }
+    ensures ok { OnOk result (names.new ≡ names.old ++ (references.names_in (view function.entry.now) ++ references.names_updates (updates (map update_view items.entry.now)))) }
     ensures err { IfErr result (λ e. e.code ≡ Memory) }
 {
     expression(names, function)?;
@@ -117,7 +117,7 @@ fn except<'a>(
 /// The names of expressions more.
 #[cycle(names_in)]
 fn each<'a>(names: &mut Names<'a>, items: &'a [Expr]) -> Result<(), DefsError>
-    ensures ok { OnOk result (names.new ≡ names.old ++ leads.names_each (trees (map view items.entry.now))) }
+    ensures ok { OnOk result (names.new ≡ names.old ++ references.names_each (trees (map view items.entry.now))) }
     ensures err { IfErr result (λ e. e.code ≡ Memory) }
 {
     let mut left = items;
@@ -131,7 +131,7 @@ fn each<'a>(names: &mut Names<'a>, items: &'a [Expr]) -> Result<(), DefsError>
 /// The names of the sets of a binder list more.
 #[cycle(names_in)]
 fn each_set<'a>(names: &mut Names<'a>, items: &'a [Binder]) -> Result<(), DefsError>
-    ensures ok { OnOk result (names.new ≡ names.old ++ leads.names_sets (binders (map group_view items.entry.now))) }
+    ensures ok { OnOk result (names.new ≡ names.old ++ references.names_sets (binders (map group_view items.entry.now))) }
     ensures err { IfErr result (λ e. e.code ≡ Memory) }
 {
     let mut left = items;
@@ -145,7 +145,7 @@ fn each_set<'a>(names: &mut Names<'a>, items: &'a [Binder]) -> Result<(), DefsEr
 /// The names of arms more.
 #[cycle(names_in)]
 fn each_arm<'a>(names: &mut Names<'a>, items: &'a [Arm]) -> Result<(), DefsError>
-    ensures ok { OnOk result (names.new ≡ names.old ++ leads.names_arms (arms (map choice_view items.entry.now))) }
+    ensures ok { OnOk result (names.new ≡ names.old ++ references.names_arms (arms (map choice_view items.entry.now))) }
     ensures err { IfErr result (λ e. e.code ≡ Memory) }
 {
     let mut left = items;
@@ -160,7 +160,7 @@ fn each_arm<'a>(names: &mut Names<'a>, items: &'a [Arm]) -> Result<(), DefsError
 /// The names of fields' values more.
 #[cycle(names_in)]
 fn each_field<'a>(names: &mut Names<'a>, items: &'a [Field]) -> Result<(), DefsError>
-    ensures ok { OnOk result (names.new ≡ names.old ++ leads.names_fields (fields (map field_view items.entry.now))) }
+    ensures ok { OnOk result (names.new ≡ names.old ++ references.names_fields (fields (map field_view items.entry.now))) }
     ensures err { IfErr result (λ e. e.code ≡ Memory) }
 {
     let mut left = items;
@@ -174,7 +174,7 @@ fn each_field<'a>(names: &mut Names<'a>, items: &'a [Field]) -> Result<(), DefsE
 /// The names of updates more.
 #[cycle(names_in)]
 fn each_update<'a>(names: &mut Names<'a>, items: &'a [Update]) -> Result<(), DefsError>
-    ensures ok { OnOk result (names.new ≡ names.old ++ leads.names_updates (updates (map update_view items.entry.now))) }
+    ensures ok { OnOk result (names.new ≡ names.old ++ references.names_updates (updates (map update_view items.entry.now))) }
     ensures err { IfErr result (λ e. e.code ≡ Memory) }
 {
     let mut left = items;
@@ -189,7 +189,7 @@ fn each_update<'a>(names: &mut Names<'a>, items: &'a [Update]) -> Result<(), Def
 /// The names of a step of a path more.
 #[cycle(names_in)]
 fn one_key<'a>(names: &mut Names<'a>, key: &'a Key) -> Result<(), DefsError>
-    ensures ok { OnOk result (names.new ≡ names.old ++ leads.names_key (key_view key.entry.now)) }
+    ensures ok { OnOk result (names.new ≡ names.old ++ references.names_key (key_view key.entry.now)) }
     ensures err { IfErr result (λ e. e.code ≡ Memory) }
 {
     match key {
@@ -201,7 +201,7 @@ fn one_key<'a>(names: &mut Names<'a>, key: &'a Key) -> Result<(), DefsError>
 /// The names of a path more.
 #[cycle(names_in)]
 fn path<'a>(names: &mut Names<'a>, items: &'a [Key]) -> Result<(), DefsError>
-    ensures ok { OnOk result (names.new ≡ names.old ++ leads.names_keys (keys (map key_view items.entry.now))) }
+    ensures ok { OnOk result (names.new ≡ names.old ++ references.names_keys (keys (map key_view items.entry.now))) }
     ensures err { IfErr result (λ e. e.code ≡ Memory) }
 {
     let mut left = items;
@@ -218,7 +218,7 @@ pub(crate) fn definition<'a>(
     names: &mut Names<'a>,
     definition: &'a Definition,
 ) -> Result<(), DefsError>
-    ensures ok { OnOk result (names.new ≡ names.old ++ leads.names_definition (definition_view definition.entry.now)) }
+    ensures ok { OnOk result (names.new ≡ names.old ++ references.names_definition (definition_view definition.entry.now)) }
     ensures err { IfErr result (λ e. e.code ≡ Memory) }
 {
     match definition {
@@ -230,7 +230,7 @@ pub(crate) fn definition<'a>(
 /// The names of definitions' bodies more.
 #[cycle(names_in)]
 fn each_definition<'a>(names: &mut Names<'a>, items: &'a [Definition]) -> Result<(), DefsError>
-    ensures ok { OnOk result (names.new ≡ names.old ++ leads.names_definitions (definitions (map definition_view items.entry.now))) }
+    ensures ok { OnOk result (names.new ≡ names.old ++ references.names_definitions (definitions (map definition_view items.entry.now))) }
     ensures err { IfErr result (λ e. e.code ≡ Memory) }
 {
     let mut left = items;

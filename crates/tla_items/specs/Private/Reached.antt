@@ -1,12 +1,12 @@
 -- The names that a name leads to, as the code finds them. Private contracts alone cite this.
 use Rattle.std.specs.Prelude.{◌≡◌, true, List, [], ◌∷◌, ◌++◌}
 use Rattle.tla_config.specs.Names.{Name, is_among}
-use Rattle.tla_items.specs.Leads.{Lead, next_names, LeadsBy}
+use Rattle.tla_items.specs.References.{Reference, next_names, LeadsBy}
 
 abbrev pub AreAmong : List Name → List Name → Type 0
 AreAmong xs ys = (z : Name) → is_among z xs ≡ true → is_among z ys ≡ true
 
-module _ (ls : List Lead) where
+module _ (ls : List Reference) where
   -- a name leads to each of these
   abbrev pub AreLed : Name → List Name → Type 0
   AreLed x ys = (y : Name) → is_among y ys ≡ true → (zs : List Name) × LeadsBy ls x zs y

@@ -5,7 +5,7 @@ use Rattle.tla_config.specs.Statements.{items_of}
 use Rattle.tla_defs.specs.Private.Mentions.{behaviour_of}
 use Rattle.tla_defs.proofs.Behaviours.{behaviour_only}
 use Rattle.tla_formulas.proofs.Found.{if_err}
-use Rattle.tla_defs.proofs.Nones.{no_behaviour, no_items, no_names, no_circle, name_refusal, circle_refusal, last_refusal, last_same}
+use Rattle.tla_defs.proofs.Nones.{no_behaviour, no_items, no_names, no_cycle, name_refusal, cycle_refusal, last_refusal, last_same}
 use Rattle.tla_defs.proofs.builder.model_or_refusal.Goals as goal
 
 pub model-requires-clause-only : goal.model-requires-clause-only
@@ -28,7 +28,7 @@ returns-in_err-statements_named-clause-none c =
 pub returns-in_err-straight-clause-none : goal.returns-in_err-straight-clause-none
 returns-in_err-straight-clause-none c =
     let e = err_from_is_err_and c.from_residual-in_err-straight.result c.from_residual-in_err-straight.ensures.1 in
-    rw (e.1, e.2) (λ h. no_circle (map unit_view c.args.units.now) c.args.config.now.statements _ (rw (c.in_ok-items.ensures.ok, c.statements-statements.ensures) at (c.in_err-straight.ensures.err h)))
+    rw (e.1, e.2) (λ h. no_cycle (map unit_view c.args.units.now) c.args.config.now.statements _ (rw (c.in_ok-items.ensures.ok, c.statements-statements.ensures) at (c.in_err-straight.ensures.err h)))
 
 pub returns-clause-none : goal.returns-clause-none
 returns-clause-none c = rw c.statements-statements.ensures at c.model.ensures.none
@@ -53,7 +53,7 @@ returns-in_err-statements_named-clause-refused c =
 pub returns-in_err-straight-clause-refused : goal.returns-in_err-straight-clause-refused
 returns-in_err-straight-clause-refused c =
     let e = err_from_is_err_and c.from_residual-in_err-straight.result c.from_residual-in_err-straight.ensures.1 in
-    rw (e.1, e.2) (λ h. circle_refusal (map unit_view c.args.units.now) c.args.config.now c.in_ok-items.items (behaviour_of c.in-Ok.found) _ c.in_ok-variables.ensures.known
+    rw (e.1, e.2) (λ h. cycle_refusal (map unit_view c.args.units.now) c.args.config.now c.in_ok-items.items (behaviour_of c.in-Ok.found) _ c.in_ok-variables.ensures.known
     (c.in_ok-items.ensures.ok ∙ ap (λ cs. items_of cs) c.statements-statements.ensures) c.in_ok-valued.ensures.given c.in_ok-valued.ensures.valued c.in-Ok.ensures
     (rw (c.in_ok-definitions.ensures.ok, c.statements-statements.ensures) at c.in_ok-statements_named.ensures) (c.in_err-straight.ensures.err h))
 

@@ -3,7 +3,7 @@ use Rattle.std.specs.Prelude.{OnOk}
 use Rattle.tla_tree.specs.Tree.{arms}
 use Rattle.tla_tree.specs.View.{view, choice_view, definition_view, key_view, views_items, bound_views_items, arm_views_items, definition_views_items, field_views_items, update_views_items}
 use Rattle.tla_config.specs.Names.{Name}
-use Rattle.tla_items.specs.Leads.{names_in, names_each, names_sets, names_arms, names_fields, names_updates, names_key, names_definition, names_definitions}
+use Rattle.tla_items.specs.References.{names_in, names_each, names_sets, names_arms, names_fields, names_updates, names_key, names_definition, names_definitions}
 use Rattle.tla_items.proofs.names_in.+names_in.Goals as goal
 
 -- names pushed in two steps

@@ -1,7 +1,7 @@
 use Rattle.std.proofs.Common.{◌≡◌, ◌≤◌, ◌+◌, ◌*◌, max, ◌++◌, length, map}
 use Rattle.tla_tree.specs.Tree.{trees, binders, arms, definitions, fields, keys, updates}
 use Rattle.tla_tree.specs.View.{view, group_view, choice_view, definition_view, field_view, key_view, update_view}
-use Rattle.tla_items.specs.Leads.{names_each, names_sets, names_arms, names_fields, names_updates, names_keys, names_definitions}
+use Rattle.tla_items.specs.References.{names_each, names_sets, names_arms, names_fields, names_updates, names_keys, names_definitions}
 use denote.Param.Weighed.{most}
 use Rattle.tla_tree.specs.declared.tree.Expr.{size-Expr}
 use Rattle.tla_tree.specs.declared.tree.Binder.{size-Binder}

@@ -1,5 +1,0 @@
-use Rattle.tla_defs.proofs.GivenWorked as given
-use Rattle.tla_defs.proofs.laws.circle.Goals as goal
-
-pub returns : goal.returns
-returns c = given.circle

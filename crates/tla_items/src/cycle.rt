@@ -1,0 +1,224 @@
+//! Items that lead back to their name.
+
+ghost use Rattle.std.specs.Prelude.{◌≡◌, ◌≢◌, ◌++◌, true, false, OnOk, IfOk, IfErr, map};
+ghost use Rattle.tla_config.specs.declared.error.DefsCode.TheVariants.{Memory};
+ghost use Rattle.tla_tree.specs.UnitsView.{unit_view};
+ghost use Rattle.tla_items.specs.Cycles.{AreStraight};
+ghost use Rattle.tla_items.specs.References as spec;
+ghost use Rattle.tla_items.specs.Private.Reached.{AreAmong, AreLed, Covers, GoesOn};
+ghost use Rattle.tla_items.specs.Private.Settled.{AreSettled, all_among};
+ghost use Rattle.tla_items.specs.Refusal.{IsOfCycle};
+
+use crate::items::{Items, replaced_name};
+use crate::name_set::NameSet;
+use crate::references::References;
+use crate::waiting::Waiting;
+use std::alloc::Global;
+use tla_config::{DefsCode, DefsError, Source};
+use tla_names::{Mention, Names, no_memory, refusal_of};
+use tla_tree::{Unit, Word};
+
+/// The names that a name leads to at once, more. The only error is want of memory.
+fn push_next<'a>(
+    references: &References<'a>,
+    names: &mut Waiting<'a>,
+    name: &'a Word,
+) -> Result<(), DefsError>
+    ensures ok { OnOk result (names.new ≡ names.old ++ spec.next_names references.now name.entry.now) }
+    ensures err { IfErr result (λ e. e.code ≡ Memory) }
+{
+    match references.next(name.as_bytes()) {
+        Some(next) => names.push_names(next),
+        None => Ok(()),
+    }
+}
+
+/// Names to go on from, and names from which was gone on.
+#[derive(Drop)]
+struct Walk<'a> {
+    passed: NameSet<'a>,
+    waiting: Waiting<'a>,
+}
+
+/// Goes on from a name. The only error is want of memory.
+fn go_on<'a>(
+    references: &References<'a>,
+    walk: &mut Walk<'a>,
+    name: &'a Word,
+) -> Result<(), DefsError>
+    ensures ok { OnOk result (GoesOn references.now name.entry.now walk.old.passed walk.old.waiting walk.new.passed walk.new.waiting) }
+    ensures err { IfErr result (λ e. e.code ≡ Memory) }
+{
+    if !walk.passed.insert(name.as_bytes())? {
+        return Ok(());
+    }
+    push_next(references, &mut walk.waiting, name)
+}
+
+/// The names that a name leads to. The only error is want of memory.
+fn reached<'a>(
+    alloc: Global,
+    references: &References<'a>,
+    from: &'a Word,
+) -> Result<NameSet<'a>, DefsError>
+    ensures start { IfOk result (λ ys. AreAmong (spec.next_names references.now from.entry.now) ys) }
+    ensures led { IfOk result (λ ys. AreLed references.now from.entry.now ys) }
+    ensures covers { IfOk result (λ ys. Covers references.now ys ys) }
+    ensures err { IfErr result (λ e. e.code ≡ Memory) }
+{
+    let mut walk = Walk {
+        passed: NameSet::new(alloc),
+        waiting: Waiting::new(alloc),
+    };
+    push_next(references, &mut walk.waiting, from)?;
+    for _turn in 0..u64::MAX {
+        let Some(name) = walk.waiting.pop() else {
+            return Ok(walk.passed);
+        };
+        go_on(references, &mut walk, name)?;
+    }
+    Err(no_memory())
+}
+
+/// Whether a name leads to itself. The only error is want of memory.
+fn is_circular<'a>(
+    alloc: Global,
+    references: &References<'a>,
+    name: &'a Word,
+) -> Result<bool, DefsError>
+    ensures yes { IfOk result (λ b. b ≡ true → spec.IsCircular references.now name.entry.now) }
+    ensures no { IfOk result (λ b. b ≡ false → spec.IsCircular references.now name.entry.now → ⊥) }
+    ensures err { IfErr result (λ e. e.code ≡ Memory) }
+{
+    let found = reached(alloc, references, name)?;
+    Ok(found.contains(name.as_bytes()))
+}
+
+/// Whether each of these names is one of the others.
+fn all_among<'a>(names: &Names<'a>, others: &NameSet<'a>) -> bool
+    ensures { result ≡ all_among names.now others.now }
+{
+    let mut left = names.words();
+    while let [first, rest @ ..] = left {
+        if !others.contains(first.as_bytes()) {
+            return false;
+        }
+        left = rest;
+    }
+    true
+}
+
+/// Whether a name leads at once to these names alone.
+fn leads_among<'a>(references: &References<'a>, name: &'a Word, names: &NameSet<'a>) -> bool
+    ensures { result ≡ all_among (spec.next_names references.now name.entry.now) names.now }
+{
+    match references.next(name.as_bytes()) {
+        Some(next) => all_among(next, names),
+        None => true,
+    }
+}
+
+/// Settles a name, or first goes on to those that it leads to. False where it was gone on from already and they aren't
+/// settled: it leads to itself. The only error is want of memory.
+fn settle_next<'a>(
+    references: &References<'a>,
+    settled: &mut NameSet<'a>,
+    walk: &mut Walk<'a>,
+    name: &'a Word,
+) -> Result<bool, DefsError>
+    requires { AreSettled references.now settled.old }
+    ensures ok { OnOk result (AreSettled references.now settled.new) }
+    ensures err { IfErr result (λ e. e.code ≡ Memory) }
+{
+    if settled.contains(name.as_bytes()) {
+        return Ok(true);
+    }
+    if leads_among(references, name, settled) {
+        settled.insert(name.as_bytes())?;
+        return Ok(true);
+    }
+    if !walk.passed.insert(name.as_bytes())? {
+        return Ok(false);
+    }
+    walk.waiting.push(name)?;
+    push_next(references, &mut walk.waiting, name)?;
+    Ok(true)
+}
+
+/// Settles a name and those that it leads to, each once, unless one of them leads to itself. The only error is want of memory.
+fn settle<'a>(
+    alloc: Global,
+    references: &References<'a>,
+    settled: &mut NameSet<'a>,
+    from: &'a Word,
+) -> Result<(), DefsError>
+    requires { AreSettled references.now settled.old }
+    ensures ok { OnOk result (AreSettled references.now settled.new) }
+    ensures err { IfErr result (λ e. e.code ≡ Memory) }
+{
+    let mut walk = Walk {
+        passed: NameSet::new(alloc),
+        waiting: Waiting::new(alloc),
+    };
+    walk.waiting.push(from)?;
+    for _turn in 0..u64::MAX {
+        let Some(name) = walk.waiting.pop() else {
+            return Ok(());
+        };
+        if !settle_next(references, settled, &mut walk, name)? {
+            return Ok(());
+        }
+    }
+    Ok(())
+}
+
+/// Whether a name leads to itself, where the settled ones don't. The only error is want of memory.
+fn leads_back<'a>(
+    alloc: Global,
+    references: &References<'a>,
+    settled: &mut NameSet<'a>,
+    name: &'a Word,
+) -> Result<bool, DefsError>
+    requires { AreSettled references.now settled.old }
+    ensures settled { OnOk result (AreSettled references.now settled.new) }
+    ensures yes { IfOk result (λ b. b ≡ true → spec.IsCircular references.now name.entry.now) }
+    ensures no { IfOk result (λ b. b ≡ false → spec.IsCircular references.now name.entry.now → ⊥) }
+    ensures err { IfErr result (λ e. e.code ≡ Memory) }
+{
+    settle(alloc, references, settled, name)?;
+    if settled.contains(name.as_bytes()) {
+        return Ok(false);
+    }
+    is_circular(alloc, references, name)
+}
+
+/// Items none of which leads back to its name; or the first that does.
+fn each_straight<'a>(
+    alloc: Global,
+    references: &References<'a>,
+    items: &Items<'a>,
+) -> Result<(), DefsError>
+    ensures ok { OnOk result (AreStraight references.now items.now) }
+    ensures err { IfErr result (λ e. e.code ≢ Memory → IsOfCycle references.now items.now e) }
+{
+    let mut settled = NameSet::new(alloc);
+    let mut left = items.list();
+    while let [first, rest @ ..] = left {
+        let name = replaced_name(first);
+        if leads_back(alloc, references, &mut settled, &name.word)? {
+            let code = DefsCode::CircularReplacement;
+            return Err(refusal_of(alloc, code, Source::Configuration, Mention::of(name)));
+        }
+        left = rest;
+    }
+    Ok(())
+}
+
+/// Items none of which leads back to its name in this module; or the first that does.
+pub fn straight<'a>(alloc: Global, units: &'a [Unit], items: &Items<'a>) -> Result<(), DefsError>
+    ensures ok { OnOk result (AreStraight (spec.references (map unit_view units.entry.now) items.now) items.now) }
+    ensures err { IfErr result (λ e. e.code ≢ Memory → IsOfCycle (spec.references (map unit_view units.entry.now) items.now) items.now e) }
+{
+    let references = References::of(alloc, units, items)?;
+    each_straight(alloc, &references, items)
+}
