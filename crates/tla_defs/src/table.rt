@@ -232,7 +232,7 @@ impl<'t, 'a> Definitions<'t, 'a> {
     pub(crate) fn body(&self, name: &[u8]) -> Option<&'a Expr>
         ensures { option_map tree_at result ≡ bodies_of self.now name.now }
     {
-        match self.items.meant(name) {
+        match self.items.stands_for(name) {
             Some(meant) => match self.table.get(meant) {
                 Some(body) => Some(body.tree),
                 None => None,
@@ -245,7 +245,7 @@ impl<'t, 'a> Definitions<'t, 'a> {
     pub(crate) fn is_known(&self, name: &[u8]) -> bool
         ensures { result ≡ found_names self.now name.now }
     {
-        match self.items.meant(name) {
+        match self.items.stands_for(name) {
             Some(meant) => match self.table.get(meant) {
                 Some(body) => body.is_found,
                 None => false,

@@ -44,7 +44,7 @@ impl<'t, 'a> Places<'t, 'a> {
 
     /// Where the formula that a name of the configuration stands for begins.
     pub fn begins(&self, name: &Written) -> Place {
-        let Some(meant) = self.items.meant(name.word.as_bytes()) else {
+        let Some(meant) = self.items.stands_for(name.word.as_bytes()) else {
             return name.place;
         };
         let mut left = self.units;

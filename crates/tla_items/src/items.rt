@@ -136,7 +136,7 @@ impl<'a> Items<'a> {
     }
 
     /// The name that a name means: Op, where it has an item `c <- Op`. None where it has a value.
-    pub fn meant<'n>(&'n self, name: &'n [u8]) -> Option<&'n [u8]>
+    pub fn stands_for<'n>(&'n self, name: &'n [u8]) -> Option<&'n [u8]>
         ensures { option_map (λ (w : Bor (List ℕ)). w.now) result ≡ spec.stands_for self.entry.now name.entry.now }
     {
         let mut word = name;
