@@ -60,7 +60,7 @@ fn lacking(alloc: Global) -> Result<Checked, AllocError> {
     };
     let answer = Answer::Faulted {
         fault,
-        part: Part::Invariant(0),
+        formula: Formula::Invariant(0),
         trace: one_state(alloc, -7)?,
         counts: Counts {
             levels: 1,

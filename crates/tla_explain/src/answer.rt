@@ -71,8 +71,8 @@ fn tell_with(
             )?;
         }
         Answer::Deadlock { .. } => tell_deadlock(page, sources, answered, rebuilt)?,
-        Answer::Faulted { fault, part, .. } => {
-            faults::tell(page, &telling, answered, fault, *part)?;
+        Answer::Faulted { fault, formula, .. } => {
+            faults::tell(page, &telling, answered, fault, *formula)?;
         }
         Answer::AssumptionFalse { number } => tell_assumption(page, sources, rebuilt, *number)?,
         Answer::NoError { .. } | Answer::Limit { .. } => {}

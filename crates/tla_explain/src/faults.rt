@@ -7,7 +7,7 @@ use crate::places::token_place;
 use crate::trace::Telling;
 use crate::values::put_state;
 use std::alloc::AllocError;
-use tla_check::{Answered, Part};
+use tla_check::{Answered, Formula};
 use tla_core::{Core, Fault, FaultCode, Place};
 use tla_steps::lacking_parts;
 
@@ -17,13 +17,13 @@ pub(crate) fn tell(
     telling: &Telling<'_>,
     answered: &Answered,
     fault: &Fault,
-    part: Part,
+    formula: Formula,
 ) -> Result<(), AllocError> {
     let code = fault.code;
-    let action = action_of(telling, part);
+    let action = action_of(telling, formula);
     let title = title_of(page, answered, fault)?;
-    let part = part_text(page, answered, part)?;
-    let text = format!(in page.alloc(); "{title} ({code}), in {part}")?;
+    let formula = formula_text(page, answered, formula)?;
+    let text = format!(in page.alloc(); "{title} ({code}), in {formula}")?;
     let place = match fault.variable {
         Some(_) => Some(action.place()),
         None => fault.place,
@@ -39,17 +39,17 @@ pub(crate) fn tell(
     tell_values(page, answered)
 }
 
-fn part_text(page: &Page, answered: &Answered, part: Part) -> Result<String, AllocError> {
+fn formula_text(page: &Page, answered: &Answered, formula: Formula) -> Result<String, AllocError> {
     let alloc = page.alloc();
-    match part {
-        Part::Assumption(number) => format!(in alloc; "assumption {number}"),
-        Part::Initial => format!(in alloc; "the initial predicate"),
-        Part::NextAction => format!(in alloc; "the next-state action"),
-        Part::Invariant(index) => {
+    match formula {
+        Formula::Assumption(number) => format!(in alloc; "assumption {number}"),
+        Formula::Initial => format!(in alloc; "the initial predicate"),
+        Formula::NextAction => format!(in alloc; "the next-state action"),
+        Formula::Invariant(index) => {
             let name = name_at(answered.invariants.as_slice(), index);
             format!(in alloc; "invariant '{name}'")
         }
-        Part::Constraint(index) => {
+        Formula::Constraint(index) => {
             let name = name_at(answered.constraints.as_slice(), index);
             format!(in alloc; "constraint '{name}'")
         }
@@ -96,9 +96,9 @@ fn code_title(code: FaultCode) -> &'static str {
 }
 
 /// What is read where a variable is left without a value.
-fn action_of<'a>(telling: &Telling<'a>, part: Part) -> &'a Core {
-    match part {
-        Part::Initial => telling.rebuilt.model.init(),
+fn action_of<'a>(telling: &Telling<'a>, formula: Formula) -> &'a Core {
+    match formula {
+        Formula::Initial => telling.rebuilt.model.init(),
         _ => telling.rebuilt.model.next(),
     }
 }
