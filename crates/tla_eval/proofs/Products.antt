@@ -16,7 +16,11 @@ use Rattle.tla_core.specs.SetForms.{parts_have, means-product}
 use Rattle.tla_core.specs.Laws.{KnowsItsMembers}
 use Rattle.tla_core.specs.declared.fault.Place.{Place}
 use Rattle.tla_core.specs.Fault.{Outcome, ◌>>=◌}
-use Rattle.tla_operators.proofs.Members.{bool-iff, and-both, eq-true, eq-refl, eq-same, any-map, pairs-entries, bind-ok, made-sized, stand_in, choices-any, choices-found}
+use Rattle.tla_value.specs.Rising.{any-map}
+use Rattle.tla_value.specs.ValueOrder.{pairs-entries}
+use Rattle.tla_value.proofs.FunctionMembers.{stand_in}
+use Rattle.tla_value.proofs.TreeTests.{bool-iff, and-both, eq-true, eq-refl, eq-same}
+use Rattle.tla_operators.proofs.Members.{bind-ok, made-sized, choices-any, choices-found}
 use Rattle.tla_eval.proofs.TwoSets.{then-ok, not-there, cond-and, has-elements}
 
 -- ---- sets of sequences and of records

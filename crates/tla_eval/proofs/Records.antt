@@ -23,7 +23,9 @@ use Rattle.tla_core.specs.Laws.{KnowsItsMembers}
 use Rattle.tla_core.specs.declared.fault.Place.{Place}
 use Rattle.tla_core.specs.declared.fault.FaultCode.TheVariants.{NoField}
 use Rattle.tla_core.specs.Fault.{fault}
-use Rattle.tla_operators.proofs.Members.{and-both, both-and, or-cases, or-first, or-second, eq-true, eq-refl, member-append, member-filter, pairs-entries, bind-ok, set-same, made-sized, cond-first, into, member-functions, all-by}
+use Rattle.tla_value.specs.ValueOrder.{pairs-entries}
+use Rattle.tla_value.proofs.TreeTests.{and-both, both-and, or-cases, or-first, or-second, eq-true, eq-refl, member-filter}
+use Rattle.tla_operators.proofs.Members.{member-append, bind-ok, set-same, made-sized, cond-first, into, member-functions, all-by}
 use Rattle.tla_eval.proofs.TwoSets.{then-ok, not-there, cond-and, has-elements}
 use Rattle.tla_eval.proofs.Products.{Gives, gives-sets}
 

@@ -17,7 +17,10 @@ use Rattle.tla_core.specs.SetForms.{of_two_sets, means-power, means-functions, m
 use Rattle.tla_core.specs.Laws.{KnowsItsMembers}
 use Rattle.tla_core.specs.declared.fault.Place.{Place}
 use Rattle.tla_core.specs.Fault.{Outcome, ◌>>=◌}
-use Rattle.tla_operators.proofs.Members.{bool-iff, or-first, eq-true, eq-same, any-map, member-append, member-filter, trees-members, pairs-entries, bind-ok, set-same, made, as_set-ok, any-sublists, sublists-found, into, member-functions, all-member, all-by}
+use Rattle.tla_value.specs.Rising.{any-map}
+use Rattle.tla_value.specs.ValueOrder.{trees-members, pairs-entries}
+use Rattle.tla_value.proofs.TreeTests.{bool-iff, or-first, eq-true, eq-same, member-filter}
+use Rattle.tla_operators.proofs.Members.{member-append, bind-ok, set-same, made, as_set-ok, any-sublists, sublists-found, into, member-functions, all-member, all-by}
 
 -- ---- outcomes that are known
 pub all_hold-ok : {A : Type 0} (test : A → Outcome Bool) (known : A → Bool) (xs : List A) → AllByRecursion (λ x. test x ≡ Ok (known x)) xs → all_hold test xs ≡ Ok (list_all known xs)

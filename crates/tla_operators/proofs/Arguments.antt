@@ -6,7 +6,8 @@ use Rattle.tla_value.specs.Order.{tree_eq}
 use Rattle.tla_value.specs.Funs.{arguments}
 use Rattle.tla_value.specs.declared.value.Value.{Value}
 use Rattle.tla_value.proofs.Ways.{from_place}
-use Rattle.tla_operators.proofs.Members.{bool-iff, eq-true, eq-same, set-same}
+use Rattle.tla_value.proofs.TreeTests.{bool-iff, eq-true, eq-same}
+use Rattle.tla_operators.proofs.Members.{set-same}
 
 first_same : (a b : Tree) (us vs : Trees) → more_trees a us ≡ more_trees b vs → a ≡ b
 first_same a b us vs h = cc

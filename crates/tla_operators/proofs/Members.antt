@@ -1,67 +1,20 @@
--- Facts on membership: of lists made by `++`, a filter or a conditional, and of made sets.
-use Rattle.std.proofs.Common.{◌≡◌, ◌⊎◌, ℕ, Bool, true, false, cond, ◌&&◌, ◌||◌, List, [], ◌∷◌, ◌++◌, map, filter, zip, length, refl, sym, ap, subst, ◌∙◌, Some, None, Ok, Err, inl, inr, ⊎_elim, nat_lt}
-use Rattle.std.specs.List.{list_any, list_all, flat_map}
-use Rattle.std.specs.declared.cmp.Ordering.{Ordering}
-use Rattle.std.specs.declared.cmp.Ordering.TheVariants.{Less, Equal, Greater}
-use Rattle.std.specs.Ordering.{is_eq, ordering_reverse}
-use Rattle.tla_value.specs.Tree.{Tree, Trees, Pairs, truth, int, text, model, set, fun, no_trees, more_trees, no_pairs, more_pairs, trees, pairs, members, entries, members-trees, entries-pairs, deepest}
-use Rattle.tla_value.specs.Order.{tree_cmp, tree_eq}
-use Rattle.tla_value.specs.OrderLaws.{tree_cmp-total, exact-tree}
+-- Facts on membership: of lists made by `++`, of made sets, of sublists, of choices and of sets of functions.
+use Rattle.std.proofs.Common.{◌≡◌, ℕ, Bool, true, false, cond, ◌&&◌, ◌||◌, List, [], ◌∷◌, ◌++◌, map, filter, zip, length, refl, sym, ap, subst, ◌∙◌, Some, None, Ok, Err, ⊎_elim, nat_lt}
+use Rattle.std.specs.List.{list_any, list_all}
+use Rattle.tla_value.specs.Tree.{Tree, Trees, Pairs, truth, int, text, model, set, fun, trees, pairs, members, entries, members-trees, entries-pairs, deepest}
+use Rattle.tla_value.specs.Order.{tree_eq}
 use Rattle.tla_value.specs.Sets.{is_member, set_of}
 use Rattle.tla_value.specs.SetLaws.{is_member-set_of}
 use Rattle.tla_core.specs.Kinds.{as_set, within, sized_set, make_set}
 use Rattle.tla_value.specs.Funs.{arguments}
 use Rattle.tla_value.specs.Choices.{choices, sublists, functions_of}
+use Rattle.tla_value.specs.Rising.{any-map}
+use Rattle.tla_value.proofs.FunctionMembers.{stand_in, images}
+use Rattle.tla_value.proofs.TreeTests.{bool-iff, and-both, both-and, or-cases, or-first, or-second, eq-true, eq-refl, eq-same, any-flat_map, member-found, member-any}
 use Rattle.tla_core.specs.declared.fault.Place.{Place}
 use Rattle.tla_core.specs.declared.fault.Fault.{Fault}
 use Rattle.tla_core.specs.declared.fault.FaultCode.TheVariants.{TooMany, TooDeep}
 use Rattle.tla_core.specs.Fault.{Outcome, ◌>>=◌}
-
--- ---- Bool
-pub bool-iff : (a b : Bool) → (a ≡ true → b ≡ true) → (b ≡ true → a ≡ true) → a ≡ b
-bool-iff true b h j = sym (h refl)
-bool-iff false true h j = j refl
-bool-iff false false h j = refl
-
-pub and-both : (a b : Bool) → (a && b) ≡ true → (a ≡ true) × (b ≡ true)
-and-both true b h = (refl, h)
-and-both false b h = cc
-
-pub both-and : (a b : Bool) → a ≡ true → b ≡ true → (a && b) ≡ true
-both-and true b h j = j
-both-and false b h j = cc
-
-pub or-cases : (a b : Bool) → (a || b) ≡ true → (a ≡ true) ⊎ (b ≡ true)
-or-cases true b h = inl refl
-or-cases false b h = inr h
-
-pub or-first : (a b : Bool) → a ≡ true → (a || b) ≡ true
-or-first true b h = refl
-or-first false b h = cc
-
-pub or-second : (a b : Bool) → b ≡ true → (a || b) ≡ true
-or-second true b h = refl
-or-second false b h = h
-
--- ---- equality of trees
-pub eq-true : (a b : Tree) → tree_eq a b ≡ true → a ≡ b
-eq-true a b h = exact-tree a b (go (tree_cmp a b) refl h)
-  where
-    go : (r : Ordering) → tree_cmp a b ≡ r → is_eq r ≡ true → tree_cmp a b ≡ Equal
-    go Less e k = cc
-    go Equal e k = e
-    go Greater e k = cc
-
-turned-equal : (r : Ordering) → r ≡ ordering_reverse r → r ≡ Equal
-turned-equal Less e = cc
-turned-equal Equal e = refl
-turned-equal Greater e = cc
-
-pub eq-refl : (a : Tree) → tree_eq a a ≡ true
-eq-refl a = ap is_eq (turned-equal (tree_cmp a a) (tree_cmp-total.antisymm a a))
-
-pub eq-same : (a b : Tree) → a ≡ b → tree_eq a b ≡ true
-eq-same a b e = subst (λ (x : Tree). tree_eq a x ≡ true) e (eq-refl a)
 
 -- ---- tests over a list
 or-or : (a b c : Bool) → (a || (b || c)) ≡ ((a || b) || c)
@@ -72,47 +25,9 @@ pub any-append : {A : Type 0} (test : A → Bool) (xs ys : List A) → list_any 
 any-append test [] ys = refl
 any-append test (x ∷ xs) ys = ap (λ b. test x || b) (any-append test xs ys) ∙ or-or (test x) _ _
 
-pub any-map : {A B : Type 0} (f : A → B) (test : B → Bool) (xs : List A) → list_any test (map f xs) ≡ list_any (λ x. test (f x)) xs
-any-map f test [] = refl
-any-map f test (x ∷ xs) = ap (λ b. test (f x) || b) (any-map f test xs)
-
-pub any-flat_map : {A B : Type 0} (f : A → List B) (test : B → Bool) (xs : List A) → list_any test (flat_map f xs) ≡ list_any (λ x. list_any test (f x)) xs
-any-flat_map f test [] = refl
-any-flat_map f test (x ∷ xs) = any-append test (f x) (flat_map f xs) ∙ ap (λ b. list_any test (f x) || b) (any-flat_map f test xs)
-
 -- ---- members
-pub member-found : (test : Tree → Bool) (xs : List Tree) → list_any test xs ≡ true → (x : Tree) × (test x ≡ true) × (is_member x xs ≡ true)
-member-found test [] h = cc
-member-found test (x ∷ xs) h =
-    ⊎_elim
-    (λ e. (x, e, or-first (tree_eq x x) _ (eq-refl x)))
-    (λ e. let r = member-found test xs e in (r.0, r.1, or-second (tree_eq r.0 x) _ r.2))
-    (or-cases (test x) _ h)
-
-pub member-any : (test : Tree → Bool) (x : Tree) (xs : List Tree) → is_member x xs ≡ true → test x ≡ true → list_any test xs ≡ true
-member-any test x [] h e = cc
-member-any test x (y ∷ ys) h e =
-    ⊎_elim
-    (λ f. or-first (test y) _ (sym (ap test (eq-true x y f)) ∙ e))
-    (λ f. or-second (test y) _ (member-any test x ys f e))
-    (or-cases (tree_eq x y) _ h)
-
 pub member-append : (v : Tree) (xs ys : List Tree) → is_member v (xs ++ ys) ≡ (is_member v xs || is_member v ys)
 member-append v xs ys = any-append (tree_eq v) xs ys
-
-and-false : (b : Bool) → (b && false) ≡ false
-and-false true = refl
-and-false false = refl
-
-filter-step : (test : Tree → Bool) (v x : Tree) (xs : List Tree) → is_member v (filter test xs) ≡ (is_member v xs && test v) → (e : Bool) → tree_eq v x ≡ e → (b : Bool) → test x ≡ b → is_member v (cond b (x ∷ filter test xs) (filter test xs)) ≡ ((e || is_member v xs) && test v)
-filter-step test v x xs ih true e true f = or-first (tree_eq v x) _ e ∙ sym (ap test (eq-true v x e) ∙ f)
-filter-step test v x xs ih true e false f = ih ∙ ap (λ b. is_member v xs && b) (ap test (eq-true v x e) ∙ f) ∙ and-false (is_member v xs) ∙ sym (ap test (eq-true v x e) ∙ f)
-filter-step test v x xs ih false e true f = rw e ih
-filter-step test v x xs ih false e false f = ih
-
-pub member-filter : (test : Tree → Bool) (v : Tree) (xs : List Tree) → is_member v (filter test xs) ≡ (is_member v xs && test v)
-member-filter test v [] = refl
-member-filter test v (x ∷ xs) = filter-step test v x xs (member-filter test v xs) (tree_eq v x) refl (test x) refl
 
 pub all-member : (test : Tree → Bool) (xs : List Tree) → list_all test xs ≡ true → (q : Tree) → is_member q xs ≡ true → test q ≡ true
 all-member test [] h q i = cc
@@ -124,16 +39,7 @@ pub all-by : (test : Tree → Bool) (xs : List Tree) → ((q : Tree) → is_memb
 all-by test [] h = refl
 all-by test (x ∷ xs) h = both-and (test x) _ (h x (or-first (tree_eq x x) _ (eq-refl x))) (all-by test xs (λ q i. h q (or-second (tree_eq q x) _ i)))
 
--- ---- made sets
-pub trees-members : (ts : Trees) → trees (members ts) ≡ ts
-trees-members no_trees = refl
-trees-members (more_trees t ts) = ap (λ us. more_trees t us) (trees-members ts)
-
-pub pairs-entries : (ps : Pairs) → pairs (entries ps) ≡ ps
-pairs-entries no_pairs = refl
-pairs-entries (more_pairs a v ps) = ap (λ qs. more_pairs a v qs) (pairs-entries ps)
-
--- ---- outcomes
+-- ---- outcomes, and made sets
 pub bind-ok : {A B : Type 0} (r : Outcome A) (k : A → Outcome B) (y : B) → (r >>= k) ≡ Ok y → (x : A) × (r ≡ Ok x) × (k x ≡ Ok y)
 bind-ok (Ok x) k y h = (x, refl, h)
 bind-ok (Err f) k y h = cc
@@ -195,13 +101,6 @@ sublists-found (x ∷ xs) test h =
     (x ∷ r.0, r.1, λ q i. ⊎_elim (λ f. or-first (tree_eq q x) _ f) (λ f. or-second (tree_eq q x) _ (r.2 q f)) (or-cases (tree_eq q x) _ i)))
     (or-cases (list_any test (sublists xs)) _ (sym (any-append test (sublists xs) (map (λ c. x ∷ c) (sublists xs))) ∙ h))
 
--- whether each stands in the list at its place, and there are as many
-abbrev pub stand_in : List Tree → List (List Tree) → Bool
-stand_in [] [] = true
-stand_in [] (xs ∷ rest) = false
-stand_in (v ∷ vs) [] = false
-stand_in (v ∷ vs) (xs ∷ rest) = is_member v xs && stand_in vs rest
-
 pub choices-any : (lists : List (List Tree)) (vs : List Tree) (test : List Tree → Bool) → stand_in vs lists ≡ true → test vs ≡ true → list_any test (choices lists) ≡ true
 choices-any [] [] test h e = or-first (test []) false e
 choices-any [] (v ∷ vs) test h e = cc
@@ -219,9 +118,6 @@ choices-found (xs ∷ rest) test h =
     (r.0 ∷ s.0, s.1, both-and (is_member r.0 xs) _ r.2 s.2)
 
 -- ---- functions
-abbrev pub images : List (Tree × Tree) → List Tree
-images ps = map (λ (p : Tree × Tree). p.1) ps
-
 pub zip-pairs : (ps : List (Tree × Tree)) → zip (arguments ps) (images ps) ≡ ps
 zip-pairs [] = refl
 zip-pairs (p ∷ ps) = ap (λ qs. p ∷ qs) (zip-pairs ps)

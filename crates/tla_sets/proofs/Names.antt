@@ -26,7 +26,8 @@ use Rattle.tla_core.specs.Value.{means}
 use Rattle.tla_core.specs.declared.expression.Core.{Core}
 use Rattle.tla_operators.specs.declared.evaluated.Evaluated.{Evaluated}
 use Rattle.tla_sets.proofs.Listed.{each_long, same_list}
-use Rattle.tla_operators.proofs.Members.{bind-ok, bool-iff, and-both, both-and, eq-true, eq-same, set-same, all-member, all-by}
+use Rattle.tla_value.proofs.TreeTests.{bool-iff, and-both, both-and, eq-true, eq-same}
+use Rattle.tla_operators.proofs.Members.{bind-ok, set-same, all-member, all-by}
 
 pub keys-zip : (fs : List (List ℕ × Meaning)) (lists : List (List Tree)) → length lists ≡ length fs → keys_of (zip (names_of fs) lists) ≡ keys_of fs
 keys-zip [] lists h = refl

@@ -5,7 +5,7 @@ use Rattle.tla_value.specs.TreeOf.{tree_of, pair_of}
 use Rattle.tla_value.specs.Order.{tree_eq}
 use Rattle.tla_value.specs.declared.value.Value.{Value}
 use Rattle.tla_value.specs.Funs.{arguments}
-use Rattle.tla_operators.proofs.Members.{eq-refl}
+use Rattle.tla_value.proofs.TreeTests.{eq-refl}
 use Rattle.tla_operators.proofs.Arguments.{other_length, arguments_step, arguments_stop}
 use Rattle.tla_operators.proofs.sets.are_arguments.Goals as goal
 
