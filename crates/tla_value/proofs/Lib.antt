@@ -1,11 +1,8 @@
 pub mod Lists
 pub mod TreeTests
 pub mod Parts
-pub mod Pairs
-pub mod Places
-pub mod Fed
-pub mod Compared
 pub mod Sorts
+pub mod Entries
 pub mod FunSorts
 pub mod Passes
 pub mod Merges
@@ -18,10 +15,10 @@ pub mod Tuples
 pub mod Subsets
 pub mod Sublists
 pub mod Shown
+pub mod Exceptions
 pub mod Made
 pub mod FunctionMembers
 pub mod Fields
 pub mod FieldLists
 pub mod Records
 pub mod Sequences
-pub mod OnDomain

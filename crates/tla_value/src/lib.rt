@@ -9,7 +9,6 @@
 
 mod choice;
 mod copy;
-mod domain;
 mod error;
 mod fun;
 mod hash;
@@ -27,4 +26,4 @@ pub use set::{MAX_ELEMENTS, MAX_NESTING};
 pub use show::TextFault;
 pub use state::State;
 pub use text::Text;
-pub use value::{Arguments, FunValue, SetValue, Value};
+pub use value::{FunValue, SetValue, Value};
