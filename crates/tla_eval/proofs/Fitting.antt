@@ -5,7 +5,7 @@ use Rattle.std.proofs.lemmas.Bool.{eq-eqb}
 use Rattle.std.proofs.lemmas.Bool.Decides.{eqb_tells}
 use Rattle.std.proofs.lemmas.List.{length-map}
 use Rattle.tla_value.specs.Tree.{Tree, truth, set, trees, members-trees}
-use Rattle.tla_value.specs.TreeOf.{tree_of, pair_of}
+use Rattle.tla_value.specs.TreeOf.{tree_of}
 use Rattle.tla_value.specs.declared.value.Value.{Value}
 use Rattle.tla_value.specs.declared.value.Value.TheVariants.{Set}
 use Rattle.tla_core.specs.declared.fault.Place.{Place}
@@ -16,25 +16,22 @@ use Rattle.tla_core.specs.Kinds.{or_fault, items}
 use Rattle.tla_core.specs.Lists.{each}
 use Rattle.tla_core.specs.Meaning.{Bound}
 use Rattle.tla_core.specs.Patterns.{of_length, fitting, opened_items, tried_set}
-use Rattle.tla_operators.specs.Gives.{GivesBy, values_of}
+use Rattle.tla_operators.specs.Gives.{GivesBy}
 use Rattle.tla_eval.specs.Private.Parts.{nothing_of}
 
 -- ---- one element
-values_long : (ps : List (Value × Value)) → length (values_of (map pair_of ps)) ≡ length ps
-values_long ps = length-map (map pair_of ps) (λ (p : Tree × Tree). p.1) ∙ length-map ps pair_of
-
 same_length : (k : ℕ) (vs : List Tree) → length vs ≡ k → of_length k (Some vs) ≡ Some vs
 same_length k vs h = ap (λ (b : Bool). if b then Some vs else None) (eq-eqb (length vs) k h)
 
 other_length : (k : ℕ) (vs : List Tree) → (length vs ≡ k → ⊥) → of_length k (Some vs) ≡ None
 other_length k vs h = ⊎_elim (λ e. absurd (h e.1)) (λ e. ap (λ (b : Bool). if b then Some vs else None) e.0) (eqb_tells (length vs) k)
 
-module _ (p : Place) (k : ℕ) (v : Tree) (ps : List (Value × Value)) (is : items v ≡ Some (values_of (map pair_of ps))) where
-  pub fits_pattern : length ps ≡ k → fitting p k v ≡ Ok (values_of (map pair_of ps))
-  fits_pattern h = ap (λ o. or_fault WrongKind p (of_length k o)) is ∙ ap (or_fault WrongKind p) (same_length k (values_of (map pair_of ps)) (values_long ps ∙ h))
+module _ (p : Place) (k : ℕ) (v : Tree) (vs : List Value) (is : items v ≡ Some (map tree_of vs)) where
+  pub fits_pattern : length vs ≡ k → fitting p k v ≡ Ok (map tree_of vs)
+  fits_pattern h = ap (λ o. or_fault WrongKind p (of_length k o)) is ∙ ap (or_fault WrongKind p) (same_length k (map tree_of vs) (length-map vs tree_of ∙ h))
 
-  pub fits_no_pattern : (length ps ≡ k → ⊥) → fitting p k v ≡ fault WrongKind p
-  fits_no_pattern h = ap (λ o. or_fault WrongKind p (of_length k o)) is ∙ ap (or_fault WrongKind p) (other_length k (values_of (map pair_of ps)) (λ e. h (sym (values_long ps) ∙ e)))
+  pub fits_no_pattern : (length vs ≡ k → ⊥) → fitting p k v ≡ fault WrongKind p
+  fits_no_pattern h = ap (λ o. or_fault WrongKind p (of_length k o)) is ∙ ap (or_fault WrongKind p) (other_length k (map tree_of vs) (λ e. h (sym (length-map vs tree_of) ∙ e)))
 
 pub has_no_items : (p : Place) (k : ℕ) (v : Tree) → items v ≡ None → fitting p k v ≡ fault WrongKind p
 has_no_items p k v is = ap (λ o. or_fault WrongKind p (of_length k o)) is

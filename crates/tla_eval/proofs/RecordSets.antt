@@ -2,7 +2,7 @@
 use Rattle.std.proofs.Common.{◌≡◌, ℕ, suc, ◌==◌, false, cond, eq-eqb, ne_eqb, List, [], ◌∷◌, map, zip, length, Option, Some, Ok, Err, refl, sym, ap, ◌∙◌}
 use Rattle.std.proofs.lemmas.List.{length-map}
 use Rattle.tla_value.specs.Tree.{Tree}
-use Rattle.tla_value.specs.TreeOf.{pair_of}
+use Rattle.tla_value.specs.TreeOf.{tree_of}
 use Rattle.tla_value.specs.declared.value.Value.{Value}
 use Rattle.tla_value.specs.Choices.{keys_of, parts_of, is_each_once, records_of, tuples_of}
 use Rattle.tla_core.specs.declared.fault.Place.{Place}
@@ -14,7 +14,6 @@ use Rattle.tla_core.specs.Meaning.{Meaning, Bound, Present, Next}
 use Rattle.tla_core.specs.SetForms.{means-records, means-product, names_of, parts_have}
 use Rattle.tla_core.specs.Membership.{if_some}
 use Rattle.tla_eval.specs.Private.Parts.{product_rule, record_set_rule}
-use Rattle.tla_operators.specs.Gives.{values_of}
 use Rattle.tla_operators.specs.Evaluated.{tree_of_evaluated}
 use Rattle.tla_core.specs.ExprOf.{expr_of, fields_of_cores, parts_of_cores}
 use Rattle.tla_core.specs.Value.{means}
@@ -46,14 +45,11 @@ parts_long : (parts : List Core) → length (parts_of_cores parts) ≡ length pa
 parts_long [] = refl
 parts_long (c ∷ cs) = ap suc (parts_long cs)
 
-values_long : (ps : List (Value × Value)) → length (values_of (map pair_of ps)) ≡ length ps
-values_long ps = length-map (map pair_of ps) (λ q. q.1) ∙ length-map ps pair_of
+pub same_number : (vs : List Value) (parts : List Core) → length vs ≡ length parts → length (map tree_of vs) ≡ length (parts_of_cores parts)
+same_number vs parts h = length-map vs tree_of ∙ h ∙ sym (parts_long parts)
 
-pub same_number : (ps : List (Value × Value)) (parts : List Core) → length ps ≡ length parts → length (values_of (map pair_of ps)) ≡ length (parts_of_cores parts)
-same_number ps parts h = values_long ps ∙ h ∙ sym (parts_long parts)
-
-pub number_same : (ps : List (Value × Value)) (parts : List Core) → length (values_of (map pair_of ps)) ≡ length (parts_of_cores parts) → length ps ≡ length parts
-number_same ps parts h = sym (values_long ps) ∙ h ∙ parts_long parts
+pub number_same : (vs : List Value) (parts : List Core) → length (map tree_of vs) ≡ length (parts_of_cores parts) → length vs ≡ length parts
+number_same vs parts h = sym (length-map vs tree_of) ∙ h ∙ parts_long parts
 
 module _ (ms : List Meaning) (vs : List Tree) (o : Option (List Tree)) (is : o ≡ Some vs) (b : Bound) (s : Present) (t : Next) where
   known : if_some o (λ us. cond (length us == length ms) (parts_have ms us b s t) (Ok false)) ≡ cond (length vs == length ms) (parts_have ms vs b s t) (Ok false)

@@ -6,7 +6,6 @@ mod evaluation;
 pub mod laws;
 mod partial;
 mod patterns;
-mod places;
 
 pub use evaluation::{eval, member, set_members};
 pub use partial::Partial;

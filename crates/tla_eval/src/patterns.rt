@@ -1,31 +1,31 @@
 //! Elements that stand for their items.
 ghost use Rattle.std.specs.Prelude.{map};
-ghost use Rattle.tla_value.specs.TreeOf.{tree_of, pair_of};
+ghost use Rattle.tla_value.specs.TreeOf.{tree_of};
 ghost use Rattle.tla_core.specs.Lists.{each};
 ghost use Rattle.tla_core.specs.Patterns.{fitting, opened_items, tried_set};
 ghost use Rattle.tla_eval.specs.Private.Environment.{bound_of};
-ghost use Rattle.tla_operators.specs.Gives.{GivesBy, values_of};
+ghost use Rattle.tla_operators.specs.Gives.{GivesBy};
 ghost use Rattle.tla_eval.specs.Private.Parts.{nothing_of};
 
 use crate::environment::{Frame, bound_value};
 use std::alloc::Global;
 use tla_core::{Fault, FaultCode, Opening, Place};
-use tla_operators::sequences::{add_items, sequence_pairs};
+use tla_operators::sequences::{add_items, sequence_items};
 use tla_operators::trouble::{Trouble, fault_at};
 use tla_value::Value;
 
-/// The pairs of an element that is a sequence of so many items. Another element is a fault of the form at the place.
+/// The items of an element that is a sequence of so many items. Another element is a fault of the form at the place.
 fn fitting<'p, 'a>(
     place: &'p Place,
     count: usize,
     element: &'a Value,
-) -> Result<&'a [(Value, Value)], Trouble<'p>>
-    ensures { GivesBy (λ ps. values_of (map pair_of ps.now)) result (fitting place.now count (tree_of element.now)) }
+) -> Result<&'a [Value], Trouble<'p>>
+    ensures { GivesBy (λ vs. map tree_of vs.now) result (fitting place.now count (tree_of element.now)) }
 {
-    match sequence_pairs(element) {
-        Some(pairs) => {
-            if pairs.len() == count {
-                Ok(pairs)
+    match sequence_items(element) {
+        Some(items) => {
+            if items.len() == count {
+                Ok(items)
             } else {
                 Err(fault_at(FaultCode::WrongKind, place))
             }
@@ -46,8 +46,8 @@ pub(crate) fn open_items<'p, 'a>(
     let mut items = Vec::new(alloc);
     for opening in openings {
         let element = bound_value(scope, opening.name);
-        let pairs = fitting(place, opening.items, element.value())?;
-        add_items(alloc, &mut items, pairs)?;
+        let values = fitting(place, opening.items, element.value())?;
+        add_items(alloc, &mut items, values)?;
     }
     Ok(items)
 }

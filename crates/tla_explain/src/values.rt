@@ -3,7 +3,7 @@
 use crate::page::Page;
 use std::alloc::AllocError;
 use tla_check::Names;
-use tla_value::{FunValue, State, Value};
+use tla_value::{Arguments, FunValue, State, Value};
 
 /// How many bytes of a value are shown.
 const LONGEST_VALUE: usize = 160;
@@ -77,11 +77,11 @@ fn put_change(page: &mut Page, name: &str, old: &Value, new: &Value) -> Result<(
 
 fn same_arguments(old: &FunValue, new: &FunValue) -> bool {
     old.len() == new.len()
-        && old
-            .pairs()
-            .iter()
-            .zip(new.pairs().iter())
-            .all(|(one, other)| one.0 == other.0)
+        && match (old.arguments(), new.arguments()) {
+            (Arguments::Numbers(first), Arguments::Numbers(other)) => first == other,
+            (Arguments::Listed(listed), Arguments::Listed(others)) => listed == others,
+            (_, _) => false,
+        }
 }
 
 fn put_changed_pairs(
@@ -90,11 +90,14 @@ fn put_changed_pairs(
     old: &FunValue,
     new: &FunValue,
 ) -> Result<(), AllocError> {
-    for (one, other) in old.pairs().iter().zip(new.pairs().iter()) {
-        if one.1 != other.1 {
+    let Ok(pairs) = old.copy(page.alloc()).and_then(FunValue::into_pairs) else {
+        return Err(AllocError);
+    };
+    for (pair, value) in pairs.iter().zip(new.values().iter()) {
+        if pair.1 != *value {
             page.put(&["    ", name])?;
-            put_key(page, &one.0)?;
-            put_from_to(page, &one.1, &other.1)?;
+            put_key(page, &pair.0)?;
+            put_from_to(page, &pair.1, value)?;
         }
     }
     Ok(())

@@ -1,5 +1,5 @@
 -- What a call answers: the value or the fault that the definition gives, unless memory ran out. (This project's own choice.)
-use Rattle.std.specs.Prelude.{◌≡◌, ◌⊎◌, ℤ, Bool, List, map, Some, None, Result, Ok, Err}
+use Rattle.std.specs.Prelude.{◌≡◌, ◌⊎◌, ℤ, Bool, List, Some, None, Result, Ok, Err}
 use Rattle.std.proofs.Common.{Bor}
 use Rattle.tla_value.specs.Tree.{Tree}
 use Rattle.tla_value.specs.TreeOf.{tree_of}
@@ -48,10 +48,6 @@ abbrev pub IsRefusal : ValueError → Place → Fault → Type 0
 IsRefusal TooMany p f = f ≡ record { code = FaultCode.TooMany; place = Some p; variable = None }
 IsRefusal TooDeep p f = f ≡ record { code = FaultCode.TooDeep; place = Some p; variable = None }
 IsRefusal Memory p f = f ≡ out_of_memory
-
--- the values of some pairs, in the order of their arguments
-abbrev pub values_of : List (Tree × Tree) → List Tree
-values_of ps = map (λ (p : Tree × Tree). p.1) ps
 
 -- all subsets of a value that is a set
 abbrev pub subsets_rule : Place → Tree → Outcome Tree

@@ -1,11 +1,12 @@
 //! Sets that are made of the values of parts, and membership in values.
-ghost use Rattle.std.specs.Prelude.{◌≡◌, ◌++◌, ◌∷◌, [], Ok, List, false, true, filter, map, not, option_map};
-ghost use Rattle.tla_value.specs.Tree.{Tree, truth, set, trees};
-ghost use Rattle.tla_value.specs.TreeOf.{tree_of, pair_of};
+ghost use Rattle.std.specs.Prelude.{◌≡◌, ◌<◌, ◌≤◌, ◌++◌, ◌∷◌, [], Ok, Some, List, false, true, filter, length, map, not, option_map, slice_get};
+ghost use Rattle.tla_value.specs.Tree.{Tree, int, truth, set, trees};
+ghost use Rattle.tla_value.specs.TreeOf.{tree_of};
 ghost use Rattle.tla_value.specs.Order.{tree_eq};
 ghost use Rattle.tla_value.specs.Funs.{arguments};
 ghost use Rattle.tla_value.specs.Sets.{is_member, MakesSet, MakesSetOfFunctions};
 ghost use Rattle.tla_core.specs.Kinds.{as_set, members_of, rising_set, sized_set, size_of_functions};
+ghost use Rattle.tla_value.specs.declared.set.TheConstants.{MAX_ELEMENTS};
 ghost use Rattle.tla_value.specs.Choices.{range_of, functions_of};
 ghost use Rattle.tla_core.specs.Expr.{Union};
 ghost use Rattle.tla_core.specs.Operators.{joined_sets, unary_rule};
@@ -20,7 +21,7 @@ use crate::gathered::Gathered;
 use crate::trouble::{Trouble, fault_at, memory};
 use std::alloc::Global;
 use tla_core::{FaultCode, Place};
-use tla_value::{FunValue, SetValue, Value, ValueError};
+use tla_value::{Arguments, FunValue, SetValue, Value, ValueError};
 
 /// The members of a value that is a set.
 #[tactic(auto, using(crate::proofs::Known::as_set_known))]
@@ -259,11 +260,14 @@ pub fn booleans<'p, 'a>(alloc: Global) -> Result<Evaluated<'a>, Trouble<'p>>
     }
 }
 
-/// Whether the arguments of a function are just these values, in order.
-pub fn has_domain(function: &FunValue, values: &[Value]) -> bool
-    ensures { result ≡ tree_eq (set (trees (arguments function.now))) (set (trees (map tree_of values.now))) }
+/// Whether a value is a number.
+fn is_number(value: &Value, number: i64) -> bool
+    ensures { result ≡ tree_eq (int number) (tree_of value.now) }
 {
-    are_arguments(function.pairs(), values)
+    match value {
+        Value::Int(found) => *found == number,
+        _ => false,
+    }
 }
 
 /// Whether two values are the same.
@@ -273,15 +277,27 @@ fn is_same(left: &Value, right: &Value) -> bool
     left == right
 }
 
-/// Whether the arguments of some pairs are just these values, in order.
-fn are_arguments(pairs: &[(Value, Value)], values: &[Value]) -> bool
-    ensures { result ≡ tree_eq (set (trees (arguments (map pair_of pairs.now)))) (set (trees (map tree_of values.now))) }
+/// Whether the argument of a function at a place is a value.
+fn is_argument(function: &FunValue, place: usize, value: &Value) -> bool
+    requires within { place < length function.now }
+    requires few { length function.now ≤ MAX_ELEMENTS }
+    ensures { option_map (λ a. tree_eq a (tree_of value.now)) (slice_get (arguments function.now) place) ≡ Some result }
 {
-    if pairs.len() != values.len() {
+    match function.arguments() {
+        Arguments::Numbers(first) => is_number(value, first + place as i64),
+        Arguments::Listed(listed) => is_same(&listed[place], value),
+    }
+}
+
+/// Whether the arguments of a function are just these values, in order.
+pub fn has_domain(function: &FunValue, values: &[Value]) -> bool
+    ensures { result ≡ tree_eq (set (trees (arguments function.now))) (set (trees (map tree_of values.now))) }
+{
+    if function.len() != values.len() {
         return false;
     }
-    for i in 0..pairs.len() {
-        if !is_same(&pairs[i].0, &values[i]) {
+    for i in 0..values.len() {
+        if !is_argument(function, i, &values[i]) {
             return false;
         }
     }

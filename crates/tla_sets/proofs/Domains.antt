@@ -1,16 +1,14 @@
 -- The function on all choices from some lists: its arguments are the tuples in their order.
-use Rattle.std.proofs.Common.{◌≡◌, ◌⊎◌, ⊎_elim, ℕ, suc, ◌+◌, ◌<◌, ◌≤◌, nat_lt, max, Bool, true, false, List, [], ◌∷◌, ◌++◌, map, length, get_or, zip, refl, sym, ap, subst, ◌∙◌, Ok, Err, Some, None, inl, inr, arith, pos}
+use Rattle.std.proofs.Common.{◌≡◌, ◌⊎◌, ⊎_elim, ℕ, suc, ◌+◌, ◌<◌, ◌≤◌, nat_lt, max, Bool, true, false, List, [], ◌∷◌, map, length, get_or, zip, refl, sym, ap, subst, ◌∙◌, Ok, Err, Some, None, inl, inr, arith, pos}
 use Rattle.std.specs.BTreeMap.{insert_entry}
 use Rattle.std.specs.Ordering.{match_ordering}
 use Rattle.std.specs.declared.cmp.Ordering.TheVariants.{Less, Equal, Greater}
 use Rattle.std.specs.List.{AllByRecursion}
 use Rattle.std.specs.List.Sorted.{IsStrictlySortedBy}
-use Rattle.std.proofs.lemmas.List.{length-map, map-append}
+use Rattle.std.proofs.lemmas.List.{length-map}
 use Rattle.std.proofs.lemmas.Bool.Decides.{nat_tests}
 use Rattle.tla_value.specs.Tree.{Tree, set, fun, trees, pairs, pair_count, members, deepest, deepest_pair, members-trees}
-use Rattle.tla_value.specs.TreeOf.{tree_of, pair_of}
 use Rattle.tla_value.specs.IsValue.{IsValue}
-use Rattle.tla_value.specs.declared.value.Value.{Value}
 use Rattle.tla_value.specs.declared.error.ValueError.{ValueError}
 use Rattle.tla_value.specs.Order.{tree_cmp}
 use Rattle.tla_value.specs.Sets.{set_of, most_pairs, RefusesSetOfSize}
@@ -51,6 +49,10 @@ pub rule_is : (p : Place) (ts vs : List Tree) (lists : List (List Tree)) → eac
 rule_is p ts vs lists h = ap (λ (o : Outcome (List (List Tree))). o >>= λ ls. function_on p (choices ls) vs) h
 
 -- ---- one bound name
+pub long-single : (xs : List Tree) → length (choices (xs ∷ [])) ≡ length xs
+long-single [] = refl
+long-single (x ∷ xs) = ap suc (long-single xs)
+
 arguments_single : (xs : List Tree) → map argument_of (choices (xs ∷ [])) ≡ xs
 arguments_single [] = refl
 arguments_single (x ∷ xs) = ap (λ us. x ∷ us) (arguments_single xs)
@@ -76,7 +78,7 @@ function_on_single p (x ∷ xs) (v ∷ vs) =
     ∙ ap (λ n. within p n (deepest_pair (pairs (insert_entry tree_cmp ps x v))) (fun (pairs (insert_entry tree_cmp ps x v)))) most
 
 -- ---- arguments
-arguments_zip : (ks vs : List Tree) → length vs ≡ length ks → arguments (zip ks vs) ≡ ks
+pub arguments_zip : (ks vs : List Tree) → length vs ≡ length ks → arguments (zip ks vs) ≡ ks
 arguments_zip [] vs e = refl
 arguments_zip (k ∷ ks) [] e = absurd (omega arith)
 arguments_zip (k ∷ ks) (v ∷ vs) e = ap (λ us. k ∷ us) (arguments_zip ks vs (omega arith))
@@ -185,6 +187,9 @@ module _ (p : Place) (ts vs : List Tree) (lists : List (List Tree)) (are : each 
   several_lists : length lists ≡ 1 → ⊥
   several_lists e = several (sym (each_long (as_set p) ts lists are) ∙ e)
 
+  pub tuples_long : (dom : List Tree) → dom ≡ set_of (tuples_of lists) → length dom ≡ length vs
+  tuples_long dom is = ap length (is ∙ tuples_rise lists rise) ∙ length-map (choices lists) sequence ∙ sym long
+
   pub tuples_made : (dom : List Tree) (ps : List (Tree × Tree)) → dom ≡ set_of (tuples_of lists) → IsValue (set (trees (set_of (tuples_of lists)))) → ps ≡ zip dom vs → function_rule p ts vs ≡ make_fun p ps
   tuples_made dom ps is value pairs_are =
       let us = set_of (tuples_of lists) in
@@ -194,35 +199,3 @@ module _ (p : Place) (ts vs : List Tree) (lists : List (List Tree)) (are : each 
   pub tuples_refused : (e : ValueError) (f : Fault) → IsRefusal e p f → RefusesSetOfSize (max (length (set_of (tuples_of lists))) (most_pairs (set_of (tuples_of lists)))) (set_of (tuples_of lists)) e → (f ≡ out_of_memory) ⊎ (function_rule p ts vs ≡ Err f)
   tuples_refused e f is r =
       ⊎_elim (λ m. inl m) (λ h. inr (rule_is p ts vs lists are ∙ domain_refused p lists vs several_lists rise long f h)) (functions_refused e p f (set_of (tuples_of lists)) is r)
-
--- ---- pairs
-zip_none : (ks : List Tree) → (let ws : List Tree = [] in zip ks ws) ≡ []
-zip_none [] = refl
-zip_none (k ∷ ks) = refl
-
-pub no_pairs_yet : (xs : List Value) → (let ws : List Tree = [] in zip (map tree_of xs) ws) ≡ []
-no_pairs_yet xs = zip_none (map tree_of xs)
-
-zip_more : (xs vs : List Value) (a v : Value) → length (zip (map tree_of xs) (map tree_of vs)) < length xs → a ≡ get_or xs (length (zip (map tree_of xs) (map tree_of vs))) a → zip (map tree_of xs) (map tree_of (vs ++ v ∷ [])) ≡ zip (map tree_of xs) (map tree_of vs) ++ (tree_of a, tree_of v) ∷ []
-zip_more [] vs a v l h = absurd (omega arith)
-zip_more (x ∷ xs) [] a v l h = (λ i. (tree_of (sym h i), tree_of v) ∷ zip_none (map tree_of xs) i)
-zip_more (x ∷ xs) (w ∷ vs) a v l h = ap (λ ps. (tree_of x, tree_of w) ∷ ps) (zip_more xs vs a v (omega arith) h)
-
-zip_done : (xs vs : List Value) (v : Value) → length xs ≤ length (zip (map tree_of xs) (map tree_of vs)) → zip (map tree_of xs) (map tree_of (vs ++ v ∷ [])) ≡ zip (map tree_of xs) (map tree_of vs)
-zip_done [] vs v l = refl
-zip_done (x ∷ xs) [] v l = absurd (omega arith)
-zip_done (x ∷ xs) (w ∷ vs) v l = ap (λ ps. (tree_of x, tree_of w) ∷ ps) (zip_done xs vs v (omega arith))
-
-same_place : (xs vs : List Value) (old : List (Value × Value)) (n : ℕ) → map pair_of old ≡ zip (map tree_of xs) (map tree_of vs) → n ≡ length old → n ≡ length (zip (map tree_of xs) (map tree_of vs))
-same_place xs vs old n h e = e ∙ sym (length-map old pair_of) ∙ ap length h
-
-pub paired_more : (xs vs : List Value) (old new : List (Value × Value)) (a k v : Value) (n : ℕ) → new ≡ old ++ (k, v) ∷ [] → k ≡ a → map pair_of old ≡ zip (map tree_of xs) (map tree_of vs) → n ≡ length old → n < length xs → a ≡ get_or xs n a
-    → map pair_of new ≡ zip (map tree_of xs) (map tree_of (vs ++ v ∷ []))
-paired_more xs vs old new a k v n is same h e l found =
-    let at = same_place xs vs old n h e in
-    ap (map pair_of) is ∙ map-append pair_of old ((k, v) ∷ [])
-    ∙ (λ i. h i ++ (tree_of (same i), tree_of v) ∷ [])
-    ∙ sym (zip_more xs vs a v (subst (λ m. m < length xs) at l) (subst (λ m. a ≡ get_or xs m a) at found))
-
-pub paired_done : (xs vs : List Value) (old : List (Value × Value)) (v : Value) (n : ℕ) → map pair_of old ≡ zip (map tree_of xs) (map tree_of vs) → n ≡ length old → length xs ≤ n → map pair_of old ≡ zip (map tree_of xs) (map tree_of (vs ++ v ∷ []))
-paired_done xs vs old v n h e l = h ∙ sym (zip_done xs vs v (subst (λ m. length xs ≤ m) (same_place xs vs old n h e) l))

@@ -1,5 +1,5 @@
 -- The names of fields, and sets of records.
-use Rattle.std.proofs.Common.{◌≡◌, ℕ, suc, ◌+◌, ◌<◌, add-one, arith, Bool, true, false, cond, ◌&&◌, ◌||◌, List, [], ◌∷◌, ◌++◌, map, zip, length, drop, drop-cons, get_or, Option, Some, None, is_some, option_map, Ok, refl, sym, ap, ◌∙◌}
+use Rattle.std.proofs.Common.{◌≡◌, ℕ, zero, suc, ℤ, pos, ◌+ℤ◌, ◌+◌, ◌<◌, add-one, arith, Bool, true, false, cond, ◌&&◌, ◌||◌, List, [], ◌∷◌, ◌++◌, map, zip, length, drop, drop-cons, get_or, Option, Some, None, is_some, option_map, Ok, refl, sym, ap, ◌∙◌}
 use Rattle.std.proofs.lemmas.List.{length-map}
 use Rattle.std.specs.List.{list_all}
 use Rattle.std.specs.List.Sorted.{IsStrictlySortedBy}
@@ -11,7 +11,7 @@ use Rattle.tla_value.specs.Order.{tree_cmp, tree_eq}
 use Rattle.tla_value.specs.Funs.{arguments, value_at}
 use Rattle.tla_value.specs.Sets.{is_member, set_of}
 use Rattle.tla_value.specs.SetLaws.{is-set_of, is_member-set_of}
-use Rattle.tla_value.specs.Choices.{keys_of, is_each_once, records_of}
+use Rattle.tla_value.specs.Choices.{keys_of, is_each_once, records_of, counted_up}
 use Rattle.tla_core.specs.declared.fault.Place.{Place}
 use Rattle.tla_core.specs.declared.fault.FaultCode.TheVariants.{NoField}
 use Rattle.tla_core.specs.Fault.{Outcome, ◌>>=◌, fault}
@@ -90,6 +90,11 @@ no_name (Text s) (f ∷ fs) h = absurd (h s refl)
 no_name (Model s) (f ∷ fs) h = no_name (Model s) fs h
 no_name (Set ts) (f ∷ fs) h = no_name (Set ts) fs h
 no_name (Fun ps) (f ∷ fs) h = no_name (Fun ps) fs h
+
+-- nor is a number
+pub no_numbers : (n : ℕ) (z : ℤ) (fields : List (List ℕ × Core)) → 0 < n → list_all (λ a. is_member a (keys_of (fields_of_cores fields))) (counted_up n z) ≡ false
+no_numbers zero z fields l = absurd (omega arith)
+no_numbers (suc n) z fields l = ap (λ b. b && list_all (λ a. is_member a (keys_of (fields_of_cores fields))) (counted_up n (z +ℤ pos 1))) (no_name (Int z) fields (λ s e. cc))
 
 -- the sets beside the names of fields have these names
 pub named_long : (p : Place) (fields : List (List ℕ × Core)) (vs : List Evaluated) (sets : List (List ℕ × List Tree)) → length fields ≡ length vs → named_sets p (fields_of_cores fields) (map tree_of_evaluated vs) ≡ Ok sets → keys_of sets ≡ keys_of (fields_of_cores fields)

@@ -1,5 +1,5 @@
 -- Ranges: what stands at a place, who is a member, and where their set can be made.
-use Rattle.std.proofs.Common.{◌≡◌, ℕ, zero, suc, ◌+◌, ◌<◌, ◌≤◌, max, ℤ, pos, ◌+ℤ◌, ◌-ℤ◌, ◌<ℤ◌, ◌≤ℤ◌, unsigned_abs, Bool, true, false, ◌||◌, List, [], ◌∷◌, length, Option, Some, None, Ok, ◌⊎◌, ⊎_elim, FitsSigned, refl, sym, ap, ◌∙◌, arith, Ordering, Less, Equal, Greater}
+use Rattle.std.proofs.Common.{◌≡◌, ℕ, zero, suc, ◌<◌, ◌≤◌, max, ℤ, pos, ◌+ℤ◌, ◌-ℤ◌, ◌<ℤ◌, ◌≤ℤ◌, unsigned_abs, Bool, true, false, ◌||◌, List, length, Some, None, Ok, ◌⊎◌, ⊎_elim, FitsSigned, refl, sym, ap, ◌∙◌, arith, Ordering, Less, Equal, Greater}
 use Rattle.std.specs.Prelude.{slice_get}
 use Rattle.std.specs.Int.{w64}
 use Rattle.std.specs.Ordering.{int_cmp, is_eq}
@@ -10,7 +10,6 @@ use Rattle.tla_value.specs.Order.{tree_eq}
 use Rattle.tla_value.specs.Sets.{is_member}
 use Rattle.tla_value.specs.Choices.{counted_up, range_of}
 use Rattle.tla_value.specs.declared.value.Value.{Value}
-use Rattle.tla_value.specs.declared.value.Value.TheVariants as Value
 use Rattle.tla_value.proofs.Ranges.{length-counted_up, range_is, range_none}
 use Rattle.tla_core.specs.declared.fault.Place.{Place}
 use Rattle.tla_core.specs.declared.fault.FaultCode.TheVariants.{TooMany}

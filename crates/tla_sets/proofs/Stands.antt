@@ -1,5 +1,5 @@
 -- Membership in the set of some values, where it is within the limits.
-use Rattle.std.proofs.Common.{◌≡◌, ℕ, suc, ◌+◌, ◌<◌, ◌≤◌, max, List, [], ◌∷◌, map, length, drop, get_or, Ok, sym, ap, subst, ◌∙◌, arith, add-one, drop-cons, Less, Equal, Greater}
+use Rattle.std.proofs.Common.{◌≡◌, ℕ, suc, ◌+◌, ◌<◌, ◌≤◌, List, [], ◌∷◌, map, length, drop, get_or, Ok, sym, ap, subst, ◌∙◌, arith, add-one, drop-cons, Less, Equal, Greater}
 use Rattle.std.specs.BTreeSet.{insert_key}
 use Rattle.std.specs.Ordering.{match_ordering}
 use Rattle.tla_value.specs.Tree.{Tree, set, trees, depth, deepest}

@@ -21,9 +21,9 @@ function_rule p vs ys = do
 abbrev pub AreForChoices : Place → List Tree → List Tree → Type 0
 AreForChoices p vs ys = (lists : List (List Tree)) → each (as_set p) vs ≡ Ok lists → length ys ≡ length (choices lists)
 
--- the function with such values, whatever they are, has these arguments, or is refused with this fault
+-- the function with such values, whatever they are, has these arguments, one for each, or is refused with this fault
 abbrev pub IsDomain : Place → List Tree → Domain → Type 0
-IsDomain p vs (Tuples ts) = (ys : List Tree) → AreForChoices p vs ys → function_rule p vs ys ≡ make_fun p (zip ts ys)
+IsDomain p vs (Tuples ts) = (ys : List Tree) → AreForChoices p vs ys → (length ts ≡ length ys) × (function_rule p vs ys ≡ make_fun p (zip ts ys))
 IsDomain p vs (Refused f) = (ys : List Tree) → AreForChoices p vs ys → (f ≡ out_of_memory) ⊎ (function_rule p vs ys ≡ Err f)
 
 -- the values are sets, and have such a domain; or one of them is no set

@@ -3,13 +3,13 @@ ghost use Rattle.std.specs.Prelude.{◌≡◌, ◌<◌, ◌%◌, length, map, op
 ghost use Rattle.std.specs.List.{AllByRecursion};
 ghost use Rattle.std.specs.List.Sorted.{IsStrictlySortedBy};
 ghost use Rattle.tla_value.specs.Order.{tree_cmp};
-ghost use Rattle.tla_value.specs.TreeOf.{tree_of, pair_of};
+ghost use Rattle.tla_value.specs.TreeOf.{tree_of};
 ghost use Rattle.tla_value.specs.Choices.{choices};
 ghost use Rattle.tla_core.specs.Fault.{out_of_memory};
 ghost use Rattle.tla_core.specs.Kinds.{as_set, make_fun};
 ghost use Rattle.tla_core.specs.Lists.{each};
 ghost use Rattle.tla_operators.specs.Evaluated.{tree_of_evaluated};
-ghost use Rattle.tla_sets.specs.Domain.{FindsDomain, function_rule};
+ghost use Rattle.tla_sets.specs.Domain.{AreForChoices, FindsDomain, function_rule};
 ghost use Rattle.tla_operators.specs.Gives.{Gives, GivesBy};
 
 use std::alloc::Global;
@@ -17,7 +17,7 @@ use tla_core::Place;
 use tla_operators::evaluated::Evaluated;
 use tla_operators::functions::made_fun;
 use tla_operators::rules::copied;
-use tla_operators::sets::{as_sets, members, refused};
+use tla_operators::sets::{as_sets, copied_set, members, refused};
 use tla_operators::trouble::Trouble;
 use tla_value::{FunValue, SetValue, Value};
 
@@ -93,39 +93,18 @@ fn each_rises(sets: &[SetValue])
     }
 }
 
-/// Lets a value go whatever its kind, so that a loop has one way on and not one for each kind.
-fn let_go<T: Drop>(_value: T) {}
-
-/// Each of these values behind the argument at its place.
-fn paired<'p>(
-    alloc: Global,
-    arguments: &[Value],
-    values: Vec<Value>,
-) -> Result<Vec<(Value, Value)>, Trouble<'p>>
-    ensures ok { IfOk result (λ v. map pair_of v.items ≡ zip (map tree_of arguments.now) (map tree_of values.items)) }
-    ensures err { IfErr result (λ f. f ≡ out_of_memory) }
-{
-    let mut pairs = Vec::with_capacity(alloc, values.len())?;
-    for value in values {
-        match arguments.get(pairs.len()) {
-            Some(argument) => pairs.push((copied(alloc, argument)?, value))?,
-            None => let_go(value),
-        }
-    }
-    Ok(pairs)
-}
-
-/// The function on these arguments with these values.
+/// The function on the members of a set, in their order, with these values.
 pub fn function_with<'p>(
     alloc: Global,
     place: &'p Place,
-    arguments: &[Value],
+    domain: &SetValue,
     values: Vec<Value>,
 ) -> Result<Value, Trouble<'p>>
-    ensures { Gives result (make_fun place.now (zip (map tree_of arguments.now) (map tree_of values.items))) }
+    requires { length domain.now ≡ length values.items }
+    ensures { Gives result (make_fun place.now (zip domain.now (map tree_of values.items))) }
 {
-    let pairs = paired(alloc, arguments, values)?;
-    made_fun(place, FunValue::from_pairs(pairs))
+    let _rising = domain.items();
+    made_fun(place, FunValue::on(alloc, domain, values))
 }
 
 /// The function on the members of one set, with these values.
@@ -135,11 +114,12 @@ pub fn function_on<'p>(
     sets: &[Evaluated<'_>],
     values: Vec<Value>,
 ) -> Result<Value, Trouble<'p>>
-    requires { length sets.now ≡ 1 }
+    requires one { length sets.now ≡ 1 }
+    requires paired { AreForChoices place.now (map tree_of_evaluated sets.now) (map tree_of values.items) }
     ensures { Gives result (function_rule place.now (map tree_of_evaluated sets.now) (map tree_of values.items)) }
 {
-    let arguments = members(place, sets[0].value())?;
-    function_with(alloc, place, arguments, values)
+    let domain = copied_set(alloc, place, sets[0].value())?;
+    function_with(alloc, place, &domain, values)
 }
 
 /// What a function on all choices from some sets is defined on, or the fault of every such function.

@@ -1,8 +1,8 @@
 //! Fields, and sets of records.
-ghost use Rattle.std.specs.Prelude.{◌≡◌, length, map, option_map};
+ghost use Rattle.std.specs.Prelude.{◌≡◌, false, length, map, option_map, slice_get, Some, IfSome, IfNone};
 ghost use Rattle.std.specs.List.{list_all};
 ghost use Rattle.tla_value.specs.Tree.{text, set, trees};
-ghost use Rattle.tla_value.specs.TreeOf.{tree_of, pair_of};
+ghost use Rattle.tla_value.specs.TreeOf.{tree_of};
 ghost use Rattle.tla_value.specs.Order.{tree_eq};
 ghost use Rattle.tla_value.specs.Funs.{arguments, value_at};
 ghost use Rattle.tla_value.specs.Sets.{is_member, set_of};
@@ -18,7 +18,7 @@ use tla_operators::evaluated::Evaluated;
 use tla_operators::rules::copied_text;
 use tla_operators::sets::{copied_set, made_functions};
 use tla_operators::trouble::{Trouble, fault_at};
-use tla_value::{FunValue, SetValue, Text, Value};
+use tla_value::{Arguments, FunValue, SetValue, Text, Value};
 
 /// The records with each field in the value beside it.
 pub fn records_with<'p>(
@@ -97,24 +97,39 @@ fn is_name(argument: &Value, name: &Text) -> bool
     }
 }
 
-/// The value of a field among some pairs.
-pub fn field_in<'a>(pairs: &'a [(Value, Value)], name: &Text) -> Option<&'a Value>
-    ensures { option_map (λ v. tree_of v.now) result ≡ value_at (text name.now) (map pair_of pairs.now) }
+/// Where a name stands among some values, counted from 0.
+fn name_place(values: &[Value], name: &Text) -> Option<usize>
+    ensures some { IfSome result (λ i. slice_get (map tree_of values.now) i ≡ Some (text name.now)) }
+    ensures none { IfNone result (is_member (text name.now) (map tree_of values.now) ≡ false) }
 {
-    for pair in pairs {
-        if is_name(&pair.0, name) {
-            return Some(&pair.1);
+    for i in 0..values.len() {
+        if is_name(&values[i], name) {
+            return Some(i);
         }
     }
     None
 }
 
-/// Whether there is a pair for each field.
-fn has_fields(pairs: &[(Value, Value)], fields: &[(Text, Core)]) -> bool
-    ensures { result ≡ list_all (λ k. is_member k (arguments (map pair_of pairs.now))) (keys_of (fields_of_cores fields.now)) }
+/// The value of a function at a name.
+pub fn field_in<'a>(function: &'a FunValue, name: &Text) -> Option<&'a Value>
+    ensures { option_map (λ v. tree_of v.now) result ≡ value_at (text name.now) function.now }
+{
+    let values = function.values();
+    match function.arguments() {
+        Arguments::Listed(arguments) => match name_place(arguments, name) {
+            Some(place) => Some(&values[place]),
+            None => None,
+        },
+        Arguments::Numbers(_) => None,
+    }
+}
+
+/// Whether a function has each field.
+fn has_fields(function: &FunValue, fields: &[(Text, Core)]) -> bool
+    ensures { result ≡ list_all (λ k. is_member k (arguments function.now)) (keys_of (fields_of_cores fields.now)) }
 {
     for field in fields {
-        if field_in(pairs, &field.0).is_none() {
+        if field_in(function, &field.0).is_none() {
             return false;
         }
     }
@@ -131,12 +146,12 @@ fn is_field(argument: &Value, fields: &[(Text, Core)]) -> bool
     }
 }
 
-/// Whether the argument of each pair is a field.
-fn are_fields(pairs: &[(Value, Value)], fields: &[(Text, Core)]) -> bool
-    ensures { result ≡ list_all (λ a. is_member a (keys_of (fields_of_cores fields.now))) (arguments (map pair_of pairs.now)) }
+/// Whether each of some values is the name of a field.
+fn are_fields(values: &[Value], fields: &[(Text, Core)]) -> bool
+    ensures { result ≡ list_all (λ a. is_member a (keys_of (fields_of_cores fields.now))) (map tree_of values.now) }
 {
-    for pair in pairs {
-        if !is_field(&pair.0, fields) {
+    for value in values {
+        if !is_field(value, fields) {
             return false;
         }
     }
@@ -147,6 +162,9 @@ fn are_fields(pairs: &[(Value, Value)], fields: &[(Text, Core)]) -> bool
 pub fn has_just(function: &FunValue, fields: &[(Text, Core)]) -> bool
     ensures { result ≡ tree_eq (set (trees (arguments function.now))) (set (trees (set_of (keys_of (fields_of_cores fields.now))))) }
 {
-    let pairs = function.pairs();
-    are_fields(pairs, fields) && has_fields(pairs, fields)
+    match function.arguments() {
+        Arguments::Listed(arguments) => are_fields(arguments, fields)
+            && has_fields(function, fields),
+        Arguments::Numbers(_) => false,
+    }
 }

@@ -1,8 +1,11 @@
 pub mod Lists
 pub mod TreeTests
 pub mod Parts
+pub mod Pairs
+pub mod Places
+pub mod Fed
+pub mod Compared
 pub mod Sorts
-pub mod Entries
 pub mod FunSorts
 pub mod Passes
 pub mod Merges
@@ -15,10 +18,10 @@ pub mod Tuples
 pub mod Subsets
 pub mod Sublists
 pub mod Shown
-pub mod Exceptions
 pub mod Made
 pub mod FunctionMembers
 pub mod Fields
 pub mod FieldLists
 pub mod Records
 pub mod Sequences
+pub mod OnDomain

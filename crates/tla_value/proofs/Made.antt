@@ -1,18 +1,12 @@
 -- What a constructor answers that can only be refused memory, and lists of pairs with another value at a place.
-use Rattle.std.proofs.Common.{◌∙◌, Equal, ◌≡◌, ℕ, zero, suc, ◌<◌, ◌≤◌, max, List, [], ◌∷◌, length, map, get_or, set as list_set, refl, sym, ap, subst, arith, Result, Ok, Err, IfOk, IfErr}
+use Rattle.std.proofs.Common.{◌≡◌, ℕ, zero, suc, ◌<◌, ◌≤◌, max, List, [], ◌∷◌, length, map, refl, sym, ap, subst, arith, Result, Ok, Err, IfOk, IfErr}
 use Rattle.tla_value.specs.declared.error.ValueError.{ValueError}
 use Rattle.tla_value.specs.declared.error.ValueError.TheVariants.{Memory, TooDeep}
 use Rattle.tla_value.specs.Tree.{Tree, trees, pairs, set, fun, depth, deepest_pair, entries-pairs}
-use Rattle.tla_value.specs.TreeOf.{tree_of, pair_of}
 use Rattle.tla_value.specs.IsValue.{IsValue, ArePairs, IsFunValue}
 use Rattle.tla_value.specs.Sets.{MakesSet, RefusesSet}
-use Rattle.tla_value.specs.Funs.{MakesFun, RefusesFun, except_of}
+use Rattle.tla_value.specs.Funs.{MakesFun, RefusesFun}
 use Rattle.tla_value.specs.Private.Inner.{with_value_at}
-use Rattle.std.specs.List.Sorted.{IsStrictlySortedBy}
-use Rattle.tla_value.specs.ValueOrder.{value_cmp}
-use Rattle.tla_value.proofs.Entries.{argument_of}
-use Rattle.tla_value.proofs.Exceptions.{except_found}
-use Rattle.tla_value.specs.declared.value.Value.{Value}
 
 pub makes_set : (ts : List Tree) (r : Result (List Tree) ValueError) → IfOk r (λ s. s ≡ ts) → IfErr r (λ e. e ≡ Memory) → IsValue (set (trees ts)) → MakesSet ts r
 makes_set ts (Ok s) ok err h = (ok, h)
@@ -21,11 +15,6 @@ makes_set ts (Err e) ok err h = subst (RefusesSet ts) (sym err) tt
 pub makes_fun : (ps : List (Tree × Tree)) (r : Result (List (Tree × Tree)) ValueError) → IfOk r (λ f. f ≡ ps) → IfErr r (λ e. e ≡ Memory) → IsValue (fun (pairs ps)) → MakesFun ps r
 makes_fun ps (Ok f) ok err h = (ok, h)
 makes_fun ps (Err e) ok err h = subst (RefusesFun ps) (sym err) tt
-
-pub put_is : (ps : List (Value × Value)) (i : ℕ) (q v : Value) (d : Value × Value) → i < length ps → q ≡ (get_or ps i d).0 → map pair_of (list_set ps i (q, v)) ≡ with_value_at (map pair_of ps) i (tree_of v)
-put_is [] i q v d l is = absurd (omega arith)
-put_is (p ∷ ps) zero q v d l is = λ j. (tree_of (is j), tree_of v) ∷ map pair_of ps
-put_is (p ∷ ps) (suc i) q v d l is = ap (λ rest. pair_of p ∷ rest) (put_is ps i q v d (omega arith) is)
 
 pub length-with_value_at : (ps : List (Tree × Tree)) (i : ℕ) (v : Tree) → length (with_value_at ps i v) ≡ length ps
 length-with_value_at [] i v = refl
@@ -67,8 +56,3 @@ IsFunValue-with_value_at ps n i v h l values = record {
 
 pub IsValue-fun : (ps : List (Tree × Tree)) (n : ℕ) → IsFunValue ps n → IsValue (fun (pairs ps))
 IsValue-fun ps n h = rw entries-pairs (h.values, h.list)
-
--- another value at the place of an argument is another value at that argument
-pub placed_except : (ps : List (Value × Value)) (x v : Value) (i : ℕ) (d : Value × Value) → IsStrictlySortedBy value_cmp (map argument_of ps) → i < length ps → value_cmp (get_or ps i d).0 x ≡ Equal
-    → with_value_at (map pair_of ps) i (tree_of v) ≡ except_of (tree_of x) (tree_of v) (map pair_of ps)
-placed_except ps x v i d h l e = sym (put_is ps i (get_or ps i d).0 v d l refl) ∙ except_found ps x v i (get_or ps i d).0 d h l e refl

@@ -1,15 +1,18 @@
 -- Numbers that are counted up: one more, how many, and that they rise.
-use Rattle.std.proofs.Common.{◌≡◌, ℕ, zero, suc, ◌+◌, ℤ, pos, ◌+ℤ◌, ◌-ℤ◌, ◌<ℤ◌, ◌≤ℤ◌, cond, int_le, unsigned_abs, true, false, List, [], ◌∷◌, ◌++◌, length, map, refl, sym, ap, ◌∙◌, arith, Less}
+use Rattle.std.proofs.Common.{◌≡◌, ℕ, zero, suc, ℤ, pos, ◌+ℤ◌, ◌-ℤ◌, ◌<ℤ◌, ◌≤ℤ◌, cond, int_le, unsigned_abs, true, false, List, [], ◌∷◌, ◌++◌, length, map, take, get_or, refl, sym, ap, ◌∙◌, arith, Less, Greater, Some, ◌<◌, ◌≤◌, to_z, of_z, w64, FitsSigned}
+use Rattle.std.specs.Prelude.{slice_get}
 use Rattle.std.specs.List.{AllByRecursion}
 use Rattle.std.specs.List.Sorted.{IsStrictlySortedBy}
 use Rattle.std.specs.Ordering.{int_cmp}
 use Rattle.std.proofs.lemmas.Int.{ints}
+use Rattle.std.proofs.Math.Seq.{take-suc}
 use Rattle.tla_value.specs.Tree.{int}
 use Rattle.tla_value.specs.Order.{tree_cmp}
 use Rattle.std.proofs.lemmas.List.{map-append}
 use Rattle.tla_value.specs.TreeOf.{tree_of}
 use Rattle.tla_value.specs.declared.value.Value.{Value}
-use Rattle.tla_value.specs.declared.value.Value.TheVariants.{Int}
+use Rattle.tla_value.specs.Sets.{is_member}
+use Rattle.tla_value.specs.declared.value.Value.TheVariants.{Truth, Int, Text, Model, Set, Fun}
 use Rattle.tla_value.specs.Choices.{counted_up, range_of}
 
 next_sum : (z : ℤ) (n : ℕ) → (z +ℤ pos 1) +ℤ pos n ≡ z +ℤ pos (suc n)
@@ -52,3 +55,44 @@ range_none a b h = ap (λ t. cond t (counted_up (suc (unsigned_abs (b -ℤ a))) 
 
 pub pushed : (old new : List Value) (n : ℕ) (z x : ℤ) → new ≡ old ++ Int x ∷ [] → x ≡ z +ℤ pos n → map tree_of old ≡ counted_up n z → map tree_of new ≡ counted_up (suc n) z
 pushed old new n z x e f h = ap (map tree_of) e ∙ map-append tree_of old (Int x ∷ []) ∙ ap (λ y. map tree_of old ++ int y ∷ []) f ∙ ap (λ ts. ts ++ int (z +ℤ pos n) ∷ []) h ∙ sym (counted_up-push n z)
+
+-- ---- which numbers stand among them, and where
+int_more : (x z : ℤ) → z <ℤ x → int_cmp x z ≡ Greater
+int_more x z h = grind (arith, ints)
+
+pub get-counted_up : (n : ℕ) (z : ℤ) (i : ℕ) (k : ℤ) → i < n → k ≡ z +ℤ pos i → slice_get (counted_up n z) i ≡ Some (int k)
+get-counted_up zero z i k l e = absurd (omega arith)
+get-counted_up (suc n) z zero k l e = ap (λ y. Some (int y)) (sym (e ∙ no_step z))
+get-counted_up (suc n) z (suc i) k l e = get-counted_up n (z +ℤ pos 1) i k (omega arith) (e ∙ sym (next_sum z i))
+
+pub member-below : (n : ℕ) (z k : ℤ) → k <ℤ z → is_member (int k) (counted_up n z) ≡ false
+member-below zero z k h = refl
+member-below (suc n) z k h = rw (int_less k z h) (member-below n (z +ℤ pos 1) k (omega (arith, ints)))
+
+pub member-above : (n : ℕ) (z k : ℤ) → (z +ℤ pos n) ≤ℤ k → is_member (int k) (counted_up n z) ≡ false
+member-above zero z k h = refl
+member-above (suc n) z k h =
+    let past : z <ℤ k = omega (arith, ints) in
+    rw (int_more k z past) (member-above n (z +ℤ pos 1) k (omega (arith, ints)))
+
+pub member-other : (n : ℕ) (z : ℤ) (v : Value) → ((k : ℤ) → v ≡ Int k → ⊥) → is_member (tree_of v) (counted_up n z) ≡ false
+member-other zero z v h = refl
+member-other (suc n) z (Truth b) h = member-other n (z +ℤ pos 1) (Truth b) h
+member-other (suc n) z (Int k) h = absurd (h k refl)
+member-other (suc n) z (Text s) h = member-other n (z +ℤ pos 1) (Text s) h
+member-other (suc n) z (Model s) h = member-other n (z +ℤ pos 1) (Model s) h
+member-other (suc n) z (Set s) h = member-other n (z +ℤ pos 1) (Set s) h
+member-other (suc n) z (Fun s) h = member-other n (z +ℤ pos 1) (Fun s) h
+
+-- one more of some values that are counted up
+pub counted_more : (vs : List Value) (i : ℕ) (z : ℤ) (v : Value) → i < length vs → v ≡ get_or vs i v → tree_of v ≡ int (z +ℤ pos i) → map tree_of (take i vs) ≡ counted_up i z → map tree_of (take (suc i) vs) ≡ counted_up (suc i) z
+counted_more vs i z v l is e h =
+    ap (map tree_of) (take-suc vs i v l ∙ ap (λ x. take i vs ++ x ∷ []) (sym is))
+    ∙ map-append tree_of (take i vs) (v ∷ [])
+    ∙ ap (λ t. map tree_of (take i vs) ++ t ∷ []) e
+    ∙ ap (λ ts. ts ++ int (z +ℤ pos i) ∷ []) h
+    ∙ sym (counted_up-push i z)
+
+-- a number so far above another, as it is computed
+pub counted_sum : (x : ℤ) (i n : ℕ) → FitsSigned w64 x → i < n → n ≤ 1000000 → (x +ℤ pos n) ≤ℤ pos 9223372036854775808 → to_z w64 (of_z w64 (to_z w64 (of_z w64 x) +ℤ to_z w64 i)) ≡ x +ℤ pos i
+counted_sum x i n fits at few within = omega (arith, ints)

@@ -1,5 +1,5 @@
 -- Lists of texts, written one after another.
-use Rattle.std.proofs.Common.{◌≡◌, ◌==◌, codes, true, false, is_some, ℕ, zero, suc, ◌<◌, ◌≤◌, Option, Result, Ok, Err, List, [], ◌∷◌, ◌++◌, append_assoc, append-nil, length, map, get_or, take, drop, refl, ap, sym, ◌∙◌, arith}
+use Rattle.std.proofs.Common.{◌≡◌, ◌==◌, codes, Bool, true, false, is_some, ℤ, pos, ℕ, zero, suc, zip, ◌<◌, ◌≤◌, Option, Result, Ok, Err, List, [], ◌∷◌, ◌++◌, append_assoc, append-nil, length, map, get_or, take, drop, refl, ap, sym, ◌∙◌, arith}
 use Rattle.std.proofs.lemmas.List.{length-map, take_all}
 use Rattle.std.specs.List.{flat_map, list_all}
 use Rattle.counted_writer.specs.declared.ShortWrite.{ShortWrite}
@@ -9,7 +9,11 @@ use Rattle.tla_value.specs.Funs.{arguments, items_of}
 use Rattle.tla_value.specs.Tree.{fun, trees, pairs, entries-pairs}
 use Rattle.tla_value.specs.TreeOf.{tree_of, pair_of}
 use Rattle.tla_value.specs.Text.{text_of, escaped, quoted, field_name, is_field, joined, listed, member_texts, value_texts, field_texts, pair_texts}
-use Rattle.tla_value.specs.Private.Inner.{separator_before}
+use Rattle.tla_value.specs.Private.Inner.{separator_before, counts_from}
+use Rattle.tla_value.specs.Arguments.{numbers_from}
+use Rattle.tla_value.specs.Choices.{counted_up}
+use Rattle.tla_value.proofs.Pairs.{length-zip, map-zip, arguments-zip, length-numbers, trees_numbers}
+use Rattle.tla_value.proofs.Sequences.{counts-items, counts-up, counts-not}
 use Rattle.tla_value.specs.declared.value.Value.{Value}
 
 flat_more : {X : Type 0} (f : X → List ℕ) (xs : List X) (i : ℕ) (d : X) → i < length xs → flat_map f (take (suc i) xs) ≡ flat_map f (take i xs) ++ f (get_or xs i d)
@@ -57,10 +61,6 @@ pub member_texts-map : (vs : List Value) → member_texts (trees (map tree_of vs
 member_texts-map [] = refl
 member_texts-map (v ∷ vs) = ap (λ ts. text_of (tree_of v) ∷ ts) (member_texts-map vs)
 
-pub value_texts-map : (ps : List (Value × Value)) → value_texts (pairs (map pair_of ps)) ≡ map (λ (p : Value × Value). text_of (tree_of p.1)) ps
-value_texts-map [] = refl
-value_texts-map (p ∷ ps) = ap (λ ts. text_of (tree_of p.1) ∷ ts) (value_texts-map ps)
-
 pub field_texts-map : (ps : List (Value × Value)) → field_texts (pairs (map pair_of ps)) ≡ map (λ (p : Value × Value). field_name (tree_of p.0) ++ (codes " |-> " ++ text_of (tree_of p.1))) ps
 field_texts-map [] = refl
 field_texts-map (p ∷ ps) = ap (λ ts. (field_name (tree_of p.0) ++ (codes " |-> " ++ text_of (tree_of p.1))) ∷ ts) (field_texts-map ps)
@@ -73,10 +73,6 @@ pub next_member : (separator : List ℕ) (vs : List Value) (i : ℕ) (v : Value)
     → IsNext separator (member_texts (trees (map tree_of vs))) i (separator_before i separator ++ text_of (tree_of v))
 next_member separator vs i v l is = rw (member_texts-map vs) (next (λ v. text_of (tree_of v)) separator vs i v l is)
 
-pub next_value : (separator : List ℕ) (ps : List (Value × Value)) (i : ℕ) (p : Value × Value) → i < length ps → p ≡ get_or ps i p
-    → IsNext separator (value_texts (pairs (map pair_of ps))) i (separator_before i separator ++ text_of (tree_of p.1))
-next_value separator ps i p l is = rw (value_texts-map ps) (next (λ (p : Value × Value). text_of (tree_of p.1)) separator ps i p l is)
-
 pub next_field : (separator : List ℕ) (ps : List (Value × Value)) (i : ℕ) (p : Value × Value) → i < length ps → p ≡ get_or ps i p
     → IsNext separator (field_texts (pairs (map pair_of ps))) i (separator_before i separator ++ (field_name (tree_of p.0) ++ (codes " |-> " ++ text_of (tree_of p.1))))
 next_field separator ps i p l is = rw (field_texts-map ps) (next (λ (p : Value × Value). field_name (tree_of p.0) ++ (codes " |-> " ++ text_of (tree_of p.1))) separator ps i p l is)
@@ -88,9 +84,6 @@ next_pair separator ps i p l is = rw (pair_texts-map ps) (next (λ (p : Value ×
 -- ---- how many texts there are
 pub length-member_texts : (vs : List Value) → length (member_texts (trees (map tree_of vs))) ≡ length vs
 length-member_texts vs = rw (member_texts-map vs) (length-map vs (λ v. text_of (tree_of v)))
-
-pub length-value_texts : (ps : List (Value × Value)) → length (value_texts (pairs (map pair_of ps))) ≡ length ps
-length-value_texts ps = rw (value_texts-map ps) (length-map ps (λ (p : Value × Value). text_of (tree_of p.1)))
 
 pub length-field_texts : (ps : List (Value × Value)) → length (field_texts (pairs (map pair_of ps))) ≡ length ps
 length-field_texts ps = rw (field_texts-map ps) (length-map ps (λ (p : Value × Value). field_name (tree_of p.0) ++ (codes " |-> " ++ text_of (tree_of p.1))))
@@ -144,3 +137,53 @@ pub text-pairs : (vs : List (Value × Value)) → (length vs == 0) ≡ false →
     → text_of (fun (pairs (map pair_of vs))) ≡ listed (codes "(") (codes " @@ ") (codes ")") (pair_texts (pairs (map pair_of vs)))
 text-pairs [] l h k = cc
 text-pairs (v ∷ vs) l h k = rw (entries-pairs (map pair_of vs), h, k)
+
+-- ---- the notations, of arguments and values in two lists
+values-texts : (ks vs : List Value) → length ks ≡ length vs → value_texts (pairs (map pair_of (zip ks vs))) ≡ member_texts (trees (map tree_of vs))
+values-texts [] [] e = refl
+values-texts [] (v ∷ vs) e = absurd (omega arith)
+values-texts (k ∷ ks) [] e = absurd (omega arith)
+values-texts (k ∷ ks) (v ∷ vs) e = ap (λ ts. text_of (tree_of v) ∷ ts) (values-texts ks vs (omega arith))
+
+arguments-of : (ks vs : List Value) → length ks ≡ length vs → arguments (map pair_of (zip ks vs)) ≡ map tree_of ks
+arguments-of ks vs e = ap arguments (map-zip ks vs) ∙ arguments-zip (map tree_of ks) (map tree_of vs) (omega (arith, length-map ks tree_of, length-map vs tree_of, e))
+
+sequence-of : (ks vs : List Value) (b : Bool) → length ks ≡ length vs → counts_from 1 (map tree_of ks) ≡ b → is_some (items_of (map pair_of (zip ks vs))) ≡ b
+sequence-of ks vs b e h = counts-items 1 (map pair_of (zip ks vs)) ∙ ap (counts_from 1) (arguments-of ks vs e) ∙ h
+
+some-pair : (ps : List (Value × Value)) → 0 < length ps → (length ps == 0) ≡ false
+some-pair [] l = absurd (omega arith)
+some-pair (p ∷ ps) l = grind arith
+
+pub text-of-sequence : (ks vs : List Value) → length ks ≡ length vs → 0 < length vs → counts_from 1 (map tree_of ks) ≡ true
+    → text_of (fun (pairs (map pair_of (zip ks vs)))) ≡ listed (codes "<<") (codes ", ") (codes ">>") (member_texts (trees (map tree_of vs)))
+text-of-sequence ks vs e l h =
+    text-sequence (zip ks vs) (some-pair (zip ks vs) (omega (arith, length-zip ks vs e, l))) (sequence-of ks vs true e h)
+    ∙ ap (λ ts. listed (codes "<<") (codes ", ") (codes ">>") ts) (values-texts ks vs e)
+
+pub text-of-record : (ks vs : List Value) → length ks ≡ length vs → 0 < length vs → counts_from 1 (map tree_of ks) ≡ false → list_all is_field (map tree_of ks) ≡ true
+    → text_of (fun (pairs (map pair_of (zip ks vs)))) ≡ listed (codes "[") (codes ", ") (codes "]") (field_texts (pairs (map pair_of (zip ks vs))))
+text-of-record ks vs e l h f =
+    text-record (zip ks vs) (some-pair (zip ks vs) (omega (arith, length-zip ks vs e, l))) (sequence-of ks vs false e h) (ap (list_all is_field) (arguments-of ks vs e) ∙ f)
+
+pub text-of-pairs : (ks vs : List Value) → length ks ≡ length vs → 0 < length vs → counts_from 1 (map tree_of ks) ≡ false → list_all is_field (map tree_of ks) ≡ false
+    → text_of (fun (pairs (map pair_of (zip ks vs)))) ≡ listed (codes "(") (codes " @@ ") (codes ")") (pair_texts (pairs (map pair_of (zip ks vs))))
+text-of-pairs ks vs e l h f =
+    text-pairs (zip ks vs) (some-pair (zip ks vs) (omega (arith, length-zip ks vs e, l))) (sequence-of ks vs false e h) (ap (list_all is_field) (arguments-of ks vs e) ∙ f)
+
+no-field : (n : ℕ) (z : ℤ) → 0 < n → list_all is_field (map tree_of (numbers_from n z)) ≡ false
+no-field zero z l = absurd (omega arith)
+no-field (suc n) z l = refl
+
+pub text-of-numbers : (vs : List Value) (z : ℤ) → 0 < length vs → (z ≡ pos 1 → ⊥)
+    → text_of (fun (pairs (map pair_of (zip (numbers_from (length vs) z) vs)))) ≡ listed (codes "(") (codes " @@ ") (codes ")") (pair_texts (pairs (map pair_of (zip (numbers_from (length vs) z) vs))))
+text-of-numbers vs z l h =
+    text-of-pairs (numbers_from (length vs) z) vs (length-numbers (length vs) z) l
+    (ap (counts_from 1) (trees_numbers (length vs) z) ∙ counts-not (length vs) z l h)
+    (no-field (length vs) z l)
+
+pub text-of-counted : (vs : List Value) (z : ℤ) → 0 < length vs → z ≡ pos 1
+    → text_of (fun (pairs (map pair_of (zip (numbers_from (length vs) z) vs)))) ≡ listed (codes "<<") (codes ", ") (codes ">>") (member_texts (trees (map tree_of vs)))
+text-of-counted vs z l h =
+    text-of-sequence (numbers_from (length vs) z) vs (length-numbers (length vs) z) l
+    (ap (counts_from 1) (trees_numbers (length vs) z) ∙ ap (λ y. counts_from 1 (counted_up (length vs) y)) h ∙ counts-up (length vs) 1)

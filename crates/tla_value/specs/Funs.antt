@@ -13,6 +13,10 @@ use Rattle.tla_value.specs.Order.{tree_cmp, tree_eq}
 abbrev pub arguments : List (Tree × Tree) → List Tree
 arguments ps = map (λ (p : Tree × Tree). p.0) ps
 
+-- the values of some pairs
+abbrev pub values_of : List (Tree × Tree) → List Tree
+values_of ps = map (λ (p : Tree × Tree). p.1) ps
+
 -- the value beside the first pair with this argument
 abbrev pub value_at : Tree → List (Tree × Tree) → Option Tree
 value_at t ps = lookup (tree_eq t) ps

@@ -13,6 +13,7 @@ pub mod OrderChains
 pub mod OrderLaws
 pub mod ValueOrder
 pub mod Funs
+pub mod Arguments
 pub mod Choices
 pub mod FunLaws
 pub mod Hashed

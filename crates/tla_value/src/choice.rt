@@ -182,7 +182,7 @@ fn set_of_tuples(alloc: Global, sets: &[&SetValue]) -> Result<SetValue, ValueErr
     match count_of(sets) {
         None => Err(ValueError::TooMany),
         Some(count) => {
-            let numbers = count_up(alloc, 1, sets.len() as i64, sets.len() as u64)?;
+            let numbers = count_up(alloc, 1, sets.len() as u64)?;
             set_of_functions(alloc, numbers.as_slice(), sets, count)
         }
     }

@@ -1,9 +1,15 @@
 // Copies of values. They share what the values hold, so that each costs one count.
-ghost use Rattle.std.specs.Prelude.{◌≡◌, IfOk, IfErr};
+ghost use Rattle.std.specs.Prelude.{◌≡◌, map, IfOk, IfErr};
+ghost use Rattle.std.specs.List.Sorted.{IsStrictlySortedBy};
+ghost use Rattle.tla_value.specs.Tree.{fun, pairs};
+ghost use Rattle.tla_value.specs.TreeOf.{pair_of};
+ghost use Rattle.tla_value.specs.Order.{tree_cmp};
+ghost use Rattle.tla_value.specs.IsValue.{IsValue};
+ghost use Rattle.tla_value.specs.Funs.{arguments};
 ghost use Rattle.tla_value.specs.declared.error.ValueError.TheVariants.{Memory};
 
 use crate::error::ValueError;
-use crate::value::Value;
+use crate::value::{FunValue, Value};
 use std::alloc::Global;
 
 impl Value {
@@ -35,19 +41,21 @@ pub(crate) fn copy_items(alloc: Global, items: &[Value]) -> Result<Vec<Value>, V
     Ok(copies)
 }
 
-// Copies of some pairs, in a list of their own.
-pub(crate) fn copy_pairs(
-    alloc: Global,
-    pairs: &[(Value, Value)],
-) -> Result<Vec<(Value, Value)>, ValueError>
-    ensures ok { IfOk result (λ v. v.items ≡ pairs.now) }
+// The pairs of a function, in a list of their own.
+pub(crate) fn copy_pairs(alloc: Global, of: &FunValue) -> Result<Vec<(Value, Value)>, ValueError>
+    ensures ok { IfOk result (λ v. map pair_of v.items ≡ of.now) }
+    ensures rising { IsStrictlySortedBy tree_cmp (arguments of.now) }
+    ensures value { IsValue (fun (pairs of.now)) }
     ensures err { IfErr result (λ e. e ≡ Memory) }
 {
-    let mut copies = Vec::with_capacity(alloc, pairs.len())?;
-    for pair in pairs {
-        let argument = pair.0.copy(alloc)?;
-        let value = pair.1.copy(alloc)?;
-        copies.push((argument, value))?;
+    let values = of.values();
+    let domain = of.domain(alloc)?;
+    let arguments = domain.items();
+    let mut pairs = Vec::with_capacity(alloc, values.len())?;
+    for i in 0..values.len() {
+        let argument = arguments[i].copy(alloc)?;
+        let value = values[i].copy(alloc)?;
+        pairs.push((argument, value))?;
     }
-    Ok(copies)
+    Ok(pairs)
 }

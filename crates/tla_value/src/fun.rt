@@ -1,46 +1,29 @@
-// Functions, as lists of pairs that rise by argument.
-ghost use Rattle.std.specs.Prelude.{◌≡◌, is_some, ◌++◌, length, map, option_map, IfOk, IfErr, OnOk};
-ghost use Rattle.std.specs.declared.cmp.Ordering.TheVariants.{Equal};
-ghost use Rattle.std.specs.List.{HoldsAt, dedup};
-ghost use Rattle.std.specs.List.Sorted.{IsStrictlySortedBy, IsSearchInRange, IsSortedBy, IsStableBy, IsPermutation};
+// Functions: what is made of them, and of pairs.
+ghost use Rattle.std.specs.Prelude.{◌≡◌, ◌++◌, length, map, zip, option_map, IfOk, IfErr, OnOk};
+ghost use Rattle.tla_value.specs.Choices.{numbered};
+ghost use Rattle.std.specs.List.{dedup};
+ghost use Rattle.std.specs.List.Sorted.{IsStrictlySortedBy, IsSortedBy, IsStableBy, IsPermutation};
 ghost use Rattle.std.specs.Ordering.{is_lt};
 ghost use Rattle.tla_value.specs.declared.error.ValueError.TheVariants.{Memory};
 ghost use Rattle.tla_value.specs.TreeOf.{tree_of, pair_of};
 ghost use Rattle.tla_value.specs.Tree.{Tree, deepest_pair, fun, pairs as pairs_of};
-ghost use Rattle.tla_value.specs.IsValue.{IsValue, ArePairs, IsFunList};
+ghost use Rattle.tla_value.specs.IsValue.{IsValue, ArePairs, IsFunList, IsFunValue};
+ghost use Rattle.tla_value.specs.Arguments.{argument_values, FitArguments};
 ghost use Rattle.tla_value.specs.Order.{tree_cmp};
-ghost use Rattle.tla_value.specs.Funs.{arguments, value_at, fun_of, except_of, items_of, MakesFun, RefusesFun};
-ghost use Rattle.tla_value.specs.Private.Inner.{IsPlace};
+ghost use Rattle.tla_value.specs.Funs.{arguments, values_of, value_at, fun_of, except_of, items_of, MakesFun, RefusesFun};
+ghost use Rattle.tla_value.specs.Private.Inner.{counts_from};
 ghost use Rattle.tla_value.specs.ValueOrder.{value_cmp, value_eq};
 ghost use Rattle.tla_value.specs.declared.value.Value.{Value};
 
+use crate::copy::copy_pairs;
+use crate::domain::first_numbers;
 use crate::error::ValueError;
 use crate::merge_pairs::merged_pairs;
 use crate::order::compare;
-use crate::set::{MAX_ELEMENTS, MAX_NESTING, set_within};
-use crate::value::{FunValue, SetValue, Value};
+use crate::set::{MAX_ELEMENTS, MAX_NESTING, deepest_of};
+use crate::value::{Arguments, Domain, FunValue, SetValue, Value};
 use std::alloc::Global;
 use std::cmp::Ordering;
-
-// Where an argument stands, or where it would.
-fn place_of(pairs: &[(Value, Value)], argument: &Value) -> Result<usize, usize>
-    requires { IsStrictlySortedBy value_cmp (map (λ (p : Value × Value). p.0) pairs.now) }
-    ensures within { IsSearchInRange result (length pairs.now) }
-    ensures found { IfOk result (λ i. HoldsAt (λ (p : Value × Value). value_cmp p.0 argument.now ≡ Equal) pairs.now i) }
-    ensures absent { IfErr result (IsPlace argument.now pairs.now) }
-{
-    let mut low = 0;
-    let mut high = pairs.len();
-    while low < high {
-        let middle = low + (high - low) / 2;
-        match compare(&pairs[middle].0, argument) {
-            Ordering::Less => low = middle + 1,
-            Ordering::Equal => return Ok(middle),
-            Ordering::Greater => high = middle,
-        }
-    }
-    Err(low)
-}
 
 // The pairs by argument, those of one argument as they came.
 pub(crate) fn sort_pairs<T>(pairs: &mut Vec<(Value, T)>) -> Result<(), ValueError>
@@ -72,6 +55,33 @@ pub(crate) fn deepest_part_of(pairs: &[(Value, Value)]) -> u64
     deepest
 }
 
+// Arguments and values of some pairs, each in a list.
+fn split(pairs: Vec<(Value, Value)>) -> Result<(Vec<Value>, Vec<Value>), ValueError>
+    ensures arguments { IfOk result (λ r. map tree_of r.0.items ≡ arguments (map pair_of pairs.items)) }
+    ensures values { IfOk result (λ r. map tree_of r.1.items ≡ values_of (map pair_of pairs.items)) }
+    ensures err { IfErr result (λ e. e ≡ Memory) }
+{
+    let alloc = *pairs.allocator();
+    let mut arguments = Vec::with_capacity(alloc, pairs.len())?;
+    let mut values = Vec::with_capacity(alloc, pairs.len())?;
+    for (argument, value) in pairs {
+        arguments.push(argument)?;
+        values.push(value)?;
+    }
+    Ok((arguments, values))
+}
+
+// The function of pairs that rise by argument, nested so deep.
+fn from_parts(pairs: Vec<(Value, Value)>, nesting: u64) -> Result<FunValue, ValueError>
+    requires { IsFunValue (map pair_of pairs.items) nesting }
+    ensures ok { IfOk result (λ f. f ≡ map pair_of pairs.items) }
+    ensures err { IfErr result (λ e. e ≡ Memory) }
+{
+    let (arguments, values) = split(pairs)?;
+    let domain = Domain::from_rising(arguments)?;
+    FunValue::from_parts(domain, values, nesting)
+}
+
 // The function of pairs that rise by argument, within the limits.
 pub(crate) fn fun_within(pairs: Vec<(Value, Value)>) -> Result<FunValue, ValueError>
     requires { IsFunList (map pair_of pairs.items) }
@@ -79,7 +89,7 @@ pub(crate) fn fun_within(pairs: Vec<(Value, Value)>) -> Result<FunValue, ValueEr
     ensures err { IfErr result (λ e. e ≡ Memory) }
 {
     let deepest = deepest_part_of(&pairs);
-    FunValue::from_parts(pairs, deepest + 1)
+    from_parts(pairs, deepest + 1)
 }
 
 // The function of pairs that rise by argument.
@@ -94,52 +104,42 @@ fn fun_from_rising(pairs: Vec<(Value, Value)>) -> Result<FunValue, ValueError>
     if deepest >= MAX_NESTING {
         return Err(ValueError::TooDeep);
     }
-    FunValue::from_parts(pairs, deepest + 1)
+    from_parts(pairs, deepest + 1)
 }
 
-// Whether the arguments are 1, 2, and so on.
-pub(crate) fn is_sequence(pairs: &[(Value, Value)]) -> bool
-    ensures { result ≡ is_some (items_of (map pair_of pairs.now)) }
+// Whether some values are 1, 2, and so on.
+pub(crate) fn are_from_one(items: &[Value]) -> bool
+    ensures { result ≡ counts_from 1 (map tree_of items.now) }
 {
-    for i in 0..pairs.len() {
-        if compare(&pairs[i].0, &Value::Int(i as i64 + 1)) != Ordering::Equal {
+    for i in 0..items.len() {
+        if compare(&items[i], &Value::Int(i as i64 + 1)) != Ordering::Equal {
             return false;
         }
     }
     true
 }
 
-// Copies of the arguments of some pairs.
-fn copy_arguments(alloc: Global, pairs: &[(Value, Value)]) -> Result<Vec<Value>, ValueError>
-    ensures ok { IfOk result (λ v. map tree_of v.items ≡ arguments (map pair_of pairs.now)) }
-    ensures err { IfErr result (λ e. e ≡ Memory) }
+// Whether so many arguments are 1, 2, and so on.
+fn is_sequence(arguments: Arguments<'_>, count: usize) -> bool
+    requires { FitArguments count arguments }
+    ensures { result ≡ counts_from 1 (map tree_of (argument_values count arguments.entry)) }
 {
-    let mut copies = Vec::with_capacity(alloc, pairs.len())?;
-    for pair in pairs {
-        copies.push(pair.0.copy(alloc)?)?;
+    match arguments {
+        Arguments::Numbers(first) => first == 1,
+        Arguments::Listed(items) => are_from_one(items),
     }
-    Ok(copies)
 }
 
 impl FunValue {
-    /// The set of the arguments: `DOMAIN f`.
-    pub fn domain(&self, alloc: Global) -> Result<SetValue, ValueError>
-        ensures ok { IfOk result (λ s. s ≡ arguments self.now) }
-        ensures err { IfErr result (λ e. e ≡ Memory) }
-    {
-        let items = copy_arguments(alloc, self.pairs())?;
-        set_within(items)
-    }
-
-    // Another value at one argument, if it is there: in place where nobody else holds the pairs.
+    // Another value at one argument, if it is there: in place where nobody else holds the values.
     fn put(&mut self, argument: &Value, value: Value) -> Result<(), ValueError>
         ensures ok { OnOk result (self.new ≡ except_of (tree_of argument.now) (tree_of value) self.old) }
         ensures value { OnOk result (IsValue (fun (pairs_of self.new))) }
         ensures refused { IfErr result (RefusesFun (except_of (tree_of argument.now) (tree_of value) self.old)) }
     {
-        match place_of(self.pairs(), argument) {
-            Ok(index) => self.put_at(index, value),
-            Err(_) => Ok(()),
+        match self.place(argument) {
+            Some(index) => self.put_at(index, value),
+            None => Ok(()),
         }
     }
 
@@ -169,7 +169,9 @@ impl FunValue {
     pub fn override_with(&self, alloc: Global, other: &FunValue) -> Result<FunValue, ValueError>
         ensures { MakesFun (fun_of (self.now ++ other.now)) result }
     {
-        let pairs = merged_pairs(alloc, self.pairs(), other.pairs())?;
+        let left = copy_pairs(alloc, self)?;
+        let right = copy_pairs(alloc, other)?;
+        let pairs = merged_pairs(alloc, left.as_slice(), right.as_slice())?;
         fun_from_rising(pairs)
     }
 
@@ -177,9 +179,8 @@ impl FunValue {
     pub fn as_sequence(&self) -> Option<u64>
         ensures { result ≡ option_map length (items_of self.now) }
     {
-        let pairs = self.pairs();
-        if is_sequence(pairs) {
-            Some(pairs.len() as u64)
+        if is_sequence(self.arguments(), self.len()) {
+            Some(self.len() as u64)
         } else {
             None
         }
@@ -195,14 +196,41 @@ impl FunValue {
         fun_from_rising(pairs)
     }
 
+    /// The sequence of these values.
+    pub fn sequence(values: Vec<Value>) -> Result<FunValue, ValueError>
+        ensures { MakesFun (numbered 1 (map tree_of values.items)) result }
+    {
+        if values.as_slice().len() > MAX_ELEMENTS {
+            return Err(ValueError::TooMany);
+        }
+        let deepest = deepest_of(&values);
+        if deepest >= MAX_NESTING {
+            return Err(ValueError::TooDeep);
+        }
+        let domain = first_numbers(&values);
+        FunValue::from_parts(domain, values, deepest + 1)
+    }
+
+    /// The function on the members of a set, in their order, with these values. It shares the members.
+    pub fn on(alloc: Global, domain: &SetValue, values: Vec<Value>) -> Result<FunValue, ValueError>
+        requires { length domain.now ≡ length values.items }
+        ensures { MakesFun (zip domain.now (map tree_of values.items)) result }
+    {
+        let deepest = deepest_of(&values).max(domain.nesting() - 1);
+        if deepest >= MAX_NESTING {
+            return Err(ValueError::TooDeep);
+        }
+        let domain = Domain::from_set(alloc, domain)?;
+        FunValue::from_parts(domain, values, deepest + 1)
+    }
+
     /// The value of the function at an argument.
     pub fn apply(&self, argument: &Value) -> Option<&Value>
         ensures { option_map (λ v. tree_of v.now) result ≡ value_at (tree_of argument.now) self.now }
     {
-        let pairs = self.pairs();
-        match place_of(pairs, argument) {
-            Ok(index) => Some(&pairs[index].1),
-            Err(_) => None,
+        match self.place(argument) {
+            Some(index) => Some(&self.values()[index]),
+            None => None,
         }
     }
 }

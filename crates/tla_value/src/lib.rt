@@ -9,6 +9,7 @@
 
 mod choice;
 mod copy;
+mod domain;
 mod error;
 mod fun;
 mod hash;
@@ -26,4 +27,4 @@ pub use set::{MAX_ELEMENTS, MAX_NESTING};
 pub use show::TextFault;
 pub use state::State;
 pub use text::Text;
-pub use value::{FunValue, SetValue, Value};
+pub use value::{Arguments, FunValue, SetValue, Value};

@@ -1,5 +1,5 @@
 // Finite sets, as rising lists.
-ghost use Rattle.std.specs.Prelude.{◌≡◌, ◌<◌, ◌≤◌, pos, ◌+ℤ◌, ◌++◌, ◌∷◌, map, filter, length, insert, not, is_ok, option_map, slice_get, IfOk, IfErr, OnOk, OnErr};
+ghost use Rattle.std.specs.Prelude.{◌≡◌, ◌<◌, ◌≤◌, pos, ◌+ℤ◌, ◌≤ℤ◌, ◌++◌, ◌∷◌, false, map, filter, length, insert, not, is_ok, option_map, slice_get, Some, IfSome, IfNone, IfOk, IfErr, OnOk, OnErr};
 ghost use Rattle.std.specs.List.{list_all};
 ghost use Rattle.std.specs.List.Sorted.{IsStrictlySortedBy};
 ghost use Rattle.tla_value.specs.Tree.{set, trees, deepest};
@@ -68,14 +68,9 @@ pub(crate) fn sort_values(values: Vec<Value>) -> Vec<Value>
     values
 }
 
-// So many numbers, from `low` to `high`.
-pub(crate) fn count_up(
-    alloc: Global,
-    low: i64,
-    high: i64,
-    count: u64,
-) -> Result<Vec<Value>, ValueError>
-    requires last { low +ℤ pos count ≡ high +ℤ pos 1 }
+// So many numbers, from `low` on.
+pub(crate) fn count_up(alloc: Global, low: i64, count: u64) -> Result<Vec<Value>, ValueError>
+    requires fits { (low +ℤ pos count) ≤ℤ pos 9223372036854775808 }
     requires few { count ≤ MAX_ELEMENTS }
     ensures ok { IfOk result (λ v. map tree_of v.items ≡ counted_up count low) }
     ensures err { IfErr result (λ e. e ≡ Memory) }
@@ -107,6 +102,17 @@ impl SetValue {
         ensures { result ≡ is_member (tree_of value.now) self.now }
     {
         self.place(value).is_ok()
+    }
+
+    // Where a value stands, if it does.
+    pub(crate) fn position(&self, value: &Value) -> Option<usize>
+        ensures some { IfSome result (λ i. slice_get self.now i ≡ Some (tree_of value.now)) }
+        ensures none { IfNone result (is_member (tree_of value.now) self.now ≡ false) }
+    {
+        match self.items().binary_search(value) {
+            Ok(index) => Some(index),
+            Err(_) => None,
+        }
     }
 
     // Where a value stands, or where it would.
@@ -162,7 +168,7 @@ impl SetValue {
         if steps >= MAX_ELEMENTS as u64 {
             return Err(ValueError::TooMany);
         }
-        set_from_rising(count_up(alloc, low, high, steps + 1)?)
+        set_from_rising(count_up(alloc, low, steps + 1)?)
     }
 
     /// Adds a value, and answers whether it is new.

@@ -1,19 +1,19 @@
 // The text of values.
-ghost use Rattle.std.specs.Prelude.{◌≡◌, ◌++◌, codes, map, OnOk, IfErr};
+ghost use Rattle.std.specs.Prelude.{◌≡◌, ◌<◌, ◌+ℤ◌, ◌≤ℤ◌, pos, ◌++◌, codes, length, map, zip, OnOk, IfErr};
 ghost use Rattle.std.specs.Io.KnownBytes.{Appends};
 ghost use Rattle.std.specs.List.{list_all, list_any};
 ghost use Rattle.std.specs.Str.{bytes_eq};
 ghost use Rattle.std.specs.Char.{is_ascii_alphabetic};
 ghost use Rattle.counted_writer.specs.Puts.{Puts, AddsFirst};
-ghost use Rattle.tla_value.specs.Tree.{trees, pairs as pairs_of, set, fun};
+ghost use Rattle.tla_value.specs.Tree.{int, trees, pairs as pairs_of, set, fun};
 ghost use Rattle.tla_value.specs.TreeOf.{tree_of, pair_of};
-ghost use Rattle.tla_value.specs.Funs.{arguments};
+ghost use Rattle.tla_value.specs.Arguments.{numbers_from};
 ghost use Rattle.tla_value.specs.TextNames.{is_word_byte, begins_fairness, is_identifier, is_reserved};
-ghost use Rattle.tla_value.specs.Text.{text_of, escaped, quoted, field_name, is_field, listed, value_texts, field_texts, pair_texts};
+ghost use Rattle.tla_value.specs.Text.{text_of, escaped, quoted, field_name, is_field, listed, member_texts, field_texts, pair_texts};
 ghost use Rattle.tla_value.specs.Private.Inner.{separator_before};
 
-use crate::fun::is_sequence;
-use crate::value::{FunValue, SetValue, Value};
+use crate::fun::are_from_one;
+use crate::value::{Arguments, FunValue, SetValue, Value};
 use counted_writer::{ShortWrite, put, put_number};
 use std::io::Write;
 
@@ -132,65 +132,102 @@ fn put_between<W: Write>(
 fn put_function<W: Write>(of: &FunValue, out: &mut W, written: u64) -> Result<u64, ShortWrite>
     ensures { Puts (W.contents out.old) (W.contents out.new) written (text_of (fun (pairs_of of.now))) result }
 {
-    let pairs = of.pairs();
-    // No argument is a number and a string, so one of the two walks ends at the first pair.
-    if pairs.is_empty() {
-        put(out, written, b"<< >>")
-    } else if is_sequence(pairs) {
-        put_sequence(pairs, out, written)
-    } else if is_record(pairs) {
-        put_record(pairs, out, written)
+    let values = of.values();
+    if values.is_empty() {
+        return put(out, written, b"<< >>");
+    }
+    match of.arguments() {
+        Arguments::Numbers(first) => put_numbers(first, values, out, written),
+        Arguments::Listed(arguments) => put_listed(arguments, values, out, written),
+    }
+}
+
+// A function on the numbers from one on.
+#[cycle(show)]
+fn put_numbers<W: Write>(
+    first: i64,
+    values: &[Value],
+    out: &mut W,
+    written: u64,
+) -> Result<u64, ShortWrite>
+    requires some { 0 < length values.now }
+    requires fits { (first +ℤ pos (length values.now)) ≤ℤ pos 9223372036854775808 }
+    ensures { Puts (W.contents out.old) (W.contents out.new) written (text_of (fun (pairs_of (map pair_of (zip (numbers_from (length values.now) first) values.now))))) result }
+{
+    if first == 1 {
+        put_sequence(values, out, written)
     } else {
-        put_pairs(pairs, out, written)
+        put_numbered(first, values, out, written)
+    }
+}
+
+// A function whose arguments stand in a list.
+#[cycle(show)]
+fn put_listed<W: Write>(
+    arguments: &[Value],
+    values: &[Value],
+    out: &mut W,
+    written: u64,
+) -> Result<u64, ShortWrite>
+    requires long { length arguments.now ≡ length values.now }
+    requires some { 0 < length values.now }
+    ensures { Puts (W.contents out.old) (W.contents out.new) written (text_of (fun (pairs_of (map pair_of (zip arguments.now values.now))))) result }
+{
+    // No argument is a number and a string, so one of the two walks ends at the first argument.
+    if are_from_one(arguments) {
+        put_sequence(values, out, written)
+    } else if are_names(arguments) {
+        put_record(arguments, values, out, written)
+    } else {
+        put_pairs(arguments, values, out, written)
     }
 }
 
 #[cycle(show)]
-fn put_sequence<W: Write>(
-    pairs: &[(Value, Value)],
-    out: &mut W,
-    written: u64,
-) -> Result<u64, ShortWrite>
+fn put_sequence<W: Write>(values: &[Value], out: &mut W, written: u64) -> Result<u64, ShortWrite>
     ensures { Puts (W.contents out.old) (W.contents out.new) written
-        (listed (codes "<<") (codes ", ") (codes ">>") (value_texts (pairs_of (map pair_of pairs.now)))) result }
+        (listed (codes "<<") (codes ", ") (codes ">>") (member_texts (trees (map tree_of values.now)))) result }
 {
     let mut written = put(out, written, b"<<")?;
-    for i in 0..pairs.len() {
-        written = put_item(&pairs[i].1, i, out, written)?;
+    for i in 0..values.len() {
+        written = put_item(&values[i], i, out, written)?;
     }
     put(out, written, b">>")
 }
 
 #[cycle(show)]
 fn put_record<W: Write>(
-    pairs: &[(Value, Value)],
+    names: &[Value],
+    values: &[Value],
     out: &mut W,
     written: u64,
 ) -> Result<u64, ShortWrite>
+    requires { length names.now ≡ length values.now }
     ensures { Puts (W.contents out.old) (W.contents out.new) written
-        (listed (codes "[") (codes ", ") (codes "]") (field_texts (pairs_of (map pair_of pairs.now)))) result }
+        (listed (codes "[") (codes ", ") (codes "]") (field_texts (pairs_of (map pair_of (zip names.now values.now))))) result }
 {
     let mut written = put(out, written, b"[")?;
-    for i in 0..pairs.len() {
-        written = put_field(&pairs[i], i, out, written)?;
+    for i in 0..names.len() {
+        written = put_field(&names[i], &values[i], i, out, written)?;
     }
     put(out, written, b"]")
 }
 
 #[cycle(show)]
 fn put_field<W: Write>(
-    field: &(Value, Value),
+    name: &Value,
+    value: &Value,
     index: usize,
     out: &mut W,
     written: u64,
 ) -> Result<u64, ShortWrite>
     ensures { Puts (W.contents out.old) (W.contents out.new) written
-        (separator_before index (codes ", ") ++ (field_name (tree_of field.now.0) ++ (codes " |-> " ++ text_of (tree_of field.now.1)))) result }
+        (separator_before index (codes ", ") ++ (field_name (tree_of name.now) ++ (codes " |-> " ++ text_of (tree_of value.now)))) result }
 {
     let written = put_between(index, b", ", out, written)?;
-    let written = put_name(&field.0, out, written)?;
+    let written = put_name(name, out, written)?;
     let written = put(out, written, b" |-> ")?;
-    put_value(&field.1, out, written)
+    put_value(value, out, written)
 }
 
 // Writes a string without quotes, and nothing for another value.
@@ -205,42 +242,81 @@ fn put_name<W: Write>(name: &Value, out: &mut W, written: u64) -> Result<u64, Sh
 
 #[cycle(show)]
 fn put_pairs<W: Write>(
-    pairs: &[(Value, Value)],
+    arguments: &[Value],
+    values: &[Value],
     out: &mut W,
     written: u64,
 ) -> Result<u64, ShortWrite>
+    requires { length arguments.now ≡ length values.now }
     ensures { Puts (W.contents out.old) (W.contents out.new) written
-        (listed (codes "(") (codes " @@ ") (codes ")") (pair_texts (pairs_of (map pair_of pairs.now)))) result }
+        (listed (codes "(") (codes " @@ ") (codes ")") (pair_texts (pairs_of (map pair_of (zip arguments.now values.now))))) result }
 {
     let mut written = put(out, written, b"(")?;
-    for i in 0..pairs.len() {
-        written = put_pair(&pairs[i], i, out, written)?;
+    for i in 0..arguments.len() {
+        written = put_pair(&arguments[i], &values[i], i, out, written)?;
+    }
+    put(out, written, b")")
+}
+
+// A function on the numbers from one on that is no sequence.
+#[cycle(show)]
+fn put_numbered<W: Write>(
+    first: i64,
+    values: &[Value],
+    out: &mut W,
+    written: u64,
+) -> Result<u64, ShortWrite>
+    requires { (first +ℤ pos (length values.now)) ≤ℤ pos 9223372036854775808 }
+    ensures { Puts (W.contents out.old) (W.contents out.new) written
+        (listed (codes "(") (codes " @@ ") (codes ")") (pair_texts (pairs_of (map pair_of (zip (numbers_from (length values.now) first) values.now))))) result }
+{
+    let mut written = put(out, written, b"(")?;
+    for i in 0..values.len() {
+        written = put_numbered_pair(first + i as i64, &values[i], i, out, written)?;
     }
     put(out, written, b")")
 }
 
 #[cycle(show)]
 fn put_pair<W: Write>(
-    pair: &(Value, Value),
+    argument: &Value,
+    value: &Value,
     index: usize,
     out: &mut W,
     written: u64,
 ) -> Result<u64, ShortWrite>
     ensures { Puts (W.contents out.old) (W.contents out.new) written
-        (separator_before index (codes " @@ ") ++ (text_of (tree_of pair.now.0) ++ (codes " :> " ++ text_of (tree_of pair.now.1)))) result }
+        (separator_before index (codes " @@ ") ++ (text_of (tree_of argument.now) ++ (codes " :> " ++ text_of (tree_of value.now)))) result }
 {
     let written = put_between(index, b" @@ ", out, written)?;
-    let written = put_value(&pair.0, out, written)?;
+    let written = put_value(argument, out, written)?;
     let written = put(out, written, b" :> ")?;
-    put_value(&pair.1, out, written)
+    put_value(value, out, written)
+}
+
+#[cycle(show)]
+fn put_numbered_pair<W: Write>(
+    argument: i64,
+    value: &Value,
+    index: usize,
+    out: &mut W,
+    written: u64,
+) -> Result<u64, ShortWrite>
+    ensures { Puts (W.contents out.old) (W.contents out.new) written
+        (separator_before index (codes " @@ ") ++ (text_of (int argument) ++ (codes " :> " ++ text_of (tree_of value.now)))) result }
+{
+    let written = put_between(index, b" @@ ", out, written)?;
+    let written = put_number(out, written, argument)?;
+    let written = put(out, written, b" :> ")?;
+    put_value(value, out, written)
 }
 
 // Whether each argument is the name of a field.
-fn is_record(pairs: &[(Value, Value)]) -> bool
-    ensures { result ≡ list_all is_field (arguments (map pair_of pairs.now)) }
+fn are_names(arguments: &[Value]) -> bool
+    ensures { result ≡ list_all is_field (map tree_of arguments.now) }
 {
-    for pair in pairs {
-        if !names_field(&pair.0) {
+    for argument in arguments {
+        if !names_field(argument) {
             return false;
         }
     }

@@ -130,7 +130,7 @@ fn one_pair(alloc: Global) -> Result<FunValue, ValueError> {
 fn is_one_pair(function: &FunValue, value: i64) -> bool {
     function.apply(&Value::Int(1)) == Some(&Value::Int(value))
         && function.apply(&Value::Int(3)).is_none()
-        && function.pairs().len() == 1
+        && function.values().len() == 1
         && function.len() == 1
         && !function.is_empty()
         && function.nesting() == 1

@@ -99,7 +99,7 @@ fn function_on_tuples<'s, 'c: 'a, 'a>(
     match domain_of(alloc, place, sets)? {
         Domain::Tuples(tuples) => {
             let values = chosen(alloc, body, lists, env)?;
-            function_with(alloc, place, tuples.items(), values)
+            function_with(alloc, place, &tuples, values)
         }
         Domain::Refused(fault) => {
             pass_over(alloc, body, lists, env)?;

@@ -178,7 +178,7 @@ pub(super) fn tuple<'c: 'a, 'a>(
     ensures { Evaluates result ((means-tuple place.now (parts_of_cores parts.now)).value (bound_in env.entry) (present_in env.entry) (next_in env.entry)) }
 {
     let values = values_of(alloc, parts, env)?;
-    Ok(Evaluated::Owned(sequence_of(alloc, place, values)?))
+    Ok(Evaluated::Owned(sequence_of(place, values)?))
 }
 
 /// The record of the values of its fields.

@@ -1,12 +1,12 @@
 //! Sets of records and of tuples.
 ghost use Rattle.std.specs.Prelude.{◌≡◌, length, map};
-ghost use Rattle.tla_value.specs.TreeOf.{tree_of, pair_of};
+ghost use Rattle.tla_value.specs.TreeOf.{tree_of};
 ghost use Rattle.tla_value.specs.Choices.{parts_of};
 ghost use Rattle.tla_core.specs.Lists.{each, all_hold};
 ghost use Rattle.tla_core.specs.Meaning.{Meaning};
 ghost use Rattle.tla_core.specs.SetForms.{means-records, means-product, field_has, parts_have};
 ghost use Rattle.tla_core.specs.ExprOf.{parts_of_cores, fields_of_cores};
-ghost use Rattle.tla_operators.specs.Gives.{GivesBy, GivesTruth, values_of};
+ghost use Rattle.tla_operators.specs.Gives.{GivesBy, GivesTruth};
 ghost use Rattle.tla_eval.specs.Private.Parts.{product_rule, record_set_rule};
 ghost use Rattle.tla_operators.specs.Evaluated.{Evaluates, tree_of_evaluated};
 ghost use Rattle.tla_eval.specs.Private.Environment.{bound_in, present_in, next_in};
@@ -18,11 +18,11 @@ use std::alloc::Global;
 use tla_core::{Core, Place};
 use tla_operators::evaluated::Evaluated;
 use tla_operators::functions::if_function;
-use tla_operators::sequences::sequence_pairs;
+use tla_operators::sequences::sequence_items;
 use tla_operators::sets::tuples_with;
 use tla_operators::trouble::Trouble;
 use tla_sets::fields::{field_in, has_just, records_with};
-use tla_value::{Text, Value};
+use tla_value::{FunValue, Text, Value};
 
 /// The records with each field in its set.
 #[cycle(evaluate)]
@@ -81,7 +81,7 @@ pub(super) fn is_record_of<'c: 'a, 'a>(
     match if_function(value) {
         Some(function) => {
             if has_just(function, fields) {
-                fields_have(alloc, fields, function.pairs(), env)
+                fields_have(alloc, fields, function, env)
             } else {
                 Ok(false)
             }
@@ -95,13 +95,13 @@ pub(super) fn is_record_of<'c: 'a, 'a>(
 fn fields_have<'c: 'a, 'a>(
     alloc: Global,
     fields: &'c [(Text, Core)],
-    pairs: &'a [(Value, Value)],
+    function: &'a FunValue,
     env: Environment<'a>,
 ) -> Result<bool, Trouble<'c>>
-    ensures { GivesTruth result (all_hold (field_has (map pair_of pairs.now) (bound_in env.entry) (present_in env.entry) (next_in env.entry)) (fields_of_cores fields.now)) }
+    ensures { GivesTruth result (all_hold (field_has function.now (bound_in env.entry) (present_in env.entry) (next_in env.entry)) (fields_of_cores fields.now)) }
 {
     for field in fields {
-        match field_in(pairs, &field.0) {
+        match field_in(function, &field.0) {
             Some(value) => {
                 if !has(alloc, &field.1, value, env)? {
                     return Ok(false);
@@ -123,10 +123,10 @@ pub(super) fn is_tuple_of<'c: 'a, 'a>(
 ) -> Result<bool, Trouble<'c>>
     ensures { (p : Place) → GivesTruth result ((means-product p (parts_of_cores parts.now)).has (tree_of value.now) (bound_in env.entry) (present_in env.entry) (next_in env.entry)) }
 {
-    match sequence_pairs(value) {
-        Some(pairs) => {
-            if pairs.len() == parts.len() {
-                parts_have(alloc, parts, pairs, env)
+    match sequence_items(value) {
+        Some(items) => {
+            if items.len() == parts.len() {
+                parts_have(alloc, parts, items, env)
             } else {
                 Ok(false)
             }
@@ -140,14 +140,14 @@ pub(super) fn is_tuple_of<'c: 'a, 'a>(
 fn parts_have<'c: 'a, 'a>(
     alloc: Global,
     parts: &'c [Core],
-    pairs: &'a [(Value, Value)],
+    items: &'a [Value],
     env: Environment<'a>,
 ) -> Result<bool, Trouble<'c>>
-    requires { length pairs.now ≡ length parts.now }
-    ensures { GivesTruth result (parts_have (parts_of_cores parts.now) (values_of (map pair_of pairs.now)) (bound_in env.entry) (present_in env.entry) (next_in env.entry)) }
+    requires { length items.now ≡ length parts.now }
+    ensures { GivesTruth result (parts_have (parts_of_cores parts.now) (map tree_of items.now) (bound_in env.entry) (present_in env.entry) (next_in env.entry)) }
 {
     for i in 0..parts.len() {
-        if !has(alloc, &parts[i], &pairs[i].1, env)? {
+        if !has(alloc, &parts[i], &items[i], env)? {
             return Ok(false);
         }
     }

@@ -1,13 +1,13 @@
 //! Sets of sets, of functions and of sequences.
 ghost use Rattle.std.specs.Prelude.{map};
-ghost use Rattle.tla_value.specs.TreeOf.{tree_of, pair_of};
+ghost use Rattle.tla_value.specs.TreeOf.{tree_of};
 ghost use Rattle.tla_value.specs.Tree.{Tree};
 ghost use Rattle.tla_core.specs.Lists.{all_hold};
 ghost use Rattle.tla_core.specs.Membership.{means-sequences};
 ghost use Rattle.tla_core.specs.SetForms.{means-power, means-functions};
 ghost use Rattle.tla_core.specs.Value.{mem, means};
 ghost use Rattle.tla_core.specs.ExprOf.{expr_of};
-ghost use Rattle.tla_operators.specs.Gives.{GivesTruth, values_of};
+ghost use Rattle.tla_operators.specs.Gives.{GivesTruth};
 ghost use Rattle.tla_operators.specs.Evaluated.{Evaluates};
 ghost use Rattle.tla_eval.specs.Private.Environment.{bound_in, present_in, next_in};
 
@@ -18,7 +18,7 @@ use std::alloc::Global;
 use tla_core::{Core, Place};
 use tla_operators::evaluated::Evaluated;
 use tla_operators::functions::if_function;
-use tla_operators::sequences::sequence_pairs;
+use tla_operators::sequences::sequence_items;
 use tla_operators::sets::{functions_between, has_domain, if_set, members, subsets_of};
 use tla_operators::trouble::Trouble;
 use tla_value::Value;
@@ -79,29 +79,10 @@ pub(super) fn is_sequence_of<'c: 'a, 'a>(
 ) -> Result<bool, Trouble<'c>>
     ensures { GivesTruth result ((means-sequences (means (expr_of core.now)).place (means (expr_of core.now))).has (tree_of value.now) (bound_in env.entry) (present_in env.entry) (next_in env.entry)) }
 {
-    match sequence_pairs(value) {
-        Some(pairs) => has_values(alloc, core, pairs, env),
+    match sequence_items(value) {
+        Some(items) => has_all(alloc, core, items, env),
         None => Ok(false),
     }
-}
-
-/// Whether an expression has the value of each of these pairs, up to the first that it has not.
-#[cycle(evaluate)]
-fn has_values<'c: 'a, 'a>(
-    alloc: Global,
-    core: &'c Core,
-    pairs: &'a [(Value, Value)],
-    env: Environment<'a>,
-) -> Result<bool, Trouble<'c>>
-    ensures items { GivesTruth result (all_hold (λ v. mem v (expr_of core.now) (bound_in env.entry) (present_in env.entry) (next_in env.entry)) (values_of (map pair_of pairs.now))) }
-    ensures values { GivesTruth result (all_hold (λ (q : Tree × Tree). mem q.1 (expr_of core.now) (bound_in env.entry) (present_in env.entry) (next_in env.entry)) (map pair_of pairs.now)) }
-{
-    for pair in pairs {
-        if !has(alloc, core, &pair.1, env)? {
-            return Ok(false);
-        }
-    }
-    Ok(true)
 }
 
 /// Whether a value is a function on a set with values in an expression.
@@ -121,7 +102,7 @@ pub(super) fn is_function_into<'c: 'a, 'a>(
             let set = evaluate(alloc, domain, env)?;
             let arguments = members(place, set.value())?;
             if has_domain(function, arguments) {
-                has_values(alloc, range, function.pairs(), env)
+                has_all(alloc, range, function.values(), env)
             } else {
                 Ok(false)
             }

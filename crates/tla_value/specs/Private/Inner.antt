@@ -1,16 +1,15 @@
 -- Words of private contracts: places, numbers of choices, fields as pairs. No public clause cites them.
-use Rattle.std.specs.Prelude.{◌≡◌, ℕ, Bool, false, cond, List, [], ◌∷◌, map, length, not, filter, zero, suc, ◌*◌, ◌/◌, ◌%◌, ◌^◌, nat_le, slice_index_or, if◌then◌else◌}
-use Rattle.std.specs.declared.cmp.Ordering.TheVariants.{Less, Greater}
-use Rattle.std.specs.List.Sorted.{IsPartitionPoint}
-use Rattle.tla_value.specs.Tree.{Tree, trees, set, truth, text}
+use Rattle.std.specs.Prelude.{ℕ, pos, Bool, true, false, cond, List, [], ◌∷◌, map, length, not, filter, zero, suc, ◌+◌, ◌*◌, ◌/◌, ◌%◌, ◌^◌, ◌&&◌, nat_le, slice_index_or, if◌then◌else◌}
+use Rattle.tla_value.specs.Tree.{Tree, int, trees, set, truth, text}
+use Rattle.tla_value.specs.Order.{tree_eq}
 use Rattle.tla_value.specs.TreeOf.{tree_of}
-use Rattle.tla_value.specs.ValueOrder.{value_cmp}
 use Rattle.tla_value.specs.declared.value.Value.{Value}
 use Rattle.tla_value.specs.Sets.{is_member}
 
--- the place between the arguments below x and those above it
-abbrev pub IsPlace : Value → List (Value × Value) → ℕ → Type 0
-IsPlace x ps i = IsPartitionPoint (λ (p : Value × Value). value_cmp p.0 x ≡ Less) (λ (p : Value × Value). value_cmp p.0 x ≡ Greater) ps i
+-- whether some trees are the numbers k, k + 1, ..
+abbrev pub counts_from : ℕ → List Tree → Bool
+counts_from k [] = true
+counts_from k (t ∷ ts) = tree_eq t (int (pos k)) && counts_from (k + 1) ts
 
 -- another value beside the argument at a place
 abbrev pub with_value_at : List (Tree × Tree) → ℕ → Tree → List (Tree × Tree)

@@ -1,5 +1,5 @@
 use Rattle.std.proofs.Common.{◌≡◌, rules, arith, Vec, Global, map, zip, length, option_map, Option, Bor, List, ◌++◌, ◌∷◌, [], Bool, Some, None, Ok, Err, inr, ap, sym, ◌∙◌, refl, subst}
-use Rattle.std.proofs.lemmas.List.{map-append}
+use Rattle.std.proofs.lemmas.List.{map-append, length-map}
 use Rattle.tla_value.specs.Choices.{choices}
 use Rattle.tla_core.specs.Logic.{means-conjunction, means-disjunction, means-cases}
 use Rattle.tla_core.specs.Meaning.{Meaning, asks, elements, means-enumerated, means-tuple}
@@ -11,7 +11,7 @@ use Rattle.tla_value.specs.Tree.{Tree}
 use Rattle.tla_core.specs.Fault.{Outcome}
 use Rattle.tla_core.specs.declared.fault.Place.{Place}
 use Rattle.tla_core.specs.declared.fault.Fault.{Fault}
-use Rattle.tla_operators.specs.Gives.{Gives, GivesBy, GivesTruth, values_of}
+use Rattle.tla_operators.specs.Gives.{Gives, GivesBy, GivesTruth}
 use Rattle.tla_eval.specs.Private.Parts.{record_rule, product_rule, record_set_rule, tested, one_of_rule}
 use Rattle.tla_eval.specs.Private.Chosen.{image_rule, chosen_function_rule, values_for, value_at}
 use Rattle.tla_sets.specs.Domain.{function_rule, AreForChoices, IsDomain}
@@ -315,6 +315,26 @@ choices::image-returns-in_err-into_set t c =
     let g = c.in_err-into_set.ensures (values_for m (bound_in c.args.env) (present_in c.args.env) (next_in c.args.env) lists) c.in_ok-values.ensures in
     subst (λ (o : Outcome Tree). Evaluates c.from_residual-in_err-into_set.result o) (sym e) (search (rules, g))
 
+pub choices::function_on_members-function_on-requires-clause-paired : goal.choices::function_on_members-function_on-requires-clause-paired
+choices::function_on_members-function_on-requires-clause-paired t c =
+    let p = c.args.place.now in
+    let m = means (expr_of c.args.body.now) in
+    let vs = map tree_of_evaluated c.args.sets.now in
+    let lists = trees_in c.as_slice.result.now in
+    let are : each (as_set p) vs ≡ Ok lists = c.in_ok-lists.ensures ∙ ap (λ (us : List (Bor (List Value))). Ok (trees_in us)) (sym c.as_slice.ensures.value) in
+    for_choices p m (bound_in c.args.env) (present_in c.args.env) (next_in c.args.env) vs lists are (map tree_of c.in_ok-values.values.items) c.in_ok-values.ensures
+
+pub choices::function_on_tuples-function_with-requires : goal.choices::function_on_tuples-function_with-requires
+choices::function_on_tuples-function_with-requires t c =
+    let p = c.args.place.now in
+    let m = means (expr_of c.args.body.now) in
+    let vs = map tree_of_evaluated c.args.sets.now in
+    let lists = trees_in c.as_slice-lists.result.now in
+    let are : each (as_set p) vs ≡ Ok lists = c.in_ok-lists.ensures ∙ ap (λ (us : List (Bor (List Value))). Ok (trees_in us)) (sym c.as_slice-lists.ensures.value) in
+    let ys = map tree_of c.in_ok-values-in-Tuples.values.items in
+    let on : (zs : List Tree) → AreForChoices p vs zs → (length c.in-Tuples.tuples ≡ length zs) × (function_rule p vs zs ≡ make_fun p (zip c.in-Tuples.tuples zs)) = subst (IsDomain p vs) c.in-Tuples.is c.in_ok-tuples.ensures in
+    (on ys (for_choices p m (bound_in c.args.env) (present_in c.args.env) (next_in c.args.env) vs lists are ys c.in_ok-values-in-Tuples.ensures)).0 ∙ length-map c.in_ok-values-in-Tuples.values.items tree_of
+
 pub choices::function_on_tuples-returns-in-Tuples : goal.choices::function_on_tuples-returns-in-Tuples
 choices::function_on_tuples-returns-in-Tuples t c =
     let p = c.args.place.now in
@@ -323,10 +343,9 @@ choices::function_on_tuples-returns-in-Tuples t c =
     let lists = trees_in c.as_slice-lists.result.now in
     let are : each (as_set p) vs ≡ Ok lists = c.in_ok-lists.ensures ∙ ap (λ (us : List (Bor (List Value))). Ok (trees_in us)) (sym c.as_slice-lists.ensures.value) in
     let ys = map tree_of c.in_ok-values-in-Tuples.values.items in
-    let on : (zs : List Tree) → AreForChoices p vs zs → function_rule p vs zs ≡ make_fun p (zip c.in-Tuples.tuples zs) = subst (IsDomain p vs) c.in-Tuples.is c.in_ok-tuples.ensures in
+    let on : (zs : List Tree) → AreForChoices p vs zs → (length c.in-Tuples.tuples ≡ length zs) × (function_rule p vs zs ≡ make_fun p (zip c.in-Tuples.tuples zs)) = subst (IsDomain p vs) c.in-Tuples.is c.in_ok-tuples.ensures in
     let e = function_of_values p m (bound_in c.args.env) (present_in c.args.env) (next_in c.args.env) vs lists are ys c.in_ok-values-in-Tuples.ensures
-    ∙ on ys (for_choices p m (bound_in c.args.env) (present_in c.args.env) (next_in c.args.env) vs lists are ys c.in_ok-values-in-Tuples.ensures)
-    ∙ ap (λ us. make_fun p (zip us ys)) (sym c.items.ensures.items) in
+    ∙ (on ys (for_choices p m (bound_in c.args.env) (present_in c.args.env) (next_in c.args.env) vs lists are ys c.in_ok-values-in-Tuples.ensures)).1 in
     subst (λ (o : Outcome Tree). Gives c.function_with.result o) (sym e) c.function_with.ensures
 
 pub choices::function_on_tuples-returns-in_err-pass_over-in-Refused : goal.choices::function_on_tuples-returns-in_err-pass_over-in-Refused
@@ -461,19 +480,19 @@ pub products::records-records_with-requires : goal.products::records-records_wit
 products::records-records_with-requires t c =
     fields_long (λ (m : Meaning). m.value (bound_in c.args.env) (present_in c.args.env) (next_in c.args.env)) c.args.fields.now c.in_ok-sets.sets.items c.in_ok-sets.ensures ∙ ap length (sym c.as_slice.ensures.value)
 
-pub products::is_tuple_of-returns-then-pairs-parts : goal.products::is_tuple_of-returns-then-pairs-parts
-products::is_tuple_of-returns-then-pairs-parts t c = λ p.
-    let vs = values_of (map pair_of c.in-Some.pairs.now) in
+pub products::is_tuple_of-returns-then-items-parts : goal.products::is_tuple_of-returns-then-items-parts
+products::is_tuple_of-returns-then-items-parts t c = λ p.
+    let vs = map tree_of c.in-Some.items.now in
     let ms = parts_of_cores c.args.parts.now in
-    let e = tuple_long ms vs (items (tree_of c.args.value.now)) (sym c.sequence_pairs.ensures ∙ ap (option_map (λ (ps : Bor (List (Value × Value))). values_of (map pair_of ps.now))) c.in-Some.is) (bound_in c.args.env) (present_in c.args.env) (next_in c.args.env) (same_number c.in-Some.pairs.now c.args.parts.now (omega (arith, c.if-pairs-parts.true))) in
+    let e = tuple_long ms vs (items (tree_of c.args.value.now)) (sym c.sequence_items.ensures ∙ ap (option_map (λ (us : Bor (List Value)). map tree_of us.now)) c.in-Some.is) (bound_in c.args.env) (present_in c.args.env) (next_in c.args.env) (same_number c.in-Some.items.now c.args.parts.now (omega (arith, c.if-items-parts.true))) in
     subst (λ (o : Outcome Bool). GivesTruth c.parts_have.result o) (sym e) c.parts_have.ensures
 
-pub products::is_tuple_of-returns-else-pairs-parts : goal.products::is_tuple_of-returns-else-pairs-parts
-products::is_tuple_of-returns-else-pairs-parts t c = λ p.
-    let vs = values_of (map pair_of c.in-Some.pairs.now) in
+pub products::is_tuple_of-returns-else-items-parts : goal.products::is_tuple_of-returns-else-items-parts
+products::is_tuple_of-returns-else-items-parts t c = λ p.
+    let vs = map tree_of c.in-Some.items.now in
     let ms = parts_of_cores c.args.parts.now in
-    tuple_other ms vs (items (tree_of c.args.value.now)) (sym c.sequence_pairs.ensures ∙ ap (option_map (λ (ps : Bor (List (Value × Value))). values_of (map pair_of ps.now))) c.in-Some.is) (bound_in c.args.env) (present_in c.args.env) (next_in c.args.env)
-    (λ e. let h = number_same c.in-Some.pairs.now c.args.parts.now e in omega (arith, c.if-pairs-parts.false))
+    tuple_other ms vs (items (tree_of c.args.value.now)) (sym c.sequence_items.ensures ∙ ap (option_map (λ (us : Bor (List Value)). map tree_of us.now)) c.in-Some.is) (bound_in c.args.env) (present_in c.args.env) (next_in c.args.env)
+    (λ e. let h = number_same c.in-Some.items.now c.args.parts.now e in omega (arith, c.if-items-parts.false))
 
 pub evaluate_logic-returns-in-Conjunction : goal.evaluate_logic-returns-in-Conjunction
 evaluate_logic-returns-in-Conjunction t c =
@@ -529,7 +548,7 @@ pub set_forms::is_function_into-returns-then-has_domain : goal.set_forms::is_fun
 set_forms::is_function_into-returns-then-has_domain t c =
     let b = bound_in c.args.env in let s = present_in c.args.env in let q = next_in c.args.env in
     let e = function_into c.args.place.now (means (expr_of c.args.domain.now)) (means (expr_of c.args.range.now)) b s q (tree_of c.args.value.now)
-    c.in-Some.function.now (map pair_of c.pairs.result.now) (tree_of_evaluated c.in_ok-set-in-Some.set) (tree_of c.value.result.now) (map tree_of c.in_ok-arguments-in-Some.arguments.now) c.has_domain.result
+    c.in-Some.function.now (map tree_of c.values.result.now) (tree_of_evaluated c.in_ok-set-in-Some.set) (tree_of c.value.result.now) (map tree_of c.in_ok-arguments-in-Some.arguments.now) c.has_domain.result
     (sym (ap (option_map (λ (f : Bor (List (Tree × Tree))). f.now)) c.in-Some.is) ∙ c.if_function.ensures)
-    c.in_ok-set-in-Some.ensures c.value.ensures c.in_ok-arguments-in-Some.ensures c.has_domain.ensures c.if-has_domain.true c.pairs.ensures.pairs in
-    subst (λ (o : Outcome Bool). GivesTruth c.has_values.result o) (sym e) c.has_values.ensures.values
+    c.in_ok-set-in-Some.ensures c.value.ensures c.in_ok-arguments-in-Some.ensures c.has_domain.ensures c.if-has_domain.true c.values.ensures.values in
+    subst (λ (o : Outcome Bool). GivesTruth c.has_all.result o) (sym e) c.has_all.ensures

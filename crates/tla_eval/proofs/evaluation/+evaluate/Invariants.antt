@@ -3,7 +3,6 @@ use Rattle.tla_value.specs.TreeOf.{tree_of, pair_of}
 use Rattle.tla_core.specs.Lists.{each, all_hold, some_hold, first_passing, passing}
 use Rattle.tla_core.specs.Fault.{◌>>=◌, Outcome}
 use Rattle.tla_eval.specs.Private.Parts.{named_value, nothing_of}
-use Rattle.tla_operators.specs.Gives.{values_of}
 use Rattle.tla_operators.specs.Gathered.{then_more, IsGathered}
 use Rattle.tla_value.specs.Choices.{parts_of, choices}
 use Rattle.tla_core.specs.SetForms.{field_has, parts_have}
@@ -232,9 +231,6 @@ decreases-set_forms::is_set_within l = 2 ^ 66 * size-Core l.core.now + 8
 abbrev pub decreases-set_forms::is_sequence_of : goal.decreases-set_forms::is_sequence_of
 decreases-set_forms::is_sequence_of l = 2 ^ 66 * size-Core l.core.now + 8
 
-abbrev pub decreases-set_forms::has_values : goal.decreases-set_forms::has_values
-decreases-set_forms::has_values l = 2 ^ 66 * size-Core l.core.now + 7
-
 abbrev pub decreases-set_forms::is_function_into : goal.decreases-set_forms::is_function_into
 decreases-set_forms::is_function_into l = 2 ^ 66 * max (size-Core l.domain.now) (size-Core l.range.now) + 8
 
@@ -268,13 +264,13 @@ invariant-products::field_sets-loop-field l =
 
 abbrev pub invariant-products::fields_have-loop-field : goal.invariant-products::fields_have-loop-field
 invariant-products::fields_have-loop-field l =
-    all_hold (field_has (map pair_of l.pairs) (bound_in l.env) (present_in l.env) (next_in l.env)) (fields_of_cores l.fields)
-    ≡ all_hold (field_has (map pair_of l.pairs) (bound_in l.env) (present_in l.env) (next_in l.env)) (fields_of_cores (drop l.field-index l.fields))
+    all_hold (field_has l.function (bound_in l.env) (present_in l.env) (next_in l.env)) (fields_of_cores l.fields)
+    ≡ all_hold (field_has l.function (bound_in l.env) (present_in l.env) (next_in l.env)) (fields_of_cores (drop l.field-index l.fields))
 
 abbrev pub invariant-products::parts_have-loop-i : goal.invariant-products::parts_have-loop-i
 invariant-products::parts_have-loop-i l =
-    parts_have (parts_of_cores l.parts) (values_of (map pair_of l.pairs)) (bound_in l.env) (present_in l.env) (next_in l.env)
-    ≡ parts_have (parts_of_cores (drop l.i l.parts)) (values_of (map pair_of (drop l.i l.pairs))) (bound_in l.env) (present_in l.env) (next_in l.env)
+    parts_have (parts_of_cores l.parts) (map tree_of l.items) (bound_in l.env) (present_in l.env) (next_in l.env)
+    ≡ parts_have (parts_of_cores (drop l.i l.parts)) (map tree_of (drop l.i l.items)) (bound_in l.env) (present_in l.env) (next_in l.env)
 
 abbrev pub invariant-binding::passing-loop-number : goal.invariant-binding::passing-loop-number
 invariant-binding::passing-loop-number l =
@@ -308,14 +304,6 @@ abbrev pub invariant-updates::updated_by_all-loop-update : goal.invariant-update
 invariant-updates::updated_by_all-loop-update l =
     update_all l.place (updates_of_cores l.updates) (bound_in l.env) (present_in l.env) (next_in l.env) (tree_of_evaluated l.initial.value)
     ≡ update_all l.place (updates_of_cores (drop l.update-index l.updates)) (bound_in l.env) (present_in l.env) (next_in l.env) (tree_of_evaluated l.value)
-
-abbrev pub invariant-set_forms::has_values-loop-pair : goal.invariant-set_forms::has_values-loop-pair
-invariant-set_forms::has_values-loop-pair l = record {
-  items : all_hold (λ v. mem v (expr_of l.core) (bound_in l.env) (present_in l.env) (next_in l.env)) (values_of (map pair_of l.pairs))
-      ≡ all_hold (λ v. mem v (expr_of l.core) (bound_in l.env) (present_in l.env) (next_in l.env)) (values_of (map pair_of (drop l.pair-index l.pairs)));
-  values : all_hold (λ (q : Tree × Tree). mem q.1 (expr_of l.core) (bound_in l.env) (present_in l.env) (next_in l.env)) (map pair_of l.pairs)
-      ≡ all_hold (λ (q : Tree × Tree). mem q.1 (expr_of l.core) (bound_in l.env) (present_in l.env) (next_in l.env)) (map pair_of (drop l.pair-index l.pairs));
-}
 
 abbrev pub invariant-operands::values_of-loop-core : goal.invariant-operands::values_of-loop-core
 invariant-operands::values_of-loop-core l =

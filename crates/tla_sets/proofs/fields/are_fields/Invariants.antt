@@ -1,13 +1,12 @@
 use Rattle.std.proofs.Common.{◌≡◌, map, drop}
 use Rattle.std.specs.List.{list_all}
-use Rattle.tla_value.specs.TreeOf.{pair_of}
-use Rattle.tla_value.specs.Funs.{arguments}
+use Rattle.tla_value.specs.TreeOf.{tree_of}
 use Rattle.tla_value.specs.Sets.{is_member}
 use Rattle.tla_value.specs.Choices.{keys_of}
 use Rattle.tla_core.specs.ExprOf.{fields_of_cores}
 use Rattle.tla_sets.proofs.fields.are_fields.Given as goal
 
-abbrev pub invariant-loop-pair : goal.invariant-loop-pair
-invariant-loop-pair l =
-    list_all (λ a. is_member a (keys_of (fields_of_cores l.fields))) (arguments (map pair_of l.pairs))
-    ≡ list_all (λ a. is_member a (keys_of (fields_of_cores l.fields))) (arguments (map pair_of (drop l.pair-index l.pairs)))
+abbrev pub invariant-loop-value : goal.invariant-loop-value
+invariant-loop-value l =
+    list_all (λ a. is_member a (keys_of (fields_of_cores l.fields))) (map tree_of l.values)
+    ≡ list_all (λ a. is_member a (keys_of (fields_of_cores l.fields))) (map tree_of (drop l.value-index l.values))

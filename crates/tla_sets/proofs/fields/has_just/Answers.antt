@@ -1,30 +1,36 @@
-use Rattle.std.proofs.Common.{◌&&◌, List, map, ap, sym, ◌∙◌}
+use Rattle.std.proofs.Common.{◌&&◌, length, ap, sym, ◌∙◌}
 use Rattle.std.specs.List.{list_all}
-use Rattle.tla_value.specs.Tree.{Tree}
-use Rattle.tla_value.specs.TreeOf.{pair_of}
 use Rattle.tla_value.specs.Funs.{arguments}
 use Rattle.tla_value.specs.Sets.{is_member}
 use Rattle.tla_value.specs.Choices.{keys_of}
+use Rattle.tla_value.specs.Arguments.{FitArguments}
+use Rattle.tla_value.specs.declared.value.Arguments.TheVariants.{Numbers}
+use Rattle.tla_value.proofs.Pairs.{trees_numbers}
 use Rattle.tla_core.specs.ExprOf.{fields_of_cores}
-use Rattle.tla_sets.proofs.Names.{same_domain}
+use Rattle.tla_sets.proofs.Names.{same_domain, no_numbers}
 use Rattle.tla_sets.proofs.fields.has_just.Goals as goal
+
+pub returns-in-Numbers : goal.returns-in-Numbers
+returns-in-Numbers c =
+    let ks = keys_of (fields_of_cores c.args.fields.now) in
+    let us = arguments c.args.function.now in
+    let n = length c.args.function.now in
+    let z = c.in-Numbers.field-0 in
+    let fit : FitArguments n (Numbers z) = rw c.in-Numbers.is at c.arguments.ensures.fit in
+    let are = sym (trees_numbers n z) ∙ c.in-Numbers.ensures.arguments in
+    sym (ap (λ b. b && list_all (λ k. is_member k us) ks) (ap (list_all (λ a. is_member a ks)) (sym are) ∙ no_numbers n z c.args.fields.now fit.0))
+    ∙ same_domain us ks c.arguments.ensures.rising
 
 pub returns-then-are_fields : goal.returns-then-are_fields
 returns-then-are_fields c =
     let ks = keys_of (fields_of_cores c.args.fields.now) in
-    let e = c.pairs-pairs.ensures.pairs in
-    let among = sym c.are_fields.ensures ∙ c.if-are_fields.true in
-    c.has_fields.ensures
-    ∙ sym (ap (λ b. b && list_all (λ k. is_member k (arguments (map pair_of c.pairs-pairs.result.now))) ks) among)
-    ∙ ap (λ (ps : List (Tree × Tree)). list_all (λ a. is_member a ks) (arguments ps) && list_all (λ k. is_member k (arguments ps)) ks) e
-    ∙ same_domain (arguments c.args.function.now) ks c.pairs-pairs.ensures.rising
+    let us = arguments c.args.function.now in
+    let among = ap (list_all (λ a. is_member a ks)) (sym c.in-Listed.ensures.arguments) ∙ sym c.are_fields.ensures ∙ c.if-are_fields.true in
+    c.has_fields.ensures ∙ sym (ap (λ b. b && list_all (λ k. is_member k us) ks) among) ∙ same_domain us ks c.arguments.ensures.rising
 
 pub returns-else-are_fields : goal.returns-else-are_fields
 returns-else-are_fields c =
     let ks = keys_of (fields_of_cores c.args.fields.now) in
-    let e = c.pairs-pairs.ensures.pairs in
-    let among = sym c.are_fields.ensures ∙ c.if-are_fields.false in
-    c.if-are_fields.false
-    ∙ sym (ap (λ b. b && list_all (λ k. is_member k (arguments (map pair_of c.pairs-pairs.result.now))) ks) among)
-    ∙ ap (λ (ps : List (Tree × Tree)). list_all (λ a. is_member a ks) (arguments ps) && list_all (λ k. is_member k (arguments ps)) ks) e
-    ∙ same_domain (arguments c.args.function.now) ks c.pairs-pairs.ensures.rising
+    let us = arguments c.args.function.now in
+    let among = ap (list_all (λ a. is_member a ks)) (sym c.in-Listed.ensures.arguments) ∙ sym c.are_fields.ensures ∙ c.if-are_fields.false in
+    c.if-are_fields.false ∙ sym (ap (λ b. b && list_all (λ k. is_member k us) ks) among) ∙ same_domain us ks c.arguments.ensures.rising
