@@ -1,5 +1,5 @@
 //! The input files.
-ghost use Rattle.std.specs.Prelude.{◌≡◌, ◌≤◌, ◌*◌, length, IfOk, IfSome, OnOk, vec_len};
+ghost use Rattle.std.specs.Prelude.{◌≡◌, ◌≤◌, ◌*◌, ◌-◌, length, IfOk, IfSome, OnOk, vec_len};
 ghost use Rattle.std.specs.Io.KnownBytes.{IsAtEnd};
 ghost use Rattle.tla_check.specs.declared.input.ReadFault.TheVariants.{Memory, Endless};
 
@@ -41,7 +41,7 @@ impl From<AllocError> for ReadFault {
 pub fn read_whole<R: Read>(alloc: Global, reader: &mut R) -> Result<Vec<u8>, ReadFault>
     ensures bytes { IfOk result (λ v. IfSome (R.remaining reader.old) (λ bytes. v.items ≡ bytes)) }
     ensures end { OnOk result (IsAtEnd (R.remaining reader.new)) }
-    ensures size { IfOk result (λ v. vec_len v ≤ 999_999 * 65_536) }
+    ensures size { IfOk result (λ v. vec_len v ≤ (MOST_READS - 1) * BUFFER_BYTES) }
     ensures endless { result ≡ Err Endless
         → IfSome (R.remaining reader.old) (λ bytes. MOST_READS ≤ length bytes) }
 {
@@ -58,7 +58,7 @@ fn read_through<R: Read>(
     requires { length buffer.old ≡ BUFFER_BYTES }
     ensures bytes { IfOk result (λ v. IfSome (R.remaining reader.old) (λ bytes. v.items ≡ bytes)) }
     ensures end { OnOk result (IsAtEnd (R.remaining reader.new)) }
-    ensures size { IfOk result (λ v. vec_len v ≤ 999_999 * 65_536) }
+    ensures size { IfOk result (λ v. vec_len v ≤ (MOST_READS - 1) * BUFFER_BYTES) }
     ensures endless { result ≡ Err Endless
         → IfSome (R.remaining reader.old) (λ bytes. MOST_READS ≤ length bytes) }
 {

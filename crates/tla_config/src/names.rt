@@ -23,10 +23,7 @@ pub fn name(alloc: Global, text: &[u8], tokens: &[Token], at: usize) -> Result<W
     ensures within { OnOk result (at < length tokens.now) }
 {
     match name_at(text, tokens, at) {
-        Some(t) => {
-            let name = Written::of_token(alloc, text, t)?;
-            Ok(name)
-        }
+        Some(t) => Ok(Written::of_token(alloc, text, t)?),
         None => Err(Refusal::Unexpected(at)),
     }
 }

@@ -24,17 +24,17 @@ pub(crate) enum Frame<'a> {
 /// The values of the bound names and of the variables.
 #[derive(Clone, Copy)]
 pub(crate) struct Environment<'a> {
-    pub(crate) scope: &'a Frame<'a>,
+    pub(crate) frame: &'a Frame<'a>,
     pub(crate) now: Option<&'a State>,
     pub(crate) next: &'a Partial,
 }
 
 /// The value of a bound name, or how many names are bound. As many calls as forms that bind stand around it.
-fn bound_name<'a>(scope: &'a Frame<'a>, index: usize) -> Result<&'a Value, usize>
-    ensures found { IfOk result (λ v. slice_get (bound_of scope.entry.now) index ≡ Some (tree_of v.now)) }
-    ensures absent { IfErr result (λ n. (n ≡ length (bound_of scope.entry.now)) × (n ≤ index)) }
+fn bound_name<'a>(frame: &'a Frame<'a>, index: usize) -> Result<&'a Value, usize>
+    ensures found { IfOk result (λ v. slice_get (bound_of frame.entry.now) index ≡ Some (tree_of v.now)) }
+    ensures absent { IfErr result (λ n. (n ≡ length (bound_of frame.entry.now)) × (n ≤ index)) }
 {
-    match scope {
+    match frame {
         Frame::Outer(values) => match values.get(index) {
             Some(value) => Ok(value),
             None => Err(values.len()),
@@ -60,10 +60,10 @@ fn bound_name<'a>(scope: &'a Frame<'a>, index: usize) -> Result<&'a Value, usize
 }
 
 /// The value of a bound name; FALSE for one that isn't there.
-pub(crate) fn bound_value<'a>(scope: &'a Frame<'a>, index: usize) -> Evaluated<'a>
-    ensures { tree_of_evaluated result ≡ get_or (bound_of scope.entry.now) index (truth false) }
+pub(crate) fn bound_value<'a>(frame: &'a Frame<'a>, index: usize) -> Evaluated<'a>
+    ensures { tree_of_evaluated result ≡ get_or (bound_of frame.entry.now) index (truth false) }
 {
-    match bound_name(scope, index) {
+    match bound_name(frame, index) {
         Ok(value) => Evaluated::Borrowed(value),
         Err(_) => Evaluated::Owned(Value::Truth(false)),
     }

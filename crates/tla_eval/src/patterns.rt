@@ -39,13 +39,13 @@ pub(crate) fn open_items<'p, 'a>(
     alloc: Global,
     place: &'p Place,
     openings: &[Opening],
-    scope: &'a Frame<'a>,
+    frame: &'a Frame<'a>,
 ) -> Result<Vec<Value>, Trouble<'p>>
-    ensures { GivesBy (λ v. map tree_of v.items) result (opened_items place.now openings.now (bound_of scope.entry.now)) }
+    ensures { GivesBy (λ v. map tree_of v.items) result (opened_items place.now openings.now (bound_of frame.entry.now)) }
 {
     let mut items = Vec::new(alloc);
     for opening in openings {
-        let element = bound_value(scope, opening.name);
+        let element = bound_value(frame, opening.name);
         let values = fitting(place, opening.items, element.value())?;
         add_items(alloc, &mut items, values)?;
     }
@@ -62,8 +62,8 @@ pub fn opened(
 ) -> Result<Vec<Value>, Fault>
     ensures { GivesBy (λ v. map tree_of v.items) result (opened_items place openings.now (map tree_of bound.now)) }
 {
-    let scope = Frame::Outer(&*bound);
-    Ok(open_items(alloc, &place, openings, &scope)?)
+    let frame = Frame::Outer(&*bound);
+    Ok(open_items(alloc, &place, openings, &frame)?)
 }
 
 /// Tries each of these elements.

@@ -30,7 +30,7 @@ use Rattle.tla_tree.specs.declared.tree.Fairness.TheVariants as fa
 use Rattle.tla_grammar.specs.Outcome.{Refused, Nested, Outcome, ◌>>=◌, need, room, at_op, sequence}
 
 module _ (text : List ℕ) (ts : List Token) where
-  -- `inner` reads an expression in a scope, whose top is above a floor, one level deeper
+  -- `inner` reads an expression in a context, whose top is above a floor, one level deeper
   module _ (inner : Context → ℕ → ℕ → Outcome Tree) where
     unfoldable pub indexed : ℕ → Context → Tree → ℕ → Outcome Tree
     indexed most s t at = some text ts inner s k.RightBracket (at + 1) >>= λ es end. room (nat_le (depth (Index (place t) t es)) most) (Ok (Index (place t) t es, end))
@@ -164,7 +164,7 @@ module _ (text : List ℕ) (ts : List Token) where
     unfoldable pub level : ℕ → Context → ℕ → ℕ → Outcome Tree
     level n s floor at = operand (n + 1) s at >>= climb n (n + 1) s floor
 
-  -- an expression of so many levels at most, in a scope, whose top is above a floor
+  -- an expression of so many levels at most, in a context, whose top is above a floor
   unfoldable pub expr : ℕ → Context → ℕ → ℕ → Outcome Tree
   expr zero s floor at = Err Nested
   expr (suc n) s floor at = level (expr n) n s floor at

@@ -35,7 +35,7 @@ module _ (text : List ℕ) (ts : List Token) where
   unfoldable pub single : ℕ → ℕ → Outcome Pattern
   single column at = if kind_at k.LeftTuple (seen ts column at) then tuple_of_names column (at + 1) else at_op (name_at (seen ts column at)) (Err Refused) (λ t. Ok (Each (written text t ∷ []), at + 1))
 
-  -- `inner` reads an expression in a scope, whose top is above a floor, one level deeper
+  -- `inner` reads an expression in a context, whose top is above a floor, one level deeper
   module _ (inner : Context → ℕ → ℕ → Outcome Tree) where
     -- expressions with commas or bullets between them
     abbrev pub exprs : ℕ → List Tree → Context → Between → ℕ → Outcome (List Tree)

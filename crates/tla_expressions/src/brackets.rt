@@ -28,19 +28,19 @@ impl<F: Fn(Global, &[u8], &[Token], usize, Context, u8, usize) -> Result<Parsed,
         &self,
         text: &[u8],
         tokens: &[Token],
-        scope: Context,
+        context: Context,
         close: Kind,
         first: Parsed,
     ) -> Result<ParsedItems, Refusal>
         requires nests { Nests self.now.depth (F.pre self.now.expr) (F.post self.now.expr) }
         requires depth { first.depth ≡ edges.depth (view first.tree.value) }
         requires shallow { first.depth ≤ self.now.depth }
-        ensures { GivesTrees text.now tokens.now self.now.depth result (reading.others text.now tokens.now (expr text.now tokens.now self.now.depth) scope close (view first.tree.value) first.end) }
+        ensures { GivesTrees text.now tokens.now self.now.depth result (reading.others text.now tokens.now (expr text.now tokens.now self.now.depth) context close (view first.tree.value) first.end) }
     {
         let mut items = Vec::new(self.alloc);
         push_inner(&mut items, first.tree)?;
         let depth = first.depth;
-        let found = match following(tokens, scope.column, Between::Comma, first.end) {
+        let found = match following(tokens, context.column, Between::Comma, first.end) {
             None => ParsedItems {
                 items,
                 end: first.end,
@@ -48,11 +48,11 @@ impl<F: Fn(Global, &[u8], &[Token], usize, Context, u8, usize) -> Result<Parsed,
             },
             Some(end) => {
                 let front = ParsedItems { items, end, depth };
-                self.exprs_behind(text, tokens, scope, Between::Comma, front)?
+                self.exprs_behind(text, tokens, context, Between::Comma, front)?
             }
         };
-        if !is_kind(close, seen(tokens, scope.column, found.end)) {
-            return Err(refused(tokens, scope.column, found.end));
+        if !is_kind(close, seen(tokens, context.column, found.end)) {
+            return Err(refused(tokens, context.column, found.end));
         }
         Ok(ParsedItems {
             items: found.items,
@@ -67,15 +67,15 @@ impl<F: Fn(Global, &[u8], &[Token], usize, Context, u8, usize) -> Result<Parsed,
         &self,
         text: &[u8],
         tokens: &[Token],
-        scope: Context,
+        context: Context,
         from: usize,
     ) -> Result<Parsed, Refusal>
         requires nests { Nests self.now.depth (F.pre self.now.expr) (F.post self.now.expr) }
         requires small { self.now.depth < 900 }
-        ensures { Gives text.now tokens.now (self.now.depth + 1) result (reading.subscript text.now tokens.now (expr text.now tokens.now self.now.depth) scope from) }
+        ensures { Gives text.now tokens.now (self.now.depth + 1) result (reading.subscript text.now tokens.now (expr text.now tokens.now self.now.depth) context from) }
     {
-        let Some(t) = seen(tokens, scope.column, from) else {
-            return Err(refused(tokens, scope.column, from));
+        let Some(t) = seen(tokens, context.column, from) else {
+            return Err(refused(tokens, context.column, from));
         };
         match t.kind {
             Kind::Name => node(
@@ -84,9 +84,9 @@ impl<F: Fn(Global, &[u8], &[Token], usize, Context, u8, usize) -> Result<Parsed,
                 from + 1,
                 1,
             ),
-            Kind::LeftTuple => self.listing(text, tokens, scope, t.place, Brackets::Tuple, from),
-            Kind::LeftParen => self.paren(text, tokens, scope, t.place, from),
-            _ => Err(refused(tokens, scope.column, from)),
+            Kind::LeftTuple => self.listing(text, tokens, context, t.place, Brackets::Tuple, from),
+            Kind::LeftParen => self.paren(text, tokens, context, t.place, from),
+            _ => Err(refused(tokens, context.column, from)),
         }
     }
 
@@ -96,7 +96,7 @@ impl<F: Fn(Global, &[u8], &[Token], usize, Context, u8, usize) -> Result<Parsed,
         &self,
         text: &[u8],
         tokens: &[Token],
-        scope: Context,
+        context: Context,
         start: usize,
         at: Place,
         step: Step,
@@ -107,9 +107,9 @@ impl<F: Fn(Global, &[u8], &[Token], usize, Context, u8, usize) -> Result<Parsed,
         requires depth { first.depth ≡ edges.depth (view first.tree.value) }
         requires shallow { first.depth ≤ self.now.depth }
         requires small { self.now.depth < 900 }
-        ensures { Gives text.now tokens.now (self.now.depth + 1) result (reading.action text.now tokens.now (expr text.now tokens.now self.now.depth) (self.now.depth + 1) scope at step (view first.tree.value) first.end) }
+        ensures { Gives text.now tokens.now (self.now.depth + 1) result (reading.action text.now tokens.now (expr text.now tokens.now self.now.depth) (self.now.depth + 1) context at step (view first.tree.value) first.end) }
     {
-        let subscript = self.subscript(text, tokens, scope, first.end + 1)?;
+        let subscript = self.subscript(text, tokens, context, first.end + 1)?;
         let depth = first.depth.max(subscript.depth) + 1;
         if depth > self.depth + 1 {
             return Err(Refusal::Nesting(start));
@@ -128,7 +128,7 @@ impl<F: Fn(Global, &[u8], &[Token], usize, Context, u8, usize) -> Result<Parsed,
         &self,
         text: &[u8],
         tokens: &[Token],
-        scope: Context,
+        context: Context,
         at: Place,
         fairness: Fairness,
         from: usize,
@@ -136,15 +136,15 @@ impl<F: Fn(Global, &[u8], &[Token], usize, Context, u8, usize) -> Result<Parsed,
         requires nests { Nests self.now.depth (F.pre self.now.expr) (F.post self.now.expr) }
         requires within { from < length tokens.now }
         requires small { self.now.depth < 900 }
-        ensures { Gives text.now tokens.now (self.now.depth + 1) result (reading.fair text.now tokens.now (expr text.now tokens.now self.now.depth) (self.now.depth + 1) scope at fairness from) }
+        ensures { Gives text.now tokens.now (self.now.depth + 1) result (reading.fair text.now tokens.now (expr text.now tokens.now self.now.depth) (self.now.depth + 1) context at fairness from) }
     {
-        let subscript = self.subscript(text, tokens, scope, from + 1)?;
-        if !is_kind(Kind::LeftParen, seen(tokens, scope.column, subscript.end)) {
-            return Err(refused(tokens, scope.column, subscript.end));
+        let subscript = self.subscript(text, tokens, context, from + 1)?;
+        if !is_kind(Kind::LeftParen, seen(tokens, context.column, subscript.end)) {
+            return Err(refused(tokens, context.column, subscript.end));
         }
-        let action = self.inner(text, tokens, scope, 0, subscript.end + 1)?;
-        if !is_kind(Kind::RightParen, seen(tokens, scope.column, action.end)) {
-            return Err(refused(tokens, scope.column, action.end));
+        let action = self.inner(text, tokens, context, 0, subscript.end + 1)?;
+        if !is_kind(Kind::RightParen, seen(tokens, context.column, action.end)) {
+            return Err(refused(tokens, context.column, action.end));
         }
         let depth = subscript.depth.max(action.depth) + 1;
         if depth > self.depth + 1 {
@@ -164,22 +164,22 @@ impl<F: Fn(Global, &[u8], &[Token], usize, Context, u8, usize) -> Result<Parsed,
         &self,
         text: &[u8],
         tokens: &[Token],
-        scope: Context,
+        context: Context,
         at: Place,
         from: usize,
     ) -> Result<Parsed, Refusal>
         requires nests { Nests self.now.depth (F.pre self.now.expr) (F.post self.now.expr) }
         requires within { from < length tokens.now }
         requires small { self.now.depth < 900 }
-        ensures { Gives text.now tokens.now (self.now.depth + 1) result (reading.filter text.now tokens.now (expr text.now tokens.now self.now.depth) scope at from) }
+        ensures { Gives text.now tokens.now (self.now.depth + 1) result (reading.filter text.now tokens.now (expr text.now tokens.now self.now.depth) context at from) }
     {
-        let set = self.one_group(text, tokens, scope, None, from + 1)?;
-        if !is_kind(Kind::Colon, seen(tokens, scope.column, set.end)) {
-            return Err(refused(tokens, scope.column, set.end));
+        let set = self.one_group(text, tokens, context, None, from + 1)?;
+        if !is_kind(Kind::Colon, seen(tokens, context.column, set.end)) {
+            return Err(refused(tokens, context.column, set.end));
         }
-        let test = self.inner(text, tokens, scope, 0, set.end + 1)?;
-        if !is_kind(Kind::RightBrace, seen(tokens, scope.column, test.end)) {
-            return Err(refused(tokens, scope.column, test.end));
+        let test = self.inner(text, tokens, context, 0, set.end + 1)?;
+        if !is_kind(Kind::RightBrace, seen(tokens, context.column, test.end)) {
+            return Err(refused(tokens, context.column, test.end));
         }
         node(
             self.alloc,
@@ -195,7 +195,7 @@ impl<F: Fn(Global, &[u8], &[Token], usize, Context, u8, usize) -> Result<Parsed,
         &self,
         text: &[u8],
         tokens: &[Token],
-        scope: Context,
+        context: Context,
         at: Place,
         first: Parsed,
     ) -> Result<Parsed, Refusal>
@@ -204,11 +204,11 @@ impl<F: Fn(Global, &[u8], &[Token], usize, Context, u8, usize) -> Result<Parsed,
         requires depth { first.depth ≡ edges.depth (view first.tree.value) }
         requires shallow { first.depth ≤ self.now.depth }
         requires small { self.now.depth < 900 }
-        ensures { Gives text.now tokens.now (self.now.depth + 1) result (reading.image text.now tokens.now (expr text.now tokens.now self.now.depth) scope at (view first.tree.value) first.end) }
+        ensures { Gives text.now tokens.now (self.now.depth + 1) result (reading.image text.now tokens.now (expr text.now tokens.now self.now.depth) context at (view first.tree.value) first.end) }
     {
-        let found = self.groups(text, tokens, scope, None, first.end + 1)?;
-        if !is_kind(Kind::RightBrace, seen(tokens, scope.column, found.end)) {
-            return Err(refused(tokens, scope.column, found.end));
+        let found = self.groups(text, tokens, context, None, first.end + 1)?;
+        if !is_kind(Kind::RightBrace, seen(tokens, context.column, found.end)) {
+            return Err(refused(tokens, context.column, found.end));
         }
         node(
             self.alloc,
@@ -224,7 +224,7 @@ impl<F: Fn(Global, &[u8], &[Token], usize, Context, u8, usize) -> Result<Parsed,
         &self,
         text: &[u8],
         tokens: &[Token],
-        scope: Context,
+        context: Context,
         at: Place,
         from: usize,
         first: Parsed,
@@ -234,17 +234,17 @@ impl<F: Fn(Global, &[u8], &[Token], usize, Context, u8, usize) -> Result<Parsed,
         requires depth { first.depth ≡ edges.depth (view first.tree.value) }
         requires shallow { first.depth ≤ self.now.depth }
         requires small { self.now.depth < 900 }
-        ensures { Gives text.now tokens.now (self.now.depth + 1) result (reading.set_of text.now tokens.now (expr text.now tokens.now self.now.depth) scope at from (view first.tree.value) first.end) }
+        ensures { Gives text.now tokens.now (self.now.depth + 1) result (reading.set_of text.now tokens.now (expr text.now tokens.now self.now.depth) context at from (view first.tree.value) first.end) }
     {
-        if is_kind(Kind::Colon, seen(tokens, scope.column, first.end)) {
-            if binds(tokens, scope.column, from + 1).is_some() {
+        if is_kind(Kind::Colon, seen(tokens, context.column, first.end)) {
+            if binds(tokens, context.column, from + 1).is_some() {
                 let end = first.end;
                 drop(first);
-                return Err(refused(tokens, scope.column, end));
+                return Err(refused(tokens, context.column, end));
             }
-            return self.image(text, tokens, scope, at, first);
+            return self.image(text, tokens, context, at, first);
         }
-        let found = self.others(text, tokens, scope, Kind::RightBrace, first)?;
+        let found = self.others(text, tokens, context, Kind::RightBrace, first)?;
         let end = found.end;
         let depth = found.depth + 1;
         node(
@@ -261,16 +261,16 @@ impl<F: Fn(Global, &[u8], &[Token], usize, Context, u8, usize) -> Result<Parsed,
         &self,
         text: &[u8],
         tokens: &[Token],
-        scope: Context,
+        context: Context,
         at: Place,
         from: usize,
     ) -> Result<Parsed, Refusal>
         requires nests { Nests self.now.depth (F.pre self.now.expr) (F.post self.now.expr) }
         requires within { from < length tokens.now }
         requires small { self.now.depth < 900 }
-        ensures { Gives text.now tokens.now (self.now.depth + 1) result (reading.brace text.now tokens.now (expr text.now tokens.now self.now.depth) scope at from) }
+        ensures { Gives text.now tokens.now (self.now.depth + 1) result (reading.brace text.now tokens.now (expr text.now tokens.now self.now.depth) context at from) }
     {
-        if is_kind(Kind::RightBrace, seen(tokens, scope.column, from + 1)) {
+        if is_kind(Kind::RightBrace, seen(tokens, context.column, from + 1)) {
             return node(
                 self.alloc,
                 listing_of(at, Brackets::Set, Vec::new(self.alloc)),
@@ -278,11 +278,11 @@ impl<F: Fn(Global, &[u8], &[Token], usize, Context, u8, usize) -> Result<Parsed,
                 1,
             );
         }
-        if filters(tokens, scope.column, from + 1) {
-            return self.filter(text, tokens, scope, at, from);
+        if filters(tokens, context.column, from + 1) {
+            return self.filter(text, tokens, context, at, from);
         }
-        let first = self.inner(text, tokens, scope, 0, from + 1)?;
-        self.set_of(text, tokens, scope, at, from, first)
+        let first = self.inner(text, tokens, context, 0, from + 1)?;
+        self.set_of(text, tokens, context, at, from, first)
     }
 
     /// `<<e, ..>>` or `<<A>>_v`
@@ -291,16 +291,16 @@ impl<F: Fn(Global, &[u8], &[Token], usize, Context, u8, usize) -> Result<Parsed,
         &self,
         text: &[u8],
         tokens: &[Token],
-        scope: Context,
+        context: Context,
         at: Place,
         from: usize,
     ) -> Result<Parsed, Refusal>
         requires nests { Nests self.now.depth (F.pre self.now.expr) (F.post self.now.expr) }
         requires within { from < length tokens.now }
         requires small { self.now.depth < 900 }
-        ensures { Gives text.now tokens.now (self.now.depth + 1) result (reading.tuple text.now tokens.now (expr text.now tokens.now self.now.depth) (self.now.depth + 1) scope at from) }
+        ensures { Gives text.now tokens.now (self.now.depth + 1) result (reading.tuple text.now tokens.now (expr text.now tokens.now self.now.depth) (self.now.depth + 1) context at from) }
     {
-        if is_kind(Kind::RightTuple, seen(tokens, scope.column, from + 1)) {
+        if is_kind(Kind::RightTuple, seen(tokens, context.column, from + 1)) {
             return node(
                 self.alloc,
                 listing_of(at, Brackets::Tuple, Vec::new(self.alloc)),
@@ -308,14 +308,14 @@ impl<F: Fn(Global, &[u8], &[Token], usize, Context, u8, usize) -> Result<Parsed,
                 1,
             );
         }
-        let first = self.inner(text, tokens, scope, 0, from + 1)?;
+        let first = self.inner(text, tokens, context, 0, from + 1)?;
         if is_kind(
             Kind::RightTupleSubscript,
-            seen(tokens, scope.column, first.end),
+            seen(tokens, context.column, first.end),
         ) {
-            return self.action(text, tokens, scope, from, at, Step::Angle, first);
+            return self.action(text, tokens, context, from, at, Step::Angle, first);
         }
-        let found = self.others(text, tokens, scope, Kind::RightTuple, first)?;
+        let found = self.others(text, tokens, context, Kind::RightTuple, first)?;
         let end = found.end;
         let depth = found.depth + 1;
         node(
@@ -332,22 +332,22 @@ impl<F: Fn(Global, &[u8], &[Token], usize, Context, u8, usize) -> Result<Parsed,
         &self,
         text: &[u8],
         tokens: &[Token],
-        scope: Context,
+        context: Context,
         at: Place,
         from: usize,
     ) -> Result<Parsed, Refusal>
         requires nests { Nests self.now.depth (F.pre self.now.expr) (F.post self.now.expr) }
         requires within { from < length tokens.now }
         requires small { self.now.depth < 900 }
-        ensures { Gives text.now tokens.now (self.now.depth + 1) result (reading.mapping text.now tokens.now (expr text.now tokens.now self.now.depth) scope at from) }
+        ensures { Gives text.now tokens.now (self.now.depth + 1) result (reading.mapping text.now tokens.now (expr text.now tokens.now self.now.depth) context at from) }
     {
-        let found = self.groups(text, tokens, scope, None, from + 1)?;
-        if !is_kind(Kind::MapsTo, seen(tokens, scope.column, found.end)) {
-            return Err(refused(tokens, scope.column, found.end));
+        let found = self.groups(text, tokens, context, None, from + 1)?;
+        if !is_kind(Kind::MapsTo, seen(tokens, context.column, found.end)) {
+            return Err(refused(tokens, context.column, found.end));
         }
-        let body = self.inner(text, tokens, scope, 0, found.end + 1)?;
-        if !is_kind(Kind::RightBracket, seen(tokens, scope.column, body.end)) {
-            return Err(refused(tokens, scope.column, body.end));
+        let body = self.inner(text, tokens, context, 0, found.end + 1)?;
+        if !is_kind(Kind::RightBracket, seen(tokens, context.column, body.end)) {
+            return Err(refused(tokens, context.column, body.end));
         }
         node(
             self.alloc,
@@ -363,7 +363,7 @@ impl<F: Fn(Global, &[u8], &[Token], usize, Context, u8, usize) -> Result<Parsed,
         &self,
         text: &[u8],
         tokens: &[Token],
-        scope: Context,
+        context: Context,
         at: Place,
         first: Parsed,
     ) -> Result<Parsed, Refusal>
@@ -372,11 +372,11 @@ impl<F: Fn(Global, &[u8], &[Token], usize, Context, u8, usize) -> Result<Parsed,
         requires depth { first.depth ≡ edges.depth (view first.tree.value) }
         requires shallow { first.depth ≤ self.now.depth }
         requires small { self.now.depth < 900 }
-        ensures { Gives text.now tokens.now (self.now.depth + 1) result (reading.function_set text.now tokens.now (expr text.now tokens.now self.now.depth) scope at (view first.tree.value) first.end) }
+        ensures { Gives text.now tokens.now (self.now.depth + 1) result (reading.function_set text.now tokens.now (expr text.now tokens.now self.now.depth) context at (view first.tree.value) first.end) }
     {
-        let range = self.inner(text, tokens, scope, 0, first.end + 1)?;
-        if !is_kind(Kind::RightBracket, seen(tokens, scope.column, range.end)) {
-            return Err(refused(tokens, scope.column, range.end));
+        let range = self.inner(text, tokens, context, 0, first.end + 1)?;
+        if !is_kind(Kind::RightBracket, seen(tokens, context.column, range.end)) {
+            return Err(refused(tokens, context.column, range.end));
         }
         node(
             self.alloc,
@@ -392,7 +392,7 @@ impl<F: Fn(Global, &[u8], &[Token], usize, Context, u8, usize) -> Result<Parsed,
         &self,
         text: &[u8],
         tokens: &[Token],
-        scope: Context,
+        context: Context,
         at: Place,
         start: usize,
         first: Parsed,
@@ -401,23 +401,23 @@ impl<F: Fn(Global, &[u8], &[Token], usize, Context, u8, usize) -> Result<Parsed,
         requires depth { first.depth ≡ edges.depth (view first.tree.value) }
         requires shallow { first.depth ≤ self.now.depth }
         requires small { self.now.depth < 900 }
-        ensures { Gives text.now tokens.now (self.now.depth + 1) result (reading.behind_first text.now tokens.now (expr text.now tokens.now self.now.depth) (self.now.depth + 1) scope at (view first.tree.value) first.end) }
+        ensures { Gives text.now tokens.now (self.now.depth + 1) result (reading.behind_first text.now tokens.now (expr text.now tokens.now self.now.depth) (self.now.depth + 1) context at (view first.tree.value) first.end) }
     {
-        if is_kind(Kind::Arrow, seen(tokens, scope.column, first.end)) {
-            return self.function_set(text, tokens, scope, at, first);
+        if is_kind(Kind::Arrow, seen(tokens, context.column, first.end)) {
+            return self.function_set(text, tokens, context, at, first);
         }
-        if is_kind(Kind::Except, seen(tokens, scope.column, first.end)) {
-            return self.except(text, tokens, scope, at, first);
+        if is_kind(Kind::Except, seen(tokens, context.column, first.end)) {
+            return self.except(text, tokens, context, at, first);
         }
         if !is_kind(
             Kind::RightBracketSubscript,
-            seen(tokens, scope.column, first.end),
+            seen(tokens, context.column, first.end),
         ) {
             let end = first.end;
             drop(first);
-            return Err(refused(tokens, scope.column, end));
+            return Err(refused(tokens, context.column, end));
         }
-        self.action(text, tokens, scope, start, at, Step::Box, first)
+        self.action(text, tokens, context, start, at, Step::Box, first)
     }
 
     /// A form in brackets.
@@ -426,22 +426,22 @@ impl<F: Fn(Global, &[u8], &[Token], usize, Context, u8, usize) -> Result<Parsed,
         &self,
         text: &[u8],
         tokens: &[Token],
-        scope: Context,
+        context: Context,
         at: Place,
         from: usize,
     ) -> Result<Parsed, Refusal>
         requires nests { Nests self.now.depth (F.pre self.now.expr) (F.post self.now.expr) }
         requires within { from < length tokens.now }
         requires small { self.now.depth < 900 }
-        ensures { Gives text.now tokens.now (self.now.depth + 1) result (reading.bracket text.now tokens.now (expr text.now tokens.now self.now.depth) (self.now.depth + 1) scope at from) }
+        ensures { Gives text.now tokens.now (self.now.depth + 1) result (reading.bracket text.now tokens.now (expr text.now tokens.now self.now.depth) (self.now.depth + 1) context at from) }
     {
-        match opened_by(tokens, scope.column, from + 1) {
-            Opened::Record => self.record(text, tokens, scope, at, from),
-            Opened::RecordSet => self.record_set(text, tokens, scope, at, from),
-            Opened::Binders => self.mapping(text, tokens, scope, at, from),
+        match opened_by(tokens, context.column, from + 1) {
+            Opened::Record => self.record(text, tokens, context, at, from),
+            Opened::RecordSet => self.record_set(text, tokens, context, at, from),
+            Opened::Binders => self.mapping(text, tokens, context, at, from),
             Opened::Expression => {
-                let first = self.inner(text, tokens, scope, 0, from + 1)?;
-                self.behind_first(text, tokens, scope, at, from, first)
+                let first = self.inner(text, tokens, context, 0, from + 1)?;
+                self.behind_first(text, tokens, context, at, from, first)
             }
         }
     }

@@ -27,7 +27,7 @@ impl<F: Fn(Global, &[u8], &[Token], usize, Context, u8, usize) -> Result<Parsed,
         &self,
         text: &[u8],
         tokens: &[Token],
-        scope: Context,
+        context: Context,
         at: Place,
         quantifier: Quantifier,
         from: usize,
@@ -35,13 +35,13 @@ impl<F: Fn(Global, &[u8], &[Token], usize, Context, u8, usize) -> Result<Parsed,
         requires nests { Nests self.now.depth (F.pre self.now.expr) (F.post self.now.expr) }
         requires within { from < length tokens.now }
         requires small { self.now.depth < 900 }
-        ensures { Gives text.now tokens.now (self.now.depth + 1) result (reading.quantified text.now tokens.now (reading.expr text.now tokens.now self.now.depth) scope at quantifier from) }
+        ensures { Gives text.now tokens.now (self.now.depth + 1) result (reading.quantified text.now tokens.now (reading.expr text.now tokens.now self.now.depth) context at quantifier from) }
     {
-        let found = self.groups(text, tokens, scope, Some(from), from + 1)?;
-        if !is_kind(Kind::Colon, seen(tokens, scope.column, found.end)) {
-            return Err(refused(tokens, scope.column, found.end));
+        let found = self.groups(text, tokens, context, Some(from), from + 1)?;
+        if !is_kind(Kind::Colon, seen(tokens, context.column, found.end)) {
+            return Err(refused(tokens, context.column, found.end));
         }
-        let body = self.inner(text, tokens, scope, 0, found.end + 1)?;
+        let body = self.inner(text, tokens, context, 0, found.end + 1)?;
         node(
             self.alloc,
             quantified_of(at, quantifier, found.binders, body.tree),
@@ -56,20 +56,20 @@ impl<F: Fn(Global, &[u8], &[Token], usize, Context, u8, usize) -> Result<Parsed,
         &self,
         text: &[u8],
         tokens: &[Token],
-        scope: Context,
+        context: Context,
         at: Place,
         from: usize,
     ) -> Result<Parsed, Refusal>
         requires nests { Nests self.now.depth (F.pre self.now.expr) (F.post self.now.expr) }
         requires within { from < length tokens.now }
         requires small { self.now.depth < 900 }
-        ensures { Gives text.now tokens.now (self.now.depth + 1) result (reading.chosen text.now tokens.now (reading.expr text.now tokens.now self.now.depth) scope at from) }
+        ensures { Gives text.now tokens.now (self.now.depth + 1) result (reading.chosen text.now tokens.now (reading.expr text.now tokens.now self.now.depth) context at from) }
     {
-        let set = self.one_group(text, tokens, scope, Some(from), from + 1)?;
-        if !is_kind(Kind::Colon, seen(tokens, scope.column, set.end)) {
-            return Err(refused(tokens, scope.column, set.end));
+        let set = self.one_group(text, tokens, context, Some(from), from + 1)?;
+        if !is_kind(Kind::Colon, seen(tokens, context.column, set.end)) {
+            return Err(refused(tokens, context.column, set.end));
         }
-        let body = self.inner(text, tokens, scope, 0, set.end + 1)?;
+        let body = self.inner(text, tokens, context, 0, set.end + 1)?;
         node(
             self.alloc,
             Expr::Choose(at, set.pattern, set.set, body.tree),
@@ -84,24 +84,24 @@ impl<F: Fn(Global, &[u8], &[Token], usize, Context, u8, usize) -> Result<Parsed,
         &self,
         text: &[u8],
         tokens: &[Token],
-        scope: Context,
+        context: Context,
         at: Place,
         from: usize,
     ) -> Result<Parsed, Refusal>
         requires nests { Nests self.now.depth (F.pre self.now.expr) (F.post self.now.expr) }
         requires within { from < length tokens.now }
         requires small { self.now.depth < 900 }
-        ensures { Gives text.now tokens.now (self.now.depth + 1) result (reading.choice text.now tokens.now (reading.expr text.now tokens.now self.now.depth) scope at from) }
+        ensures { Gives text.now tokens.now (self.now.depth + 1) result (reading.choice text.now tokens.now (reading.expr text.now tokens.now self.now.depth) context at from) }
     {
-        let condition = self.inner(text, tokens, scope, 0, from + 1)?;
-        if !is_kind(Kind::Then, seen(tokens, scope.column, condition.end)) {
-            return Err(refused(tokens, scope.column, condition.end));
+        let condition = self.inner(text, tokens, context, 0, from + 1)?;
+        if !is_kind(Kind::Then, seen(tokens, context.column, condition.end)) {
+            return Err(refused(tokens, context.column, condition.end));
         }
-        let first = self.inner(text, tokens, scope, 0, condition.end + 1)?;
-        if !is_kind(Kind::Else, seen(tokens, scope.column, first.end)) {
-            return Err(refused(tokens, scope.column, first.end));
+        let first = self.inner(text, tokens, context, 0, condition.end + 1)?;
+        if !is_kind(Kind::Else, seen(tokens, context.column, first.end)) {
+            return Err(refused(tokens, context.column, first.end));
         }
-        let second = self.inner(text, tokens, scope, 0, first.end + 1)?;
+        let second = self.inner(text, tokens, context, 0, first.end + 1)?;
         node(
             self.alloc,
             Expr::If(at, condition.tree, first.tree, second.tree),
@@ -116,17 +116,17 @@ impl<F: Fn(Global, &[u8], &[Token], usize, Context, u8, usize) -> Result<Parsed,
         &self,
         text: &[u8],
         tokens: &[Token],
-        scope: Context,
+        context: Context,
         from: usize,
     ) -> Result<ParsedArm, Refusal>
         requires nests { Nests self.now.depth (F.pre self.now.expr) (F.post self.now.expr) }
-        ensures { GivesArm text.now tokens.now self.now.depth result (reading.arm_at text.now tokens.now (reading.expr text.now tokens.now self.now.depth) scope from) }
+        ensures { GivesArm text.now tokens.now self.now.depth result (reading.arm_at text.now tokens.now (reading.expr text.now tokens.now self.now.depth) context from) }
     {
-        let guard = self.inner(text, tokens, scope, 0, from)?;
-        if !is_kind(Kind::Arrow, seen(tokens, scope.column, guard.end)) {
-            return Err(refused(tokens, scope.column, guard.end));
+        let guard = self.inner(text, tokens, context, 0, from)?;
+        if !is_kind(Kind::Arrow, seen(tokens, context.column, guard.end)) {
+            return Err(refused(tokens, context.column, guard.end));
         }
-        let value = self.inner(text, tokens, scope, 0, guard.end + 1)?;
+        let value = self.inner(text, tokens, context, 0, guard.end + 1)?;
         Ok(arm_of(guard, value))
     }
 
@@ -136,26 +136,26 @@ impl<F: Fn(Global, &[u8], &[Token], usize, Context, u8, usize) -> Result<Parsed,
         &self,
         text: &[u8],
         tokens: &[Token],
-        scope: Context,
+        context: Context,
         from: usize,
     ) -> Result<ParsedArms, Refusal>
         requires nests { Nests self.now.depth (F.pre self.now.expr) (F.post self.now.expr) }
-        ensures { GivesArms text.now tokens.now self.now.depth result (reading.arms_at text.now tokens.now (reading.expr text.now tokens.now self.now.depth) (length tokens.now) [] scope from) }
+        ensures { GivesArms text.now tokens.now self.now.depth result (reading.arms_at text.now tokens.now (reading.expr text.now tokens.now self.now.depth) (length tokens.now) [] context from) }
     {
         let mut arms = Vec::new(self.alloc);
         let mut depth = 0;
         let mut at = from;
         for _turn in 0..tokens.len() {
-            let found = self.arm_at(text, tokens, scope, at)?;
+            let found = self.arm_at(text, tokens, context, at)?;
             let end = found.end;
             depth = depth.max(found.depth);
             push(&mut arms, found.arm)?;
-            let Some(next) = following(tokens, scope.column, Between::Arm, end) else {
+            let Some(next) = following(tokens, context.column, Between::Arm, end) else {
                 return Ok(ParsedArms { arms, end, depth });
             };
             at = next;
         }
-        Err(refused(tokens, scope.column, at))
+        Err(refused(tokens, context.column, at))
     }
 
     /// `CASE p -> a [] .. [] OTHER -> b`
@@ -164,28 +164,28 @@ impl<F: Fn(Global, &[u8], &[Token], usize, Context, u8, usize) -> Result<Parsed,
         &self,
         text: &[u8],
         tokens: &[Token],
-        scope: Context,
+        context: Context,
         at: Place,
         from: usize,
     ) -> Result<Parsed, Refusal>
         requires nests { Nests self.now.depth (F.pre self.now.expr) (F.post self.now.expr) }
         requires within { from < length tokens.now }
         requires small { self.now.depth < 900 }
-        ensures { Gives text.now tokens.now (self.now.depth + 1) result (reading.cases text.now tokens.now (reading.expr text.now tokens.now self.now.depth) scope at from) }
+        ensures { Gives text.now tokens.now (self.now.depth + 1) result (reading.cases text.now tokens.now (reading.expr text.now tokens.now self.now.depth) context at from) }
     {
-        let found = self.arms_at(text, tokens, scope, from + 1)?;
+        let found = self.arms_at(text, tokens, context, from + 1)?;
         let end = found.end;
-        if !is_kind(Kind::Box, seen(tokens, scope.column, end)) {
+        if !is_kind(Kind::Box, seen(tokens, context.column, end)) {
             let depth = found.depth + 1;
             return node(self.alloc, case_of(at, found.arms), end, depth);
         }
-        if !is_kind(Kind::Other, seen(tokens, scope.column, end + 1)) {
-            return Err(refused(tokens, scope.column, end + 1));
+        if !is_kind(Kind::Other, seen(tokens, context.column, end + 1)) {
+            return Err(refused(tokens, context.column, end + 1));
         }
-        if !is_kind(Kind::Arrow, seen(tokens, scope.column, end + 2)) {
-            return Err(refused(tokens, scope.column, end + 2));
+        if !is_kind(Kind::Arrow, seen(tokens, context.column, end + 2)) {
+            return Err(refused(tokens, context.column, end + 2));
         }
-        let value = self.inner(text, tokens, scope, 0, end + 3)?;
+        let value = self.inner(text, tokens, context, 0, end + 3)?;
         node(
             self.alloc,
             case_with_other(at, found.arms, value.tree),
@@ -200,25 +200,25 @@ impl<F: Fn(Global, &[u8], &[Token], usize, Context, u8, usize) -> Result<Parsed,
         &self,
         text: &[u8],
         tokens: &[Token],
-        scope: Context,
+        context: Context,
         t: Token,
         form: usize,
         from: usize,
     ) -> Result<ParsedDefinition, Refusal>
         requires nests { Nests self.now.depth (F.pre self.now.expr) (F.post self.now.expr) }
         requires within { from ≤ length tokens.now }
-        ensures { GivesDefinition text.now tokens.now self.now.depth result (reading.operator text.now tokens.now (reading.expr text.now tokens.now self.now.depth) scope t from) }
+        ensures { GivesDefinition text.now tokens.now self.now.depth result (reading.operator text.now tokens.now (reading.expr text.now tokens.now self.now.depth) context t from) }
     {
-        let found = parameters(self.alloc, text, tokens, scope.column, form, from)?;
+        let found = parameters(self.alloc, text, tokens, context.column, form, from)?;
         let end = found.end;
-        if !is_kind(Kind::RightParen, seen(tokens, scope.column, end)) {
-            return Err(refused_parameter(tokens, scope.column, form, end));
+        if !is_kind(Kind::RightParen, seen(tokens, context.column, end)) {
+            return Err(refused_parameter(tokens, context.column, form, end));
         }
-        if !is_kind(Kind::Define, seen(tokens, scope.column, end + 1)) {
-            return Err(refused(tokens, scope.column, end + 1));
+        if !is_kind(Kind::Define, seen(tokens, context.column, end + 1)) {
+            return Err(refused(tokens, context.column, end + 1));
         }
         let name = Written::of_token(self.alloc, text, t)?;
-        let body = self.inner(text, tokens, scope, 0, end + 2)?;
+        let body = self.inner(text, tokens, context, 0, end + 2)?;
         Ok(ParsedDefinition {
             definition: Definition::Operator(name, found.names, Box::into_inner(body.tree)),
             end: body.end,
@@ -232,24 +232,24 @@ impl<F: Fn(Global, &[u8], &[Token], usize, Context, u8, usize) -> Result<Parsed,
         &self,
         text: &[u8],
         tokens: &[Token],
-        scope: Context,
+        context: Context,
         t: Token,
         form: usize,
     ) -> Result<ParsedDefinition, Refusal>
         requires nests { Nests self.now.depth (F.pre self.now.expr) (F.post self.now.expr) }
         requires within { form + 2 ≤ length tokens.now }
-        ensures { GivesDefinition text.now tokens.now self.now.depth result (reading.function text.now tokens.now (reading.expr text.now tokens.now self.now.depth) scope t (form + 2)) }
+        ensures { GivesDefinition text.now tokens.now self.now.depth result (reading.function text.now tokens.now (reading.expr text.now tokens.now self.now.depth) context t (form + 2)) }
     {
-        let found = self.groups(text, tokens, scope, None, form + 2)?;
+        let found = self.groups(text, tokens, context, None, form + 2)?;
         let end = found.end;
-        if !is_kind(Kind::RightBracket, seen(tokens, scope.column, end)) {
-            return Err(refused(tokens, scope.column, end));
+        if !is_kind(Kind::RightBracket, seen(tokens, context.column, end)) {
+            return Err(refused(tokens, context.column, end));
         }
-        if !is_kind(Kind::Define, seen(tokens, scope.column, end + 1)) {
-            return Err(refused(tokens, scope.column, end + 1));
+        if !is_kind(Kind::Define, seen(tokens, context.column, end + 1)) {
+            return Err(refused(tokens, context.column, end + 1));
         }
         let name = Written::of_token(self.alloc, text, t)?;
-        let body = self.inner(text, tokens, scope, 0, end + 2)?;
+        let body = self.inner(text, tokens, context, 0, end + 2)?;
         Ok(ParsedDefinition {
             definition: function_of(name, found.binders, body.tree),
             end: body.end,
@@ -263,17 +263,17 @@ impl<F: Fn(Global, &[u8], &[Token], usize, Context, u8, usize) -> Result<Parsed,
         &self,
         text: &[u8],
         tokens: &[Token],
-        scope: Context,
+        context: Context,
         t: Token,
         from: usize,
     ) -> Result<ParsedDefinition, Refusal>
         requires nests { Nests self.now.depth (F.pre self.now.expr) (F.post self.now.expr) }
         requires within { from < length tokens.now }
-        ensures { GivesDefinition text.now tokens.now self.now.depth result (reading.defined text.now tokens.now (reading.expr text.now tokens.now self.now.depth) scope t from) }
+        ensures { GivesDefinition text.now tokens.now self.now.depth result (reading.defined text.now tokens.now (reading.expr text.now tokens.now self.now.depth) context t from) }
     {
-        if is_kind(Kind::Define, seen(tokens, scope.column, from + 1)) {
+        if is_kind(Kind::Define, seen(tokens, context.column, from + 1)) {
             let name = Written::of_token(self.alloc, text, t)?;
-            let body = self.inner(text, tokens, scope, 0, from + 2)?;
+            let body = self.inner(text, tokens, context, 0, from + 2)?;
             return Ok(ParsedDefinition {
                 definition: Definition::Operator(
                     name,
@@ -284,13 +284,13 @@ impl<F: Fn(Global, &[u8], &[Token], usize, Context, u8, usize) -> Result<Parsed,
                 depth: body.depth,
             });
         }
-        if is_kind(Kind::LeftParen, seen(tokens, scope.column, from + 1)) {
-            return self.operator(text, tokens, scope, t, from, from + 2);
+        if is_kind(Kind::LeftParen, seen(tokens, context.column, from + 1)) {
+            return self.operator(text, tokens, context, t, from, from + 2);
         }
-        if !is_kind(Kind::LeftBracket, seen(tokens, scope.column, from + 1)) {
-            return Err(refused(tokens, scope.column, from + 1));
+        if !is_kind(Kind::LeftBracket, seen(tokens, context.column, from + 1)) {
+            return Err(refused(tokens, context.column, from + 1));
         }
-        self.function(text, tokens, scope, t, from)
+        self.function(text, tokens, context, t, from)
     }
 
     /// A definition.
@@ -299,16 +299,16 @@ impl<F: Fn(Global, &[u8], &[Token], usize, Context, u8, usize) -> Result<Parsed,
         &self,
         text: &[u8],
         tokens: &[Token],
-        scope: Context,
+        context: Context,
         from: usize,
     ) -> Result<ParsedDefinition, Refusal>
         requires nests { Nests self.now.depth (F.pre self.now.expr) (F.post self.now.expr) }
-        ensures { GivesDefinition text.now tokens.now self.now.depth result (reading.definition text.now tokens.now (reading.expr text.now tokens.now self.now.depth) scope from) }
+        ensures { GivesDefinition text.now tokens.now self.now.depth result (reading.definition text.now tokens.now (reading.expr text.now tokens.now self.now.depth) context from) }
     {
-        let Some(t) = name_at(seen(tokens, scope.column, from)) else {
-            return Err(refused(tokens, scope.column, from));
+        let Some(t) = name_at(seen(tokens, context.column, from)) else {
+            return Err(refused(tokens, context.column, from));
         };
-        self.defined(text, tokens, scope, t, from)
+        self.defined(text, tokens, context, t, from)
     }
 
     /// The definitions of LET.
@@ -317,21 +317,21 @@ impl<F: Fn(Global, &[u8], &[Token], usize, Context, u8, usize) -> Result<Parsed,
         &self,
         text: &[u8],
         tokens: &[Token],
-        scope: Context,
+        context: Context,
         from: usize,
     ) -> Result<ParsedDefinitions, Refusal>
         requires nests { Nests self.now.depth (F.pre self.now.expr) (F.post self.now.expr) }
-        ensures { GivesDefinitions text.now tokens.now self.now.depth result (reading.definitions_at text.now tokens.now (reading.expr text.now tokens.now self.now.depth) (length tokens.now) [] scope from) }
+        ensures { GivesDefinitions text.now tokens.now self.now.depth result (reading.definitions_at text.now tokens.now (reading.expr text.now tokens.now self.now.depth) (length tokens.now) [] context from) }
     {
         let mut definitions = Vec::new(self.alloc);
         let mut depth = 0;
         let mut at = from;
         for _turn in 0..tokens.len() {
-            let found = self.definition(text, tokens, scope, at)?;
+            let found = self.definition(text, tokens, context, at)?;
             let end = found.end;
             depth = depth.max(found.depth);
             push(&mut definitions, found.definition)?;
-            let Some(next) = following(tokens, scope.column, Between::Nothing, end) else {
+            let Some(next) = following(tokens, context.column, Between::Nothing, end) else {
                 return Ok(ParsedDefinitions {
                     definitions,
                     end,
@@ -340,7 +340,7 @@ impl<F: Fn(Global, &[u8], &[Token], usize, Context, u8, usize) -> Result<Parsed,
             };
             at = next;
         }
-        Err(refused(tokens, scope.column, at))
+        Err(refused(tokens, context.column, at))
     }
 
     /// `LET` definitions `IN e`
@@ -349,20 +349,20 @@ impl<F: Fn(Global, &[u8], &[Token], usize, Context, u8, usize) -> Result<Parsed,
         &self,
         text: &[u8],
         tokens: &[Token],
-        scope: Context,
+        context: Context,
         at: Place,
         from: usize,
     ) -> Result<Parsed, Refusal>
         requires nests { Nests self.now.depth (F.pre self.now.expr) (F.post self.now.expr) }
         requires within { from < length tokens.now }
         requires small { self.now.depth < 900 }
-        ensures { Gives text.now tokens.now (self.now.depth + 1) result (reading.lets text.now tokens.now (reading.expr text.now tokens.now self.now.depth) scope at from) }
+        ensures { Gives text.now tokens.now (self.now.depth + 1) result (reading.lets text.now tokens.now (reading.expr text.now tokens.now self.now.depth) context at from) }
     {
-        let found = self.definitions_at(text, tokens, scope, from + 1)?;
-        if !is_kind(Kind::In, seen(tokens, scope.column, found.end)) {
-            return Err(refused(tokens, scope.column, found.end));
+        let found = self.definitions_at(text, tokens, context, from + 1)?;
+        if !is_kind(Kind::In, seen(tokens, context.column, found.end)) {
+            return Err(refused(tokens, context.column, found.end));
         }
-        let body = self.inner(text, tokens, scope, 0, found.end + 1)?;
+        let body = self.inner(text, tokens, context, 0, found.end + 1)?;
         node(
             self.alloc,
             let_of(at, found.definitions, body.tree),

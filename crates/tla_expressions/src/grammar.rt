@@ -34,14 +34,14 @@ impl<F: Fn(Global, &[u8], &[Token], usize, Context, u8, usize) -> Result<Parsed,
         &self,
         text: &[u8],
         tokens: &[Token],
-        scope: Context,
+        context: Context,
         floor: u8,
         at: usize,
     ) -> Result<Parsed, Refusal>
         requires { Nests self.now.depth (F.pre self.now.expr) (F.post self.now.expr) }
-        ensures { Gives text.now tokens.now self.now.depth result (reading.expr text.now tokens.now self.now.depth scope floor at) }
+        ensures { Gives text.now tokens.now self.now.depth result (reading.expr text.now tokens.now self.now.depth context floor at) }
     {
-        (self.expr)(self.alloc, text, tokens, self.depth, scope, floor, at)
+        (self.expr)(self.alloc, text, tokens, self.depth, context, floor, at)
     }
 
     /// `f[e, ..]`, behind the tree, which begins at a token of this number.
@@ -50,7 +50,7 @@ impl<F: Fn(Global, &[u8], &[Token], usize, Context, u8, usize) -> Result<Parsed,
         &self,
         text: &[u8],
         tokens: &[Token],
-        scope: Context,
+        context: Context,
         start: usize,
         first: Parsed,
     ) -> Result<Parsed, Refusal>
@@ -59,9 +59,9 @@ impl<F: Fn(Global, &[u8], &[Token], usize, Context, u8, usize) -> Result<Parsed,
         requires depth { first.depth ≡ edges.depth (view first.tree.value) }
         requires shallow { first.depth ≤ self.now.depth + 1 }
         requires small { self.now.depth < 900 }
-        ensures { Gives text.now tokens.now (self.now.depth + 1) result (reading.indexed text.now tokens.now (reading.expr text.now tokens.now self.now.depth) (self.now.depth + 1) scope (view first.tree.value) first.end) }
+        ensures { Gives text.now tokens.now (self.now.depth + 1) result (reading.indexed text.now tokens.now (reading.expr text.now tokens.now self.now.depth) (self.now.depth + 1) context (view first.tree.value) first.end) }
     {
-        let found = self.some(text, tokens, scope, Kind::RightBracket, first.end + 1)?;
+        let found = self.some(text, tokens, context, Kind::RightBracket, first.end + 1)?;
         let depth = first.depth.max(found.depth) + 1;
         if depth > self.depth + 1 {
             return Err(Refusal::Nesting(start));
@@ -80,7 +80,7 @@ impl<F: Fn(Global, &[u8], &[Token], usize, Context, u8, usize) -> Result<Parsed,
         &self,
         text: &[u8],
         tokens: &[Token],
-        scope: Context,
+        context: Context,
         start: usize,
         first: Parsed,
         form: Postfix,
@@ -90,10 +90,10 @@ impl<F: Fn(Global, &[u8], &[Token], usize, Context, u8, usize) -> Result<Parsed,
         requires depth { first.depth ≡ edges.depth (view first.tree.value) }
         requires shallow { first.depth ≤ self.now.depth + 1 }
         requires small { self.now.depth < 900 }
-        ensures { Gives text.now tokens.now (self.now.depth + 1) result (reading.behind text.now tokens.now (reading.expr text.now tokens.now self.now.depth) (self.now.depth + 1) scope (view first.tree.value) form first.end) }
+        ensures { Gives text.now tokens.now (self.now.depth + 1) result (reading.behind text.now tokens.now (reading.expr text.now tokens.now self.now.depth) (self.now.depth + 1) context (view first.tree.value) form first.end) }
     {
         match form {
-            Postfix::Index => self.indexed(text, tokens, scope, start, first),
+            Postfix::Index => self.indexed(text, tokens, context, start, first),
             Postfix::Prime => {
                 let depth = first.depth + 1;
                 if depth > self.depth + 1 {
@@ -108,8 +108,8 @@ impl<F: Fn(Global, &[u8], &[Token], usize, Context, u8, usize) -> Result<Parsed,
                 )
             }
             Postfix::Field => {
-                let Some(name) = name_at(seen(tokens, scope.column, first.end + 1)) else {
-                    return Err(refused(tokens, scope.column, first.end + 1));
+                let Some(name) = name_at(seen(tokens, context.column, first.end + 1)) else {
+                    return Err(refused(tokens, context.column, first.end + 1));
                 };
                 let depth = first.depth + 1;
                 if depth > self.depth + 1 {
@@ -133,7 +133,7 @@ impl<F: Fn(Global, &[u8], &[Token], usize, Context, u8, usize) -> Result<Parsed,
         &self,
         text: &[u8],
         tokens: &[Token],
-        scope: Context,
+        context: Context,
         start: usize,
         first: Parsed,
     ) -> Result<Parsed, Refusal>
@@ -141,16 +141,16 @@ impl<F: Fn(Global, &[u8], &[Token], usize, Context, u8, usize) -> Result<Parsed,
         requires depth { first.depth ≡ edges.depth (view first.tree.value) }
         requires shallow { first.depth ≤ self.now.depth + 1 }
         requires small { self.now.depth < 900 }
-        ensures { Gives text.now tokens.now (self.now.depth + 1) result (reading.postfixes text.now tokens.now (reading.expr text.now tokens.now self.now.depth) (self.now.depth + 1) scope (view first.tree.value) first.end) }
+        ensures { Gives text.now tokens.now (self.now.depth + 1) result (reading.postfixes text.now tokens.now (reading.expr text.now tokens.now self.now.depth) (self.now.depth + 1) context (view first.tree.value) first.end) }
     {
         let mut left = first;
         for _turn in 0..self.depth + 1 {
-            let Some(form) = postfix_at(seen(tokens, scope.column, left.end)) else {
+            let Some(form) = postfix_at(seen(tokens, context.column, left.end)) else {
                 return Ok(left);
             };
-            left = self.behind(text, tokens, scope, start, left, form)?;
+            left = self.behind(text, tokens, context, start, left, form)?;
         }
-        match postfix_at(seen(tokens, scope.column, left.end)) {
+        match postfix_at(seen(tokens, context.column, left.end)) {
             None => Ok(left),
             Some(_) => {
                 drop(left);
@@ -165,7 +165,7 @@ impl<F: Fn(Global, &[u8], &[Token], usize, Context, u8, usize) -> Result<Parsed,
         &self,
         text: &[u8],
         tokens: &[Token],
-        scope: Context,
+        context: Context,
         op: Prefix,
         at: Place,
         from: usize,
@@ -173,9 +173,9 @@ impl<F: Fn(Global, &[u8], &[Token], usize, Context, u8, usize) -> Result<Parsed,
         requires nests { Nests self.now.depth (F.pre self.now.expr) (F.post self.now.expr) }
         requires within { from < length tokens.now }
         requires small { self.now.depth < 900 }
-        ensures { Gives text.now tokens.now (self.now.depth + 1) result (reading.prefix text.now tokens.now (reading.expr text.now tokens.now self.now.depth) scope op at from) }
+        ensures { Gives text.now tokens.now (self.now.depth + 1) result (reading.prefix text.now tokens.now (reading.expr text.now tokens.now self.now.depth) context op at from) }
     {
-        let e = self.inner(text, tokens, scope, prefix_high(op), from + 1)?;
+        let e = self.inner(text, tokens, context, prefix_high(op), from + 1)?;
         node(self.alloc, Expr::Unary(at, op, e.tree), e.end, e.depth + 1)
     }
 
@@ -185,7 +185,7 @@ impl<F: Fn(Global, &[u8], &[Token], usize, Context, u8, usize) -> Result<Parsed,
         &self,
         text: &[u8],
         tokens: &[Token],
-        scope: Context,
+        context: Context,
         start: usize,
         left: Parsed,
         op: Infix,
@@ -195,19 +195,19 @@ impl<F: Fn(Global, &[u8], &[Token], usize, Context, u8, usize) -> Result<Parsed,
         requires depth { left.depth ≡ edges.depth (view left.tree.value) }
         requires shallow { left.depth ≤ self.now.depth + 1 }
         requires small { self.now.depth < 900 }
-        ensures { Gives text.now tokens.now (self.now.depth + 1) result (reading.turn text.now tokens.now (reading.expr text.now tokens.now self.now.depth) (self.now.depth + 1) scope (view left.tree.value) op left.end) }
+        ensures { Gives text.now tokens.now (self.now.depth + 1) result (reading.turn text.now tokens.now (reading.expr text.now tokens.now self.now.depth) (self.now.depth + 1) context (view left.tree.value) op left.end) }
     {
         if is_product(op) {
-            return self.product(text, tokens, scope, start, left);
+            return self.product(text, tokens, context, start, left);
         }
         if !edge_allows(left.tree.as_ref(), op) {
             return Err(Refusal::Precedence(left.end));
         }
-        let Some(sign) = seen(tokens, scope.column, left.end) else {
-            return Err(refused(tokens, scope.column, left.end));
+        let Some(sign) = seen(tokens, context.column, left.end) else {
+            return Err(refused(tokens, context.column, left.end));
         };
         let sign = Written::of_token(self.alloc, text, sign)?;
-        let right = self.inner(text, tokens, scope, high(op), left.end + 1)?;
+        let right = self.inner(text, tokens, context, high(op), left.end + 1)?;
         let depth = left.depth.max(right.depth) + 1;
         if depth > self.depth + 1 {
             return Err(Refusal::Nesting(start));
@@ -227,7 +227,7 @@ impl<F: Fn(Global, &[u8], &[Token], usize, Context, u8, usize) -> Result<Parsed,
         &self,
         text: &[u8],
         tokens: &[Token],
-        scope: Context,
+        context: Context,
         floor: u8,
         start: usize,
         first: Parsed,
@@ -236,16 +236,16 @@ impl<F: Fn(Global, &[u8], &[Token], usize, Context, u8, usize) -> Result<Parsed,
         requires depth { first.depth ≡ edges.depth (view first.tree.value) }
         requires shallow { first.depth ≤ self.now.depth + 1 }
         requires small { self.now.depth < 900 }
-        ensures { Gives text.now tokens.now (self.now.depth + 1) result (reading.climb text.now tokens.now (reading.expr text.now tokens.now self.now.depth) self.now.depth (self.now.depth + 1) scope floor (view first.tree.value) first.end) }
+        ensures { Gives text.now tokens.now (self.now.depth + 1) result (reading.climb text.now tokens.now (reading.expr text.now tokens.now self.now.depth) self.now.depth (self.now.depth + 1) context floor (view first.tree.value) first.end) }
     {
         let mut left = first;
         for _turn in 0..self.depth {
-            let Some(op) = operator_at(seen(tokens, scope.column, left.end), floor) else {
+            let Some(op) = operator_at(seen(tokens, context.column, left.end), floor) else {
                 return Ok(left);
             };
-            left = self.turn(text, tokens, scope, start, left, op)?;
+            left = self.turn(text, tokens, context, start, left, op)?;
         }
-        match operator_at(seen(tokens, scope.column, left.end), floor) {
+        match operator_at(seen(tokens, context.column, left.end), floor) {
             None => Ok(left),
             Some(_) => {
                 drop(left);
@@ -259,7 +259,7 @@ impl<F: Fn(Global, &[u8], &[Token], usize, Context, u8, usize) -> Result<Parsed,
         &self,
         text: &[u8],
         tokens: &[Token],
-        scope: Context,
+        context: Context,
         from: usize,
         tree: Expr,
     ) -> Result<Parsed, Refusal>
@@ -267,10 +267,10 @@ impl<F: Fn(Global, &[u8], &[Token], usize, Context, u8, usize) -> Result<Parsed,
         requires within { from < length tokens.now }
         requires flat { edges.depth (view tree) ≡ 1 }
         requires small { self.now.depth < 900 }
-        ensures { Gives text.now tokens.now (self.now.depth + 1) result (reading.postfixes text.now tokens.now (reading.expr text.now tokens.now self.now.depth) (self.now.depth + 1) scope (view tree) (from + 1)) }
+        ensures { Gives text.now tokens.now (self.now.depth + 1) result (reading.postfixes text.now tokens.now (reading.expr text.now tokens.now self.now.depth) (self.now.depth + 1) context (view tree) (from + 1)) }
     {
         let first = node(self.alloc, tree, from + 1, 1)?;
-        self.postfixes(text, tokens, scope, from, first)
+        self.postfixes(text, tokens, context, from, first)
     }
 
     /// A form that begins with a bullet, a prefix operator, a quantifier or a word for a value.
@@ -279,30 +279,32 @@ impl<F: Fn(Global, &[u8], &[Token], usize, Context, u8, usize) -> Result<Parsed,
         &self,
         text: &[u8],
         tokens: &[Token],
-        scope: Context,
+        context: Context,
         t: Token,
         from: usize,
     ) -> Result<Parsed, Refusal>
         requires nests { Nests self.now.depth (F.pre self.now.expr) (F.post self.now.expr) }
         requires within { from < length tokens.now }
-        requires token { spec.seen tokens.now scope.column from ≡ Some t }
+        requires token { spec.seen tokens.now context.column from ≡ Some t }
         requires small { self.now.depth < 900 }
-        ensures { Gives text.now tokens.now (self.now.depth + 1) result (reading.by_class text.now tokens.now (reading.expr text.now tokens.now self.now.depth) (self.now.depth + 1) scope t from) }
+        ensures { Gives text.now tokens.now (self.now.depth + 1) result (reading.by_class text.now tokens.now (reading.expr text.now tokens.now self.now.depth) (self.now.depth + 1) context t from) }
     {
         let at = t.place;
         if let Some(bullet) = bullet_of(t.kind) {
-            let e = self.junction(text, tokens, scope, at, bullet, from)?;
-            return self.postfixes(text, tokens, scope, from, e);
+            let e = self.junction(text, tokens, context, at, bullet, from)?;
+            return self.postfixes(text, tokens, context, from, e);
         }
         if let Some(op) = prefix_of(t.kind) {
-            return self.prefix(text, tokens, scope, op, at, from);
+            return self.prefix(text, tokens, context, op, at, from);
         }
         if let Some(quantifier) = quantifier_of(t.kind) {
-            return self.quantified(text, tokens, scope, at, quantifier, from);
+            return self.quantified(text, tokens, context, at, quantifier, from);
         }
         match constant_of(t.kind) {
-            Some(constant) => { self.atom(text, tokens, scope, from, Expr::Constant(at, constant)) }
-            None => Err(refused(tokens, scope.column, from)),
+            Some(constant) => {
+                self.atom(text, tokens, context, from, Expr::Constant(at, constant))
+            }
+            None => Err(refused(tokens, context.column, from)),
         }
     }
 
@@ -312,63 +314,63 @@ impl<F: Fn(Global, &[u8], &[Token], usize, Context, u8, usize) -> Result<Parsed,
         &self,
         text: &[u8],
         tokens: &[Token],
-        scope: Context,
+        context: Context,
         from: usize,
     ) -> Result<Parsed, Refusal>
         requires nests { Nests self.now.depth (F.pre self.now.expr) (F.post self.now.expr) }
         requires small { self.now.depth < 900 }
-        ensures { Gives text.now tokens.now (self.now.depth + 1) result (reading.operand text.now tokens.now (reading.expr text.now tokens.now self.now.depth) (self.now.depth + 1) scope from) }
+        ensures { Gives text.now tokens.now (self.now.depth + 1) result (reading.operand text.now tokens.now (reading.expr text.now tokens.now self.now.depth) (self.now.depth + 1) context from) }
     {
-        let Some(t) = seen(tokens, scope.column, from) else {
-            return Err(refused(tokens, scope.column, from));
+        let Some(t) = seen(tokens, context.column, from) else {
+            return Err(refused(tokens, context.column, from));
         };
         let at = t.place;
         match t.kind {
             Kind::Name => {
-                let e = self.named(text, tokens, scope, t, from)?;
-                self.postfixes(text, tokens, scope, from, e)
+                let e = self.named(text, tokens, context, t, from)?;
+                self.postfixes(text, tokens, context, from, e)
             }
-            Kind::Number(n) => self.atom(text, tokens, scope, from, Expr::Number(at, n)),
+            Kind::Number(n) => self.atom(text, tokens, context, from, Expr::Number(at, n)),
             Kind::At => {
-                if scope.updating {
-                    self.atom(text, tokens, scope, from, Expr::At(at))
+                if context.updating {
+                    self.atom(text, tokens, context, from, Expr::At(at))
                 } else {
-                    Err(refused(tokens, scope.column, from))
+                    Err(refused(tokens, context.column, from))
                 }
             }
             Kind::LeftParen => {
-                let e = self.paren(text, tokens, scope, at, from)?;
-                self.postfixes(text, tokens, scope, from, e)
+                let e = self.paren(text, tokens, context, at, from)?;
+                self.postfixes(text, tokens, context, from, e)
             }
             Kind::Text => {
                 let word = text_of(self.alloc, text, t)?;
-                self.atom(text, tokens, scope, from, Expr::Text(at, word))
+                self.atom(text, tokens, context, from, Expr::Text(at, word))
             }
             Kind::LeftBrace => {
-                let e = self.brace(text, tokens, scope, at, from)?;
-                self.postfixes(text, tokens, scope, from, e)
+                let e = self.brace(text, tokens, context, at, from)?;
+                self.postfixes(text, tokens, context, from, e)
             }
             Kind::LeftTuple => {
-                let e = self.tuple(text, tokens, scope, at, from)?;
-                self.postfixes(text, tokens, scope, from, e)
+                let e = self.tuple(text, tokens, context, at, from)?;
+                self.postfixes(text, tokens, context, from, e)
             }
             Kind::LeftBracket => {
-                let e = self.bracket(text, tokens, scope, at, from)?;
-                self.postfixes(text, tokens, scope, from, e)
+                let e = self.bracket(text, tokens, context, at, from)?;
+                self.postfixes(text, tokens, context, from, e)
             }
             Kind::WeakFairness => {
-                let e = self.fair(text, tokens, scope, at, Fairness::Weak, from)?;
-                self.postfixes(text, tokens, scope, from, e)
+                let e = self.fair(text, tokens, context, at, Fairness::Weak, from)?;
+                self.postfixes(text, tokens, context, from, e)
             }
             Kind::StrongFairness => {
-                let e = self.fair(text, tokens, scope, at, Fairness::Strong, from)?;
-                self.postfixes(text, tokens, scope, from, e)
+                let e = self.fair(text, tokens, context, at, Fairness::Strong, from)?;
+                self.postfixes(text, tokens, context, from, e)
             }
-            Kind::Choose => self.chosen(text, tokens, scope, at, from),
-            Kind::Case => self.cases(text, tokens, scope, at, from),
-            Kind::Let => self.lets(text, tokens, scope, at, from),
-            Kind::If => self.choice(text, tokens, scope, at, from),
-            _ => self.by_class(text, tokens, scope, t, from),
+            Kind::Choose => self.chosen(text, tokens, context, at, from),
+            Kind::Case => self.cases(text, tokens, context, at, from),
+            Kind::Let => self.lets(text, tokens, context, at, from),
+            Kind::If => self.choice(text, tokens, context, at, from),
+            _ => self.by_class(text, tokens, context, t, from),
         }
     }
 
@@ -378,32 +380,32 @@ impl<F: Fn(Global, &[u8], &[Token], usize, Context, u8, usize) -> Result<Parsed,
         &self,
         text: &[u8],
         tokens: &[Token],
-        scope: Context,
+        context: Context,
         floor: u8,
         at: usize,
     ) -> Result<Parsed, Refusal>
         requires nests { Nests self.now.depth (F.pre self.now.expr) (F.post self.now.expr) }
         requires small { self.now.depth < 900 }
-        ensures { Gives text.now tokens.now (self.now.depth + 1) result (reading.level text.now tokens.now (reading.expr text.now tokens.now self.now.depth) self.now.depth scope floor at) }
+        ensures { Gives text.now tokens.now (self.now.depth + 1) result (reading.level text.now tokens.now (reading.expr text.now tokens.now self.now.depth) self.now.depth context floor at) }
     {
-        let first = self.operand(text, tokens, scope, at)?;
-        self.climb(text, tokens, scope, floor, at, first)
+        let first = self.operand(text, tokens, context, at)?;
+        self.climb(text, tokens, context, floor, at, first)
     }
 }
 
-/// An expression of so many levels at most, in a scope, whose top is above a floor.
+/// An expression of so many levels at most, in a context, whose top is above a floor.
 #[tactic(auto, unfolding(crate::specs::Reading::expr))]
 pub fn expr(
     alloc: Global,
     text: &[u8],
     tokens: &[Token],
     depth: usize,
-    scope: Context,
+    context: Context,
     floor: u8,
     at: usize,
 ) -> Result<Parsed, Refusal>
     requires { depth ≤ MAX_DEPTH }
-    ensures { Gives text.now tokens.now depth result (reading.expr text.now tokens.now depth scope floor at) }
+    ensures { Gives text.now tokens.now depth result (reading.expr text.now tokens.now depth context floor at) }
 {
     if depth == 0 {
         return Err(Refusal::Nesting(at));
@@ -413,23 +415,23 @@ pub fn expr(
         depth: depth - 1,
         expr,
     }
-    .level(text, tokens, scope, floor, at)
+    .level(text, tokens, context, floor, at)
 }
 
-/// A definition in a scope, whose expressions are as deep as they may be at most.
+/// A definition in a context, whose expressions are no deeper than a tree may be.
 pub fn definition(
     alloc: Global,
     text: &[u8],
     tokens: &[Token],
-    scope: Context,
+    context: Context,
     from: usize,
 ) -> Result<ParsedDefinition, Refusal>
-    ensures { GivesDefinition text.now tokens.now MAX_DEPTH result (reading.definition text.now tokens.now (reading.expr text.now tokens.now MAX_DEPTH) scope from) }
+    ensures { GivesDefinition text.now tokens.now MAX_DEPTH result (reading.definition text.now tokens.now (reading.expr text.now tokens.now MAX_DEPTH) context from) }
 {
     Grammar {
         alloc,
         depth: MAX_DEPTH,
         expr,
     }
-    .definition(text, tokens, scope, from)
+    .definition(text, tokens, context, from)
 }

@@ -32,29 +32,29 @@ impl<F: Fn(Global, &[u8], &[Token], usize, Context, u8, usize) -> Result<Parsed,
         &self,
         text: &[u8],
         tokens: &[Token],
-        scope: Context,
+        context: Context,
         between: Between,
         front: ParsedItems,
     ) -> Result<ParsedItems, Refusal>
         requires nests { Nests self.now.depth (F.pre self.now.expr) (F.post self.now.expr) }
         requires depth { front.depth ≡ edges.depths (trees (map view front.items.items)) }
         requires shallow { front.depth ≤ self.now.depth }
-        ensures { GivesItems text.now tokens.now self.now.depth result (lists.exprs text.now tokens.now (reading.expr text.now tokens.now self.now.depth) (length tokens.now) (map view front.items.items) scope between front.end) }
+        ensures { GivesItems text.now tokens.now self.now.depth result (lists.exprs text.now tokens.now (reading.expr text.now tokens.now self.now.depth) (length tokens.now) (map view front.items.items) context between front.end) }
     {
         let mut items = front.items;
         let mut depth = front.depth;
         let mut at = front.end;
         for _turn in 0..tokens.len() {
-            let e = self.inner(text, tokens, scope, 0, at)?;
+            let e = self.inner(text, tokens, context, 0, at)?;
             let end = e.end;
             depth = depth.max(e.depth);
             push_inner(&mut items, e.tree)?;
-            let Some(next) = following(tokens, scope.column, between, end) else {
+            let Some(next) = following(tokens, context.column, between, end) else {
                 return Ok(ParsedItems { items, end, depth });
             };
             at = next;
         }
-        Err(refused(tokens, scope.column, at))
+        Err(refused(tokens, context.column, at))
     }
 
     /// Expressions with commas or bullets between them, one or more.
@@ -62,19 +62,19 @@ impl<F: Fn(Global, &[u8], &[Token], usize, Context, u8, usize) -> Result<Parsed,
         &self,
         text: &[u8],
         tokens: &[Token],
-        scope: Context,
+        context: Context,
         between: Between,
         from: usize,
     ) -> Result<ParsedItems, Refusal>
         requires nests { Nests self.now.depth (F.pre self.now.expr) (F.post self.now.expr) }
-        ensures { GivesItems text.now tokens.now self.now.depth result (lists.exprs text.now tokens.now (reading.expr text.now tokens.now self.now.depth) (length tokens.now) [] scope between from) }
+        ensures { GivesItems text.now tokens.now self.now.depth result (lists.exprs text.now tokens.now (reading.expr text.now tokens.now self.now.depth) (length tokens.now) [] context between from) }
     {
         let front = ParsedItems {
             items: Vec::new(self.alloc),
             end: from,
             depth: 0,
         };
-        self.exprs_behind(text, tokens, scope, between, front)
+        self.exprs_behind(text, tokens, context, between, front)
     }
 
     /// Expressions with commas between them, one or more, and the closing bracket.
@@ -83,16 +83,16 @@ impl<F: Fn(Global, &[u8], &[Token], usize, Context, u8, usize) -> Result<Parsed,
         &self,
         text: &[u8],
         tokens: &[Token],
-        scope: Context,
+        context: Context,
         close: Kind,
         from: usize,
     ) -> Result<ParsedItems, Refusal>
         requires nests { Nests self.now.depth (F.pre self.now.expr) (F.post self.now.expr) }
-        ensures { GivesTrees text.now tokens.now self.now.depth result (lists.some text.now tokens.now (reading.expr text.now tokens.now self.now.depth) scope close from) }
+        ensures { GivesTrees text.now tokens.now self.now.depth result (lists.some text.now tokens.now (reading.expr text.now tokens.now self.now.depth) context close from) }
     {
-        let found = self.exprs(text, tokens, scope, Between::Comma, from)?;
-        if !is_kind(close, seen(tokens, scope.column, found.end)) {
-            return Err(refused(tokens, scope.column, found.end));
+        let found = self.exprs(text, tokens, context, Between::Comma, from)?;
+        if !is_kind(close, seen(tokens, context.column, found.end)) {
+            return Err(refused(tokens, context.column, found.end));
         }
         Ok(ParsedItems {
             items: found.items,
@@ -107,7 +107,7 @@ impl<F: Fn(Global, &[u8], &[Token], usize, Context, u8, usize) -> Result<Parsed,
         &self,
         text: &[u8],
         tokens: &[Token],
-        scope: Context,
+        context: Context,
         at: Place,
         brackets: Brackets,
         from: usize,
@@ -115,10 +115,10 @@ impl<F: Fn(Global, &[u8], &[Token], usize, Context, u8, usize) -> Result<Parsed,
         requires nests { Nests self.now.depth (F.pre self.now.expr) (F.post self.now.expr) }
         requires within { from < length tokens.now }
         requires small { self.now.depth < 900 }
-        ensures { Gives text.now tokens.now (self.now.depth + 1) result (lists.listing text.now tokens.now (reading.expr text.now tokens.now self.now.depth) scope at brackets from) }
+        ensures { Gives text.now tokens.now (self.now.depth + 1) result (lists.listing text.now tokens.now (reading.expr text.now tokens.now self.now.depth) context at brackets from) }
     {
         let close = closing(brackets);
-        if is_kind(close, seen(tokens, scope.column, from + 1)) {
+        if is_kind(close, seen(tokens, context.column, from + 1)) {
             return node(
                 self.alloc,
                 listing_of(at, brackets, Vec::new(self.alloc)),
@@ -126,7 +126,7 @@ impl<F: Fn(Global, &[u8], &[Token], usize, Context, u8, usize) -> Result<Parsed,
                 1,
             );
         }
-        let found = self.some(text, tokens, scope, close, from + 1)?;
+        let found = self.some(text, tokens, context, close, from + 1)?;
         let end = found.end;
         let depth = found.depth + 1;
         node(
@@ -143,20 +143,20 @@ impl<F: Fn(Global, &[u8], &[Token], usize, Context, u8, usize) -> Result<Parsed,
         &self,
         text: &[u8],
         tokens: &[Token],
-        scope: Context,
+        context: Context,
         t: Token,
         from: usize,
     ) -> Result<Parsed, Refusal>
         requires nests { Nests self.now.depth (F.pre self.now.expr) (F.post self.now.expr) }
         requires within { from < length tokens.now }
         requires small { self.now.depth < 900 }
-        ensures { Gives text.now tokens.now (self.now.depth + 1) result (reading.named text.now tokens.now (reading.expr text.now tokens.now self.now.depth) scope t from) }
+        ensures { Gives text.now tokens.now (self.now.depth + 1) result (reading.named text.now tokens.now (reading.expr text.now tokens.now self.now.depth) context t from) }
     {
         let name = Written::of_token(self.alloc, text, t)?;
-        if !is_kind(Kind::LeftParen, seen(tokens, scope.column, from + 1)) {
+        if !is_kind(Kind::LeftParen, seen(tokens, context.column, from + 1)) {
             return node(self.alloc, Expr::Name(name), from + 1, 1);
         }
-        let found = self.some(text, tokens, scope, Kind::RightParen, from + 2)?;
+        let found = self.some(text, tokens, context, Kind::RightParen, from + 2)?;
         let end = found.end;
         let depth = found.depth + 1;
         node(self.alloc, call_of(name, found.items), end, depth)
@@ -168,18 +168,18 @@ impl<F: Fn(Global, &[u8], &[Token], usize, Context, u8, usize) -> Result<Parsed,
         &self,
         text: &[u8],
         tokens: &[Token],
-        scope: Context,
+        context: Context,
         at: Place,
         from: usize,
     ) -> Result<Parsed, Refusal>
         requires nests { Nests self.now.depth (F.pre self.now.expr) (F.post self.now.expr) }
         requires within { from < length tokens.now }
         requires small { self.now.depth < 900 }
-        ensures { Gives text.now tokens.now (self.now.depth + 1) result (lists.paren text.now tokens.now (reading.expr text.now tokens.now self.now.depth) scope at from) }
+        ensures { Gives text.now tokens.now (self.now.depth + 1) result (lists.paren text.now tokens.now (reading.expr text.now tokens.now self.now.depth) context at from) }
     {
-        let e = self.inner(text, tokens, scope, 0, from + 1)?;
-        if !is_kind(Kind::RightParen, seen(tokens, scope.column, e.end)) {
-            return Err(refused(tokens, scope.column, e.end));
+        let e = self.inner(text, tokens, context, 0, from + 1)?;
+        if !is_kind(Kind::RightParen, seen(tokens, context.column, e.end)) {
+            return Err(refused(tokens, context.column, e.end));
         }
         node(self.alloc, Expr::Paren(at, e.tree), e.end + 1, e.depth + 1)
     }
@@ -190,17 +190,17 @@ impl<F: Fn(Global, &[u8], &[Token], usize, Context, u8, usize) -> Result<Parsed,
         &self,
         text: &[u8],
         tokens: &[Token],
-        scope: Context,
+        context: Context,
         form: Option<usize>,
         front: ParsedPattern,
     ) -> Result<ParsedBinder, Refusal>
         requires { Nests self.now.depth (F.pre self.now.expr) (F.post self.now.expr) }
-        ensures { GivesGroup text.now tokens.now self.now.depth result (lists.set_behind text.now tokens.now (reading.expr text.now tokens.now self.now.depth) scope (pattern_view front.pattern) front.end) }
+        ensures { GivesGroup text.now tokens.now self.now.depth result (lists.set_behind text.now tokens.now (reading.expr text.now tokens.now self.now.depth) context (pattern_view front.pattern) front.end) }
     {
-        if !is_kind(Kind::Member, seen(tokens, scope.column, front.end)) {
-            return Err(refused_binder(tokens, scope.column, form, front.end));
+        if !is_kind(Kind::Member, seen(tokens, context.column, front.end)) {
+            return Err(refused_binder(tokens, context.column, form, front.end));
         }
-        let set = self.inner(text, tokens, scope, 0, front.end + 1)?;
+        let set = self.inner(text, tokens, context, 0, front.end + 1)?;
         Ok(ParsedBinder {
             pattern: front.pattern,
             set: set.tree,
@@ -215,16 +215,16 @@ impl<F: Fn(Global, &[u8], &[Token], usize, Context, u8, usize) -> Result<Parsed,
         &self,
         text: &[u8],
         tokens: &[Token],
-        scope: Context,
+        context: Context,
         form: Option<usize>,
         from: usize,
     ) -> Result<ParsedBinder, Refusal>
         requires nests { Nests self.now.depth (F.pre self.now.expr) (F.post self.now.expr) }
         requires within { from ≤ length tokens.now }
-        ensures { GivesGroup text.now tokens.now self.now.depth result (lists.group text.now tokens.now (reading.expr text.now tokens.now self.now.depth) scope from) }
+        ensures { GivesGroup text.now tokens.now self.now.depth result (lists.group text.now tokens.now (reading.expr text.now tokens.now self.now.depth) context from) }
     {
-        let front = pattern(self.alloc, text, tokens, scope.column, from)?;
-        self.set_behind(text, tokens, scope, form, front)
+        let front = pattern(self.alloc, text, tokens, context.column, from)?;
+        self.set_behind(text, tokens, context, form, front)
     }
 
     /// An entry of one element. The form at `form` may be left out for it.
@@ -233,16 +233,16 @@ impl<F: Fn(Global, &[u8], &[Token], usize, Context, u8, usize) -> Result<Parsed,
         &self,
         text: &[u8],
         tokens: &[Token],
-        scope: Context,
+        context: Context,
         form: Option<usize>,
         from: usize,
     ) -> Result<ParsedBinder, Refusal>
         requires nests { Nests self.now.depth (F.pre self.now.expr) (F.post self.now.expr) }
         requires within { from ≤ length tokens.now }
-        ensures { GivesGroup text.now tokens.now self.now.depth result (lists.one_group text.now tokens.now (reading.expr text.now tokens.now self.now.depth) scope from) }
+        ensures { GivesGroup text.now tokens.now self.now.depth result (lists.one_group text.now tokens.now (reading.expr text.now tokens.now self.now.depth) context from) }
     {
-        let front = single(self.alloc, text, tokens, scope.column, from)?;
-        self.set_behind(text, tokens, scope, form, front)
+        let front = single(self.alloc, text, tokens, context.column, from)?;
+        self.set_behind(text, tokens, context, form, front)
     }
 
     /// A binder list. The form at `form` may be left out for its binders.
@@ -251,23 +251,23 @@ impl<F: Fn(Global, &[u8], &[Token], usize, Context, u8, usize) -> Result<Parsed,
         &self,
         text: &[u8],
         tokens: &[Token],
-        scope: Context,
+        context: Context,
         form: Option<usize>,
         from: usize,
     ) -> Result<ParsedBinders, Refusal>
         requires nests { Nests self.now.depth (F.pre self.now.expr) (F.post self.now.expr) }
         requires within { from ≤ length tokens.now }
-        ensures { GivesGroups text.now tokens.now self.now.depth result (lists.groups text.now tokens.now (reading.expr text.now tokens.now self.now.depth) (length tokens.now) [] scope from) }
+        ensures { GivesGroups text.now tokens.now self.now.depth result (lists.groups text.now tokens.now (reading.expr text.now tokens.now self.now.depth) (length tokens.now) [] context from) }
     {
         let mut binders = Vec::new(self.alloc);
         let mut depth = 0;
         let mut at = from;
         for _turn in 0..tokens.len() {
-            let group = self.group(text, tokens, scope, form, at)?;
+            let group = self.group(text, tokens, context, form, at)?;
             let end = group.end;
             depth = depth.max(group.depth);
             push(&mut binders, binder_of(group.pattern, group.set))?;
-            let Some(next) = following(tokens, scope.column, Between::Comma, end) else {
+            let Some(next) = following(tokens, context.column, Between::Comma, end) else {
                 return Ok(ParsedBinders {
                     binders,
                     end,
@@ -276,7 +276,7 @@ impl<F: Fn(Global, &[u8], &[Token], usize, Context, u8, usize) -> Result<Parsed,
             };
             at = next;
         }
-        Err(refused(tokens, scope.column, at))
+        Err(refused(tokens, context.column, at))
     }
 
     /// A junction list.
@@ -285,7 +285,7 @@ impl<F: Fn(Global, &[u8], &[Token], usize, Context, u8, usize) -> Result<Parsed,
         &self,
         text: &[u8],
         tokens: &[Token],
-        scope: Context,
+        context: Context,
         at: Place,
         bullet: Bullet,
         from: usize,
@@ -293,12 +293,18 @@ impl<F: Fn(Global, &[u8], &[Token], usize, Context, u8, usize) -> Result<Parsed,
         requires nests { Nests self.now.depth (F.pre self.now.expr) (F.post self.now.expr) }
         requires within { from < length tokens.now }
         requires small { self.now.depth < 900 }
-        ensures { Gives text.now tokens.now (self.now.depth + 1) result (reading.junction text.now tokens.now (reading.expr text.now tokens.now self.now.depth) scope at bullet from) }
+        ensures { Gives text.now tokens.now (self.now.depth + 1) result (reading.junction text.now tokens.now (reading.expr text.now tokens.now self.now.depth) context at bullet from) }
     {
-        let items_scope = scope.of_items(at.column);
-        let found = self.exprs(text, tokens, items_scope, Between::Bullet(bullet), from + 1)?;
+        let items_context = context.of_items(at.column);
+        let found = self.exprs(
+            text,
+            tokens,
+            items_context,
+            Between::Bullet(bullet),
+            from + 1,
+        )?;
         if !may_follow(tokens, at.column, found.end) {
-            return Err(refused(tokens, scope.column, found.end));
+            return Err(refused(tokens, context.column, found.end));
         }
         let end = found.end;
         let depth = found.depth + 1;

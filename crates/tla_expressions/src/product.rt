@@ -25,14 +25,14 @@ impl<F: Fn(Global, &[u8], &[Token], usize, Context, u8, usize) -> Result<Parsed,
         &self,
         text: &[u8],
         tokens: &[Token],
-        scope: Context,
+        context: Context,
         from: usize,
     ) -> Result<Parsed, Refusal>
         requires { Nests self.now.depth (F.pre self.now.expr) (F.post self.now.expr) }
-        ensures { Gives text.now tokens.now self.now.depth result (reading.factor text.now tokens.now (reading.expr text.now tokens.now self.now.depth) scope from) }
+        ensures { Gives text.now tokens.now self.now.depth result (reading.factor text.now tokens.now (reading.expr text.now tokens.now self.now.depth) context from) }
     {
-        let e = self.inner(text, tokens, scope, high(Infix::Product), from)?;
-        if is_kind(Kind::Product, seen(tokens, scope.column, e.end))
+        let e = self.inner(text, tokens, context, high(Infix::Product), from)?;
+        if is_kind(Kind::Product, seen(tokens, context.column, e.end))
             && !edge_allows(e.tree.as_ref(), Infix::Product)
         {
             let end = e.end;
@@ -48,26 +48,26 @@ impl<F: Fn(Global, &[u8], &[Token], usize, Context, u8, usize) -> Result<Parsed,
         &self,
         text: &[u8],
         tokens: &[Token],
-        scope: Context,
+        context: Context,
         from: usize,
     ) -> Result<ParsedItems, Refusal>
         requires nests { Nests self.now.depth (F.pre self.now.expr) (F.post self.now.expr) }
-        ensures { GivesItems text.now tokens.now self.now.depth result (reading.factors text.now tokens.now (reading.expr text.now tokens.now self.now.depth) (length tokens.now) [] scope from) }
+        ensures { GivesItems text.now tokens.now self.now.depth result (reading.factors text.now tokens.now (reading.expr text.now tokens.now self.now.depth) (length tokens.now) [] context from) }
     {
         let mut items = Vec::new(self.alloc);
         let mut depth = 0;
         let mut at = from;
         for _turn in 0..tokens.len() {
-            let e = self.factor(text, tokens, scope, at)?;
+            let e = self.factor(text, tokens, context, at)?;
             let end = e.end;
             depth = depth.max(e.depth);
             push_inner(&mut items, e.tree)?;
-            let Some(next) = following(tokens, scope.column, Between::Product, end) else {
+            let Some(next) = following(tokens, context.column, Between::Product, end) else {
                 return Ok(ParsedItems { items, end, depth });
             };
             at = next;
         }
-        Err(refused(tokens, scope.column, at))
+        Err(refused(tokens, context.column, at))
     }
 
     /// The product of the tree, which begins at a token of this number, and the operands behind it.
@@ -76,7 +76,7 @@ impl<F: Fn(Global, &[u8], &[Token], usize, Context, u8, usize) -> Result<Parsed,
         &self,
         text: &[u8],
         tokens: &[Token],
-        scope: Context,
+        context: Context,
         start: usize,
         first: Parsed,
     ) -> Result<Parsed, Refusal>
@@ -85,12 +85,12 @@ impl<F: Fn(Global, &[u8], &[Token], usize, Context, u8, usize) -> Result<Parsed,
         requires depth { first.depth ≡ edges.depth (view first.tree.value) }
         requires shallow { first.depth ≤ self.now.depth + 1 }
         requires small { self.now.depth < 900 }
-        ensures { Gives text.now tokens.now (self.now.depth + 1) result (reading.product text.now tokens.now (reading.expr text.now tokens.now self.now.depth) (self.now.depth + 1) scope (view first.tree.value) first.end) }
+        ensures { Gives text.now tokens.now (self.now.depth + 1) result (reading.product text.now tokens.now (reading.expr text.now tokens.now self.now.depth) (self.now.depth + 1) context (view first.tree.value) first.end) }
     {
         if !edge_allows(first.tree.as_ref(), Infix::Product) {
             return Err(Refusal::Precedence(first.end));
         }
-        let found = self.factors(text, tokens, scope, first.end + 1)?;
+        let found = self.factors(text, tokens, context, first.end + 1)?;
         let depth = first.depth.max(found.depth) + 1;
         if depth > self.depth + 1 {
             return Err(Refusal::Nesting(start));

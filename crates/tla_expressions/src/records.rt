@@ -33,21 +33,21 @@ impl<F: Fn(Global, &[u8], &[Token], usize, Context, u8, usize) -> Result<Parsed,
         &self,
         text: &[u8],
         tokens: &[Token],
-        scope: Context,
+        context: Context,
         mark: Kind,
         from: usize,
     ) -> Result<ParsedField, Refusal>
         requires nests { Nests self.now.depth (F.pre self.now.expr) (F.post self.now.expr) }
-        ensures { GivesField text.now tokens.now self.now.depth result (reading.entry text.now tokens.now (expr text.now tokens.now self.now.depth) scope mark from) }
+        ensures { GivesField text.now tokens.now self.now.depth result (reading.entry text.now tokens.now (expr text.now tokens.now self.now.depth) context mark from) }
     {
-        let Some(name) = name_at(seen(tokens, scope.column, from)) else {
-            return Err(refused(tokens, scope.column, from));
+        let Some(name) = name_at(seen(tokens, context.column, from)) else {
+            return Err(refused(tokens, context.column, from));
         };
         let name = Written::of_token(self.alloc, text, name)?;
-        if !is_kind(mark, seen(tokens, scope.column, from + 1)) {
-            return Err(refused(tokens, scope.column, from + 1));
+        if !is_kind(mark, seen(tokens, context.column, from + 1)) {
+            return Err(refused(tokens, context.column, from + 1));
         }
-        let value = self.inner(text, tokens, scope, 0, from + 2)?;
+        let value = self.inner(text, tokens, context, 0, from + 2)?;
         Ok(ParsedField {
             field: Field {
                 name,
@@ -64,27 +64,27 @@ impl<F: Fn(Global, &[u8], &[Token], usize, Context, u8, usize) -> Result<Parsed,
         &self,
         text: &[u8],
         tokens: &[Token],
-        scope: Context,
+        context: Context,
         mark: Kind,
         from: usize,
     ) -> Result<ParsedFields, Refusal>
         requires nests { Nests self.now.depth (F.pre self.now.expr) (F.post self.now.expr) }
-        ensures { GivesFields text.now tokens.now self.now.depth result (reading.entries text.now tokens.now (expr text.now tokens.now self.now.depth) (length tokens.now) [] scope mark from) }
+        ensures { GivesFields text.now tokens.now self.now.depth result (reading.entries text.now tokens.now (expr text.now tokens.now self.now.depth) (length tokens.now) [] context mark from) }
     {
         let mut fields = Vec::new(self.alloc);
         let mut depth = 0;
         let mut at = from;
         for _turn in 0..tokens.len() {
-            let found = self.entry(text, tokens, scope, mark, at)?;
+            let found = self.entry(text, tokens, context, mark, at)?;
             let end = found.end;
             depth = depth.max(found.depth);
             push(&mut fields, found.field)?;
-            let Some(next) = following(tokens, scope.column, Between::Comma, end) else {
+            let Some(next) = following(tokens, context.column, Between::Comma, end) else {
                 return Ok(ParsedFields { fields, end, depth });
             };
             at = next;
         }
-        Err(refused(tokens, scope.column, at))
+        Err(refused(tokens, context.column, at))
     }
 
     /// `[a |-> e, ..]`
@@ -93,18 +93,18 @@ impl<F: Fn(Global, &[u8], &[Token], usize, Context, u8, usize) -> Result<Parsed,
         &self,
         text: &[u8],
         tokens: &[Token],
-        scope: Context,
+        context: Context,
         at: Place,
         from: usize,
     ) -> Result<Parsed, Refusal>
         requires nests { Nests self.now.depth (F.pre self.now.expr) (F.post self.now.expr) }
         requires within { from < length tokens.now }
         requires small { self.now.depth < 900 }
-        ensures { Gives text.now tokens.now (self.now.depth + 1) result (reading.record_of text.now tokens.now (expr text.now tokens.now self.now.depth) scope at from) }
+        ensures { Gives text.now tokens.now (self.now.depth + 1) result (reading.record_of text.now tokens.now (expr text.now tokens.now self.now.depth) context at from) }
     {
-        let found = self.entries(text, tokens, scope, Kind::MapsTo, from + 1)?;
-        if !is_kind(Kind::RightBracket, seen(tokens, scope.column, found.end)) {
-            return Err(refused(tokens, scope.column, found.end));
+        let found = self.entries(text, tokens, context, Kind::MapsTo, from + 1)?;
+        if !is_kind(Kind::RightBracket, seen(tokens, context.column, found.end)) {
+            return Err(refused(tokens, context.column, found.end));
         }
         let end = found.end + 1;
         let depth = found.depth + 1;
@@ -117,18 +117,18 @@ impl<F: Fn(Global, &[u8], &[Token], usize, Context, u8, usize) -> Result<Parsed,
         &self,
         text: &[u8],
         tokens: &[Token],
-        scope: Context,
+        context: Context,
         at: Place,
         from: usize,
     ) -> Result<Parsed, Refusal>
         requires nests { Nests self.now.depth (F.pre self.now.expr) (F.post self.now.expr) }
         requires within { from < length tokens.now }
         requires small { self.now.depth < 900 }
-        ensures { Gives text.now tokens.now (self.now.depth + 1) result (reading.records_of text.now tokens.now (expr text.now tokens.now self.now.depth) scope at from) }
+        ensures { Gives text.now tokens.now (self.now.depth + 1) result (reading.records_of text.now tokens.now (expr text.now tokens.now self.now.depth) context at from) }
     {
-        let found = self.entries(text, tokens, scope, Kind::Colon, from + 1)?;
-        if !is_kind(Kind::RightBracket, seen(tokens, scope.column, found.end)) {
-            return Err(refused(tokens, scope.column, found.end));
+        let found = self.entries(text, tokens, context, Kind::Colon, from + 1)?;
+        if !is_kind(Kind::RightBracket, seen(tokens, context.column, found.end)) {
+            return Err(refused(tokens, context.column, found.end));
         }
         let end = found.end + 1;
         let depth = found.depth + 1;
@@ -141,14 +141,14 @@ impl<F: Fn(Global, &[u8], &[Token], usize, Context, u8, usize) -> Result<Parsed,
         &self,
         text: &[u8],
         tokens: &[Token],
-        scope: Context,
+        context: Context,
         from: usize,
     ) -> Result<ParsedKey, Refusal>
         requires nests { Nests self.now.depth (F.pre self.now.expr) (F.post self.now.expr) }
-        ensures { GivesKey text.now tokens.now self.now.depth result (reading.key_at text.now tokens.now (expr text.now tokens.now self.now.depth) scope from) }
+        ensures { GivesKey text.now tokens.now self.now.depth result (reading.key_at text.now tokens.now (expr text.now tokens.now self.now.depth) context from) }
     {
-        if is_kind(Kind::LeftBracket, seen(tokens, scope.column, from)) {
-            let found = self.some(text, tokens, scope, Kind::RightBracket, from + 1)?;
+        if is_kind(Kind::LeftBracket, seen(tokens, context.column, from)) {
+            let found = self.some(text, tokens, context, Kind::RightBracket, from + 1)?;
             let end = found.end;
             let depth = found.depth;
             return Ok(ParsedKey {
@@ -157,11 +157,11 @@ impl<F: Fn(Global, &[u8], &[Token], usize, Context, u8, usize) -> Result<Parsed,
                 depth,
             });
         }
-        if !is_kind(Kind::Dot, seen(tokens, scope.column, from)) {
-            return Err(refused(tokens, scope.column, from));
+        if !is_kind(Kind::Dot, seen(tokens, context.column, from)) {
+            return Err(refused(tokens, context.column, from));
         }
-        let Some(name) = name_at(seen(tokens, scope.column, from + 1)) else {
-            return Err(refused(tokens, scope.column, from + 1));
+        let Some(name) = name_at(seen(tokens, context.column, from + 1)) else {
+            return Err(refused(tokens, context.column, from + 1));
         };
         Ok(ParsedKey {
             key: Key::Field(Written::of_token(self.alloc, text, name)?),
@@ -176,26 +176,26 @@ impl<F: Fn(Global, &[u8], &[Token], usize, Context, u8, usize) -> Result<Parsed,
         &self,
         text: &[u8],
         tokens: &[Token],
-        scope: Context,
+        context: Context,
         from: usize,
     ) -> Result<ParsedKeys, Refusal>
         requires nests { Nests self.now.depth (F.pre self.now.expr) (F.post self.now.expr) }
-        ensures { GivesKeys text.now tokens.now self.now.depth result (reading.path text.now tokens.now (expr text.now tokens.now self.now.depth) (length tokens.now) [] scope from) }
+        ensures { GivesKeys text.now tokens.now self.now.depth result (reading.path text.now tokens.now (expr text.now tokens.now self.now.depth) (length tokens.now) [] context from) }
     {
         let mut keys = Vec::new(self.alloc);
         let mut depth = 0;
         let mut at = from;
         for _turn in 0..tokens.len() {
-            let found = self.key(text, tokens, scope, at)?;
+            let found = self.key(text, tokens, context, at)?;
             let end = found.end;
             depth = depth.max(found.depth);
             push(&mut keys, found.key)?;
-            let Some(next) = following(tokens, scope.column, Between::Key, end) else {
+            let Some(next) = following(tokens, context.column, Between::Key, end) else {
                 return Ok(ParsedKeys { keys, end, depth });
             };
             at = next;
         }
-        Err(refused(tokens, scope.column, at))
+        Err(refused(tokens, context.column, at))
     }
 
     /// An update.
@@ -204,24 +204,24 @@ impl<F: Fn(Global, &[u8], &[Token], usize, Context, u8, usize) -> Result<Parsed,
         &self,
         text: &[u8],
         tokens: &[Token],
-        scope: Context,
+        context: Context,
         from: usize,
     ) -> Result<ParsedUpdate, Refusal>
         requires nests { Nests self.now.depth (F.pre self.now.expr) (F.post self.now.expr) }
-        ensures { GivesUpdate text.now tokens.now self.now.depth result (reading.change text.now tokens.now (expr text.now tokens.now self.now.depth) scope from) }
+        ensures { GivesUpdate text.now tokens.now self.now.depth result (reading.change text.now tokens.now (expr text.now tokens.now self.now.depth) context from) }
     {
-        if !is_kind(Kind::Bang, seen(tokens, scope.column, from)) {
-            return Err(refused_update(tokens, scope.column, from));
+        if !is_kind(Kind::Bang, seen(tokens, context.column, from)) {
+            return Err(refused_update(tokens, context.column, from));
         }
-        let found = self.path(text, tokens, scope, from + 1)?;
-        if !is_kind(Kind::Equal, seen(tokens, scope.column, found.end)) {
-            return Err(refused(tokens, scope.column, found.end));
+        let found = self.path(text, tokens, context, from + 1)?;
+        if !is_kind(Kind::Equal, seen(tokens, context.column, found.end)) {
+            return Err(refused(tokens, context.column, found.end));
         }
-        let value_scope = Context {
+        let value_context = Context {
             updating: true,
-            ..scope
+            ..context
         };
-        let value = self.inner(text, tokens, value_scope, 0, found.end + 1)?;
+        let value = self.inner(text, tokens, value_context, 0, found.end + 1)?;
         Ok(ParsedUpdate {
             update: Update {
                 path: found.keys,
@@ -238,21 +238,21 @@ impl<F: Fn(Global, &[u8], &[Token], usize, Context, u8, usize) -> Result<Parsed,
         &self,
         text: &[u8],
         tokens: &[Token],
-        scope: Context,
+        context: Context,
         from: usize,
     ) -> Result<ParsedUpdates, Refusal>
         requires nests { Nests self.now.depth (F.pre self.now.expr) (F.post self.now.expr) }
-        ensures { GivesUpdates text.now tokens.now self.now.depth result (reading.changes text.now tokens.now (expr text.now tokens.now self.now.depth) (length tokens.now) [] scope from) }
+        ensures { GivesUpdates text.now tokens.now self.now.depth result (reading.changes text.now tokens.now (expr text.now tokens.now self.now.depth) (length tokens.now) [] context from) }
     {
         let mut updates = Vec::new(self.alloc);
         let mut depth = 0;
         let mut at = from;
         for _turn in 0..tokens.len() {
-            let found = self.change(text, tokens, scope, at)?;
+            let found = self.change(text, tokens, context, at)?;
             let end = found.end;
             depth = depth.max(found.depth);
             push(&mut updates, found.update)?;
-            let Some(next) = following(tokens, scope.column, Between::Comma, end) else {
+            let Some(next) = following(tokens, context.column, Between::Comma, end) else {
                 return Ok(ParsedUpdates {
                     updates,
                     end,
@@ -261,7 +261,7 @@ impl<F: Fn(Global, &[u8], &[Token], usize, Context, u8, usize) -> Result<Parsed,
             };
             at = next;
         }
-        Err(refused(tokens, scope.column, at))
+        Err(refused(tokens, context.column, at))
     }
 
     /// `[f EXCEPT !p = e, ..]`, behind f.
@@ -270,7 +270,7 @@ impl<F: Fn(Global, &[u8], &[Token], usize, Context, u8, usize) -> Result<Parsed,
         &self,
         text: &[u8],
         tokens: &[Token],
-        scope: Context,
+        context: Context,
         at: Place,
         first: Parsed,
     ) -> Result<Parsed, Refusal>
@@ -279,11 +279,11 @@ impl<F: Fn(Global, &[u8], &[Token], usize, Context, u8, usize) -> Result<Parsed,
         requires depth { first.depth ≡ edges.depth (view first.tree.value) }
         requires shallow { first.depth ≤ self.now.depth }
         requires small { self.now.depth < 900 }
-        ensures { Gives text.now tokens.now (self.now.depth + 1) result (reading.except text.now tokens.now (expr text.now tokens.now self.now.depth) scope at (view first.tree.value) first.end) }
+        ensures { Gives text.now tokens.now (self.now.depth + 1) result (reading.except text.now tokens.now (expr text.now tokens.now self.now.depth) context at (view first.tree.value) first.end) }
     {
-        let found = self.changes(text, tokens, scope, first.end + 1)?;
-        if !is_kind(Kind::RightBracket, seen(tokens, scope.column, found.end)) {
-            return Err(refused(tokens, scope.column, found.end));
+        let found = self.changes(text, tokens, context, first.end + 1)?;
+        if !is_kind(Kind::RightBracket, seen(tokens, context.column, found.end)) {
+            return Err(refused(tokens, context.column, found.end));
         }
         node(
             self.alloc,

@@ -17,11 +17,11 @@ use Rattle.tla_grammar.specs.Tokens.{Has, Is, Writes, Names, seen, is_bullet_at,
 use Rattle.tla_grammar.specs.Entries.{Entry, BeginsEntry, is_single}
 use Rattle.tla_tree.specs.Tree.{Filter, Image, Function, FunctionSet, Record, RecordSet, Except, Action, Fair, Product, Fields, Key, Keys, Updates, no_fields, field, AtIndex, AtField, no_keys, key, no_updates, update, Tree, Trees, Binders, Arms, Other, Definition, Definitions, none, more, unbound, bound, no_arms, arm, no_other, other, DefinesOperator, DefinesFunction, undefined, defined, Case, Let, Name, Number, Text, Word, At, Paren, Listing, Call, Prime, Index, Field, Unary, Binary, Quantified, Choose, If, Junction}
 
--- the scope of an item: every token stands right of the list's column
+-- the context of an item: every token stands right of the list's column
 abbrev pub within : Context → ℕ → Context
 within s column = record s { column = column }
 
--- the scope of the expression of an update, where `@` has a meaning
+-- the context of the expression of an update, where `@` has a meaning
 abbrev pub updating : Context → Context
 updating s = record s { updating = true }
 
@@ -45,7 +45,7 @@ is_defined undefined = false
 is_defined (defined d ds) = true
 
 module _ (text : List ℕ) (ts : List Token) where
-  -- The tree spells the tokens from the first number up to the second, all of them right of the scope's column.
+  -- The tree spells the tokens from the first number up to the second, all of them right of the context's column.
   abbrev mutual
     pub Spells : Context → Tree → ℕ → ℕ → Type 0
     Spells s (Name w) from to = Writes ts text s.column k.Name w from × (to ≡ from + 1)

@@ -13,7 +13,7 @@ pub struct Context {
 }
 
 impl Context {
-    /// The scope of the items of a junction list whose bullets stand in the column.
+    /// The context of the items of a junction list whose bullets stand in the column.
     pub fn of_items(self, column: u128) -> Context
         ensures { result ≡ within self column }
     {

@@ -21,7 +21,7 @@ use tla_grammar::{
 use tla_lex::{Kind, Place, Token};
 use tla_tree::{Declaration, Definition, Expr, MAX_DEPTH, Unit, Written, push};
 
-/// The scope of a unit's expressions.
+/// The context of a unit's expressions.
 const OUTERMOST: Context = Context {
     column: 0,
     updating: false,

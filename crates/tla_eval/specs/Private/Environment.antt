@@ -13,7 +13,7 @@ bound_of (One' _ outer value) = bound_of outer ++ tree_of value.now ∷ []
 bound_of (Many' _ outer values) = bound_of outer ++ map tree_of values.now
 
 abbrev pub bound_in : Environment → Bound
-bound_in env = bound_of env.scope.now
+bound_in env = bound_of env.frame.now
 
 abbrev pub present_in : Environment → Present
 present_in env = option_map (λ s. s.now) env.now

@@ -190,9 +190,9 @@ pub(super) fn ask_with<'c: 'a, 'a>(
 ) -> Result<bool, Trouble<'c>>
     ensures { GivesTruth result (asks place.now (means (expr_of body.now)) (bound_in env.entry ++ tree_of value.now ∷ []) (present_in env.entry) (next_in env.entry)) }
 {
-    let scope = Frame::One(env.scope, value);
+    let frame = Frame::One(env.frame, value);
     let inner = Environment {
-        scope: &scope,
+        frame: &frame,
         now: env.now,
         next: env.next,
     };
@@ -209,9 +209,9 @@ pub(super) fn value_with<'c: 'a, 'a>(
 ) -> Result<Value, Trouble<'c>>
     ensures { Gives result ((means (expr_of body.now)).value (bound_in env.entry ++ tree_of value.now ∷ []) (present_in env.entry) (next_in env.entry)) }
 {
-    let scope = Frame::One(env.scope, value);
+    let frame = Frame::One(env.frame, value);
     let inner = Environment {
-        scope: &scope,
+        frame: &frame,
         now: env.now,
         next: env.next,
     };

@@ -245,9 +245,9 @@ pub(super) fn value_with_all<'c: 'a, 'a>(
 ) -> Result<Value, Trouble<'c>>
     ensures { Gives result ((means (expr_of body.now)).value (bound_in env.entry ++ map tree_of choice.now) (present_in env.entry) (next_in env.entry)) }
 {
-    let scope = Frame::Many(env.scope, choice);
+    let frame = Frame::Many(env.frame, choice);
     let inner = Environment {
-        scope: &scope,
+        frame: &frame,
         now: env.now,
         next: env.next,
     };

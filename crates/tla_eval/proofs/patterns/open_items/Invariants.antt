@@ -8,5 +8,5 @@ use Rattle.tla_eval.proofs.patterns.open_items.Given as goal
 -- what is left, behind what is there
 abbrev pub invariant-loop-opening : goal.invariant-loop-opening
 invariant-loop-opening l =
-    opened_items l.place l.openings (bound_of l.scope)
-    ≡ (opened_items l.place (drop l.opening-index l.openings) (bound_of l.scope) >>= λ ys. Ok (map tree_of l.items.items ++ ys))
+    opened_items l.place l.openings (bound_of l.frame)
+    ≡ (opened_items l.place (drop l.opening-index l.openings) (bound_of l.frame) >>= λ ys. Ok (map tree_of l.items.items ++ ys))

@@ -7,8 +7,8 @@ use Rattle.tla_expressions.proofs.grammar.Grammar.arms_at.Given as goal
 
 abbrev pub invariant-loop-turn : goal.invariant-loop-turn
 invariant-loop-turn g l = record {
-  same : arms_at l.text l.tokens (expr l.text l.tokens l.self.depth) (length l.tokens - l._turn) (map choice_view l.arms.items) l.scope l.at
-      ≡ arms_at l.text l.tokens (expr l.text l.tokens l.self.depth) (length l.tokens) [] l.scope l.fn.from;
+  same : arms_at l.text l.tokens (expr l.text l.tokens l.self.depth) (length l.tokens - l._turn) (map choice_view l.arms.items) l.context l.at
+      ≡ arms_at l.text l.tokens (expr l.text l.tokens l.self.depth) (length l.tokens) [] l.context l.fn.from;
   depth : l.depth ≡ arms_depth (arms (map choice_view l.arms.items));
   shallow : l.depth ≤ l.self.depth;
 }

@@ -8,8 +8,8 @@ use Rattle.tla_expressions.proofs.grammar.Grammar.changes.Given as goal
 
 abbrev pub invariant-loop-turn : goal.invariant-loop-turn
 invariant-loop-turn g l = record {
-  same : changes l.text l.tokens (expr l.text l.tokens l.self.depth) (length l.tokens - l._turn) (map update_view l.updates.items) l.scope l.at
-      ≡ changes l.text l.tokens (expr l.text l.tokens l.self.depth) (length l.tokens) [] l.scope l.fn.from;
+  same : changes l.text l.tokens (expr l.text l.tokens l.self.depth) (length l.tokens - l._turn) (map update_view l.updates.items) l.context l.at
+      ≡ changes l.text l.tokens (expr l.text l.tokens l.self.depth) (length l.tokens) [] l.context l.fn.from;
   depth : l.depth ≡ updates_depth (updates (map update_view l.updates.items));
   shallow : l.depth ≤ l.self.depth;
 }

@@ -9,15 +9,15 @@ use Rattle.tla_expressions.proofs.grammar.Grammar.climb.Goals as goal
 
 pub returns-in_err-left : goal.returns-in_err-left
 returns-in_err-left g c =
-    let p : above c.args.floor (infix_at (seen c.args.tokens.now c.args.scope.column c.loop-turn.left.end)) ≡ Some c.in-Some.op = cc in
+    let p : above c.args.floor (infix_at (seen c.args.tokens.now c.args.context.column c.loop-turn.left.end)) ≡ Some c.in-Some.op = cc in
     let h : c.args.self.now.depth - c.loop-turn._turn ≡ (c.args.self.now.depth - (c.loop-turn._turn + 1)) + 1 = omega arith in
     let e = err_from_is_err_and c.from_residual.result c.from_residual.ensures.1 in
     rw (e.1, e.2, ← c.loop-turn.invariant.same)
-    (climb_fails c.args.text.now c.args.tokens.now (expr c.args.text.now c.args.tokens.now c.args.self.now.depth) c.in_err-left.field-0.0 (c.args.self.now.depth - c.loop-turn._turn) (c.args.self.now.depth - (c.loop-turn._turn + 1)) (c.args.self.now.depth + 1) c.args.scope c.args.floor (view c.loop-turn.left.tree.value) c.loop-turn.left.end c.in-Some.op h p c.in_err-left.ensures)
+    (climb_fails c.args.text.now c.args.tokens.now (expr c.args.text.now c.args.tokens.now c.args.self.now.depth) c.in_err-left.field-0.0 (c.args.self.now.depth - c.loop-turn._turn) (c.args.self.now.depth - (c.loop-turn._turn + 1)) (c.args.self.now.depth + 1) c.args.context c.args.floor (view c.loop-turn.left.tree.value) c.loop-turn.left.end c.in-Some.op h p c.in_err-left.ensures)
 
 pub returns-in-Some-operator_at : goal.returns-in-Some-operator_at
 returns-in-Some-operator_at g c =
-    let p : above c.args.floor (infix_at (seen c.args.tokens.now c.args.scope.column c.loop-turn.left.end)) ≡ Some c.in-Some-operator_at.field-0 = cc in
+    let p : above c.args.floor (infix_at (seen c.args.tokens.now c.args.context.column c.loop-turn.left.end)) ≡ Some c.in-Some-operator_at.field-0 = cc in
     let z : c.args.self.now.depth - c.loop-turn._turn ≡ 0 = omega arith in
     sym c.loop-turn.invariant.same
-    ∙ climb_full c.args.text.now c.args.tokens.now (expr c.args.text.now c.args.tokens.now c.args.self.now.depth) (c.args.self.now.depth - c.loop-turn._turn) (c.args.self.now.depth + 1) c.args.scope c.args.floor (view c.loop-turn.left.tree.value) c.loop-turn.left.end c.in-Some-operator_at.field-0 z p
+    ∙ climb_full c.args.text.now c.args.tokens.now (expr c.args.text.now c.args.tokens.now c.args.self.now.depth) (c.args.self.now.depth - c.loop-turn._turn) (c.args.self.now.depth + 1) c.args.context c.args.floor (view c.loop-turn.left.tree.value) c.loop-turn.left.end c.in-Some-operator_at.field-0 z p

@@ -6,8 +6,8 @@ use Rattle.tla_expressions.proofs.grammar.Grammar.climb.Given as goal
 
 abbrev pub invariant-loop-turn : goal.invariant-loop-turn
 invariant-loop-turn g l = record {
-  same : climb l.text l.tokens (expr l.text l.tokens l.self.depth) (l.self.depth - l._turn) (l.self.depth + 1) l.scope l.floor (view l.left.tree.value) l.left.end
-      ≡ climb l.text l.tokens (expr l.text l.tokens l.self.depth) l.self.depth (l.self.depth + 1) l.scope l.floor (view l.fn.first.tree.value) l.fn.first.end;
+  same : climb l.text l.tokens (expr l.text l.tokens l.self.depth) (l.self.depth - l._turn) (l.self.depth + 1) l.context l.floor (view l.left.tree.value) l.left.end
+      ≡ climb l.text l.tokens (expr l.text l.tokens l.self.depth) l.self.depth (l.self.depth + 1) l.context l.floor (view l.fn.first.tree.value) l.fn.first.end;
   depth : l.left.depth ≡ depth (view l.left.tree.value);
   shallow : l.left.depth ≤ l.self.depth + 1;
 }

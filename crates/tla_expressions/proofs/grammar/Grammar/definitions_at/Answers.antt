@@ -15,13 +15,13 @@ returns-in_err-found g c =
     let h : length c.args.tokens.now - c.loop-turn._turn ≡ (length c.args.tokens.now - (c.loop-turn._turn + 1)) + 1 = omega arith in
     let p = err_from_is_err_and c.from_residual.result c.from_residual.ensures.1 in
     rw (p.1, p.2, ← c.loop-turn.invariant.same)
-    (sequence_fails (definition c.args.text.now c.args.tokens.now (expr c.args.text.now c.args.tokens.now c.args.self.now.depth) c.args.scope) (following c.args.tokens.now c.args.scope.column between.Nothing) c.args.text.now c.args.tokens.now c.in_err-found.field-0.0 (length c.args.tokens.now - c.loop-turn._turn) (length c.args.tokens.now - (c.loop-turn._turn + 1)) (map definition_view c.loop-turn.definitions.items) c.loop-turn.at h c.in_err-found.ensures)
+    (sequence_fails (definition c.args.text.now c.args.tokens.now (expr c.args.text.now c.args.tokens.now c.args.self.now.depth) c.args.context) (following c.args.tokens.now c.args.context.column between.Nothing) c.args.text.now c.args.tokens.now c.in_err-found.field-0.0 (length c.args.tokens.now - c.loop-turn._turn) (length c.args.tokens.now - (c.loop-turn._turn + 1)) (map definition_view c.loop-turn.definitions.items) c.loop-turn.at h c.in_err-found.ensures)
 
 pub returns-in_default : goal.returns-in_default
 returns-in_default g c =
     let h : length c.args.tokens.now - c.loop-turn._turn ≡ (length c.args.tokens.now - (c.loop-turn._turn + 1)) + 1 = omega arith in
-    let q : following c.args.tokens.now c.args.scope.column between.Nothing c.in_ok-found.found.end ≡ None = cc in
-    let s = sequence_last (definition c.args.text.now c.args.tokens.now (expr c.args.text.now c.args.tokens.now c.args.self.now.depth) c.args.scope) (following c.args.tokens.now c.args.scope.column between.Nothing) (length c.args.tokens.now - c.loop-turn._turn) (length c.args.tokens.now - (c.loop-turn._turn + 1)) (map definition_view c.loop-turn.definitions.items) c.loop-turn.at (definition_view c.in_ok-found.found.definition) c.in_ok-found.found.end h c.in_ok-found.ensures.0 q in
+    let q : following c.args.tokens.now c.args.context.column between.Nothing c.in_ok-found.found.end ≡ None = cc in
+    let s = sequence_last (definition c.args.text.now c.args.tokens.now (expr c.args.text.now c.args.tokens.now c.args.self.now.depth) c.args.context) (following c.args.tokens.now c.args.context.column between.Nothing) (length c.args.tokens.now - c.loop-turn._turn) (length c.args.tokens.now - (c.loop-turn._turn + 1)) (map definition_view c.loop-turn.definitions.items) c.loop-turn.at (definition_view c.in_ok-found.found.definition) c.in_ok-found.found.end h c.in_ok-found.ensures.0 q in
     let w : map definition_view c.push.new.items.items ≡ map definition_view c.loop-turn.definitions.items ++ definition_view c.in_ok-found.found.definition ∷ [] = ap (λ x. map definition_view x) c.in_ok-push.ensures.ok ∙ map_append definition_view c.loop-turn.definitions.items c.in_ok-found.found.definition in
     let d = definitions_depth_snoc (map definition_view c.loop-turn.definitions.items) (definition_view c.in_ok-found.found.definition) in
     rw w (sym c.loop-turn.invariant.same ∙ s, grind (arith, common_steps, d), grind (arith, common_steps))
@@ -29,8 +29,8 @@ returns-in_default g c =
 pub loop-turn-preserved : goal.loop-turn-preserved
 loop-turn-preserved g c =
     let h : length c.args.tokens.now - c.loop-turn._turn ≡ (length c.args.tokens.now - (c.loop-turn._turn + 1)) + 1 = omega arith in
-    let q : following c.args.tokens.now c.args.scope.column between.Nothing c.in_ok-found.found.end ≡ Some c.in-Some.next = cc in
-    let s = sequence_more (definition c.args.text.now c.args.tokens.now (expr c.args.text.now c.args.tokens.now c.args.self.now.depth) c.args.scope) (following c.args.tokens.now c.args.scope.column between.Nothing) (length c.args.tokens.now - c.loop-turn._turn) (length c.args.tokens.now - (c.loop-turn._turn + 1)) (map definition_view c.loop-turn.definitions.items) c.loop-turn.at (definition_view c.in_ok-found.found.definition) c.in_ok-found.found.end c.in-Some.next h c.in_ok-found.ensures.0 q in
+    let q : following c.args.tokens.now c.args.context.column between.Nothing c.in_ok-found.found.end ≡ Some c.in-Some.next = cc in
+    let s = sequence_more (definition c.args.text.now c.args.tokens.now (expr c.args.text.now c.args.tokens.now c.args.self.now.depth) c.args.context) (following c.args.tokens.now c.args.context.column between.Nothing) (length c.args.tokens.now - c.loop-turn._turn) (length c.args.tokens.now - (c.loop-turn._turn + 1)) (map definition_view c.loop-turn.definitions.items) c.loop-turn.at (definition_view c.in_ok-found.found.definition) c.in_ok-found.found.end c.in-Some.next h c.in_ok-found.ensures.0 q in
     let w : map definition_view c.push.new.items.items ≡ map definition_view c.loop-turn.definitions.items ++ definition_view c.in_ok-found.found.definition ∷ [] = ap (λ x. map definition_view x) c.in_ok-push.ensures.ok ∙ map_append definition_view c.loop-turn.definitions.items c.in_ok-found.found.definition in
     let d = definitions_depth_snoc (map definition_view c.loop-turn.definitions.items) (definition_view c.in_ok-found.found.definition) in
     rw w (record { same = sym s ∙ c.loop-turn.invariant.same; depth = grind (arith, common_steps, d); shallow = grind (arith, common_steps) })
@@ -38,5 +38,5 @@ loop-turn-preserved g c =
 pub returns : goal.returns
 returns g c =
     let z : length c.args.tokens.now - c.loop-turn._turn ≡ 0 = omega arith in
-    let n = sequence_full (definition c.args.text.now c.args.tokens.now (expr c.args.text.now c.args.tokens.now c.args.self.now.depth) c.args.scope) (following c.args.tokens.now c.args.scope.column between.Nothing) (length c.args.tokens.now - c.loop-turn._turn) (map definition_view c.loop-turn.definitions.items) c.loop-turn.at z in
+    let n = sequence_full (definition c.args.text.now c.args.tokens.now (expr c.args.text.now c.args.tokens.now c.args.self.now.depth) c.args.context) (following c.args.tokens.now c.args.context.column between.Nothing) (length c.args.tokens.now - c.loop-turn._turn) (map definition_view c.loop-turn.definitions.items) c.loop-turn.at z in
     refuses_fails c.args.text.now c.args.tokens.now c.refused.result c.refused.ensures _ (sym c.loop-turn.invariant.same ∙ n)

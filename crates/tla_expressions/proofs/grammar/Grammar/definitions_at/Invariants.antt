@@ -7,8 +7,8 @@ use Rattle.tla_expressions.proofs.grammar.Grammar.definitions_at.Given as goal
 
 abbrev pub invariant-loop-turn : goal.invariant-loop-turn
 invariant-loop-turn g l = record {
-  same : definitions_at l.text l.tokens (expr l.text l.tokens l.self.depth) (length l.tokens - l._turn) (map definition_view l.definitions.items) l.scope l.at
-      ≡ definitions_at l.text l.tokens (expr l.text l.tokens l.self.depth) (length l.tokens) [] l.scope l.fn.from;
+  same : definitions_at l.text l.tokens (expr l.text l.tokens l.self.depth) (length l.tokens - l._turn) (map definition_view l.definitions.items) l.context l.at
+      ≡ definitions_at l.text l.tokens (expr l.text l.tokens l.self.depth) (length l.tokens) [] l.context l.fn.from;
   depth : l.depth ≡ definitions_depth (definitions (map definition_view l.definitions.items));
   shallow : l.depth ≤ l.self.depth;
 }

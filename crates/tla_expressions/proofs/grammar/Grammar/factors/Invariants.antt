@@ -7,8 +7,8 @@ use Rattle.tla_expressions.proofs.grammar.Grammar.factors.Given as goal
 
 abbrev pub invariant-loop-turn : goal.invariant-loop-turn
 invariant-loop-turn g l = record {
-  same : factors l.text l.tokens (expr l.text l.tokens l.self.depth) (length l.tokens - l._turn) (map view l.items.items) l.scope l.at
-      ≡ factors l.text l.tokens (expr l.text l.tokens l.self.depth) (length l.tokens) [] l.scope l.fn.from;
+  same : factors l.text l.tokens (expr l.text l.tokens l.self.depth) (length l.tokens - l._turn) (map view l.items.items) l.context l.at
+      ≡ factors l.text l.tokens (expr l.text l.tokens l.self.depth) (length l.tokens) [] l.context l.fn.from;
   depth : l.depth ≡ depths (trees (map view l.items.items));
   shallow : l.depth ≤ l.self.depth;
 }

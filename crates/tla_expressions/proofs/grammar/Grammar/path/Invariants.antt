@@ -8,8 +8,8 @@ use Rattle.tla_expressions.proofs.grammar.Grammar.path.Given as goal
 
 abbrev pub invariant-loop-turn : goal.invariant-loop-turn
 invariant-loop-turn g l = record {
-  same : path l.text l.tokens (expr l.text l.tokens l.self.depth) (length l.tokens - l._turn) (map key_view l.keys.items) l.scope l.at
-      ≡ path l.text l.tokens (expr l.text l.tokens l.self.depth) (length l.tokens) [] l.scope l.fn.from;
+  same : path l.text l.tokens (expr l.text l.tokens l.self.depth) (length l.tokens - l._turn) (map key_view l.keys.items) l.context l.at
+      ≡ path l.text l.tokens (expr l.text l.tokens l.self.depth) (length l.tokens) [] l.context l.fn.from;
   depth : l.depth ≡ keys_depth (keys (map key_view l.keys.items));
   shallow : l.depth ≤ l.self.depth;
 }
