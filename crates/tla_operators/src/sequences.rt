@@ -89,7 +89,7 @@ fn part<'p>(
     requires shallow { deepest (trees (map tree_of items.now)) < MAX_NESTING }
     ensures { Gives result (Ok (sequence (take (to - from) (drop from (map tree_of items.now))))) }
 {
-    let mut values = Vec::new(alloc);
+    let mut values = Vec::with_capacity(alloc, to - from)?;
     add_items(alloc, &mut values, &items[from..to])?;
     sequence_of(place, values)
 }
@@ -159,7 +159,7 @@ pub(crate) fn concat<'p>(
 {
     let left = items_of(place, left)?;
     let right = items_of(place, right)?;
-    let mut values = Vec::new(alloc);
+    let mut values = Vec::with_capacity(alloc, left.len() + right.len())?;
     add_items(alloc, &mut values, left)?;
     add_items(alloc, &mut values, right)?;
     sequence_of(place, values)
@@ -175,7 +175,7 @@ pub(crate) fn append<'p>(
     ensures { Gives result (binary_rule Append place.now (tree_of sequence.now) (tree_of item.now)) }
 {
     let items = items_of(place, sequence)?;
-    let mut values = Vec::new(alloc);
+    let mut values = Vec::with_capacity(alloc, items.len() + 1)?;
     add_items(alloc, &mut values, items)?;
     values.push(copied(alloc, item)?)?;
     sequence_of(place, values)

@@ -124,6 +124,14 @@ pub(super) fn evaluated_each<'c: 'a, 'a>(
     Ok(values)
 }
 
+/// How many choices the last of some lists has.
+fn last_count(lists: &[&[Value]]) -> usize {
+    match lists.last() {
+        Some(list) => list.len(),
+        None => 0,
+    }
+}
+
 /// The values of a body for all choices from some lists, the first list slowest.
 #[cycle(evaluate)]
 fn chosen<'l, 'c: 'a, 'a>(
@@ -134,7 +142,7 @@ fn chosen<'l, 'c: 'a, 'a>(
 ) -> Result<Vec<Value>, Trouble<'c>>
     ensures { GivesBy (λ v. map tree_of v.items) result (values_for (means (expr_of body.now)) (bound_in env.entry) (present_in env.entry) (next_in env.entry) (map (λ l. map tree_of l.now) lists.now)) }
 {
-    let mut values = Vec::new(alloc);
+    let mut values = Vec::with_capacity(alloc, last_count(lists))?;
     for number in 0..usize::MAX {
         match value_for(alloc, body, lists, number, env)? {
             Some(value) => values.push(value)?,

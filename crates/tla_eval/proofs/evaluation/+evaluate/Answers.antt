@@ -380,7 +380,7 @@ pub choices::chosen-returns-in_err-value : goal.choices::chosen-returns-in_err-v
 choices::chosen-returns-in_err-value t c =
     let m = means (expr_of c.args.body.now) in
     let e = c.loop-number.invariant ∙ value_first m (bound_in c.args.env) (present_in c.args.env) (next_in c.args.env) (choices (trees_in c.args.lists.now)) c.loop-number.number (map tree_of c.loop-number.values.items) in
-    subst (λ (o : Outcome (List Tree)). GivesBy (λ (v : Vec Value Global). map tree_of v.items) c.from_residual.result o) (sym e) (search rules)
+    subst (λ (o : Outcome (List Tree)). GivesBy (λ (v : Vec Value Global). map tree_of v.items) c.from_residual-in_err-value.result o) (sym e) (search rules)
 
 pub choices::chosen-returns-in-None : goal.choices::chosen-returns-in-None
 choices::chosen-returns-in-None t c =
