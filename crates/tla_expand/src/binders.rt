@@ -9,8 +9,9 @@ ghost use Rattle.tla_expand.specs.Expand.{binds_of, expand};
 ghost use Rattle.tla_expand.specs.Private.Binders.{binds_in};
 
 use crate::failure::Failure;
+use crate::parts::push;
 use std::alloc::Global;
-use tla_tree::{Binder, Expr, Pattern, Written, push};
+use tla_tree::{Binder, Expr, Pattern, Written};
 
 /// What an element is bound to.
 #[derive(Clone, Copy)]
@@ -59,7 +60,7 @@ fn push_entry<'a>(
         Pattern::Each(names) => push_each(binds, names.as_slice(), set),
         Pattern::Tuple(names) => {
             let names = Names::Tuple(names.as_slice());
-            Ok(push(binds, Bind { names, set })?)
+            push(binds, Bind { names, set })
         }
     }
 }
