@@ -9,9 +9,8 @@ ghost use Rattle.tla_expand.specs.Expand.{binds_of, expand};
 ghost use Rattle.tla_expand.specs.Private.Binders.{binds_in};
 
 use crate::failure::Failure;
-use crate::parts::push;
 use std::alloc::Global;
-use tla_tree::{Binder, Expr, Pattern, Written};
+use tla_tree::{Binder, Expr, Pattern, Written, push};
 
 /// What an element is bound to.
 #[derive(Clone, Copy)]
@@ -60,7 +59,7 @@ fn push_entry<'a>(
         Pattern::Each(names) => push_each(binds, names.as_slice(), set),
         Pattern::Tuple(names) => {
             let names = Names::Tuple(names.as_slice());
-            push(binds, Bind { names, set })
+            Ok(push(binds, Bind { names, set })?)
         }
     }
 }

@@ -23,12 +23,11 @@ use crate::expand::{NODES_BELOW, PATH_BELOW, Setting, expand};
 use crate::expanded::Many as Parts;
 use crate::failure::Failure;
 use crate::nodes::Many;
-use crate::parts::push;
 use crate::primes::Primes;
 use std::alloc::Global;
 use tla_core::Core;
 use tla_lex::Place;
-use tla_tree::Expr;
+use tla_tree::{Expr, push};
 
 /// Expressions of one scope that stand apart, with at most 199,999 nodes, of which at most 299 on a path.
 fn each_apart<'a>(

@@ -18,12 +18,11 @@ use crate::arena::position;
 use crate::entries::Entries;
 use crate::failure::Failure;
 use crate::nodes::{Form, Many};
-use crate::parts::push;
 use crate::primes::Primes;
 use crate::uses::{Head, Step, next_step};
 use indexmap::IndexSet;
 use std::alloc::Global;
-use tla_tree::Expr;
+use tla_tree::{Expr, push};
 
 /// What is left to do.
 #[derive(Clone, Copy)]

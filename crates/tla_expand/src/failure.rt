@@ -1,5 +1,7 @@
 //! Why an expression has no expansion.
+ghost use Rattle.std.specs.Prelude.{◌≡◌};
 
+use std::alloc::AllocError;
 use tla_core::Place;
 
 /// Why an expression has no expansion within the limits.
@@ -11,4 +13,14 @@ pub enum Failure {
     /// None with so few nodes, or so few of them on a path; or a number in it is above 64 bits.
     TooLarge,
     Memory,
+}
+
+impl From<AllocError> for Failure {
+    ghost use Rattle.tla_expand.specs.declared.failure.Failure.TheVariants.{Memory};
+
+    ghost from_gives = { λ _ f. f ≡ Memory };
+
+    fn from(_error: AllocError) -> Failure {
+        Failure::Memory
+    }
 }

@@ -29,17 +29,6 @@ pub(crate) fn box_beside<T: Drop, U: Drop>(
     Ok((item, beside))
 }
 
-/// Adds an item behind the others.
-pub(crate) fn push<T: Drop>(items: &mut Vec<T>, item: T) -> Result<(), Failure>
-    ensures ok { OnOk result (items.new.items ≡ items.old.items ++ item ∷ []) }
-    ensures err { IfErr result (λ e. e ≡ Failure.Memory) }
-{
-    match items.push(item) {
-        Ok(()) => Ok(()),
-        Err(_) => Err(Failure::Memory),
-    }
-}
-
 pub(crate) fn list_of_two<T: Drop>(alloc: Global, first: T, second: T) -> Result<Vec<T>, Failure>
     ensures ok { IfOk result (λ v. v.items ≡ first ∷ second ∷ []) }
     ensures err { IfErr result (λ e. e ≡ Failure.Memory) }

@@ -1,4 +1,4 @@
--- What a tree feeds a hasher: its kind, and then what it holds. A set and a function feed one word, the hash of their parts.
+-- What a tree feeds a hasher: its kind, unless it is a number, and then what it holds. A set and a function feed one word, the hash of their parts.
 use Rattle.std.specs.Prelude.{ℕ, ◌++◌, [], fold}
 use Rattle.std.specs.Hash as fed
 use Rattle.std.specs.Hash.{HashWrites}
@@ -12,7 +12,7 @@ word_of ws = folding.finish (fold folding.write folding.initial ws)
 abbrev mutual
   pub tree_writes : Tree → HashWrites
   tree_writes (truth b) = fed.u8 0 ++ fed.bool b
-  tree_writes (int z) = fed.u8 1 ++ fed.i64 z
+  tree_writes (int z) = fed.i64 z
   tree_writes (text s) = fed.u8 2 ++ fed.str s
   tree_writes (model s) = fed.u8 3 ++ fed.str s
   tree_writes (set ts) = fed.u8 4 ++ fed.u64 (word_of (trees_writes ts))

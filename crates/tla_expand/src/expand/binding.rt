@@ -23,10 +23,10 @@ use crate::expand::{Setting, expand};
 use crate::expanded::{Expanded, Many};
 use crate::failure::Failure;
 use crate::nodes::{Binding, Gather};
-use crate::parts::{boxed, push};
+use crate::parts::boxed;
 use std::alloc::Global;
 use tla_core::{Opening, Place};
-use tla_tree::{Binder, Expr, Pattern, Written};
+use tla_tree::{Binder, Expr, Pattern, Written, push};
 
 /// A form of a body under names: its node, the scope of the names' sets, and the body.
 #[derive(Clone, Copy)]
@@ -386,7 +386,7 @@ fn push_opening(openings: &mut Vec<Opening>, names: Names<'_>, bound: usize) -> 
                 name: bound,
                 items: names.len(),
             };
-            push(openings, opening)
+            Ok(push(openings, opening)?)
         }
     }
 }

@@ -13,10 +13,9 @@ use crate::entries::Entries;
 use crate::expand::{Setting, expand, two_parts};
 use crate::expanded::{Arms, Expanded, Fields, Many};
 use crate::failure::Failure;
-use crate::parts::push;
 use std::alloc::Global;
 use tla_core::{Core, Place};
-use tla_tree::{Arm, Expr, Field};
+use tla_tree::{Arm, Expr, Field, push};
 use tla_value::Text;
 
 /// Expressions of one scope.

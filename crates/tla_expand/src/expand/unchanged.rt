@@ -16,12 +16,12 @@ use crate::expand::{Setting, expand, two_parts};
 use crate::expanded::{Expanded, Many as Parts};
 use crate::failure::Failure;
 use crate::nodes::{Form, Many, Two};
-use crate::parts::{boxed, push};
+use crate::parts::boxed;
 use crate::primes::{Primes, one_more};
 use crate::uses::find_head;
 use std::alloc::Global;
 use tla_core::{Binary, Place};
-use tla_tree::Expr;
+use tla_tree::{Expr, push};
 
 /// How UNCHANGED is read under so many primes.
 pub(super) fn settled(primes: Primes) -> Primes

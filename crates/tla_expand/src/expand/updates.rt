@@ -18,10 +18,10 @@ use crate::expand::{Setting, expand, leaf_of};
 use crate::expanded::{Change, Changes, Expanded, Many};
 use crate::failure::Failure;
 use crate::nodes::Leaf;
-use crate::parts::{boxed, push};
+use crate::parts::boxed;
 use std::alloc::Global;
 use tla_core::{Core, Place};
-use tla_tree::{Expr, Key, Update, Written};
+use tla_tree::{Expr, Key, Update, Written, push};
 
 /// EXCEPT.
 #[cycle(expand)]

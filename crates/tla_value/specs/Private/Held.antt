@@ -1,4 +1,4 @@
--- What a set or a function holds: nothing where it is empty, else shared members or pairs.
+-- What a set or a function holds: nothing where it is empty, else shared members, or arguments and values.
 use Rattle.std.specs.Prelude.{◌≡◌, ℕ, pos, ◌+ℤ◌, ◌≤ℤ◌, ◌<◌, List, [], length, map, zip, Option, None, Some}
 use Rattle.std.specs.Arc.{arc_value}
 use Rattle.std.specs.declared.sync.Arc.{Arc}

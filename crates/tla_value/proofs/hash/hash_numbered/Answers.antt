@@ -26,7 +26,7 @@ loop-i-preserved c =
     let next : to_z w64 (of_z w64 (z +ℤ to_z w64 i)) ≡ z +ℤ pos i = omega (arith, ints) in
     let is = at-zip ks vs i k v (omega (arith, length-numbers n z, c.loop-i-test.true)) c.loop-i-test.true (sym (get_or-numbers n z i k c.loop-i-test.true)) c.index-values-i.is in
     let more = fed_more (zip ks vs) i k v (omega (arith, length-zip ks vs (length-numbers n z), c.loop-i-test.true)) is c.loop-i.hasher in
-    let fed : c.hash.new.state ≡ fold folding.write c.loop-i.hasher (tree_writes (tree_of k)) = c.hash.ensures ∙ (λ j. folding.write (c.write_u8.ensures j) (le_bytes 8 (of_z w64 (next j)))) in
+    let fed : c.hash.new.state ≡ fold folding.write c.loop-i.hasher (tree_writes (tree_of k)) = c.hash.ensures ∙ (λ j. folding.write c.loop-i.hasher (le_bytes 8 (of_z w64 (next j)))) in
     rw add-one
     (ap (λ s. fold folding.write s (pairs_writes (pairs (map pair_of (drop (suc i) (zip ks vs)))))) (c.hash-in-loop-i.ensures ∙ ap (λ s. fold folding.write s (tree_writes (tree_of v))) fed)
     ∙ sym more ∙ c.loop-i.invariant)
