@@ -1,20 +1,23 @@
 -- Ranges: what stands at a place, who is a member, and where their set can be made.
-use Rattle.std.proofs.Common.{◌≡◌, ℕ, zero, suc, ◌<◌, ◌≤◌, ℤ, pos, ◌+ℤ◌, ◌-ℤ◌, ◌<ℤ◌, ◌≤ℤ◌, unsigned_abs, Bool, true, false, ◌||◌, List, length, Some, None, Ok, ◌⊎◌, ⊎_elim, FitsSigned, refl, sym, ap, ◌∙◌, arith, Ordering, Equal, Greater}
+use Rattle.std.proofs.Common.{◌≡◌, ℕ, zero, suc, ◌<◌, ◌≤◌, ℤ, pos, ◌+ℤ◌, ◌-ℤ◌, ◌<ℤ◌, ◌≤ℤ◌, unsigned_abs, Bool, true, false, ◌||◌, List, length, Some, None, Ok, ◌⊎◌, ⊎_elim, FitsSigned, refl, sym, ap, ◌∙◌, arith, Ordering, Equal, Greater, int_le, cond, [], Err}
 use Rattle.std.specs.Prelude.{slice_get}
 use Rattle.std.specs.Int.{w64}
+use Rattle.std.specs.List.Sorted.{IsStrictlySortedBy}
 use Rattle.std.specs.Ordering.{int_cmp, is_eq}
 use Rattle.std.proofs.lemmas.Int.{ints}
 use Rattle.tla_value.specs.Tree.{Tree, truth, int, text, model, set, fun, trees, pairs, deepest}
 use Rattle.tla_value.specs.TreeOf.{tree_of}
-use Rattle.tla_value.specs.Order.{tree_eq}
+use Rattle.tla_value.specs.IsValue.{IsSetList}
+use Rattle.tla_value.specs.Order.{tree_cmp, tree_eq}
 use Rattle.tla_value.specs.Sets.{is_member}
 use Rattle.tla_value.specs.Choices.{counted_up, range_of}
 use Rattle.tla_value.specs.declared.value.Value.{Value}
-use Rattle.tla_value.proofs.Ranges.{length-counted_up, range_is, range_none, get-counted_up, member-below, member-above}
+use Rattle.tla_value.proofs.Ranges.{length-counted_up, range_is, range_none, get-counted_up, member-below, member-above, rising-counted_up}
 use Rattle.tla_value.proofs.Tuples.{deepest-counted_up}
 use Rattle.tla_core.specs.declared.fault.Place.{Place}
+use Rattle.tla_core.specs.declared.fault.Fault.{Fault}
 use Rattle.tla_core.specs.declared.fault.FaultCode.TheVariants.{TooMany}
-use Rattle.tla_core.specs.Fault.{fault}
+use Rattle.tla_core.specs.Fault.{Outcome, fault}
 use Rattle.tla_core.specs.Kinds.{rising_set}
 use Rattle.tla_operators.proofs.Made.{within_ok, within_many}
 
@@ -113,3 +116,22 @@ set_counted p n z few = within_ok p (length (counted_up n z)) (deepest (trees (c
 
 pub set_fits : (p : Place) (a b : ℤ) → a ≤ℤ b → unsigned_abs (b -ℤ a) < 1000000 → rising_set p (range_of a b) ≡ Ok (set (trees (range_of a b)))
 set_fits p a b h few = ap (rising_set p) (range_is a b h) ∙ set_counted p (suc (unsigned_abs (b -ℤ a))) a (omega arith) ∙ ap (λ ts. Ok (set (trees ts))) (sym (range_is a b h))
+
+-- ---- a range that is made, as the members of a set
+fault_or_set : (f : Fault) (t : Tree) → (let r : Outcome Tree = Err f in r ≡ Ok t) → ⊥
+fault_or_set f t h = cc
+
+few_or_many : (n : ℕ) → (1000000 < n) ⊎ (n ≤ 1000000)
+few_or_many n = grind arith
+
+pub range_list : (p : Place) (a b : ℤ) (t : Tree) → rising_set p (range_of a b) ≡ Ok t → IsSetList (range_of a b)
+unfolding IsStrictlySortedBy
+range_list p a b t h =
+    let ts = range_of a b in
+    let n = suc (unsigned_abs (b -ℤ a)) in
+    let flat_one : deepest (trees (counted_up n a)) < 64 = omega (arith, deepest-counted_up n a) in
+    record {
+      rising = elim (int_le a b) as (λ c. IsStrictlySortedBy tree_cmp (cond c (counted_up n a) [])) [ true ↦ rising-counted_up n a | false ↦ tt ];
+      few = ⊎_elim (λ (m : 1000000 < length ts). absurd (fault_or_set _ t (sym (within_many p (length ts) (deepest (trees ts)) (set (trees ts)) m) ∙ h))) (λ m. m) (few_or_many (length ts));
+      shallow = elim (int_le a b) as (λ c. deepest (trees (cond c (counted_up n a) [])) < 64) [ true ↦ flat_one | false ↦ omega arith ];
+    }
