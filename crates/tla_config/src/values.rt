@@ -83,7 +83,10 @@ fn bytes_of(alloc: Global, literal: &[u8]) -> Result<Vec<u8>, Refusal>
     let [_, ..] = literal else {
         return Ok(Vec::new(alloc));
     };
-    Ok(string_text(alloc, literal)?)
+    match string_text(alloc, literal) {
+        Ok(bytes) => Ok(bytes),
+        Err(_) => Err(Refusal::NoMemory),
+    }
 }
 
 /// The text of these bytes, where they are UTF-8, in the item of this number.

@@ -5,5 +5,5 @@ pub mod Seen
 pub mod Parts
 pub mod Table
 pub mod Conjuncts
-pub mod Splits
+pub mod Shapes
 pub mod Specified

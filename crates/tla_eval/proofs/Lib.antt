@@ -11,6 +11,3 @@ pub mod Tested
 pub mod Rows
 pub mod Fitting
 pub mod Asked
-pub mod Names
-pub mod Told
-pub mod Counted

@@ -1,5 +1,5 @@
 -- A test of each element of a set, one by one.
-use Rattle.std.proofs.Common.{◌≡◌, ℕ, suc, ◌+◌, Bool, true, false, cond, List, [], ◌∷◌, ◌++◌, length, drop, Option, Some, None, Ok, Err, arith, refl, sym, ap, ◌∙◌, add-one}
+use Rattle.std.proofs.Common.{◌≡◌, ℕ, suc, ◌+◌, Bool, true, false, cond, List, [], ◌∷◌, ◌++◌, drop, Option, Some, None, Ok, Err, refl, sym, ap, ◌∙◌, add-one}
 use Rattle.std.specs.Prelude.{slice_get}
 use Rattle.std.specs.Option.{option_to_list}
 use Rattle.tla_value.specs.Tree.{Tree, set}
@@ -12,7 +12,7 @@ use Rattle.tla_core.specs.Kinds.{as_set, or_fault, make_set}
 use Rattle.tla_core.specs.Lists.{each, all_hold, some_hold, first_passing, passing}
 use Rattle.tla_core.specs.Meaning.{Meaning, Bound, Present, Next, means-enumerated}
 use Rattle.tla_sets.specs.Elements.{elements_rule, has_rule, stands_rule}
-use Rattle.tla_eval.specs.Private.Parts.{counted, tested, one_of_rule}
+use Rattle.tla_eval.specs.Private.Parts.{tested, one_of_rule}
 use Rattle.tla_operators.proofs.Members.{bind-ok}
 use Rattle.tla_eval.proofs.Collected.{passing_more}
 use Rattle.tla_sets.proofs.Listed.{drop_from, drop_past, none_more}
@@ -150,41 +150,6 @@ module _ (test : Tree → Outcome Bool) (xs : List Tree) (i : ℕ) where
 
   pub kept_end : (old : List Tree) → tested test (slice_get xs i) ≡ Ok None → (passing test (drop i xs) >>= λ ys. Ok (old ++ ys)) ≡ Ok old
   kept_end old h = ap (λ us. passing test us >>= λ ys. Ok (old ++ ys)) (past h) ∙ ap (λ us. Ok us) (none_more old)
-
-  -- how many are TRUE, beside those that were counted
-  counted_turn : (v : Tree) (vs : List Tree) → counted (passing test (v ∷ vs)) ≡ (test v >>= λ b. counted (passing test vs) >>= λ k. Ok (cond b (k + 1) k))
-  counted_turn v vs = go (test v) (passing test vs)
-    where
-      more : (c : Bool) (r : Outcome (List Tree)) → counted (r >>= λ ys. Ok (cond c (v ∷ ys) ys)) ≡ (counted r >>= λ k. Ok (cond c (k + 1) k))
-      more true (Ok ys) = let e : suc (length ys) ≡ length ys + 1 = omega arith in ap (λ (k : ℕ). Ok k) e
-      more false (Ok ys) = refl
-      more c (Err g) = refl
-
-      go : (o : Outcome Bool) (r : Outcome (List Tree)) → counted (o >>= λ b. r >>= λ ys. Ok (cond b (v ∷ ys) ys)) ≡ (o >>= λ b. counted r >>= λ k. Ok (cond b (k + 1) k))
-      go (Ok b) r = more b r
-      go (Err g) r = refl
-
-  pub count_more : (old new : ℕ) (b : Bool) → tested test (slice_get xs i) ≡ Ok (Some b) → new ≡ cond b (old + 1) old
-      → (counted (passing test (drop i xs)) >>= λ k. Ok (old + k)) ≡ (counted (passing test (drop (i + 1) xs)) >>= λ k. Ok (new + k))
-  count_more old new b h e =
-      let r = there test (slice_get xs i) b h in
-      ap (λ (o : Outcome ℕ). o >>= λ k. Ok (old + k)) (over_tested test (λ us. counted (passing test us)) (λ v b o. o >>= λ k. Ok (cond b (k + 1) k)) counted_turn xs i r.0 b r.1 r.2)
-      ∙ go b e (counted (passing test (drop (i + 1) xs)))
-    where
-      go : (c : Bool) → new ≡ cond c (old + 1) old → (o : Outcome ℕ) → ((o >>= λ k. Ok (cond c (k + 1) k)) >>= λ k. Ok (old + k)) ≡ (o >>= λ k. Ok (new + k))
-      go true f (Ok k) = let is : new ≡ old + 1 = f in let n : old + (k + 1) ≡ new + k = omega arith in ap (λ (m : ℕ). Ok m) n
-      go false f (Ok k) = let is : new ≡ old = f in let n : old + k ≡ new + k = omega arith in ap (λ (m : ℕ). Ok m) n
-      go c f (Err g) = refl
-
-  pub count_first : (old : ℕ) → (counted (passing test (drop i xs)) >>= λ k. Ok (old + k)) ≡ (tested test (slice_get xs i) >>= λ o. counted (passing test (drop i xs)) >>= λ k. Ok (old + k))
-  count_first old = ap (λ (o : Outcome ℕ). o >>= λ k. Ok (old + k)) (over_first test (λ us. counted (passing test us)) (λ v b o. o >>= λ k. Ok (cond b (k + 1) k)) counted_turn xs i) ∙ go (tested test (slice_get xs i))
-    where
-      go : (o : Outcome (Option Bool)) → ((o >>= λ x. counted (passing test (drop i xs))) >>= λ k. Ok (old + k)) ≡ (o >>= λ x. counted (passing test (drop i xs)) >>= λ k. Ok (old + k))
-      go (Ok x) = refl
-      go (Err g) = refl
-
-  pub count_end : (old : ℕ) → tested test (slice_get xs i) ≡ Ok None → (counted (passing test (drop i xs)) >>= λ k. Ok (old + k)) ≡ Ok old
-  count_end old h = ap (λ us. counted (passing test us) >>= λ k. Ok (old + k)) (past h) ∙ (let n : old + 0 ≡ old = omega arith in ap (λ (k : ℕ). Ok k) n)
 
 -- ---- whether a value is one of those of some parts
 pub one_of_is : (p : Place) (ms : List Meaning) (v : Tree) (b : Bound) (s : Present) (t : Next) → (means-enumerated p ms).has v b s t ≡ one_of_rule p ms v b s t

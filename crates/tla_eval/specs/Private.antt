@@ -1,6 +1,4 @@
 -- What serves the code: no public contract cites these.
 pub mod Chosen
 pub mod Environment
-pub mod Frames
 pub mod Parts
-pub mod Told

@@ -1,17 +1,16 @@
 //! What an expression is evaluated in.
-ghost use Rattle.std.specs.Prelude.{◌≡◌, ◌+◌, length, map, IfOk, IfErr, false, get_or, option_map, slice_get};
+ghost use Rattle.std.specs.Prelude.{◌≡◌, ◌≤◌, length, IfOk, IfErr, Ok, Some, false, get_or, option_map, slice_get};
 ghost use Rattle.tla_value.specs.Tree.{truth};
 ghost use Rattle.tla_value.specs.TreeOf.{tree_of};
-ghost use Rattle.tla_core.specs.Fault.{out_of_memory};
 ghost use Rattle.tla_core.specs.Meaning.{if_set, variable_of};
-ghost use Rattle.tla_eval.specs.Private.Frames.{bound_of};
+ghost use Rattle.tla_eval.specs.Private.Environment.{bound_of};
 ghost use Rattle.tla_operators.specs.Evaluated.{tree_of_evaluated, Evaluates};
 
 use crate::partial::Partial;
 use std::alloc::Global;
 use tla_core::{FaultCode, Place};
 use tla_operators::evaluated::Evaluated;
-use tla_operators::trouble::{Trouble, fault_at, memory};
+use tla_operators::trouble::{Trouble, fault_at};
 use tla_value::{State, Value};
 
 /// The values of the bound names: those of the caller, and then those of each form that binds, one or several at once.
@@ -22,68 +21,51 @@ pub(crate) enum Frame<'a> {
     Many(&'a Frame<'a>, &'a [Value]),
 }
 
-/// The values of the bound names, how many they are, and those of the variables.
+/// The values of the bound names and of the variables.
 #[derive(Clone, Copy)]
 pub(crate) struct Environment<'a> {
     pub(crate) frame: &'a Frame<'a>,
-    pub(crate) count: usize,
     pub(crate) now: Option<&'a State>,
     pub(crate) next: &'a Partial,
-    pub(crate) ghost counted: { count ≡ length (bound_of frame.now) },
 }
 
-/// The value at a place of some values; FALSE where there is none.
-fn value_at<'a>(values: &'a [Value], place: usize) -> Evaluated<'a>
-    ensures { tree_of_evaluated result ≡ get_or (map tree_of values.now) place (truth false) }
+/// The value of a bound name, or how many names are bound. As many calls as forms that bind stand around it.
+fn bound_name<'a>(frame: &'a Frame<'a>, index: usize) -> Result<&'a Value, usize>
+    ensures found { IfOk result (λ v. slice_get (bound_of frame.entry.now) index ≡ Some (tree_of v.now)) }
+    ensures absent { IfErr result (λ n. (n ≡ length (bound_of frame.entry.now)) × (n ≤ index)) }
 {
-    match values.get(place) {
-        Some(value) => Evaluated::Borrowed(value),
-        None => Evaluated::Owned(Value::Truth(false)),
+    match frame {
+        Frame::Outer(values) => match values.get(index) {
+            Some(value) => Ok(value),
+            None => Err(values.len()),
+        },
+        Frame::One(outer, value) => match bound_name(outer, index) {
+            Ok(value) => Ok(value),
+            Err(count) => {
+                if count == index {
+                    Ok(value)
+                } else {
+                    Err(count + 1)
+                }
+            }
+        },
+        Frame::Many(outer, values) => match bound_name(outer, index) {
+            Ok(value) => Ok(value),
+            Err(count) => match values.get(index - count) {
+                Some(value) => Ok(value),
+                None => Err(count + values.len()),
+            },
+        },
     }
 }
 
-/// The value of a bound name, where `count` names are bound; FALSE for one that isn't there. The innermost are looked at first.
-#[tactic(auto, using(crate::proofs::Names::in_first, crate::proofs::Names::in_second))]
-pub(crate) fn bound_value<'a>(frame: &'a Frame<'a>, count: usize, index: usize) -> Evaluated<'a>
-    requires { count ≡ length (bound_of frame.now) }
+/// The value of a bound name; FALSE for one that isn't there.
+pub(crate) fn bound_value<'a>(frame: &'a Frame<'a>, index: usize) -> Evaluated<'a>
     ensures { tree_of_evaluated result ≡ get_or (bound_of frame.entry.now) index (truth false) }
 {
-    let mut frame = frame;
-    let mut count = count;
-    loop {
-        match frame {
-            Frame::Outer(values) => return value_at(values, index),
-            Frame::One(outer, value) => {
-                let start = count - 1;
-                if index > start {
-                    return Evaluated::Owned(Value::Truth(false));
-                }
-                if index == start {
-                    return Evaluated::Borrowed(value);
-                }
-                frame = outer;
-                count = start;
-            }
-            Frame::Many(outer, values) => {
-                let start = count - values.len();
-                if index >= start {
-                    return value_at(values, index - start);
-                }
-                frame = outer;
-                count = start;
-            }
-        }
-    }
-}
-
-/// How many names are bound within a form that binds so many more.
-pub(crate) fn count_within<'p>(count: usize, more: usize) -> Result<usize, Trouble<'p>>
-    ensures ok { IfOk result (λ n. n ≡ count + more) }
-    ensures err { IfErr result (λ f. f ≡ out_of_memory) }
-{
-    match count.checked_add(more) {
-        Some(count) => Ok(count),
-        None => Err(memory()),
+    match bound_name(frame, index) {
+        Ok(value) => Evaluated::Borrowed(value),
+        Err(_) => Evaluated::Owned(Value::Truth(false)),
     }
 }
 

@@ -1,9 +1,9 @@
 //! Elements that stand for their items.
-ghost use Rattle.std.specs.Prelude.{◌≡◌, length, map};
+ghost use Rattle.std.specs.Prelude.{map};
 ghost use Rattle.tla_value.specs.TreeOf.{tree_of};
 ghost use Rattle.tla_core.specs.Lists.{each};
 ghost use Rattle.tla_core.specs.Patterns.{fitting, opened_items, tried_set};
-ghost use Rattle.tla_eval.specs.Private.Frames.{bound_of};
+ghost use Rattle.tla_eval.specs.Private.Environment.{bound_of};
 ghost use Rattle.tla_operators.specs.Gives.{GivesBy};
 ghost use Rattle.tla_eval.specs.Private.Parts.{nothing_of};
 
@@ -34,20 +34,18 @@ fn fitting<'p, 'a>(
     }
 }
 
-/// Copies of the items of the elements that bound names have, one after the other, where `count` names are bound.
+/// Copies of the items of the elements that bound names have, one after the other.
 pub(crate) fn open_items<'p, 'a>(
     alloc: Global,
     place: &'p Place,
     openings: &[Opening],
     frame: &'a Frame<'a>,
-    count: usize,
 ) -> Result<Vec<Value>, Trouble<'p>>
-    requires { count ≡ length (bound_of frame.now) }
     ensures { GivesBy (λ v. map tree_of v.items) result (opened_items place.now openings.now (bound_of frame.entry.now)) }
 {
     let mut items = Vec::new(alloc);
     for opening in openings {
-        let element = bound_value(frame, count, opening.name);
+        let element = bound_value(frame, opening.name);
         let values = fitting(place, opening.items, element.value())?;
         add_items(alloc, &mut items, values)?;
     }
@@ -65,7 +63,7 @@ pub fn opened(
     ensures { GivesBy (λ v. map tree_of v.items) result (opened_items place openings.now (map tree_of bound.now)) }
 {
     let frame = Frame::Outer(&*bound);
-    Ok(open_items(alloc, &place, openings, &frame, bound.len())?)
+    Ok(open_items(alloc, &place, openings, &frame)?)
 }
 
 /// Tries each of these elements.

@@ -83,8 +83,10 @@ impl<'s, 'a> Entries<'s, 'a> {
     {
         let hash = name_hash(entry.name);
         let jumps = jumps_from(self, hash, entry.rest);
-        self.made.push(Node { entry, hash, jumps })?;
-        Ok(())
+        match self.made.push(Node { entry, hash, jumps }) {
+            Ok(()) => Ok(()),
+            Err(_) => Err(Failure::Memory),
+        }
     }
 
     /// Gives back the entries behind so many.

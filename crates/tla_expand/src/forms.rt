@@ -10,28 +10,27 @@ ghost use Rattle.tla_expand.specs.Scopes.{arguments_in};
 
 use crate::builders::place_of;
 use crate::nodes::{
-    BinaryNode, Binders, Binding, Builtin, Fielded, Form, Gather, Headed, Leaf, ListNode, OwnForm,
-    TernaryNode, UnaryNode,
+    Binders, Binding, Builtin, Fielded, Form, Gather, Headed, Leaf, Many, One, Shape, Three, Two,
 };
 use crate::operators::{infix_for, prefix_for};
 use tla_core::Place;
 use tla_tree::{Brackets, Bullet, Expr, Prefix, Quantifier};
 
-fn of_brackets(brackets: Brackets) -> ListNode
+fn of_brackets(brackets: Brackets) -> Many
     ensures { result ≡ spec.of_brackets brackets }
 {
     match brackets {
-        Brackets::Set => ListNode::Set,
-        Brackets::Tuple => ListNode::Tuple,
+        Brackets::Set => Many::Set,
+        Brackets::Tuple => Many::Tuple,
     }
 }
 
-fn of_bullet(bullet: Bullet) -> ListNode
+fn of_bullet(bullet: Bullet) -> Many
     ensures { result ≡ spec.of_bullet bullet }
 {
     match bullet {
-        Bullet::And => ListNode::And,
-        Bullet::Or => ListNode::Or,
+        Bullet::And => Many::And,
+        Bullet::Or => Many::Or,
     }
 }
 
@@ -45,120 +44,120 @@ fn of_quantifier(quantifier: Quantifier) -> Binding
 }
 
 /// The form of an expression that isn't one of the forms that bind names.
-fn plain_form<'a>(tree: &'a Expr) -> OwnForm<'a>
+fn plain_form<'a>(tree: &'a Expr) -> Shape<'a>
     ensures { GivesForm result (view tree.now) }
 {
     match tree {
-        Expr::Number(at, number) => OwnForm::Form(Form::Leaf(place_of(*at), Leaf::Number(*number))),
-        Expr::Text(at, word) => OwnForm::Form(Form::Leaf(place_of(*at), Leaf::Text(word))),
-        Expr::Constant(at, word) => OwnForm::Form(Form::Leaf(place_of(*at), Leaf::Word(*word))),
+        Expr::Number(at, number) => Shape::Form(Form::Leaf(place_of(*at), Leaf::Number(*number))),
+        Expr::Text(at, word) => Shape::Form(Form::Leaf(place_of(*at), Leaf::Text(word))),
+        Expr::Constant(at, word) => Shape::Form(Form::Leaf(place_of(*at), Leaf::Word(*word))),
         Expr::Listing(at, brackets, items) => {
             let node = of_brackets(*brackets);
-            OwnForm::Form(Form::Many(place_of(*at), node, items.as_slice()))
+            Shape::Form(Form::Many(place_of(*at), node, items.as_slice()))
         }
         Expr::Junction(at, bullet, items) => {
             let node = of_bullet(*bullet);
-            OwnForm::Form(Form::Many(place_of(*at), node, items.as_slice()))
+            Shape::Form(Form::Many(place_of(*at), node, items.as_slice()))
         }
         Expr::Field(at, record, name) => {
-            OwnForm::Form(Form::One(place_of(*at), UnaryNode::Field(&name.word), record))
+            Shape::Form(Form::One(place_of(*at), One::Field(&name.word), record))
         }
         Expr::Binary(at, operator, _, first, second) => match infix_for(*operator) {
-            Some(node) => OwnForm::Form(Form::Two(place_of(*at), node, first, second)),
-            None => OwnForm::Nothing(place_of(*at)),
+            Some(node) => Shape::Form(Form::Two(place_of(*at), node, first, second)),
+            None => Shape::Nothing(place_of(*at)),
         },
         Expr::If(at, condition, yes, no) => {
-            OwnForm::Form(Form::Three(place_of(*at), TernaryNode::If, condition, yes, no))
+            Shape::Form(Form::Three(place_of(*at), Three::If, condition, yes, no))
         }
-        _ => OwnForm::Goes,
+        _ => Shape::Goes,
     }
 }
 
 /// What a prefix operator makes of its operand.
-fn prefix_form<'a>(at: Place, operator: Prefix, operand: &'a Expr) -> OwnForm<'a>
+fn prefix_form<'a>(at: Place, operator: Prefix, operand: &'a Expr) -> Shape<'a>
     ensures { GivesPrefix result at operator (view operand.now) }
 {
     if let Prefix::Unchanged = operator {
-        return OwnForm::Form(Form::Unchanged(at, operand));
+        return Shape::Form(Form::Unchanged(at, operand));
     }
     match prefix_for(operator) {
-        Some(node) => OwnForm::Form(Form::One(at, node, operand)),
-        None => OwnForm::Nothing(at),
+        Some(node) => Shape::Form(Form::One(at, node, operand)),
+        None => Shape::Nothing(at),
     }
 }
 
 /// The form of an expression that binds names, has arguments or a prefix operator.
-fn other_form<'a>(tree: &'a Expr) -> OwnForm<'a>
+fn other_form<'a>(tree: &'a Expr) -> Shape<'a>
     ensures { GivesForm result (view tree.now) }
 {
     match tree {
         Expr::Unary(at, operator, operand) => prefix_form(place_of(*at), *operator, operand),
         Expr::Index(at, function, arguments) => {
             let arguments = arguments.as_slice();
-            OwnForm::Form(Form::Headed(place_of(*at), Headed::Index, function, arguments))
+            Shape::Form(Form::Headed(place_of(*at), Headed::Index, function, arguments))
         }
         Expr::Quantified(at, quantifier, groups, body) => {
             let node = Binders::Nested(of_quantifier(*quantifier));
-            OwnForm::Form(Form::Binders(place_of(*at), node, groups.as_slice(), body))
+            Shape::Form(Form::Binders(place_of(*at), node, groups.as_slice(), body))
         }
         Expr::Choose(at, pattern, set, body) => {
-            OwnForm::Form(Form::Binds(place_of(*at), Binding::Choose, pattern, set, body))
+            Shape::Form(Form::Binds(place_of(*at), Binding::Choose, pattern, set, body))
         }
         Expr::Filter(at, pattern, set, body) => {
-            OwnForm::Form(Form::Binds(place_of(*at), Binding::Filter, pattern, set, body))
+            Shape::Form(Form::Binds(place_of(*at), Binding::Filter, pattern, set, body))
         }
         Expr::Image(at, body, groups) => {
             let node = Binders::Gathered(Gather::Image);
-            OwnForm::Form(Form::Binders(place_of(*at), node, groups.as_slice(), body))
+            Shape::Form(Form::Binders(place_of(*at), node, groups.as_slice(), body))
         }
         Expr::Function(at, groups, body) => {
             let node = Binders::Gathered(Gather::Function);
-            OwnForm::Form(Form::Binders(place_of(*at), node, groups.as_slice(), body))
+            Shape::Form(Form::Binders(place_of(*at), node, groups.as_slice(), body))
         }
         Expr::Case(at, arms, other) => match other {
-            None => OwnForm::Form(Form::Cases(place_of(*at), arms.as_slice(), None)),
-            Some(last) => OwnForm::Form(Form::Cases(place_of(*at), arms.as_slice(), Some(last))),
+            None => Shape::Form(Form::Cases(place_of(*at), arms.as_slice(), None)),
+            Some(last) => Shape::Form(Form::Cases(place_of(*at), arms.as_slice(), Some(last))),
         },
-        _ => OwnForm::Goes,
+        _ => Shape::Goes,
     }
 }
 
 /// The form of a set of functions, a record, a set of records, a product, an EXCEPT, or an action with a subscript.
-fn made_form<'a>(tree: &'a Expr) -> OwnForm<'a>
+fn made_form<'a>(tree: &'a Expr) -> Shape<'a>
     ensures { GivesForm result (view tree.now) }
 {
     match tree {
         Expr::FunctionSet(at, domain, range) => {
-            OwnForm::Form(Form::Two(place_of(*at), BinaryNode::Functions, domain, range))
+            Shape::Form(Form::Two(place_of(*at), Two::Functions, domain, range))
         }
         Expr::Record(at, fields) => {
-            OwnForm::Form(Form::Fields(place_of(*at), Fielded::Record, fields.as_slice()))
+            Shape::Form(Form::Fields(place_of(*at), Fielded::Record, fields.as_slice()))
         }
         Expr::RecordSet(at, fields) => {
-            OwnForm::Form(Form::Fields(place_of(*at), Fielded::Records, fields.as_slice()))
+            Shape::Form(Form::Fields(place_of(*at), Fielded::Records, fields.as_slice()))
         }
         Expr::Product(at, first, others) => {
-            OwnForm::Form(Form::Headed(place_of(*at), Headed::Product, first, others.as_slice()))
+            Shape::Form(Form::Headed(place_of(*at), Headed::Product, first, others.as_slice()))
         }
         Expr::Except(at, function, updates) => {
-            OwnForm::Form(Form::Except(place_of(*at), function, updates.as_slice()))
+            Shape::Form(Form::Except(place_of(*at), function, updates.as_slice()))
         }
         Expr::Action(at, step, action, v) => {
             let place_v = place_of(v.place());
-            OwnForm::Form(Form::Action(place_of(*at), *step, action, place_v, v))
+            Shape::Form(Form::Action(place_of(*at), *step, action, place_v, v))
         }
-        Expr::Fair(at, _, _, _) => OwnForm::Nothing(place_of(*at)),
-        _ => OwnForm::Goes,
+        Expr::Fair(at, _, _, _) => Shape::Nothing(place_of(*at)),
+        _ => Shape::Goes,
     }
 }
 
 /// The form of an expression.
-pub(crate) fn form_of<'a>(tree: &'a Expr) -> OwnForm<'a>
+pub(crate) fn form_of<'a>(tree: &'a Expr) -> Shape<'a>
     ensures { GivesForm result (view tree.now) }
 {
     match plain_form(tree) {
-        OwnForm::Goes => match other_form(tree) {
-            OwnForm::Goes => made_form(tree),
+        Shape::Goes => match other_form(tree) {
+            Shape::Goes => made_form(tree),
             found => found,
         },
         found => found,
@@ -180,11 +179,11 @@ pub(crate) fn builtin_form<'a>(
             _ => None,
         },
         Builtin::Sequences => match arguments {
-            [first] => Some(Form::One(place, UnaryNode::Sequences, first)),
+            [first] => Some(Form::One(place, One::Sequences, first)),
             _ => None,
         },
         Builtin::One(operator) => match arguments {
-            [first] => Some(Form::One(place, UnaryNode::Unary(operator), first)),
+            [first] => Some(Form::One(place, One::Unary(operator), first)),
             _ => None,
         },
         Builtin::Two(node) => match arguments {

@@ -18,7 +18,7 @@ pub(crate) enum Leaf<'a> {
 
 /// A node of one part.
 #[derive(Clone, Copy)]
-pub(crate) enum UnaryNode<'a> {
+pub(crate) enum One<'a> {
     Unary(Unary),
     /// `SUBSET S`
     Power,
@@ -30,7 +30,7 @@ pub(crate) enum UnaryNode<'a> {
 
 /// A node of two parts.
 #[derive(Clone, Copy)]
-pub(crate) enum BinaryNode {
+pub(crate) enum Two {
     Binary(Binary),
     /// `f[e]`
     Apply,
@@ -51,14 +51,14 @@ pub(crate) enum BinaryNode {
 
 /// A node of three parts.
 #[derive(Clone, Copy)]
-pub(crate) enum TernaryNode {
+pub(crate) enum Three {
     If,
     SubSeq,
 }
 
 /// A node of a list of parts.
 #[derive(Clone, Copy)]
-pub(crate) enum ListNode {
+pub(crate) enum Many {
     Set,
     Tuple,
     And,
@@ -119,8 +119,8 @@ pub(crate) enum Builtin {
     Kinds(Kind),
     Sequences,
     One(Unary),
-    Two(BinaryNode),
-    Three(TernaryNode),
+    Two(Two),
+    Three(Three),
 }
 
 /// A form with its parts, at a place.
@@ -129,10 +129,10 @@ pub(crate) enum Form<'a> {
     Leaf(Place, Leaf<'a>),
     /// A variable.
     Variable(Place, usize),
-    One(Place, UnaryNode<'a>, &'a Expr),
-    Two(Place, BinaryNode, &'a Expr, &'a Expr),
-    Three(Place, TernaryNode, &'a Expr, &'a Expr, &'a Expr),
-    Many(Place, ListNode, &'a [Expr]),
+    One(Place, One<'a>, &'a Expr),
+    Two(Place, Two, &'a Expr, &'a Expr),
+    Three(Place, Three, &'a Expr, &'a Expr, &'a Expr),
+    Many(Place, Many, &'a [Expr]),
     /// A first part, and others.
     Headed(Place, Headed, &'a Expr, &'a [Expr]),
     /// CASE, with the value of OTHER.
@@ -172,7 +172,7 @@ impl<'a> Form<'a> {
 
 /// What an expression is: a form with its parts, one that has no expansion, or one that stands for another expression.
 #[derive(Clone, Copy)]
-pub(crate) enum OwnForm<'a> {
+pub(crate) enum Shape<'a> {
     Form(Form<'a>),
     Nothing(Place),
     Goes,

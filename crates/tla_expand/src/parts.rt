@@ -1,16 +1,18 @@
 //! Boxes and lists of parts, whatever they are: the only error is want of memory.
 
-ghost use Rattle.std.specs.Prelude.{◌≡◌, ◌∷◌, [], IfOk, IfErr};
+ghost use Rattle.std.specs.Prelude.{◌≡◌, ◌++◌, ◌∷◌, [], OnOk, IfOk, IfErr};
 
 use crate::failure::Failure;
 use std::alloc::Global;
-use tla_tree::push;
 
 pub(crate) fn boxed<T: Drop>(alloc: Global, item: T) -> Result<Box<T>, Failure>
     ensures ok { IfOk result (λ b. b.value ≡ item) }
     ensures err { IfErr result (λ e. e ≡ Failure.Memory) }
 {
-    Ok(Box::new(alloc, item)?)
+    match Box::new(alloc, item) {
+        Ok(b) => Ok(b),
+        Err(_) => Err(Failure::Memory),
+    }
 }
 
 /// A box, and what stands beside it.
@@ -32,8 +34,12 @@ pub(crate) fn list_of_two<T: Drop>(alloc: Global, first: T, second: T) -> Result
     ensures err { IfErr result (λ e. e ≡ Failure.Memory) }
 {
     let mut items = Vec::new(alloc);
-    push(&mut items, first)?;
-    push(&mut items, second)?;
+    if items.push(first).is_err() {
+        return Err(Failure::Memory);
+    }
+    if items.push(second).is_err() {
+        return Err(Failure::Memory);
+    }
     Ok(items)
 }
 
@@ -43,6 +49,8 @@ pub(crate) fn with_first<T: Drop>(first: T, others: Vec<T>) -> Result<Vec<T>, Fa
     ensures err { IfErr result (λ e. e ≡ Failure.Memory) }
 {
     let mut items = others;
-    items.insert(0, first)?;
-    Ok(items)
+    match items.insert(0, first) {
+        Ok(()) => Ok(items),
+        Err(_) => Err(Failure::Memory),
+    }
 }

@@ -22,6 +22,7 @@ use tla_config::{DefsCode, DefsError, Source};
 use tla_core::Core;
 use tla_expand::{Failure, Primes, Scopes};
 use tla_lex::Place;
+use tla_names::{no_memory, refusal_at};
 use tla_tree::{Expr, Written};
 
 /// A place of an expression, as a refusal tells it.
@@ -38,11 +39,11 @@ pub fn refusal(failure: Failure, begins: Place) -> DefsError
     ensures memory { failure ≡ Failure.Memory → result.code ≡ Memory }
 {
     match failure {
-        Failure::Memory => DefsError::no_memory(Source::Module),
+        Failure::Memory => no_memory(),
         Failure::NoExpansion(place) => {
-            DefsError::at(DefsCode::Level, Source::Module, place_of(place))
+            refusal_at(DefsCode::Level, Source::Module, place_of(place))
         }
-        Failure::TooLarge => DefsError::at(DefsCode::ExpansionTooLarge, Source::Module, begins),
+        Failure::TooLarge => refusal_at(DefsCode::ExpansionTooLarge, Source::Module, begins),
     }
 }
 

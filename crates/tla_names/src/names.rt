@@ -6,7 +6,7 @@ ghost use Rattle.tla_config.specs.declared.error.DefsCode.TheVariants.{Memory};
 ghost use Rattle.tla_config.specs.Names.{is_among};
 ghost use Rattle.tla_names.specs.Private.Tabled.{IsTabled, IsTabled-prop};
 
-use crate::refusal::text_of;
+use crate::refusal::{no_memory, text_of};
 use indexmap::IndexSet;
 use std::alloc::Global;
 use std::marker::Model;
@@ -47,12 +47,15 @@ impl<'a> Names<'a> {
         ensures ok { OnOk result (self.new ≡ self.old ++ word.entry.now ∷ []) }
         ensures err { IfErr result (λ e. e.code ≡ Memory) }
     {
-        self.words.push(word)?;
+        match self.words.push(word) {
+            Ok(()) => {}
+            Err(_) => return Err(no_memory()),
+        }
         match self.table.insert(word.as_bytes()) {
             Ok(_) => Ok(()),
-            Err(error) => {
+            Err(_) => {
                 self.words.pop();
-                Err(error.into())
+                Err(no_memory())
             }
         }
     }
@@ -66,7 +69,9 @@ impl<'a> Names<'a> {
         let mut left = self.words.as_slice();
         while let [first, rest @ ..] = left {
             let text = text_of(alloc, first.as_bytes())?;
-            texts.push(text)?;
+            if texts.push(text).is_err() {
+                return Err(no_memory());
+            }
             left = rest;
         }
         Ok(texts)

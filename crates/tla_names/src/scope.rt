@@ -12,6 +12,7 @@ ghost use Rattle.tla_names.specs.Private.LatestProps.{IsTable-prop, KeepBefore-p
 ghost use Rattle.tla_names.specs.Scope.{arity, plain, bound_names, module_names, extended};
 
 use crate::names::Names;
+use crate::refusal::no_memory;
 use indexmap::IndexMap;
 use std::alloc::Global;
 use std::marker::Model;
@@ -66,12 +67,15 @@ impl<'a> Scope<'a> {
             arity,
             before,
         };
-        self.names.push(signature)?;
+        match self.names.push(signature) {
+            Ok(()) => {}
+            Err(_) => return Err(no_memory()),
+        }
         match self.latest.insert(name, Some(arity)) {
             Ok(_) => Ok(()),
-            Err(error) => {
+            Err(_) => {
                 self.names.pop();
-                Err(error.into())
+                Err(no_memory())
             }
         }
     }

@@ -23,8 +23,28 @@ fn place_of(tokens: &[Token], at: usize) -> Place {
         Some(t) => t.place,
         None => match tokens.last() {
             Some(t) => t.place,
-            None => Place::FIRST,
+            None => Place { line: 1, column: 1 },
         },
+    }
+}
+
+fn error_at(code: ParseCode, place: Place) -> ParseError
+    ensures { result ≡ record { code = code; place = Some place; name = None } }
+{
+    ParseError {
+        code,
+        place: Some(place),
+        name: None,
+    }
+}
+
+fn no_memory() -> ParseError
+    ensures { result ≡ record { code = ParseCode.NoMemory; place = None; name = None } }
+{
+    ParseError {
+        code: ParseCode::NoMemory,
+        place: None,
+        name: None,
     }
 }
 
@@ -36,7 +56,7 @@ fn left_out(alloc: Global, text: &[u8], tokens: &[Token], at: usize) -> ParseErr
     ensures located { IsLocated result.code result.place result.name }
 {
     let Some(t) = tokens.get(at) else {
-        return ParseError::at(ParseCode::Unexpected, place_of(tokens, at));
+        return error_at(ParseCode::Unexpected, place_of(tokens, at));
     };
     match Written::of_token(alloc, text, *t) {
         Ok(first) => ParseError {
@@ -44,7 +64,7 @@ fn left_out(alloc: Global, text: &[u8], tokens: &[Token], at: usize) -> ParseErr
             place: Some(t.place),
             name: Some(first.word),
         },
-        Err(_) => ParseError::NO_MEMORY,
+        Err(_) => no_memory(),
     }
 }
 
@@ -55,13 +75,13 @@ fn error_of(alloc: Global, text: &[u8], tokens: &[Token], refusal: Refusal) -> P
     ensures located { IsLocated result.code result.place result.name }
 {
     match refusal {
-        Refusal::Unexpected(at) => ParseError::at(ParseCode::Unexpected, place_of(tokens, at)),
-        Refusal::Precedence(at) => ParseError::at(ParseCode::Precedence, place_of(tokens, at)),
-        Refusal::Column(at) => ParseError::at(ParseCode::Column, place_of(tokens, at)),
-        Refusal::Nesting(at) => ParseError::at(ParseCode::Nesting, place_of(tokens, at)),
+        Refusal::Unexpected(at) => error_at(ParseCode::Unexpected, place_of(tokens, at)),
+        Refusal::Precedence(at) => error_at(ParseCode::Precedence, place_of(tokens, at)),
+        Refusal::Column(at) => error_at(ParseCode::Column, place_of(tokens, at)),
+        Refusal::Nesting(at) => error_at(ParseCode::Nesting, place_of(tokens, at)),
         Refusal::LeftOut(at) => left_out(alloc, text, tokens, at),
         Refusal::UnknownModule(at) => left_out(alloc, text, tokens, at),
-        Refusal::NoMemory => ParseError::NO_MEMORY,
+        Refusal::NoMemory => no_memory(),
     }
 }
 

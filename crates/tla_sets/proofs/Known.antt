@@ -1,7 +1,6 @@
 -- Sets that are known.
-use Rattle.std.proofs.Common.{◌≡◌, List, Ok, ap, subst, ◌∙◌}
+use Rattle.std.proofs.Common.{◌≡◌, List, Ok, ap, ◌∙◌}
 use Rattle.tla_value.specs.Tree.{Tree, set, trees, members-trees}
-use Rattle.tla_value.specs.IsValue.{IsValue, IsSetList}
 use Rattle.tla_value.specs.Sets.{is_member}
 use Rattle.tla_core.specs.declared.fault.Place.{Place}
 use Rattle.tla_core.specs.Fault.{Outcome}
@@ -12,6 +11,3 @@ elements_known p o ts e = ap (λ (q : Outcome Tree). elements_rule p q) e ∙ ap
 
 pub has_known : (p : Place) (v : Tree) (o : Outcome Tree) (ts : List Tree) → o ≡ Ok (set (trees ts)) → has_rule p v o ≡ Ok (is_member v ts)
 has_known p v o ts e = ap (λ (q : Outcome Tree). has_rule p v q) e ∙ ap (λ us. Ok (is_member v us)) (members-trees ts)
-
-pub list_known : (ts : List Tree) → IsValue (set (trees ts)) → IsSetList ts
-list_known ts h = subst IsSetList (members-trees ts) h.1

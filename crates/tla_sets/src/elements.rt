@@ -3,7 +3,6 @@ ghost use Rattle.std.specs.Prelude.{◌≡◌, ◌++◌, Ok, map, cond, option_m
 ghost use Rattle.std.specs.Option.{option_to_list};
 ghost use Rattle.tla_value.specs.Tree.{int, set, trees};
 ghost use Rattle.tla_value.specs.TreeOf.{tree_of};
-ghost use Rattle.tla_value.specs.IsValue.{IsSetList};
 ghost use Rattle.tla_value.specs.Choices.{range_of};
 ghost use Rattle.tla_core.specs.Expr.{Range};
 ghost use Rattle.tla_core.specs.ExprOf.{binary_of};
@@ -20,6 +19,7 @@ use tla_core::{Binary, FaultCode, Place};
 use tla_operators::evaluated::Evaluated;
 use tla_operators::operators::{binary, two_ints};
 use tla_operators::rules::copied;
+use tla_operators::sets::members;
 use tla_operators::trouble::{Trouble, fault_at, memory};
 use tla_value::{MAX_ELEMENTS, SetValue, Value};
 
@@ -33,38 +33,21 @@ pub enum Elements<'a> {
 
 /// The members of a value that is a set.
 pub fn members_of<'p, 'a>(place: &'p Place, set: Evaluated<'a>) -> Result<Elements<'a>, Trouble<'p>>
-    ensures elements { GivesElements result (as_set place.now (tree_of_evaluated set.entry)) }
-    ensures list { IfOk result (λ e. IsSetList (elements_of e)) }
+    ensures { GivesElements result (as_set place.now (tree_of_evaluated set.entry)) }
 {
     match set {
-        Evaluated::Borrowed(set) => lent_members(place, set),
+        Evaluated::Borrowed(set) => Ok(Elements::Lent(members(place, set)?)),
         Evaluated::Owned(set) => owned_members(place, set),
-    }
-}
-
-/// The members of a value that is a set, lent.
-#[tactic(auto, using(tla_operators::proofs::Known::as_set_known))]
-fn lent_members<'p, 'a>(place: &'p Place, set: &'a Value) -> Result<Elements<'a>, Trouble<'p>>
-    ensures elements { GivesElements result (as_set place.now (tree_of set.now)) }
-    ensures list { IfOk result (λ e. IsSetList (elements_of e)) }
-{
-    match set {
-        Value::Set(set) => Ok(Elements::Lent(set.items())),
-        _ => Err(fault_at(FaultCode::WrongKind, place)),
     }
 }
 
 /// The members of a value that is a set, by value.
 #[tactic(auto, using(tla_operators::proofs::Known::as_set_known))]
 fn owned_members<'p, 'a>(place: &'p Place, set: Value) -> Result<Elements<'a>, Trouble<'p>>
-    ensures elements { GivesElements result (as_set place.now (tree_of set)) }
-    ensures list { IfOk result (λ e. IsSetList (elements_of e)) }
+    ensures { GivesElements result (as_set place.now (tree_of set)) }
 {
     match set {
-        Value::Set(set) => {
-            let _rising = set.items();
-            Ok(Elements::Made(set))
-        }
+        Value::Set(set) => Ok(Elements::Made(set)),
         _ => Err(fault_at(FaultCode::WrongKind, place)),
     }
 }
@@ -78,8 +61,7 @@ pub fn elements_of_two<'p, 'a>(
     left: &Value,
     right: &Value,
 ) -> Result<Elements<'a>, Trouble<'p>>
-    ensures elements { GivesElements result (elements_rule place.now (binary_rule (binary_of operator) at.now (tree_of left.now) (tree_of right.now))) }
-    ensures list { IfOk result (λ e. IsSetList (elements_of e)) }
+    ensures { GivesElements result (elements_rule place.now (binary_rule (binary_of operator) at.now (tree_of left.now) (tree_of right.now))) }
 {
     match operator {
         Binary::Range => numbers(place, at, left, right),
@@ -94,8 +76,7 @@ fn numbers<'p, 'a>(
     left: &Value,
     right: &Value,
 ) -> Result<Elements<'a>, Trouble<'p>>
-    ensures elements { GivesElements result (elements_rule place.now (binary_rule Range at.now (tree_of left.now) (tree_of right.now))) }
-    ensures list { IfOk result (λ e. IsSetList (elements_of e)) }
+    ensures { GivesElements result (elements_rule place.now (binary_rule Range at.now (tree_of left.now) (tree_of right.now))) }
 {
     let (low, high) = two_ints(at, left, right)?;
     numbers_between(place, at, low, high)
@@ -109,8 +90,7 @@ fn numbers_between<'p, 'a>(
     low: i64,
     high: i64,
 ) -> Result<Elements<'a>, Trouble<'p>>
-    ensures elements { GivesElements result (elements_rule place.now (rising_set at.now (range_of low high))) }
-    ensures list { IfOk result (λ e. IsSetList (elements_of e)) }
+    ensures { GivesElements result (elements_rule place.now (rising_set at.now (range_of low high))) }
 {
     fits_range(at, low, high)?;
     Ok(Elements::Numbers(low, high))

@@ -1,5 +1,5 @@
 -- What the code makes of what the parts of a form give.
-use Rattle.std.specs.Prelude.{ℕ, Bool, List, length, Option, Some, None, Ok}
+use Rattle.std.specs.Prelude.{ℕ, Bool, List, Option, Some, None, Ok}
 use Rattle.tla_value.specs.Tree.{Tree, text}
 use Rattle.tla_value.specs.Choices.{parts_of}
 use Rattle.tla_core.specs.declared.fault.Place.{Place}
@@ -23,12 +23,6 @@ tested test None = Ok None
 tested test (Some v) = do
   holds ← test v
   Ok (Some holds)
-
--- how many there are
-abbrev pub counted : {A : Type 0} → Outcome (List A) → Outcome ℕ
-counted o = do
-  xs ← o
-  Ok (length xs)
 
 -- whether a value stands in the set of what some expressions give
 abbrev pub one_of_rule : Place → List Meaning → Tree → Bound → Present → Next → Outcome Bool

@@ -1,24 +1,19 @@
 //! Forms that bind names.
-ghost use Rattle.std.specs.Prelude.{◌≡◌, ◌<◌, ◌≤◌, ℕ, ◌+◌, ◌-◌, ◌^◌, pos, cond, ◌++◌, ◌∷◌, [], map, slice_get, IfOk};
-ghost use Rattle.tla_value.specs.Tree.{int};
+ghost use Rattle.std.specs.Prelude.{◌++◌, ◌∷◌, [], map, slice_get};
 ghost use Rattle.tla_value.specs.TreeOf.{tree_of};
-ghost use Rattle.tla_value.specs.IsValue.{IsSetList};
-ghost use Rattle.tla_value.specs.declared.set.TheConstants.{MAX_ELEMENTS};
-ghost use Rattle.tla_core.specs.Expr.{Cardinality};
 ghost use Rattle.tla_core.specs.Lists.{all_hold, some_hold, first_passing, passing};
-ghost use Rattle.tla_core.specs.Meaning.{asks, elements, means-unary};
+ghost use Rattle.tla_core.specs.Meaning.{asks, elements};
 ghost use Rattle.tla_core.specs.Logic.{means-for_all, means-for_some, means-choose};
 ghost use Rattle.tla_core.specs.SetForms.{means-filtered};
 ghost use Rattle.tla_core.specs.Value.{means};
 ghost use Rattle.tla_core.specs.ExprOf.{expr_of};
 ghost use Rattle.tla_operators.specs.Gives.{Gives, GivesBy, GivesTruth};
 ghost use Rattle.tla_sets.specs.Elements.{elements_of, GivesElements};
-ghost use Rattle.tla_eval.specs.Private.Parts.{counted, tested};
+ghost use Rattle.tla_eval.specs.Private.Parts.{tested};
 ghost use Rattle.tla_operators.specs.Evaluated.{Evaluates};
 ghost use Rattle.tla_eval.specs.Private.Environment.{bound_in, present_in, next_in};
-ghost use Rattle.tla_eval.specs.Private.Told.{Tells};
 
-use crate::environment::{Environment, Frame, count_within};
+use crate::environment::{Environment, Frame};
 use crate::evaluation::patterns::body_value;
 use crate::evaluation::{ask, evaluate};
 use std::alloc::Global;
@@ -37,11 +32,11 @@ pub(super) fn for_all<'c: 'a, 'a>(
     set: &'c Core,
     body: &'c Core,
     env: Environment<'a>,
-) -> Result<bool, Trouble<'c>>
-    ensures { Tells result ((means-for_all place.now (means (expr_of set.now)) (means (expr_of body.now))).value (bound_in env.entry) (present_in env.entry) (next_in env.entry)) }
+) -> Result<Evaluated<'a>, Trouble<'c>>
+    ensures { Evaluates result ((means-for_all place.now (means (expr_of set.now)) (means (expr_of body.now))).value (bound_in env.entry) (present_in env.entry) (next_in env.entry)) }
 {
     let elements = elements_in(alloc, place, set, env)?;
-    each_holds(alloc, place, body, &elements, env)
+    Ok(Evaluated::truth(each_holds(alloc, place, body, &elements, env)?))
 }
 
 /// Whether a body is TRUE of some element of a set.
@@ -52,11 +47,11 @@ pub(super) fn for_some<'c: 'a, 'a>(
     set: &'c Core,
     body: &'c Core,
     env: Environment<'a>,
-) -> Result<bool, Trouble<'c>>
-    ensures { Tells result ((means-for_some place.now (means (expr_of set.now)) (means (expr_of body.now))).value (bound_in env.entry) (present_in env.entry) (next_in env.entry)) }
+) -> Result<Evaluated<'a>, Trouble<'c>>
+    ensures { Evaluates result ((means-for_some place.now (means (expr_of set.now)) (means (expr_of body.now))).value (bound_in env.entry) (present_in env.entry) (next_in env.entry)) }
 {
     let elements = elements_in(alloc, place, set, env)?;
-    some_holds(alloc, place, body, &elements, env)
+    Ok(Evaluated::truth(some_holds(alloc, place, body, &elements, env)?))
 }
 
 /// The least element of a set of which a body is TRUE.
@@ -82,8 +77,7 @@ pub(super) fn elements_in<'c: 'a, 'a>(
     set: &'c Core,
     env: Environment<'a>,
 ) -> Result<Elements<'a>, Trouble<'c>>
-    ensures elements { GivesElements result (elements place.now (means (expr_of set.now)) (bound_in env.entry) (present_in env.entry) (next_in env.entry)) }
-    ensures list { IfOk result (λ e. IsSetList (elements_of e)) }
+    ensures { GivesElements result (elements place.now (means (expr_of set.now)) (bound_in env.entry) (present_in env.entry) (next_in env.entry)) }
 {
     match set {
         Core::Binary(at, operator, left, right) => {
@@ -196,11 +190,9 @@ pub(super) fn ask_with<'c: 'a, 'a>(
 ) -> Result<bool, Trouble<'c>>
     ensures { GivesTruth result (asks place.now (means (expr_of body.now)) (bound_in env.entry ++ tree_of value.now ∷ []) (present_in env.entry) (next_in env.entry)) }
 {
-    let count = count_within(env.count, 1)?;
     let frame = Frame::One(env.frame, value);
     let inner = Environment {
         frame: &frame,
-        count,
         now: env.now,
         next: env.next,
     };
@@ -217,11 +209,9 @@ pub(super) fn value_with<'c: 'a, 'a>(
 ) -> Result<Value, Trouble<'c>>
     ensures { Gives result ((means (expr_of body.now)).value (bound_in env.entry ++ tree_of value.now ∷ []) (present_in env.entry) (next_in env.entry)) }
 {
-    let count = count_within(env.count, 1)?;
     let frame = Frame::One(env.frame, value);
     let inner = Environment {
         frame: &frame,
-        count,
         now: env.now,
         next: env.next,
     };
@@ -263,66 +253,4 @@ fn passing<'e, 'c: 'a, 'a>(
         }
     }
     Err(memory())
-}
-
-/// How many elements of a set a body is TRUE of. Their set is not made: it is within the limits, as the whole set is.
-#[cycle(evaluate)]
-pub(super) fn filter_count<'c: 'a, 'a>(
-    alloc: Global,
-    place: &'c Place,
-    at: &'c Place,
-    set: &'c Core,
-    body: &'c Core,
-    env: Environment<'a>,
-) -> Result<Evaluated<'a>, Trouble<'c>>
-    ensures { Evaluates result ((means-unary place.now Cardinality (means-filtered at.now (means (expr_of set.now)) (means (expr_of body.now)))).value (bound_in env.entry) (present_in env.entry) (next_in env.entry)) }
-{
-    let elements = elements_in(alloc, at, set, env)?;
-    let count = passing_count(alloc, at, body, &elements, env)?;
-    Ok(Evaluated::Owned(number_of(count)))
-}
-
-/// How many of these elements a body is TRUE of.
-#[cycle(evaluate)]
-fn passing_count<'e, 'c: 'a, 'a>(
-    alloc: Global,
-    place: &'c Place,
-    body: &'c Core,
-    elements: &'e Elements<'e>,
-    env: Environment<'a>,
-) -> Result<usize, Trouble<'c>>
-    ensures { GivesBy (λ (n : ℕ). n) result (counted (passing (λ v. asks place.now (means (expr_of body.now)) (bound_in env.entry ++ v ∷ []) (present_in env.entry) (next_in env.entry)) (elements_of elements.now))) }
-{
-    let mut count = 0;
-    for number in 0..usize::MAX {
-        match holds_at(alloc, place, body, elements, number, env)? {
-            Some(holds) => count = count_if(count, holds),
-            None => return Ok(count),
-        }
-    }
-    Err(memory())
-}
-
-/// One more where it counts.
-fn count_if(count: usize, counts: bool) -> usize
-    requires { count < 2 ^ 64 - 1 }
-    ensures { result ≡ cond counts (count + 1) count }
-{
-    if counts { count + 1 } else { count }
-}
-
-/// A count as a number.
-fn as_number(count: usize) -> i64
-    requires { count ≤ MAX_ELEMENTS }
-    ensures { result ≡ pos count }
-{
-    count as i64
-}
-
-/// The value of a count.
-fn number_of(count: usize) -> Value
-    requires { count ≤ MAX_ELEMENTS }
-    ensures { tree_of result ≡ int (pos count) }
-{
-    Value::Int(as_number(count))
 }

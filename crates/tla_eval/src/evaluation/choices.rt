@@ -13,7 +13,7 @@ ghost use Rattle.tla_operators.specs.Evaluated.{Evaluates, tree_of_evaluated};
 ghost use Rattle.tla_eval.specs.Private.Environment.{bound_in, present_in, next_in};
 ghost use Rattle.tla_operators.specs.Gathered.{Gathers};
 
-use crate::environment::{Environment, Frame, count_within};
+use crate::environment::{Environment, Frame};
 use crate::evaluation::binding::value_with;
 use crate::evaluation::evaluate;
 use crate::evaluation::patterns::body_value;
@@ -253,11 +253,9 @@ pub(super) fn value_with_all<'c: 'a, 'a>(
 ) -> Result<Value, Trouble<'c>>
     ensures { Gives result ((means (expr_of body.now)).value (bound_in env.entry ++ map tree_of choice.now) (present_in env.entry) (next_in env.entry)) }
 {
-    let count = count_within(env.count, choice.len())?;
     let frame = Frame::Many(env.frame, choice);
     let inner = Environment {
         frame: &frame,
-        count,
         now: env.now,
         next: env.next,
     };

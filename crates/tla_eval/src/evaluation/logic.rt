@@ -1,17 +1,12 @@
 //! Logic, and the arms of IF and CASE.
 ghost use Rattle.std.specs.Prelude.{option_map};
-ghost use Rattle.tla_value.specs.Tree.{Tree};
 ghost use Rattle.tla_value.specs.TreeOf.{tree_of};
-ghost use Rattle.tla_core.specs.Fault.{Outcome};
-ghost use Rattle.tla_core.specs.Expr.{Not};
-ghost use Rattle.tla_core.specs.Meaning.{means-unary};
 ghost use Rattle.tla_core.specs.Logic.{means-conjunction, means-disjunction, means-implies, means-cases, means-assert};
 ghost use Rattle.tla_core.specs.Value.{means};
 ghost use Rattle.tla_core.specs.ExprOf.{expr_of, parts_of_cores, arms_of_cores};
 ghost use Rattle.tla_operators.specs.Gives.{GivesTruth};
 ghost use Rattle.tla_operators.specs.Evaluated.{Evaluates};
 ghost use Rattle.tla_eval.specs.Private.Environment.{bound_in, present_in, next_in};
-ghost use Rattle.tla_eval.specs.Private.Told.{Tells};
 
 use crate::environment::Environment;
 use crate::evaluation::{ask, evaluate, has};
@@ -28,15 +23,15 @@ pub(super) fn conjunction<'c: 'a, 'a>(
     place: &'c Place,
     parts: &'c [Core],
     env: Environment<'a>,
-) -> Result<bool, Trouble<'c>>
-    ensures { Tells result ((means-conjunction place.now (parts_of_cores parts.now)).value (bound_in env.entry) (present_in env.entry) (next_in env.entry)) }
+) -> Result<Evaluated<'a>, Trouble<'c>>
+    ensures { Evaluates result ((means-conjunction place.now (parts_of_cores parts.now)).value (bound_in env.entry) (present_in env.entry) (next_in env.entry)) }
 {
     for part in parts {
         if !ask(alloc, place, part, env)? {
-            return Ok(false);
+            return Ok(Evaluated::truth(false));
         }
     }
-    Ok(true)
+    Ok(Evaluated::truth(true))
 }
 
 /// Whether some part is TRUE, up to the first that is.
@@ -46,15 +41,15 @@ pub(super) fn disjunction<'c: 'a, 'a>(
     place: &'c Place,
     parts: &'c [Core],
     env: Environment<'a>,
-) -> Result<bool, Trouble<'c>>
-    ensures { Tells result ((means-disjunction place.now (parts_of_cores parts.now)).value (bound_in env.entry) (present_in env.entry) (next_in env.entry)) }
+) -> Result<Evaluated<'a>, Trouble<'c>>
+    ensures { Evaluates result ((means-disjunction place.now (parts_of_cores parts.now)).value (bound_in env.entry) (present_in env.entry) (next_in env.entry)) }
 {
     for part in parts {
         if ask(alloc, place, part, env)? {
-            return Ok(true);
+            return Ok(Evaluated::truth(true));
         }
     }
-    Ok(false)
+    Ok(Evaluated::truth(false))
 }
 
 /// Whether the second part is TRUE where the first is.
@@ -65,36 +60,14 @@ pub(super) fn implies<'c: 'a, 'a>(
     left: &'c Core,
     right: &'c Core,
     env: Environment<'a>,
-) -> Result<bool, Trouble<'c>>
-    ensures { Tells result ((means-implies place.now (means (expr_of left.now)) (means (expr_of right.now))).value (bound_in env.entry) (present_in env.entry) (next_in env.entry)) }
+) -> Result<Evaluated<'a>, Trouble<'c>>
+    ensures { Evaluates result ((means-implies place.now (means (expr_of left.now)) (means (expr_of right.now))).value (bound_in env.entry) (present_in env.entry) (next_in env.entry)) }
 {
     if ask(alloc, place, left, env)? {
-        ask(alloc, place, right, env)
+        Ok(Evaluated::truth(ask(alloc, place, right, env)?))
     } else {
-        Ok(true)
+        Ok(Evaluated::truth(true))
     }
-}
-
-/// Whether a part is FALSE.
-#[cycle(evaluate)]
-pub(super) fn negation<'c: 'a, 'a>(
-    alloc: Global,
-    place: &'c Place,
-    operand: &'c Core,
-    env: Environment<'a>,
-) -> Result<bool, Trouble<'c>>
-    ensures { Tells result ((means-unary place.now Not (means (expr_of operand.now))).value (bound_in env.entry) (present_in env.entry) (next_in env.entry)) }
-{
-    Ok(!ask(alloc, place, operand, env)?)
-}
-
-/// The truth value that was told, or the fault.
-pub(super) fn made_truth<'a, 'p>(
-    told: Result<bool, Trouble<'p>>,
-) -> Result<Evaluated<'a>, Trouble<'p>>
-    ensures { (o : Outcome Tree) → Tells told.entry o → Evaluates result o }
-{
-    Ok(Evaluated::truth(told?))
 }
 
 /// TRUE where the condition is.

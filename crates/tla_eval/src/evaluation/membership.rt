@@ -11,7 +11,6 @@ ghost use Rattle.tla_operators.specs.Gives.{GivesTruth};
 ghost use Rattle.tla_eval.specs.Private.Parts.{one_of_rule};
 ghost use Rattle.tla_operators.specs.Evaluated.{Evaluates};
 ghost use Rattle.tla_eval.specs.Private.Environment.{bound_in, present_in, next_in};
-ghost use Rattle.tla_eval.specs.Private.Told.{Tells};
 
 use crate::environment::Environment;
 use crate::evaluation::choices::evaluated_each;
@@ -31,11 +30,11 @@ pub(super) fn is_member<'c: 'a, 'a>(
     element: &'c Core,
     set: &'c Core,
     env: Environment<'a>,
-) -> Result<bool, Trouble<'c>>
-    ensures { Tells result ((means-member (means (expr_of set.now)).place (means (expr_of element.now)) (means (expr_of set.now))).value (bound_in env.entry) (present_in env.entry) (next_in env.entry)) }
+) -> Result<Evaluated<'a>, Trouble<'c>>
+    ensures { Evaluates result ((means-member (means (expr_of set.now)).place (means (expr_of element.now)) (means (expr_of set.now))).value (bound_in env.entry) (present_in env.entry) (next_in env.entry)) }
 {
     let element = evaluate(alloc, element, env)?;
-    has(alloc, set, element.value(), env)
+    Ok(Evaluated::truth(has(alloc, set, element.value(), env)?))
 }
 
 /// Whether a value is no member of an expression.
@@ -45,11 +44,11 @@ pub(super) fn is_no_member<'c: 'a, 'a>(
     element: &'c Core,
     set: &'c Core,
     env: Environment<'a>,
-) -> Result<bool, Trouble<'c>>
-    ensures { Tells result ((means-not_member (means (expr_of set.now)).place (means (expr_of element.now)) (means (expr_of set.now))).value (bound_in env.entry) (present_in env.entry) (next_in env.entry)) }
+) -> Result<Evaluated<'a>, Trouble<'c>>
+    ensures { Evaluates result ((means-not_member (means (expr_of set.now)).place (means (expr_of element.now)) (means (expr_of set.now))).value (bound_in env.entry) (present_in env.entry) (next_in env.entry)) }
 {
     let element = evaluate(alloc, element, env)?;
-    Ok(!has(alloc, set, element.value(), env)?)
+    Ok(Evaluated::truth(!has(alloc, set, element.value(), env)?))
 }
 
 /// Whether each element of a set is a member of an expression.
@@ -60,12 +59,12 @@ pub(super) fn is_subset<'c: 'a, 'a>(
     left: &'c Core,
     right: &'c Core,
     env: Environment<'a>,
-) -> Result<bool, Trouble<'c>>
-    ensures { Tells result ((means-subset place.now (means (expr_of left.now)) (means (expr_of right.now))).value (bound_in env.entry) (present_in env.entry) (next_in env.entry)) }
+) -> Result<Evaluated<'a>, Trouble<'c>>
+    ensures { Evaluates result ((means-subset place.now (means (expr_of left.now)) (means (expr_of right.now))).value (bound_in env.entry) (present_in env.entry) (next_in env.entry)) }
 {
     let left = evaluate(alloc, left, env)?;
     let values = members(place, left.value())?;
-    has_all(alloc, right, values, env)
+    Ok(Evaluated::truth(has_all(alloc, right, values, env)?))
 }
 
 /// Whether an expression has each of these values, up to the first that it has not.

@@ -1,27 +1,24 @@
 //! Forms whose operands are all evaluated.
 ghost use Rattle.std.specs.Prelude.{List, ℕ, map};
 ghost use Rattle.tla_value.specs.TreeOf.{tree_of, pair_of};
-ghost use Rattle.tla_core.specs.Expr.{Apply, Cardinality, Field};
+ghost use Rattle.tla_core.specs.Expr.{Apply, Field};
 ghost use Rattle.tla_core.specs.Lists.{each};
-ghost use Rattle.tla_core.specs.Meaning.{Meaning, asks, means-unary, means-binary, means-equal, means-sub_seq, means-enumerated, means-tuple};
-ghost use Rattle.tla_core.specs.Operators.{binary_rule};
+ghost use Rattle.tla_core.specs.Meaning.{Meaning, means-unary, means-binary, means-equal, means-sub_seq, means-enumerated, means-tuple};
 ghost use Rattle.tla_core.specs.Value.{means};
 ghost use Rattle.tla_core.specs.ExprOf.{expr_of, parts_of_cores, fields_of_cores, unary_of, binary_of};
-ghost use Rattle.tla_operators.specs.Gives.{GivesBy, GivesTruth};
+ghost use Rattle.tla_operators.specs.Gives.{GivesBy};
 ghost use Rattle.tla_eval.specs.Private.Parts.{named_value, record_rule};
 ghost use Rattle.tla_operators.specs.Evaluated.{Evaluates};
 ghost use Rattle.tla_eval.specs.Private.Environment.{bound_in, present_in, next_in};
-ghost use Rattle.tla_eval.specs.Private.Told.{Tells, truth_rule};
 
 use crate::environment::Environment;
-use crate::evaluation::binding::filter_count;
 use crate::evaluation::evaluate;
 use std::alloc::Global;
 use tla_core::{Binary, Core, Place, Unary};
 use tla_operators::evaluated::Evaluated;
 use tla_operators::functions::{apply, field, made_fun};
-use tla_operators::operators::{binary, two_ints, unary};
-use tla_operators::rules::{as_truth, copied_text};
+use tla_operators::operators::{binary, unary};
+use tla_operators::rules::copied_text;
 use tla_operators::sequences::{sequence_of, sub_seq};
 use tla_operators::sets::made_set;
 use tla_operators::trouble::Trouble;
@@ -42,22 +39,6 @@ pub(super) fn on_one<'c: 'a, 'a>(
     unary(alloc, place, operator, operand)
 }
 
-/// How many members a set has.
-#[cycle(evaluate)]
-pub(super) fn cardinality<'c: 'a, 'a>(
-    alloc: Global,
-    place: &'c Place,
-    operand: &'c Core,
-    env: Environment<'a>,
-) -> Result<Evaluated<'a>, Trouble<'c>>
-    ensures { Evaluates result ((means-unary place.now Cardinality (means (expr_of operand.now))).value (bound_in env.entry) (present_in env.entry) (next_in env.entry)) }
-{
-    match operand {
-        Core::Filter(at, set, body) => filter_count(alloc, place, at, set, body, env),
-        _ => on_one(alloc, place, Unary::Cardinality, operand, env),
-    }
-}
-
 /// An operator on two values.
 #[cycle(evaluate)]
 pub(super) fn on_two<'c: 'a, 'a>(
@@ -73,57 +54,6 @@ pub(super) fn on_two<'c: 'a, 'a>(
     let left = evaluate(alloc, left, env)?;
     let right = evaluate(alloc, right, env)?;
     Ok(Evaluated::Owned(binary(alloc, place, operator, left.value(), right.value())?))
-}
-
-/// Whether what an operator on two values gives is TRUE. Another value is a fault of the node at the place.
-#[cycle(evaluate)]
-pub(super) fn ask_two<'c: 'a, 'a>(
-    alloc: Global,
-    place: &'c Place,
-    at: &'c Place,
-    operator: Binary,
-    left: &'c Core,
-    right: &'c Core,
-    env: Environment<'a>,
-) -> Result<bool, Trouble<'c>>
-    ensures { GivesTruth result (asks place.now (means-binary at.now (binary_of operator) (means (expr_of left.now)) (means (expr_of right.now))) (bound_in env.entry) (present_in env.entry) (next_in env.entry)) }
-{
-    let left = evaluate(alloc, left, env)?;
-    let right = evaluate(alloc, right, env)?;
-    two_are_true(alloc, place, at, operator, left.value(), right.value())
-}
-
-/// Whether what an operator at another place gives is TRUE. What a comparison gives is not made.
-fn two_are_true<'p>(
-    alloc: Global,
-    place: &'p Place,
-    at: &'p Place,
-    operator: Binary,
-    left: &Value,
-    right: &Value,
-) -> Result<bool, Trouble<'p>>
-    ensures { GivesTruth result (truth_rule place.now (binary_rule (binary_of operator) at.now (tree_of left.now) (tree_of right.now))) }
-{
-    match operator {
-        Binary::Unequal => Ok(left != right),
-        Binary::LessThan => {
-            let (left, right) = two_ints(at, left, right)?;
-            Ok(left < right)
-        }
-        Binary::GreaterThan => {
-            let (left, right) = two_ints(at, left, right)?;
-            Ok(left > right)
-        }
-        Binary::AtMost => {
-            let (left, right) = two_ints(at, left, right)?;
-            Ok(left <= right)
-        }
-        Binary::AtLeast => {
-            let (left, right) = two_ints(at, left, right)?;
-            Ok(left >= right)
-        }
-        _ => as_truth(&binary(alloc, at, operator, left, right)?, place),
-    }
 }
 
 /// The value of a function at an argument.
@@ -149,12 +79,12 @@ pub(super) fn equal<'c: 'a, 'a>(
     left: &'c Core,
     right: &'c Core,
     env: Environment<'a>,
-) -> Result<bool, Trouble<'c>>
-    ensures { Tells result ((means-equal (means (expr_of left.now)).place (means (expr_of left.now)) (means (expr_of right.now))).value (bound_in env.entry) (present_in env.entry) (next_in env.entry)) }
+) -> Result<Evaluated<'a>, Trouble<'c>>
+    ensures { Evaluates result ((means-equal (means (expr_of left.now)).place (means (expr_of left.now)) (means (expr_of right.now))).value (bound_in env.entry) (present_in env.entry) (next_in env.entry)) }
 {
     let left = evaluate(alloc, left, env)?;
     let right = evaluate(alloc, right, env)?;
-    Ok(left.value() == right.value())
+    Ok(Evaluated::truth(left.value() == right.value()))
 }
 
 /// The value of a record's field.

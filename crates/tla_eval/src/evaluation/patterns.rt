@@ -40,7 +40,7 @@ pub(super) fn opened<'c: 'a, 'a>(
 ) -> Result<Evaluated<'a>, Trouble<'c>>
     ensures { Evaluates result ((means-opened place.now openings.now (means (expr_of body.now))).value (bound_in env.entry) (present_in env.entry) (next_in env.entry)) }
 {
-    let items = open_items(alloc, place, openings, env.frame, env.count)?;
+    let items = open_items(alloc, place, openings, env.frame)?;
     Ok(Evaluated::Owned(value_with_all(alloc, body, items.as_slice(), env)?))
 }
 

@@ -1,14 +1,14 @@
-use Rattle.std.proofs.Common.{◌≡◌, ℕ, pos, rules, arith, Vec, Global, map, zip, length, option_map, Option, Bor, List, ◌++◌, ◌∷◌, [], Bool, not, Some, None, Ok, Err, inr, ap, sym, ◌∙◌, refl, subst}
+use Rattle.std.proofs.Common.{◌≡◌, rules, arith, Vec, Global, map, zip, length, option_map, Option, Bor, List, ◌++◌, ◌∷◌, [], Bool, Some, None, Ok, Err, inr, ap, sym, ◌∙◌, refl, subst}
 use Rattle.std.proofs.lemmas.List.{map-append, length-map}
 use Rattle.tla_value.specs.Choices.{choices}
 use Rattle.tla_core.specs.Logic.{means-conjunction, means-disjunction, means-cases}
-use Rattle.tla_core.specs.Meaning.{Meaning, asks, as_tree, elements, means-unary, means-binary, means-enumerated, means-tuple}
+use Rattle.tla_core.specs.Meaning.{Meaning, asks, elements, means-enumerated, means-tuple}
 use Rattle.tla_core.specs.Functions.{means-except}
 use Rattle.tla_core.specs.Patterns.{means-opened}
 use Rattle.tla_core.specs.Value.{means, mem}
 use Rattle.tla_core.specs.ExprOf.{expr_of, binary_of, parts_of_cores, fields_of_cores, arms_of_cores, updates_of_cores}
-use Rattle.tla_value.specs.Tree.{Tree, truth, int}
-use Rattle.tla_core.specs.Fault.{Outcome, ◌>>=◌}
+use Rattle.tla_value.specs.Tree.{Tree}
+use Rattle.tla_core.specs.Fault.{Outcome}
 use Rattle.tla_core.specs.declared.fault.Place.{Place}
 use Rattle.tla_core.specs.declared.fault.Fault.{Fault}
 use Rattle.tla_operators.specs.Gives.{Gives, GivesBy, GivesTruth}
@@ -24,114 +24,37 @@ use Rattle.tla_core.specs.declared.expression.Core.{Core}
 use Rattle.tla_value.specs.declared.value.Value.{Value}
 use Rattle.tla_operators.specs.Evaluated.{Evaluates, tree_of_evaluated}
 use Rattle.tla_eval.specs.Private.Environment.{bound_in, present_in, next_in}
-use Rattle.tla_eval.specs.Private.Told.{Tells}
 use Rattle.std.specs.Prelude.{slice_get}
 use Rattle.tla_core.proofs.Loops.{all_hold_step}
 use Rattle.tla_eval.proofs.Collected.{record_is}
 use Rattle.tla_eval.proofs.Asked.{conjunction_told, disjunction_told, function_into}
-use Rattle.tla_eval.proofs.Told.{told, asked_told, two_told, negation_is}
 use Rattle.tla_eval.proofs.Choices.{image_is, image_step, function_is, one_choice, value_here, value_more, value_first, value_end, pass_more, pass_first, pass_end, for_choices, function_of_values, function_first, function_passed}
 use Rattle.tla_sets.proofs.Chosen.{trees_in}
-use Rattle.tla_eval.proofs.Tested.{two_gone, two_asked, tested_there, all_more, all_stop, all_first, all_end, some_more, some_stop, some_first, some_end, least_more, least_stop, least_first, least_end, kept_more, kept_first, kept_end, one_of_is, count_more, count_first, count_end}
-use Rattle.tla_eval.proofs.Counted.{count_is, count_few, still_few}
+use Rattle.tla_eval.proofs.Tested.{two_gone, two_asked, tested_there, all_more, all_stop, all_first, all_end, some_more, some_stop, some_first, some_end, least_more, least_stop, least_first, least_end, kept_more, kept_first, kept_end, one_of_is}
 use Rattle.tla_operators.proofs.Different.{more_none}
 use Rattle.tla_core.proofs.Parts.{means_conjunction, means_disjunction, means_enumerated, means_tuple, means_record, means_image, means_function, means_except, means_cases, means_cases_or, means_records, means_product}
 use Rattle.tla_eval.proofs.RecordSets.{product_is, record_set_is, fields_long, tuple_long, tuple_other, same_number, number_same}
-use Rattle.tla_core.specs.Expr.{Cardinality}
-use Rattle.tla_core.specs.Kinds.{items, as_set, make_fun, make_set}
-use Rattle.tla_core.specs.Lists.{each, all_hold, some_hold, passing}
-use Rattle.tla_core.specs.Operators.{unary_rule, binary_rule}
-use Rattle.tla_core.specs.SetForms.{means-records, means-product, means-filtered}
+use Rattle.tla_core.specs.Kinds.{items, as_set, make_fun}
+use Rattle.tla_core.specs.Lists.{each, all_hold, some_hold}
+use Rattle.tla_core.specs.Operators.{binary_rule}
+use Rattle.tla_core.specs.SetForms.{means-records, means-product}
 use Rattle.tla_eval.proofs.evaluation.+evaluate.Goals as goal
-
-pub truth_of-returns-in-Conjunction : goal.truth_of-returns-in-Conjunction
-truth_of-returns-in-Conjunction t c =
-    let n = c.in-Conjunction in
-    let e = means_conjunction c.args.core.now n.place n.parts n.is ∙ ap (λ us. means-conjunction n.place (parts_of_cores us)) (sym c.deref-in-Conjunction.ensures.value) in
-    subst (λ (m : Meaning). Tells c.conjunction.result (m.value (bound_in c.args.env) (present_in c.args.env) (next_in c.args.env))) (sym e) c.conjunction.ensures
-
-pub truth_of-returns-in-Disjunction : goal.truth_of-returns-in-Disjunction
-truth_of-returns-in-Disjunction t c =
-    let n = c.in-Disjunction in
-    let e = means_disjunction c.args.core.now n.place n.parts n.is ∙ ap (λ us. means-disjunction n.place (parts_of_cores us)) (sym c.deref-in-Disjunction.ensures.value) in
-    subst (λ (m : Meaning). Tells c.disjunction.result (m.value (bound_in c.args.env) (present_in c.args.env) (next_in c.args.env))) (sym e) c.disjunction.ensures
-
-pub ask-returns-in-Binary : goal.ask-returns-in-Binary
-ask-returns-in-Binary t c =
-    let n = c.in-Binary in
-    let p = c.args.place.now in
-    let b = bound_in c.args.env in let s = present_in c.args.env in let q = next_in c.args.env in
-    let e = ap (λ (k : Core). asks p (means (expr_of k)) b s q) n.is
-    ∙ ap (λ (k : Core). asks p (means-binary n.at (binary_of n.operator) (means (expr_of k)) (means (expr_of n.right.value))) b s q) (sym c.deref.ensures)
-    ∙ ap (λ (k : Core). asks p (means-binary n.at (binary_of n.operator) (means (expr_of c.deref.result.now)) (means (expr_of k))) b s q) (sym c.deref-in-Binary.ensures) in
-    subst (λ (o : Outcome Bool). GivesTruth c.ask_two.result o) (sym e) c.ask_two.ensures
-
-pub ask-returns-in-Some : goal.ask-returns-in-Some
-ask-returns-in-Some t c =
-    asked_told c.args.place.now c.in-Some.truth ((means (expr_of c.args.core.now)).value (bound_in c.args.env) (present_in c.args.env) (next_in c.args.env)) c.in-Some.ensures
 
 pub evaluate_other-returns-in-Conjunction : goal.evaluate_other-returns-in-Conjunction
 evaluate_other-returns-in-Conjunction t c =
     let n = c.in-Conjunction in
     let e = means_conjunction c.args.core.now n.place n.parts n.is ∙ ap (λ us. means-conjunction n.place (parts_of_cores us)) (sym c.deref-in-Conjunction.ensures.value) in
-    subst (λ (m : Meaning). Evaluates c.made_truth-in-Conjunction.result (m.value (bound_in c.args.env) (present_in c.args.env) (next_in c.args.env))) (sym e) (c.made_truth-in-Conjunction.ensures _ c.conjunction.ensures)
+    subst (λ (m : Meaning). Evaluates c.conjunction.result (m.value (bound_in c.args.env) (present_in c.args.env) (next_in c.args.env))) (sym e) c.conjunction.ensures
 
 pub evaluate_other-returns-in-Disjunction : goal.evaluate_other-returns-in-Disjunction
 evaluate_other-returns-in-Disjunction t c =
     let n = c.in-Disjunction in
     let e = means_disjunction c.args.core.now n.place n.parts n.is ∙ ap (λ us. means-disjunction n.place (parts_of_cores us)) (sym c.deref-in-Disjunction.ensures.value) in
-    subst (λ (m : Meaning). Evaluates c.made_truth-in-Disjunction.result (m.value (bound_in c.args.env) (present_in c.args.env) (next_in c.args.env))) (sym e) (c.made_truth-in-Disjunction.ensures _ c.disjunction.ensures)
-
-pub logic::negation-returns : goal.logic::negation-returns
-logic::negation-returns t c =
-    negation_is c.args.place.now (means (expr_of c.args.operand.now)) (bound_in c.args.env) (present_in c.args.env) (next_in c.args.env)
-    ∙ ap (λ (o : Outcome Bool). o >>= λ holds. Ok (truth (not holds))) c.in_ok-ask.ensures
-
-pub logic::negation-returns-in_err-ask : goal.logic::negation-returns-in_err-ask
-logic::negation-returns-in_err-ask t c =
-    let e = negation_is c.args.place.now (means (expr_of c.args.operand.now)) (bound_in c.args.env) (present_in c.args.env) (next_in c.args.env) in
-    subst (λ (o : Outcome Tree). Tells c.from_residual.result o) (sym e) (search rules)
-
-pub operands::ask_two-returns : goal.operands::ask_two-returns
-operands::ask_two-returns t c =
-    let b = bound_in c.args.env in let s = present_in c.args.env in let q = next_in c.args.env in
-    let e = two_told c.args.place.now (binary_rule (binary_of c.args.operator) c.args.at.now) ((means (expr_of c.args.left.now)).value b s q) ((means (expr_of c.args.right.now)).value b s q)
-    (tree_of_evaluated c.in_ok-left.left) (tree_of_evaluated c.in_ok-right.right) (tree_of c.value.result.now) (tree_of c.value-2.result.now)
-    c.in_ok-left.ensures c.in_ok-right.ensures c.value.ensures c.value-2.ensures in
-    subst (λ (o : Outcome Bool). GivesTruth c.two_are_true.result o) (sym e) c.two_are_true.ensures
-
-pub membership::is_member-returns : goal.membership::is_member-returns
-membership::is_member-returns t c =
-    let b = bound_in c.args.env in let s = present_in c.args.env in let q = next_in c.args.env in
-    let has : Tree → Outcome Bool = λ v. mem v (expr_of c.args.set.now) b s q in
-    let e = ap (λ (o : Outcome Tree). o >>= λ v. as_tree (has v)) c.in_ok-element.ensures ∙ ap (λ v. as_tree (has v)) (sym c.value.ensures) in
-    subst (λ (o : Outcome Tree). Tells c.has.result o) (sym e) (told c.has.result (has (tree_of c.value.result.now)) c.has.ensures)
-
-pub membership::is_subset-returns : goal.membership::is_subset-returns
-membership::is_subset-returns t c =
-    let p = c.args.place.now in
-    let b = bound_in c.args.env in let s = present_in c.args.env in let q = next_in c.args.env in
-    let has : Tree → Outcome Bool = λ v. mem v (expr_of c.args.right.now) b s q in
-    let e = ap (λ (o : Outcome Tree). (o >>= λ v. as_set p v) >>= λ xs. as_tree (all_hold has xs)) c.in_ok-left.ensures
-    ∙ ap (λ v. as_set p v >>= λ xs. as_tree (all_hold has xs)) (sym c.value.ensures)
-    ∙ ap (λ (o : Outcome (List Tree)). o >>= λ xs. as_tree (all_hold has xs)) c.in_ok-values.ensures in
-    subst (λ (o : Outcome Tree). Tells c.has_all.result o) (sym e) (told c.has_all.result (all_hold has (map tree_of c.in_ok-values.values.now)) c.has_all.ensures)
+    subst (λ (m : Meaning). Evaluates c.disjunction.result (m.value (bound_in c.args.env) (present_in c.args.env) (next_in c.args.env))) (sym e) c.disjunction.ensures
 
 -- whether a body is TRUE of an element
 abbrev body_of : Place → Core → Environment → Tree → Outcome Bool
 body_of p body env v = asks p (means (expr_of body)) (bound_in env ++ v ∷ []) (present_in env) (next_in env)
-
-pub binding::for_all-returns : goal.binding::for_all-returns
-binding::for_all-returns t c =
-    let test = body_of c.args.place.now c.args.body.now c.args.env in
-    let e = ap (λ (o : Outcome (List Tree)). o >>= λ xs. as_tree (all_hold test xs)) c.in_ok-elements.ensures.elements in
-    subst (λ (o : Outcome Tree). Tells c.each_holds.result o) (sym e) (told c.each_holds.result (all_hold test (elements_of c.in_ok-elements.elements)) c.each_holds.ensures)
-
-pub binding::for_some-returns : goal.binding::for_some-returns
-binding::for_some-returns t c =
-    let test = body_of c.args.place.now c.args.body.now c.args.env in
-    let e = ap (λ (o : Outcome (List Tree)). o >>= λ xs. as_tree (some_hold test xs)) c.in_ok-elements.ensures.elements in
-    subst (λ (o : Outcome Tree). Tells c.some_holds.result o) (sym e) (told c.some_holds.result (some_hold test (elements_of c.in_ok-elements.elements)) c.some_holds.ensures)
 
 pub binding::holds_at-returns-in_ok-ask_with-in-Some : goal.binding::holds_at-returns-in_ok-ask_with-in-Some
 binding::holds_at-returns-in_ok-ask_with-in-Some t c =
@@ -221,57 +144,8 @@ binding::passing-returns-in_err-holds t c =
     let e = c.loop-number.invariant ∙ kept_first (body_of c.args.place.now c.args.body.now c.args.env) (elements_of c.args.elements.now) c.loop-number.number (map tree_of c.loop-number.kept.items) in
     subst (λ (o : Outcome (List Tree)). GivesBy (λ (v : Vec Value Global). map tree_of v.items) c.from_residual.result o) (sym e) (search rules)
 
-pub binding::passing_count-loop-number-preserved : goal.binding::passing_count-loop-number-preserved
-binding::passing_count-loop-number-preserved t c = record {
-  few = still_few c.in-Some.holds c.loop-number.count c.loop-number.number c.count_if-count.result c.loop-number.invariant.few c.count_if-count.ensures;
-  same = c.loop-number.invariant.same
-      ∙ count_more (body_of c.args.place.now c.args.body.now c.args.env) (elements_of c.args.elements.now) c.loop-number.number c.loop-number.count c.count_if-count.result c.in-Some.holds (c.in_ok-holds.ensures ∙ ap (λ (o : Option Bool). Ok o) c.in-Some.is) c.count_if-count.ensures;
-}
-
-pub binding::passing_count-returns-in-None : goal.binding::passing_count-returns-in-None
-binding::passing_count-returns-in-None t c =
-    c.loop-number.invariant.same ∙ count_end (body_of c.args.place.now c.args.body.now c.args.env) (elements_of c.args.elements.now) c.loop-number.number c.loop-number.count (c.in_ok-holds.ensures ∙ ap (λ (o : Option Bool). Ok o) c.in-None.is)
-
-pub binding::passing_count-returns-in_err-holds : goal.binding::passing_count-returns-in_err-holds
-binding::passing_count-returns-in_err-holds t c =
-    let e = c.loop-number.invariant.same ∙ count_first (body_of c.args.place.now c.args.body.now c.args.env) (elements_of c.args.elements.now) c.loop-number.number c.loop-number.count in
-    subst (λ (o : Outcome ℕ). GivesBy (λ (n : ℕ). n) c.from_residual.result o) (sym e) (search rules)
-
-pub binding::filter_count-number_of-requires : goal.binding::filter_count-number_of-requires
-binding::filter_count-number_of-requires t c =
-    count_few (body_of c.args.at.now c.args.body.now c.args.env) (elements_of c.in_ok-elements.elements) c.in_ok-elements.ensures.list c.in_ok-count.count c.in_ok-count.ensures
-
-pub binding::filter_count-returns : goal.binding::filter_count-returns
-binding::filter_count-returns t c =
-    let p = c.args.place.now in
-    let test = body_of c.args.at.now c.args.body.now c.args.env in
-    let xs = elements_of c.in_ok-elements.elements in
-    ap (λ (o : Outcome (List Tree)). (o >>= λ us. passing test us >>= λ ys. make_set c.args.at.now ys) >>= λ x. unary_rule Cardinality p x) c.in_ok-elements.ensures.elements
-    ∙ count_is test xs c.in_ok-elements.ensures.list p c.args.at.now
-    ∙ ap (λ (o : Outcome ℕ). o >>= λ n. Ok (int (pos n))) c.in_ok-count.ensures
-    ∙ ap (λ (v : Tree). Ok v) (sym c.number_of.ensures)
-
-pub binding::filter_count-returns-in_err-count : goal.binding::filter_count-returns-in_err-count
-binding::filter_count-returns-in_err-count t c =
-    let p = c.args.place.now in
-    let test = body_of c.args.at.now c.args.body.now c.args.env in
-    let xs = elements_of c.in_ok-elements.elements in
-    let e = ap (λ (o : Outcome (List Tree)). (o >>= λ us. passing test us >>= λ ys. make_set c.args.at.now ys) >>= λ x. unary_rule Cardinality p x) c.in_ok-elements.ensures.elements
-    ∙ count_is test xs c.in_ok-elements.ensures.list p c.args.at.now in
-    subst (λ (o : Outcome Tree). Evaluates c.from_residual-in_err-count.result o) (sym e) (search rules)
-
-pub operands::cardinality-returns-in-Filter : goal.operands::cardinality-returns-in-Filter
-operands::cardinality-returns-in-Filter t c =
-    let n = c.in-Filter in
-    let p = c.args.place.now in
-    let b = bound_in c.args.env in let s = present_in c.args.env in let q = next_in c.args.env in
-    let e = ap (λ (k : Core). (means-unary p Cardinality (means (expr_of k))).value b s q) n.is
-    ∙ ap (λ (k : Core). (means-unary p Cardinality (means-filtered n.at (means (expr_of k)) (means (expr_of n.body.value)))).value b s q) (sym c.deref.ensures)
-    ∙ ap (λ (k : Core). (means-unary p Cardinality (means-filtered n.at (means (expr_of c.deref.result.now)) (means (expr_of k)))).value b s q) (sym c.deref-in-Filter.ensures) in
-    subst (λ (o : Outcome Tree). Evaluates c.filter_count.result o) (sym e) c.filter_count.ensures
-
-pub binding::elements_in-returns-in_ok-right-in-Binary-clause-elements : goal.binding::elements_in-returns-in_ok-right-in-Binary-clause-elements
-binding::elements_in-returns-in_ok-right-in-Binary-clause-elements t c =
+pub binding::elements_in-returns-in_ok-right-in-Binary : goal.binding::elements_in-returns-in_ok-right-in-Binary
+binding::elements_in-returns-in_ok-right-in-Binary t c =
     let n = c.in-Binary in
     let b = bound_in c.args.env in let s = present_in c.args.env in let q = next_in c.args.env in
     let left = ap (λ (k : Core). (means (expr_of k)).value b s q) (sym c.deref.ensures) ∙ c.in_ok-left-in-Binary.ensures in
@@ -280,7 +154,7 @@ binding::elements_in-returns-in_ok-right-in-Binary-clause-elements t c =
     ∙ two_gone c.args.place.now (binary_rule (binary_of n.operator) n.at) ((means (expr_of n.left.value)).value b s q) ((means (expr_of n.right.value)).value b s q)
     (tree_of_evaluated c.in_ok-left-in-Binary.left) (tree_of_evaluated c.in_ok-right-in-Binary.right) (tree_of c.value.result.now) (tree_of c.value-in-Binary.result.now)
     left right c.value.ensures c.value-in-Binary.ensures in
-    subst (λ (o : Outcome (List Tree)). GivesElements c.elements_of_two.result o) (sym e) c.elements_of_two.ensures.elements
+    subst (λ (o : Outcome (List Tree)). GivesElements c.elements_of_two.result o) (sym e) c.elements_of_two.ensures
 
 pub membership::two_hold-returns : goal.membership::two_hold-returns
 membership::two_hold-returns t c =
@@ -619,6 +493,18 @@ products::is_tuple_of-returns-else-items-parts t c = λ p.
     let ms = parts_of_cores c.args.parts.now in
     tuple_other ms vs (items (tree_of c.args.value.now)) (sym c.sequence_items.ensures ∙ ap (option_map (λ (us : Bor (List Value)). map tree_of us.now)) c.in-Some.is) (bound_in c.args.env) (present_in c.args.env) (next_in c.args.env)
     (λ e. let h = number_same c.in-Some.items.now c.args.parts.now e in omega (arith, c.if-items-parts.false))
+
+pub evaluate_logic-returns-in-Conjunction : goal.evaluate_logic-returns-in-Conjunction
+evaluate_logic-returns-in-Conjunction t c =
+    let n = c.in-Conjunction in
+    let e = means_conjunction c.args.core.now n.place n.parts n.is ∙ ap (λ us. means-conjunction n.place (parts_of_cores us)) (sym c.deref.ensures.value) in
+    subst (λ (m : Meaning). Evaluates c.conjunction.result (m.value (bound_in c.args.env) (present_in c.args.env) (next_in c.args.env))) (sym e) c.conjunction.ensures
+
+pub evaluate_logic-returns-in-Disjunction : goal.evaluate_logic-returns-in-Disjunction
+evaluate_logic-returns-in-Disjunction t c =
+    let n = c.in-Disjunction in
+    let e = means_disjunction c.args.core.now n.place n.parts n.is ∙ ap (λ us. means-disjunction n.place (parts_of_cores us)) (sym c.deref-in-Disjunction.ensures.value) in
+    subst (λ (m : Meaning). Evaluates c.disjunction.result (m.value (bound_in c.args.env) (present_in c.args.env) (next_in c.args.env))) (sym e) c.disjunction.ensures
 
 pub has-returns-in-Enumerated : goal.has-returns-in-Enumerated
 has-returns-in-Enumerated t c =

@@ -1,8 +1,8 @@
-use Rattle.std.proofs.Common.{◌≡◌, ◌≤◌, ℕ, ◌+◌, ◌*◌, ◌^◌, length, ◌++◌, ◌∷◌, [], max, map, drop, Option, Some, None, option_map, Bor, List, Ok}
+use Rattle.std.proofs.Common.{◌≡◌, ℕ, ◌+◌, ◌*◌, ◌^◌, length, ◌++◌, ◌∷◌, [], max, map, drop, Option, Some, None, option_map, Bor, List, Ok}
 use Rattle.tla_value.specs.TreeOf.{tree_of, pair_of}
 use Rattle.tla_core.specs.Lists.{each, all_hold, some_hold, first_passing, passing}
 use Rattle.tla_core.specs.Fault.{◌>>=◌, Outcome}
-use Rattle.tla_eval.specs.Private.Parts.{counted, named_value, nothing_of}
+use Rattle.tla_eval.specs.Private.Parts.{named_value, nothing_of}
 use Rattle.tla_operators.specs.Gathered.{then_more, IsGathered}
 use Rattle.tla_value.specs.Choices.{parts_of, choices}
 use Rattle.tla_core.specs.SetForms.{field_has, parts_have}
@@ -30,20 +30,14 @@ decreases-evaluate l = 2 ^ 66 * size-Core l.core.now + 3
 abbrev pub decreases-evaluate_usual : goal.decreases-evaluate_usual
 decreases-evaluate_usual l = 2 ^ 66 * size-Core l.core.now + 2
 
-abbrev pub decreases-evaluate_truth : goal.decreases-evaluate_truth
-decreases-evaluate_truth l = 2 ^ 66 * size-Core l.core.now + 2
-
-abbrev pub decreases-truth_of : goal.decreases-truth_of
-decreases-truth_of l = 2 ^ 66 * size-Core l.core.now + 1
+abbrev pub decreases-evaluate_logic : goal.decreases-evaluate_logic
+decreases-evaluate_logic l = 2 ^ 66 * size-Core l.core.now + 1
 
 abbrev pub decreases-evaluate_other : goal.decreases-evaluate_other
 decreases-evaluate_other l = 2 ^ 66 * size-Core l.core.now
 
 abbrev pub decreases-ask : goal.decreases-ask
 decreases-ask l = 2 ^ 66 * size-Core l.core.now + 7
-
-abbrev pub decreases-ask_value : goal.decreases-ask_value
-decreases-ask_value l = 2 ^ 66 * size-Core l.core.now + 5
 
 abbrev pub decreases-has : goal.decreases-has
 decreases-has l = 2 ^ 66 * size-Core l.core.now + 5
@@ -73,7 +67,7 @@ abbrev pub decreases-binding::first_passing : goal.decreases-binding::first_pass
 decreases-binding::first_passing l = 2 ^ 66 * size-Core l.body.now + 10
 
 abbrev pub decreases-patterns::body_value : goal.decreases-patterns::body_value
-decreases-patterns::body_value l = 2 ^ 66 * size-Core l.body.now + 4
+decreases-patterns::body_value l = 2 ^ 66 * size-Core l.body.now + 6
 
 abbrev pub decreases-patterns::opened : goal.decreases-patterns::opened
 decreases-patterns::opened l = 2 ^ 66 * size-Core l.body.now + 9
@@ -93,14 +87,8 @@ decreases-operands::on_two l = 2 ^ 66 * max (size-Core l.left.now) (size-Core l.
 abbrev pub decreases-operands::applied : goal.decreases-operands::applied
 decreases-operands::applied l = 2 ^ 66 * max (size-Core l.function.now) (size-Core l.argument.now) + 9
 
-abbrev pub decreases-operands::ask_two : goal.decreases-operands::ask_two
-decreases-operands::ask_two l = 2 ^ 66 * max (size-Core l.left.now) (size-Core l.right.now) + 9
-
 abbrev pub decreases-operands::equal : goal.decreases-operands::equal
 decreases-operands::equal l = 2 ^ 66 * max (size-Core l.left.now) (size-Core l.right.now) + 9
-
-abbrev pub decreases-logic::negation : goal.decreases-logic::negation
-decreases-logic::negation l = 2 ^ 66 * size-Core l.operand.now + 9
 
 abbrev pub decreases-logic::implies : goal.decreases-logic::implies
 decreases-logic::implies l = 2 ^ 66 * max (size-Core l.left.now) (size-Core l.right.now) + 9
@@ -179,15 +167,6 @@ decreases-binding::filter l = 2 ^ 66 * max (size-Core l.set.now) (size-Core l.bo
 
 abbrev pub decreases-binding::passing : goal.decreases-binding::passing
 decreases-binding::passing l = 2 ^ 66 * size-Core l.body.now + 10
-
-abbrev pub decreases-binding::filter_count : goal.decreases-binding::filter_count
-decreases-binding::filter_count l = 2 ^ 66 * max (size-Core l.set.now) (size-Core l.body.now) + 11
-
-abbrev pub decreases-binding::passing_count : goal.decreases-binding::passing_count
-decreases-binding::passing_count l = 2 ^ 66 * size-Core l.body.now + 10
-
-abbrev pub decreases-operands::cardinality : goal.decreases-operands::cardinality
-decreases-operands::cardinality l = 2 ^ 66 * size-Core l.operand.now + 10
 
 -- several names
 abbrev pub decreases-choices::image : goal.decreases-choices::image
@@ -297,13 +276,6 @@ abbrev pub invariant-binding::passing-loop-number : goal.invariant-binding::pass
 invariant-binding::passing-loop-number l =
     passing (λ v. asks l.place (means (expr_of l.body)) (bound_in l.env ++ v ∷ []) (present_in l.env) (next_in l.env)) (elements_of l.elements)
     ≡ (passing (λ v. asks l.place (means (expr_of l.body)) (bound_in l.env ++ v ∷ []) (present_in l.env) (next_in l.env)) (drop l.number (elements_of l.elements)) >>= λ ys. Ok (map tree_of l.kept.items ++ ys))
-
-abbrev pub invariant-binding::passing_count-loop-number : goal.invariant-binding::passing_count-loop-number
-invariant-binding::passing_count-loop-number l = record {
-  few : l.count ≤ l.number;
-  same : counted (passing (λ v. asks l.place (means (expr_of l.body)) (bound_in l.env ++ v ∷ []) (present_in l.env) (next_in l.env)) (elements_of l.elements))
-      ≡ (counted (passing (λ v. asks l.place (means (expr_of l.body)) (bound_in l.env ++ v ∷ []) (present_in l.env) (next_in l.env)) (drop l.number (elements_of l.elements))) >>= λ k. Ok (l.count + k));
-}
 
 abbrev pub invariant-choices::evaluated_each-loop-core : goal.invariant-choices::evaluated_each-loop-core
 invariant-choices::evaluated_each-loop-core l =

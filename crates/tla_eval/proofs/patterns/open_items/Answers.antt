@@ -1,7 +1,7 @@
 use Rattle.std.proofs.Common.{rules, Vec, Global, map, sym, subst, ◌∙◌}
 use Rattle.tla_value.specs.TreeOf.{tree_of}
 use Rattle.tla_value.specs.declared.value.Value.{Value}
-use Rattle.tla_eval.specs.Private.Frames.{bound_of}
+use Rattle.tla_eval.specs.Private.Environment.{bound_of}
 use Rattle.tla_operators.specs.Gives.{GivesBy}
 use Rattle.tla_eval.proofs.Fitting.{opened_first, opened_more}
 use Rattle.tla_eval.proofs.patterns.open_items.Goals as goal

@@ -2,7 +2,7 @@ use Rattle.std.proofs.Common.{◌≡◌, ◌++◌, drop, map, Ok}
 use Rattle.tla_value.specs.TreeOf.{tree_of}
 use Rattle.tla_core.specs.Fault.{◌>>=◌}
 use Rattle.tla_core.specs.Patterns.{opened_items}
-use Rattle.tla_eval.specs.Private.Frames.{bound_of}
+use Rattle.tla_eval.specs.Private.Environment.{bound_of}
 use Rattle.tla_eval.proofs.patterns.open_items.Given as goal
 
 -- what is left, behind what is there

@@ -1,15 +1,13 @@
 use Rattle.std.proofs.Common.{◌≡◌, to_z, of_z, w64, ap, ◌∙◌, arith}
 use Rattle.std.proofs.lemmas.Int.{ints}
-use Rattle.tla_value.specs.Tree.{set, trees}
 use Rattle.tla_value.specs.Choices.{range_of}
 use Rattle.tla_core.specs.Kinds.{rising_set}
 use Rattle.tla_sets.specs.Elements.{elements_rule}
 use Rattle.tla_sets.proofs.Known.{elements_known}
-use Rattle.tla_sets.proofs.Ranges.{range_list}
 use Rattle.tla_sets.proofs.elements.numbers_between.Goals as goal
 
-pub returns-clause-elements : goal.returns-clause-elements
-returns-clause-elements c =
+pub returns : goal.returns
+returns c =
     let low = to_z w64 (of_z w64 c.args.low) in
     let high = to_z w64 (of_z w64 c.args.high) in
     let from : c.args.low ≡ low = omega (arith, ints) in
@@ -17,9 +15,3 @@ returns-clause-elements c =
     ap (λ z. elements_rule c.args.place.now (rising_set c.args.at.now (range_of z c.args.high))) from
     ∙ ap (λ z. elements_rule c.args.place.now (rising_set c.args.at.now (range_of low z))) to
     ∙ elements_known c.args.place.now (rising_set c.args.at.now (range_of low high)) (range_of low high) c.in_ok-fits_range.ensures
-
-pub returns-clause-list : goal.returns-clause-list
-returns-clause-list c =
-    let low = to_z w64 (of_z w64 c.args.low) in
-    let high = to_z w64 (of_z w64 c.args.high) in
-    range_list c.args.at.now low high (set (trees (range_of low high))) c.in_ok-fits_range.ensures

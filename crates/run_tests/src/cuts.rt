@@ -1,0 +1,57 @@
+// Reports of whole checks, to writers that end, take few bytes a call or are interrupted once: what went out is a prefix, and its length is told.
+use crate::narrow::{End, Narrow};
+use crate::texts::{
+    COUNTER, COUNTER_REPORT, JUGS, JUGS_REPORT, NOT_FOUR, SMALL, TWO, TWO_REPORT, WITH_INVARIANT,
+};
+use std::alloc::Global;
+use std::process::Abort;
+use tla_check::{Checked, NoGate, Options, WriteFault, check, write_report};
+
+/// Whether a report goes out to such a writer as far as there is room, and its length is told.
+fn is_cut(checked: &Checked, report: &[u8], room: usize, mut out: Narrow) -> bool {
+    let result = write_report(checked, &mut out);
+    if room < report.len() {
+        let written = room as u64;
+        result == Err(WriteFault { written }) && out.taken.as_slice() == &report[..room]
+    } else {
+        result == Ok(()) && out.taken.as_slice() == report
+    }
+}
+
+/// Writes a report with room for each number of its bytes, in each way.
+fn assert_cuts(rt: &impl Abort, alloc: Global, checked: &Checked, report: &[u8]) {
+    for step in [1, usize::MAX] {
+        for end in [End::Fails, End::TakesNone, End::IsInterruptedOnce] {
+            for room in 0..=report.len() {
+                let out = Narrow::new(alloc, step, room, end);
+                assert!(rt; is_cut(checked, report, room, out), "{room} bytes");
+            }
+        }
+    }
+}
+
+/// A module, a configuration and the report.
+static TEXTS: [(&str, &str, &str); 3] = [
+    (COUNTER, WITH_INVARIANT, COUNTER_REPORT),
+    (JUGS, NOT_FOUR, JUGS_REPORT),
+    (TWO, SMALL, TWO_REPORT),
+];
+
+#[test]
+fn a_report_ends_where_its_writer_does(rt: HostRuntime) {
+    for &(module, configuration, report) in &TEXTS {
+        let options = Options::new(1, 1024, 100);
+        assert!(rt; options.is_some());
+        if let Some(options) = options {
+            let checked = check(
+                &rt,
+                rt.alloc(),
+                module.as_bytes(),
+                configuration.as_bytes(),
+                &options,
+                &NoGate,
+            );
+            assert_cuts(&rt, rt.alloc(), &checked, report.as_bytes());
+        }
+    }
+}
