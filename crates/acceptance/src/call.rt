@@ -13,7 +13,9 @@ use tla_core::{Core, Place};
 use tla_defs::parse_config;
 use tla_enum::{initials, successors};
 use tla_eval::{Partial, eval, member};
+use tla_lex::{Token, tokens};
 use tla_model::Model;
+use tla_parse::parse_module;
 use tla_search::{NoGate, Options, search, search_by};
 use tla_value::{SetValue, State, Value};
 
@@ -24,6 +26,7 @@ pub enum Call {
     InsertDeep,
     Power,
     Configure,
+    ParseCut,
     On(OnModel),
 }
 
@@ -34,6 +37,10 @@ pub enum OnModel {
     Build,
     /// Of the places of its action.
     Places,
+    /// Whether the formula fits where so many names are bound.
+    FitsNames(usize),
+    /// Whether its action fits, with present values or without.
+    FitsValues(bool),
     Evaluate,
     Member,
     Initials,
@@ -101,6 +108,42 @@ fn power(alloc: Global) -> Result<Made, Refusal> {
 fn configured(alloc: Global) -> Made {
     let answer = parse_config(alloc, b"INIT Init\nNEXT Next\nCONSTANT c =\n");
     unlent(alloc, answer.map(|_| Answer::Configuration))
+}
+
+/// A module whose tokens are cut short.
+static CUT: &[u8] = b"---- MODULE M ----
+EXTENDS Integers
+VARIABLE x
+Init == x = 0
+Next == /\\ x ' = ( x + 1 ) % 3
+        /\\ \\A y \\in S : IF y THEN x ELSE ~ y
+====";
+
+/// Whether each beginning of these tokens, shorter than all of them, is refused.
+fn are_refused(alloc: Global, tokens: &[Token]) -> bool {
+    for (length, _) in tokens.iter().enumerate() {
+        if parse_module(alloc, CUT, &tokens[..length]).is_ok() {
+            return false;
+        }
+    }
+    true
+}
+
+/// Whether a module's tokens are refused where they are cut short. No text has them: one without a closing line is refused
+/// by its tokens.
+fn parsed_cut(alloc: Global) -> Result<Made, Refusal> {
+    let tokens = tokens(alloc, CUT)?;
+    let answer = match parse_module(alloc, CUT, &tokens) {
+        Ok(_) => Ok(Answer::Truth(are_refused(alloc, &tokens))),
+        Err(error) => Err(error),
+    };
+    Ok(unlent(alloc, answer))
+}
+
+/// Whether an expression fits among so many bound names and variables.
+fn fitted(alloc: Global, core: &Core, names: usize, variables: usize, now: bool) -> Made {
+    let fits = core.fits(names, variables, now);
+    unlent(alloc, Ok::<Answer, Refusal>(Answer::Truth(fits)))
 }
 
 /// The place of a node, and those of its parts where it is a list of truths. No fault can stand there, so no report tells
@@ -231,6 +274,8 @@ fn make_on<R: AllocGlobal + Threads + Wait + Sync>(
     match call {
         OnModel::Build => Ok(unlent(alloc, Ok::<Answer, Refusal>(Answer::Model))),
         OnModel::Places => Ok(placed(alloc, model)),
+        OnModel::FitsNames(names) => Ok(fitted(alloc, formula(model), names, 0, false)),
+        OnModel::FitsValues(now) => Ok(fitted(alloc, model.next(), 0, 1, now)),
         OnModel::Evaluate => evaluated(alloc, model),
         OnModel::Member => tested(alloc, model),
         OnModel::Initials => Ok(begun(alloc, model)),
@@ -276,6 +321,7 @@ pub fn make<R: AllocGlobal + Threads + Wait + Sync>(
         Call::InsertDeep => inserted(two_numbers(alloc)?, deepest(alloc)?),
         Call::Power => power(alloc),
         Call::Configure => Ok(configured(alloc)),
+        Call::ParseCut => parsed_cut(alloc),
         Call::On(call) => make_on_model(rt, subject.formula, call),
     }
 }

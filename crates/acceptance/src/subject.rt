@@ -15,7 +15,7 @@ pub struct Subject {
 const TRUE: Pieces = &[("TRUE", 1)];
 
 /// Each call by its name. One that is refused has the name of its code.
-static SUBJECTS: [(&str, Call, Pieces); 28] = [
+static SUBJECTS: [(&str, Call, Pieces); 33] = [
     ("insert", Call::Insert, TRUE),
     ("V1", Call::Power, TRUE),
     ("V2", Call::InsertDeep, TRUE),
@@ -76,6 +76,19 @@ static SUBJECTS: [(&str, Call, Pieces); 28] = [
         Call::On(OnModel::Places),
         &[("A == <<x' = 1>>_(y)", 1)],
     ),
+    (
+        "one_name_fits",
+        Call::On(OnModel::FitsNames(1)),
+        &[("b = 7", 1)],
+    ),
+    (
+        "no_name_fits",
+        Call::On(OnModel::FitsNames(0)),
+        &[("b = 7", 1)],
+    ),
+    ("values_fit", Call::On(OnModel::FitsValues(true)), TRUE),
+    ("no_values_fit", Call::On(OnModel::FitsValues(false)), TRUE),
+    ("tokens_cut_short", Call::ParseCut, TRUE),
     ("build", Call::On(OnModel::Build), TRUE),
     ("L2", Call::On(OnModel::Build), &[("b ? b", 1)]),
     (

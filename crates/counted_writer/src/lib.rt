@@ -45,6 +45,3 @@ pub fn put_number<W: Write, I: Integer>(
     let mut buffer = Buffer::new();
     put(out, written, buffer.format(number).as_bytes())
 }
-
-#[cfg(test)]
-mod tests;

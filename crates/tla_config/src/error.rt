@@ -1,5 +1,8 @@
 //! Refusals of a configuration, and of what it and a module name.
 
+ghost use Rattle.std.specs.Prelude.{◌≡◌, Some, None};
+
+use std::alloc::{AllocError, AllocFailed};
 use tla_lex::Place;
 use tla_value::Text;
 
@@ -46,4 +49,54 @@ pub struct DefsError {
     pub source: Source,
     pub place: Option<Place>,
     pub name: Option<Text>,
+}
+
+impl DefsError {
+    /// Want of memory, where this text was read.
+    pub fn no_memory(source: Source) -> DefsError
+        ensures { result ≡ record { code = DefsCode.Memory; source = source; place = None; name = None } }
+    {
+        DefsError {
+            code: DefsCode::Memory,
+            source,
+            place: None,
+            name: None,
+        }
+    }
+
+    /// A refusal at a place, without a name.
+    pub fn at(code: DefsCode, source: Source, place: Place) -> DefsError
+        ensures { result ≡ record { code = code; source = source; place = Some place; name = None } }
+    {
+        DefsError {
+            code,
+            source,
+            place: Some(place),
+            name: None,
+        }
+    }
+}
+
+impl From<AllocError> for DefsError {
+    ghost use Rattle.std.specs.Prelude.{None};
+    ghost use Rattle.tla_config.specs.declared.error.DefsCode.TheVariants.{Memory};
+    ghost use Rattle.tla_config.specs.declared.error.Source.TheVariants.{Module};
+
+    ghost from_gives = { λ _ e. e ≡ record { code = Memory; source = Module; place = None; name = None } };
+
+    fn from(_error: AllocError) -> DefsError {
+        DefsError::no_memory(Source::Module)
+    }
+}
+
+impl<T: Drop> From<AllocFailed<T>> for DefsError {
+    ghost use Rattle.std.specs.Prelude.{None};
+    ghost use Rattle.tla_config.specs.declared.error.DefsCode.TheVariants.{Memory};
+    ghost use Rattle.tla_config.specs.declared.error.Source.TheVariants.{Module};
+
+    ghost from_gives = { λ _ e. e ≡ record { code = Memory; source = Module; place = None; name = None } };
+
+    fn from(_error: AllocFailed<T>) -> DefsError {
+        DefsError::no_memory(Source::Module)
+    }
 }

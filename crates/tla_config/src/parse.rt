@@ -19,34 +19,11 @@ use tla_lex::{Kind, LexError, Place, Scan, Stop, Token, configuration_tokens};
 use tla_tree::slice_of;
 use tla_value::Text;
 
-fn out_of_memory() -> DefsError
-    ensures { result ≡ record { code = DefsCode.Memory; source = Source.Configuration; place = None; name = None } }
-{
-    DefsError {
-        code: DefsCode::Memory,
-        source: Source::Configuration,
-        place: None,
-        name: None,
-    }
-}
-
-/// A refusal at a place.
-fn error_at(code: DefsCode, place: Place) -> DefsError
-    ensures { result ≡ record { code = code; source = Source.Configuration; place = Some place; name = None } }
-{
-    DefsError {
-        code,
-        source: Source::Configuration,
-        place: Some(place),
-        name: None,
-    }
-}
-
 /// The refusal of the text at a place.
 fn refused(place: Place) -> DefsError
     ensures { result ≡ record { code = DefsCode.ConfigurationText; source = Source.Configuration; place = Some place; name = None } }
 {
-    error_at(DefsCode::ConfigurationText, place)
+    DefsError::at(DefsCode::ConfigurationText, Source::Configuration, place)
 }
 
 /// The refusal of a text that has no tokens.
@@ -58,7 +35,7 @@ fn unread(error: LexError) -> DefsError
 {
     match error.place {
         Some(place) => refused(place),
-        None => out_of_memory(),
+        None => DefsError::no_memory(Source::Configuration),
     }
 }
 
@@ -93,7 +70,7 @@ fn left_out_at(alloc: Global, place: Place, word: &str) -> DefsError
             place: Some(place),
             name: Some(name),
         },
-        Err(_) => out_of_memory(),
+        Err(_) => DefsError::no_memory(Source::Configuration),
     }
 }
 
@@ -131,10 +108,12 @@ fn error_of(alloc: Global, text: &[u8], tokens: &[Token], end: Place, refusal: R
     match refusal {
         Refusal::Unexpected(at) => refused(place_of(tokens, at, end)),
         Refusal::LeftOut(at) => left_out(alloc, text, tokens, at),
-        Refusal::TooLarge(at) => {
-            error_at(DefsCode::ExpansionTooLarge, place_of(tokens, at, end))
-        }
-        Refusal::NoMemory => out_of_memory(),
+        Refusal::TooLarge(at) => DefsError::at(
+            DefsCode::ExpansionTooLarge,
+            Source::Configuration,
+            place_of(tokens, at, end),
+        ),
+        Refusal::NoMemory => DefsError::no_memory(Source::Configuration),
     }
 }
 

@@ -83,10 +83,7 @@ fn bytes_of(alloc: Global, literal: &[u8]) -> Result<Vec<u8>, Refusal>
     let [_, ..] = literal else {
         return Ok(Vec::new(alloc));
     };
-    match string_text(alloc, literal) {
-        Ok(bytes) => Ok(bytes),
-        Err(_) => Err(Refusal::NoMemory),
-    }
+    Ok(string_text(alloc, literal)?)
 }
 
 /// The text of these bytes, where they are UTF-8, in the item of this number.

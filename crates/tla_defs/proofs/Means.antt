@@ -11,8 +11,8 @@ use Rattle.tla_expand.specs.declared.primes.Primes.TheVariants.{Once}
 use Rattle.tla_expand.specs.Meanings.{Scope}
 use Rattle.tla_expand.specs.Primes.{with_primes}
 use Rattle.tla_model.specs.ModelTree.{ModelTree}
-use Rattle.tla_defs.specs.declared.meant.Meant.{Meant}
-use Rattle.tla_defs.specs.declared.meant.Meant.TheVariants as meant
+use Rattle.tla_defs.specs.declared.init_and_next.InitAndNext.{InitAndNext}
+use Rattle.tla_defs.specs.declared.init_and_next.InitAndNext.TheVariants as meant
 use Rattle.tla_defs.specs.Bodies.{body_of}
 use Rattle.tla_defs.specs.Global.{global}
 use Rattle.tla_names.specs.Misuses.{variables_of}
@@ -25,10 +25,10 @@ use Rattle.tla_defs.proofs.States.{too_long}
 use Rattle.tla_defs.proofs.Unique.{same_one, same_some}
 
 -- they are those of the configuration
-abbrev pub Means : List UnitTree → List Statement → Meant → Type 0
+abbrev pub Means : List UnitTree → List Statement → InitAndNext → Type 0
 Means us cs m = (i : Tree) × (initial_tree m ≡ Some i) × IsBehaviour us cs i (action_tree m)
 
-pub meant_behaviour : (us : List UnitTree) (cs : List Statement) (b : Behaviour) (m : Meant) → IsOnly cs b → IsMeant us (items_of cs) (global us (items_of cs)) (length (variables_of us)) b m → Means us cs m
+pub meant_behaviour : (us : List UnitTree) (cs : List Statement) (b : Behaviour) (m : InitAndNext) → IsOnly cs b → IsMeant us (items_of cs) (global us (items_of cs)) (length (variables_of us)) b m → Means us cs m
 meant_behaviour us cs (Named i a) (meant.Named j k) only h = (
   t.Name j.now,
   refl,
@@ -77,7 +77,7 @@ none_of_behaviour us cs (Specified p w) i a e only (inr (l, many)) none (inr h) 
     (subst (λ t. conjunction_of (initials_of (length us) (body_of us (items_of cs)) (conjuncts (length us) (replaced us (items_of cs)) t)) ≡ Some i) body form.is_initial) many.many x init
 
 -- the scope, the items and the number of variables are those of the texts
-pub meaning_behaviour : (us : List UnitTree) (cs : List Statement) (is : List Item) (σ : Scope) (n : ℕ) (b : Behaviour) (m : Meant) → is ≡ items_of cs → σ ≡ global us (items_of cs) → n ≡ length (variables_of us)
+pub meaning_behaviour : (us : List UnitTree) (cs : List Statement) (is : List Item) (σ : Scope) (n : ℕ) (b : Behaviour) (m : InitAndNext) → is ≡ items_of cs → σ ≡ global us (items_of cs) → n ≡ length (variables_of us)
     → IsOnly cs b → IsMeant us is σ n b m → Means us cs m
 meaning_behaviour us cs is σ n b m p q r only h = meant_behaviour us cs b m only (rw (p, q, r) at h)
 

@@ -5,5 +5,5 @@ pub mod Seen
 pub mod Parts
 pub mod Table
 pub mod Conjuncts
-pub mod Shapes
+pub mod Splits
 pub mod Specified

@@ -30,8 +30,7 @@ ghost use Rattle.tla_defs.specs.Private.Specified.{IsOnly};
 
 use crate::behaviour::{Behaviour, named_behaviour};
 use crate::global::global_scope;
-use crate::list::push;
-use crate::meant::{initial_predicate, meaning, next_action};
+use crate::init_and_next::{initial_predicate, meaning, next_action};
 use std::alloc::Global;
 use tla_config::{Config, DefsCode, DefsError, Source, Statement};
 use tla_core::Core;
@@ -39,8 +38,8 @@ use tla_expand::Scopes;
 use tla_formulas::{Places, assumption, state_predicate};
 use tla_items::{Items, definitions_of, straight, valued};
 use tla_model::{Model, StatePredicate};
-use tla_names::{Names, no_memory, refusal_at, statements_named, text_of, variables};
-use tla_tree::{Module, Unit, Written};
+use tla_names::{Names, statements_named, text_of, variables};
+use tla_tree::{Module, Unit, Written, push};
 
 /// Whether deadlock is looked for.
 fn looks_for_deadlock(statements: &[Statement]) -> bool
@@ -63,9 +62,7 @@ fn push_names<'a>(all: &mut Vec<&'a Written>, names: &'a [Written]) -> Result<()
 {
     let mut left = names;
     while let [first, rest @ ..] = left {
-        if all.push(first).is_err() {
-            return Err(no_memory());
-        }
+        all.push(first)?;
         left = rest;
     }
     Ok(())
@@ -114,13 +111,7 @@ fn boxed<T: Drop>(alloc: Global, found: Result<T, DefsError>) -> Result<Box<T>, 
     ensures ok { IfOk result (λ b. found ≡ Ok b.value) }
     ensures err { IfErr result (λ e. e.code ≢ Memory → found ≡ Err e) }
 {
-    match found {
-        Ok(item) => match Box::new(alloc, item) {
-            Ok(b) => Ok(b),
-            Err(_) => Err(no_memory()),
-        },
-        Err(e) => Err(e),
-    }
+    Ok(Box::new(alloc, found?)?)
 }
 
 /// The invariant or the constraint of this name.
@@ -288,7 +279,7 @@ fn model_or_refusal(alloc: Global, units: &[Unit], config: &Config) -> Result<Mo
         Ok(found) => found,
         Err(place) => {
             let source = Source::Configuration;
-            return Err(refusal_at(DefsCode::BehaviourCount, source, place));
+            return Err(DefsError::at(DefsCode::BehaviourCount, source, place));
         }
     };
     let definitions = definitions_of(alloc, units)?;
@@ -315,7 +306,7 @@ pub fn build(alloc: Global, module: &Module, config: &Config) -> Result<Model, D
     match model_or_refusal(alloc, module.units.as_slice(), config) {
         Ok(model) => Ok(model),
         Err(e) => match e.code {
-            DefsCode::Memory => Err(no_memory()),
+            DefsCode::Memory => Err(DefsError::no_memory(Source::Module)),
             _ => Err(e),
         },
     }

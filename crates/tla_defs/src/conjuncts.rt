@@ -8,18 +8,16 @@ ghost use Rattle.tla_defs.specs.Bodies as bodies;
 ghost use Rattle.tla_defs.specs.Private.Conjuncts.{replaced_in, fair_names, conjuncts_from, conjuncts_left, initials_by, AreMadeOfFairness, AreFoundOrLeft};
 ghost use Rattle.tla_defs.specs.Private.Parts.{steps_in, IsOfMany};
 ghost use Rattle.tla_defs.specs.Private.Seen.{tree_at, seen};
-ghost use Rattle.tla_defs.specs.Private.Shapes.{conjuncts_by};
+ghost use Rattle.tla_defs.specs.Private.Splits.{conjuncts_by};
 ghost use Rattle.tla_defs.specs.Specification as spec;
 
 use crate::fairness::is_fair;
-use crate::list::push;
 use crate::parts::Parts;
 use crate::table::Definitions;
 use std::alloc::Global;
-use tla_config::{DefsCode, DefsError, Source};
+use tla_config::{DefsError, Source};
 use tla_lex::Place;
-use tla_names::no_memory;
-use tla_tree::{Bullet, Expr, Infix, Word};
+use tla_tree::{Bullet, Expr, Infix, Word, push};
 
 /// A formula, in which names stand for their definitions so many definitions deep.
 #[derive(Clone, Copy)]
@@ -44,9 +42,9 @@ fn push_each<'a>(
     Ok(())
 }
 
-/// What a formula is to the conjunction that it is in.
+/// How a formula is split into conjuncts.
 #[derive(Clone, Copy)]
-pub(crate) enum Shape<'a> {
+pub(crate) enum Split<'a> {
     /// The formula in parentheses.
     Same(&'a Expr),
     Two(&'a Expr, &'a Expr),
@@ -56,18 +54,18 @@ pub(crate) enum Shape<'a> {
     Whole,
 }
 
-fn shape_of<'a>(tree: &'a Expr) -> Shape<'a>
+fn split_of<'a>(tree: &'a Expr) -> Split<'a>
     ensures { (ρ : _) → spec.conjuncts_in ρ (view tree.entry.now) ≡ conjuncts_by ρ (view tree.entry.now) result }
 {
     match tree {
-        Expr::Paren(_, inner) => Shape::Same(inner),
-        Expr::Binary(_, Infix::And, _, first, second) => Shape::Two(first, second),
+        Expr::Paren(_, inner) => Split::Same(inner),
+        Expr::Binary(_, Infix::And, _, first, second) => Split::Two(first, second),
         Expr::Junction(_, bullet, items) => match bullet {
-            Bullet::And => Shape::Many(items),
-            Bullet::Or => Shape::Whole,
+            Bullet::And => Split::Many(items),
+            Bullet::Or => Split::Whole,
         },
-        Expr::Name(name) => Shape::Name(&name.word),
-        _ => Shape::Whole,
+        Expr::Name(name) => Split::Name(&name.word),
+        _ => Split::Whole,
     }
 }
 
@@ -144,9 +142,9 @@ fn go_on<'a>(
     ensures err { IfErr result (λ e. e.code ≡ Memory) }
 {
     let Formula { tree, names } = formula;
-    match shape_of(tree) {
-        Shape::Same(inner) => push(&mut walk.left, Formula { tree: inner, names }),
-        Shape::Two(first, second) => {
+    match split_of(tree) {
+        Split::Same(inner) => Ok(push(&mut walk.left, Formula { tree: inner, names })?),
+        Split::Two(first, second) => {
             push(
                 &mut walk.left,
                 Formula {
@@ -154,19 +152,19 @@ fn go_on<'a>(
                     names,
                 },
             )?;
-            push(&mut walk.left, Formula { tree: first, names })
+            Ok(push(&mut walk.left, Formula { tree: first, names })?)
         }
-        Shape::Many(items) => push_each(&mut walk.left, items, names),
-        Shape::Name(name) => {
+        Split::Many(items) => push_each(&mut walk.left, items, names),
+        Split::Name(name) => {
             if is_fair(alloc, &classes.fairness, tree)? {
                 return Ok(());
             }
             match classes.formula(name.as_bytes(), names) {
-                Some(body) => push(&mut walk.left, body),
+                Some(body) => Ok(push(&mut walk.left, body)?),
                 None => walk.parts.add(alloc, &classes.fairness, tree),
             }
         }
-        Shape::Whole => walk.parts.add(alloc, &classes.fairness, tree),
+        Split::Whole => walk.parts.add(alloc, &classes.fairness, tree),
     }
 }
 
@@ -199,5 +197,5 @@ pub(crate) fn parts_of<'a>(
         };
         go_on(alloc, classes, formula, &mut walk)?;
     }
-    Err(no_memory())
+    Err(DefsError::no_memory(Source::Module))
 }

@@ -16,10 +16,10 @@ ghost use Rattle.tla_items.specs.Items as items;
 ghost use Rattle.tla_names.specs.Scope.{signature};
 
 use std::alloc::Global;
-use tla_config::{DefsError, Item};
+use tla_config::{DefsError, Item, Source};
 use tla_expand::Scopes;
 use tla_items::{Items, name_of, still_open, with_operators};
-use tla_names::{Names, no_memory};
+use tla_names::Names;
 use tla_tree::{Definition, Expr, Unit, Word, Written};
 
 /// A scope, and how many variables are in it.
@@ -37,11 +37,11 @@ fn with_variable<'a>(counted: Counted<'a>, name: &'a Word) -> Result<Counted<'a>
 {
     let number = counted.variables;
     let Some(variables) = number.checked_add(1) else {
-        return Err(no_memory());
+        return Err(DefsError::no_memory(Source::Module));
     };
     match counted.scopes.with_variable(name, number) {
         Ok(scopes) => Ok(Counted { scopes, variables }),
-        Err(_) => Err(no_memory()),
+        Err(_) => Err(DefsError::no_memory(Source::Module)),
     }
 }
 
@@ -73,7 +73,7 @@ fn with_operator<'a>(
     let variables = counted.variables;
     match counted.scopes.with_operator(name, body) {
         Ok(scopes) => Ok(Counted { scopes, variables }),
-        Err(_) => Err(no_memory()),
+        Err(_) => Err(DefsError::no_memory(Source::Module)),
     }
 }
 
@@ -89,7 +89,7 @@ fn with_definition<'a>(
     let variables = counted.variables;
     match counted.scopes.with_definition(definition) {
         Ok(scopes) => Ok(Counted { scopes, variables }),
-        Err(_) => Err(no_memory()),
+        Err(_) => Err(DefsError::no_memory(Source::Module)),
     }
 }
 
@@ -163,7 +163,7 @@ fn with_item<'a>(scopes: Scopes<'a>, item: &'a Item) -> Result<Scopes<'a>, DefsE
     };
     match found {
         Ok(scopes) => Ok(scopes),
-        Err(_) => Err(no_memory()),
+        Err(_) => Err(DefsError::no_memory(Source::Module)),
     }
 }
 

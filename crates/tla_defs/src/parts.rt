@@ -9,14 +9,12 @@ ghost use Rattle.tla_defs.specs.Private.Seen.{tree_at, seen};
 ghost use Rattle.tla_defs.specs.Specification as spec;
 
 use crate::fairness::is_fair;
-use crate::list::push;
 use crate::table::Definitions;
 use std::alloc::Global;
 use tla_config::{DefsCode, DefsError, Source};
 use tla_lex::Place;
 use tla_model::MAX_NODES;
-use tla_names::{no_memory, refusal_at};
-use tla_tree::{Expr, Prefix, Step};
+use tla_tree::{Expr, Prefix, Step, push};
 
 /// An action and its subscript.
 #[derive(Clone, Copy)]
@@ -77,12 +75,12 @@ impl<'a> Parts<'a> {
         ensures err { IfErr result (λ e. e.code ≡ Memory) }
     {
         if let Some(step) = always(tree) {
-            return push(&mut self.steps, step);
+            return Ok(push(&mut self.steps, step)?);
         }
         if is_fair(alloc, definitions, tree)? {
             return Ok(());
         }
-        push(&mut self.initial, tree)
+        Ok(push(&mut self.initial, tree)?)
     }
 
     /// The refusal of two steps, or of more other conjuncts than an expression within the limits has nodes, where
@@ -92,11 +90,11 @@ impl<'a> Parts<'a> {
         ensures few { result ≡ None → AreFew self.now }
     {
         if self.steps.len() > 1 {
-            return Some(refusal_at(DefsCode::SpecificationForm, Source::Configuration, place));
+            return Some(DefsError::at(DefsCode::SpecificationForm, Source::Configuration, place));
         }
         if self.initial.len() > MAX_NODES {
             let at = self.initial[0].place();
-            return Some(refusal_at(DefsCode::ExpansionTooLarge, Source::Module, at));
+            return Some(DefsError::at(DefsCode::ExpansionTooLarge, Source::Module, at));
         }
         None
     }

@@ -22,7 +22,6 @@ use tla_config::{DefsCode, DefsError, Source};
 use tla_expand::{Failure, Primes, Scopes};
 use tla_items::Items;
 use tla_lex::Place;
-use tla_names::{no_memory, refusal_at};
 use tla_tree::{Expr, Unit, Written};
 
 /// The conjuncts of the initial predicate, and the action.
@@ -36,7 +35,7 @@ pub(crate) struct Specified<'a> {
 fn not_of_form(place: Place) -> DefsError
     ensures { result ≡ refusal.refusal_at DefsCode.SpecificationForm Source.Configuration place }
 {
-    refusal_at(DefsCode::SpecificationForm, Source::Configuration, place)
+    DefsError::at(DefsCode::SpecificationForm, Source::Configuration, place)
 }
 
 /// A subscript that covers so many variables.
@@ -54,7 +53,7 @@ fn covered<'a>(
     match scopes.covers(alloc, subscript, variables) {
         Ok(true) => Ok(()),
         Ok(false) => Err(not_of_form(place)),
-        Err(_) => Err(no_memory()),
+        Err(_) => Err(DefsError::no_memory(Source::Module)),
     }
 }
 
@@ -74,7 +73,7 @@ fn of_state_level<'a>(
             Ok(())
         }
         Err(Failure::TooLarge) => Ok(()),
-        Err(Failure::Memory) => Err(no_memory()),
+        Err(Failure::Memory) => Err(DefsError::no_memory(Source::Module)),
         Err(Failure::NoExpansion(_)) => Err(not_of_form(place)),
     }
 }
@@ -106,10 +105,7 @@ fn is_new(
     ensures err { IfErr result (λ e. e.code ≡ Memory) }
 {
     let Place { line, column } = says_at(definitions, tree);
-    match met.insert(PlaceKey { line, column }) {
-        Ok(fresh) => Ok(fresh),
-        Err(_) => Err(no_memory()),
-    }
+    Ok(met.insert(PlaceKey { line, column })?)
 }
 
 /// The conjuncts of an initial predicate. What is said there twice is looked at once.

@@ -19,7 +19,6 @@ use indexmap::IndexMap;
 use std::alloc::Global;
 use tla_config::DefsError;
 use tla_items::Items;
-use tla_names::no_memory;
 use tla_tree::{Definition, Expr, Unit};
 
 /// A class of formulas, of which a name is where its definition is.
@@ -86,10 +85,8 @@ impl<'a> Table<'a> {
             tree,
             is_found: false,
         };
-        match self.definitions.insert(name, body) {
-            Ok(_) => Ok(()),
-            Err(_) => Err(no_memory()),
-        }
+        self.definitions.insert(name, body)?;
+        Ok(())
     }
 
     /// With the definition of a unit. The only error is want of memory.
@@ -162,10 +159,8 @@ impl<'a> Table<'a> {
             tree: body.tree,
             is_found: true,
         };
-        match self.definitions.insert(name, found) {
-            Ok(_) => Ok(true),
-            Err(_) => Err(no_memory()),
-        }
+        self.definitions.insert(name, found)?;
+        Ok(true)
     }
 
     /// Whether a definition is found to be of the class only now. The only error is want of memory.

@@ -10,7 +10,7 @@ use Rattle.tla_tree.specs.Tree.{Tree, Trees, trees}
 use Rattle.tla_tree.specs.View.{view}
 use Rattle.tla_expand.specs.declared.failure.Failure.{Failure}
 use Rattle.tla_expand.specs.declared.failure.Failure.TheVariants.{NoExpansion, TooLarge, Memory}
-use Rattle.tla_expand.specs.declared.nodes.Many.TheVariants as manies
+use Rattle.tla_expand.specs.declared.nodes.ListNode.TheVariants as manies
 use Rattle.tla_expand.specs.declared.primes.Primes.{Primes}
 use Rattle.tla_expand.specs.Lists.{exprs}
 use Rattle.tla_expand.specs.Meanings.{Scope}

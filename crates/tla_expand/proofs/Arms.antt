@@ -14,9 +14,9 @@ use Rattle.tla_expand.specs.declared.nodes.Headed.TheVariants as headed
 use Rattle.tla_tree.specs.declared.tree.Step.TheVariants as steps
 use Rattle.tla_expand.specs.declared.nodes.Form.{Form}
 use Rattle.tla_expand.specs.declared.nodes.Form.TheVariants as form
-use Rattle.tla_expand.specs.declared.nodes.Two.{Two}
-use Rattle.tla_expand.specs.declared.nodes.Two.TheVariants as twos
-use Rattle.tla_expand.specs.declared.nodes.Many.{Many}
+use Rattle.tla_expand.specs.declared.nodes.BinaryNode.{BinaryNode}
+use Rattle.tla_expand.specs.declared.nodes.BinaryNode.TheVariants as twos
+use Rattle.tla_expand.specs.declared.nodes.ListNode.{ListNode}
 use Rattle.tla_expand.specs.declared.nodes.Fielded.{Fielded}
 use Rattle.tla_expand.specs.Maybe.{◌>>=◌, each_of}
 use Rattle.tla_expand.specs.Lists.{exprs, arms_with, fields_of, updates_of}
@@ -33,11 +33,11 @@ use Rattle.tla_expand.proofs.NamedParts.{fields_in, updates_in}
 use Rattle.tla_expand.proofs.Kept.{kept_settled, changed_shown}
 
 module _ (fm : Form) (σ : Scope) (d : ℕ) (k : Primes) where
-  pub two_form : (p : Place) (f : Two) (a b : Bor syntax.Expr) → fm ≡ form.Two p f a b
+  pub two_form : (p : Place) (f : BinaryNode) (a b : Bor syntax.Expr) → fm ≡ form.Two p f a b
       → with_primes k (form_in fm σ d) ≡ (both (part_in k σ d a.now) (part_in k σ d b.now) >>= λ xy. Some (two f p xy.0 xy.1))
   two_form p f a b q = rw q (two_shown f k p (expand (view a.now) σ d) (expand (view b.now) σ d))
 
-  pub many_form : (p : Place) (f : Many) (ts : Bor (List syntax.Expr)) → fm ≡ form.Many p f ts
+  pub many_form : (p : Place) (f : ListNode) (ts : Bor (List syntax.Expr)) → fm ≡ form.Many p f ts
       → with_primes k (form_in fm σ d) ≡ (each_of (part_in k σ d) ts.now >>= λ xs. Some (many f p (exprs xs)))
   many_form p f ts q = rw q (many_shown f k p (expand_each (trees (map view ts.now)) σ d) (each_of (part_in k σ d) ts.now) (each_in k ts.now σ d))
 

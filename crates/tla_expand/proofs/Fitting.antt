@@ -25,14 +25,14 @@ use Rattle.tla_expand.specs.declared.nodes.Builtin.{Builtin}
 use Rattle.tla_expand.specs.declared.nodes.Builtin.TheVariants as builtin
 use Rattle.tla_expand.specs.declared.nodes.Binding.{Binding}
 use Rattle.tla_expand.specs.declared.nodes.Binding.TheVariants as binds
-use Rattle.tla_expand.specs.declared.nodes.One.{One}
-use Rattle.tla_expand.specs.declared.nodes.One.TheVariants as ones
+use Rattle.tla_expand.specs.declared.nodes.UnaryNode.{UnaryNode}
+use Rattle.tla_expand.specs.declared.nodes.UnaryNode.TheVariants as ones
 use Rattle.tla_expand.specs.declared.nodes.Gather.{Gather}
 use Rattle.tla_expand.specs.declared.nodes.Gather.TheVariants as gathers
-use Rattle.tla_expand.specs.declared.nodes.Two.{Two}
-use Rattle.tla_expand.specs.declared.nodes.Two.TheVariants as w
-use Rattle.tla_expand.specs.declared.nodes.Three.{Three}
-use Rattle.tla_expand.specs.declared.nodes.Three.TheVariants as h
+use Rattle.tla_expand.specs.declared.nodes.BinaryNode.{BinaryNode}
+use Rattle.tla_expand.specs.declared.nodes.BinaryNode.TheVariants as w
+use Rattle.tla_expand.specs.declared.nodes.TernaryNode.{TernaryNode}
+use Rattle.tla_expand.specs.declared.nodes.TernaryNode.TheVariants as h
 use Rattle.tla_expand.specs.declared.primes.Primes.TheVariants.{Once}
 use Rattle.tla_expand.specs.Maybe.{◌>>=◌, each_of}
 use Rattle.tla_expand.specs.Places as names
@@ -58,7 +58,7 @@ some d v x e q k = let same : x ≡ e = cc in rw (sym same) k
 some_each : (d v : ℕ) (x e : Exprs) → Some x ≡ Some e → fits_all x d v true ≡ true → fits_all e d v true ≡ true
 some_each d v x e q k = let same : x ≡ e = cc in rw (sym same) k
 
-two_fits : (f : Two) (p : Place) (x y : Expr) (d v : ℕ) → fits x d v true ≡ true → fits y d v true ≡ true → fits (two f p x y) d v true ≡ true
+two_fits : (f : BinaryNode) (p : Place) (x y : Expr) (d v : ℕ) → fits x d v true ≡ true → fits y d v true ≡ true → fits (two f p x y) d v true ≡ true
 two_fits (w.Binary b) p x y d v i j = rw (i, j) refl
 two_fits w.Apply p x y d v i j = rw (i, j) refl
 two_fits w.Equal p x y d v i j = rw (i, j) refl
@@ -74,7 +74,7 @@ two_fits w.Minus p x y d v i j = rw (i, j) refl
 two_fits w.Assert p x y d v i j = rw (i, j) refl
 two_fits w.Functions p x y d v i j = rw (i, j) refl
 
-three_fits : (f : Three) (p : Place) (x y z : Expr) (d v : ℕ) → fits x d v true ≡ true → fits y d v true ≡ true → fits z d v true ≡ true → fits (three f p x y z) d v true ≡ true
+three_fits : (f : TernaryNode) (p : Place) (x y z : Expr) (d v : ℕ) → fits x d v true ≡ true → fits y d v true ≡ true → fits z d v true ≡ true → fits (three f p x y z) d v true ≡ true
 three_fits h.If p x y z d v i j k = rw (i, j, k) refl
 three_fits h.SubSeq p x y z d v i j k = rw (i, j, k) refl
 
@@ -237,13 +237,13 @@ word_fits p False d v = refl
 word_fits p Boolean d v = refl
 word_fits p String d v = refl
 
-one_fits : (f : One) (p : Place) (x : Expr) (d v : ℕ) → fits x d v true ≡ true → fits (one f p x) d v true ≡ true
+one_fits : (f : UnaryNode) (p : Place) (x : Expr) (d v : ℕ) → fits x d v true ≡ true → fits (one f p x) d v true ≡ true
 one_fits (ones.Unary u) p x d v i = i
 one_fits ones.Power p x d v i = i
 one_fits ones.Sequences p x d v i = i
 one_fits (ones.Field w) p x d v i = i
 
-applied_fits : (f : Option One) (p : Place) (x : Expr) (d v : ℕ) → fits x d v true ≡ true → (e : Expr) → applied f p x ≡ Some e → fits e d v true ≡ true
+applied_fits : (f : Option UnaryNode) (p : Place) (x : Expr) (d v : ℕ) → fits x d v true ≡ true → (e : Expr) → applied f p x ≡ Some e → fits e d v true ≡ true
 applied_fits None p x d v i e q = cc
 applied_fits (Some f) p x d v i e q = some d v (one f p x) e q (one_fits f p x d v i)
 

@@ -6,7 +6,7 @@ use Rattle.tla_tree.specs.declared.tree.Expr as syntax
 use Rattle.tla_tree.specs.declared.word.Written.{Written}
 use Rattle.tla_tree.specs.View.{view}
 use Rattle.tla_expand.specs.declared.arena.Entry.{Entry}
-use Rattle.tla_expand.specs.declared.arena.Given.{Given}
+use Rattle.tla_expand.specs.declared.arena.Projection.{Projection}
 use Rattle.tla_expand.specs.declared.arena.What.TheVariants.{Gives}
 use Rattle.tla_expand.specs.declared.primes.Primes.{Primes}
 use Rattle.tla_expand.specs.declared.primes.Primes.TheVariants.{Never, Once, Twice}
@@ -77,26 +77,26 @@ argument_beyond [] i σ d h = refl
 argument_beyond (e ∷ es) zero σ d h = absurd (omega arith)
 argument_beyond (e ∷ es) (suc i) σ d h = argument_beyond es i σ d (omega arith)
 
-pub use_given : (n : ℕ) (g : Given) (es : List syntax.Expr) (e : syntax.Expr) → n ≡ length es → g.index < length es → e ≡ get_or es g.index e
+pub use_given : (n : ℕ) (g : Projection) (es : List syntax.Expr) (e : syntax.Expr) → n ≡ length es → g.index < length es → e ≡ get_or es g.index e
     → (σ : Scope) (p : Place) (d : ℕ) → given n g p (arguments_in es σ) d ≡ with_primes g.primes (expand (view e) σ d)
 use_given n g es e c b h = λ σ p d. rw (c, count_row es σ, argument_row es g.index e σ b h) refl
 
-pub use_other : (n : ℕ) (g : Given) (es : List syntax.Expr) → (n ≡ length es → ⊥) → (σ : Scope) (p : Place) (d : ℕ) → given n g p (arguments_in es σ) d ≡ None
+pub use_other : (n : ℕ) (g : Projection) (es : List syntax.Expr) → (n ≡ length es → ⊥) → (σ : Scope) (p : Place) (d : ℕ) → given n g p (arguments_in es σ) d ≡ None
 use_other n g es h = λ σ p d. rw (count_other n es σ h) refl
 
-pub use_beyond : (n : ℕ) (g : Given) (es : List syntax.Expr) → n ≡ length es → length es ≤ g.index → (σ : Scope) (p : Place) (d : ℕ) → given n g p (arguments_in es σ) d ≡ None
+pub use_beyond : (n : ℕ) (g : Projection) (es : List syntax.Expr) → n ≡ length es → length es ≤ g.index → (σ : Scope) (p : Place) (d : ℕ) → given n g p (arguments_in es σ) d ≡ None
 use_beyond n g es c h = λ σ p d. rw (c, count_row es σ) (ap (λ (o : Option Expr). with_primes g.primes o) (argument_beyond es g.index σ d h))
 
 -- the use of a definition that gives back an argument
-pub use_gives : (k : Primes) (at : ℕ → Scope) (m : Meaning) (e : Entry) (n : ℕ) (g : Given) (es : List syntax.Expr) (x : syntax.Expr) (σ : Scope) (p : Place) → m ≡ meaning_of at e.what → e.what ≡ Gives n g
+pub use_gives : (k : Primes) (at : ℕ → Scope) (m : Meaning) (e : Entry) (n : ℕ) (g : Projection) (es : List syntax.Expr) (x : syntax.Expr) (σ : Scope) (p : Place) → m ≡ meaning_of at e.what → e.what ≡ Gives n g
     → ((ρ : Scope) (q : Place) (d : ℕ) → given n g q (arguments_in es ρ) d ≡ with_primes g.primes (expand (view x) ρ d)) → (d : ℕ) → with_primes k (m p (arguments_in es σ) d) ≡ with_primes (with_more k g.primes) (expand (view x) σ d)
 use_gives k at m e n g es x σ p h w c = λ d. rw (h, w) (ap (λ (o : Option Expr). with_primes k o) (c σ p d) ∙ shown_more k g.primes (expand (view x) σ d))
 
-pub use_gives_none : (at : ℕ → Scope) (m : Meaning) (e : Entry) (n : ℕ) (g : Given) (es : List syntax.Expr) (σ : Scope) (p : Place) → m ≡ meaning_of at e.what → e.what ≡ Gives n g
+pub use_gives_none : (at : ℕ → Scope) (m : Meaning) (e : Entry) (n : ℕ) (g : Projection) (es : List syntax.Expr) (σ : Scope) (p : Place) → m ≡ meaning_of at e.what → e.what ≡ Gives n g
     → ((ρ : Scope) (q : Place) (d : ℕ) → given n g q (arguments_in es ρ) d ≡ None) → (d : ℕ) → m p (arguments_in es σ) d ≡ None
 use_gives_none at m e n g es σ p h w c = λ d. rw (h, w) (c σ p d)
 
 -- without primes
-pub use_never : (at : ℕ → Scope) (m : Meaning) (e : Entry) (n : ℕ) (g : Given) (es : List syntax.Expr) (x : syntax.Expr) → m ≡ meaning_of at e.what → e.what ≡ Gives n g → g.primes ≡ Never
+pub use_never : (at : ℕ → Scope) (m : Meaning) (e : Entry) (n : ℕ) (g : Projection) (es : List syntax.Expr) (x : syntax.Expr) → m ≡ meaning_of at e.what → e.what ≡ Gives n g → g.primes ≡ Never
     → ((ρ : Scope) (q : Place) (d : ℕ) → given n g q (arguments_in es ρ) d ≡ with_primes g.primes (expand (view x) ρ d)) → (σ : Scope) (p : Place) (d : ℕ) → m p (arguments_in es σ) d ≡ expand (view x) σ d
 use_never at m e n g es x h w q c = λ σ p d. rw (h, w) (c σ p d ∙ rw q (shown_never (expand (view x) σ d)))

@@ -11,12 +11,12 @@ use Rattle.tla_tree.specs.declared.word.Written.{Written}
 use Rattle.tla_tree.specs.Tree as t
 use Rattle.tla_tree.specs.Tree.{Tree, DefinesOperator, DefinesFunction}
 use Rattle.tla_tree.specs.View.{view, definition_view}
-use Rattle.tla_expand.specs.declared.arena.Given.{Given}
+use Rattle.tla_expand.specs.declared.arena.Projection.{Projection}
 use Rattle.tla_expand.specs.declared.gives.Known.{Known, Outside, Parameters', Named'}
 use Rattle.tla_expand.specs.declared.gives.Known.TheViews as views
-use Rattle.tla_expand.specs.declared.gives.Meant.{Meant}
-use Rattle.tla_expand.specs.declared.gives.Meant.TheVariants.{Gives, Reaches, Other}
-use Rattle.tla_expand.specs.declared.gives.Part.{Part}
+use Rattle.tla_expand.specs.declared.gives.Summary.{Summary}
+use Rattle.tla_expand.specs.declared.gives.Summary.TheVariants.{Gives, Reaches, Other}
+use Rattle.tla_expand.specs.declared.gives.BodyPart.{BodyPart}
 use Rattle.tla_expand.specs.declared.gives.Reached.{Reached}
 use Rattle.tla_expand.specs.declared.primes.Primes.TheVariants.{Never}
 use Rattle.tla_expand.specs.declared.nodes.Gather.TheVariants as gathers
@@ -26,7 +26,7 @@ use Rattle.tla_expand.specs.Meanings.{Scope, Argument, Meaning, with_name, param
 use Rattle.tla_expand.specs.Bound.{gathered}
 use Rattle.tla_expand.specs.Expand.{expand, definition_in, definitions_in, binds_of}
 use Rattle.tla_expand.specs.Arguments.{with_more, has_count, argument_at, argument_of, given}
-use Rattle.tla_expand.specs.Private.Known.{Layers, Means, IsRound, Holds, IsFound, IsGiven, IsUse, IsMeant, IsOperator, ComesTo, GivesBack, depth, with_layer, with_count, reached_in, defined_name}
+use Rattle.tla_expand.specs.Private.Known.{Layers, Means, IsRound, Holds, IsFound, IsGiven, IsUse, IsSummary, IsOperator, ComesTo, GivesBack, depth, with_layer, with_count, reached_in, defined_name}
 use Rattle.tla_expand.specs.Private.Parameters.{IsAbsent, IsLast}
 use Rattle.tla_expand.specs.Scopes.{arguments_in}
 use Rattle.tla_expand.proofs.Shorter.{absent_same}
@@ -40,7 +40,7 @@ layer_own k args f = rw (eq-eqb k k refl) refl
 layer_round : (k : ℕ) (args : List Argument) (f : Layers) (i : ℕ) → i < k → with_layer k args f i ≡ f i
 layer_round k args f i l = rw (ne_eqb i k (λ e. omega arith)) refl
 
-means_layers : (f g : Layers) (k : ℕ) (w : Meant) (m : Meaning) → ((i : ℕ) → i < k → f i ≡ g i) → IsRound k w → Means f w m → Means g w m
+means_layers : (f g : Layers) (k : ℕ) (w : Summary) (m : Meaning) → ((i : ℕ) → i < k → f i ≡ g i) → IsRound k w → Means f w m → Means g w m
 means_layers f g k (Gives n given) m e l h = h
 means_layers f g k (Reaches n r) m e l h = rw (sym (e r.layer l)) h
 means_layers f g k Other m e l h = tt
@@ -64,7 +64,7 @@ IsSought x from to = (ρ : Scope) (f : Layers) (τ : Scope) → Holds ρ from f 
 pub sought_here : (x : Name) (known : Known) → IsSought x known known
 sought_here x known = λ ρ f τ h. (τ, h, refl)
 
-pub sought_named : (x : Name) (known at : Known) (y : Bor (List ℕ)) (w : Meant) (rest : Bor Known) → at ≡ views.Named y w rest → bytes_eq y.now x ≡ false → IsSought x known at → IsSought x known rest.now
+pub sought_named : (x : Name) (known at : Known) (y : Bor (List ℕ)) (w : Summary) (rest : Bor Known) → at ≡ views.Named y w rest → bytes_eq y.now x ≡ false → IsSought x known at → IsSought x known rest.now
 sought_named x known at y w rest e q s = λ ρ f τ h.
     let u = s ρ f τ h in
     let v = rw e at u.1 in
@@ -83,7 +83,7 @@ found_outside x known at e s = λ ρ f τ h.
     let v = rw e at u.1 in
     u.2 ∙ ap (λ (σ : Scope). σ x) v
 
-pub found_parameter : (x : Name) (known at : Known) (ws : Bor (List Written)) (rest : Bor Known) (i : ℕ) (w : Meant) → at ≡ views.Parameters ws rest → IsLast x ws.now i → IsSought x known at
+pub found_parameter : (x : Name) (known at : Known) (ws : Bor (List Written)) (rest : Bor Known) (i : ℕ) (w : Summary) → at ≡ views.Parameters ws rest → IsLast x ws.now i → IsSought x known at
     → ((f : Layers) → Means f w (parameter (argument_at i (f (depth rest.now))))) → IsFound x known (Some w)
 found_parameter x known at ws rest i w e l s k = λ ρ f τ h.
     let u = s ρ f τ h in
@@ -91,7 +91,7 @@ found_parameter x known at ws rest i w e l s k = λ ρ f τ h.
     let m : τ x ≡ parameter (argument_at i (f (depth rest.now))) = u.2 ∙ last_argument ws.now (f (depth rest.now)) v.0 u.0 x i l v.2 in
     subst (λ (n : Meaning). Means f w n) (sym m) (k f)
 
-pub found_named : (x : Name) (known at : Known) (y : Bor (List ℕ)) (w : Meant) (rest : Bor Known) → at ≡ views.Named y w rest → bytes_eq y.now x ≡ true → IsSought x known at → IsFound x known (Some w)
+pub found_named : (x : Name) (known at : Known) (y : Bor (List ℕ)) (w : Summary) (rest : Bor Known) → at ≡ views.Named y w rest → bytes_eq y.now x ≡ true → IsSought x known at → IsFound x known (Some w)
 found_named x known at y w rest e q s = λ ρ f τ h.
     let u = s ρ f τ h in
     let v = rw e at u.1 in
@@ -110,7 +110,7 @@ pub call_used : (tree : Tree) (w : Written) (es : List syntax.Expr) → tree ≡
 call_used tree w es e = λ τ d. rw e (ap (λ (f : Argument). f d) (expand_call w es τ))
 
 -- the use of a name that comes to an argument
-pub use_ends : (ρ : Scope) (a : Part) (w : Written) (es : List syntax.Expr) (n : ℕ) (r s : Reached) → IsUse (view a.tree.now) w es → IsGiven ρ a.known.now w.word (Reaches n r) → n ≡ length es
+pub use_ends : (ρ : Scope) (a : BodyPart) (w : Written) (es : List syntax.Expr) (n : ℕ) (r s : Reached) → IsUse (view a.tree.now) w es → IsGiven ρ a.known.now w.word (Reaches n r) → n ≡ length es
     → s.layer ≡ r.layer → s.given.index ≡ r.given.index → s.given.primes ≡ with_more a.primes r.given.primes → GivesBack ρ a [] s
 use_ends ρ a w es n r s u i c layer index more = λ f τ h d.
     let o = argument_at r.given.index (f r.layer) d in
@@ -119,32 +119,32 @@ use_ends ρ a w es n r s u i c layer index more = λ f τ h d.
     rw (layer, index, more) (ap (λ (x : Option Expr). with_primes a.primes x) (u τ d ∙ means ∙ counted) ∙ shown_more a.primes r.given.primes o)
 
 -- a part that means the same under the same names
-pub comes_here : (ρ : Scope) (a b : Part) → b.known ≡ a.known → ((f : Layers) (τ : Scope) (d : ℕ) → Holds ρ a.known.now f τ → with_primes a.primes (expand (view a.tree.now) τ d) ≡ with_primes b.primes (expand (view b.tree.now) τ d)) → ComesTo ρ a b
+pub comes_here : (ρ : Scope) (a b : BodyPart) → b.known ≡ a.known → ((f : Layers) (τ : Scope) (d : ℕ) → Holds ρ a.known.now f τ → with_primes a.primes (expand (view a.tree.now) τ d) ≡ with_primes b.primes (expand (view b.tree.now) τ d)) → ComesTo ρ a b
 comes_here ρ a b k g = λ f τ h. (rw k h, λ d. g f τ d h)
 
-pub use_goes : (ρ : Scope) (a b : Part) (w : Written) (es : List syntax.Expr) (n : ℕ) (g : Given) → IsUse (view a.tree.now) w es → IsGiven ρ a.known.now w.word (Gives n g)
+pub use_goes : (ρ : Scope) (a b : BodyPart) (w : Written) (es : List syntax.Expr) (n : ℕ) (g : Projection) → IsUse (view a.tree.now) w es → IsGiven ρ a.known.now w.word (Gives n g)
     → ((σ : Scope) (p : Place) (d : ℕ) → given n g p (arguments_in es σ) d ≡ with_primes g.primes (expand (view b.tree.now) σ d)) → b.known ≡ a.known → b.primes ≡ with_more a.primes g.primes → ComesTo ρ a b
 use_goes ρ a b w es n g u i c known k = comes_here ρ a b known (λ f τ d h.
     let means = ap (λ (m : Meaning). m (place_of w.place) (arguments_in es τ) d) (i f τ h) in
     rw k (ap (λ (o : Option Expr). with_primes a.primes o) (u τ d ∙ means ∙ c τ (place_of w.place) d) ∙ shown_more a.primes g.primes (expand (view b.tree.now) τ d)))
 
-pub comes_self : (ρ : Scope) (a : Part) → ComesTo ρ a a
+pub comes_self : (ρ : Scope) (a : BodyPart) → ComesTo ρ a a
 comes_self ρ a = λ f τ h. (h, λ d. refl)
 
-pub comes_trans : (ρ : Scope) (a b c : Part) → ComesTo ρ a b → ComesTo ρ b c → ComesTo ρ a c
+pub comes_trans : (ρ : Scope) (a b c : BodyPart) → ComesTo ρ a b → ComesTo ρ b c → ComesTo ρ a c
 comes_trans ρ a b c g k = λ f τ h.
     let u = g f τ h in
     let v = k f τ u.0 in
     (v.0, λ d. u.1 d ∙ v.1 d)
 
-pub comes_back : (ρ : Scope) (a b : Part) (r : Reached) → ComesTo ρ a b → GivesBack ρ b [] r → GivesBack ρ a [] r
+pub comes_back : (ρ : Scope) (a b : BodyPart) (r : Reached) → ComesTo ρ a b → GivesBack ρ b [] r → GivesBack ρ a [] r
 comes_back ρ a b r g k = λ f τ h d.
     let u = g f τ h in
     u.1 d ∙ k f τ u.0 d
 
 -- a part inside one definition more
-pub back_more : (ρ : Scope) (a : Part) (def : defining.Definition) (defs : List defining.Definition) (i : ℕ) (x : Bor (List ℕ)) (w : Meant) (r : Reached) → i < length defs → def ≡ get_or defs i def → x.now ≡ defined_name (definition_view def)
-    → IsMeant ρ a.known.now (definition_view def) w
+pub back_more : (ρ : Scope) (a : BodyPart) (def : defining.Definition) (defs : List defining.Definition) (i : ℕ) (x : Bor (List ℕ)) (w : Summary) (r : Reached) → i < length defs → def ≡ get_or defs i def → x.now ≡ defined_name (definition_view def)
+    → IsSummary ρ a.known.now (definition_view def) w
     → ((f : Layers) (τ : Scope) → Holds ρ (views.Named x w a.known) f τ → (d : ℕ) → with_primes a.primes (expand (view a.tree.now) (definitions_in (t.definitions (map definition_view (drop (i + 1) defs))) τ) d) ≡ reached_in r f d)
     → GivesBack ρ a (drop i defs) r
 back_more ρ a def defs i x w r l q n m g = λ f τ h d.
@@ -153,11 +153,11 @@ back_more ρ a def defs i x w r l q n m g = λ f τ h d.
     let p : drop i defs ≡ def ∷ drop (i + 1) defs = rw (add-one i) (drop-cons defs i def l ∙ ap (λ (y : defining.Definition). y ∷ drop (suc i) defs) (sym q)) in
     rw p (g f (definition_in (definition_view def) τ) (τ, u.0, h, u.1, m.0, e) d)
 
-pub back_none : (ρ : Scope) (a : Part) (defs : List defining.Definition) (i : ℕ) (r : Reached) → length defs ≤ i → GivesBack ρ a [] r → GivesBack ρ a (drop i defs) r
+pub back_none : (ρ : Scope) (a : BodyPart) (defs : List defining.Definition) (i : ℕ) (r : Reached) → length defs ≤ i → GivesBack ρ a [] r → GivesBack ρ a (drop i defs) r
 back_none ρ a defs i r h g = rw (drop_all i defs h) g
 
 -- a LET
-pub back_let : (ρ : Scope) (a b : Part) (p : text.Place) (defs : List defining.Definition) (r : Reached) → view a.tree.now ≡ t.Let p (t.definitions (map definition_view defs)) (view b.tree.now) → b.known ≡ a.known → b.primes ≡ a.primes
+pub back_let : (ρ : Scope) (a b : BodyPart) (p : text.Place) (defs : List defining.Definition) (r : Reached) → view a.tree.now ≡ t.Let p (t.definitions (map definition_view defs)) (view b.tree.now) → b.known ≡ a.known → b.primes ≡ a.primes
     → GivesBack ρ b defs r → GivesBack ρ a [] r
 back_let ρ a b p defs r v known k g = λ f τ h d. let u = g f τ (rw known h) d in rw v (rw k at u)
 
@@ -173,18 +173,18 @@ round_means n k r f l =
     (λ j p args d. if has_count n args then argument_of r.given (same args j) d else None)
 
 -- what is known of a definition
-pub operator_meant : (ρ : Scope) (known : Known) (def : t.Definition) (w : Written) (ws : List Written) (body : Tree) (n : ℕ) (r : Reached) (v : Meant) → def ≡ DefinesOperator w ws body → n ≡ length ws → IsOperator ρ known ws body r
-    → ((f : Layers) → Means f v (with_count n (λ args. reached_in r (with_layer (depth known) args f)))) → IsRound (depth known) v → IsMeant ρ known def v
-operator_meant ρ known def w ws body n r v q c i k l = (
+pub operator_summarized : (ρ : Scope) (known : Known) (def : t.Definition) (w : Written) (ws : List Written) (body : Tree) (n : ℕ) (r : Reached) (v : Summary) → def ≡ DefinesOperator w ws body → n ≡ length ws → IsOperator ρ known ws body r
+    → ((f : Layers) → Means f v (with_count n (λ args. reached_in r (with_layer (depth known) args f)))) → IsRound (depth known) v → IsSummary ρ known def v
+operator_summarized ρ known def w ws body n r v q c i k l = (
   l,
   λ f τ h.
       let m : operator ws (expand body) τ ≡ with_count n (λ args. reached_in r (with_layer (depth known) args f)) = rw c (i f τ h) in
       (operator ws (expand body) τ, subst (λ (x : Meaning). Means f v x) (sym m) (k f), rw q refl),
 )
 
-pub other_meant : (ρ : Scope) (known : Known) (def : t.Definition) → IsMeant ρ known def Other
-other_meant ρ known (DefinesOperator w ws a) = (tt, λ f τ h. (operator ws (expand a) τ, tt, refl))
-other_meant ρ known (DefinesFunction w bs a) = (tt, λ f τ h. (parameter (gathered gathers.Function (place_of w.place) (binds_of bs τ) (expand a) τ), tt, refl))
+pub other_summarized : (ρ : Scope) (known : Known) (def : t.Definition) → IsSummary ρ known def Other
+other_summarized ρ known (DefinesOperator w ws a) = (tt, λ f τ h. (operator ws (expand a) τ, tt, refl))
+other_summarized ρ known (DefinesFunction w bs a) = (tt, λ f τ h. (parameter (gathered gathers.Function (place_of w.place) (binds_of bs τ) (expand a) τ), tt, refl))
 
 -- the body of an operator
 pub operator_back : (ρ : Scope) (known : Bor Known) (ws : Bor (List Written)) (body : syntax.Expr) (r : Reached)

@@ -13,6 +13,7 @@ use Rattle.tla_core.specs.Patterns.{items_in}
 use Rattle.tla_expand.specs.Bound.{bind_each, bind_entry, with_each, with_elements, with_items, openings}
 use Rattle.tla_expand.specs.Expand.{binds_of, expand}
 use Rattle.tla_expand.specs.Private.Binders.{names_of, binds_in, opened_at, with_element, item_names}
+use Rattle.tla_expand.specs.Private.Gives.{most_named}
 use Rattle.tla_expand.specs.Places.{Name}
 use Rattle.tla_expand.specs.Meanings.{with_name, bound_name}
 
@@ -102,12 +103,12 @@ left_next (x.named y) ws s bs d w =
 left_next (x.tupled us) ws s bs d w = rw w refl
 
 pub left_step : (bs : List Bind) (i n : ℕ) (b : Bind) (ws : List Written) (σ : Scope) (d : ℕ) → i < length bs → b ≡ get_or bs i b → ws ≡ item_names (names_of b.names)
-    → n + items_in (openings (binds_in (drop i bs) σ) d) ≤ 1000000 → n + length ws + items_in (openings (binds_in (drop (i + 1) bs) σ) d) ≤ 1000000
+    → n + items_in (openings (binds_in (drop i bs) σ) d) ≤ most_named → n + length ws + items_in (openings (binds_in (drop (i + 1) bs) σ) d) ≤ most_named
 left_step bs i n b ws σ d h g w k =
     let p : drop i bs ≡ b ∷ drop (suc i) bs = drop-cons bs i b h ∙ ap (λ (z : Bind). z ∷ drop (suc i) bs) (sym g) in
     let q : i + 1 ≡ suc i = add-one i in
     let rest = binds_in (drop (suc i) bs) σ in
-    let l : n + items_in (openings ((names_of b.names, expand (view b.set.now) σ) ∷ rest) d) ≤ 1000000 = (rw p at k) in
+    let l : n + items_in (openings ((names_of b.names, expand (view b.set.now) σ) ∷ rest) d) ≤ most_named = (rw p at k) in
     rw q (omega (arith, l, left_next (names_of b.names) ws (expand (view b.set.now) σ) rest d w, items_same rest d (d + 1)))
 
 -- the next of the elements that are opened

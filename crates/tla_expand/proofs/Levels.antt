@@ -1,6 +1,6 @@
 -- What isn't there under some primes isn't there under more, nor with UNCHANGED or as a subscript; and what fails there fails in the whole.
 use Rattle.std.proofs.Common.{◌≡◌, ◌≤◌, ℕ, ◌+◌, Bool, true, false, refl, ap, sym, ◌∙◌, arith, subst, map, List, Option, Some, None, Result, Ok, Err, Bor}
-use Rattle.std.specs.Prelude.{IfErr}
+use Rattle.std.specs.Prelude.{IfOk, IfErr}
 use Rattle.tla_core.specs.declared.fault.Place.{Place}
 use Rattle.tla_core.specs.declared.expression.Binary.TheVariants.{Unequal}
 use Rattle.tla_core.specs.Expr.{Expr, equal}
@@ -12,9 +12,9 @@ use Rattle.tla_expand.specs.declared.failure.Failure.{Failure}
 use Rattle.tla_expand.specs.declared.failure.Failure.TheVariants.{NoExpansion, TooLarge, Memory}
 use Rattle.tla_expand.specs.declared.nodes.Form.{Form}
 use Rattle.tla_expand.specs.declared.nodes.Form.TheVariants as form
-use Rattle.tla_expand.specs.declared.nodes.Many.{Many}
-use Rattle.tla_expand.specs.declared.nodes.Many.TheVariants as manies
-use Rattle.tla_expand.specs.declared.nodes.Two.TheVariants as twos
+use Rattle.tla_expand.specs.declared.nodes.ListNode.{ListNode}
+use Rattle.tla_expand.specs.declared.nodes.ListNode.TheVariants as manies
+use Rattle.tla_expand.specs.declared.nodes.BinaryNode.TheVariants as twos
 use Rattle.tla_expand.specs.declared.primes.Primes.{Primes}
 use Rattle.tla_expand.specs.declared.primes.Primes.TheVariants.{Never, Once, Twice}
 use Rattle.tla_expand.specs.Maybe.{◌>>=◌, each_of}
@@ -160,7 +160,7 @@ changed_fails k TooLarge p o room left h = λ y e n d.
 changed_fails k Memory p o room left h = tt
 
 -- the parts of a tuple that are looked at
-many_looked : (q : Place) (f : Many) (ts us : Bor (List syntax.Expr)) (σ : Scope) (d : ℕ) (k : Primes) (s : Failure) (room left : ℕ) → tuple_of f ts ≡ Some us
+many_looked : (q : Place) (f : ListNode) (ts us : Bor (List syntax.Expr)) (σ : Scope) (d : ℕ) (k : Primes) (s : Failure) (room left : ℕ) → tuple_of f ts ≡ Some us
     → FailsBy (total nodes) (highest depth) room left s (each_of (part_in k σ d) us.now) → Fails (room + 1) (left + 1) s (with_primes k (form_in (form.Many q f ts) σ d))
 many_looked q manies.Tuple ts us σ d k s room left t h =
     let same : ts ≡ us = cc in
@@ -205,6 +205,10 @@ pub large_bare : (o : Option Expr) → ((x : Expr) → with_primes Never o ≡ S
 large_bare None h x p l = cc
 large_bare (Some t) h x p l = h x (unprimed t ∙ p) l
 
-pub if_fails : {A : Type 0} {P Q : Failure → Type 0} (r : Result A Failure) → ((f : Failure) → P f → Q f) → IfErr r P → IfErr r Q
-if_fails (Ok x) f h = tt
-if_fails (Err e) f h = f e h
+pub if_fails : {A : Type 0} {P Q : Failure → Type 0} (r : Result A Failure) → IfErr r P → ((f : Failure) → P f → Q f) → IfErr r Q
+if_fails (Ok x) h f = tt
+if_fails (Err e) h f = f e h
+
+pub if_made : {A : Type 0} {P Q : A → Type 0} (r : Result A Failure) → IfOk r P → ((x : A) → P x → Q x) → IfOk r Q
+if_made (Ok x) h f = f x h
+if_made (Err e) h f = tt

@@ -10,14 +10,14 @@ use Rattle.tla_tree.specs.declared.tree.Constant.TheVariants.{True, False, Boole
 use Rattle.tla_expand.specs.declared.primes.Primes.{Primes}
 use Rattle.tla_expand.specs.declared.nodes.Leaf.{Leaf}
 use Rattle.tla_expand.specs.declared.nodes.Leaf.TheVariants as leaves
-use Rattle.tla_expand.specs.declared.nodes.One.{One}
-use Rattle.tla_expand.specs.declared.nodes.One.TheVariants as ones
-use Rattle.tla_expand.specs.declared.nodes.Two.{Two}
-use Rattle.tla_expand.specs.declared.nodes.Two.TheVariants as twos
-use Rattle.tla_expand.specs.declared.nodes.Three.{Three}
-use Rattle.tla_expand.specs.declared.nodes.Three.TheVariants as threes
-use Rattle.tla_expand.specs.declared.nodes.Many.{Many}
-use Rattle.tla_expand.specs.declared.nodes.Many.TheVariants as manies
+use Rattle.tla_expand.specs.declared.nodes.UnaryNode.{UnaryNode}
+use Rattle.tla_expand.specs.declared.nodes.UnaryNode.TheVariants as ones
+use Rattle.tla_expand.specs.declared.nodes.BinaryNode.{BinaryNode}
+use Rattle.tla_expand.specs.declared.nodes.BinaryNode.TheVariants as twos
+use Rattle.tla_expand.specs.declared.nodes.TernaryNode.{TernaryNode}
+use Rattle.tla_expand.specs.declared.nodes.TernaryNode.TheVariants as threes
+use Rattle.tla_expand.specs.declared.nodes.ListNode.{ListNode}
+use Rattle.tla_expand.specs.declared.nodes.ListNode.TheVariants as manies
 use Rattle.tla_expand.specs.declared.nodes.Binding.{Binding}
 use Rattle.tla_expand.specs.declared.nodes.Binding.TheVariants as bindings
 use Rattle.tla_expand.specs.declared.nodes.Gather.{Gather}
@@ -58,13 +58,13 @@ abbrev pub IsAbove : Expr → ℕ → ℕ → Type 0
 IsAbove e n d = (nodes e ≡ n + 1) × (depth e ≡ d + 1)
 
 -- nodes of one part
-pub one_primed : (f : One) (k : Primes) (p : Place) (x : Expr) → primes k (one f p x) ≡ (primes k x >>= λ y. Some (one f p y))
+pub one_primed : (f : UnaryNode) (k : Primes) (p : Place) (x : Expr) → primes k (one f p x) ≡ (primes k x >>= λ y. Some (one f p y))
 one_primed (ones.Unary u) k p x = refl
 one_primed ones.Power k p x = refl
 one_primed ones.Sequences k p x = refl
 one_primed (ones.Field w) k p x = refl
 
-pub one_shown : (f : One) (k : Primes) (p : Place) (o : Option Expr) → with_primes k (o >>= λ x. Some (one f p x)) ≡ (with_primes k o >>= λ x. Some (one f p x))
+pub one_shown : (f : UnaryNode) (k : Primes) (p : Place) (o : Option Expr) → with_primes k (o >>= λ x. Some (one f p x)) ≡ (with_primes k o >>= λ x. Some (one f p x))
 one_shown f k p o = primed.one (λ x. one f p x) (primes k) (primes k) (one_primed f k p) o
 
 -- nodes of two parts
@@ -74,7 +74,7 @@ nest None b f = refl
 nest (Some x) None f = refl
 nest (Some x) (Some y) f = refl
 
-pub two_primed : (f : Two) (k : Primes) (p : Place) (x y : Expr) → primes k (two f p x y) ≡ (primes k x >>= λ u. primes k y >>= λ v. Some (two f p u v))
+pub two_primed : (f : BinaryNode) (k : Primes) (p : Place) (x y : Expr) → primes k (two f p x y) ≡ (primes k x >>= λ u. primes k y >>= λ v. Some (two f p u v))
 two_primed (twos.Binary b) k p x y = refl
 two_primed twos.Apply k p x y = refl
 two_primed twos.Equal k p x y = refl
@@ -90,7 +90,7 @@ two_primed twos.Minus k p x y = refl
 two_primed twos.Assert k p x y = refl
 two_primed twos.Functions k p x y = refl
 
-two_nodes : (f : Two) (p : Place) (x y : Expr) → IsAbove (two f p x y) (nodes x + nodes y) (max (depth x) (depth y))
+two_nodes : (f : BinaryNode) (p : Place) (x y : Expr) → IsAbove (two f p x y) (nodes x + nodes y) (max (depth x) (depth y))
 two_nodes (twos.Binary b) p x y = (refl, refl)
 two_nodes twos.Apply p x y = (refl, refl)
 two_nodes twos.Equal p x y = (refl, refl)
@@ -106,7 +106,7 @@ two_nodes twos.Minus p x y = (refl, refl)
 two_nodes twos.Assert p x y = (refl, refl)
 two_nodes twos.Functions p x y = (refl, refl)
 
-pub two_larger : (f : Two) (p : Place) → IsLarger (sum_of nodes nodes) (larger_of depth depth) (λ (xy : Expr × Expr). two f p xy.0 xy.1)
+pub two_larger : (f : BinaryNode) (p : Place) → IsLarger (sum_of nodes nodes) (larger_of depth depth) (λ (xy : Expr × Expr). two f p xy.0 xy.1)
 two_larger f p = record { nodes_more = λ xy. (two_nodes f p xy.0 xy.1).0; depth_more = λ xy. (two_nodes f p xy.0 xy.1).1 }
 
 -- parts one after the other are a pair of parts
@@ -115,7 +115,7 @@ of_both f None b = refl
 of_both f (Some x) None = refl
 of_both f (Some x) (Some y) = refl
 
-pub two_shown : (f : Two) (k : Primes) (p : Place) (a b : Option Expr)
+pub two_shown : (f : BinaryNode) (k : Primes) (p : Place) (a b : Option Expr)
     → with_primes k (a >>= λ x. b >>= λ y. Some (two f p x y)) ≡ (both (with_primes k a) (with_primes k b) >>= λ (xy : Expr × Expr). Some (two f p xy.0 xy.1))
 two_shown f k p a b = primed.two (λ x y. two f p x y) (primes k) (primes k) (primes k) (two_primed f k p) a b ∙ of_both (two f p) (with_primes k a) (with_primes k b)
 
@@ -140,18 +140,18 @@ pub binding_shown : (f : Binding) (k : Primes) (p : Place) (a b : Option Expr)
 binding_shown f k p a b = primed.two (λ x y. binding f p x y) (primes k) (primes k) (primes k) (binding_primed f k p) a b ∙ of_both (binding f p) (with_primes k a) (with_primes k b)
 
 -- nodes of three parts
-pub three_primed : (f : Three) (k : Primes) (p : Place) (x y z : Expr) → primes k (three f p x y z) ≡ (primes k x >>= λ u. primes k y >>= λ v. primes k z >>= λ w. Some (three f p u v w))
+pub three_primed : (f : TernaryNode) (k : Primes) (p : Place) (x y z : Expr) → primes k (three f p x y z) ≡ (primes k x >>= λ u. primes k y >>= λ v. primes k z >>= λ w. Some (three f p u v w))
 three_primed threes.If k p x y z = refl
 three_primed threes.SubSeq k p x y z = refl
 
 abbrev pub Triple : Type 0
 Triple = (Expr × Expr) × Expr
 
-three_nodes : (f : Three) (p : Place) (x y z : Expr) → IsAbove (three f p x y z) (nodes x + nodes y + nodes z) (max (max (depth x) (depth y)) (depth z))
+three_nodes : (f : TernaryNode) (p : Place) (x y z : Expr) → IsAbove (three f p x y z) (nodes x + nodes y + nodes z) (max (max (depth x) (depth y)) (depth z))
 three_nodes threes.If p x y z = (omega arith, omega arith)
 three_nodes threes.SubSeq p x y z = (omega arith, omega arith)
 
-pub three_larger : (f : Three) (p : Place) → IsLarger (sum_of (sum_of nodes nodes) nodes) (larger_of (larger_of depth depth) depth) (λ (t : Triple). three f p t.0.0 t.0.1 t.1)
+pub three_larger : (f : TernaryNode) (p : Place) → IsLarger (sum_of (sum_of nodes nodes) nodes) (larger_of (larger_of depth depth) depth) (λ (t : Triple). three f p t.0.0 t.0.1 t.1)
 three_larger f p = record { nodes_more = λ t. (three_nodes f p t.0.0 t.0.1 t.1).0; depth_more = λ t. (three_nodes f p t.0.0 t.0.1 t.1).1 }
 
 of_three : (f : Expr → Expr → Expr → Expr) (a b c : Option Expr)
@@ -161,36 +161,36 @@ of_three f (Some x) None c = refl
 of_three f (Some x) (Some y) None = refl
 of_three f (Some x) (Some y) (Some z) = refl
 
-pub three_shown : (f : Three) (k : Primes) (p : Place) (a b c : Option Expr)
+pub three_shown : (f : TernaryNode) (k : Primes) (p : Place) (a b c : Option Expr)
     → with_primes k (a >>= λ x. b >>= λ y. c >>= λ z. Some (three f p x y z)) ≡ (both (both (with_primes k a) (with_primes k b)) (with_primes k c) >>= λ (t : Triple). Some (three f p t.0.0 t.0.1 t.1))
 three_shown f k p a b c = primed.three (λ x y z. three f p x y z) (primes k) (primes k) (primes k) (primes k) (three_primed f k p) a b c ∙ of_three (three f p) (with_primes k a) (with_primes k b) (with_primes k c)
 
 -- nodes of a list of parts
-pub many_primed : (f : Many) (k : Primes) (p : Place) (xs : Exprs) → primes k (many f p xs) ≡ (primes_each k xs >>= λ ys. Some (many f p ys))
+pub many_primed : (f : ListNode) (k : Primes) (p : Place) (xs : Exprs) → primes k (many f p xs) ≡ (primes_each k xs >>= λ ys. Some (many f p ys))
 many_primed manies.Set k p xs = refl
 many_primed manies.Tuple k p xs = refl
 many_primed manies.And k p xs = refl
 many_primed manies.Or k p xs = refl
 many_primed manies.Product k p xs = refl
 
-many_nodes : (f : Many) (p : Place) (xs : Exprs) → IsAbove (many f p xs) (nodes_each xs) (depth_each xs)
+many_nodes : (f : ListNode) (p : Place) (xs : Exprs) → IsAbove (many f p xs) (nodes_each xs) (depth_each xs)
 many_nodes manies.Set p xs = (refl, refl)
 many_nodes manies.Tuple p xs = (refl, refl)
 many_nodes manies.And p xs = (refl, refl)
 many_nodes manies.Or p xs = (refl, refl)
 many_nodes manies.Product p xs = (refl, refl)
 
-pub many_larger : (f : Many) (p : Place) → IsLarger (total nodes) (highest depth) (λ xs. many f p (exprs xs))
+pub many_larger : (f : ListNode) (p : Place) → IsLarger (total nodes) (highest depth) (λ xs. many f p (exprs xs))
 many_larger f p = record {
   nodes_more = λ xs. (many_nodes f p (exprs xs)).0 ∙ ap (λ n. n + 1) (nodes_exprs xs);
   depth_more = λ xs. (many_nodes f p (exprs xs)).1 ∙ ap (λ n. n + 1) (depth_exprs xs);
 }
 
-many_in : (f : Many) (p : Place) (o : Option (List Expr)) → ((o >>= λ xs. Some (exprs xs)) >>= λ xs. Some (many f p xs)) ≡ (o >>= λ xs. Some (many f p (exprs xs)))
+many_in : (f : ListNode) (p : Place) (o : Option (List Expr)) → ((o >>= λ xs. Some (exprs xs)) >>= λ xs. Some (many f p xs)) ≡ (o >>= λ xs. Some (many f p (exprs xs)))
 many_in f p None = refl
 many_in f p (Some xs) = refl
 
-pub many_shown : (f : Many) (k : Primes) (p : Place) (o : Option Exprs) (parts : Option (List Expr)) → (o >>= primes_each k) ≡ (parts >>= λ xs. Some (exprs xs))
+pub many_shown : (f : ListNode) (k : Primes) (p : Place) (o : Option Exprs) (parts : Option (List Expr)) → (o >>= primes_each k) ≡ (parts >>= λ xs. Some (exprs xs))
     → with_primes k (o >>= λ xs. Some (many f p xs)) ≡ (parts >>= λ xs. Some (many f p (exprs xs)))
 many_shown f k p o parts h = primed.one (λ xs. many f p xs) (primes_each k) (primes k) (many_primed f k p) o ∙ ap (λ (q : Option Exprs). q >>= λ xs. Some (many f p xs)) h ∙ many_in f p parts
 

@@ -20,14 +20,14 @@ use Rattle.tla_expand.specs.declared.nodes.Form.{Form}
 use Rattle.tla_expand.specs.declared.nodes.Form.TheVariants as form
 use Rattle.tla_expand.specs.declared.nodes.Leaf.{Leaf}
 use Rattle.tla_expand.specs.declared.nodes.Leaf.TheVariants as leaves
-use Rattle.tla_expand.specs.declared.nodes.One.{One}
-use Rattle.tla_expand.specs.declared.nodes.One.TheVariants as ones
-use Rattle.tla_expand.specs.declared.nodes.Two.{Two}
-use Rattle.tla_expand.specs.declared.nodes.Two.TheVariants as twos
-use Rattle.tla_expand.specs.declared.nodes.Three.{Three}
-use Rattle.tla_expand.specs.declared.nodes.Three.TheVariants as threes
-use Rattle.tla_expand.specs.declared.nodes.Many.{Many}
-use Rattle.tla_expand.specs.declared.nodes.Many.TheVariants as manies
+use Rattle.tla_expand.specs.declared.nodes.UnaryNode.{UnaryNode}
+use Rattle.tla_expand.specs.declared.nodes.UnaryNode.TheVariants as ones
+use Rattle.tla_expand.specs.declared.nodes.BinaryNode.{BinaryNode}
+use Rattle.tla_expand.specs.declared.nodes.BinaryNode.TheVariants as twos
+use Rattle.tla_expand.specs.declared.nodes.TernaryNode.{TernaryNode}
+use Rattle.tla_expand.specs.declared.nodes.TernaryNode.TheVariants as threes
+use Rattle.tla_expand.specs.declared.nodes.ListNode.{ListNode}
+use Rattle.tla_expand.specs.declared.nodes.ListNode.TheVariants as manies
 use Rattle.tla_expand.specs.declared.nodes.Binding.{Binding}
 use Rattle.tla_expand.specs.declared.nodes.Binding.TheVariants as bindings
 use Rattle.tla_expand.specs.declared.nodes.Gather.{Gather}
@@ -83,13 +83,13 @@ now_nameless Never p i h = cc
 now_nameless Once p i h = λ e q. some_nameless (next p i) e refl q
 now_nameless Twice p i h = λ e q. cc
 
-one_nameless : (f : One) (p : Place) (x : Expr) → is_names (one f p x) ≡ false
+one_nameless : (f : UnaryNode) (p : Place) (x : Expr) → is_names (one f p x) ≡ false
 one_nameless (ones.Unary u) p x = refl
 one_nameless ones.Power p x = refl
 one_nameless ones.Sequences p x = refl
 one_nameless (ones.Field w) p x = refl
 
-two_nameless : (f : Two) (p : Place) (x y : Expr) → is_names (two f p x y) ≡ false
+two_nameless : (f : BinaryNode) (p : Place) (x y : Expr) → is_names (two f p x y) ≡ false
 two_nameless (twos.Binary b) p x y = refl
 two_nameless twos.Apply p x y = refl
 two_nameless twos.Equal p x y = refl
@@ -105,11 +105,11 @@ two_nameless twos.Minus p x y = refl
 two_nameless twos.Assert p x y = refl
 two_nameless twos.Functions p x y = refl
 
-three_nameless : (f : Three) (p : Place) (x y z : Expr) → is_names (three f p x y z) ≡ false
+three_nameless : (f : TernaryNode) (p : Place) (x y z : Expr) → is_names (three f p x y z) ≡ false
 three_nameless threes.If p x y z = refl
 three_nameless threes.SubSeq p x y z = refl
 
-many_nameless : (f : Many) (p : Place) (ts : Bor (List syntax.Expr)) (xs : Exprs) → piece_of_many f ts ≡ Other → is_names (many f p xs) ≡ false
+many_nameless : (f : ListNode) (p : Place) (ts : Bor (List syntax.Expr)) (xs : Exprs) → piece_of_many f ts ≡ Other → is_names (many f p xs) ≡ false
 many_nameless manies.Set p ts xs h = refl
 many_nameless manies.Tuple p ts xs h = cc
 many_nameless manies.And p ts xs h = refl

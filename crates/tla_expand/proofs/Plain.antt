@@ -21,14 +21,14 @@ use Rattle.tla_expand.specs.declared.nodes.Form.{Form}
 use Rattle.tla_expand.specs.declared.nodes.Form.TheVariants as form
 use Rattle.tla_expand.specs.declared.nodes.Leaf.{Leaf}
 use Rattle.tla_expand.specs.declared.nodes.Leaf.TheVariants as leaves
-use Rattle.tla_expand.specs.declared.nodes.One.{One}
-use Rattle.tla_expand.specs.declared.nodes.One.TheVariants as ones
-use Rattle.tla_expand.specs.declared.nodes.Two.{Two}
-use Rattle.tla_expand.specs.declared.nodes.Two.TheVariants as twos
-use Rattle.tla_expand.specs.declared.nodes.Three.{Three}
-use Rattle.tla_expand.specs.declared.nodes.Three.TheVariants as threes
-use Rattle.tla_expand.specs.declared.nodes.Many.{Many}
-use Rattle.tla_expand.specs.declared.nodes.Many.TheVariants as manies
+use Rattle.tla_expand.specs.declared.nodes.UnaryNode.{UnaryNode}
+use Rattle.tla_expand.specs.declared.nodes.UnaryNode.TheVariants as ones
+use Rattle.tla_expand.specs.declared.nodes.BinaryNode.{BinaryNode}
+use Rattle.tla_expand.specs.declared.nodes.BinaryNode.TheVariants as twos
+use Rattle.tla_expand.specs.declared.nodes.TernaryNode.{TernaryNode}
+use Rattle.tla_expand.specs.declared.nodes.TernaryNode.TheVariants as threes
+use Rattle.tla_expand.specs.declared.nodes.ListNode.{ListNode}
+use Rattle.tla_expand.specs.declared.nodes.ListNode.TheVariants as manies
 use Rattle.tla_expand.specs.declared.nodes.Binding.{Binding}
 use Rattle.tla_expand.specs.declared.nodes.Binding.TheVariants as bindings
 use Rattle.tla_expand.specs.declared.nodes.Gather.{Gather}
@@ -80,13 +80,13 @@ now_plain Never p i = λ e q. some_plain _ e refl q
 now_plain Once p i = λ e q. some_plain _ e refl q
 now_plain Twice p i = λ e q. cc
 
-one_plain : (f : One) (p : Place) (x : Expr) → is_tuple (one f p x) ≡ false
+one_plain : (f : UnaryNode) (p : Place) (x : Expr) → is_tuple (one f p x) ≡ false
 one_plain (ones.Unary u) p x = refl
 one_plain ones.Power p x = refl
 one_plain ones.Sequences p x = refl
 one_plain (ones.Field w) p x = refl
 
-two_plain : (f : Two) (p : Place) (x y : Expr) → is_tuple (two f p x y) ≡ false
+two_plain : (f : BinaryNode) (p : Place) (x y : Expr) → is_tuple (two f p x y) ≡ false
 two_plain (twos.Binary b) p x y = refl
 two_plain twos.Apply p x y = refl
 two_plain twos.Equal p x y = refl
@@ -102,11 +102,11 @@ two_plain twos.Minus p x y = refl
 two_plain twos.Assert p x y = refl
 two_plain twos.Functions p x y = refl
 
-three_plain : (f : Three) (p : Place) (x y z : Expr) → is_tuple (three f p x y z) ≡ false
+three_plain : (f : TernaryNode) (p : Place) (x y z : Expr) → is_tuple (three f p x y z) ≡ false
 three_plain threes.If p x y z = refl
 three_plain threes.SubSeq p x y z = refl
 
-many_plain : (f : Many) (p : Place) (ts : Bor (List syntax.Expr)) (xs : Exprs) → tuple_of f ts ≡ None → is_tuple (many f p xs) ≡ false
+many_plain : (f : ListNode) (p : Place) (ts : Bor (List syntax.Expr)) (xs : Exprs) → tuple_of f ts ≡ None → is_tuple (many f p xs) ≡ false
 many_plain manies.Set p ts xs h = refl
 many_plain manies.Tuple p ts xs h = cc
 many_plain manies.And p ts xs h = refl
@@ -200,14 +200,14 @@ pub plain_head : (o : Option Expr) (fm : Form) (σ : Scope) (d : ℕ) (k : Prime
 plain_head o fm σ d k h t = rw h (form_plain fm σ d k t)
 
 -- a tuple
-of_tuple : (f : Many) (ts us : Bor (List syntax.Expr)) → tuple_of f ts ≡ Some us → (f ≡ manies.Tuple) × (ts ≡ us)
+of_tuple : (f : ListNode) (ts us : Bor (List syntax.Expr)) → tuple_of f ts ≡ Some us → (f ≡ manies.Tuple) × (ts ≡ us)
 of_tuple manies.Tuple ts us h = (refl, (let w : ts ≡ us = cc in w))
 of_tuple manies.Set ts us h = cc
 of_tuple manies.And ts us h = cc
 of_tuple manies.Or ts us h = cc
 of_tuple manies.Product ts us h = cc
 
-many_kept : (o : Option Expr) (q : Place) (f : Many) (ts us : Bor (List syntax.Expr)) (σ : Scope) (d : ℕ) (k : Primes) (p : Place) → o ≡ with_primes k (form_in (form.Many q f ts) σ d) → tuple_of f ts ≡ Some us
+many_kept : (o : Option Expr) (q : Place) (f : ListNode) (ts us : Bor (List syntax.Expr)) (σ : Scope) (d : ℕ) (k : Primes) (p : Place) → o ≡ with_primes k (form_in (form.Many q f ts) σ d) → tuple_of f ts ≡ Some us
     → (o >>= unchanged p) ≡ (each_of (kept_part k p σ d) us.now >>= λ xs. Some (kept p (exprs xs)))
 many_kept o q f ts us σ d k p h t =
     let g = of_tuple f ts us t in

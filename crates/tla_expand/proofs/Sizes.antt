@@ -1,5 +1,5 @@
 -- Nodes, depth, and what a failure of a part says of the whole.
-use Rattle.std.proofs.Common.{◌≡◌, ◌≤◌, ◌<◌, ℕ, ◌+◌, ◌-◌, List, [], ◌∷◌, length, refl, ap, arith, Option, Some, None}
+use Rattle.std.proofs.Common.{◌≡◌, ◌≤◌, ◌<◌, ℕ, ◌+◌, List, [], ◌∷◌, length, refl, ap, arith, Option, Some, None}
 use Rattle.tla_core.specs.declared.fault.Place.{Place}
 use Rattle.tla_core.specs.declared.expression.Opening.{Opening}
 use Rattle.tla_core.specs.Patterns.{items_in}
@@ -96,12 +96,6 @@ some_depth (filtered p a b) = omega arith
 some_depth (opened p os a) = some_depth a
 some_depth (tried p k a) = some_depth a
 
-pub no_room : (o : Option Expr) (room left : ℕ) → room ≡ 0 → (e : Expr) → o ≡ Some e → nodes e ≤ left → depth e ≤ room → ⊥
-no_room o room left z e h n d = omega (arith, some_depth e)
-
-pub none_left : (o : Option Expr) (room left : ℕ) → left ≡ 0 → (e : Expr) → o ≡ Some e → nodes e ≤ left → depth e ≤ room → ⊥
-none_left o room left z e h n d = omega (arith, some_node e)
-
 -- an expression that was made of what is left
 abbrev pub Given : Option Expr → Expr → ℕ → ℕ → ℕ → Type 0
 Given o c rest left room = Makes nodes depth room left rest c o
@@ -178,14 +172,3 @@ pub opened_full : (p : Place) (os : List Opening) (o : Option Expr) (room left :
 opened_full p [] o room left l e q n d = absurd (omega (arith, l))
 opened_full p (m ∷ os) None room left l e q n d = cc
 opened_full p (m ∷ os) (Some u) room left l e q n d = let w : opened p (m ∷ os) u ≡ e = cc in let w0 = ap nodes w in omega arith
-
--- limits that are not passed
-pub limits_are : (room left : ℕ) → (room ≡ 0 → ⊥) → (left ≡ 0 → ⊥) → (room - 1 + 1 ≡ room) × (left - 1 + 1 ≡ left)
-limits_are room left a b = (omega (arith, a), omega (arith, b))
-
--- a failure within less is one within the whole
-pub same_limits : (s : Failure) (o : Option Expr) (room left : ℕ) → (room ≡ 0 → ⊥) → (left ≡ 0 → ⊥) → Fails (room - 1 + 1) (left - 1 + 1) s o → Fails room left s o
-same_limits s o room left a b h =
-    let p : room - 1 + 1 ≡ room = omega (arith, a) in
-    let q : left - 1 + 1 ≡ left = omega (arith, b) in
-    rw (p, q) at h

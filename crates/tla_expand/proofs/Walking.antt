@@ -21,13 +21,13 @@ use Rattle.tla_expand.specs.Places.{Name, place_of}
 use Rattle.tla_expand.specs.declared.arena.What.{What}
 use Rattle.tla_expand.specs.declared.arena.What.TheVariants.{Bound, Variable, Value, Argument, Definition, Function, Gives, Module, Unknown}
 use Rattle.tla_expand.specs.declared.cover.Gone.{Gone}
-use Rattle.tla_expand.specs.declared.cover.Left.{Left}
-use Rattle.tla_expand.specs.declared.cover.Left.TheVariants.{Part, End}
+use Rattle.tla_expand.specs.declared.cover.Visit.{Visit}
+use Rattle.tla_expand.specs.declared.cover.Visit.TheVariants.{Part, End}
 use Rattle.tla_expand.specs.declared.cover.Piece.TheVariants as piece
 use Rattle.tla_expand.specs.declared.nodes.Builtin.TheVariants as builtin
 use Rattle.tla_expand.specs.declared.nodes.Form.{Form}
 use Rattle.tla_expand.specs.declared.nodes.Form.TheVariants as form
-use Rattle.tla_expand.specs.declared.nodes.Many.TheVariants as manies
+use Rattle.tla_expand.specs.declared.nodes.ListNode.TheVariants as manies
 use Rattle.tla_expand.specs.declared.nodes.Gather.TheVariants as gathers
 use Rattle.tla_expand.specs.declared.primes.Primes.{Primes}
 use Rattle.tla_expand.specs.declared.primes.Primes.TheVariants.{Never, Once, Twice}
@@ -185,37 +185,37 @@ module _ (m : ℕ → Bool) (es : List Entry) (t : Tree) (s : ℕ) (g : Gone) (n
   name_gone h = λ e q p. let u = n.1 e q in elsewhere m g.primes (scope_at es) e.what u.0 p (rw (u.1 0) at h)
 
 -- ---- what is left
-are_met_append : (m : ℕ → Bool) (es : List Entry) (ls ks : List Left) → AreMet m es ls → AreMet m es ks → AreMet m es (ls ++ ks)
+are_met_append : (m : ℕ → Bool) (es : List Entry) (ls ks : List Visit) → AreMet m es ls → AreMet m es ks → AreMet m es (ls ++ ks)
 are_met_append m es [] ks h k = k
 are_met_append m es (Part t s j ∷ ls) ks h k = (h.0, are_met_append m es ls ks h.1 k)
 are_met_append m es (End g ∷ ls) ks h k = are_met_append m es ls ks h k
 
-are_met_front : (m : ℕ → Bool) (es : List Entry) (ls ks : List Left) → AreMet m es (ls ++ ks) → AreMet m es ls
+are_met_front : (m : ℕ → Bool) (es : List Entry) (ls ks : List Visit) → AreMet m es (ls ++ ks) → AreMet m es ls
 are_met_front m es [] ks h = tt
 are_met_front m es (Part t s j ∷ ls) ks h = (h.0, are_met_front m es ls ks h.1)
 are_met_front m es (End g ∷ ls) ks h = are_met_front m es ls ks h
 
-are_met_back : (m : ℕ → Bool) (es : List Entry) (ls ks : List Left) → AreMet m es (ls ++ ks) → AreMet m es ks
+are_met_back : (m : ℕ → Bool) (es : List Entry) (ls ks : List Visit) → AreMet m es (ls ++ ks) → AreMet m es ks
 are_met_back m es [] ks h = h
 are_met_back m es (Part t s j ∷ ls) ks h = are_met_back m es ls ks h.1
 are_met_back m es (End g ∷ ls) ks h = are_met_back m es ls ks h
 
-ends_append : (m : ℕ → Bool) (es : List Entry) (ls ks : List Left) (n o : Type 0) → (AreMet m es ks → o → n) → EndsMet m es ls n → EndsMet m es ks o → EndsMet m es (ls ++ ks) o
+ends_append : (m : ℕ → Bool) (es : List Entry) (ls ks : List Visit) (n o : Type 0) → (AreMet m es ks → o → n) → EndsMet m es ls n → EndsMet m es ks o → EndsMet m es (ls ++ ks) o
 ends_append m es [] ks n o f h k = k
 ends_append m es (Part t s j ∷ ls) ks n o f h k = ends_append m es ls ks n o f h k
 ends_append m es (End g ∷ ls) ks n o f h k = (λ a u. h.0 (are_met_front m es ls ks a) (f (are_met_back m es ls ks a) u), ends_append m es ls ks n o f h.1 k)
 
-ends_front : (m : ℕ → Bool) (es : List Entry) (ls ks : List Left) (n o : Type 0) → (n → AreMet m es ks × o) → EndsMet m es (ls ++ ks) o → EndsMet m es ls n
+ends_front : (m : ℕ → Bool) (es : List Entry) (ls ks : List Visit) (n o : Type 0) → (n → AreMet m es ks × o) → EndsMet m es (ls ++ ks) o → EndsMet m es ls n
 ends_front m es [] ks n o f h = tt
 ends_front m es (Part t s j ∷ ls) ks n o f h = ends_front m es ls ks n o f h
 ends_front m es (End g ∷ ls) ks n o f h = (λ a u. let r = f u in h.0 (are_met_append m es ls ks a r.0) r.1, ends_front m es ls ks n o f h.1)
 
-ends_back : (m : ℕ → Bool) (es : List Entry) (ls ks : List Left) (o : Type 0) → EndsMet m es (ls ++ ks) o → EndsMet m es ks o
+ends_back : (m : ℕ → Bool) (es : List Entry) (ls ks : List Visit) (o : Type 0) → EndsMet m es (ls ++ ks) o → EndsMet m es ks o
 ends_back m es [] ks o h = h
 ends_back m es (Part t s j ∷ ls) ks o h = ends_back m es ls ks o h
 ends_back m es (End g ∷ ls) ks o h = ends_back m es ls ks o h.1
 
-ends_weaker : (m : ℕ → Bool) (es : List Entry) (ls : List Left) (n o : Type 0) → (o → n) → EndsMet m es ls n → EndsMet m es ls o
+ends_weaker : (m : ℕ → Bool) (es : List Entry) (ls : List Visit) (n o : Type 0) → (o → n) → EndsMet m es ls n → EndsMet m es ls o
 ends_weaker m es [] n o f h = tt
 ends_weaker m es (Part t s j ∷ ls) n o f h = ends_weaker m es ls n o f h
 ends_weaker m es (End g ∷ ls) n o f h = (λ a u. h.0 a (f u), ends_weaker m es ls n o f h.1)
@@ -234,7 +234,7 @@ meaning_grown at other n (Gives k g) rest h b = refl
 meaning_grown at other n (Module k) rest h b = refl
 
 module _ (es new : List Entry) (x : Extends new es) where
-  inside_grown : (ls : List Left) → EachIs (IsInside es) ls → EachIs (IsInside new) ls
+  inside_grown : (ls : List Visit) → EachIs (IsInside es) ls → EachIs (IsInside new) ls
   inside_grown [] i = tt
   inside_grown (Part t s k ∷ ls) i = let n = extends_length es new x in (omega (arith, i.0), inside_grown ls i.1)
   inside_grown (End g ∷ ls) i = let n = extends_length es new x in (omega (arith, i.0), inside_grown ls i.1)
@@ -243,12 +243,12 @@ module _ (es new : List Entry) (x : Extends new es) where
   known_grown [] k = tt
   known_grown (g ∷ gs) k = let n = extends_length es new x in (omega (arith, k.0), known_grown gs k.1)
 
-  are_met_grown : (m : ℕ → Bool) (ls : List Left) → EachIs (IsInside es) ls → AreMet m es ls → AreMet m new ls
+  are_met_grown : (m : ℕ → Bool) (ls : List Visit) → EachIs (IsInside es) ls → AreMet m es ls → AreMet m new ls
   are_met_grown m [] i h = tt
   are_met_grown m (Part t s k ∷ ls) i h = (rw (scope_extends es new s x i.0) h.0, are_met_grown m ls i.1 h.1)
   are_met_grown m (End g ∷ ls) i h = are_met_grown m ls i.1 h
 
-  are_met_shrunk : (m : ℕ → Bool) (ls : List Left) → EachIs (IsInside es) ls → AreMet m new ls → AreMet m es ls
+  are_met_shrunk : (m : ℕ → Bool) (ls : List Visit) → EachIs (IsInside es) ls → AreMet m new ls → AreMet m es ls
   are_met_shrunk m [] i h = tt
   are_met_shrunk m (Part t s k ∷ ls) i h = (rw (sym (scope_extends es new s x i.0)) h.0, are_met_shrunk m ls i.1 h.1)
   are_met_shrunk m (End g ∷ ls) i h = are_met_shrunk m ls i.1 h
@@ -264,12 +264,12 @@ module _ (es new : List Entry) (x : Extends new es) where
     passed_grown m [] k h = tt
     passed_grown m (g ∷ gs) k h = (gone_grown m g k.0 h.0, passed_grown m gs k.1 h.1)
 
-    ends_grown : (m : ℕ → Bool) (ls : List Left) (n : Type 0) → EachIs (IsInside es) ls → EndsMet m es ls n → EndsMet m new ls n
+    ends_grown : (m : ℕ → Bool) (ls : List Visit) (n : Type 0) → EachIs (IsInside es) ls → EndsMet m es ls n → EndsMet m new ls n
     ends_grown m [] n i h = tt
     ends_grown m (Part t s k ∷ ls) n i h = ends_grown m ls n i.1 h
     ends_grown m (End g ∷ ls) n i h = (λ a u. gone_grown m g i.0 (h.0 (are_met_shrunk m ls i.1 a) u), ends_grown m ls n i.1 h.1)
 
-    pub walk_grown : (whole o : Option Expr) (left : List Left) (gone : List Gone) (met : List ℕ) → AreLinked new → IsWalkTo whole es left gone met o → IsWalkTo whole new left gone met o
+    pub walk_grown : (whole o : Option Expr) (left : List Visit) (gone : List Gone) (met : List ℕ) → AreLinked new → IsWalkTo whole es left gone met o → IsWalkTo whole new left gone met o
     walk_grown whole o left gone met linked w = record {
       linked = linked;
       inside = inside_grown left w.inside;
@@ -313,15 +313,15 @@ among_found test x f (y ∷ ys) h =
     ]
 
 -- ---- steps
-pub walk_same : (whole : Option Expr) (es : List Entry) (left : List Left) (gone : List Gone) (met : List ℕ) (o u : Option Expr) → o ≡ u → IsWalkTo whole es left gone met o → IsWalkTo whole es left gone met u
+pub walk_same : (whole : Option Expr) (es : List Entry) (left : List Visit) (gone : List Gone) (met : List ℕ) (o u : Option Expr) → o ≡ u → IsWalkTo whole es left gone met o → IsWalkTo whole es left gone met u
 walk_same whole es left gone met o u q w = rw q at w
 
-module _ (whole : Option Expr) (es : List Entry) (left : List Left) (gone : List Gone) (met : List ℕ) where
+module _ (whole : Option Expr) (es : List Entry) (left : List Visit) (gone : List Gone) (met : List ℕ) where
   -- what is next is taken away, to be looked at
   pub take_part : (t : Bor syntax.Expr) (s : ℕ) (k : Primes) → IsWalk whole es (left ++ Part t s k ∷ []) gone met → IsWalkTo whole es left gone met (with_primes k (expand (view t.now) (scope_at es s) 0))
   take_part t s k w =
       let o = with_primes k (expand (view t.now) (scope_at es s) 0) in
-      let last : List Left = Part t s k ∷ [] in
+      let last : List Visit = Part t s k ∷ [] in
       record {
         linked = w.linked;
         inside = each_front (IsInside es) left last w.inside;
@@ -337,7 +337,7 @@ module _ (whole : Option Expr) (es : List Entry) (left : List Left) (gone : List
   -- an entry is noted
   pub take_end : (g : Gone) (more : List Gone) → IsAdded gone g more → IsWalk whole es (left ++ End g ∷ []) gone met → IsWalk whole es left more met
   take_end g more added w =
-      let last : List Left = End g ∷ [] in
+      let last : List Visit = End g ∷ [] in
       let n = each_back (IsInside es) left last w.inside in
       let h = ends_back (among met) es left last (Unit {0}) (w.ends_met (among met) (sure_among met)) in
       record {
@@ -354,7 +354,7 @@ module _ (whole : Option Expr) (es : List Entry) (left : List Left) (gone : List
     -- an entry is to be noted behind what is looked at
     pub put_end : (g : Gone) → g.entry < length es → ((m : ℕ → Bool) → IsMet m o → IsGone m es g) → IsWalkTo whole es (left ++ End g ∷ []) gone met o
     put_end g b f =
-        let last : List Left = End g ∷ [] in
+        let last : List Visit = End g ∷ [] in
         record {
           linked = w.linked;
           inside = each_append (IsInside es) left last w.inside (b, tt);
@@ -366,7 +366,7 @@ module _ (whole : Option Expr) (es : List Entry) (left : List Left) (gone : List
         }
 
     -- what is looked at is brought to these
-    put_all : (more : List Left) → EachIs (IsInside es) more → ((m : ℕ → Bool) → AreMet m es more → IsMet m o) → ((m : ℕ → Bool) → IsMet m o → AreMet m es more)
+    put_all : (more : List Visit) → EachIs (IsInside es) more → ((m : ℕ → Bool) → AreMet m es more → IsMet m o) → ((m : ℕ → Bool) → IsMet m o → AreMet m es more)
         → ((m : ℕ → Bool) → EndsMet m es more (Unit {0})) → IsWalk whole es (left ++ more) gone met
     put_all more inside f g ends = record {
       linked = w.linked;
@@ -427,13 +427,13 @@ module _ (whole : Option Expr) (es : List Entry) (left : List Left) (gone : List
             cc
 
 -- what is looked at is brought to one expression
-pub put_part : (whole : Option Expr) (es : List Entry) (left : List Left) (gone : List Gone) (met : List ℕ) (t : Bor syntax.Expr) (s : ℕ) (k : Primes) → s ≤ length es
+pub put_part : (whole : Option Expr) (es : List Entry) (left : List Visit) (gone : List Gone) (met : List ℕ) (t : Bor syntax.Expr) (s : ℕ) (k : Primes) → s ≤ length es
     → IsWalkTo whole es left gone met (with_primes k (expand (view t.now) (scope_at es s) 0)) → IsWalk whole es (left ++ Part t s k ∷ []) gone met
 put_part whole es left gone met t s k h w =
     put_all whole es left gone met (with_primes k (expand (view t.now) (scope_at es s) 0)) w (Part t s k ∷ []) (h, tt) (λ m a. a.0) (λ m a. (a, tt)) (λ m. tt)
 
 -- what is looked at isn't there
-pub put_nothing : (whole : Option Expr) (es : List Entry) (left : List Left) (gone : List Gone) (met : List ℕ) (k : Primes) (o : Option Expr) → o ≡ None
+pub put_nothing : (whole : Option Expr) (es : List Entry) (left : List Visit) (gone : List Gone) (met : List ℕ) (k : Primes) (o : Option Expr) → o ≡ None
     → IsWalkTo whole es left gone met (with_primes k o) → IsNoTuple whole
 put_nothing whole es left gone met k o h w =
     put_other whole es left gone met (with_primes k o) w (λ e q.
@@ -524,7 +524,7 @@ module _ (es : List Entry) (s : ℕ) (k : Primes) where
   ends_parts m (b ∷ bs) = ends_parts m bs
 
   -- what is looked at is a tuple
-  pub put_tuple : (whole o : Option Expr) (left more : List Left) (gone : List Gone) (met : List ℕ) (p : Place) (ts : List syntax.Expr) → o ≡ (each_of (part_in k (scope_at es s) 0) ts >>= λ xs. Some (tuple p (exprs xs)))
+  pub put_tuple : (whole o : Option Expr) (left more : List Visit) (gone : List Gone) (met : List ℕ) (p : Place) (ts : List syntax.Expr) → o ≡ (each_of (part_in k (scope_at es s) 0) ts >>= λ xs. Some (tuple p (exprs xs)))
       → ArePushed left ts s k more → s ≤ length es → IsWalkTo whole es left gone met o → IsWalk whole es more gone met
   put_tuple whole o left more gone met p ts e a h w =
       let f = part_in k (scope_at es s) 0 in
@@ -534,16 +534,16 @@ module _ (es : List Entry) (s : ℕ) (k : Primes) where
       (λ m. ends_parts m a.0))
 
 -- one expression more
-pub parts_more : (old mid new : List Left) (ts : List syntax.Expr) (i s : ℕ) (k : Primes) (b : Bor syntax.Expr) → i < length ts → b.now ≡ get_or ts i b.now → ArePushed old (take i ts) s k mid → new ≡ mid ++ Part b s k ∷ []
+pub parts_more : (old mid new : List Visit) (ts : List syntax.Expr) (i s : ℕ) (k : Primes) (b : Bor syntax.Expr) → i < length ts → b.now ≡ get_or ts i b.now → ArePushed old (take i ts) s k mid → new ≡ mid ++ Part b s k ∷ []
     → ArePushed old (take (i + 1) ts) s k new
 parts_more old mid new ts i s k b h q a e = (
   a.0 ++ b ∷ [],
   map-append (λ (u : Bor syntax.Expr). u.now) a.0 (b ∷ []) ∙ ap (λ (us : List syntax.Expr). us ++ b.now ∷ []) a.1 ∙ sym (take_more ts i b.now h ∙ ap (λ (t : syntax.Expr). take i ts ++ t ∷ []) (sym q)),
-  e ∙ rw a.2 (append_assoc old (parts_at a.0 s k) (Part b s k ∷ []) ∙ ap (λ (ls : List Left). old ++ ls) (sym (map-append (λ (u : Bor syntax.Expr). Part u s k) a.0 (b ∷ [])))),
+  e ∙ rw a.2 (append_assoc old (parts_at a.0 s k) (Part b s k ∷ []) ∙ ap (λ (ls : List Visit). old ++ ls) (sym (map-append (λ (u : Bor syntax.Expr). Part u s k) a.0 (b ∷ [])))),
 )
 
 -- what is looked at was gone through
-pub put_gone : (whole : Option Expr) (es : List Entry) (left : List Left) (gone : List Gone) (met : List ℕ) (t : Tree) (s : ℕ) (g : Gone) → IsNamed es t s g.entry → IsAmong g gone
+pub put_gone : (whole : Option Expr) (es : List Entry) (left : List Visit) (gone : List Gone) (met : List ℕ) (t : Tree) (s : ℕ) (g : Gone) → IsNamed es t s g.entry → IsAmong g gone
     → IsWalkTo whole es left gone met (with_primes g.primes (expand t (scope_at es s) 0)) → IsWalk whole es left gone met
 put_gone whole es left gone met t s g n a w =
     let o = with_primes g.primes (expand t (scope_at es s) 0) in
@@ -615,12 +615,12 @@ none_there : {A : Type 0} (xs : List A) → length xs ≡ 0 → xs ≡ []
 none_there [] h = refl
 none_there (x ∷ xs) h = absurd (omega arith)
 
-pub walk_starts : (es : List Entry) (t : Bor syntax.Expr) (s : ℕ) (left : List Left) (gone : List Gone) (met : List ℕ) → AreLinked es → s ≤ length es → left ≡ Part t s Never ∷ [] → length gone ≡ 0 → length met ≡ 0
+pub walk_starts : (es : List Entry) (t : Bor syntax.Expr) (s : ℕ) (left : List Visit) (gone : List Gone) (met : List ℕ) → AreLinked es → s ≤ length es → left ≡ Part t s Never ∷ [] → length gone ≡ 0 → length met ≡ 0
     → IsWalk (expand (view t.now) (scope_at es s) 0) es left gone met
 walk_starts es t s left gone met l h q n m = rw (q, none_there gone n, none_there met m) (walk_start es t s l h)
 
 -- nothing is left
-pub walk_over : (whole : Option Expr) (es : List Entry) (left : List Left) (gone : List Gone) (met : List ℕ) → length left ≡ 0 → IsWalk whole es left gone met → IsWalk whole es [] gone met
+pub walk_over : (whole : Option Expr) (es : List Entry) (left : List Visit) (gone : List Gone) (met : List ℕ) → length left ≡ 0 → IsWalk whole es left gone met → IsWalk whole es [] gone met
 walk_over whole es left gone met n w = rw (none_there left n) at w
 
 -- one more of the first so many is found

@@ -1,6 +1,6 @@
 -- Operators that give back one of their arguments.
 use Rattle.std.specs.Prelude.{ℕ, zero, suc, Bool, true, false, List, [], ◌∷◌, None, if◌then◌else◌}
-use Rattle.tla_expand.specs.declared.arena.Given.{Given}
+use Rattle.tla_expand.specs.declared.arena.Projection.{Projection}
 use Rattle.tla_expand.specs.declared.primes.Primes.{Primes}
 use Rattle.tla_expand.specs.declared.primes.Primes.TheVariants.{Never, Once, Twice}
 use Rattle.tla_expand.specs.Primes.{one_more, with_primes}
@@ -24,9 +24,9 @@ argument_at i [] = λ d. None
 argument_at zero (a ∷ args) = a
 argument_at (suc i) (a ∷ args) = argument_at i args
 
-abbrev pub argument_of : Given → List Argument → Argument
+abbrev pub argument_of : Projection → List Argument → Argument
 argument_of g args d = with_primes g.primes (argument_at g.index args d)
 
 -- an operator of so many parameters
-abbrev pub given : ℕ → Given → Meaning
+abbrev pub given : ℕ → Projection → Meaning
 given n g p args d = if has_count n args then argument_of g args d else None

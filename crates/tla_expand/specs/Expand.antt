@@ -14,8 +14,8 @@ use Rattle.tla_tree.specs.declared.tree.Quantifier.TheVariants as quantifier
 use Rattle.tla_tree.specs.Places.{place}
 use Rattle.tla_tree.specs.Tree.{Tree, Trees, Binders, Arms, Other, Fields, Key, Keys, Updates, Definition, Definitions, none, more, unbound, no_arms, arm, no_other, other, undefined, defined, DefinesOperator, DefinesFunction, Name, Number, Text, Word, At, Paren, Listing, Call, Prime, Index, Field, Unary, Binary, Quantified, Choose, If, Case, Let, Junction, Filter, Image, Function, FunctionSet, Record, RecordSet, Product, Except, Action, Fair, no_fields, field, AtIndex, AtField, no_keys, key, no_updates, update}
 use Rattle.tla_tree.specs.Tree as t
-use Rattle.tla_expand.specs.declared.nodes.One.{One}
-use Rattle.tla_expand.specs.declared.nodes.Two.TheVariants as twos
+use Rattle.tla_expand.specs.declared.nodes.UnaryNode.{UnaryNode}
+use Rattle.tla_expand.specs.declared.nodes.BinaryNode.TheVariants as twos
 use Rattle.tla_expand.specs.declared.nodes.Gather.TheVariants as gathers
 use Rattle.tla_expand.specs.declared.nodes.Binding.{Binding}
 use Rattle.tla_expand.specs.declared.nodes.Binding.TheVariants as binds
@@ -34,7 +34,7 @@ of_quantifier quantifier.ForAll = binds.ForAll
 of_quantifier quantifier.Exists = binds.ForSome
 
 -- what a prefix operator makes of its operand
-abbrev pub applied : Option One → Place → Expr → Option Expr
+abbrev pub applied : Option UnaryNode → Place → Expr → Option Expr
 applied None p x = None
 applied (Some f) p x = Some (one f p x)
 

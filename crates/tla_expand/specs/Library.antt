@@ -4,8 +4,8 @@ use Rattle.std.specs.Str.{bytes_eq}
 use Rattle.tla_core.specs.declared.expression.Unary.TheVariants as u
 use Rattle.tla_core.specs.declared.expression.Binary.TheVariants as b
 use Rattle.tla_core.specs.declared.expression.Kind.TheVariants as k
-use Rattle.tla_expand.specs.declared.nodes.Two.TheVariants as two
-use Rattle.tla_expand.specs.declared.nodes.Three.TheVariants as three
+use Rattle.tla_expand.specs.declared.nodes.BinaryNode.TheVariants as two
+use Rattle.tla_expand.specs.declared.nodes.TernaryNode.TheVariants as three
 use Rattle.tla_expand.specs.declared.nodes.Builtin.{Builtin}
 use Rattle.tla_expand.specs.declared.nodes.Builtin.TheVariants as builtin
 use Rattle.tla_expand.specs.Places.{Name}

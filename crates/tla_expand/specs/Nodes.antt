@@ -11,14 +11,14 @@ use Rattle.tla_tree.specs.declared.tree.Constant.{Constant}
 use Rattle.tla_tree.specs.declared.tree.Constant.TheVariants.{True, False, Boolean, String}
 use Rattle.tla_expand.specs.declared.nodes.Leaf.{Leaf}
 use Rattle.tla_expand.specs.declared.nodes.Leaf.TheVariants as leaf_
-use Rattle.tla_expand.specs.declared.nodes.One.{One}
-use Rattle.tla_expand.specs.declared.nodes.One.TheVariants as one_
-use Rattle.tla_expand.specs.declared.nodes.Two.{Two}
-use Rattle.tla_expand.specs.declared.nodes.Two.TheVariants as two_
-use Rattle.tla_expand.specs.declared.nodes.Three.{Three}
-use Rattle.tla_expand.specs.declared.nodes.Three.TheVariants as three_
-use Rattle.tla_expand.specs.declared.nodes.Many.{Many}
-use Rattle.tla_expand.specs.declared.nodes.Many.TheVariants as many_
+use Rattle.tla_expand.specs.declared.nodes.UnaryNode.{UnaryNode}
+use Rattle.tla_expand.specs.declared.nodes.UnaryNode.TheVariants as one_
+use Rattle.tla_expand.specs.declared.nodes.BinaryNode.{BinaryNode}
+use Rattle.tla_expand.specs.declared.nodes.BinaryNode.TheVariants as two_
+use Rattle.tla_expand.specs.declared.nodes.TernaryNode.{TernaryNode}
+use Rattle.tla_expand.specs.declared.nodes.TernaryNode.TheVariants as three_
+use Rattle.tla_expand.specs.declared.nodes.ListNode.{ListNode}
+use Rattle.tla_expand.specs.declared.nodes.ListNode.TheVariants as many_
 use Rattle.tla_expand.specs.declared.nodes.Binding.{Binding}
 use Rattle.tla_expand.specs.declared.nodes.Binding.TheVariants as binds_
 use Rattle.tla_expand.specs.declared.nodes.Gather.{Gather}
@@ -51,13 +51,13 @@ leaf (leaf_.Bound i) p = Some (bound p i)
 leaf (leaf_.Value v) p = value_of p v.now
 leaf (leaf_.Kinds k) p = Some (kind_set p (kind_of k))
 
-abbrev pub one : One → Place → Expr → Expr
+abbrev pub one : UnaryNode → Place → Expr → Expr
 one (one_.Unary u) p x = unary p (unary_of u) x
 one one_.Power p x = power p x
 one one_.Sequences p x = sequences p x
 one (one_.Field w) p x = unary p (e.Field w.now) x
 
-abbrev pub two : Two → Place → Expr → Expr → Expr
+abbrev pub two : BinaryNode → Place → Expr → Expr → Expr
 two (two_.Binary b) p x y = binary p (binary_of b) x y
 two two_.Apply p x y = binary p e.Apply x y
 two two_.Equal p x y = equal p x y
@@ -73,11 +73,11 @@ two two_.Minus p x y = minus p x y
 two two_.Assert p x y = assert p x y
 two two_.Functions p x y = functions p x y
 
-abbrev pub three : Three → Place → Expr → Expr → Expr → Expr
+abbrev pub three : TernaryNode → Place → Expr → Expr → Expr → Expr
 three three_.If p x y z = conditional p x y z
 three three_.SubSeq p x y z = sub_seq p x y z
 
-abbrev pub many : Many → Place → Exprs → Expr
+abbrev pub many : ListNode → Place → Exprs → Expr
 many many_.Set p xs = enumerated p xs
 many many_.Tuple p xs = tuple p xs
 many many_.And p xs = conjunction p xs

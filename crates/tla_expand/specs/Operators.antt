@@ -6,12 +6,12 @@ use Rattle.tla_tree.specs.declared.tree.Infix.{Infix}
 use Rattle.tla_tree.specs.declared.tree.Infix.TheVariants as i
 use Rattle.tla_tree.specs.declared.tree.Prefix.{Prefix}
 use Rattle.tla_tree.specs.declared.tree.Prefix.TheVariants as p
-use Rattle.tla_expand.specs.declared.nodes.One.{One}
-use Rattle.tla_expand.specs.declared.nodes.One.TheVariants as one
-use Rattle.tla_expand.specs.declared.nodes.Two.{Two}
-use Rattle.tla_expand.specs.declared.nodes.Two.TheVariants as two
+use Rattle.tla_expand.specs.declared.nodes.UnaryNode.{UnaryNode}
+use Rattle.tla_expand.specs.declared.nodes.UnaryNode.TheVariants as one
+use Rattle.tla_expand.specs.declared.nodes.BinaryNode.{BinaryNode}
+use Rattle.tla_expand.specs.declared.nodes.BinaryNode.TheVariants as two
 
-abbrev pub prefix_for : Prefix → Option One
+abbrev pub prefix_for : Prefix → Option UnaryNode
 prefix_for p.Not = Some (one.Unary u.Not)
 prefix_for p.Negate = Some (one.Unary u.Negate)
 prefix_for p.Subset = Some one.Power
@@ -19,7 +19,7 @@ prefix_for p.Union = Some (one.Unary u.Union)
 prefix_for p.Domain = Some (one.Unary u.Domain)
 prefix_for _ = None
 
-abbrev pub infix_for : Infix → Option Two
+abbrev pub infix_for : Infix → Option BinaryNode
 infix_for i.And = Some two.And
 infix_for i.Or = Some two.Or
 infix_for i.Implies = Some two.Implies

@@ -17,7 +17,7 @@ use tla_value::Value;
 
 /// The argument that an operator gives back, by its number, and under how many primes; and where the last of these stands.
 #[derive(Clone, Copy)]
-pub(crate) struct Given {
+pub(crate) struct Projection {
     pub(crate) index: usize,
     pub(crate) primes: Primes,
     pub(crate) primed: Option<Place>,
@@ -36,7 +36,7 @@ pub(crate) enum What<'a> {
     /// The place, the binder list and the body of a function that is defined by its name, in the scope where it stands.
     Function(Place, &'a [Binder], &'a Expr, usize),
     /// An operator of so many parameters that gives back one of its arguments.
-    Gives(usize, Given),
+    Gives(usize, Projection),
     /// An operator of a module under another name.
     Module(Builtin),
     /// Another name of what means nothing.
@@ -96,10 +96,8 @@ pub(crate) fn enter<'a>(entries: &mut Entries<'_, 'a>, entry: Entry<'a>) -> Resu
     ensures own { OnOk result (lent_count entries.new ≡ lent_count entries.old) }
     ensures err { IfErr result (λ e. e ≡ Failure.Memory) }
 {
-    match entries.push(entry) {
-        Ok(()) => Ok(entries.len()),
-        Err(failure) => Err(failure),
-    }
+    entries.push(entry)?;
+    Ok(entries.len())
 }
 
 /// The scope in which the parameters stand for the arguments. The only error is want of memory.

@@ -10,7 +10,7 @@ ghost use Rattle.tla_expand.specs.Bound.{under_openings};
 ghost use Rattle.tla_expand.specs.Private.Gives.{MakesLeaf};
 
 use crate::failure::Failure;
-use crate::nodes::{Binding, Fielded, Gather, Leaf, Many, One, Three, Two};
+use crate::nodes::{BinaryNode, Binding, Fielded, Gather, Leaf, ListNode, TernaryNode, UnaryNode};
 use crate::parts::{box_beside, boxed, list_of_two, with_first};
 use std::alloc::Global;
 use tla_core::{Core, Kind, Opening, Place};
@@ -83,7 +83,7 @@ pub(crate) fn leaf_core(alloc: Global, place: Place, leaf: Leaf<'_>) -> Result<C
 pub(crate) fn one_core(
     alloc: Global,
     place: Place,
-    node: One<'_>,
+    node: UnaryNode<'_>,
     part: Core,
 ) -> Result<Core, Failure>
     ensures ok { IfOk result (λ c. expr_of c ≡ nodes.one node.entry place (expr_of part)) }
@@ -91,10 +91,10 @@ pub(crate) fn one_core(
 {
     let part = boxed(alloc, part)?;
     match node {
-        One::Unary(operator) => Ok(Core::Unary(place, operator, part)),
-        One::Power => Ok(Core::Power(place, part)),
-        One::Sequences => Ok(Core::Sequences(place, part)),
-        One::Field(word) => Ok(Core::Field(place, text_of(alloc, word)?, part)),
+        UnaryNode::Unary(operator) => Ok(Core::Unary(place, operator, part)),
+        UnaryNode::Power => Ok(Core::Power(place, part)),
+        UnaryNode::Sequences => Ok(Core::Sequences(place, part)),
+        UnaryNode::Field(word) => Ok(Core::Field(place, text_of(alloc, word)?, part)),
     }
 }
 
@@ -102,7 +102,7 @@ pub(crate) fn one_core(
 pub(crate) fn two_core(
     alloc: Global,
     place: Place,
-    node: Two,
+    node: BinaryNode,
     first: Box<Core>,
     second: Core,
 ) -> Result<Core, Failure>
@@ -110,8 +110,14 @@ pub(crate) fn two_core(
     ensures err { IfErr result (λ e. e ≡ Failure.Memory) }
 {
     match node {
-        Two::And => Ok(conjunction(place, list_of_two(alloc, Box::into_inner(first), second)?)),
-        Two::Or => Ok(disjunction(place, list_of_two(alloc, Box::into_inner(first), second)?)),
+        BinaryNode::And => {
+            let parts = list_of_two(alloc, Box::into_inner(first), second)?;
+            Ok(conjunction(place, parts))
+        }
+        BinaryNode::Or => {
+            let parts = list_of_two(alloc, Box::into_inner(first), second)?;
+            Ok(disjunction(place, parts))
+        }
         _ => {
             let (second, first) = box_beside(alloc, second, first)?;
             two_boxed(place, node, first, second)
@@ -120,24 +126,29 @@ pub(crate) fn two_core(
 }
 
 /// A node of two parts that isn't a list.
-fn two_boxed(place: Place, node: Two, first: Box<Core>, second: Box<Core>) -> Result<Core, Failure>
+fn two_boxed(
+    place: Place,
+    node: BinaryNode,
+    first: Box<Core>,
+    second: Box<Core>,
+) -> Result<Core, Failure>
     ensures ok { IfOk result (λ c. expr_of c ≡ nodes.two node place (expr_of first.value) (expr_of second.value)) }
     ensures err { IfErr result (λ e. e ≡ Failure.Memory) }
 {
     match node {
-        Two::Binary(operator) => Ok(Core::Binary(place, operator, first, second)),
-        Two::Apply => Ok(Core::Apply(place, first, second)),
-        Two::Equal => Ok(Core::Equal(place, first, second)),
-        Two::Implies => Ok(Core::Implies(place, first, second)),
-        Two::Member => Ok(Core::Member(place, first, second)),
-        Two::NotMember => Ok(Core::NotMember(place, first, second)),
-        Two::Subset => Ok(Core::Subset(place, first, second)),
-        Two::Cup => Ok(Core::Cup(place, first, second)),
-        Two::Cap => Ok(Core::Cap(place, first, second)),
-        Two::Minus => Ok(Core::Minus(place, first, second)),
-        Two::Assert => Ok(Core::Assert(place, first, second)),
-        Two::Functions => Ok(Core::Functions(place, first, second)),
-        Two::And | Two::Or => Err(Failure::Memory),
+        BinaryNode::Binary(operator) => Ok(Core::Binary(place, operator, first, second)),
+        BinaryNode::Apply => Ok(Core::Apply(place, first, second)),
+        BinaryNode::Equal => Ok(Core::Equal(place, first, second)),
+        BinaryNode::Implies => Ok(Core::Implies(place, first, second)),
+        BinaryNode::Member => Ok(Core::Member(place, first, second)),
+        BinaryNode::NotMember => Ok(Core::NotMember(place, first, second)),
+        BinaryNode::Subset => Ok(Core::Subset(place, first, second)),
+        BinaryNode::Cup => Ok(Core::Cup(place, first, second)),
+        BinaryNode::Cap => Ok(Core::Cap(place, first, second)),
+        BinaryNode::Minus => Ok(Core::Minus(place, first, second)),
+        BinaryNode::Assert => Ok(Core::Assert(place, first, second)),
+        BinaryNode::Functions => Ok(Core::Functions(place, first, second)),
+        BinaryNode::And | BinaryNode::Or => Err(Failure::Memory),
     }
 }
 
@@ -145,7 +156,7 @@ fn two_boxed(place: Place, node: Two, first: Box<Core>, second: Box<Core>) -> Re
 pub(crate) fn three_core(
     alloc: Global,
     place: Place,
-    node: Three,
+    node: TernaryNode,
     first: Box<Core>,
     second: Box<Core>,
     third: Core,
@@ -156,8 +167,8 @@ pub(crate) fn three_core(
     let (third, two) = box_beside(alloc, third, (first, second))?;
     let (first, second) = two;
     match node {
-        Three::If => Ok(Core::If(place, first, second, third)),
-        Three::SubSeq => Ok(Core::SubSeq(place, first, second, third)),
+        TernaryNode::If => Ok(Core::If(place, first, second, third)),
+        TernaryNode::SubSeq => Ok(Core::SubSeq(place, first, second, third)),
     }
 }
 
@@ -192,15 +203,15 @@ fn product(place: Place, parts: Vec<Core>) -> Core
 }
 
 /// A node of a list of parts.
-pub(crate) fn many_core(place: Place, node: Many, parts: Vec<Core>) -> Core
+pub(crate) fn many_core(place: Place, node: ListNode, parts: Vec<Core>) -> Core
     ensures { expr_of result ≡ nodes.many node place (exprs (map expr_of parts.items)) }
 {
     match node {
-        Many::Set => enumerated(place, parts),
-        Many::Tuple => tuple(place, parts),
-        Many::And => conjunction(place, parts),
-        Many::Or => disjunction(place, parts),
-        Many::Product => product(place, parts),
+        ListNode::Set => enumerated(place, parts),
+        ListNode::Tuple => tuple(place, parts),
+        ListNode::And => conjunction(place, parts),
+        ListNode::Or => disjunction(place, parts),
+        ListNode::Product => product(place, parts),
     }
 }
 

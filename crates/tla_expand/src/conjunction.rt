@@ -20,9 +20,9 @@ ghost use Rattle.tla_expand.specs.Listed.{listed};
 use crate::builders::{many_core, place_of};
 use crate::entries::Entries;
 use crate::expand::{NODES_BELOW, PATH_BELOW, Setting, expand};
-use crate::expanded::Many as Parts;
+use crate::expanded::Many;
 use crate::failure::Failure;
-use crate::nodes::Many;
+use crate::nodes::ListNode;
 use crate::primes::Primes;
 use std::alloc::Global;
 use tla_core::Core;
@@ -37,7 +37,7 @@ fn each_apart<'a>(
     scope: usize,
     primes: Primes,
     sought: Option<Primes>,
-) -> Result<Parts, Failure>
+) -> Result<Many, Failure>
     requires linked { AreLinked (listed entries.old) }
     requires scope { scope ≤ length (listed entries.old) }
     ensures same { GivesMany 299 199999 result (each_of (part_in primes (scope_at (listed entries.old) scope) 0) (pointed trees.now)) }
@@ -57,7 +57,7 @@ fn each_apart<'a>(
         left = part.left;
         push(&mut parts, part.core)?;
     }
-    Ok(Parts { parts, left })
+    Ok(Many { parts, left })
 }
 
 /// The expansion of a conjunction in a scope, under so many primes, with at most 200,000 nodes, of which at most 300 on
@@ -79,5 +79,5 @@ pub(crate) fn conjunction<'a>(
     ensures none { IfErr result (λ f. f ≢ Failure.Memory → (e : expr.Expr) → with_primes primes (expansion.expand (Junction place bullet.And (trees_of (map (λ (t : Bor syntax.Expr). view t.now) trees.now))) (scope_at (listed entries.old) scope) 0) ≡ Some e → IsWithinLimits e → ⊥) }
 {
     let many = each_apart(alloc, entries, trees, scope, primes, sought)?;
-    Ok(many_core(place_of(place), Many::And, many.parts))
+    Ok(many_core(place_of(place), ListNode::And, many.parts))
 }

@@ -8,7 +8,7 @@ ghost use Rattle.tla_tree.specs.View.{view};
 ghost use Rattle.tla_expand.specs.Covers as spec;
 ghost use Rattle.tla_expand.specs.Expand as expansion;
 ghost use Rattle.tla_expand.specs.Primes.{with_primes};
-ghost use Rattle.tla_expand.specs.Private.Gives.{head_gives, step_gives, IsWithin};
+ghost use Rattle.tla_expand.specs.Private.Gives.{head_gives, reduction_gives, IsWithin};
 ghost use Rattle.tla_expand.specs.Private.Walks as walks;
 ghost use Rattle.tla_expand.specs.Private.Walks.{IsNamed, IsAmong, IsAdded, IsInside, ArePushed, IsWalkTo, IsWalk, GoesOn, HasEach};
 ghost use Rattle.tla_expand.specs.Scopes.{AreLinked, scope_at};
@@ -17,16 +17,16 @@ ghost use Rattle.tla_expand.specs.Listed.{listed};
 use crate::arena::position;
 use crate::entries::Entries;
 use crate::failure::Failure;
-use crate::nodes::{Form, Many};
+use crate::nodes::{Form, ListNode};
 use crate::primes::Primes;
-use crate::uses::{Head, Step, next_step};
+use crate::uses::{Head, Reduction, next_reduction};
 use indexmap::IndexSet;
 use std::alloc::Global;
 use tla_tree::{Expr, push};
 
-/// What is left to do.
+/// A visit that is left to do.
 #[derive(Clone, Copy)]
-pub(crate) enum Left<'a> {
+pub(crate) enum Visit<'a> {
     /// To look at an expression in a scope, with so many primes on it.
     Part(&'a Expr, usize, Primes),
     /// To note that an entry was gone through, with so many primes on it.
@@ -53,7 +53,7 @@ pub(crate) enum Piece<'a> {
 #[derive(Drop)]
 pub(crate) struct Walk<'s, 'a> {
     pub(crate) entries: Entries<'s, 'a>,
-    pub(crate) left: Vec<Left<'a>>,
+    pub(crate) left: Vec<Visit<'a>>,
     pub(crate) gone: IndexSet<Gone>,
     pub(crate) met: IndexSet<usize>,
 }
@@ -79,14 +79,14 @@ fn piece_of<'a>(head: Head<'a>) -> Piece<'a>
             Primes::Never => Piece::Variable(variable),
             Primes::Once | Primes::Twice => Piece::Other,
         },
-        Form::Many(_, Many::Tuple, items) => Piece::Tuple(items),
+        Form::Many(_, ListNode::Tuple, items) => Piece::Tuple(items),
         _ => Piece::Other,
     }
 }
 
 /// Parts of a tuple more. The only error is want of memory.
 fn push_parts<'a>(
-    left: &mut Vec<Left<'a>>,
+    left: &mut Vec<Visit<'a>>,
     items: &'a [Expr],
     scope: usize,
     primes: Primes,
@@ -95,7 +95,7 @@ fn push_parts<'a>(
     ensures err { IfErr result (λ f. f ≡ Failure.Memory) }
 {
     for i in 0..items.len() {
-        push(left, Left::Part(&items[i], scope, primes))?;
+        push(left, Visit::Part(&items[i], scope, primes))?;
     }
     Ok(())
 }
@@ -105,10 +105,8 @@ fn meet(met: &mut IndexSet<usize>, variable: usize) -> Result<(), Failure>
     ensures ok { OnOk result (met.new.keys ≡ insert_key nat_eq met.old.keys variable) }
     ensures err { IfErr result (λ f. f ≡ Failure.Memory) }
 {
-    match met.insert(variable) {
-        Ok(_) => Ok(()),
-        Err(_) => Err(Failure::Memory),
-    }
+    met.insert(variable)?;
+    Ok(())
 }
 
 /// Notes an entry that was gone through. The only error is want of memory.
@@ -116,10 +114,8 @@ fn go_by(gone: &mut IndexSet<Gone>, entry: Gone) -> Result<(), Failure>
     ensures ok { OnOk result (IsAdded gone.old.keys entry gone.new.keys) }
     ensures err { IfErr result (λ f. f ≡ Failure.Memory) }
 {
-    match gone.insert(entry) {
-        Ok(_) => Ok(()),
-        Err(_) => Err(Failure::Memory),
-    }
+    gone.insert(entry)?;
+    Ok(())
 }
 
 /// Whether an entry was gone through.
@@ -148,22 +144,22 @@ fn go_into<'a>(walk: &mut Walk<'_, 'a>, head: Head<'a>) -> Result<bool, Failure>
     }
 }
 
-/// Goes on with a step; whether it may come to a part. The only error is want of memory.
-fn go_along<'a>(walk: &mut Walk<'_, 'a>, step: Step<'a>) -> Result<bool, Failure>
-    requires within { IsWithin (listed walk.old.entries) step }
-    ensures goes { IfOk result (λ b. (whole : Option expr.Expr) → IsWalkTo whole (listed walk.old.entries) walk.old.left.items walk.old.gone.keys walk.old.met.keys (step_gives (listed walk.old.entries) step.entry 0) → GoesOn whole (listed walk.new.entries) walk.new.left.items walk.new.gone.keys walk.new.met.keys b) }
+/// Goes on with a reduction; whether it may come to a part. The only error is want of memory.
+fn go_along<'a>(walk: &mut Walk<'_, 'a>, reduction: Reduction<'a>) -> Result<bool, Failure>
+    requires within { IsWithin (listed walk.old.entries) reduction }
+    ensures goes { IfOk result (λ b. (whole : Option expr.Expr) → IsWalkTo whole (listed walk.old.entries) walk.old.left.items walk.old.gone.keys walk.old.met.keys (reduction_gives (listed walk.old.entries) reduction.entry 0) → GoesOn whole (listed walk.new.entries) walk.new.left.items walk.new.gone.keys walk.new.met.keys b) }
     ensures err { IfErr result (λ f. f ≡ Failure.Memory) }
 {
-    match step {
-        Step::Goes(tree, scope, primes) => {
-            push(&mut walk.left, Left::Part(tree, scope, primes))?;
+    match reduction {
+        Reduction::Goes(tree, scope, primes) => {
+            push(&mut walk.left, Visit::Part(tree, scope, primes))?;
             Ok(true)
         }
-        Step::Ends(head) => go_into(walk, head),
+        Reduction::Ends(head) => go_into(walk, head),
     }
 }
 
-/// Goes a step from an expression; whether it may be a part. The only error is want of memory.
+/// Reduces an expression by a step; whether it may be a part. The only error is want of memory.
 fn go_from<'a>(
     walk: &mut Walk<'_, 'a>,
     tree: &'a Expr,
@@ -175,8 +171,8 @@ fn go_from<'a>(
     ensures goes { IfOk result (λ b. (whole : Option expr.Expr) → IsWalkTo whole (listed walk.old.entries) walk.old.left.items walk.old.gone.keys walk.old.met.keys (with_primes primes (expansion.expand (view tree.entry.now) (scope_at (listed walk.old.entries) scope) 0)) → GoesOn whole (listed walk.new.entries) walk.new.left.items walk.new.gone.keys walk.new.met.keys b) }
     ensures err { IfErr result (λ f. f ≡ Failure.Memory) }
 {
-    match next_step(&mut walk.entries, tree, scope, primes) {
-        Ok(step) => go_along(walk, step),
+    match next_reduction(&mut walk.entries, tree, scope, primes) {
+        Ok(reduction) => go_along(walk, reduction),
         Err(Failure::NoExpansion(_)) => Ok(false),
         Err(Failure::TooLarge) => Ok(false),
         Err(Failure::Memory) => Err(Failure::Memory),
@@ -201,7 +197,7 @@ fn look_at_name<'a>(
     if was_gone(&walk.gone, gone) {
         return Ok(true);
     }
-    push(&mut walk.left, Left::End(gone))?;
+    push(&mut walk.left, Visit::End(gone))?;
     go_from(walk, tree, scope, primes)
 }
 
@@ -224,15 +220,15 @@ fn look_at<'a>(
 }
 
 /// Goes on with what is left, which was taken away; whether all may be parts. The only error is want of memory.
-fn go_on<'a>(walk: &mut Walk<'_, 'a>, left: Left<'a>) -> Result<bool, Failure>
+fn go_on<'a>(walk: &mut Walk<'_, 'a>, left: Visit<'a>) -> Result<bool, Failure>
     requires linked { AreLinked (listed walk.old.entries) }
     requires inside { IsInside (listed walk.old.entries) left }
     ensures goes { IfOk result (λ b. (whole : Option expr.Expr) → IsWalk whole (listed walk.old.entries) (walk.old.left.items ++ left.entry ∷ []) walk.old.gone.keys walk.old.met.keys → GoesOn whole (listed walk.new.entries) walk.new.left.items walk.new.gone.keys walk.new.met.keys b) }
     ensures err { IfErr result (λ f. f ≡ Failure.Memory) }
 {
     match left {
-        Left::Part(tree, scope, primes) => look_at(walk, tree, scope, primes),
-        Left::End(entry) => {
+        Visit::Part(tree, scope, primes) => look_at(walk, tree, scope, primes),
+        Visit::End(entry) => {
             go_by(&mut walk.gone, entry)?;
             Ok(true)
         }
@@ -271,7 +267,7 @@ fn go_through<'a>(
     ensures no { IfOk result (λ b. b ≡ false → (e : expr.Expr) → expansion.expand (view tree.entry.now) (scope_at (listed walk.old.entries) scope) 0 ≡ Some e → spec.covers variables e ≡ false) }
     ensures err { IfErr result (λ f. f ≡ Failure.Memory) }
 {
-    push(&mut walk.left, Left::Part(tree, scope, Primes::Never))?;
+    push(&mut walk.left, Visit::Part(tree, scope, Primes::Never))?;
     for _turn in 0..u64::MAX {
         let Some(left) = walk.left.pop() else {
             return Ok(has_each(&walk.met, variables));

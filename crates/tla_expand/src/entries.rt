@@ -83,10 +83,8 @@ impl<'s, 'a> Entries<'s, 'a> {
     {
         let hash = name_hash(entry.name);
         let jumps = jumps_from(self, hash, entry.rest);
-        match self.made.push(Node { entry, hash, jumps }) {
-            Ok(()) => Ok(()),
-            Err(_) => Err(Failure::Memory),
-        }
+        self.made.push(Node { entry, hash, jumps })?;
+        Ok(())
     }
 
     /// Gives back the entries behind so many.

@@ -2,7 +2,7 @@
 //!
 //! The functions of single forms are not inlined: else each level of an expression takes the stack of them all.
 
-ghost use Rattle.std.specs.Prelude.{◌≡◌, ◌≢◌, ◌≤◌, ◌<◌, ◌+◌, ◌∷◌, [], length, ℕ, Some, None, map, IfOk, IfErr, OnOk};
+ghost use Rattle.std.specs.Prelude.{◌≡◌, ◌≢◌, ◌≤◌, ◌<◌, ◌+◌, ◌∷◌, [], length, ℕ, Option, Some, None, map, IfOk, IfErr, OnOk};
 ghost use Rattle.tla_core.specs.declared.fault.Place.{Place};
 ghost use Rattle.tla_core.specs.Expr as expr;
 ghost use Rattle.tla_core.specs.ExprOf.{expr_of};
@@ -15,7 +15,7 @@ ghost use Rattle.tla_expand.specs.Expand as expansion;
 ghost use Rattle.tla_expand.specs.Scopes.{AreLinked, scope_at};
 ghost use Rattle.tla_expand.specs.Private.Forms.{form_in};
 ghost use Rattle.tla_model.specs.Size.{IsWithinLimits};
-ghost use Rattle.tla_expand.specs.Private.Gives.{part_in, key_in, arm_in, field_in, both, made, Gives, GivesTwo, most_named};
+ghost use Rattle.tla_expand.specs.Private.Gives.{part_in, key_in, arm_in, field_in, both, made, Fails, Gives, GivesTwo, most_named};
 ghost use Rattle.tla_expand.specs.Listed.{listed};
 
 mod binding;
@@ -31,7 +31,9 @@ use crate::builders::{
 use crate::entries::Entries;
 use crate::expanded::{Expanded, Pair};
 use crate::failure::Failure;
-use crate::nodes::{Binders, Fielded, Form, Headed, Leaf, Many, One, Three, Two};
+use crate::nodes::{
+    BinaryNode, Binders, Fielded, Form, Headed, Leaf, ListNode, TernaryNode, UnaryNode,
+};
 use crate::parts::boxed;
 use crate::primes::Primes;
 use crate::uses::find_head;
@@ -66,6 +68,31 @@ pub(crate) struct Setting {
     pub(crate) left: usize,
     /// The primes on the whole, where its operands are looked at as they stand, so that what is met first is told.
     pub(crate) sought: Option<Primes>,
+}
+
+impl Setting {
+    /// The setting of the parts of a node: the node is one on each path and one of all.
+    #[tactic(auto, using(crate::proofs::Sizes::some_node, crate::proofs::Sizes::some_depth))]
+    fn inside(self) -> Result<Setting, Failure>
+        ensures scope { IfOk result (λ s. s.scope ≡ self.scope) }
+        ensures primes { IfOk result (λ s. s.primes ≡ self.primes) }
+        ensures bound { IfOk result (λ s. s.bound ≡ self.bound) }
+        ensures room { IfOk result (λ s. s.room + 1 ≡ self.room) }
+        ensures left { IfOk result (λ s. s.left + 1 ≡ self.left) }
+        ensures sought { IfOk result (λ s. s.sought ≡ self.sought) }
+        ensures err { IfErr result (λ f. f ≡ Failure.TooLarge) }
+        // There is no node at all within such limits.
+        ensures none { IfErr result (λ f. (o : Option expr.Expr) → Fails self.room self.left f o) }
+    {
+        if self.room == 0 || self.left == 0 {
+            return Err(Failure::TooLarge);
+        }
+        Ok(Setting {
+            room: self.room - 1,
+            left: self.left - 1,
+            ..self
+        })
+    }
 }
 
 /// A node without parts.
@@ -103,7 +130,6 @@ fn variable_of(place: Place, index: usize, primes: Primes, left: usize) -> Resul
 
 /// The expansion of an expression.
 #[cycle(expand)]
-#[tactic(auto, using(crate::proofs::Sizes::no_room, crate::proofs::Sizes::none_left))]
 pub(crate) fn expand<'a>(
     alloc: Global,
     entries: &mut Entries<'_, 'a>,
@@ -116,21 +142,13 @@ pub(crate) fn expand<'a>(
     ensures kept { OnOk result (listed entries.new ≡ listed entries.old) }
     ensures same { Gives at.room at.left result (part_in at.primes (scope_at (listed entries.old) at.scope) at.bound tree.now) }
 {
-    if at.room == 0 {
-        return Err(Failure::TooLarge);
-    }
-    if at.left == 0 {
-        return Err(Failure::TooLarge);
-    }
+    let inside = at.inside()?;
     let mark = entries.len();
     let found = find_head(entries, tree, at.scope, at.primes)?;
     let inside = Setting {
         scope: found.scope,
         primes: found.primes,
-        bound: at.bound,
-        room: at.room - 1,
-        left: at.left - 1,
-        sought: at.sought,
+        ..inside
     };
     let made = node_behind(alloc, entries, found, at.primes, inside)?;
     entries.truncate(mark);
@@ -194,7 +212,7 @@ fn one_node<'a>(
     alloc: Global,
     entries: &mut Entries<'_, 'a>,
     place: Place,
-    node: One<'a>,
+    node: UnaryNode<'a>,
     part: &'a Expr,
     at: Setting,
 ) -> Result<Expanded, Failure>
@@ -219,7 +237,7 @@ fn two_node<'a>(
     alloc: Global,
     entries: &mut Entries<'_, 'a>,
     place: Place,
-    node: Two,
+    node: BinaryNode,
     first: &'a Expr,
     second: &'a Expr,
     at: Setting,
@@ -245,7 +263,7 @@ fn three_node<'a>(
     alloc: Global,
     entries: &mut Entries<'_, 'a>,
     place: Place,
-    node: Three,
+    node: TernaryNode,
     first: &'a Expr,
     second: &'a Expr,
     third: &'a Expr,
@@ -275,7 +293,7 @@ fn many_node<'a>(
     alloc: Global,
     entries: &mut Entries<'_, 'a>,
     place: Place,
-    node: Many,
+    node: ListNode,
     items: &'a [Expr],
     at: Setting,
 ) -> Result<Expanded, Failure>
@@ -307,13 +325,13 @@ fn index_node<'a>(
     requires scope { at.scope ≤ length (listed entries.old) }
     requires small { at.bound + at.left ≤ most_named }
     ensures kept { OnOk result (listed entries.new ≡ listed entries.old) }
-    ensures same { Gives (at.room + 1) (at.left + 1) result (made (λ xy. nodes.two Two.Apply place xy.0 xy.1) (both (part_in at.primes (scope_at (listed entries.old) at.scope) at.bound function.now) (key_in at.primes (scope_at (listed entries.old) at.scope) at.bound items.now))) }
+    ensures same { Gives (at.room + 1) (at.left + 1) result (made (λ xy. nodes.two BinaryNode.Apply place xy.0 xy.1) (both (part_in at.primes (scope_at (listed entries.old) at.scope) at.bound function.now) (key_in at.primes (scope_at (listed entries.old) at.scope) at.bound items.now))) }
 {
     let function = expand(alloc, entries, function, at)?;
     let left = function.left;
     let function = boxed(alloc, function.core)?;
     let key = key(alloc, entries, place, items, Setting { left, ..at })?;
-    let core = two_core(alloc, place, Two::Apply, function, key.core)?;
+    let core = two_core(alloc, place, BinaryNode::Apply, function, key.core)?;
     Ok(Expanded {
         core,
         left: key.left,

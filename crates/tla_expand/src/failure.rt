@@ -1,7 +1,7 @@
 //! Why an expression has no expansion.
 ghost use Rattle.std.specs.Prelude.{◌≡◌};
 
-use std::alloc::AllocError;
+use std::alloc::{AllocError, AllocFailed};
 use tla_core::Place;
 
 /// Why an expression has no expansion within the limits.
@@ -21,6 +21,16 @@ impl From<AllocError> for Failure {
     ghost from_gives = { λ _ f. f ≡ Memory };
 
     fn from(_error: AllocError) -> Failure {
+        Failure::Memory
+    }
+}
+
+impl<T: Drop> From<AllocFailed<T>> for Failure {
+    ghost use Rattle.tla_expand.specs.declared.failure.Failure.TheVariants.{Memory};
+
+    ghost from_gives = { λ _ f. f ≡ Memory };
+
+    fn from(_error: AllocFailed<T>) -> Failure {
         Failure::Memory
     }
 }

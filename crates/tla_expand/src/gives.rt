@@ -10,11 +10,11 @@ ghost use Rattle.tla_expand.specs.Expand.{expand};
 ghost use Rattle.tla_expand.specs.Primes.{with_primes};
 ghost use Rattle.tla_expand.specs.Arguments as backs;
 ghost use Rattle.tla_expand.specs.Arguments.{argument_at};
-ghost use Rattle.tla_expand.specs.Private.Known.{Layers, Means, IsRound, IsFound, IsGiven, IsMeant, IsOperator, IsTurn, IsUse, GivesBack, depth, with_layer, with_count, reached_in, defined_name};
+ghost use Rattle.tla_expand.specs.Private.Known.{Layers, Means, IsRound, IsFound, IsGiven, IsSummary, IsOperator, IsTurn, IsUse, GivesBack, depth, with_layer, with_count, reached_in, defined_name};
 ghost use Rattle.tla_expand.specs.Scopes.{AreLinked, scope_at, arguments_in};
 ghost use Rattle.tla_expand.specs.Listed.{listed};
 
-use crate::arena::{Given, What, find};
+use crate::arena::{Projection, What, find};
 use crate::builders::place_of;
 use crate::entries::Entries;
 use crate::primes::{Primes, one_more};
@@ -26,14 +26,14 @@ use tla_tree::{Definition, Expr, Written};
 #[derive(Clone, Copy)]
 pub(crate) struct Reached {
     pub(crate) layer: usize,
-    pub(crate) given: Given,
+    pub(crate) given: Projection,
 }
 
 /// What is known of a name.
 #[derive(Clone, Copy)]
-pub(crate) enum Meant {
+pub(crate) enum Summary {
     /// An operator of so many parameters that gives back one of its arguments.
-    Gives(usize, Given),
+    Gives(usize, Projection),
     /// One that comes to an argument of parameters round it, whatever its own stand for.
     Reaches(usize, Reached),
     Other,
@@ -46,12 +46,12 @@ pub(crate) enum Known<'a> {
     /// A layer of parameters, and what is round it.
     Parameters(&'a [Written], &'a Known<'a>),
     /// A name of a LET, and those before it.
-    Named(&'a [u8], Meant, &'a Known<'a>),
+    Named(&'a [u8], Summary, &'a Known<'a>),
 }
 
 /// A part of a body, with the names round it and primes on it, and where the last of these stands.
 #[derive(Clone, Copy)]
-pub(crate) struct Part<'a> {
+pub(crate) struct BodyPart<'a> {
     pub(crate) known: &'a Known<'a>,
     pub(crate) tree: &'a Expr,
     pub(crate) primes: Primes,
@@ -61,7 +61,7 @@ pub(crate) struct Part<'a> {
 /// What a part of a body comes to.
 #[derive(Clone, Copy)]
 pub(crate) enum Turn<'a> {
-    Goes(Part<'a>),
+    Goes(BodyPart<'a>),
     /// An argument.
     Ends(Reached),
     Stops,
@@ -85,7 +85,7 @@ pub(crate) fn with_more(primes: Primes, more: Primes) -> Primes
 pub(crate) fn given_argument<'a>(
     arguments: &'a [Expr],
     count: usize,
-    given: Given,
+    given: Projection,
 ) -> Option<&'a Expr>
     ensures some { IfSome result (λ e. (σ : Scope) (p : Place) (d : ℕ) → backs.given count given p (arguments_in arguments.now σ) d ≡ with_primes given.primes (expand (view e.now) σ d)) }
     ensures none { IfNone result ((σ : Scope) (p : Place) (d : ℕ) → backs.given count given p (arguments_in arguments.now σ) d ≡ None) }
@@ -123,27 +123,27 @@ fn depth_of(known: &Known<'_>) -> Option<usize>
 }
 
 /// A parameter by its number, in a layer that these names are round.
-fn argument(round: &Known<'_>, index: usize) -> Meant
+fn argument(round: &Known<'_>, index: usize) -> Summary
     ensures { (f : Layers) → Means f result (parameter (argument_at index (f (depth round.now)))) }
 {
     match depth_of(round) {
-        Some(layer) => Meant::Reaches(
+        Some(layer) => Summary::Reaches(
             0,
             Reached {
                 layer,
-                given: Given {
+                given: Projection {
                     index,
                     primes: Primes::Never,
                     primed: None,
                 },
             },
         ),
-        None => Meant::Other,
+        None => Summary::Other,
     }
 }
 
 /// What is known of a name, unless it is one from outside.
-fn sought(known: &Known<'_>, name: &[u8]) -> Option<Meant>
+fn sought(known: &Known<'_>, name: &[u8]) -> Option<Summary>
     ensures { IsFound name.now known.now result }
 {
     let mut at = known;
@@ -156,9 +156,9 @@ fn sought(known: &Known<'_>, name: &[u8]) -> Option<Meant>
                 }
                 at = rest;
             }
-            Known::Named(word, meant, rest) => {
+            Known::Named(word, summary, rest) => {
                 if *word == name {
-                    return Some(*meant);
+                    return Some(*summary);
                 }
                 at = rest;
             }
@@ -167,7 +167,7 @@ fn sought(known: &Known<'_>, name: &[u8]) -> Option<Meant>
 }
 
 /// What an operator of a scope gives back.
-fn entered(entries: &Entries<'_, '_>, scope: usize, name: &[u8]) -> Option<(usize, Given)>
+fn entered(entries: &Entries<'_, '_>, scope: usize, name: &[u8]) -> Option<(usize, Projection)>
     requires linked { AreLinked (listed entries.now) }
     requires within { scope ≤ length (listed entries.now) }
     ensures { IfSome result (λ g. scope_at (listed entries.now) scope name.now ≡ backs.given g.0 g.1) }
@@ -179,26 +179,26 @@ fn entered(entries: &Entries<'_, '_>, scope: usize, name: &[u8]) -> Option<(usiz
 }
 
 /// What is known of a name, wherever it is from.
-fn name_means(entries: &Entries<'_, '_>, scope: usize, known: &Known<'_>, name: &[u8]) -> Meant
+fn name_means(entries: &Entries<'_, '_>, scope: usize, known: &Known<'_>, name: &[u8]) -> Summary
     requires linked { AreLinked (listed entries.now) }
     requires within { scope ≤ length (listed entries.now) }
     ensures { IsGiven (scope_at (listed entries.now) scope) known.now name.now result }
 {
     match sought(known, name) {
-        Some(meant) => meant,
+        Some(summary) => summary,
         None => match entered(entries, scope, name) {
-            Some((count, given)) => Meant::Gives(count, given),
-            None => Meant::Other,
+            Some((count, given)) => Summary::Gives(count, given),
+            None => Summary::Other,
         },
     }
 }
 
 /// An argument under the primes on a part.
-fn under(part: Part<'_>, given: Given) -> Given
+fn under(part: BodyPart<'_>, given: Projection) -> Projection
     ensures index { result.index ≡ given.index }
     ensures primes { result.primes ≡ backs.with_more part.entry.primes given.primes }
 {
-    Given {
+    Projection {
         primes: with_more(part.primes, given.primes),
         primed: later(part.primed, given.primed),
         ..given
@@ -209,7 +209,7 @@ fn under(part: Part<'_>, given: Given) -> Given
 fn used<'a>(
     entries: &Entries<'_, '_>,
     scope: usize,
-    part: Part<'a>,
+    part: BodyPart<'a>,
     name: &Written,
     arguments: &'a [Expr],
 ) -> Turn<'a>
@@ -218,10 +218,10 @@ fn used<'a>(
     ensures { IsUse (view part.entry.tree.now) name.now arguments.now → IsTurn (scope_at (listed entries.now) scope) part.entry result }
 {
     match name_means(entries, scope, part.known, name.word.as_bytes()) {
-        Meant::Gives(count, given) => match given_argument(arguments, count, given) {
+        Summary::Gives(count, given) => match given_argument(arguments, count, given) {
             Some(tree) => {
                 let more = under(part, given);
-                Turn::Goes(Part {
+                Turn::Goes(BodyPart {
                     known: part.known,
                     tree,
                     primes: more.primes,
@@ -230,7 +230,7 @@ fn used<'a>(
             }
             None => Turn::Stops,
         },
-        Meant::Reaches(count, reached) => {
+        Summary::Reaches(count, reached) => {
             if count != arguments.len() {
                 return Turn::Stops;
             }
@@ -239,12 +239,12 @@ fn used<'a>(
                 given: under(part, reached.given),
             })
         }
-        Meant::Other => Turn::Stops,
+        Summary::Other => Turn::Stops,
     }
 }
 
 /// What a part of a body comes to by one step.
-fn one_turn<'a>(entries: &Entries<'_, '_>, scope: usize, part: Part<'a>) -> Turn<'a>
+fn one_turn<'a>(entries: &Entries<'_, '_>, scope: usize, part: BodyPart<'a>) -> Turn<'a>
     requires linked { AreLinked (listed entries.now) }
     requires within { scope ≤ length (listed entries.now) }
     ensures { IsTurn (scope_at (listed entries.now) scope) part.entry result }
@@ -252,11 +252,11 @@ fn one_turn<'a>(entries: &Entries<'_, '_>, scope: usize, part: Part<'a>) -> Turn
     match part.tree {
         Expr::Name(name) => used(entries, scope, part, name, &[]),
         Expr::Call(name, arguments) => used(entries, scope, part, name, arguments.as_slice()),
-        Expr::Paren(_, inner) => Turn::Goes(Part {
+        Expr::Paren(_, inner) => Turn::Goes(BodyPart {
             tree: inner,
             ..part
         }),
-        Expr::Prime(at, inner) => Turn::Goes(Part {
+        Expr::Prime(at, inner) => Turn::Goes(BodyPart {
             tree: inner,
             primes: one_more(part.primes),
             primed: Some(place_of(*at)),
@@ -267,7 +267,7 @@ fn one_turn<'a>(entries: &Entries<'_, '_>, scope: usize, part: Part<'a>) -> Turn
 }
 
 /// What a part of a body comes to: an argument, or where it goes no further.
-fn last<'a>(entries: &Entries<'_, '_>, scope: usize, start: Part<'a>) -> Turn<'a>
+fn last<'a>(entries: &Entries<'_, '_>, scope: usize, start: BodyPart<'a>) -> Turn<'a>
     requires linked { AreLinked (listed entries.now) }
     requires within { scope ≤ length (listed entries.now) }
     ensures { IsTurn (scope_at (listed entries.now) scope) start.entry result }
@@ -298,7 +298,7 @@ fn name_of<'a>(definition: &'a Definition) -> &'a [u8]
 fn given_in(
     entries: &Entries<'_, '_>,
     scope: usize,
-    part: Part<'_>,
+    part: BodyPart<'_>,
     definitions: &[Definition],
     from: usize,
     left: usize,
@@ -312,9 +312,9 @@ fn given_in(
     }
     if from < definitions.len() {
         let definition = &definitions[from];
-        let meant = meant_by(entries, scope, part.known, definition, left - 1);
-        let known = Known::Named(name_of(definition), meant, part.known);
-        let inside = Part {
+        let summary = definition_summary(entries, scope, part.known, definition, left - 1);
+        let known = Known::Named(name_of(definition), summary, part.known);
+        let inside = BodyPart {
             known: &known,
             ..part
         };
@@ -324,7 +324,7 @@ fn given_in(
         Turn::Ends(reached) => Some(reached),
         Turn::Goes(end) => match end.tree {
             Expr::Let(_, inner_definitions, tree) => {
-                let inside = Part { tree, ..end };
+                let inside = BodyPart { tree, ..end };
                 given_in(
                     entries,
                     scope,
@@ -341,41 +341,41 @@ fn given_in(
 }
 
 /// What an operator of so many parameters is that comes to an argument of its own, or of a layer round it.
-fn meant_of(known: &Known<'_>, count: usize, reached: Reached) -> Meant
+fn operator_summary(known: &Known<'_>, count: usize, reached: Reached) -> Summary
     ensures means { (f : Layers) → Means f result (with_count count (λ args. reached_in reached (with_layer (depth known.now) args f))) }
     ensures round { IsRound (depth known.now) result }
 {
     let Some(own) = depth_of(known) else {
-        return Meant::Other;
+        return Summary::Other;
     };
     if reached.layer == own {
-        return Meant::Gives(count, reached.given);
+        return Summary::Gives(count, reached.given);
     }
     if reached.layer < own {
-        return Meant::Reaches(count, reached);
+        return Summary::Reaches(count, reached);
     }
-    Meant::Other
+    Summary::Other
 }
 
 /// What is known of a definition.
 #[cycle(gives)]
-fn meant_by(
+fn definition_summary(
     entries: &Entries<'_, '_>,
     scope: usize,
     known: &Known<'_>,
     definition: &Definition,
     left: usize,
-) -> Meant
+) -> Summary
     requires linked { AreLinked (listed entries.now) }
     requires within { scope ≤ length (listed entries.now) }
-    ensures { IsMeant (scope_at (listed entries.now) scope) known.now (definition_view definition.now) result }
+    ensures { IsSummary (scope_at (listed entries.now) scope) known.now (definition_view definition.now) result }
 {
     let Definition::Operator(_, parameters, body) = definition else {
-        return Meant::Other;
+        return Summary::Other;
     };
     match given_by(entries, scope, &*known, parameters.as_slice(), body, left) {
-        Some(reached) => meant_of(known, parameters.len(), reached),
-        None => Meant::Other,
+        Some(reached) => operator_summary(known, parameters.len(), reached),
+        None => Summary::Other,
     }
 }
 
@@ -394,7 +394,7 @@ fn given_by(
     ensures { IfSome result (λ r. IsOperator (scope_at (listed entries.now) scope) known.now parameters.now (view body.now) r) }
 {
     let inside = Known::Parameters(&*parameters, &*known);
-    let part = Part {
+    let part = BodyPart {
         known: &inside,
         tree: &*body,
         primes: Primes::Never,
@@ -409,7 +409,7 @@ pub(crate) fn gives(
     scope: usize,
     parameters: &[Written],
     body: &Expr,
-) -> Option<Given>
+) -> Option<Projection>
     requires linked { AreLinked (listed entries.now) }
     requires within { scope ≤ length (listed entries.now) }
     ensures { IfSome result (λ g. operator parameters.now (expand (view body.now)) (scope_at (listed entries.now) scope) ≡ backs.given (length parameters.now) g) }

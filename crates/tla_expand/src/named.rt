@@ -16,7 +16,7 @@ use crate::entries::Entries;
 use crate::expand::{NODES_BELOW, PATH_BELOW, Setting, expand, node_of};
 use crate::failure::Failure;
 use crate::primes::Primes;
-use crate::uses::{Step, use_of};
+use crate::uses::{Reduction, use_of};
 use std::alloc::Global;
 use tla_core::Core;
 use tla_model::{MAX_NODES, MAX_PATH};
@@ -42,7 +42,7 @@ pub(crate) fn named_expansion<'a>(
     let at = place_of(name.place);
     let word = name.word.as_bytes();
     match use_of(entries, at, word, &[], scope, primes)? {
-        Step::Goes(tree, scope, primes) => {
+        Reduction::Goes(tree, scope, primes) => {
             let inside = Setting {
                 scope,
                 primes,
@@ -54,7 +54,7 @@ pub(crate) fn named_expansion<'a>(
             let made = expand(alloc, entries, tree, inside)?;
             Ok(made.core)
         }
-        Step::Ends(head) => {
+        Reduction::Ends(head) => {
             let inside = Setting {
                 scope: head.scope,
                 primes: head.primes,

@@ -18,7 +18,7 @@ pub(crate) enum Leaf<'a> {
 
 /// A node of one part.
 #[derive(Clone, Copy)]
-pub(crate) enum One<'a> {
+pub(crate) enum UnaryNode<'a> {
     Unary(Unary),
     /// `SUBSET S`
     Power,
@@ -30,7 +30,7 @@ pub(crate) enum One<'a> {
 
 /// A node of two parts.
 #[derive(Clone, Copy)]
-pub(crate) enum Two {
+pub(crate) enum BinaryNode {
     Binary(Binary),
     /// `f[e]`
     Apply,
@@ -51,14 +51,14 @@ pub(crate) enum Two {
 
 /// A node of three parts.
 #[derive(Clone, Copy)]
-pub(crate) enum Three {
+pub(crate) enum TernaryNode {
     If,
     SubSeq,
 }
 
 /// A node of a list of parts.
 #[derive(Clone, Copy)]
-pub(crate) enum Many {
+pub(crate) enum ListNode {
     Set,
     Tuple,
     And,
@@ -119,8 +119,8 @@ pub(crate) enum Builtin {
     Kinds(Kind),
     Sequences,
     One(Unary),
-    Two(Two),
-    Three(Three),
+    Two(BinaryNode),
+    Three(TernaryNode),
 }
 
 /// A form with its parts, at a place.
@@ -129,10 +129,10 @@ pub(crate) enum Form<'a> {
     Leaf(Place, Leaf<'a>),
     /// A variable.
     Variable(Place, usize),
-    One(Place, One<'a>, &'a Expr),
-    Two(Place, Two, &'a Expr, &'a Expr),
-    Three(Place, Three, &'a Expr, &'a Expr, &'a Expr),
-    Many(Place, Many, &'a [Expr]),
+    One(Place, UnaryNode<'a>, &'a Expr),
+    Two(Place, BinaryNode, &'a Expr, &'a Expr),
+    Three(Place, TernaryNode, &'a Expr, &'a Expr, &'a Expr),
+    Many(Place, ListNode, &'a [Expr]),
     /// A first part, and others.
     Headed(Place, Headed, &'a Expr, &'a [Expr]),
     /// CASE, with the value of OTHER.
@@ -172,7 +172,7 @@ impl<'a> Form<'a> {
 
 /// What an expression is: a form with its parts, one that has no expansion, or one that stands for another expression.
 #[derive(Clone, Copy)]
-pub(crate) enum Shape<'a> {
+pub(crate) enum OwnForm<'a> {
     Form(Form<'a>),
     Nothing(Place),
     Goes,

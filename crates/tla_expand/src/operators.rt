@@ -4,55 +4,55 @@ ghost use Rattle.std.specs.Prelude.{◌≡◌};
 ghost use Rattle.tla_expand.specs.Operators as operators;
 ghost use Rattle.tla_expand.specs.Library.{library};
 
-use crate::nodes::{Builtin, One, Three, Two};
+use crate::nodes::{BinaryNode, Builtin, TernaryNode, UnaryNode};
 use tla_core::{Binary, Kind, Unary};
 use tla_tree::{Infix, Prefix};
 
 /// The node of one part that a prefix operator stands for.
-pub(crate) fn prefix_for<'a>(operator: Prefix) -> Option<One<'a>>
+pub(crate) fn prefix_for<'a>(operator: Prefix) -> Option<UnaryNode<'a>>
     ensures { result ≡ operators.prefix_for operator }
 {
     match operator {
-        Prefix::Not => Some(One::Unary(Unary::Not)),
-        Prefix::Negate => Some(One::Unary(Unary::Negate)),
-        Prefix::Subset => Some(One::Power),
-        Prefix::Union => Some(One::Unary(Unary::Union)),
-        Prefix::Domain => Some(One::Unary(Unary::Domain)),
+        Prefix::Not => Some(UnaryNode::Unary(Unary::Not)),
+        Prefix::Negate => Some(UnaryNode::Unary(Unary::Negate)),
+        Prefix::Subset => Some(UnaryNode::Power),
+        Prefix::Union => Some(UnaryNode::Unary(Unary::Union)),
+        Prefix::Domain => Some(UnaryNode::Unary(Unary::Domain)),
         Prefix::Always | Prefix::Eventually | Prefix::Unchanged => None,
     }
 }
 
 /// The node of two parts that an infix operator stands for.
-pub(crate) fn infix_for(operator: Infix) -> Option<Two>
+pub(crate) fn infix_for(operator: Infix) -> Option<BinaryNode>
     ensures { result ≡ operators.infix_for operator }
 {
     match operator {
-        Infix::And => Some(Two::And),
-        Infix::Or => Some(Two::Or),
-        Infix::Implies => Some(Two::Implies),
-        Infix::Equal => Some(Two::Equal),
-        Infix::Member => Some(Two::Member),
-        Infix::NotMember => Some(Two::NotMember),
-        Infix::SubsetEqual => Some(Two::Subset),
-        Infix::Cup => Some(Two::Cup),
-        Infix::Cap => Some(Two::Cap),
-        Infix::Difference => Some(Two::Minus),
-        Infix::Equivalent => Some(Two::Binary(Binary::Iff)),
-        Infix::NotEqual => Some(Two::Binary(Binary::Unequal)),
-        Infix::Less => Some(Two::Binary(Binary::LessThan)),
-        Infix::Greater => Some(Two::Binary(Binary::GreaterThan)),
-        Infix::AtMost => Some(Two::Binary(Binary::AtMost)),
-        Infix::AtLeast => Some(Two::Binary(Binary::AtLeast)),
-        Infix::Plus => Some(Two::Binary(Binary::Add)),
-        Infix::Minus => Some(Two::Binary(Binary::Subtract)),
-        Infix::Times => Some(Two::Binary(Binary::Multiply)),
-        Infix::Quotient => Some(Two::Binary(Binary::Divide)),
-        Infix::Remainder => Some(Two::Binary(Binary::Modulo)),
-        Infix::Power => Some(Two::Binary(Binary::Power)),
-        Infix::Range => Some(Two::Binary(Binary::Range)),
-        Infix::Pair => Some(Two::Binary(Binary::Single)),
-        Infix::Override => Some(Two::Binary(Binary::Override)),
-        Infix::Concatenation => Some(Two::Binary(Binary::Concat)),
+        Infix::And => Some(BinaryNode::And),
+        Infix::Or => Some(BinaryNode::Or),
+        Infix::Implies => Some(BinaryNode::Implies),
+        Infix::Equal => Some(BinaryNode::Equal),
+        Infix::Member => Some(BinaryNode::Member),
+        Infix::NotMember => Some(BinaryNode::NotMember),
+        Infix::SubsetEqual => Some(BinaryNode::Subset),
+        Infix::Cup => Some(BinaryNode::Cup),
+        Infix::Cap => Some(BinaryNode::Cap),
+        Infix::Difference => Some(BinaryNode::Minus),
+        Infix::Equivalent => Some(BinaryNode::Binary(Binary::Iff)),
+        Infix::NotEqual => Some(BinaryNode::Binary(Binary::Unequal)),
+        Infix::Less => Some(BinaryNode::Binary(Binary::LessThan)),
+        Infix::Greater => Some(BinaryNode::Binary(Binary::GreaterThan)),
+        Infix::AtMost => Some(BinaryNode::Binary(Binary::AtMost)),
+        Infix::AtLeast => Some(BinaryNode::Binary(Binary::AtLeast)),
+        Infix::Plus => Some(BinaryNode::Binary(Binary::Add)),
+        Infix::Minus => Some(BinaryNode::Binary(Binary::Subtract)),
+        Infix::Times => Some(BinaryNode::Binary(Binary::Multiply)),
+        Infix::Quotient => Some(BinaryNode::Binary(Binary::Divide)),
+        Infix::Remainder => Some(BinaryNode::Binary(Binary::Modulo)),
+        Infix::Power => Some(BinaryNode::Binary(Binary::Power)),
+        Infix::Range => Some(BinaryNode::Binary(Binary::Range)),
+        Infix::Pair => Some(BinaryNode::Binary(Binary::Single)),
+        Infix::Override => Some(BinaryNode::Binary(Binary::Override)),
+        Infix::Concatenation => Some(BinaryNode::Binary(Binary::Concat)),
         Infix::Product => None,
         Infix::LeadsTo => None,
     }
@@ -75,15 +75,15 @@ pub(crate) fn builtin_for(name: &[u8]) -> Option<Builtin>
     } else if name == b"Tail".as_slice() {
         Some(Builtin::One(Unary::Tail))
     } else if name == b"Append".as_slice() {
-        Some(Builtin::Two(Two::Binary(Binary::Append)))
+        Some(Builtin::Two(BinaryNode::Binary(Binary::Append)))
     } else if name == b"SubSeq".as_slice() {
-        Some(Builtin::Three(Three::SubSeq))
+        Some(Builtin::Three(TernaryNode::SubSeq))
     } else if name == b"IsFiniteSet".as_slice() {
         Some(Builtin::One(Unary::IsFinite))
     } else if name == b"Cardinality".as_slice() {
         Some(Builtin::One(Unary::Cardinality))
     } else if name == b"Assert".as_slice() {
-        Some(Builtin::Two(Two::Assert))
+        Some(Builtin::Two(BinaryNode::Assert))
     } else {
         None
     }

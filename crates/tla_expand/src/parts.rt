@@ -1,18 +1,16 @@
 //! Boxes and lists of parts, whatever they are: the only error is want of memory.
 
-ghost use Rattle.std.specs.Prelude.{◌≡◌, ◌++◌, ◌∷◌, [], OnOk, IfOk, IfErr};
+ghost use Rattle.std.specs.Prelude.{◌≡◌, ◌∷◌, [], IfOk, IfErr};
 
 use crate::failure::Failure;
 use std::alloc::Global;
+use tla_tree::push;
 
 pub(crate) fn boxed<T: Drop>(alloc: Global, item: T) -> Result<Box<T>, Failure>
     ensures ok { IfOk result (λ b. b.value ≡ item) }
     ensures err { IfErr result (λ e. e ≡ Failure.Memory) }
 {
-    match Box::new(alloc, item) {
-        Ok(b) => Ok(b),
-        Err(_) => Err(Failure::Memory),
-    }
+    Ok(Box::new(alloc, item)?)
 }
 
 /// A box, and what stands beside it.
@@ -34,12 +32,8 @@ pub(crate) fn list_of_two<T: Drop>(alloc: Global, first: T, second: T) -> Result
     ensures err { IfErr result (λ e. e ≡ Failure.Memory) }
 {
     let mut items = Vec::new(alloc);
-    if items.push(first).is_err() {
-        return Err(Failure::Memory);
-    }
-    if items.push(second).is_err() {
-        return Err(Failure::Memory);
-    }
+    push(&mut items, first)?;
+    push(&mut items, second)?;
     Ok(items)
 }
 
@@ -49,8 +43,6 @@ pub(crate) fn with_first<T: Drop>(first: T, others: Vec<T>) -> Result<Vec<T>, Fa
     ensures err { IfErr result (λ e. e ≡ Failure.Memory) }
 {
     let mut items = others;
-    match items.insert(0, first) {
-        Ok(()) => Ok(items),
-        Err(_) => Err(Failure::Memory),
-    }
+    items.insert(0, first)?;
+    Ok(items)
 }

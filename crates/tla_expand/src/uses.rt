@@ -7,7 +7,7 @@ ghost use Rattle.tla_expand.specs.declared.arena.Entry as arena_entry;
 ghost use Rattle.tla_expand.specs.Meanings.{Scope, standard, operator, builtin_meaning};
 ghost use Rattle.tla_expand.specs.Expand.{expand, definitions_in, definition_in};
 ghost use Rattle.tla_expand.specs.Scopes.{AreLinked, IsBelow, Extends, scope_at, entry_scope, meaning_of, arguments_in};
-ghost use Rattle.tla_expand.specs.Private.Gives.{step_gives, head_gives, IsWithin, Explains};
+ghost use Rattle.tla_expand.specs.Private.Gives.{reduction_gives, head_gives, IsAlone, IsWithin, Explains};
 ghost use Rattle.tla_expand.specs.Primes.{with_primes};
 ghost use Rattle.tla_expand.specs.Listed.{listed};
 
@@ -17,7 +17,7 @@ use crate::entries::Entries;
 use crate::failure::Failure;
 use crate::forms::{builtin_form, form_of};
 use crate::gives::{given_argument, gives, later, with_more};
-use crate::nodes::{Binders, Builtin, Form, Gather, Leaf, Shape};
+use crate::nodes::{Binders, Builtin, Form, Gather, Leaf, OwnForm};
 use crate::operators::builtin_for;
 use crate::primes::{Primes, one_more};
 use crate::shortened::shortened;
@@ -34,9 +34,9 @@ pub(crate) struct Head<'a> {
     pub(crate) primed: Option<Place>,
 }
 
-/// An expression in a scope, with primes on it; or its form.
+/// What an expression is reduced to by a step: another one in a scope, with primes on it; or its form.
 #[derive(Clone, Copy)]
-pub(crate) enum Step<'a> {
+pub(crate) enum Reduction<'a> {
     Goes(&'a Expr, usize, Primes),
     Ends(Head<'a>),
 }
@@ -82,51 +82,26 @@ fn use_of_builtin<'a>(
     }
 }
 
-/// What the use of a name goes on with.
-pub(crate) fn use_of<'a>(
-    entries: &mut Entries<'_, 'a>,
+/// The use of a name that takes no arguments.
+fn use_alone<'a>(
     place: Place,
-    name: &[u8],
-    arguments: &'a [Expr],
+    what: What<'a>,
+    arguments: &[Expr],
     scope: usize,
     primes: Primes,
-) -> Result<Step<'a>, Failure>
-    requires linked { AreLinked (listed entries.old) }
-    requires scope { scope ≤ length (listed entries.old) }
-    ensures linked { OnOk result (AreLinked (listed entries.new)) }
-    ensures extends { OnOk result (Extends (listed entries.new) (listed entries.old)) }
-    ensures within { IfOk result (λ s. IsWithin (listed entries.new) s) }
-    ensures same { IfOk result (λ s. (d : ℕ) → with_primes primes (scope_at (listed entries.old) scope name.now place (arguments_in arguments.now (scope_at (listed entries.old) scope)) d) ≡ step_gives (listed entries.new) s d) }
-    ensures err { IfErr result (λ e. Explains e (λ d. scope_at (listed entries.old) scope name.now place (arguments_in arguments.now (scope_at (listed entries.old) scope)) d)) }
+) -> Result<Reduction<'a>, Failure>
+    requires { IsAlone what }
+    ensures within { IfOk result (λ s. (es : List arena_entry.Entry) (rest : ℕ) → IsBelow (length es) what.entry rest → scope ≤ length es → IsWithin es s) }
+    ensures same { IfOk result (λ s. (es : List arena_entry.Entry) (d : ℕ) → with_primes primes (meaning_of (scope_at es) what.entry place (arguments_in arguments.now (scope_at es scope)) d) ≡ reduction_gives es s d) }
+    ensures err { IfErr result (λ e. (at : ℕ → Scope) (σ : Scope) → Explains e (λ d. meaning_of at what.entry place (arguments_in arguments.now σ) d)) }
 {
-    let Some(entry) = find(entries, scope, name) else {
-        let head = use_of_module(place, name, arguments, scope, primes)?;
-        return Ok(Step::Ends(head));
-    };
-    if let What::Definition(parameters, body, home) = entry.what {
-        if parameters.len() != arguments.len() {
-            return Err(Failure::NoExpansion(place));
-        }
-        let inner = bind(entries, parameters, home, arguments, scope)?;
-        return Ok(Step::Goes(body, inner, primes));
-    }
-    if let What::Gives(count, given) = entry.what {
-        return match given_argument(arguments, count, given) {
-            Some(argument) => Ok(Step::Goes(argument, scope, with_more(primes, given.primes))),
-            None => Err(Failure::NoExpansion(place)),
-        };
-    }
-    if let What::Module(builtin) = entry.what {
-        let head = use_of_builtin(place, builtin, arguments, scope, primes)?;
-        return Ok(Step::Ends(head));
-    }
     if arguments.len() > 0 {
         return Err(Failure::NoExpansion(place));
     }
-    let form = match entry.what {
-        What::Argument(tree, from) => return Ok(Step::Goes(tree, from, primes)),
+    let form = match what {
+        What::Argument(tree, from) => return Ok(Reduction::Goes(tree, from, primes)),
         What::Function(at, groups, body, home) => {
-            return Ok(Step::Ends(Head {
+            return Ok(Reduction::Ends(Head {
                 form: Form::Binders(at, Binders::Gathered(Gather::Function), groups, body),
                 scope: home,
                 primes,
@@ -139,12 +114,53 @@ pub(crate) fn use_of<'a>(
         What::Definition(_, _, _) | What::Gives(_, _) | What::Module(_) | What::Unknown =>
             return Err(Failure::NoExpansion(place)),
     };
-    Ok(Step::Ends(Head {
+    Ok(Reduction::Ends(Head {
         form,
         scope,
         primes,
         primed: None,
     }))
+}
+
+/// What the use of a name goes on with.
+pub(crate) fn use_of<'a>(
+    entries: &mut Entries<'_, 'a>,
+    place: Place,
+    name: &[u8],
+    arguments: &'a [Expr],
+    scope: usize,
+    primes: Primes,
+) -> Result<Reduction<'a>, Failure>
+    requires linked { AreLinked (listed entries.old) }
+    requires scope { scope ≤ length (listed entries.old) }
+    ensures linked { OnOk result (AreLinked (listed entries.new)) }
+    ensures extends { OnOk result (Extends (listed entries.new) (listed entries.old)) }
+    ensures within { IfOk result (λ s. IsWithin (listed entries.new) s) }
+    ensures same { IfOk result (λ s. (d : ℕ) → with_primes primes (scope_at (listed entries.old) scope name.now place (arguments_in arguments.now (scope_at (listed entries.old) scope)) d) ≡ reduction_gives (listed entries.new) s d) }
+    ensures err { IfErr result (λ e. Explains e (λ d. scope_at (listed entries.old) scope name.now place (arguments_in arguments.now (scope_at (listed entries.old) scope)) d)) }
+{
+    let Some(entry) = find(entries, scope, name) else {
+        let head = use_of_module(place, name, arguments, scope, primes)?;
+        return Ok(Reduction::Ends(head));
+    };
+    if let What::Definition(parameters, body, home) = entry.what {
+        if parameters.len() != arguments.len() {
+            return Err(Failure::NoExpansion(place));
+        }
+        let inner = bind(entries, parameters, home, arguments, scope)?;
+        return Ok(Reduction::Goes(body, inner, primes));
+    }
+    if let What::Gives(count, given) = entry.what {
+        return match given_argument(arguments, count, given) {
+            Some(argument) => Ok(Reduction::Goes(argument, scope, with_more(primes, given.primes))),
+            None => Err(Failure::NoExpansion(place)),
+        };
+    }
+    if let What::Module(builtin) = entry.what {
+        let head = use_of_builtin(place, builtin, arguments, scope, primes)?;
+        return Ok(Reduction::Ends(head));
+    }
+    use_alone(place, entry.what, arguments, scope, primes)
 }
 
 /// The scope inside a LET. The only error is want of memory.
@@ -219,19 +235,19 @@ pub(crate) fn entry_of<'a>(
     }
 }
 
-/// The next step towards the form of an expression that stands for another one.
+/// The next reduction, towards its form, of an expression that stands for another one.
 fn go<'a>(
     entries: &mut Entries<'_, 'a>,
     tree: &'a Expr,
     scope: usize,
     primes: Primes,
-) -> Result<Step<'a>, Failure>
+) -> Result<Reduction<'a>, Failure>
     requires linked { AreLinked (listed entries.old) }
     requires scope { scope ≤ length (listed entries.old) }
     ensures linked { OnOk result (AreLinked (listed entries.new)) }
     ensures extends { OnOk result (Extends (listed entries.new) (listed entries.old)) }
     ensures within { IfOk result (λ s. IsWithin (listed entries.new) s) }
-    ensures same { IfOk result (λ s. (d : ℕ) → with_primes primes (expand (view tree.now) (scope_at (listed entries.old) scope) d) ≡ step_gives (listed entries.new) s d) }
+    ensures same { IfOk result (λ s. (d : ℕ) → with_primes primes (expand (view tree.now) (scope_at (listed entries.old) scope) d) ≡ reduction_gives (listed entries.new) s d) }
     ensures err { IfErr result (λ e. Explains e (λ d. expand (view tree.now) (scope_at (listed entries.old) scope) d)) }
 {
     match tree {
@@ -245,35 +261,35 @@ fn go<'a>(
             use_of(entries, at, name.word.as_bytes(), arguments, scope, primes)
         }
         Expr::At(at) => use_of(entries, place_of(*at), b"@".as_slice(), &[], scope, primes),
-        Expr::Paren(_, inner) => Ok(Step::Goes(inner, scope, primes)),
-        Expr::Prime(_, inner) => Ok(Step::Goes(inner, scope, one_more(primes))),
+        Expr::Paren(_, inner) => Ok(Reduction::Goes(inner, scope, primes)),
+        Expr::Prime(_, inner) => Ok(Reduction::Goes(inner, scope, one_more(primes))),
         Expr::Let(_, definitions, inner) => {
             let inside = define(entries, definitions.as_slice(), scope)?;
-            Ok(Step::Goes(inner, inside, primes))
+            Ok(Reduction::Goes(inner, inside, primes))
         }
         _ => Err(Failure::Memory),
     }
 }
 
-/// The next step towards the form of an expression.
-pub(crate) fn next_step<'a>(
+/// The next reduction of an expression towards its form.
+pub(crate) fn next_reduction<'a>(
     entries: &mut Entries<'_, 'a>,
     tree: &'a Expr,
     scope: usize,
     primes: Primes,
-) -> Result<Step<'a>, Failure>
+) -> Result<Reduction<'a>, Failure>
     requires linked { AreLinked (listed entries.old) }
     requires scope { scope ≤ length (listed entries.old) }
     ensures linked { OnOk result (AreLinked (listed entries.new)) }
     ensures extends { OnOk result (Extends (listed entries.new) (listed entries.old)) }
     ensures within { IfOk result (λ s. IsWithin (listed entries.new) s) }
-    ensures same { IfOk result (λ s. (d : ℕ) → with_primes primes (expand (view tree.now) (scope_at (listed entries.old) scope) d) ≡ step_gives (listed entries.new) s d) }
+    ensures same { IfOk result (λ s. (d : ℕ) → with_primes primes (expand (view tree.now) (scope_at (listed entries.old) scope) d) ≡ reduction_gives (listed entries.new) s d) }
     ensures err { IfErr result (λ e. Explains e (λ d. expand (view tree.now) (scope_at (listed entries.old) scope) d)) }
 {
     match form_of(tree) {
-        Shape::Goes => go(entries, tree, scope, primes),
-        Shape::Nothing(at) => Err(Failure::NoExpansion(at)),
-        Shape::Form(form) => Ok(Step::Ends(Head {
+        OwnForm::Goes => go(entries, tree, scope, primes),
+        OwnForm::Nothing(at) => Err(Failure::NoExpansion(at)),
+        OwnForm::Form(form) => Ok(Reduction::Ends(Head {
             form,
             scope,
             primes,
@@ -388,9 +404,9 @@ fn head_behind<'a>(
     let mut with = primes;
     let mut primed = None;
     for _turn in 0..u64::MAX {
-        match next_step(entries, tree, at, with)? {
-            Step::Ends(head) => return Ok(Head { primed, ..head }),
-            Step::Goes(next, inner, more) => {
+        match next_reduction(entries, tree, at, with)? {
+            Reduction::Ends(head) => return Ok(Head { primed, ..head }),
+            Reduction::Goes(next, inner, more) => {
                 primed = last_prime(entries, at, tree, more, primed);
                 give_back(entries, mark, inner);
                 tree = next;

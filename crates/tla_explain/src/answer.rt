@@ -1,143 +1,144 @@
 //! Answers of a search.
 
-use crate::definitions::{Start, starts_of};
 use crate::faults;
-use crate::models::{Rebuilt, rebuild};
+use crate::models::{Telling, model_of};
 use crate::page::Page;
-use crate::places::{Sources, core_place, defined_at, tokens_of};
-use crate::trace::{Telling, tell as tell_trace};
-use std::alloc::AllocError;
+use crate::places::{Sources, core_place, defined_at};
+use crate::trace::tell as tell_trace;
 use tla_check::{Answer, Answered, Source};
 use tla_core::Place;
+use tla_lex::{Token, tokens};
+use tla_model::Model;
+use tla_parse::parse_module;
+use tla_tree::{Module, Unit};
 
 /// Tells an answer. Nothing is told where there is no error.
-pub(crate) fn tell(
-    page: &mut Page,
-    sources: &Sources<'_>,
-    answered: &Answered,
-) -> Result<(), AllocError> {
+pub(crate) fn tell(page: &mut Page, sources: &Sources<'_>, answered: &Answered) {
     match &answered.answer {
-        Answer::NoError { .. } => Ok(()),
-        Answer::Limit { .. } => {
-            let limit = answered.limit;
-            let text = format!(in page.alloc();
-                "more than {limit} states: --max-states takes 1 to 16777216"
-            )?;
-            page.line(&[text.as_str()])?;
-            page.hint(&["where a variable grows without end, bound it by a CONSTRAINT"])
-        }
-        _ => match rebuild(page.alloc(), sources) {
-            Some(rebuilt) => {
-                let told = tell_rebuilt(page, sources, answered, &rebuilt);
-                drop(rebuilt);
-                told
-            }
-            None => Err(AllocError),
-        },
+        Answer::NoError { .. } => {}
+        Answer::Limit { .. } => tell_limit(page, answered.limit),
+        _ => tell_found(page, sources, answered),
     }
+}
+
+fn tell_limit(page: &mut Page, limit: u64) {
+    page.put_text("more than ");
+    page.put_number(u128::from(limit));
+    page.put_text(" states: --max-states takes 1 to 16777216\n");
+    page.hint(&["where a variable grows without end, bound it by a CONSTRAINT"]);
 }
 
 /// Tells an answer by what the two texts name.
-fn tell_rebuilt(
-    page: &mut Page,
-    sources: &Sources<'_>,
-    answered: &Answered,
-    rebuilt: &Rebuilt,
-) -> Result<(), AllocError> {
-    let starts = starts_of(page.alloc(), &rebuilt.tree.units, &rebuilt.tokens)?;
-    tell_with(page, sources, answered, rebuilt, &starts)
+fn tell_found(page: &mut Page, sources: &Sources<'_>, answered: &Answered) {
+    match tokens(page.alloc(), sources.module) {
+        Ok(tokens) => tell_by_tokens(page, sources, &tokens, answered),
+        Err(_) => page.refuse(),
+    }
 }
 
-/// Tells an answer by the model that the two texts name.
-fn tell_with(
+fn tell_by_tokens(page: &mut Page, sources: &Sources<'_>, tokens: &[Token], answered: &Answered) {
+    match parse_module(page.alloc(), sources.module, tokens) {
+        Ok(module) => {
+            tell_by_module(page, sources, tokens, &module, answered);
+            drop(module);
+        }
+        Err(_) => page.refuse(),
+    }
+}
+
+fn tell_by_module(
     page: &mut Page,
     sources: &Sources<'_>,
+    tokens: &[Token],
+    module: &Module,
     answered: &Answered,
-    rebuilt: &Rebuilt,
-    starts: &[Start<'_>],
-) -> Result<(), AllocError> {
+) {
+    match model_of(page.alloc(), module, sources.configuration) {
+        Some(model) => {
+            tell_by_model(page, sources, tokens, &module.units, &model, answered);
+            drop(model);
+        }
+        None => page.refuse(),
+    }
+}
+
+fn tell_by_model(
+    page: &mut Page,
+    sources: &Sources<'_>,
+    tokens: &[Token],
+    units: &[Unit],
+    model: &Model,
+    answered: &Answered,
+) {
     let telling = Telling {
         sources,
-        rebuilt,
-        starts,
+        tokens,
+        units,
+        model,
     };
+    tell_wrong(page, &telling, answered);
+    tell_trace(page, &telling, answered);
+}
+
+/// Tells what is wrong.
+fn tell_wrong(page: &mut Page, telling: &Telling<'_>, answered: &Answered) {
+    let count = answered.answer.states().len();
     match &answered.answer {
         Answer::InvariantFalse { invariant, .. } => {
-            tell_false(
-                page,
-                sources,
-                answered,
-                answered.invariants.name(*invariant),
-            )?;
+            tell_false(page, telling, answered.invariants.name(*invariant), count);
         }
-        Answer::Deadlock { .. } => tell_deadlock(page, sources, answered, rebuilt)?,
+        Answer::Deadlock { .. } => tell_deadlock(page, telling, count),
         Answer::Faulted { fault, formula, .. } => {
-            faults::tell(page, &telling, answered, fault, *formula)?;
+            faults::tell(page, telling, answered, fault, *formula);
         }
-        Answer::AssumptionFalse { number } => tell_assumption(page, sources, rebuilt, *number)?,
+        Answer::AssumptionFalse { number } => tell_assumption(page, telling, *number),
         Answer::NoError { .. } | Answer::Limit { .. } => {}
     }
-    tell_trace(page, &telling, answered)
 }
 
-/// Tells a text at a place of the module.
-pub(crate) fn tell_at(
-    page: &mut Page,
-    sources: &Sources<'_>,
-    place: Option<Place>,
-    text: &str,
-) -> Result<(), AllocError> {
+/// Begins what is told at a place of the module.
+pub(crate) fn begin_at(page: &mut Page, sources: &Sources<'_>, place: Option<Place>) {
     match place {
-        Some(place) => {
-            page.put_place(sources, Source::Module, place)?;
-            page.line(&[text])?;
-            page.show(sources, Source::Module, place)
-        }
-        None => page.line(&[sources.names.module, ": ", text]),
+        Some(place) => page.put_place(sources, Source::Module, place),
+        None => page.put(&[sources.names.module, ": "]),
     }
 }
 
-fn tell_false(
-    page: &mut Page,
-    sources: &Sources<'_>,
-    answered: &Answered,
-    name: &str,
-) -> Result<(), AllocError> {
-    let tokens = tokens_of(page.alloc(), sources.module, Source::Module);
-    let place = defined_at(sources.module, &tokens, name).map(core_place);
-    let count = answered.answer.states().len();
-    let text = format!(in page.alloc(); "invariant '{name}' is false in state {count}")?;
-    tell_at(page, sources, place, text.as_str())
+/// Ends what is told at a place of the module, and shows the place.
+pub(crate) fn end_at(page: &mut Page, sources: &Sources<'_>, place: Option<Place>) {
+    page.put_text("\n");
+    if let Some(place) = place {
+        page.show(sources, Source::Module, place);
+    }
 }
 
-fn tell_deadlock(
-    page: &mut Page,
-    sources: &Sources<'_>,
-    answered: &Answered,
-    rebuilt: &Rebuilt,
-) -> Result<(), AllocError> {
-    let count = answered.answer.states().len();
-    let text = format!(in page.alloc(); "deadlock: no step leads on from state {count}")?;
-    tell_at(
-        page,
-        sources,
-        Some(rebuilt.model.next().place()),
-        text.as_str(),
-    )?;
-    page.hint(&["CHECK_DEADLOCK FALSE in the configuration, if the specification may end there"])
+fn tell_false(page: &mut Page, telling: &Telling<'_>, name: &str, count: usize) {
+    let sources = telling.sources;
+    let place = defined_at(sources.module, telling.tokens, name).map(core_place);
+    begin_at(page, sources, place);
+    page.put(&["invariant '", name, "' is false in state "]);
+    page.put_number(count as u128);
+    end_at(page, sources, place);
 }
 
-fn tell_assumption(
-    page: &mut Page,
-    sources: &Sources<'_>,
-    rebuilt: &Rebuilt,
-    number: u64,
-) -> Result<(), AllocError> {
-    let text = format!(in page.alloc(); "assumption {number} is false")?;
+fn tell_deadlock(page: &mut Page, telling: &Telling<'_>, count: usize) {
+    let place = Some(telling.model.next().place());
+    begin_at(page, telling.sources, place);
+    page.put_text("deadlock: no step leads on from state ");
+    page.put_number(count as u128);
+    end_at(page, telling.sources, place);
+    page.hint(&["CHECK_DEADLOCK FALSE in the configuration, if the specification may end there"]);
+}
+
+fn tell_assumption(page: &mut Page, telling: &Telling<'_>, number: u64) {
     let index = number.saturating_sub(1) as usize;
-    let place = match rebuilt.model.assumptions().get(index) {
+    let place = match telling.model.assumptions().get(index) {
         Some(assumption) => Some(assumption.place()),
         None => None,
     };
-    tell_at(page, sources, place, text.as_str())
+    begin_at(page, telling.sources, place);
+    page.put_text("assumption ");
+    page.put_number(u128::from(number));
+    page.put_text(" is false");
+    end_at(page, telling.sources, place);
 }

@@ -19,17 +19,14 @@ pub(crate) fn bound_name<'a>(
         let [before, token, behind] = three else {
             return None;
         };
-        if opens_bracket(before.kind) {
-            depth = depth.saturating_add(1);
-        } else if closes_bracket(before.kind) {
-            depth = depth.saturating_sub(1);
-        } else if depth == 0 && before.kind == Kind::Colon {
-            return None;
-        }
+        depth = depth_behind(depth, before.kind);
         if depth == 0 {
-            in_pattern = begins_entry(before.kind) && token.kind == Kind::LeftTuple;
+            if before.kind == Kind::Colon {
+                return None;
+            }
+            in_pattern = begins_pattern(before.kind, token.kind);
         }
-        let is_plain = depth == 0 && begins_entry(before.kind) && ends_name(behind.kind);
+        let is_plain = depth == 0 && stands_alone(before.kind, behind.kind);
         if token.kind == Kind::Name && (in_pattern || is_plain) {
             if left == 0 {
                 return Some(word(text, token));
@@ -40,12 +37,33 @@ pub(crate) fn bound_name<'a>(
     None
 }
 
+/// How deep in brackets a token leads.
+fn depth_behind(depth: usize, kind: Kind) -> usize {
+    if opens_bracket(kind) {
+        depth.saturating_add(1)
+    } else if closes_bracket(kind) {
+        depth.saturating_sub(1)
+    } else {
+        depth
+    }
+}
+
+/// Whether a pattern begins at a token.
+fn begins_pattern(before: Kind, kind: Kind) -> bool {
+    begins_entry(before) && kind == Kind::LeftTuple
+}
+
+/// Whether a name between these is bound by itself.
+fn stands_alone(before: Kind, behind: Kind) -> bool {
+    begins_entry(before) && ends_name(behind)
+}
+
 /// Whether a name that is bound, or a pattern, may stand behind a token.
 fn begins_entry(before: Kind) -> bool {
-    matches!(before, Kind::Exists | Kind::ForAll | Kind::Comma)
+    before == Kind::Exists || before == Kind::ForAll || before == Kind::Comma
 }
 
 /// Whether a token stands behind a name that is bound.
 fn ends_name(behind: Kind) -> bool {
-    matches!(behind, Kind::Comma | Kind::Member)
+    behind == Kind::Comma || behind == Kind::Member
 }

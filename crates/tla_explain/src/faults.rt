@@ -1,15 +1,17 @@
 //! Faults of evaluation.
 
-use crate::answer::tell_at;
-use crate::definitions::{definition_at, users_of};
+use crate::answer::{begin_at, end_at};
+use crate::definitions::definition_at;
+use crate::models::Telling;
 use crate::page::Page;
-use crate::places::token_place;
-use crate::trace::Telling;
+use crate::places::{token_place, word};
+use crate::trace::put_part;
 use crate::values::put_state;
-use std::alloc::AllocError;
 use tla_check::{Answered, Formula};
 use tla_core::{Core, Fault, FaultCode, Place};
+use tla_lex::{Kind, Token};
 use tla_steps::lacking_parts;
+use tla_value::Text;
 
 /// Tells a fault: where it is, in which definitions, and what values the variables had.
 pub(crate) fn tell(
@@ -18,59 +20,77 @@ pub(crate) fn tell(
     answered: &Answered,
     fault: &Fault,
     formula: Formula,
-) -> Result<(), AllocError> {
-    let code = fault.code;
+) {
     let action = action_of(telling, formula);
-    let title = title_of(page, answered, fault)?;
-    let formula = formula_text(page, answered, formula)?;
-    let text = format!(in page.alloc(); "{title} ({code}), in {formula}")?;
     let place = match fault.variable {
         Some(_) => Some(action.place()),
         None => fault.place,
     };
-    tell_at(page, telling.sources, place, text.as_str())?;
-    let code = format!(in page.alloc(); "{code}")?;
-    page.put_rule(code.as_str())?;
+    begin_at(page, telling.sources, place);
+    put_title(page, answered, fault);
+    put_formula(page, answered, formula);
+    end_at(page, telling.sources, place);
+    page.put_rule(fault.code.name());
+    tell_cause(page, telling, answered, fault, action);
+    tell_values(page, answered);
+}
+
+/// Tells which parts leave a variable without a value, or in which definitions the fault is.
+fn tell_cause(
+    page: &mut Page,
+    telling: &Telling<'_>,
+    answered: &Answered,
+    fault: &Fault,
+    action: &Core,
+) {
     match (fault.variable, fault.place) {
-        (Some(variable), _) => tell_lacking(page, telling, answered, action, variable)?,
-        (None, Some(place)) => tell_definitions(page, telling, place)?,
+        (Some(variable), _) => {
+            let name = name_at(answered.variables.as_slice(), variable);
+            tell_lacking(page, telling, action, variable, name);
+        }
+        (None, Some(place)) => tell_definitions(page, telling, place),
         (None, None) => {}
     }
-    tell_values(page, answered)
 }
 
-fn formula_text(page: &Page, answered: &Answered, formula: Formula) -> Result<String, AllocError> {
-    let alloc = page.alloc();
+/// Adds what a fault is called, with the variable that it is about, and its code.
+fn put_title(page: &mut Page, answered: &Answered, fault: &Fault) {
+    match fault.variable {
+        Some(variable) => {
+            put_named(page, "variable", answered.variables.as_slice(), variable);
+            page.put_text(" is left without a value");
+        }
+        None => page.put_text(code_title(fault.code)),
+    }
+    page.put(&[" (", fault.code.name(), "), in "]);
+}
+
+/// Adds what a formula is called.
+fn put_formula(page: &mut Page, answered: &Answered, formula: Formula) {
     match formula {
-        Formula::Assumption(number) => format!(in alloc; "assumption {number}"),
-        Formula::Initial => format!(in alloc; "the initial predicate"),
-        Formula::NextAction => format!(in alloc; "the next-state action"),
+        Formula::Assumption(number) => {
+            page.put_text("assumption ");
+            page.put_number(u128::from(number));
+        }
+        Formula::Initial => page.put_text("the initial predicate"),
+        Formula::NextAction => page.put_text("the next-state action"),
         Formula::Invariant(index) => {
-            let name = name_at(answered.invariants.as_slice(), index);
-            format!(in alloc; "invariant '{name}'")
+            put_named(page, "invariant", answered.invariants.as_slice(), index);
         }
         Formula::Constraint(index) => {
-            let name = name_at(answered.constraints.as_slice(), index);
-            format!(in alloc; "constraint '{name}'")
+            put_named(page, "constraint", answered.constraints.as_slice(), index);
         }
     }
 }
 
-fn name_at(names: &[tla_value::Text], index: usize) -> &str {
+fn put_named(page: &mut Page, kind: &str, names: &[Text], index: usize) {
+    page.put(&[kind, " '", name_at(names, index), "'"]);
+}
+
+fn name_at(names: &[Text], index: usize) -> &str {
     match names.get(index) {
         Some(name) => name.as_str(),
         None => "",
-    }
-}
-
-/// What a fault is called, with the variable that it is about.
-fn title_of(page: &Page, answered: &Answered, fault: &Fault) -> Result<String, AllocError> {
-    match fault.variable {
-        Some(variable) => {
-            let name = name_at(answered.variables.as_slice(), variable);
-            format!(in page.alloc(); "variable '{name}' is left without a value")
-        }
-        None => String::from_str(page.alloc(), code_title(fault.code)),
     }
 }
 
@@ -98,8 +118,8 @@ fn code_title(code: FaultCode) -> &'static str {
 /// What is read where a variable is left without a value.
 fn action_of<'a>(telling: &Telling<'a>, formula: Formula) -> &'a Core {
     match formula {
-        Formula::Initial => telling.rebuilt.model.init(),
-        _ => telling.rebuilt.model.next(),
+        Formula::Initial => telling.model.init(),
+        _ => telling.model.next(),
     }
 }
 
@@ -107,67 +127,78 @@ fn action_of<'a>(telling: &Telling<'a>, formula: Formula) -> &'a Core {
 fn tell_lacking(
     page: &mut Page,
     telling: &Telling<'_>,
-    answered: &Answered,
     action: &Core,
     variable: usize,
-) -> Result<(), AllocError> {
-    let name = name_at(answered.variables.as_slice(), variable);
-    for place in lacking_parts(page.alloc(), action, variable)? {
-        let definition = definition_at(telling.starts, token_place(place));
-        let line = place.line;
-        let text = format!(in page.alloc(); "{definition} (line {line})")?;
-        page.put(&["no value for ", name, " in "])?;
-        page.line(&[text.as_str()])?;
+    name: &str,
+) {
+    match lacking_parts(page.alloc(), action, variable) {
+        Ok(places) => tell_parts(page, telling, &places, name),
+        Err(_) => page.refuse(),
     }
-    Ok(())
+}
+
+fn tell_parts(page: &mut Page, telling: &Telling<'_>, places: &[Place], name: &str) {
+    for place in places {
+        page.put(&["no value for ", name, " in "]);
+        put_part(page, telling, *place);
+        page.put_text("\n");
+    }
 }
 
 /// Tells in which definitions a place stands.
-fn tell_definitions(
-    page: &mut Page,
-    telling: &Telling<'_>,
-    place: Place,
-) -> Result<(), AllocError> {
-    let mut name = definition_at(telling.starts, token_place(place));
+fn tell_definitions(page: &mut Page, telling: &Telling<'_>, place: Place) {
+    let units = telling.units;
+    let mut name = definition_at(units, token_place(place));
     if name.is_empty() {
-        return Ok(());
+        return;
     }
-    page.put(&["in the definition of ", name])?;
-    for _ in 0..telling.starts.len() {
-        let users = users_of(
-            page.alloc(),
-            telling.starts,
-            telling.sources.module,
-            &telling.rebuilt.tokens,
-            name,
-        )?;
-        let Some(first) = users.first() else {
-            return page.line(&[]);
+    page.put(&["in the definition of ", name]);
+    for _ in 0..units.len() {
+        let Some(user) = put_users(page, telling, name) else {
+            break;
         };
-        page.put(&[", used by ", *first])?;
-        if users.len() > 1 {
-            return put_others(page, users.get(1..).unwrap_or(&[]));
-        }
-        name = *first;
+        name = user;
     }
-    page.line(&[])
+    page.put_text("\n");
 }
 
-fn put_others(page: &mut Page, users: &[&str]) -> Result<(), AllocError> {
-    for user in users {
-        page.put(&[" and ", *user])?;
+/// Adds the definitions in which a name stands, in the order of the text, but for its own. Answers the only one of them.
+fn put_users<'a>(page: &mut Page, telling: &Telling<'a>, name: &str) -> Option<&'a str> {
+    let mut last = "";
+    let mut only = None;
+    for token in telling.tokens {
+        let user = user_at(telling, token, name);
+        if user.is_empty() || user == name || user == last {
+            continue;
+        }
+        if last.is_empty() {
+            page.put(&[", used by ", user]);
+            only = Some(user);
+        } else {
+            page.put(&[" and ", user]);
+            only = None;
+        }
+        last = user;
     }
-    page.line(&[])
+    only
+}
+
+/// The definition in which a token uses a name; no text where it is another token.
+fn user_at<'a>(telling: &Telling<'a>, token: &Token, name: &str) -> &'a str {
+    if token.kind == Kind::Name && word(telling.sources.module, token) == name {
+        definition_at(telling.units, token.place)
+    } else {
+        ""
+    }
 }
 
 /// Tells the values of the variables where the fault was met.
-fn tell_values(page: &mut Page, answered: &Answered) -> Result<(), AllocError> {
+fn tell_values(page: &mut Page, answered: &Answered) {
     let states = answered.answer.states();
-    let Some(last) = states.last() else {
-        return Ok(());
-    };
-    let count = states.len();
-    let text = format!(in page.alloc(); "met in state {count}:")?;
-    page.line(&[text.as_str()])?;
-    put_state(page, &answered.variables, last)
+    if let Some(last) = states.last() {
+        page.put_text("met in state ");
+        page.put_number(states.len() as u128);
+        page.put_text(":\n");
+        put_state(page, &answered.variables, last);
+    }
 }

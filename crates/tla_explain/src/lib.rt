@@ -21,6 +21,7 @@ mod values;
 pub use codes::{CODES, CodeText, text_of};
 use page::Page;
 pub use places::FileNames;
+use places::Sources;
 use std::alloc::Global;
 use std::io;
 use std::io::Write;
@@ -37,18 +38,22 @@ pub fn explain<W: Write>(
     alloc: Global,
 ) -> io::Result<()> {
     let mut page = Page::new(alloc);
-    let sources = places::Sources {
+    let sources = Sources {
         names: *names,
         module,
         configuration,
     };
+    tell(&mut page, &sources, checked);
+    writer.write_all(page.told()?)
+}
+
+fn tell(page: &mut Page, sources: &Sources<'_>, checked: &Checked) {
     match checked {
-        Checked::Refused(refused) => refusal::tell(&mut page, &sources, refused)?,
-        Checked::Answered(answered) => answer::tell(&mut page, &sources, answered)?,
-        Checked::NoMemory => page.line(&["out of memory: allow more, or check a smaller model"])?,
-        Checked::NoWorker => page.line(&[
-            "a worker could not be started: ask for fewer, by --workers",
-        ])?,
+        Checked::Refused(refused) => refusal::tell(page, sources, refused),
+        Checked::Answered(answered) => answer::tell(page, sources, answered),
+        Checked::NoMemory => page.put_text("out of memory: allow more, or check a smaller model\n"),
+        Checked::NoWorker => {
+            page.put_text("a worker could not be started: ask for fewer, by --workers\n");
+        },
     }
-    writer.write_all(page.as_bytes())
 }

@@ -1,31 +1,24 @@
-//! The model of the two texts.
+//! What the two texts name.
 
 use crate::places::Sources;
 use std::alloc::Global;
 use tla_config::parse_config;
 use tla_defs::build;
-use tla_lex::{Token, tokens};
+use tla_lex::Token;
 use tla_model::Model;
-use tla_parse::parse_module;
-use tla_tree::Module;
+use tla_tree::{Module, Unit};
 
-/// What the two texts name.
-#[derive(Drop)]
-pub(crate) struct Rebuilt {
-    pub(crate) tokens: Vec<Token>,
-    pub(crate) tree: Module,
-    pub(crate) model: Model,
+/// What an answer is told with.
+#[derive(Clone, Copy)]
+pub(crate) struct Telling<'a> {
+    pub(crate) sources: &'a Sources<'a>,
+    pub(crate) tokens: &'a [Token],
+    pub(crate) units: &'a [Unit],
+    pub(crate) model: &'a Model,
 }
 
-/// What the two texts name; none where they are refused or memory ran out.
-pub(crate) fn rebuild(alloc: Global, sources: &Sources<'_>) -> Option<Rebuilt> {
-    let tokens = tokens(alloc, sources.module).ok()?;
-    let tree = parse_module(alloc, sources.module, &tokens).ok()?;
-    let config = parse_config(alloc, sources.configuration).ok()?;
-    let model = build(alloc, &tree, &config).ok()?;
-    Some(Rebuilt {
-        tokens,
-        tree,
-        model,
-    })
+/// What a module and a configuration name; nothing where they are refused or memory ran out.
+pub(crate) fn model_of(alloc: Global, module: &Module, configuration: &[u8]) -> Option<Model> {
+    let config = parse_config(alloc, configuration).ok()?;
+    build(alloc, module, &config).ok()
 }

@@ -17,8 +17,10 @@ pub(crate) fn names_before<'a>(
 ) -> Result<Vec<&'a str>, AllocError> {
     let mut names = Vec::new(alloc);
     for token in tokens {
-        if place.is_some_and(|place| !is_before(token.place, place)) {
-            return Ok(names);
+        if let Some(place) = place
+            && !is_before(token.place, place)
+        {
+            break;
         }
         let name = word(text, token);
         if token.kind == Kind::Name && name.len() <= LONGEST_NAME {

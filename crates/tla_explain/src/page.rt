@@ -3,18 +3,24 @@
 use crate::codes::text_of;
 use crate::places::{Sources, source_name, source_text};
 use std::alloc::{AllocError, Global};
+use std::io::Write;
 use tla_check::Source;
 use tla_core::Place;
 use tla_hints::{blanks, front, line_of, word_of};
+use tla_value::Value;
 
 /// The longest line of a file that is shown.
 const LONGEST_LINE: usize = 500;
 
-/// The text that is told.
+/// How many bytes of a value are shown.
+const LONGEST_VALUE: usize = 160;
+
+/// The text that is told. Once memory was refused nothing more is added.
 #[derive(Drop)]
 pub(crate) struct Page {
     bytes: Vec<u8>,
     alloc: Global,
+    refused: bool,
 }
 
 impl Page {
@@ -22,6 +28,7 @@ impl Page {
         Page {
             bytes: Vec::new(alloc),
             alloc,
+            refused: false,
         }
     }
 
@@ -29,82 +36,136 @@ impl Page {
         self.alloc
     }
 
-    pub(crate) fn as_bytes(&self) -> &[u8] {
-        self.bytes.as_slice()
+    /// What was told. The only error is that memory was refused.
+    pub(crate) fn told(&self) -> Result<&[u8], AllocError> {
+        if self.refused {
+            Err(AllocError)
+        } else {
+            Ok(self.bytes.as_slice())
+        }
+    }
+
+    /// Remembers that memory was refused.
+    pub(crate) fn refuse(&mut self) {
+        self.refused = true;
     }
 
     /// Adds bytes.
-    pub(crate) fn put_bytes(&mut self, bytes: &[u8]) -> Result<(), AllocError> {
-        self.bytes.extend_from_slice(bytes)
+    pub(crate) fn put_bytes(&mut self, bytes: &[u8]) {
+        self.refused = self.refused || self.bytes.extend_from_slice(bytes).is_err();
+    }
+
+    /// Adds a text.
+    pub(crate) fn put_text(&mut self, text: &str) {
+        self.put_bytes(text.as_bytes());
     }
 
     /// Adds texts.
-    pub(crate) fn put(&mut self, texts: &[&str]) -> Result<(), AllocError> {
+    pub(crate) fn put(&mut self, texts: &[&str]) {
         for text in texts {
-            self.put_bytes(text.as_bytes())?;
+            self.put_text(text);
         }
-        Ok(())
     }
 
-    /// Adds texts and a line feed.
-    pub(crate) fn line(&mut self, texts: &[&str]) -> Result<(), AllocError> {
-        self.put(texts)?;
-        self.put(&["\n"])
+    /// Adds a number.
+    pub(crate) fn put_number(&mut self, number: u128) {
+        self.refused = self.refused || write!(self.bytes, "{number}").is_err();
+    }
+
+    /// Adds a number that may be negative.
+    pub(crate) fn put_integer(&mut self, number: i64) {
+        self.refused = self.refused || write!(self.bytes, "{number}").is_err();
+    }
+
+    /// Adds a hint, of these texts.
+    pub(crate) fn hint(&mut self, texts: &[&str]) {
+        self.put_text("hint: ");
+        self.put(texts);
+        self.put_text("\n");
     }
 
     /// Adds the place that an editor jumps to: `Lock.tla:12:5: `.
-    pub(crate) fn put_place(
-        &mut self,
-        sources: &Sources<'_>,
-        source: Source,
-        place: Place,
-    ) -> Result<(), AllocError> {
-        let name = source_name(sources, source);
-        let line = place.line;
-        let column = place.column;
-        let text = format!(in self.alloc; "{name}:{line}:{column}: ")?;
-        self.put(&[text.as_str()])
+    pub(crate) fn put_place(&mut self, sources: &Sources<'_>, source: Source, place: Place) {
+        self.put_text(source_name(sources, source));
+        self.put_text(":");
+        self.put_number(u128::from(place.line));
+        self.put_text(":");
+        self.put_number(place.column);
+        self.put_text(": ");
+    }
+
+    /// Adds a place in words: `line 12, column 5`.
+    pub(crate) fn put_line_and_column(&mut self, place: tla_lex::Place) {
+        self.put_text("line ");
+        self.put_number(u128::from(place.line));
+        self.put_text(", column ");
+        self.put_number(place.column);
+    }
+
+    /// Adds the text of a value, or its beginning and how much follows.
+    pub(crate) fn put_value(&mut self, value: &Value) {
+        let from = self.bytes.len();
+        self.refused = self.refused || value.write_text(&mut self.bytes).is_err();
+        let text = self.bytes.get(from..).unwrap_or(&[]);
+        if let Some(shown) = shown_of(text) {
+            let more = text.len().saturating_sub(shown);
+            self.bytes.truncate(from.saturating_add(shown));
+            self.put_more(more);
+        }
+    }
+
+    fn put_more(&mut self, more: usize) {
+        self.put_text(" .. (");
+        self.put_number(more as u128);
+        self.put_text(" bytes more)");
     }
 
     /// Adds the line of a place, and a caret below each character of the word that begins there.
-    pub(crate) fn show(
-        &mut self,
-        sources: &Sources<'_>,
-        source: Source,
-        place: Place,
-    ) -> Result<(), AllocError> {
-        let text = source_text(sources, source);
-        match line_of(text, place.line) {
-            Some(line) if line.len() <= LONGEST_LINE => self.show_line(line, place.column),
-            _ => Ok(()),
+    pub(crate) fn show(&mut self, sources: &Sources<'_>, source: Source, place: Place) {
+        if let Some(line) = line_of(source_text(sources, source), place.line)
+            && line.len() <= LONGEST_LINE
+        {
+            let shown = line.strip_suffix(b"\r".as_slice()).unwrap_or(line);
+            self.show_line(shown, place.column);
         }
     }
 
-    fn show_line(&mut self, line: &[u8], column: u128) -> Result<(), AllocError> {
-        let line = line.strip_suffix(b"\r".as_slice()).unwrap_or(line);
+    fn show_line(&mut self, line: &[u8], column: u128) {
         let before = front(line, column);
         let rest = line.get(before.len()..).unwrap_or(&[]);
-        let blanks = blanks(self.alloc, before)?;
-        self.put_bytes(line)?;
-        self.put(&["\n"])?;
-        self.put_bytes(&blanks)?;
+        self.put_bytes(line);
+        self.put_text("\n");
+        self.put_blanks(before);
         for _ in 0..word_of(rest).len().max(1) {
-            self.put(&["^"])?;
+            self.put_text("^");
         }
-        self.put(&["\n"])
+        self.put_text("\n");
+    }
+
+    /// Adds blanks as wide as these bytes.
+    fn put_blanks(&mut self, before: &[u8]) {
+        match blanks(self.alloc, before) {
+            Ok(blanks) => self.put_bytes(&blanks),
+            Err(_) => self.refuse(),
+        }
     }
 
     /// Adds the rule and the cure of a code.
-    pub(crate) fn put_rule(&mut self, code: &str) -> Result<(), AllocError> {
-        match text_of(code) {
-            Some(text) => self.line(&[text.rule, " ", text.cure]),
-            None => Ok(()),
+    pub(crate) fn put_rule(&mut self, code: &str) {
+        if let Some(text) = text_of(code) {
+            self.put(&[text.rule, " ", text.cure, "\n"]);
         }
     }
+}
 
-    /// Adds a hint.
-    pub(crate) fn hint(&mut self, texts: &[&str]) -> Result<(), AllocError> {
-        self.put(&["hint: "])?;
-        self.line(texts)
+/// How many bytes are shown of a text that is too long to be shown whole.
+fn shown_of(text: &[u8]) -> Option<usize> {
+    if text.len() <= LONGEST_VALUE {
+        return None;
+    }
+    let start = text.get(..LONGEST_VALUE)?;
+    match str::from_utf8(start) {
+        Ok(_) => Some(LONGEST_VALUE),
+        Err(error) => Some(error.valid_up_to()),
     }
 }

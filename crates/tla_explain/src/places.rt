@@ -85,8 +85,10 @@ pub(crate) fn defined_at(text: &[u8], tokens: &[Token], name: &str) -> Option<Pl
 
 /// Where a name first stands.
 pub(crate) fn first_place(text: &[u8], tokens: &[Token], name: &str) -> Option<Place> {
-    tokens
-        .iter()
-        .find(|token| token.kind == Kind::Name && word(text, token) == name)
-        .map(|token| token.place)
+    for token in tokens {
+        if token.kind == Kind::Name && word(text, token) == name {
+            return Some(token.place);
+        }
+    }
+    None
 }

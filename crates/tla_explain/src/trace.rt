@@ -1,13 +1,14 @@
 //! Traces, step by step.
 
 use crate::binders::bound_name;
-use crate::definitions::{Start, definition_at};
-use crate::models::Rebuilt;
+use crate::definitions::definition_at;
+use crate::models::Telling;
 use crate::page::Page;
-use crate::places::{Sources, token_place};
-use crate::values::{put_changes, put_value};
-use std::alloc::AllocError;
+use crate::places::token_place;
+use crate::values::put_changes;
+use std::alloc::Global;
 use tla_check::Answered;
+use tla_core::{Core, Fault, Place};
 use tla_steps::{Chosen, Taken, next_values, taken_parts};
 use tla_value::State;
 
@@ -17,37 +18,32 @@ const MOST_STEPS: usize = 100;
 /// How many expressions are evaluated to find who made the steps.
 const BUDGET: u64 = 1_000_000;
 
-/// What a trace is told with.
-#[derive(Clone, Copy)]
-pub(crate) struct Telling<'a> {
-    pub(crate) sources: &'a Sources<'a>,
-    pub(crate) rebuilt: &'a Rebuilt,
-    pub(crate) starts: &'a [Start<'a>],
-}
-
 /// Tells the steps of a trace: which part of Next made each true, with what its `\E` chose, and what changed.
-pub(crate) fn tell(
-    page: &mut Page,
-    telling: &Telling<'_>,
-    answered: &Answered,
-) -> Result<(), AllocError> {
+pub(crate) fn tell(page: &mut Page, telling: &Telling<'_>, answered: &Answered) {
     let states = answered.answer.states();
     let passed = states.len().saturating_sub(MOST_STEPS.saturating_add(1));
     if passed > 0 {
-        let text = format!(in page.alloc(); "({passed} steps before are not told)")?;
-        page.line(&[text.as_str()])?;
+        put_passed(page, passed);
     }
     let mut budget = BUDGET;
     for (index, pair) in states.windows(2).enumerate().skip(passed) {
         if let [before, after] = pair {
-            let number = index.saturating_add(2);
-            let text = format!(in page.alloc(); "state {number}")?;
-            page.put(&[text.as_str()])?;
-            put_makers(page, telling, before, after, &mut budget)?;
-            put_changes(page, &answered.variables, before, after)?;
+            put_state_number(page, index.saturating_add(2));
+            put_makers(page, telling, before, after, &mut budget);
+            put_changes(page, &answered.variables, before, after);
         }
     }
-    Ok(())
+}
+
+fn put_passed(page: &mut Page, count: usize) {
+    page.put_text("(");
+    page.put_number(count as u128);
+    page.put_text(" steps before are not told)\n");
+}
+
+fn put_state_number(page: &mut Page, number: usize) {
+    page.put_text("state ");
+    page.put_number(number as u128);
 }
 
 /// Adds who made a step.
@@ -57,44 +53,61 @@ fn put_makers(
     before: &State,
     after: &State,
     budget: &mut u64,
-) -> Result<(), AllocError> {
-    let Ok(next) = next_values(page.alloc(), after) else {
-        return Err(AllocError);
-    };
-    let action = telling.rebuilt.model.next();
-    let Ok(makers) = taken_parts(page.alloc(), action, before, &next, budget) else {
-        return Err(AllocError);
-    };
+) {
+    let action = telling.model.next();
+    match makers_of(page.alloc(), action, before, after, budget) {
+        Ok(makers) => put_all(page, telling, &makers),
+        Err(_) => page.refuse(),
+    }
+}
+
+/// The parts of an action that made a step. The only error is want of memory.
+fn makers_of(
+    alloc: Global,
+    action: &Core,
+    before: &State,
+    after: &State,
+    budget: &mut u64,
+) -> Result<Vec<Taken>, Fault> {
+    let next = next_values(alloc, after)?;
+    taken_parts(alloc, action, before, &next, budget)
+}
+
+fn put_all(page: &mut Page, telling: &Telling<'_>, makers: &[Taken]) {
     if makers.is_empty() {
-        return page.line(&[", by a part of Next that was not found:"]);
+        return page.put_text(", by a part of Next that was not found:\n");
     }
     for (index, maker) in makers.iter().enumerate() {
-        page.put(&[if index == 0 { ", by " } else { " or by " }])?;
-        put_maker(page, telling, maker)?;
+        page.put_text(if index == 0 { ", by " } else { " or by " });
+        put_maker(page, telling, maker);
     }
-    page.line(&[":"])
+    page.put_text(":\n");
 }
 
 /// Adds the name of a part, where it stands, and what was chosen for it.
-fn put_maker(page: &mut Page, telling: &Telling<'_>, maker: &Taken) -> Result<(), AllocError> {
-    let name = definition_at(telling.starts, token_place(maker.place));
-    let line = maker.place.line;
-    let text = format!(in page.alloc(); "{name} (line {line})")?;
-    page.put(&[text.as_str()])?;
+fn put_maker(page: &mut Page, telling: &Telling<'_>, maker: &Taken) {
+    put_part(page, telling, maker.place);
     for (index, chosen) in maker.chosen.iter().enumerate() {
-        page.put(&[if index == 0 { " with " } else { ", " }])?;
-        put_chosen(page, telling, chosen)?;
+        page.put_text(if index == 0 { " with " } else { ", " });
+        put_chosen(page, telling, chosen);
     }
-    Ok(())
 }
 
-fn put_chosen(page: &mut Page, telling: &Telling<'_>, chosen: &Chosen) -> Result<(), AllocError> {
+/// Adds the name of the definition in which a part stands, and its line.
+pub(crate) fn put_part(page: &mut Page, telling: &Telling<'_>, place: Place) {
+    let name = definition_at(telling.units, token_place(place));
+    page.put(&[name, " (line "]);
+    page.put_number(u128::from(place.line));
+    page.put_text(")");
+}
+
+fn put_chosen(page: &mut Page, telling: &Telling<'_>, chosen: &Chosen) {
     let name = bound_name(
         telling.sources.module,
-        &telling.rebuilt.tokens,
+        telling.tokens,
         token_place(chosen.place),
         chosen.name,
     );
-    page.put(&[name.unwrap_or("it"), " = "])?;
-    put_value(page, &chosen.value)
+    page.put(&[name.unwrap_or("it"), " = "]);
+    page.put_value(&chosen.value);
 }

@@ -1,76 +1,46 @@
-//! Values, cut where they are long.
+//! Values of variables, and what a step changes of them.
 
 use crate::page::Page;
-use std::alloc::AllocError;
 use tla_check::Names;
+use tla_hints::word_of;
 use tla_value::{Arguments, FunValue, State, Value};
 
-/// How many bytes of a value are shown.
-const LONGEST_VALUE: usize = 160;
-
-/// Adds the text of a value, or its beginning and how much follows.
-pub(crate) fn put_value(page: &mut Page, value: &Value) -> Result<(), AllocError> {
-    let mut text = Vec::new(page.alloc());
-    if value.write_text(&mut text).is_err() {
-        return Err(AllocError);
+/// Adds the values of the variables, a line each.
+pub(crate) fn put_state(page: &mut Page, variables: &Names, state: &State) {
+    for (name, value) in variables.as_slice().iter().zip(state.values().iter()) {
+        put_variable(page, name.as_str(), value);
     }
-    let Some(start) = text.get(..LONGEST_VALUE) else {
-        return page.put_bytes(&text);
-    };
-    let shown = match str::from_utf8(start) {
-        Ok(_) => LONGEST_VALUE,
-        Err(error) => error.valid_up_to(),
-    };
-    page.put_bytes(text.get(..shown).unwrap_or(&[]))?;
-    let more = text.len().saturating_sub(shown);
-    let mark = format!(in page.alloc(); " .. ({more} bytes more)")?;
-    page.put(&[mark.as_str()])
 }
 
-/// Adds the values of the variables, a line each.
-pub(crate) fn put_state(
-    page: &mut Page,
-    variables: &Names,
-    state: &State,
-) -> Result<(), AllocError> {
-    for (name, value) in variables.as_slice().iter().zip(state.values().iter()) {
-        page.put(&["    ", name.as_str(), " = "])?;
-        put_value(page, value)?;
-        page.put(&["\n"])?;
-    }
-    Ok(())
+fn put_variable(page: &mut Page, name: &str, value: &Value) {
+    page.put(&["    ", name, " = "]);
+    page.put_value(value);
+    page.put_text("\n");
 }
 
 /// Adds what changes between two states, a line for each variable, or for each argument of one that is a function.
-pub(crate) fn put_changes(
-    page: &mut Page,
-    variables: &Names,
-    before: &State,
-    after: &State,
-) -> Result<(), AllocError> {
+pub(crate) fn put_changes(page: &mut Page, variables: &Names, before: &State, after: &State) {
     let values = before.values().iter().zip(after.values().iter());
     let mut some = false;
     for (name, (old, new)) in variables.as_slice().iter().zip(values) {
         if old != new {
             some = true;
-            put_change(page, name.as_str(), old, new)?;
+            put_change(page, name.as_str(), old, new);
         }
     }
-    if some {
-        Ok(())
-    } else {
-        page.line(&["    nothing changes"])
+    if !some {
+        page.put_text("    nothing changes\n");
     }
 }
 
-fn put_change(page: &mut Page, name: &str, old: &Value, new: &Value) -> Result<(), AllocError> {
+fn put_change(page: &mut Page, name: &str, old: &Value, new: &Value) {
     match (old, new) {
         (Value::Fun(old), Value::Fun(new)) if same_arguments(old, new) => {
-            put_changed_pairs(page, name, old, new)
+            put_function_change(page, name, old, new);
         }
         _ => {
-            page.put(&["    ", name])?;
-            put_from_to(page, old, new)
+            page.put(&["    ", name]);
+            put_from_to(page, old, new);
         }
     }
 }
@@ -84,49 +54,71 @@ fn same_arguments(old: &FunValue, new: &FunValue) -> bool {
         }
 }
 
-fn put_changed_pairs(
-    page: &mut Page,
-    name: &str,
-    old: &FunValue,
-    new: &FunValue,
-) -> Result<(), AllocError> {
-    let Ok(pairs) = old.copy(page.alloc()).and_then(FunValue::into_pairs) else {
-        return Err(AllocError);
-    };
-    for (pair, value) in pairs.iter().zip(new.values().iter()) {
-        if pair.1 != *value {
-            page.put(&["    ", name])?;
-            put_key(page, &pair.0)?;
-            put_from_to(page, &pair.1, value)?;
+/// Adds what changes between two functions with the same arguments.
+fn put_function_change(page: &mut Page, name: &str, old: &FunValue, new: &FunValue) {
+    match old.arguments() {
+        Arguments::Numbers(first) => {
+            put_changes_from(page, name, first, old.values(), new.values());
         }
+        Arguments::Listed(keys) => put_changes_at(page, name, keys, old.values(), new.values()),
     }
-    Ok(())
 }
 
-fn put_key(page: &mut Page, key: &Value) -> Result<(), AllocError> {
+/// Adds what changes where the arguments are the numbers from one on.
+fn put_changes_from(page: &mut Page, name: &str, first: i64, before: &[Value], after: &[Value]) {
+    let mut number = first;
+    for (old, new) in before.iter().zip(after.iter()) {
+        if old != new {
+            put_change_at_number(page, name, number, old, new);
+        }
+        number = number.saturating_add(1);
+    }
+}
+
+fn put_change_at_number(page: &mut Page, name: &str, number: i64, old: &Value, new: &Value) {
+    page.put(&["    ", name, "["]);
+    page.put_integer(number);
+    page.put_text("]");
+    put_from_to(page, old, new);
+}
+
+/// Adds what changes where the arguments are these.
+fn put_changes_at(page: &mut Page, name: &str, keys: &[Value], before: &[Value], after: &[Value]) {
+    let values = before.iter().zip(after.iter());
+    for (key, (old, new)) in keys.iter().zip(values) {
+        if old != new {
+            put_change_at(page, name, key, old, new);
+        }
+    }
+}
+
+fn put_change_at(page: &mut Page, name: &str, key: &Value, old: &Value, new: &Value) {
+    page.put(&["    ", name]);
+    put_key(page, key);
+    put_from_to(page, old, new);
+}
+
+fn put_key(page: &mut Page, key: &Value) {
     match key {
         Value::Text(field) if is_word(field.as_str().as_bytes()) => {
-            page.put(&[".", field.as_str()])
+            page.put(&[".", field.as_str()]);
         }
         _ => {
-            page.put(&["["])?;
-            put_value(page, key)?;
-            page.put(&["]"])
+            page.put_text("[");
+            page.put_value(key);
+            page.put_text("]");
         }
     }
 }
 
 fn is_word(bytes: &[u8]) -> bool {
-    !bytes.is_empty()
-        && bytes
-            .iter()
-            .all(|b| b.is_ascii_alphanumeric() || *b == b'_')
+    !bytes.is_empty() && word_of(bytes).len() == bytes.len()
 }
 
-fn put_from_to(page: &mut Page, old: &Value, new: &Value) -> Result<(), AllocError> {
-    page.put(&[": "])?;
-    put_value(page, old)?;
-    page.put(&[" -> "])?;
-    put_value(page, new)?;
-    page.put(&["\n"])
+fn put_from_to(page: &mut Page, old: &Value, new: &Value) {
+    page.put_text(": ");
+    page.put_value(old);
+    page.put_text(" -> ");
+    page.put_value(new);
+    page.put_text("\n");
 }

@@ -4,6 +4,7 @@ ghost use Rattle.std.specs.Prelude.{◌≡◌, ℕ, ◌+◌, ◌-◌, ◌≤◌,
 ghost use Rattle.tla_tree.specs.View.{view, group_view, field_view, key_view, update_view};
 ghost use Rattle.tla_tree.specs.Tree as tree;
 ghost use Rattle.tla_tree.specs.Tree.{trees, binders};
+ghost use Rattle.tla_tree.specs.declared.tree.TheConstants.{MAX_DEPTH};
 ghost use Rattle.tla_grammar.specs.Edges as edges;
 ghost use Rattle.tla_expressions.specs.Reading.{expr};
 ghost use Rattle.tla_expressions.specs.ReadingBrackets as reading;
@@ -71,7 +72,7 @@ impl<F: Fn(Global, &[u8], &[Token], usize, Context, u8, usize) -> Result<Parsed,
         from: usize,
     ) -> Result<Parsed, Refusal>
         requires nests { Nests self.now.depth (F.pre self.now.expr) (F.post self.now.expr) }
-        requires small { self.now.depth < 900 }
+        requires small { self.now.depth ≤ MAX_DEPTH }
         ensures { Gives text.now tokens.now (self.now.depth + 1) result (reading.subscript text.now tokens.now (expr text.now tokens.now self.now.depth) context from) }
     {
         let Some(t) = seen(tokens, context.column, from) else {
@@ -106,7 +107,7 @@ impl<F: Fn(Global, &[u8], &[Token], usize, Context, u8, usize) -> Result<Parsed,
         requires within { first.end < length tokens.now }
         requires depth { first.depth ≡ edges.depth (view first.tree.value) }
         requires shallow { first.depth ≤ self.now.depth }
-        requires small { self.now.depth < 900 }
+        requires small { self.now.depth ≤ MAX_DEPTH }
         ensures { Gives text.now tokens.now (self.now.depth + 1) result (reading.action text.now tokens.now (expr text.now tokens.now self.now.depth) (self.now.depth + 1) context at step (view first.tree.value) first.end) }
     {
         let subscript = self.subscript(text, tokens, context, first.end + 1)?;
@@ -135,7 +136,7 @@ impl<F: Fn(Global, &[u8], &[Token], usize, Context, u8, usize) -> Result<Parsed,
     ) -> Result<Parsed, Refusal>
         requires nests { Nests self.now.depth (F.pre self.now.expr) (F.post self.now.expr) }
         requires within { from < length tokens.now }
-        requires small { self.now.depth < 900 }
+        requires small { self.now.depth ≤ MAX_DEPTH }
         ensures { Gives text.now tokens.now (self.now.depth + 1) result (reading.fair text.now tokens.now (expr text.now tokens.now self.now.depth) (self.now.depth + 1) context at fairness from) }
     {
         let subscript = self.subscript(text, tokens, context, from + 1)?;
@@ -170,7 +171,7 @@ impl<F: Fn(Global, &[u8], &[Token], usize, Context, u8, usize) -> Result<Parsed,
     ) -> Result<Parsed, Refusal>
         requires nests { Nests self.now.depth (F.pre self.now.expr) (F.post self.now.expr) }
         requires within { from < length tokens.now }
-        requires small { self.now.depth < 900 }
+        requires small { self.now.depth ≤ MAX_DEPTH }
         ensures { Gives text.now tokens.now (self.now.depth + 1) result (reading.filter text.now tokens.now (expr text.now tokens.now self.now.depth) context at from) }
     {
         let set = self.one_group(text, tokens, context, None, from + 1)?;
@@ -203,7 +204,7 @@ impl<F: Fn(Global, &[u8], &[Token], usize, Context, u8, usize) -> Result<Parsed,
         requires within { first.end < length tokens.now }
         requires depth { first.depth ≡ edges.depth (view first.tree.value) }
         requires shallow { first.depth ≤ self.now.depth }
-        requires small { self.now.depth < 900 }
+        requires small { self.now.depth ≤ MAX_DEPTH }
         ensures { Gives text.now tokens.now (self.now.depth + 1) result (reading.image text.now tokens.now (expr text.now tokens.now self.now.depth) context at (view first.tree.value) first.end) }
     {
         let found = self.groups(text, tokens, context, None, first.end + 1)?;
@@ -233,7 +234,7 @@ impl<F: Fn(Global, &[u8], &[Token], usize, Context, u8, usize) -> Result<Parsed,
         requires within { from < length tokens.now }
         requires depth { first.depth ≡ edges.depth (view first.tree.value) }
         requires shallow { first.depth ≤ self.now.depth }
-        requires small { self.now.depth < 900 }
+        requires small { self.now.depth ≤ MAX_DEPTH }
         ensures { Gives text.now tokens.now (self.now.depth + 1) result (reading.set_of text.now tokens.now (expr text.now tokens.now self.now.depth) context at from (view first.tree.value) first.end) }
     {
         if is_kind(Kind::Colon, seen(tokens, context.column, first.end)) {
@@ -267,7 +268,7 @@ impl<F: Fn(Global, &[u8], &[Token], usize, Context, u8, usize) -> Result<Parsed,
     ) -> Result<Parsed, Refusal>
         requires nests { Nests self.now.depth (F.pre self.now.expr) (F.post self.now.expr) }
         requires within { from < length tokens.now }
-        requires small { self.now.depth < 900 }
+        requires small { self.now.depth ≤ MAX_DEPTH }
         ensures { Gives text.now tokens.now (self.now.depth + 1) result (reading.brace text.now tokens.now (expr text.now tokens.now self.now.depth) context at from) }
     {
         if is_kind(Kind::RightBrace, seen(tokens, context.column, from + 1)) {
@@ -297,7 +298,7 @@ impl<F: Fn(Global, &[u8], &[Token], usize, Context, u8, usize) -> Result<Parsed,
     ) -> Result<Parsed, Refusal>
         requires nests { Nests self.now.depth (F.pre self.now.expr) (F.post self.now.expr) }
         requires within { from < length tokens.now }
-        requires small { self.now.depth < 900 }
+        requires small { self.now.depth ≤ MAX_DEPTH }
         ensures { Gives text.now tokens.now (self.now.depth + 1) result (reading.tuple text.now tokens.now (expr text.now tokens.now self.now.depth) (self.now.depth + 1) context at from) }
     {
         if is_kind(Kind::RightTuple, seen(tokens, context.column, from + 1)) {
@@ -338,7 +339,7 @@ impl<F: Fn(Global, &[u8], &[Token], usize, Context, u8, usize) -> Result<Parsed,
     ) -> Result<Parsed, Refusal>
         requires nests { Nests self.now.depth (F.pre self.now.expr) (F.post self.now.expr) }
         requires within { from < length tokens.now }
-        requires small { self.now.depth < 900 }
+        requires small { self.now.depth ≤ MAX_DEPTH }
         ensures { Gives text.now tokens.now (self.now.depth + 1) result (reading.mapping text.now tokens.now (expr text.now tokens.now self.now.depth) context at from) }
     {
         let found = self.groups(text, tokens, context, None, from + 1)?;
@@ -371,7 +372,7 @@ impl<F: Fn(Global, &[u8], &[Token], usize, Context, u8, usize) -> Result<Parsed,
         requires within { first.end < length tokens.now }
         requires depth { first.depth ≡ edges.depth (view first.tree.value) }
         requires shallow { first.depth ≤ self.now.depth }
-        requires small { self.now.depth < 900 }
+        requires small { self.now.depth ≤ MAX_DEPTH }
         ensures { Gives text.now tokens.now (self.now.depth + 1) result (reading.function_set text.now tokens.now (expr text.now tokens.now self.now.depth) context at (view first.tree.value) first.end) }
     {
         let range = self.inner(text, tokens, context, 0, first.end + 1)?;
@@ -400,7 +401,7 @@ impl<F: Fn(Global, &[u8], &[Token], usize, Context, u8, usize) -> Result<Parsed,
         requires nests { Nests self.now.depth (F.pre self.now.expr) (F.post self.now.expr) }
         requires depth { first.depth ≡ edges.depth (view first.tree.value) }
         requires shallow { first.depth ≤ self.now.depth }
-        requires small { self.now.depth < 900 }
+        requires small { self.now.depth ≤ MAX_DEPTH }
         ensures { Gives text.now tokens.now (self.now.depth + 1) result (reading.behind_first text.now tokens.now (expr text.now tokens.now self.now.depth) (self.now.depth + 1) context at (view first.tree.value) first.end) }
     {
         if is_kind(Kind::Arrow, seen(tokens, context.column, first.end)) {
@@ -432,7 +433,7 @@ impl<F: Fn(Global, &[u8], &[Token], usize, Context, u8, usize) -> Result<Parsed,
     ) -> Result<Parsed, Refusal>
         requires nests { Nests self.now.depth (F.pre self.now.expr) (F.post self.now.expr) }
         requires within { from < length tokens.now }
-        requires small { self.now.depth < 900 }
+        requires small { self.now.depth ≤ MAX_DEPTH }
         ensures { Gives text.now tokens.now (self.now.depth + 1) result (reading.bracket text.now tokens.now (expr text.now tokens.now self.now.depth) (self.now.depth + 1) context at from) }
     {
         match opened_by(tokens, context.column, from + 1) {

@@ -1,6 +1,7 @@
 //! Forms that begin with a word or a quantifier, and definitions.
 
 ghost use Rattle.std.specs.Prelude.{◌+◌, ◌-◌, ◌≤◌, ◌<◌, length, []};
+ghost use Rattle.tla_tree.specs.declared.tree.TheConstants.{MAX_DEPTH};
 ghost use Rattle.tla_expressions.specs.Reading as reading;
 ghost use Rattle.tla_expressions.specs.Gives.{Gives, GivesArm, GivesArms, GivesDefinition, GivesDefinitions};
 ghost use Rattle.tla_expressions.specs.Private.Nests.{Nests};
@@ -34,7 +35,7 @@ impl<F: Fn(Global, &[u8], &[Token], usize, Context, u8, usize) -> Result<Parsed,
     ) -> Result<Parsed, Refusal>
         requires nests { Nests self.now.depth (F.pre self.now.expr) (F.post self.now.expr) }
         requires within { from < length tokens.now }
-        requires small { self.now.depth < 900 }
+        requires small { self.now.depth ≤ MAX_DEPTH }
         ensures { Gives text.now tokens.now (self.now.depth + 1) result (reading.quantified text.now tokens.now (reading.expr text.now tokens.now self.now.depth) context at quantifier from) }
     {
         let found = self.groups(text, tokens, context, Some(from), from + 1)?;
@@ -62,7 +63,7 @@ impl<F: Fn(Global, &[u8], &[Token], usize, Context, u8, usize) -> Result<Parsed,
     ) -> Result<Parsed, Refusal>
         requires nests { Nests self.now.depth (F.pre self.now.expr) (F.post self.now.expr) }
         requires within { from < length tokens.now }
-        requires small { self.now.depth < 900 }
+        requires small { self.now.depth ≤ MAX_DEPTH }
         ensures { Gives text.now tokens.now (self.now.depth + 1) result (reading.chosen text.now tokens.now (reading.expr text.now tokens.now self.now.depth) context at from) }
     {
         let set = self.one_group(text, tokens, context, Some(from), from + 1)?;
@@ -90,7 +91,7 @@ impl<F: Fn(Global, &[u8], &[Token], usize, Context, u8, usize) -> Result<Parsed,
     ) -> Result<Parsed, Refusal>
         requires nests { Nests self.now.depth (F.pre self.now.expr) (F.post self.now.expr) }
         requires within { from < length tokens.now }
-        requires small { self.now.depth < 900 }
+        requires small { self.now.depth ≤ MAX_DEPTH }
         ensures { Gives text.now tokens.now (self.now.depth + 1) result (reading.choice text.now tokens.now (reading.expr text.now tokens.now self.now.depth) context at from) }
     {
         let condition = self.inner(text, tokens, context, 0, from + 1)?;
@@ -170,7 +171,7 @@ impl<F: Fn(Global, &[u8], &[Token], usize, Context, u8, usize) -> Result<Parsed,
     ) -> Result<Parsed, Refusal>
         requires nests { Nests self.now.depth (F.pre self.now.expr) (F.post self.now.expr) }
         requires within { from < length tokens.now }
-        requires small { self.now.depth < 900 }
+        requires small { self.now.depth ≤ MAX_DEPTH }
         ensures { Gives text.now tokens.now (self.now.depth + 1) result (reading.cases text.now tokens.now (reading.expr text.now tokens.now self.now.depth) context at from) }
     {
         let found = self.arms_at(text, tokens, context, from + 1)?;
@@ -355,7 +356,7 @@ impl<F: Fn(Global, &[u8], &[Token], usize, Context, u8, usize) -> Result<Parsed,
     ) -> Result<Parsed, Refusal>
         requires nests { Nests self.now.depth (F.pre self.now.expr) (F.post self.now.expr) }
         requires within { from < length tokens.now }
-        requires small { self.now.depth < 900 }
+        requires small { self.now.depth ≤ MAX_DEPTH }
         ensures { Gives text.now tokens.now (self.now.depth + 1) result (reading.lets text.now tokens.now (reading.expr text.now tokens.now self.now.depth) context at from) }
     {
         let found = self.definitions_at(text, tokens, context, from + 1)?;

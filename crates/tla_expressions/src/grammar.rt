@@ -58,7 +58,7 @@ impl<F: Fn(Global, &[u8], &[Token], usize, Context, u8, usize) -> Result<Parsed,
         requires within { first.end < length tokens.now }
         requires depth { first.depth ≡ edges.depth (view first.tree.value) }
         requires shallow { first.depth ≤ self.now.depth + 1 }
-        requires small { self.now.depth < 900 }
+        requires small { self.now.depth ≤ MAX_DEPTH }
         ensures { Gives text.now tokens.now (self.now.depth + 1) result (reading.indexed text.now tokens.now (reading.expr text.now tokens.now self.now.depth) (self.now.depth + 1) context (view first.tree.value) first.end) }
     {
         let found = self.some(text, tokens, context, Kind::RightBracket, first.end + 1)?;
@@ -89,7 +89,7 @@ impl<F: Fn(Global, &[u8], &[Token], usize, Context, u8, usize) -> Result<Parsed,
         requires within { first.end < length tokens.now }
         requires depth { first.depth ≡ edges.depth (view first.tree.value) }
         requires shallow { first.depth ≤ self.now.depth + 1 }
-        requires small { self.now.depth < 900 }
+        requires small { self.now.depth ≤ MAX_DEPTH }
         ensures { Gives text.now tokens.now (self.now.depth + 1) result (reading.behind text.now tokens.now (reading.expr text.now tokens.now self.now.depth) (self.now.depth + 1) context (view first.tree.value) form first.end) }
     {
         match form {
@@ -140,7 +140,7 @@ impl<F: Fn(Global, &[u8], &[Token], usize, Context, u8, usize) -> Result<Parsed,
         requires nests { Nests self.now.depth (F.pre self.now.expr) (F.post self.now.expr) }
         requires depth { first.depth ≡ edges.depth (view first.tree.value) }
         requires shallow { first.depth ≤ self.now.depth + 1 }
-        requires small { self.now.depth < 900 }
+        requires small { self.now.depth ≤ MAX_DEPTH }
         ensures { Gives text.now tokens.now (self.now.depth + 1) result (reading.postfixes text.now tokens.now (reading.expr text.now tokens.now self.now.depth) (self.now.depth + 1) context (view first.tree.value) first.end) }
     {
         let mut left = first;
@@ -172,7 +172,7 @@ impl<F: Fn(Global, &[u8], &[Token], usize, Context, u8, usize) -> Result<Parsed,
     ) -> Result<Parsed, Refusal>
         requires nests { Nests self.now.depth (F.pre self.now.expr) (F.post self.now.expr) }
         requires within { from < length tokens.now }
-        requires small { self.now.depth < 900 }
+        requires small { self.now.depth ≤ MAX_DEPTH }
         ensures { Gives text.now tokens.now (self.now.depth + 1) result (reading.prefix text.now tokens.now (reading.expr text.now tokens.now self.now.depth) context op at from) }
     {
         let e = self.inner(text, tokens, context, prefix_high(op), from + 1)?;
@@ -194,7 +194,7 @@ impl<F: Fn(Global, &[u8], &[Token], usize, Context, u8, usize) -> Result<Parsed,
         requires within { left.end < length tokens.now }
         requires depth { left.depth ≡ edges.depth (view left.tree.value) }
         requires shallow { left.depth ≤ self.now.depth + 1 }
-        requires small { self.now.depth < 900 }
+        requires small { self.now.depth ≤ MAX_DEPTH }
         ensures { Gives text.now tokens.now (self.now.depth + 1) result (reading.turn text.now tokens.now (reading.expr text.now tokens.now self.now.depth) (self.now.depth + 1) context (view left.tree.value) op left.end) }
     {
         if is_product(op) {
@@ -235,7 +235,7 @@ impl<F: Fn(Global, &[u8], &[Token], usize, Context, u8, usize) -> Result<Parsed,
         requires nests { Nests self.now.depth (F.pre self.now.expr) (F.post self.now.expr) }
         requires depth { first.depth ≡ edges.depth (view first.tree.value) }
         requires shallow { first.depth ≤ self.now.depth + 1 }
-        requires small { self.now.depth < 900 }
+        requires small { self.now.depth ≤ MAX_DEPTH }
         ensures { Gives text.now tokens.now (self.now.depth + 1) result (reading.climb text.now tokens.now (reading.expr text.now tokens.now self.now.depth) self.now.depth (self.now.depth + 1) context floor (view first.tree.value) first.end) }
     {
         let mut left = first;
@@ -266,7 +266,7 @@ impl<F: Fn(Global, &[u8], &[Token], usize, Context, u8, usize) -> Result<Parsed,
         requires nests { Nests self.now.depth (F.pre self.now.expr) (F.post self.now.expr) }
         requires within { from < length tokens.now }
         requires flat { edges.depth (view tree) ≡ 1 }
-        requires small { self.now.depth < 900 }
+        requires small { self.now.depth ≤ MAX_DEPTH }
         ensures { Gives text.now tokens.now (self.now.depth + 1) result (reading.postfixes text.now tokens.now (reading.expr text.now tokens.now self.now.depth) (self.now.depth + 1) context (view tree) (from + 1)) }
     {
         let first = node(self.alloc, tree, from + 1, 1)?;
@@ -286,7 +286,7 @@ impl<F: Fn(Global, &[u8], &[Token], usize, Context, u8, usize) -> Result<Parsed,
         requires nests { Nests self.now.depth (F.pre self.now.expr) (F.post self.now.expr) }
         requires within { from < length tokens.now }
         requires token { spec.seen tokens.now context.column from ≡ Some t }
-        requires small { self.now.depth < 900 }
+        requires small { self.now.depth ≤ MAX_DEPTH }
         ensures { Gives text.now tokens.now (self.now.depth + 1) result (reading.by_class text.now tokens.now (reading.expr text.now tokens.now self.now.depth) (self.now.depth + 1) context t from) }
     {
         let at = t.place;
@@ -318,7 +318,7 @@ impl<F: Fn(Global, &[u8], &[Token], usize, Context, u8, usize) -> Result<Parsed,
         from: usize,
     ) -> Result<Parsed, Refusal>
         requires nests { Nests self.now.depth (F.pre self.now.expr) (F.post self.now.expr) }
-        requires small { self.now.depth < 900 }
+        requires small { self.now.depth ≤ MAX_DEPTH }
         ensures { Gives text.now tokens.now (self.now.depth + 1) result (reading.operand text.now tokens.now (reading.expr text.now tokens.now self.now.depth) (self.now.depth + 1) context from) }
     {
         let Some(t) = seen(tokens, context.column, from) else {
@@ -385,7 +385,7 @@ impl<F: Fn(Global, &[u8], &[Token], usize, Context, u8, usize) -> Result<Parsed,
         at: usize,
     ) -> Result<Parsed, Refusal>
         requires nests { Nests self.now.depth (F.pre self.now.expr) (F.post self.now.expr) }
-        requires small { self.now.depth < 900 }
+        requires small { self.now.depth ≤ MAX_DEPTH }
         ensures { Gives text.now tokens.now (self.now.depth + 1) result (reading.level text.now tokens.now (reading.expr text.now tokens.now self.now.depth) self.now.depth context floor at) }
     {
         let first = self.operand(text, tokens, context, at)?;

@@ -3,6 +3,7 @@
 ghost use Rattle.std.specs.Prelude.{◌≡◌, ◌+◌, ◌-◌, ◌≤◌, ◌<◌, length, map, []};
 ghost use Rattle.tla_tree.specs.View.{view, pattern_view};
 ghost use Rattle.tla_tree.specs.Tree.{trees};
+ghost use Rattle.tla_tree.specs.declared.tree.TheConstants.{MAX_DEPTH};
 ghost use Rattle.tla_grammar.specs.Edges as edges;
 ghost use Rattle.tla_expressions.specs.Reading as reading;
 ghost use Rattle.tla_expressions.specs.ReadingLists as lists;
@@ -114,7 +115,7 @@ impl<F: Fn(Global, &[u8], &[Token], usize, Context, u8, usize) -> Result<Parsed,
     ) -> Result<Parsed, Refusal>
         requires nests { Nests self.now.depth (F.pre self.now.expr) (F.post self.now.expr) }
         requires within { from < length tokens.now }
-        requires small { self.now.depth < 900 }
+        requires small { self.now.depth ≤ MAX_DEPTH }
         ensures { Gives text.now tokens.now (self.now.depth + 1) result (lists.listing text.now tokens.now (reading.expr text.now tokens.now self.now.depth) context at brackets from) }
     {
         let close = closing(brackets);
@@ -149,7 +150,7 @@ impl<F: Fn(Global, &[u8], &[Token], usize, Context, u8, usize) -> Result<Parsed,
     ) -> Result<Parsed, Refusal>
         requires nests { Nests self.now.depth (F.pre self.now.expr) (F.post self.now.expr) }
         requires within { from < length tokens.now }
-        requires small { self.now.depth < 900 }
+        requires small { self.now.depth ≤ MAX_DEPTH }
         ensures { Gives text.now tokens.now (self.now.depth + 1) result (reading.named text.now tokens.now (reading.expr text.now tokens.now self.now.depth) context t from) }
     {
         let name = Written::of_token(self.alloc, text, t)?;
@@ -174,7 +175,7 @@ impl<F: Fn(Global, &[u8], &[Token], usize, Context, u8, usize) -> Result<Parsed,
     ) -> Result<Parsed, Refusal>
         requires nests { Nests self.now.depth (F.pre self.now.expr) (F.post self.now.expr) }
         requires within { from < length tokens.now }
-        requires small { self.now.depth < 900 }
+        requires small { self.now.depth ≤ MAX_DEPTH }
         ensures { Gives text.now tokens.now (self.now.depth + 1) result (lists.paren text.now tokens.now (reading.expr text.now tokens.now self.now.depth) context at from) }
     {
         let e = self.inner(text, tokens, context, 0, from + 1)?;
@@ -292,7 +293,7 @@ impl<F: Fn(Global, &[u8], &[Token], usize, Context, u8, usize) -> Result<Parsed,
     ) -> Result<Parsed, Refusal>
         requires nests { Nests self.now.depth (F.pre self.now.expr) (F.post self.now.expr) }
         requires within { from < length tokens.now }
-        requires small { self.now.depth < 900 }
+        requires small { self.now.depth ≤ MAX_DEPTH }
         ensures { Gives text.now tokens.now (self.now.depth + 1) result (reading.junction text.now tokens.now (reading.expr text.now tokens.now self.now.depth) context at bullet from) }
     {
         let items_context = context.of_items(at.column);

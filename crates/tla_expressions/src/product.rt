@@ -2,6 +2,7 @@
 
 ghost use Rattle.std.specs.Prelude.{◌≡◌, ◌+◌, ◌≤◌, ◌<◌, length, []};
 ghost use Rattle.tla_tree.specs.View.{view};
+ghost use Rattle.tla_tree.specs.declared.tree.TheConstants.{MAX_DEPTH};
 ghost use Rattle.tla_grammar.specs.Edges as edges;
 ghost use Rattle.tla_expressions.specs.Reading as reading;
 ghost use Rattle.tla_expressions.specs.Gives.{Gives, GivesItems};
@@ -84,7 +85,7 @@ impl<F: Fn(Global, &[u8], &[Token], usize, Context, u8, usize) -> Result<Parsed,
         requires within { first.end < length tokens.now }
         requires depth { first.depth ≡ edges.depth (view first.tree.value) }
         requires shallow { first.depth ≤ self.now.depth + 1 }
-        requires small { self.now.depth < 900 }
+        requires small { self.now.depth ≤ MAX_DEPTH }
         ensures { Gives text.now tokens.now (self.now.depth + 1) result (reading.product text.now tokens.now (reading.expr text.now tokens.now self.now.depth) (self.now.depth + 1) context (view first.tree.value) first.end) }
     {
         if !edge_allows(first.tree.as_ref(), Infix::Product) {

@@ -4,6 +4,7 @@ ghost use Rattle.std.specs.Prelude.{◌≡◌, ℕ, ◌+◌, ◌-◌, ◌≤◌,
 ghost use Rattle.tla_tree.specs.View.{view, group_view, field_view, key_view, update_view};
 ghost use Rattle.tla_tree.specs.Tree as tree;
 ghost use Rattle.tla_tree.specs.Tree.{trees, binders};
+ghost use Rattle.tla_tree.specs.declared.tree.TheConstants.{MAX_DEPTH};
 ghost use Rattle.tla_grammar.specs.Edges as edges;
 ghost use Rattle.tla_expressions.specs.Reading.{expr};
 ghost use Rattle.tla_expressions.specs.ReadingBrackets as reading;
@@ -99,7 +100,7 @@ impl<F: Fn(Global, &[u8], &[Token], usize, Context, u8, usize) -> Result<Parsed,
     ) -> Result<Parsed, Refusal>
         requires nests { Nests self.now.depth (F.pre self.now.expr) (F.post self.now.expr) }
         requires within { from < length tokens.now }
-        requires small { self.now.depth < 900 }
+        requires small { self.now.depth ≤ MAX_DEPTH }
         ensures { Gives text.now tokens.now (self.now.depth + 1) result (reading.record_of text.now tokens.now (expr text.now tokens.now self.now.depth) context at from) }
     {
         let found = self.entries(text, tokens, context, Kind::MapsTo, from + 1)?;
@@ -123,7 +124,7 @@ impl<F: Fn(Global, &[u8], &[Token], usize, Context, u8, usize) -> Result<Parsed,
     ) -> Result<Parsed, Refusal>
         requires nests { Nests self.now.depth (F.pre self.now.expr) (F.post self.now.expr) }
         requires within { from < length tokens.now }
-        requires small { self.now.depth < 900 }
+        requires small { self.now.depth ≤ MAX_DEPTH }
         ensures { Gives text.now tokens.now (self.now.depth + 1) result (reading.records_of text.now tokens.now (expr text.now tokens.now self.now.depth) context at from) }
     {
         let found = self.entries(text, tokens, context, Kind::Colon, from + 1)?;
@@ -278,7 +279,7 @@ impl<F: Fn(Global, &[u8], &[Token], usize, Context, u8, usize) -> Result<Parsed,
         requires within { first.end < length tokens.now }
         requires depth { first.depth ≡ edges.depth (view first.tree.value) }
         requires shallow { first.depth ≤ self.now.depth }
-        requires small { self.now.depth < 900 }
+        requires small { self.now.depth ≤ MAX_DEPTH }
         ensures { Gives text.now tokens.now (self.now.depth + 1) result (reading.except text.now tokens.now (expr text.now tokens.now self.now.depth) context at (view first.tree.value) first.end) }
     {
         let found = self.changes(text, tokens, context, first.end + 1)?;

@@ -22,7 +22,6 @@ use tla_config::{DefsCode, DefsError, Source};
 use tla_core::Core;
 use tla_expand::{Failure, Primes, Scopes};
 use tla_lex::Place;
-use tla_names::{no_memory, refusal_at};
 use tla_tree::{Expr, Written};
 
 /// A place of an expression, as a refusal tells it.
@@ -39,11 +38,11 @@ pub fn refusal(failure: Failure, begins: Place) -> DefsError
     ensures memory { failure ≡ Failure.Memory → result.code ≡ Memory }
 {
     match failure {
-        Failure::Memory => no_memory(),
+        Failure::Memory => DefsError::no_memory(Source::Module),
         Failure::NoExpansion(place) => {
-            refusal_at(DefsCode::Level, Source::Module, place_of(place))
+            DefsError::at(DefsCode::Level, Source::Module, place_of(place))
         }
-        Failure::TooLarge => refusal_at(DefsCode::ExpansionTooLarge, Source::Module, begins),
+        Failure::TooLarge => DefsError::at(DefsCode::ExpansionTooLarge, Source::Module, begins),
     }
 }
 

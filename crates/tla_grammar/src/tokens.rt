@@ -259,10 +259,7 @@ pub fn text_of(alloc: Global, text: &[u8], token: Token) -> Result<Word, Refusal
     if literal.is_empty() {
         return Ok(Word::new(Vec::new(alloc)));
     }
-    match string_text(alloc, literal) {
-        Ok(bytes) => Ok(Word::new(bytes)),
-        Err(_) => Err(Refusal::NoMemory),
-    }
+    Ok(Word::new(string_text(alloc, literal)?))
 }
 
 /// Whether a token of this kind begins a form that is left out, wherever it stands.

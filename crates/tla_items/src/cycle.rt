@@ -15,7 +15,7 @@ use crate::references::References;
 use crate::waiting::Waiting;
 use std::alloc::Global;
 use tla_config::{DefsCode, DefsError, Source};
-use tla_names::{Mention, Names, no_memory, refusal_of};
+use tla_names::{Mention, Names, refusal_of};
 use tla_tree::{Unit, Word};
 
 /// The names that a name leads to at once, more. The only error is want of memory.
@@ -77,7 +77,7 @@ fn reached<'a>(
         };
         go_on(references, &mut walk, name)?;
     }
-    Err(no_memory())
+    Err(DefsError::no_memory(Source::Module))
 }
 
 /// Whether a name leads to itself. The only error is want of memory.

@@ -22,7 +22,7 @@ use indexmap::IndexMap;
 use std::alloc::Global;
 use std::marker::Model;
 use tla_config::{DefsCode, DefsError, Item, Source, Statement};
-use tla_names::{Mention, Names, Scope, no_memory, refusal_of, unvalued};
+use tla_names::{Mention, Names, Scope, refusal_of, unvalued};
 use tla_tree::{Definition, Unit, Word, Written};
 
 /// Items in the order of the configuration, and a table of the first one of each name. Contracts see the list of what they
@@ -55,19 +55,16 @@ impl<'a> Items<'a> {
         ensures ok { OnOk result (self.new ≡ self.old ++ item_view item.entry.now ∷ []) }
         ensures err { IfErr result (λ e. e.code ≡ Memory) }
     {
-        match self.list.push(item) {
-            Ok(()) => {}
-            Err(_) => return Err(no_memory()),
-        }
+        self.list.push(item)?;
         let name = replaced_name(item).word.as_bytes();
         if self.firsts.contains_key(&name) {
             return Ok(());
         }
         match self.firsts.insert(name, item) {
             Ok(_) => Ok(()),
-            Err(_) => {
+            Err(error) => {
                 self.list.pop();
-                Err(no_memory())
+                Err(error.into())
             }
         }
     }

@@ -8,7 +8,6 @@ use indexmap::IndexSet;
 use std::alloc::Global;
 use std::marker::Model;
 use tla_config::DefsError;
-use tla_names::no_memory;
 
 /// Names, each once.
 #[derive(Drop)]
@@ -42,10 +41,7 @@ impl<'a> NameSet<'a> {
         ensures seen { IfOk result (λ b. b ≡ false → is_among name.entry.now self.old ≡ true) }
         ensures err { IfErr result (λ e. e.code ≡ Memory) }
     {
-        match self.words.insert(name) {
-            Ok(fresh) => Ok(fresh),
-            Err(_) => Err(no_memory()),
-        }
+        Ok(self.words.insert(name)?)
     }
 
     pub(crate) fn contains(&self, name: &'a [u8]) -> bool

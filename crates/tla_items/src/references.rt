@@ -13,7 +13,7 @@ use indexmap::IndexMap;
 use std::alloc::Global;
 use std::marker::Model;
 use tla_config::{DefsError, Item};
-use tla_names::{Names, Scope, no_memory};
+use tla_names::{Names, Scope};
 use tla_tree::{Definition, Expr, Unit, Word};
 
 /// To which names each name leads at once.
@@ -49,10 +49,8 @@ impl<'a> References<'a> {
         if self.next.contains_key(&name) {
             return Ok(());
         }
-        match self.next.insert(name, next) {
-            Ok(_) => Ok(()),
-            Err(_) => Err(no_memory()),
-        }
+        self.next.insert(name, next)?;
+        Ok(())
     }
 
     /// The names that a name leads to at once, where something is known of it.

@@ -6,7 +6,7 @@ ghost use Rattle.tla_config.specs.declared.error.DefsCode.TheVariants.{Memory};
 use std::alloc::Global;
 use std::marker::Model;
 use tla_config::DefsError;
-use tla_names::{Names, no_memory};
+use tla_names::Names;
 use tla_tree::Word;
 
 /// Names of which the last one is taken first.
@@ -39,10 +39,8 @@ impl<'a> Waiting<'a> {
         ensures ok { OnOk result (self.new ≡ self.old ++ word.entry.now ∷ []) }
         ensures err { IfErr result (λ e. e.code ≡ Memory) }
     {
-        match self.words.push(word) {
-            Ok(()) => Ok(()),
-            Err(_) => Err(no_memory()),
-        }
+        self.words.push(word)?;
+        Ok(())
     }
 
     /// Names more. The only error is want of memory.

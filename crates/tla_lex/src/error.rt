@@ -3,6 +3,7 @@
 ghost use Rattle.std.specs.Prelude.{◌≡◌, Some};
 
 use crate::token::Place;
+use std::alloc::AllocFailed;
 
 /// What is wrong with a text.
 #[derive(Clone, Copy, Debug, PartialEq, Eq)]
@@ -47,5 +48,15 @@ impl LexError {
             code,
             place: Some(place),
         }
+    }
+}
+
+impl<T: Drop> From<AllocFailed<T>> for LexError {
+    ghost use Rattle.tla_lex.specs.Tokens.{no_memory};
+
+    ghost from_gives = { λ _ e. e ≡ no_memory };
+
+    fn from(_error: AllocFailed<T>) -> LexError {
+        LexError::NO_MEMORY
     }
 }

@@ -18,7 +18,7 @@ use crate::error::{LexCode, LexError};
 use crate::header::header_end;
 use crate::lexeme::Source;
 use crate::place::place_of;
-use crate::scan::{Scan, Stop, push, scan_from};
+use crate::scan::{Scan, Stop, scan_from};
 use crate::token::{Kind, Place, Token};
 use std::alloc::Global;
 
@@ -87,7 +87,7 @@ pub fn tokens(alloc: Global, text: &[u8]) -> Result<Vec<Token>, LexError>
         (Stop::Fault(error), _) => Err(error),
         (Stop::End(place), None) => Err(LexError::at(LexCode::NoClosingLine, place)),
         (Stop::End(place), Some(to)) => {
-            push(&mut tokens, closing_line(text, to, place))?;
+            tokens.push(closing_line(text, to, place))?;
             Ok(tokens)
         }
     }

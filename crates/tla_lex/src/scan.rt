@@ -1,6 +1,6 @@
 //! The tokens of a stretch of text.
 
-ghost use Rattle.std.specs.Prelude.{◌≡◌, ◌≤◌, ◌<◌, [], ◌∷◌, ◌++◌, length, Some, OnOk, IfOk, IfErr};
+ghost use Rattle.std.specs.Prelude.{◌≡◌, ◌≤◌, ◌<◌, length, Some, IfOk, IfErr};
 ghost use Rattle.tla_lex.specs.Places.{place_at};
 ghost use Rattle.tla_lex.specs.Reads as spec;
 ghost use Rattle.tla_lex.specs.Private.FrontSize.{IsWithin, IsEndPlace};
@@ -81,16 +81,6 @@ fn front_at(source: Source, text: &[u8], at: usize, place: Place) -> Front
     }
 }
 
-pub(crate) fn push(tokens: &mut Vec<Token>, token: Token) -> Result<(), LexError>
-    ensures ok { OnOk result (tokens.new.items ≡ tokens.old.items ++ token ∷ []) }
-    ensures err { IfErr result (λ e. e ≡ no_memory) }
-{
-    match tokens.push(token) {
-        Ok(()) => Ok(()),
-        Err(_) => Err(LexError::NO_MEMORY),
-    }
-}
-
 /// The tokens of a text from a byte on.
 pub(crate) fn scan_from(
     alloc: Global,
@@ -113,7 +103,7 @@ pub(crate) fn scan_from(
             Front::Begins(token) => {
                 place = place_after(text, token.place, token.start, token.end);
                 at = token.end;
-                push(&mut tokens, token)?;
+                tokens.push(token)?;
             }
         }
     }

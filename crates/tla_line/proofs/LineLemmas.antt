@@ -9,7 +9,8 @@ use Rattle.clap.specs.declared.parser.matches.ArgMatches.{ArgMatches}
 use Rattle.clap.specs.declared.error.Error.{Error}
 use Rattle.clap.specs.declared.error.kind.ErrorKind.{ErrorKind}
 use Rattle.clap.specs.declared.error.kind.ErrorKind.TheVariants.{OutOfMemory}
-use Rattle.tla_search.specs.Options.{IsCount, IsWithinLimits, Numbers}
+use Rattle.tla_search.specs.Options.{IsCount, IsWithinLimits, Numbers, MAX_PIECE, MAX_WORKERS}
+use Rattle.tla_search.specs.declared.options.TheConstants.{MAX_STATES}
 use Rattle.tla_line.specs.CommandLine.{NamesBadNumber, Writes, WritesNoCount, faults_of, text_of, tlacheck}
 use Rattle.tla_line.specs.declared.line.LineFault.{LineFault}
 use Rattle.tla_line.specs.LineFault.{IsFaultOf, fault_by_kind, fault_from}
@@ -38,13 +39,13 @@ no_count most n text writes out m also count = out (subst (IsCount most) (sym al
 
 -- where three numbers are not within the limits, one of their texts is bad
 pub bad_number : (workers cut limit : Text) (n : Numbers) → Writes workers n.workers → Writes cut n.cut → Writes limit n.limit
-    → (IsWithinLimits n → ⊥) → WritesNoCount 64 workers ⊎ (WritesNoCount 65536 cut ⊎ WritesNoCount 16777216 limit)
-bad_number workers cut limit n w c l out = elim (is_count_or_not 64 n.workers) [
-  | inr bad ↦ inl (no_count 64 n.workers workers w bad)
-  | inl w_ok ↦ elim (is_count_or_not 65536 n.cut) [
-    | inr bad ↦ inr (inl (no_count 65536 n.cut cut c bad))
-    | inl c_ok ↦ elim (is_count_or_not 16777216 n.limit) [
-      | inr bad ↦ inr (inr (no_count 16777216 n.limit limit l bad))
+    → (IsWithinLimits n → ⊥) → WritesNoCount MAX_WORKERS workers ⊎ (WritesNoCount MAX_PIECE cut ⊎ WritesNoCount MAX_STATES limit)
+bad_number workers cut limit n w c l out = elim (is_count_or_not MAX_WORKERS n.workers) [
+  | inr bad ↦ inl (no_count MAX_WORKERS n.workers workers w bad)
+  | inl w_ok ↦ elim (is_count_or_not MAX_PIECE n.cut) [
+    | inr bad ↦ inr (inl (no_count MAX_PIECE n.cut cut c bad))
+    | inl c_ok ↦ elim (is_count_or_not MAX_STATES n.limit) [
+      | inr bad ↦ inr (inr (no_count MAX_STATES n.limit limit l bad))
       | inl l_ok ↦ absurd (out (w_ok, c_ok, l_ok))
     ]
   ]
@@ -87,7 +88,7 @@ rows_known words c m app h = subst (λ (a : App). rows_of (found_of m) ≡ match
 -- one of three texts that the words name is bad
 pub bad_named : (words : List Text) (workers cut limit : Text) → text_of words (codes "workers") ≡ Some workers
     → text_of words (codes "cut") ≡ Some cut → text_of words (codes "max-states") ≡ Some limit
-    → WritesNoCount 64 workers ⊎ (WritesNoCount 65536 cut ⊎ WritesNoCount 16777216 limit) → NamesBadNumber words
+    → WritesNoCount MAX_WORKERS workers ⊎ (WritesNoCount MAX_PIECE cut ⊎ WritesNoCount MAX_STATES limit) → NamesBadNumber words
 bad_named words workers cut limit w c l bad = elim bad [
   | inl b ↦ inl (rw w b)
   | inr (inl b) ↦ inr (inl (rw c b))

@@ -9,8 +9,8 @@ use Rattle.clap.specs.Words.{new_rule, one_of, with_rule}
 use Rattle.clap.specs.Simple.{on_top}
 use Rattle.clap.specs.declared.builder.action.ArgAction.TheVariants.{Set, SetTrue}
 use Rattle.clap.specs.declared.error.kind.ErrorKind.TheVariants.{MissingRequiredArgument}
-use Rattle.tla_search.specs.Options.{IsCount, IsWithinLimits}
-use Rattle.tla_search.specs.declared.options.TheConstants.{MOST_WORKERS, MOST_IN_PIECE, MOST_STATES}
+use Rattle.tla_search.specs.Options.{IsCount, IsWithinLimits, MAX_PIECE, MAX_WORKERS}
+use Rattle.tla_search.specs.declared.options.TheConstants.{MAX_STATES}
 use Rattle.tla_line.specs.declared.line.Line.{Line}
 
 -- ---- the command
@@ -111,5 +111,5 @@ NamesNoCount words option most = IsSomeAnd (text_of words option) (WritesNoCount
 
 -- one of the three texts writes no number, or one outside its limits
 abbrev pub NamesBadNumber : List Text → Type 0
-NamesBadNumber words = NamesNoCount words (codes "workers") MOST_WORKERS
-    ⊎ (NamesNoCount words (codes "cut") MOST_IN_PIECE ⊎ NamesNoCount words (codes "max-states") MOST_STATES)
+NamesBadNumber words = NamesNoCount words (codes "workers") MAX_WORKERS
+    ⊎ (NamesNoCount words (codes "cut") MAX_PIECE ⊎ NamesNoCount words (codes "max-states") MAX_STATES)

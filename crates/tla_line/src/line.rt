@@ -3,8 +3,8 @@ ghost use Rattle.std.specs.Prelude.{◌≡◌, ◌↔◌, ◌⊎◌, [], IsTrue,
 ghost use Rattle.std.specs.Prelude.{IfSome, IfNone, OnOk, option_map};
 ghost use Rattle.clap.specs.Words.{app_of, found_of, matches_of, rows_of, rule_of};
 ghost use Rattle.clap.specs.Walk.{first_of, one_of, texts};
-ghost use Rattle.tla_search.specs.Options.{IsWithinLimits};
-ghost use Rattle.tla_search.specs.declared.options.TheConstants.{MOST_WORKERS, MOST_IN_PIECE, MOST_STATES};
+ghost use Rattle.tla_search.specs.Options.{IsWithinLimits, MAX_PIECE, MAX_WORKERS};
+ghost use Rattle.tla_search.specs.declared.options.TheConstants.{MAX_STATES};
 ghost use Rattle.tla_line.specs.CommandLine.{IsSet, NamesLine, Writes, WritesNoCount, faults_of};
 ghost use Rattle.tla_line.specs.CommandLine.{flag, number_option, required_word, tlacheck};
 ghost use Rattle.tla_line.specs.LineFault.{IsFaultOf, IsHelp, LacksWord, fault_from, text_of_fault};
@@ -176,8 +176,8 @@ fn read_options(workers: &str, cut: &str, limit: &str) -> Option<Options>
     ensures workers { IfSome result (λ o. Writes workers.now o.workers) }
     ensures cut { IfSome result (λ o. Writes cut.now o.cut) }
     ensures limit { IfSome result (λ o. Writes limit.now o.limit) }
-    ensures bad { IfNone result (WritesNoCount MOST_WORKERS workers.now
-        ⊎ (WritesNoCount MOST_IN_PIECE cut.now ⊎ WritesNoCount MOST_STATES limit.now)) }
+    ensures bad { IfNone result (WritesNoCount MAX_WORKERS workers.now
+        ⊎ (WritesNoCount MAX_PIECE cut.now ⊎ WritesNoCount MAX_STATES limit.now)) }
 {
     Options::new(number(workers)?, number(cut)?, number(limit)?)
 }

@@ -18,6 +18,6 @@ pub use constants::unvalued;
 pub use mention::Mention;
 pub use named::statements_named;
 pub use names::Names;
-pub use refusal::{no_memory, refusal_at, refusal_of, text_of};
+pub use refusal::{refusal_of, text_of};
 pub use scope::Scope;
 pub use units::variables;

@@ -6,7 +6,7 @@ ghost use Rattle.tla_config.specs.declared.error.DefsCode.TheVariants.{Memory};
 ghost use Rattle.tla_config.specs.Names.{is_among};
 ghost use Rattle.tla_names.specs.Private.Tabled.{IsTabled, IsTabled-prop};
 
-use crate::refusal::{no_memory, text_of};
+use crate::refusal::text_of;
 use indexmap::IndexSet;
 use std::alloc::Global;
 use std::marker::Model;
@@ -47,15 +47,12 @@ impl<'a> Names<'a> {
         ensures ok { OnOk result (self.new ≡ self.old ++ word.entry.now ∷ []) }
         ensures err { IfErr result (λ e. e.code ≡ Memory) }
     {
-        match self.words.push(word) {
-            Ok(()) => {}
-            Err(_) => return Err(no_memory()),
-        }
+        self.words.push(word)?;
         match self.table.insert(word.as_bytes()) {
             Ok(_) => Ok(()),
-            Err(_) => {
+            Err(error) => {
                 self.words.pop();
-                Err(no_memory())
+                Err(error.into())
             }
         }
     }
@@ -69,9 +66,7 @@ impl<'a> Names<'a> {
         let mut left = self.words.as_slice();
         while let [first, rest @ ..] = left {
             let text = text_of(alloc, first.as_bytes())?;
-            if texts.push(text).is_err() {
-                return Err(no_memory());
-            }
+            texts.push(text)?;
             left = rest;
         }
         Ok(texts)

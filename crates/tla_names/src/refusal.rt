@@ -1,27 +1,14 @@
 //! Refusals.
 
-ghost use Rattle.std.specs.Prelude.{◌≡◌, ◌≢◌, None, IfOk, IfErr};
+ghost use Rattle.std.specs.Prelude.{◌≡◌, ◌≢◌, IfOk, IfErr};
 ghost use Rattle.tla_config.specs.declared.error.DefsCode.TheVariants.{Memory};
 ghost use Rattle.tla_names.specs.Mentions.{written_of};
-ghost use Rattle.tla_names.specs.Refusal.{refusal_of, refusal_at};
+ghost use Rattle.tla_names.specs.Refusal.{refusal_of};
 
 use crate::mention::Mention;
 use std::alloc::Global;
 use tla_config::{DefsCode, DefsError, Source};
-use tla_lex::Place;
 use tla_value::Text;
-
-/// Want of memory.
-pub fn no_memory() -> DefsError
-    ensures { result ≡ record { code = DefsCode.Memory; source = Source.Module; place = None; name = None } }
-{
-    DefsError {
-        code: DefsCode::Memory,
-        source: Source::Module,
-        place: None,
-        name: None,
-    }
-}
 
 /// The text of a name. Names are ASCII, so that the only error is want of memory.
 pub fn text_of(alloc: Global, name: &[u8]) -> Result<Text, DefsError>
@@ -29,23 +16,11 @@ pub fn text_of(alloc: Global, name: &[u8]) -> Result<Text, DefsError>
     ensures err { IfErr result (λ e. e.code ≡ Memory) }
 {
     let Ok(name) = str::from_utf8(name) else {
-        return Err(no_memory());
+        return Err(DefsError::no_memory(Source::Module));
     };
     match Text::new(alloc, name) {
         Ok(name) => Ok(name),
-        Err(_) => Err(no_memory()),
-    }
-}
-
-/// A refusal at a place.
-pub fn refusal_at(code: DefsCode, source: Source, place: Place) -> DefsError
-    ensures { result ≡ refusal_at code source place }
-{
-    DefsError {
-        code,
-        source,
-        place: Some(place),
-        name: None,
+        Err(_) => Err(DefsError::no_memory(Source::Module)),
     }
 }
 

@@ -12,7 +12,6 @@ ghost use Rattle.tla_names.specs.Private.LatestProps.{IsTable-prop, KeepBefore-p
 ghost use Rattle.tla_names.specs.Scope.{arity, plain, bound_names, module_names, extended};
 
 use crate::names::Names;
-use crate::refusal::no_memory;
 use indexmap::IndexMap;
 use std::alloc::Global;
 use std::marker::Model;
@@ -67,15 +66,12 @@ impl<'a> Scope<'a> {
             arity,
             before,
         };
-        match self.names.push(signature) {
-            Ok(()) => {}
-            Err(_) => return Err(no_memory()),
-        }
+        self.names.push(signature)?;
         match self.latest.insert(name, Some(arity)) {
             Ok(_) => Ok(()),
-            Err(_) => {
+            Err(error) => {
                 self.names.pop();
-                Err(no_memory())
+                Err(error.into())
             }
         }
     }

@@ -9,6 +9,8 @@ use Rattle.tla_value.specs.Funs.{values_of, with_item, items_from, items_of}
 use Rattle.tla_value.specs.Choices.{numbered, sequence}
 use Rattle.tla_value.specs.declared.value.Value.{Value}
 use Rattle.tla_value.specs.declared.value.Value.TheVariants.{Fun}
+use Rattle.tla_value.proofs.Pairs.{deepest-values}
+use Rattle.tla_value.proofs.OnDomain.{length-numbered, deepest-numbered}
 use Rattle.tla_core.specs.declared.fault.Place.{Place}
 use Rattle.tla_core.specs.declared.fault.FaultCode.TheVariants.{WrongKind}
 use Rattle.tla_core.specs.Fault.{fault}
@@ -53,23 +55,11 @@ pub items_none : (v : Value) (ps : List (Tree × Tree)) → v ≡ Fun ps → opt
 items_none v ps e h = ap (λ u. items (tree_of u)) e ∙ ap items_of (entries-pairs ps) ∙ no_length (items_of ps) h
 
 -- ---- limits
-deepest-values : (ps : List (Tree × Tree)) → deepest (trees (values_of ps)) ≤ deepest_pair (pairs ps)
-deepest-values [] = omega arith
-deepest-values (p ∷ ps) = let h = deepest-values ps in omega arith
-
 pub few_values : (ps : List (Tree × Tree)) → IsValue (fun (pairs ps)) → length (values_of ps) ≤ 1000000
 few_values ps h = let list : IsFunList ps = rw entries-pairs at h.1 in omega (arith, list.few, length-map ps (λ (p : Tree × Tree). p.1))
 
 pub shallow_values : (ps : List (Tree × Tree)) → IsValue (fun (pairs ps)) → deepest (trees (values_of ps)) < 64
 shallow_values ps h = let list : IsFunList ps = rw entries-pairs at h.1 in omega (arith, list.shallow, deepest-values ps)
-
-pub length-numbered : (k : ℕ) (ts : List Tree) → length (numbered k ts) ≡ length ts
-length-numbered k [] = refl
-length-numbered k (t ∷ ts) = ap suc (length-numbered (k + 1) ts)
-
-deepest-numbered : (k : ℕ) (ts : List Tree) → deepest_pair (pairs (numbered k ts)) ≡ deepest (trees ts)
-deepest-numbered k [] = refl
-deepest-numbered k (t ∷ ts) = let h = deepest-numbered (k + 1) ts in omega arith
 
 pub make_sequence_ok : (p : Place) (ts : List Tree) → length ts ≤ 1000000 → deepest (trees ts) < 64 → make_sequence p ts ≡ Ok (sequence ts)
 make_sequence_ok p ts few shallow =

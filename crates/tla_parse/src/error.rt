@@ -1,5 +1,7 @@
 //! Refusals of a module's tokens.
 
+ghost use Rattle.std.specs.Prelude.{◌≡◌};
+
 use tla_lex::Place;
 use tla_tree::Word;
 
@@ -26,4 +28,24 @@ pub struct ParseError {
     pub code: ParseCode,
     pub place: Option<Place>,
     pub name: Option<Word>,
+}
+
+impl ParseError {
+    /// Want of memory.
+    pub(crate) const NO_MEMORY: ParseError = ParseError {
+        code: ParseCode::NoMemory,
+        place: None,
+        name: None,
+    };
+
+    /// A refusal at a place, with no name.
+    pub(crate) fn at(code: ParseCode, place: Place) -> ParseError
+        ensures { result ≡ record { code = code; place = Some place; name = None } }
+    {
+        ParseError {
+            code,
+            place: Some(place),
+            name: None,
+        }
+    }
 }

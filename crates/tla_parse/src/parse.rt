@@ -23,28 +23,8 @@ fn place_of(tokens: &[Token], at: usize) -> Place {
         Some(t) => t.place,
         None => match tokens.last() {
             Some(t) => t.place,
-            None => Place { line: 1, column: 1 },
+            None => Place::FIRST,
         },
-    }
-}
-
-fn error_at(code: ParseCode, place: Place) -> ParseError
-    ensures { result ≡ record { code = code; place = Some place; name = None } }
-{
-    ParseError {
-        code,
-        place: Some(place),
-        name: None,
-    }
-}
-
-fn no_memory() -> ParseError
-    ensures { result ≡ record { code = ParseCode.NoMemory; place = None; name = None } }
-{
-    ParseError {
-        code: ParseCode::NoMemory,
-        place: None,
-        name: None,
     }
 }
 
@@ -56,7 +36,7 @@ fn left_out(alloc: Global, text: &[u8], tokens: &[Token], at: usize) -> ParseErr
     ensures located { IsLocated result.code result.place result.name }
 {
     let Some(t) = tokens.get(at) else {
-        return error_at(ParseCode::Unexpected, place_of(tokens, at));
+        return ParseError::at(ParseCode::Unexpected, place_of(tokens, at));
     };
     match Written::of_token(alloc, text, *t) {
         Ok(first) => ParseError {
@@ -64,7 +44,7 @@ fn left_out(alloc: Global, text: &[u8], tokens: &[Token], at: usize) -> ParseErr
             place: Some(t.place),
             name: Some(first.word),
         },
-        Err(_) => no_memory(),
+        Err(_) => ParseError::NO_MEMORY,
     }
 }
 
@@ -75,13 +55,13 @@ fn error_of(alloc: Global, text: &[u8], tokens: &[Token], refusal: Refusal) -> P
     ensures located { IsLocated result.code result.place result.name }
 {
     match refusal {
-        Refusal::Unexpected(at) => error_at(ParseCode::Unexpected, place_of(tokens, at)),
-        Refusal::Precedence(at) => error_at(ParseCode::Precedence, place_of(tokens, at)),
-        Refusal::Column(at) => error_at(ParseCode::Column, place_of(tokens, at)),
-        Refusal::Nesting(at) => error_at(ParseCode::Nesting, place_of(tokens, at)),
+        Refusal::Unexpected(at) => ParseError::at(ParseCode::Unexpected, place_of(tokens, at)),
+        Refusal::Precedence(at) => ParseError::at(ParseCode::Precedence, place_of(tokens, at)),
+        Refusal::Column(at) => ParseError::at(ParseCode::Column, place_of(tokens, at)),
+        Refusal::Nesting(at) => ParseError::at(ParseCode::Nesting, place_of(tokens, at)),
         Refusal::LeftOut(at) => left_out(alloc, text, tokens, at),
         Refusal::UnknownModule(at) => left_out(alloc, text, tokens, at),
-        Refusal::NoMemory => no_memory(),
+        Refusal::NoMemory => ParseError::NO_MEMORY,
     }
 }
 

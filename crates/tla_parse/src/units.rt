@@ -14,7 +14,7 @@ ghost use Rattle.tla_parse.specs.Private.UnitsGive.{GivesDeclared, GivesConstant
 
 use std::alloc::Global;
 use tla_expressions::names::{ParsedNames, names};
-use tla_expressions::{ParsedDefinition, definition, expr};
+use tla_expressions::{definition, expr};
 use tla_grammar::{
     Between, Context, Refusal, following, is_kind, is_module, name_at, refused, refused_unit, seen,
 };
@@ -262,39 +262,31 @@ fn unit_at(alloc: Global, text: &[u8], tokens: &[Token], from: usize) -> Result<
             end: from + 1,
         }),
         Kind::Extends => {
-            let ParsedNames { names, end } = extended(alloc, text, tokens, from + 1)?;
+            let found = extended(alloc, text, tokens, from + 1)?;
             Ok(ParsedUnit {
-                unit: Unit::Extends(at, names),
-                end,
+                unit: Unit::Extends(at, found.names),
+                end: found.end,
             })
         }
         Kind::Variable => {
-            let ParsedNames { names, end } = names(alloc, text, tokens, 0, from + 1)?;
+            let found = names(alloc, text, tokens, 0, from + 1)?;
             Ok(ParsedUnit {
-                unit: Unit::Variables(at, names),
-                end,
+                unit: Unit::Variables(at, found.names),
+                end: found.end,
             })
         }
         Kind::Name => {
-            let ParsedDefinition {
-                definition,
-                end,
-                ..
-            } = definition(alloc, text, tokens, OUTERMOST, from)?;
+            let found = definition(alloc, text, tokens, OUTERMOST, from)?;
             Ok(ParsedUnit {
-                unit: unit_of(definition),
-                end,
+                unit: unit_of(found.definition),
+                end: found.end,
             })
         }
         Kind::Local => {
-            let ParsedDefinition {
-                definition,
-                end,
-                ..
-            } = definition(alloc, text, tokens, OUTERMOST, from + 1)?;
+            let found = definition(alloc, text, tokens, OUTERMOST, from + 1)?;
             Ok(ParsedUnit {
-                unit: Unit::Local(at, definition),
-                end,
+                unit: Unit::Local(at, found.definition),
+                end: found.end,
             })
         }
         Kind::Constant => {

@@ -1,5 +1,5 @@
 -- Ranges: what stands at a place, who is a member, and where their set can be made.
-use Rattle.std.proofs.Common.{◌≡◌, ℕ, zero, suc, ◌<◌, ◌≤◌, max, ℤ, pos, ◌+ℤ◌, ◌-ℤ◌, ◌<ℤ◌, ◌≤ℤ◌, unsigned_abs, Bool, true, false, ◌||◌, List, length, Some, None, Ok, ◌⊎◌, ⊎_elim, FitsSigned, refl, sym, ap, ◌∙◌, arith, Ordering, Less, Equal, Greater}
+use Rattle.std.proofs.Common.{◌≡◌, ℕ, zero, suc, ◌<◌, ◌≤◌, ℤ, pos, ◌+ℤ◌, ◌-ℤ◌, ◌<ℤ◌, ◌≤ℤ◌, unsigned_abs, Bool, true, false, ◌||◌, List, length, Some, None, Ok, ◌⊎◌, ⊎_elim, FitsSigned, refl, sym, ap, ◌∙◌, arith, Ordering, Equal, Greater}
 use Rattle.std.specs.Prelude.{slice_get}
 use Rattle.std.specs.Int.{w64}
 use Rattle.std.specs.Ordering.{int_cmp, is_eq}
@@ -10,7 +10,8 @@ use Rattle.tla_value.specs.Order.{tree_eq}
 use Rattle.tla_value.specs.Sets.{is_member}
 use Rattle.tla_value.specs.Choices.{counted_up, range_of}
 use Rattle.tla_value.specs.declared.value.Value.{Value}
-use Rattle.tla_value.proofs.Ranges.{length-counted_up, range_is, range_none}
+use Rattle.tla_value.proofs.Ranges.{length-counted_up, range_is, range_none, get-counted_up, member-below, member-above}
+use Rattle.tla_value.proofs.Tuples.{deepest-counted_up}
 use Rattle.tla_core.specs.declared.fault.Place.{Place}
 use Rattle.tla_core.specs.declared.fault.FaultCode.TheVariants.{TooMany}
 use Rattle.tla_core.specs.Fault.{fault}
@@ -21,24 +22,13 @@ up_or_down : (a b : ℤ) → (a ≤ℤ b) ⊎ (b <ℤ a)
 up_or_down a b = grind (arith, ints)
 
 -- ---- what stands at a place
-next_sum : (z : ℤ) (n : ℕ) → (z +ℤ pos 1) +ℤ pos n ≡ z +ℤ pos (suc n)
-next_sum z n = omega (arith, ints)
-
-no_step : (z : ℤ) → z ≡ z +ℤ pos 0
-no_step z = omega (arith, ints)
-
-counted_at : (n k : ℕ) (z : ℤ) → n < k → slice_get (counted_up k z) n ≡ Some (int (z +ℤ pos n))
-counted_at n zero z h = absurd (omega arith)
-counted_at zero (suc k) z h = ap (λ y. Some (int y)) (no_step z)
-counted_at (suc n) (suc k) z h = counted_at n k (z +ℤ pos 1) (omega arith) ∙ ap (λ y. Some (int y)) (next_sum z n)
-
 counted_past : (n k : ℕ) (z : ℤ) → k ≤ n → slice_get (counted_up k z) n ≡ None
 counted_past n zero z h = refl
 counted_past zero (suc k) z h = absurd (omega arith)
 counted_past (suc n) (suc k) z h = counted_past n k (z +ℤ pos 1) (omega arith)
 
 pub range_at : (a b : ℤ) (n : ℕ) → (a +ℤ pos n) ≤ℤ b → slice_get (range_of a b) n ≡ Some (int (a +ℤ pos n))
-range_at a b n h = ap (λ ts. slice_get ts n) (range_is a b (omega (arith, ints))) ∙ counted_at n (suc (unsigned_abs (b -ℤ a))) a (omega (arith, ints))
+range_at a b n h = ap (λ ts. slice_get ts n) (range_is a b (omega (arith, ints))) ∙ get-counted_up (suc (unsigned_abs (b -ℤ a))) a n (a +ℤ pos n) (omega (arith, ints)) refl
 
 past_last : (a b : ℤ) (n : ℕ) → a ≤ℤ b → b <ℤ (a +ℤ pos n) → slice_get (range_of a b) n ≡ None
 past_last a b n k h = ap (λ ts. slice_get ts n) (range_is a b k) ∙ counted_past n (suc (unsigned_abs (b -ℤ a))) a (omega (arith, ints))
@@ -54,9 +44,6 @@ pub range_beyond : (a b : ℤ) (n : ℕ) → FitsSigned w64 a → FitsSigned w64
 range_beyond a b n fa fb out = range_past a b n (beyond a b (a +ℤ pos n) fa fb (omega (arith, ints)) out)
 
 -- ---- members
-int_less : (x z : ℤ) → x <ℤ z → int_cmp x z ≡ Less
-int_less x z h = grind (arith, ints)
-
 int_same : (x : ℤ) → int_cmp x x ≡ Equal
 int_same x = grind (arith, ints)
 
@@ -65,14 +52,6 @@ int_more x z h = grind (arith, ints)
 
 step : (x z : ℤ) (n : ℕ) (o : Ordering) → int_cmp x z ≡ o → is_member (int x) (counted_up (suc n) z) ≡ (is_eq o || is_member (int x) (counted_up n (z +ℤ pos 1)))
 step x z n o e = ap (λ p. is_eq p || is_member (int x) (counted_up n (z +ℤ pos 1))) e
-
-counted_low : (x z : ℤ) (n : ℕ) → x <ℤ z → is_member (int x) (counted_up n z) ≡ false
-counted_low x z zero h = refl
-counted_low x z (suc n) h = step x z n Less (int_less x z h) ∙ counted_low x (z +ℤ pos 1) n (omega (arith, ints))
-
-counted_high : (x z : ℤ) (n : ℕ) → (z +ℤ pos n) ≤ℤ x → is_member (int x) (counted_up n z) ≡ false
-counted_high x z zero h = refl
-counted_high x z (suc n) h = step x z n Greater (int_more x z (omega (arith, ints))) ∙ counted_high x (z +ℤ pos 1) n (omega (arith, ints))
 
 same_or_more : (z x : ℤ) → z ≤ℤ x → (x ≡ z) ⊎ (z <ℤ x)
 same_or_more z x h = grind (arith, ints)
@@ -86,13 +65,13 @@ counted_in x z (suc n) h k =
     (same_or_more z x h)
 
 range_out : (x a b : ℤ) → a ≤ℤ b → b <ℤ x → is_member (int x) (range_of a b) ≡ false
-range_out x a b h l = ap (is_member (int x)) (range_is a b h) ∙ counted_high x a (suc (unsigned_abs (b -ℤ a))) (omega (arith, ints))
+range_out x a b h l = ap (is_member (int x)) (range_is a b h) ∙ member-above (suc (unsigned_abs (b -ℤ a))) a x (omega (arith, ints))
 
 pub number_high : (v : Value) (x a b : ℤ) → v ≡ Value.Int x → b <ℤ x → is_member (tree_of v) (range_of a b) ≡ false
 number_high v x a b e l = ap (λ u. is_member (tree_of u) (range_of a b)) e ∙ ⊎_elim (λ h. range_out x a b h l) (λ h. ap (is_member (int x)) (range_none a b h)) (up_or_down a b)
 
 pub number_low : (v : Value) (x a b : ℤ) → v ≡ Value.Int x → x <ℤ a → is_member (tree_of v) (range_of a b) ≡ false
-number_low v x a b e l = ap (λ u. is_member (tree_of u) (range_of a b)) e ∙ ⊎_elim (λ h. ap (is_member (int x)) (range_is a b h) ∙ counted_low x a (suc (unsigned_abs (b -ℤ a))) l) (λ h. ap (is_member (int x)) (range_none a b h)) (up_or_down a b)
+number_low v x a b e l = ap (λ u. is_member (tree_of u) (range_of a b)) e ∙ ⊎_elim (λ h. ap (is_member (int x)) (range_is a b h) ∙ member-below (suc (unsigned_abs (b -ℤ a))) a x l) (λ h. ap (is_member (int x)) (range_none a b h)) (up_or_down a b)
 
 pub number_in : (v : Value) (x a b : ℤ) → v ≡ Value.Int x → a ≤ℤ x → x ≤ℤ b → is_member (tree_of v) (range_of a b) ≡ true
 number_in v x a b e h k = ap (λ u. is_member (tree_of u) (range_of a b)) e ∙ ap (is_member (int x)) (range_is a b (omega (arith, ints))) ∙ counted_in x a (suc (unsigned_abs (b -ℤ a))) h (omega (arith, ints))
@@ -121,10 +100,6 @@ pub no_fun : (v : Value) (ps : List (Tree × Tree)) (a b : ℤ) → v ≡ Value.
 no_fun v ps a b e = ap (λ u. is_member (tree_of u) (range_of a b)) e ∙ range_other (fun (pairs ps)) (λ z. refl) a b
 
 -- ---- the set of a range
-flat : (n : ℕ) (z : ℤ) → deepest (trees (counted_up n z)) ≡ 0
-flat zero z = refl
-flat (suc n) z = ap (λ d. max 0 d) (flat n (z +ℤ pos 1))
-
 pub set_none : (p : Place) (a b : ℤ) → b <ℤ a → rising_set p (range_of a b) ≡ Ok (set (trees (range_of a b)))
 set_none p a b h = ap (rising_set p) (range_none a b h) ∙ ap (λ ts. Ok (set (trees ts))) (sym (range_none a b h))
 
@@ -134,7 +109,7 @@ set_many p a b h many =
     ∙ (let n = suc (unsigned_abs (b -ℤ a)) in within_many p (length (counted_up n a)) (deepest (trees (counted_up n a))) (set (trees (counted_up n a))) (omega (arith, length-counted_up n a)))
 
 set_counted : (p : Place) (n : ℕ) (z : ℤ) → n ≤ 1000000 → rising_set p (counted_up n z) ≡ Ok (set (trees (counted_up n z)))
-set_counted p n z few = within_ok p (length (counted_up n z)) (deepest (trees (counted_up n z))) (set (trees (counted_up n z))) (omega (arith, length-counted_up n z)) (omega (arith, flat n z))
+set_counted p n z few = within_ok p (length (counted_up n z)) (deepest (trees (counted_up n z))) (set (trees (counted_up n z))) (omega (arith, length-counted_up n z)) (omega (arith, deepest-counted_up n z))
 
 pub set_fits : (p : Place) (a b : ℤ) → a ≤ℤ b → unsigned_abs (b -ℤ a) < 1000000 → rising_set p (range_of a b) ≡ Ok (set (trees (range_of a b)))
 set_fits p a b h few = ap (rising_set p) (range_is a b h) ∙ set_counted p (suc (unsigned_abs (b -ℤ a))) a (omega arith) ∙ ap (λ ts. Ok (set (trees ts))) (sym (range_is a b h))

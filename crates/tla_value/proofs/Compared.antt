@@ -3,19 +3,28 @@ use Rattle.std.proofs.Common.{◌≡◌, ◌∙◌, ℕ, suc, ℤ, pos, ◌+ℤ�
 use Rattle.std.proofs.Math.Seq.{drop-cons}
 use Rattle.std.proofs.lemmas.Int.{ints}
 use Rattle.std.proofs.lemmas.List.{drop_all}
+use Rattle.std.proofs.lemmas.Slice.Zip.{get_or-zip}
 use Rattle.std.specs.Ordering.{int_cmp, ordering_then}
 use Rattle.std.specs.Cmp.{tied_itself}
 use Rattle.tla_value.specs.Tree.{Tree, trees, pairs}
 use Rattle.tla_value.specs.TreeOf.{tree_of, pair_of}
 use Rattle.tla_value.specs.Order.{tree_cmp, trees_cmp, pairs_cmp}
 use Rattle.tla_value.specs.OrderLaws.{tree_cmp-total}
-use Rattle.tla_value.proofs.Pairs.{get_or-zip, length-zip}
+use Rattle.tla_value.specs.Arguments.{argument_values, FitArguments}
+use Rattle.tla_value.proofs.Pairs.{length-zip, length-numbers}
 use Rattle.tla_value.specs.declared.value.Value.{Value}
+use Rattle.tla_value.specs.declared.value.Arguments.{Arguments}
+use Rattle.tla_value.specs.declared.value.Arguments.TheVariants.{Numbers, Listed}
+
+-- how many arguments are lent
+pub length-argument_values : (n : ℕ) (a : Arguments) → FitArguments n a → length (argument_values n a) ≡ n
+length-argument_values n (Numbers z) h = length-numbers n z
+length-argument_values n (Listed vs) h = h
 
 next_pair : (ks vs : List Value) (i : ℕ) (d : Value) → length ks ≡ length vs → i < length vs → drop i (zip ks vs) ≡ (get_or ks i d, get_or vs i d) ∷ drop (suc i) (zip ks vs)
 next_pair ks vs i d long l =
     drop-cons (zip ks vs) i (d, d) (omega (arith, length-zip ks vs long, l))
-    ∙ ap (λ p. p ∷ drop (suc i) (zip ks vs)) (get_or-zip ks vs i d d (omega (arith, long, l)) l)
+    ∙ ap (λ p. p ∷ drop (suc i) (zip ks vs)) (get_or-zip ks vs i (d, d) (omega (arith, long, l)) l)
 
 -- the pairs at a place, and then what is left
 pub compared_step : (ks vs ls ws : List Value) (i : ℕ) (d : Value) → length ks ≡ length vs → length ls ≡ length ws → i < length vs → i < length ws

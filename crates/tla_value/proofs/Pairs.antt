@@ -1,20 +1,21 @@
 -- Arguments beside values: parts, lengths, what is deepest, and another value at a place.
 use Rattle.std.proofs.Common.{◌≡◌, ℕ, zero, suc, ◌<◌, ◌≤◌, max, ℤ, pos, ◌+ℤ◌, List, [], ◌∷◌, length, map, zip, get_or, set as list_set, refl, sym, ap, ◌∙◌, subst, arith, Result, Ok, Err, OnOk, OnErr}
-use Rattle.std.proofs.lemmas.List.{length-map}
-use Rattle.std.proofs.lemmas.Int.{ints}
-use Rattle.tla_value.specs.Tree.{Tree, int, trees, pairs, deepest, deepest_pair}
+use Rattle.std.proofs.lemmas.List.{length-map, length-set, map-set}
+use Rattle.std.proofs.lemmas.Slice.Zip.{firsts-zip, seconds-zip, get_or-zip}
+use Rattle.tla_value.specs.Tree.{Tree, int, trees, pairs, depth, deepest, deepest_pair}
 use Rattle.tla_value.specs.TreeOf.{tree_of, pair_of}
 use Rattle.tla_value.specs.IsValue.{IsValue, ArePairs}
 use Rattle.tla_value.specs.Funs.{arguments, values_of}
 use Rattle.tla_value.specs.Choices.{counted_up}
 use Rattle.tla_value.specs.Arguments.{numbers_from}
-use Rattle.tla_value.specs.Private.Held.{domain_trees, entry_pairs, IsMatched, FitsDomain}
+use Rattle.tla_value.specs.Private.Held.{domain_trees, entry_pairs, FitsDomain}
 use Rattle.tla_value.specs.Private.Inner.{with_value_at}
 use Rattle.tla_value.specs.declared.value.Value.{Value}
 use Rattle.tla_value.specs.declared.value.Value.TheVariants.{Int}
 use Rattle.tla_value.specs.declared.value.Entries.{Entries}
 use Rattle.tla_value.specs.declared.value.Domain.{Domain}
 use Rattle.tla_value.specs.declared.value.Domain.TheVariants.{Numbers, Listed}
+use Rattle.tla_value.proofs.Ranges.{length-counted_up, next_sum, no_step}
 
 pub zip_none : (xs ys : List Tree) → ys ≡ [] → zip xs ys ≡ []
 zip_none [] ys e = refl
@@ -26,15 +27,10 @@ zip-parts [] = refl
 zip-parts (p ∷ ps) = ap (λ qs. p ∷ qs) (zip-parts ps)
 
 pub arguments-zip : (ks vs : List Tree) → length ks ≡ length vs → arguments (zip ks vs) ≡ ks
-arguments-zip [] vs e = refl
-arguments-zip (k ∷ ks) [] e = absurd (omega arith)
-arguments-zip (k ∷ ks) (v ∷ vs) e = ap (λ us. k ∷ us) (arguments-zip ks vs (omega arith))
+arguments-zip ks vs e = firsts-zip ks vs (sym e)
 
 pub values-zip : (ks vs : List Tree) → length ks ≡ length vs → values_of (zip ks vs) ≡ vs
-values-zip [] [] e = refl
-values-zip [] (v ∷ vs) e = absurd (omega arith)
-values-zip (k ∷ ks) [] e = absurd (omega arith)
-values-zip (k ∷ ks) (v ∷ vs) e = ap (λ us. v ∷ us) (values-zip ks vs (omega arith))
+values-zip ks vs e = seconds-zip ks vs (sym e)
 
 pub length-zip : {A B : Type 0} (ks : List A) (vs : List B) → length ks ≡ length vs → length (zip ks vs) ≡ length vs
 length-zip [] [] e = refl
@@ -51,43 +47,21 @@ pub length-numbers : (n : ℕ) (z : ℤ) → length (numbers_from n z) ≡ n
 length-numbers zero z = refl
 length-numbers (suc n) z = ap suc (length-numbers n (z +ℤ pos 1))
 
-next_number : (z : ℤ) (i : ℕ) → (z +ℤ pos 1) +ℤ pos i ≡ z +ℤ pos (suc i)
-next_number z i = omega (arith, ints)
-
-first_of : (z : ℤ) → z ≡ z +ℤ pos 0
-first_of z = omega (arith, ints)
-
 pub get_or-numbers : (n : ℕ) (z : ℤ) (i : ℕ) (d : Value) → i < n → get_or (numbers_from n z) i d ≡ Int (z +ℤ pos i)
 get_or-numbers zero z i d l = absurd (omega arith)
-get_or-numbers (suc n) z zero d l = ap (λ y. Int y) (first_of z)
-get_or-numbers (suc n) z (suc i) d l = get_or-numbers n (z +ℤ pos 1) i d (omega arith) ∙ ap (λ y. Int y) (next_number z i)
+get_or-numbers (suc n) z zero d l = ap (λ y. Int y) (sym (no_step z))
+get_or-numbers (suc n) z (suc i) d l = get_or-numbers n (z +ℤ pos 1) i d (omega arith) ∙ ap (λ y. Int y) (next_sum z i)
 
 pub map-zip : (ks vs : List Value) → map pair_of (zip ks vs) ≡ zip (map tree_of ks) (map tree_of vs)
 map-zip [] vs = refl
 map-zip (k ∷ ks) [] = refl
 map-zip (k ∷ ks) (v ∷ vs) = ap (λ ps. pair_of (k, v) ∷ ps) (map-zip ks vs)
 
-pub get_or-zip : (ks vs : List Value) (i : ℕ) (d e : Value) → i < length ks → i < length vs → get_or (zip ks vs) i (d, e) ≡ (get_or ks i d, get_or vs i e)
-get_or-zip [] vs i d e l m = absurd (omega arith)
-get_or-zip (k ∷ ks) [] i d e l m = absurd (omega arith)
-get_or-zip (k ∷ ks) (v ∷ vs) zero d e l m = refl
-get_or-zip (k ∷ ks) (v ∷ vs) (suc i) d e l m = get_or-zip ks vs i d e (omega arith) (omega arith)
-
 -- a pair that was read part by part
 pub at-zip : (ks vs : List Value) (i : ℕ) (k v : Value) → i < length ks → i < length vs → k ≡ get_or ks i k → v ≡ get_or vs i v → (k, v) ≡ get_or (zip ks vs) i (k, v)
-at-zip ks vs i k v l m e f = (λ j. (e j, f j)) ∙ sym (get_or-zip ks vs i k v l m)
+at-zip ks vs i k v l m e f = (λ j. (e j, f j)) ∙ sym (get_or-zip ks vs i (k, v) l m)
 
 -- ---- another value at a place
-pub length-set : {A : Type 0} (xs : List A) (i : ℕ) (x : A) → length (list_set xs i x) ≡ length xs
-length-set [] i x = refl
-length-set (y ∷ xs) zero x = refl
-length-set (y ∷ xs) (suc i) x = ap suc (length-set xs i x)
-
-map-set : (vs : List Value) (i : ℕ) (v : Value) → map tree_of (list_set vs i v) ≡ list_set (map tree_of vs) i (tree_of v)
-map-set [] i v = refl
-map-set (u ∷ vs) zero v = refl
-map-set (u ∷ vs) (suc i) v = ap (λ ts. tree_of u ∷ ts) (map-set vs i v)
-
 zip-set : (ks ts : List Tree) (i : ℕ) (t : Tree) → zip ks (list_set ts i t) ≡ with_value_at (zip ks ts) i t
 zip-set [] ts i t = refl
 zip-set (k ∷ ks) [] i t = refl
@@ -97,42 +71,55 @@ zip-set (k ∷ ks) (u ∷ ts) (suc i) t = ap (λ ps. (k, u) ∷ ps) (zip-set ks 
 pub entry_put : (d : Domain) (vs : List Value) (i : ℕ) (v : Value) → entry_pairs d (list_set vs i v) ≡ with_value_at (entry_pairs d vs) i (tree_of v)
 entry_put d vs i v =
     ap (λ n. zip (domain_trees n d) (map tree_of (list_set vs i v))) (length-set vs i v)
-    ∙ ap (λ ts. zip (domain_trees (length vs) d) ts) (map-set vs i v)
+    ∙ ap (λ ts. zip (domain_trees (length vs) d) ts) (map-set tree_of vs i v)
     ∙ zip-set (domain_trees (length vs) d) (map tree_of vs) i (tree_of v)
 
 -- the same of a domain and values that are told otherwise
 pub entry_same : (d e : Domain) (vs ws : List Value) (i : ℕ) (v : Value) → e ≡ d → ws ≡ list_set vs i v → entry_pairs e ws ≡ with_value_at (entry_pairs d vs) i (tree_of v)
 entry_same d e vs ws i v g h = (λ j. entry_pairs (g j) (h j)) ∙ entry_put d vs i v
 
-pub matched_put : (d : Domain) (vs : List Value) (i : ℕ) (v : Value) → IsMatched d vs → IsMatched d (list_set vs i v)
-matched_put d vs i v h = rw (length-set vs i v) h
-
 -- ---- parts of what is held
-matched-trees : (d : Domain) (vs : List Value) → IsMatched d vs → length (domain_trees (length vs) d) ≡ length (map tree_of vs)
-matched-trees d vs h = h ∙ sym (length-map vs tree_of)
+length-domain_trees : (n : ℕ) (d : Domain) → FitsDomain n d → length (domain_trees n d) ≡ n
+length-domain_trees n (Numbers z) h = length-counted_up n z
+length-domain_trees n (Listed ts) h = h
 
-pub entry_arguments : (d : Domain) (vs : List Value) → IsMatched d vs → arguments (entry_pairs d vs) ≡ domain_trees (length vs) d
-entry_arguments d vs h = arguments-zip _ _ (matched-trees d vs h)
+as_many : (d : Domain) (vs : List Value) → FitsDomain (length vs) d → length (domain_trees (length vs) d) ≡ length (map tree_of vs)
+as_many d vs h = length-domain_trees (length vs) d h ∙ sym (length-map vs tree_of)
 
-pub entry_values : (d : Domain) (vs : List Value) → IsMatched d vs → values_of (entry_pairs d vs) ≡ map tree_of vs
-entry_values d vs h = values-zip _ _ (matched-trees d vs h)
+pub entry_arguments : (d : Domain) (vs : List Value) → FitsDomain (length vs) d → arguments (entry_pairs d vs) ≡ domain_trees (length vs) d
+entry_arguments d vs h = arguments-zip _ _ (as_many d vs h)
 
-pub entry_length : (d : Domain) (vs : List Value) → IsMatched d vs → length (entry_pairs d vs) ≡ length vs
-entry_length d vs h = length-zip _ _ (matched-trees d vs h) ∙ length-map vs tree_of
+pub entry_values : (d : Domain) (vs : List Value) → FitsDomain (length vs) d → values_of (entry_pairs d vs) ≡ map tree_of vs
+entry_values d vs h = values-zip _ _ (as_many d vs h)
+
+pub entry_length : (d : Domain) (vs : List Value) → FitsDomain (length vs) d → length (entry_pairs d vs) ≡ length vs
+entry_length d vs h = length-zip _ _ (as_many d vs h) ∙ length-map vs tree_of
 
 -- ---- what is lent of the arguments
-pub seen_numbers : (d : Domain) (vs : List Value) (z : ℤ) → d ≡ Numbers z → IsMatched d vs → map tree_of (numbers_from (length (entry_pairs d vs)) z) ≡ arguments (entry_pairs d vs)
+pub seen_numbers : (d : Domain) (vs : List Value) (z : ℤ) → d ≡ Numbers z → FitsDomain (length vs) d → map tree_of (numbers_from (length (entry_pairs d vs)) z) ≡ arguments (entry_pairs d vs)
 seen_numbers d vs z e m =
     trees_numbers (length (entry_pairs d vs)) z
     ∙ ap (λ n. counted_up n z) (entry_length d vs m)
     ∙ ap (domain_trees (length vs)) (sym e)
     ∙ sym (entry_arguments d vs m)
 
-pub seen_fit : (d : Domain) (vs : List Value) (z : ℤ) → d ≡ Numbers z → IsMatched d vs → FitsDomain (length vs) d → FitsDomain (length (entry_pairs d vs)) (Numbers z)
-seen_fit d vs z e m f = rw (entry_length d vs m) (rw e at f)
+pub seen_fit : (d : Domain) (vs : List Value) (z : ℤ) → d ≡ Numbers z → FitsDomain (length vs) d → FitsDomain (length (entry_pairs d vs)) (Numbers z)
+seen_fit d vs z e m = rw (entry_length d vs m) (rw e at m)
 
-pub seen_listed : (d : Domain) (vs : List Value) (ts : List Tree) → d ≡ Listed ts → IsMatched d vs → ts ≡ arguments (entry_pairs d vs)
+pub seen_listed : (d : Domain) (vs : List Value) (ts : List Tree) → d ≡ Listed ts → FitsDomain (length vs) d → ts ≡ arguments (entry_pairs d vs)
 seen_listed d vs ts e m = ap (domain_trees (length vs)) (sym e) ∙ sym (entry_arguments d vs m)
+
+-- the value that is gone may have been the deepest
+deepest-kept : (ks : List Tree) (vs : List Value) (i : ℕ) (x : Value) (t : Tree) → i < length vs → x ≡ get_or vs i x → deepest_pair (pairs (zip ks (map tree_of vs))) ≤ max (deepest_pair (pairs (with_value_at (zip ks (map tree_of vs)) i t))) (depth (tree_of x))
+deepest-kept [] vs i x t l is = omega arith
+deepest-kept (k ∷ ks) [] i x t l is = omega arith
+deepest-kept (k ∷ ks) (v ∷ vs) zero x t l is = omega (arith, ap (λ y. depth (tree_of y)) is)
+deepest-kept (k ∷ ks) (v ∷ vs) (suc i) x t l is =
+    let rest : deepest_pair (pairs (zip ks (map tree_of vs))) ≤ max (deepest_pair (pairs (with_value_at (zip ks (map tree_of vs)) i t))) (depth (tree_of x)) = deepest-kept ks vs i x t (omega arith) is in
+    omega arith
+
+pub deepest-replaced : (d : Domain) (vs : List Value) (i : ℕ) (x v : Value) → i < length vs → x ≡ get_or vs i x → deepest_pair (pairs (entry_pairs d vs)) ≤ max (deepest_pair (pairs (with_value_at (entry_pairs d vs) i (tree_of v)))) (depth (tree_of x))
+deepest-replaced d vs i x v l is = deepest-kept (domain_trees (length vs) d) vs i x (tree_of v) l is
 
 -- ---- that all are values
 pub ArePairs-put : (ps : List (Tree × Tree)) (i : ℕ) (v : Tree) → IsValue v → ArePairs (pairs ps) → ArePairs (pairs (with_value_at ps i v))
@@ -145,11 +132,6 @@ pub put_both : {A E : Type 0} (r : Result A E) (old new : Entries) (i : ℕ) (v 
     → OnOk r (entry_pairs new.domain new.values.items ≡ with_value_at (entry_pairs old.domain old.values.items) i (tree_of v))
 put_both (Ok x) old new i v g h = entry_same old.domain new.domain old.values.items new.values.items i v g h
 put_both (Err e) old new i v g h = tt
-
-pub put_matched : {A E : Type 0} (r : Result A E) (old new : Entries) (i : ℕ) (v : Value) → OnOk r (new.domain ≡ old.domain) → OnOk r (new.values.items ≡ list_set old.values.items i v) → OnErr r (new ≡ old)
-    → IsMatched old.domain old.values.items → IsMatched new.domain new.values.items
-put_matched (Ok x) old new i v g h e m = subst (λ d. IsMatched d new.values.items) (sym g) (subst (λ vs. IsMatched old.domain vs) (sym h) (matched_put old.domain old.values.items i v m))
-put_matched (Err x) old new i v g h e m = subst (λ (f : Entries). IsMatched f.domain f.values.items) (sym e) m
 
 pub put_fits : {A E : Type 0} (r : Result A E) (old new : Entries) (i : ℕ) (v : Value) → OnOk r (new.domain ≡ old.domain) → OnOk r (new.values.items ≡ list_set old.values.items i v) → OnErr r (new ≡ old)
     → FitsDomain (length old.values.items) old.domain → FitsDomain (length new.values.items) new.domain

@@ -15,10 +15,10 @@ use Rattle.tla_value.specs.Sets.{is_member}
 use Rattle.tla_value.specs.declared.value.Value.TheVariants.{Truth, Int, Text, Model, Set, Fun}
 use Rattle.tla_value.specs.Choices.{counted_up, range_of}
 
-next_sum : (z : ℤ) (n : ℕ) → (z +ℤ pos 1) +ℤ pos n ≡ z +ℤ pos (suc n)
+pub next_sum : (z : ℤ) (n : ℕ) → (z +ℤ pos 1) +ℤ pos n ≡ z +ℤ pos (suc n)
 next_sum z n = omega (arith, ints)
 
-no_step : (z : ℤ) → z +ℤ pos 0 ≡ z
+pub no_step : (z : ℤ) → z +ℤ pos 0 ≡ z
 no_step z = omega (arith, ints)
 
 pub counted_up-push : (n : ℕ) (z : ℤ) → counted_up (suc n) z ≡ counted_up n z ++ int (z +ℤ pos n) ∷ []

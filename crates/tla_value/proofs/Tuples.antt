@@ -14,7 +14,7 @@ use Rattle.tla_value.specs.Private.Inner.{ways}
 use Rattle.tla_value.proofs.FunctionSets.{length-functions_by, most-functions_by, some-functions_by, set_of-functions_by, MakesSetOfFunctions-small, no_choices, some-ways}
 use Rattle.tla_value.proofs.Choosing.{long-choices}
 
-numbered_is : (k : ℕ) (c : List Tree) → zip (counted_up (length c) (pos k)) c ≡ numbered k c
+pub numbered_is : (k : ℕ) (c : List Tree) → zip (counted_up (length c) (pos k)) c ≡ numbered k c
 numbered_is k [] = refl
 numbered_is k (x ∷ c) = ap (λ ps. (int (pos k), x) ∷ ps) (numbered_is (k + 1) c)
 

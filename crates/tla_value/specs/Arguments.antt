@@ -1,5 +1,6 @@
 -- The arguments of a function, as they are lent: the numbers from one on, as many as there are values, or a rising list.
-use Rattle.std.specs.Prelude.{ℕ, zero, suc, ◌<◌, ℤ, pos, ◌+ℤ◌, ◌≤ℤ◌, List, [], ◌∷◌}
+use Rattle.std.specs.Prelude.{◌≡◌, ℕ, zero, suc, ◌<◌, ℤ, pos, ◌+ℤ◌, List, [], ◌∷◌, length}
+use Rattle.tla_value.specs.IsValue.{FitNumbers}
 use Rattle.tla_value.specs.declared.value.Value.{Value}
 use Rattle.tla_value.specs.declared.value.Value.TheVariants.{Int}
 use Rattle.tla_value.specs.declared.value.Arguments.{Arguments}
@@ -15,7 +16,7 @@ abbrev pub argument_values : ℕ → Arguments → List Value
 argument_values n (Numbers z) = numbers_from n z
 argument_values n (Listed vs) = vs.now
 
--- so many numbers from one on are some, and numbers of 64 bits
+-- numbers of 64 bits, of which there are some, or a list of so many
 abbrev pub FitArguments : ℕ → Arguments → Type 0
-FitArguments n (Numbers z) = (0 < n) × ((z +ℤ pos n) ≤ℤ pos 9223372036854775808)
-FitArguments n (Listed vs) = Unit {0}
+FitArguments n (Numbers z) = (0 < n) × FitNumbers n z
+FitArguments n (Listed vs) = length vs.now ≡ n

@@ -1,11 +1,11 @@
 // What functions are given on: numbers that follow one another, or the members of a set.
-ghost use Rattle.std.specs.Prelude.{◌≡◌, ◌+◌, ◌<◌, ◌≤◌, ◌+ℤ◌, ◌≤ℤ◌, pos, true, false, length, map, slice_get, Some, IfSome, IfNone, IfOk, IfErr};
+ghost use Rattle.std.specs.Prelude.{◌≡◌, ◌+◌, ◌<◌, ◌≤◌, ◌+ℤ◌, pos, max, true, false, length, map, slice_get, Some, IfSome, IfNone, IfOk, IfErr};
 ghost use Rattle.tla_value.specs.Tree.{deepest_pair, int, pairs};
 ghost use Rattle.tla_value.specs.TreeOf.{tree_of};
-ghost use Rattle.tla_value.specs.IsValue.{IsSetList};
+ghost use Rattle.tla_value.specs.IsValue.{FitNumbers, IsSetList};
 ghost use Rattle.tla_value.specs.Sets.{is_member};
 ghost use Rattle.tla_value.specs.Choices.{counted_up};
-ghost use Rattle.tla_value.specs.Private.Held.{domain_trees, entry_pairs, IsMatched, FitsDomain};
+ghost use Rattle.tla_value.specs.Private.Held.{domain_trees, entry_pairs, FitsDomain};
 ghost use Rattle.tla_value.specs.declared.error.ValueError.TheVariants.{Memory};
 ghost use Rattle.tla_value.specs.declared.set.TheConstants.{MAX_ELEMENTS};
 
@@ -17,7 +17,7 @@ use std::alloc::Global;
 // Whether a value is the number so far above another.
 fn is_number(value: &Value, first: i64, steps: usize) -> bool
     ensures number { result ≡ true → tree_of value.now ≡ int (first +ℤ pos steps) }
-    ensures fits { result ≡ true → (first +ℤ pos (steps + 1)) ≤ℤ pos 9223372036854775808 }
+    ensures fits { result ≡ true → FitNumbers (steps + 1) first }
 {
     let Value::Int(number) = value else {
         return false;
@@ -29,7 +29,7 @@ fn is_number(value: &Value, first: i64, steps: usize) -> bool
 // The first of some values that are the numbers from it on.
 fn first_number(arguments: &[Value]) -> Option<i64>
     ensures numbers { IfSome result (λ z. map tree_of arguments.now ≡ counted_up (length arguments.now) z) }
-    ensures fit { IfSome result (λ z. (0 < length arguments.now) × ((z +ℤ pos (length arguments.now)) ≤ℤ pos 9223372036854775808)) }
+    ensures fit { IfSome result (λ z. (0 < length arguments.now) × FitNumbers (length arguments.now) z) }
 {
     let [Value::Int(first), ..] = arguments else {
         return None;
@@ -78,13 +78,37 @@ fn number_place(first: i64, count: usize, value: &Value) -> Option<usize>
 
 // How deep the deepest of some arguments and of the values at them is nested.
 pub(crate) fn deepest_of_pairs(domain: &Domain, values: &[Value]) -> u64
-    requires { IsMatched domain.now values.now }
+    requires { FitsDomain (length values.now) domain.now }
     ensures { result ≡ deepest_pair (pairs (entry_pairs domain.now values.now)) }
 {
     let deepest = deepest_of(values);
     match domain {
         Domain::Numbers(_) => deepest,
         Domain::Listed(set) => deepest.max(set.nesting() - 1),
+    }
+}
+
+// The same where one value replaced another, by how deep the deepest part was nested before, the value that is gone and the
+// new one. The parts are gone over only where a deepest one may be gone and the new one is less deep.
+pub(crate) fn deepest_after(
+    domain: &Domain,
+    values: &[Value],
+    before: u64,
+    replaced: u64,
+    added: u64,
+) -> u64
+    requires fits { FitsDomain (length values.now) domain.now }
+    requires there { added ≤ deepest_pair (pairs (entry_pairs domain.now values.now)) }
+    requires within { deepest_pair (pairs (entry_pairs domain.now values.now)) ≤ max before added }
+    requires kept { before ≤ max (deepest_pair (pairs (entry_pairs domain.now values.now))) replaced }
+    ensures { result ≡ deepest_pair (pairs (entry_pairs domain.now values.now)) }
+{
+    if added >= before {
+        added
+    } else if replaced < before {
+        before
+    } else {
+        deepest_of_pairs(domain, values)
     }
 }
 
@@ -145,7 +169,7 @@ impl Domain {
     {
         match self {
             Domain::Numbers(first) => number_place(*first, count, value),
-            Domain::Listed(set) => set.position(value),
+            Domain::Listed(set) => set.place(value).ok(),
         }
     }
 }

@@ -1,11 +1,11 @@
 // Finite sets, as rising lists.
-ghost use Rattle.std.specs.Prelude.{◌≡◌, ◌<◌, ◌≤◌, pos, ◌+ℤ◌, ◌≤ℤ◌, ◌++◌, ◌∷◌, false, map, filter, length, insert, not, is_ok, option_map, slice_get, Some, IfSome, IfNone, IfOk, IfErr, OnOk, OnErr};
+ghost use Rattle.std.specs.Prelude.{◌≡◌, ◌<◌, ◌≤◌, ◌++◌, ◌∷◌, map, filter, length, insert, not, is_ok, option_map, slice_get, Some, IfOk, IfErr, OnOk, OnErr};
 ghost use Rattle.std.specs.List.{list_all};
 ghost use Rattle.std.specs.List.Sorted.{IsStrictlySortedBy};
 ghost use Rattle.tla_value.specs.Tree.{set, trees, deepest};
 ghost use Rattle.tla_value.specs.TreeOf.{tree_of};
 ghost use Rattle.tla_value.specs.Order.{tree_cmp};
-ghost use Rattle.tla_value.specs.IsValue.{IsValue, AreValues, IsSetList};
+ghost use Rattle.tla_value.specs.IsValue.{IsValue, AreValues, FitNumbers, IsSetList};
 ghost use Rattle.tla_value.specs.Sets.{is_member, set_of, RefusesSet, MakesSet};
 ghost use Rattle.tla_value.specs.Choices.{counted_up, range_of};
 ghost use Rattle.tla_value.specs.declared.error.ValueError.TheVariants.{Memory};
@@ -70,7 +70,7 @@ pub(crate) fn sort_values(values: Vec<Value>) -> Vec<Value>
 
 // So many numbers, from `low` on.
 pub(crate) fn count_up(alloc: Global, low: i64, count: u64) -> Result<Vec<Value>, ValueError>
-    requires fits { (low +ℤ pos count) ≤ℤ pos 9223372036854775808 }
+    requires fits { FitNumbers count low }
     requires few { count ≤ MAX_ELEMENTS }
     ensures ok { IfOk result (λ v. map tree_of v.items ≡ counted_up count low) }
     ensures err { IfErr result (λ e. e ≡ Memory) }
@@ -104,20 +104,10 @@ impl SetValue {
         self.place(value).is_ok()
     }
 
-    // Where a value stands, if it does.
-    pub(crate) fn position(&self, value: &Value) -> Option<usize>
-        ensures some { IfSome result (λ i. slice_get self.now i ≡ Some (tree_of value.now)) }
-        ensures none { IfNone result (is_member (tree_of value.now) self.now ≡ false) }
-    {
-        match self.items().binary_search(value) {
-            Ok(index) => Some(index),
-            Err(_) => None,
-        }
-    }
-
     // Where a value stands, or where it would.
-    fn place(&self, value: &Value) -> Result<usize, usize>
+    pub(crate) fn place(&self, value: &Value) -> Result<usize, usize>
         ensures found { is_ok result ≡ is_member (tree_of value.now) self.now }
+        ensures at { IfOk result (λ i. slice_get self.now i ≡ Some (tree_of value.now)) }
         ensures within { IfErr result (λ i. i ≤ length self.now) }
         ensures there { IfOk result (λ _. set_of (tree_of value.now ∷ self.now) ≡ self.now) }
         ensures absent { IfErr result (λ i. set_of (tree_of value.now ∷ self.now) ≡ insert self.now i (tree_of value.now)) }

@@ -1,13 +1,14 @@
 // The text of values.
-ghost use Rattle.std.specs.Prelude.{◌≡◌, ◌<◌, ◌+ℤ◌, ◌≤ℤ◌, pos, ◌++◌, codes, length, map, zip, OnOk, IfErr};
+ghost use Rattle.std.specs.Prelude.{◌≡◌, ◌<◌, ◌++◌, codes, length, map, zip, OnOk, IfErr};
 ghost use Rattle.std.specs.Io.KnownBytes.{Appends};
 ghost use Rattle.std.specs.List.{list_all, list_any};
 ghost use Rattle.std.specs.Str.{bytes_eq};
 ghost use Rattle.std.specs.Char.{is_ascii_alphabetic};
 ghost use Rattle.counted_writer.specs.Puts.{Puts, AddsFirst};
-ghost use Rattle.tla_value.specs.Tree.{int, trees, pairs as pairs_of, set, fun};
+ghost use Rattle.tla_value.specs.Tree.{trees, pairs as pairs_of, set, fun};
 ghost use Rattle.tla_value.specs.TreeOf.{tree_of, pair_of};
 ghost use Rattle.tla_value.specs.Arguments.{numbers_from};
+ghost use Rattle.tla_value.specs.IsValue.{FitNumbers};
 ghost use Rattle.tla_value.specs.TextNames.{is_word_byte, begins_fairness, is_identifier, is_reserved};
 ghost use Rattle.tla_value.specs.Text.{text_of, escaped, quoted, field_name, is_field, listed, member_texts, field_texts, pair_texts};
 ghost use Rattle.tla_value.specs.Private.Inner.{separator_before};
@@ -151,7 +152,7 @@ fn put_numbers<W: Write>(
     written: u64,
 ) -> Result<u64, ShortWrite>
     requires some { 0 < length values.now }
-    requires fits { (first +ℤ pos (length values.now)) ≤ℤ pos 9223372036854775808 }
+    requires fits { FitNumbers (length values.now) first }
     ensures { Puts (W.contents out.old) (W.contents out.new) written (text_of (fun (pairs_of (map pair_of (zip (numbers_from (length values.now) first) values.now))))) result }
 {
     if first == 1 {
@@ -266,13 +267,13 @@ fn put_numbered<W: Write>(
     out: &mut W,
     written: u64,
 ) -> Result<u64, ShortWrite>
-    requires { (first +ℤ pos (length values.now)) ≤ℤ pos 9223372036854775808 }
+    requires { FitNumbers (length values.now) first }
     ensures { Puts (W.contents out.old) (W.contents out.new) written
         (listed (codes "(") (codes " @@ ") (codes ")") (pair_texts (pairs_of (map pair_of (zip (numbers_from (length values.now) first) values.now))))) result }
 {
     let mut written = put(out, written, b"(")?;
     for i in 0..values.len() {
-        written = put_numbered_pair(first + i as i64, &values[i], i, out, written)?;
+        written = put_pair(&Value::Int(first + i as i64), &values[i], i, out, written)?;
     }
     put(out, written, b")")
 }
@@ -290,23 +291,6 @@ fn put_pair<W: Write>(
 {
     let written = put_between(index, b" @@ ", out, written)?;
     let written = put_value(argument, out, written)?;
-    let written = put(out, written, b" :> ")?;
-    put_value(value, out, written)
-}
-
-#[cycle(show)]
-fn put_numbered_pair<W: Write>(
-    argument: i64,
-    value: &Value,
-    index: usize,
-    out: &mut W,
-    written: u64,
-) -> Result<u64, ShortWrite>
-    ensures { Puts (W.contents out.old) (W.contents out.new) written
-        (separator_before index (codes " @@ ") ++ (text_of (int argument) ++ (codes " :> " ++ text_of (tree_of value.now)))) result }
-{
-    let written = put_between(index, b" @@ ", out, written)?;
-    let written = put_number(out, written, argument)?;
     let written = put(out, written, b" :> ")?;
     put_value(value, out, written)
 }

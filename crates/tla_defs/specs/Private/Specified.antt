@@ -13,8 +13,8 @@ use Rattle.tla_expand.specs.Expand.{expand}
 use Rattle.tla_expand.specs.Meanings.{Scope}
 use Rattle.tla_expand.specs.Primes.{with_primes}
 use Rattle.tla_names.specs.Refusal.{refusal_at}
-use Rattle.tla_defs.specs.declared.meant.Meant.{Meant}
-use Rattle.tla_defs.specs.declared.meant.Meant.TheVariants as meant
+use Rattle.tla_defs.specs.declared.init_and_next.InitAndNext.{InitAndNext}
+use Rattle.tla_defs.specs.declared.init_and_next.InitAndNext.TheVariants as meant
 use Rattle.tla_defs.specs.declared.specification.Specified as declared
 use Rattle.tla_defs.specs.Private.Seen.{tree_at, seen}
 use Rattle.tla_defs.specs.Model.{initials_named, nexts_named, specifications_named}
@@ -34,15 +34,15 @@ abbrev pub IsForm : List UnitTree → List Item → Scope → ℕ → Written �
 IsForm us is σ n w s = (i : Tree) × (initial_in s ≡ Some i) × IsSpecification us is σ n w i (tree_at s.action)
 
 -- the initial predicate and the action
-abbrev pub initial_tree : Meant → Option Tree
+abbrev pub initial_tree : InitAndNext → Option Tree
 initial_tree (meant.Named i a) = Some (t.Name i.now)
 initial_tree (meant.Specified s) = initial_in s
 
-abbrev pub action_tree : Meant → Tree
+abbrev pub action_tree : InitAndNext → Tree
 action_tree (meant.Named i a) = t.Name a.now
 action_tree (meant.Specified s) = tree_at s.action
 
-abbrev pub IsMeant : List UnitTree → List Item → Scope → ℕ → Behaviour → Meant → Type 0
+abbrev pub IsMeant : List UnitTree → List Item → Scope → ℕ → Behaviour → InitAndNext → Type 0
 IsMeant us is σ n (Named i a) (meant.Named j b) = (j.now ≡ i) × (b.now ≡ a)
 IsMeant us is σ n (Specified p w) (meant.Specified s) = IsForm us is σ n w s
 IsMeant us is σ n _ _ = ⊥

@@ -9,18 +9,18 @@ use Rattle.tla_tree.specs.declared.tree.Bullet.{Bullet}
 use Rattle.tla_tree.specs.declared.tree.Bullet.TheVariants as bullet
 use Rattle.tla_tree.specs.declared.tree.Brackets.{Brackets}
 use Rattle.tla_tree.specs.declared.tree.Brackets.TheVariants as brackets
-use Rattle.tla_expand.specs.declared.nodes.Many.{Many}
-use Rattle.tla_expand.specs.declared.nodes.Many.TheVariants as manies
+use Rattle.tla_expand.specs.declared.nodes.ListNode.{ListNode}
+use Rattle.tla_expand.specs.declared.nodes.ListNode.TheVariants as manies
 use Rattle.tla_tree.specs.Tree.{Tree, trees, binders, arms, fields, updates}
 use Rattle.tla_tree.specs.View.{view, pattern_view, group_view, choice_view, field_view, update_view}
-use Rattle.tla_expand.specs.declared.nodes.Two.TheVariants as twos
+use Rattle.tla_expand.specs.declared.nodes.BinaryNode.TheVariants as twos
 use Rattle.tla_expand.specs.declared.nodes.Headed.TheVariants as headed
 use Rattle.tla_expand.specs.declared.nodes.Binders.TheVariants as under
 use Rattle.tla_tree.specs.declared.tree.Step.TheVariants as steps
 use Rattle.tla_expand.specs.declared.nodes.Form.{Form}
 use Rattle.tla_expand.specs.declared.nodes.Form.TheVariants as form
-use Rattle.tla_expand.specs.declared.nodes.Shape.{Shape}
-use Rattle.tla_expand.specs.declared.nodes.Shape.TheVariants as shape
+use Rattle.tla_expand.specs.declared.nodes.OwnForm.{OwnForm}
+use Rattle.tla_expand.specs.declared.nodes.OwnForm.TheVariants as own_form
 use Rattle.tla_expand.specs.Maybe.{◌>>=◌}
 use Rattle.tla_expand.specs.Nodes.{leaf, one, two, three, many, fielded}
 use Rattle.tla_expand.specs.Unchanged.{unchanged, changed}
@@ -52,26 +52,26 @@ form_in (form.Binders p (under.Nested f) bs t) σ d = nested f p (binds_of (bind
 form_in (form.Binders p (under.Gathered f) bs t) σ d = gathered f p (binds_of (binders (map group_view bs.now)) σ) (expand (view t.now)) σ d
 form_in (form.Binds p f w s t) σ d = nested f p (bind_entry (pattern_view w.now) (expand (view s.now) σ) []) (expand (view t.now)) σ d
 
-abbrev pub GivesForm : Shape → Tree → Type 0
-GivesForm (shape.Form f) t = (σ : Scope) (d : ℕ) → expand t σ d ≡ form_in f σ d
-GivesForm (shape.Nothing p) t = (σ : Scope) (d : ℕ) → expand t σ d ≡ None
-GivesForm shape.Goes t = Unit {0}
+abbrev pub GivesForm : OwnForm → Tree → Type 0
+GivesForm (own_form.Form f) t = (σ : Scope) (d : ℕ) → expand t σ d ≡ form_in f σ d
+GivesForm (own_form.Nothing p) t = (σ : Scope) (d : ℕ) → expand t σ d ≡ None
+GivesForm own_form.Goes t = Unit {0}
 
-abbrev pub GivesPrefix : Shape → Place → Prefix → Tree → Type 0
-GivesPrefix (shape.Form f) p op t = (σ : Scope) (d : ℕ) → (expand t σ d >>= prefixed op p) ≡ form_in f σ d
-GivesPrefix (shape.Nothing q) p op t = (σ : Scope) (d : ℕ) → (expand t σ d >>= prefixed op p) ≡ None
-GivesPrefix shape.Goes p op t = ⊥
+abbrev pub GivesPrefix : OwnForm → Place → Prefix → Tree → Type 0
+GivesPrefix (own_form.Form f) p op t = (σ : Scope) (d : ℕ) → (expand t σ d >>= prefixed op p) ≡ form_in f σ d
+GivesPrefix (own_form.Nothing q) p op t = (σ : Scope) (d : ℕ) → (expand t σ d >>= prefixed op p) ≡ None
+GivesPrefix own_form.Goes p op t = ⊥
 
-abbrev pub of_brackets : Brackets → Many
+abbrev pub of_brackets : Brackets → ListNode
 of_brackets brackets.Set = manies.Set
 of_brackets brackets.Tuple = manies.Tuple
 
-abbrev pub of_bullet : Bullet → Many
+abbrev pub of_bullet : Bullet → ListNode
 of_bullet bullet.And = manies.And
 of_bullet bullet.Or = manies.Or
 
 -- the parts of a tuple
-abbrev pub tuple_of : Many → Bor (List s.Expr) → Option (Bor (List s.Expr))
+abbrev pub tuple_of : ListNode → Bor (List s.Expr) → Option (Bor (List s.Expr))
 tuple_of manies.Tuple ts = Some ts
 tuple_of f ts = None
 

@@ -6,6 +6,7 @@ use Rattle.tla_core.specs.declared.expression.Core.{Core}
 use Rattle.tla_core.specs.declared.expression.Binary.TheVariants.{Unequal}
 use Rattle.tla_core.specs.Expr.{Expr, tuple}
 use Rattle.tla_core.specs.ExprOf.{expr_of, exprs_of_arm}
+use Rattle.tla_model.specs.declared.limits.TheConstants.{MAX_NODES}
 use Rattle.tla_model.specs.Size.{nodes, depth}
 use Rattle.tla_tree.specs.declared.tree.Expr as s
 use Rattle.tla_tree.specs.declared.tree.Arm.{Arm}
@@ -15,11 +16,13 @@ use Rattle.tla_tree.specs.declared.tree.Update.{Update}
 use Rattle.tla_tree.specs.Tree.{trees}
 use Rattle.tla_tree.specs.View.{view, key_view}
 use Rattle.tla_expand.specs.declared.arena.Entry.{Entry}
+use Rattle.tla_expand.specs.declared.arena.What.{What}
+use Rattle.tla_expand.specs.declared.arena.What.TheVariants as what
 use Rattle.tla_expand.specs.declared.failure.Failure.{Failure}
 use Rattle.tla_expand.specs.declared.failure.Failure.TheVariants.{NoExpansion, TooLarge, Memory}
 use Rattle.tla_expand.specs.declared.uses.Head.{Head}
-use Rattle.tla_expand.specs.declared.uses.Step.{Step}
-use Rattle.tla_expand.specs.declared.uses.Step.TheVariants as step
+use Rattle.tla_expand.specs.declared.uses.Reduction.{Reduction}
+use Rattle.tla_expand.specs.declared.uses.Reduction.TheVariants as reduction
 use Rattle.tla_expand.specs.declared.expanded.Expanded.{Expanded}
 use Rattle.tla_expand.specs.declared.expanded.Pair.{Pair}
 use Rattle.tla_expand.specs.declared.expanded.Many.{Many}
@@ -28,7 +31,7 @@ use Rattle.tla_expand.specs.declared.expanded.Fields.{Fields}
 use Rattle.tla_expand.specs.declared.expanded.Change.{Change}
 use Rattle.tla_expand.specs.declared.expanded.Changes.{Changes}
 use Rattle.tla_expand.specs.declared.binders.Bind.{Bind}
-use Rattle.tla_expand.specs.declared.nodes.Two.TheVariants as two_
+use Rattle.tla_expand.specs.declared.nodes.BinaryNode.TheVariants as two_
 use Rattle.tla_expand.specs.declared.primes.Primes.{Primes}
 use Rattle.tla_expand.specs.Maybe.{◌>>=◌, each_of}
 use Rattle.tla_expand.specs.Primes.{one_more, with_primes}
@@ -43,20 +46,27 @@ use Rattle.tla_expand.specs.Private.Binders.{names_of}
 use Rattle.tla_expand.specs.Private.Forms.{form_in}
 use Rattle.tla_expand.specs.Scopes.{scope_at}
 
--- how many names may be bound round an expression and how many nodes may be left for it, both together: so many fit a number of the code
+-- How many names may be bound round an expression and how many nodes may be left for it, both together: each name that is bound takes a node.
 abbrev pub most_named : ℕ
-most_named = 1000000
+most_named = MAX_NODES
 
 abbrev pub head_gives : List Entry → Head → Argument
 head_gives es h d = with_primes h.primes (form_in h.form (scope_at es h.scope) d)
 
-abbrev pub step_gives : List Entry → Step → Argument
-step_gives es (step.Goes t s k) d = with_primes k (expand (view t.now) (scope_at es s) d)
-step_gives es (step.Ends h) d = head_gives es h d
+abbrev pub reduction_gives : List Entry → Reduction → Argument
+reduction_gives es (reduction.Goes t s k) d = with_primes k (expand (view t.now) (scope_at es s) d)
+reduction_gives es (reduction.Ends h) d = head_gives es h d
 
-abbrev pub IsWithin : List Entry → Step → Type 0
-IsWithin es (step.Goes t s k) = s ≤ length es
-IsWithin es (step.Ends h) = h.scope ≤ length es
+abbrev pub IsWithin : List Entry → Reduction → Type 0
+IsWithin es (reduction.Goes t s k) = s ≤ length es
+IsWithin es (reduction.Ends h) = h.scope ≤ length es
+
+-- what a name means that takes no arguments
+abbrev pub IsAlone : What → Type 0
+IsAlone (what.Definition ws body home) = ⊥
+IsAlone (what.Gives n g) = ⊥
+IsAlone (what.Module b) = ⊥
+IsAlone w = Unit {0}
 
 -- A failure says that there is no expansion. Memory may be refused at any time.
 abbrev pub Explains : Failure → Argument → Type 0

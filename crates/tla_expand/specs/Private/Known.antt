@@ -7,9 +7,9 @@ use Rattle.tla_tree.specs.Tree as t
 use Rattle.tla_tree.specs.Tree.{DefinesOperator, DefinesFunction}
 use Rattle.tla_tree.specs.View.{view, definition_view}
 use Rattle.tla_expand.specs.declared.gives.Known.{Known, Outside, Parameters', Named'}
-use Rattle.tla_expand.specs.declared.gives.Meant.{Meant}
-use Rattle.tla_expand.specs.declared.gives.Meant.TheVariants.{Gives, Reaches, Other}
-use Rattle.tla_expand.specs.declared.gives.Part.{Part}
+use Rattle.tla_expand.specs.declared.gives.Summary.{Summary}
+use Rattle.tla_expand.specs.declared.gives.Summary.TheVariants.{Gives, Reaches, Other}
+use Rattle.tla_expand.specs.declared.gives.BodyPart.{BodyPart}
 use Rattle.tla_expand.specs.declared.gives.Reached.{Reached}
 use Rattle.tla_expand.specs.declared.gives.Turn.{Turn}
 use Rattle.tla_expand.specs.declared.gives.Turn.TheVariants.{Goes, Ends, Stops}
@@ -41,13 +41,13 @@ abbrev pub with_count : ℕ → (List Argument → Argument) → Meaning
 with_count n a p args d = if has_count n args then a args d else None
 
 -- what is known of a name
-abbrev pub Means : Layers → Meant → Meaning → Type 0
+abbrev pub Means : Layers → Summary → Meaning → Type 0
 Means f (Gives n g) m = m ≡ given n g
 Means f (Reaches n r) m = m ≡ with_count n (λ args. reached_in r f)
 Means f Other m = Unit {0}
 
 -- it speaks of layers that are round a name alone
-abbrev pub IsRound : ℕ → Meant → Type 0
+abbrev pub IsRound : ℕ → Summary → Type 0
 IsRound k (Reaches n r) = r.layer < k
 IsRound k _ = Unit {0}
 
@@ -58,12 +58,12 @@ Holds ρ (Parameters' ws _ rest) f τ = (σ : Scope) × Holds ρ rest f σ × (w
 Holds ρ (Named' x w _ rest) f τ = (σ : Scope) × (m : Meaning) × Holds ρ rest f σ × Means f w m × IsRound (depth rest) w × (τ ≡ with_name x.now m σ)
 
 -- a name among these, or one from outside
-abbrev pub IsFound : Name → Known → Option Meant → Type 0
+abbrev pub IsFound : Name → Known → Option Summary → Type 0
 IsFound x known (Some w) = (ρ : Scope) (f : Layers) (τ : Scope) → Holds ρ known f τ → Means f w (τ x)
 IsFound x known None = (ρ : Scope) (f : Layers) (τ : Scope) → Holds ρ known f τ → τ x ≡ ρ x
 
 -- a name, wherever these names are known
-abbrev pub IsGiven : Scope → Known → Name → Meant → Type 0
+abbrev pub IsGiven : Scope → Known → Name → Summary → Type 0
 IsGiven ρ known x w = (f : Layers) (τ : Scope) → Holds ρ known f τ → Means f w (τ x)
 
 -- the use of a name
@@ -71,14 +71,14 @@ abbrev pub IsUse : t.Tree → Written → List syntax.Expr → Type 0
 IsUse tree w es = (τ : Scope) (d : ℕ) → expand tree τ d ≡ τ w.word (place_of w.place) (arguments_in es τ) d
 
 -- a part of a body comes to another one
-abbrev pub ComesTo : Scope → Part → Part → Type 0
+abbrev pub ComesTo : Scope → BodyPart → BodyPart → Type 0
 ComesTo ρ a b = (f : Layers) (τ : Scope) → Holds ρ a.known.now f τ → Holds ρ b.known.now f τ × ((d : ℕ) → with_primes a.primes (expand (view a.tree.now) τ d) ≡ with_primes b.primes (expand (view b.tree.now) τ d))
 
 -- a part of a body, inside a LET of these definitions, comes to an argument
-abbrev pub GivesBack : Scope → Part → List defining.Definition → Reached → Type 0
+abbrev pub GivesBack : Scope → BodyPart → List defining.Definition → Reached → Type 0
 GivesBack ρ a defs r = (f : Layers) (τ : Scope) → Holds ρ a.known.now f τ → (d : ℕ) → with_primes a.primes (expand (view a.tree.now) (definitions_in (t.definitions (map definition_view defs)) τ) d) ≡ reached_in r f d
 
-abbrev pub IsTurn : Scope → Part → Turn → Type 0
+abbrev pub IsTurn : Scope → BodyPart → Turn → Type 0
 IsTurn ρ a (Goes b) = ComesTo ρ a b
 IsTurn ρ a (Ends r) = GivesBack ρ a [] r
 IsTurn ρ a Stops = Unit {0}
@@ -89,8 +89,8 @@ defined_name (DefinesOperator w ws a) = w.word
 defined_name (DefinesFunction w bs a) = w.word
 
 -- what is known of a definition
-abbrev pub IsMeant : Scope → Known → t.Definition → Meant → Type 0
-IsMeant ρ known def w = IsRound (depth known) w × ((f : Layers) (τ : Scope) → Holds ρ known f τ → (m : Meaning) × Means f w m × (definition_in def τ ≡ with_name (defined_name def) m τ))
+abbrev pub IsSummary : Scope → Known → t.Definition → Summary → Type 0
+IsSummary ρ known def w = IsRound (depth known) w × ((f : Layers) (τ : Scope) → Holds ρ known f τ → (m : Meaning) × Means f w m × (definition_in def τ ≡ with_name (defined_name def) m τ))
 
 -- what an operator comes to, wherever these names are known: its own parameters are the next layer
 abbrev pub IsOperator : Scope → Known → List Written → t.Tree → Reached → Type 0

@@ -9,14 +9,14 @@ use Rattle.tla_tree.specs.Tree.{Tree}
 use Rattle.tla_tree.specs.View.{view}
 use Rattle.tla_expand.specs.declared.arena.Entry.{Entry}
 use Rattle.tla_expand.specs.declared.cover.Gone.{Gone}
-use Rattle.tla_expand.specs.declared.cover.Left.{Left}
-use Rattle.tla_expand.specs.declared.cover.Left.TheVariants.{Part, End}
+use Rattle.tla_expand.specs.declared.cover.Visit.{Visit}
+use Rattle.tla_expand.specs.declared.cover.Visit.TheVariants.{Part, End}
 use Rattle.tla_expand.specs.declared.cover.Piece.{Piece}
 use Rattle.tla_expand.specs.declared.cover.Piece.TheVariants as piece
 use Rattle.tla_expand.specs.declared.nodes.Form.{Form}
 use Rattle.tla_expand.specs.declared.nodes.Form.TheVariants as form
-use Rattle.tla_expand.specs.declared.nodes.Many.{Many}
-use Rattle.tla_expand.specs.declared.nodes.Many.TheVariants as manies
+use Rattle.tla_expand.specs.declared.nodes.ListNode.{ListNode}
+use Rattle.tla_expand.specs.declared.nodes.ListNode.TheVariants as manies
 use Rattle.tla_expand.specs.declared.primes.Primes.{Primes}
 use Rattle.tla_expand.specs.declared.primes.Primes.TheVariants.{Never, Once, Twice}
 use Rattle.tla_expand.specs.Covers.{is_names, has_name}
@@ -60,7 +60,7 @@ piece_of_variable Never i = piece.Variable i
 piece_of_variable Once i = piece.Other
 piece_of_variable Twice i = piece.Other
 
-abbrev pub piece_of_many : Many → Bor (List syntax.Expr) → Piece
+abbrev pub piece_of_many : ListNode → Bor (List syntax.Expr) → Piece
 piece_of_many manies.Tuple ts = piece.Tuple ts
 piece_of_many f ts = piece.Other
 
@@ -78,31 +78,31 @@ abbrev pub IsNamed : List Entry → Tree → ℕ → ℕ → Type 0
 IsNamed es t s k = (k < length es) × ((e : Entry) → e ≡ get_or es k e → (p : Place) × ((d : ℕ) → expand t (scope_at es s) d ≡ meaning_of (scope_at es) e.what p [] d))
 
 -- all that is to be looked at is met
-abbrev pub AreMet : (ℕ → Bool) → List Entry → List Left → Type 0
+abbrev pub AreMet : (ℕ → Bool) → List Entry → List Visit → Type 0
 AreMet m es [] = Unit {0}
 AreMet m es (Part t s k ∷ ls) = IsMet m (with_primes k (expand (view t.now) (scope_at es s) 0)) × AreMet m es ls
 AreMet m es (End g ∷ ls) = AreMet m es ls
 
 -- each entry is met, where what is to be looked at before it is, and what is next
-abbrev pub EndsMet : (ℕ → Bool) → List Entry → List Left → Type 0 → Type 0
+abbrev pub EndsMet : (ℕ → Bool) → List Entry → List Visit → Type 0 → Type 0
 EndsMet m es [] n = Unit {0}
 EndsMet m es (Part t s k ∷ ls) n = EndsMet m es ls n
 EndsMet m es (End g ∷ ls) n = (AreMet m es ls → n → IsGone m es g) × EndsMet m es ls n
 
-abbrev pub IsInside : List Entry → Left → Type 0
+abbrev pub IsInside : List Entry → Visit → Type 0
 IsInside es (Part t s k) = s ≤ length es
 IsInside es (End g) = g.entry < length es
 
 -- expressions in a scope with so many primes, as what is left to look at
-abbrev pub parts_at : List (Bor syntax.Expr) → ℕ → Primes → List Left
+abbrev pub parts_at : List (Bor syntax.Expr) → ℕ → Primes → List Visit
 parts_at bs s k = map (λ (b : Bor syntax.Expr). Part b s k) bs
 
 -- these expressions behind what was left
-abbrev pub ArePushed : List Left → List syntax.Expr → ℕ → Primes → List Left → Type 0
+abbrev pub ArePushed : List Visit → List syntax.Expr → ℕ → Primes → List Visit → Type 0
 ArePushed old ts s k new = (bs : List (Bor syntax.Expr)) × (pointed bs ≡ ts) × (new ≡ old ++ parts_at bs s k)
 
 -- A walk over the parts of a whole. What is left ends with what is next; what is looked at just now is next to it. The whole is met where all of that is; and where it is a nested tuple of variables, so is all of that and was met.
-pub record IsWalkBy (whole : Option Expr) (es : List Entry) (left : List Left) (gone : List Gone) (met : List ℕ) (next : (ℕ → Bool) → Type 0) : Type 0 where
+pub record IsWalkBy (whole : Option Expr) (es : List Entry) (left : List Visit) (gone : List Gone) (met : List ℕ) (next : (ℕ → Bool) → Type 0) : Type 0 where
   pub linked : AreLinked es
   pub inside : EachIs (IsInside es) left
   pub known : EachIs (λ (g : Gone). g.entry < length es) gone
@@ -112,14 +112,14 @@ pub record IsWalkBy (whole : Option Expr) (es : List Entry) (left : List Left) (
   pub parts : (e : Expr) → whole ≡ Some e → is_names e ≡ true → AreMet (λ i. has_name i e) es left × next (λ i. has_name i e) × EachIs (λ i. has_name i e ≡ true) met
 
 -- a walk between two steps
-abbrev pub IsWalk : Option Expr → List Entry → List Left → List Gone → List ℕ → Type 0
+abbrev pub IsWalk : Option Expr → List Entry → List Visit → List Gone → List ℕ → Type 0
 IsWalk whole es left gone met = IsWalkBy whole es left gone met (λ m. Unit {0})
 
 -- a walk that looks at this
-abbrev pub IsWalkTo : Option Expr → List Entry → List Left → List Gone → List ℕ → Option Expr → Type 0
+abbrev pub IsWalkTo : Option Expr → List Entry → List Visit → List Gone → List ℕ → Option Expr → Type 0
 IsWalkTo whole es left gone met o = IsWalkBy whole es left gone met (λ m. IsMet m o)
 
 -- what a step of a walk comes to: a walk that goes on, or the whole is no nested tuple of variables
-abbrev pub GoesOn : Option Expr → List Entry → List Left → List Gone → List ℕ → Bool → Type 0
+abbrev pub GoesOn : Option Expr → List Entry → List Visit → List Gone → List ℕ → Bool → Type 0
 GoesOn whole es left gone met true = IsWalk whole es left gone met
 GoesOn whole es left gone met false = IsNoTuple whole

@@ -233,7 +233,6 @@ fn under_tuple<'a>(
 
 /// The nodes of the names that are left, or the body.
 #[cycle(expand)]
-#[tactic(auto, using(crate::proofs::Sizes::no_room, crate::proofs::Sizes::none_left))]
 fn within<'a>(
     alloc: Global,
     entries: &mut Entries<'_, 'a>,
@@ -251,17 +250,7 @@ fn within<'a>(
     let [first, rest @ ..] = binds else {
         return expand(alloc, entries, under.body, at);
     };
-    if at.room == 0 {
-        return Err(Failure::TooLarge);
-    }
-    if at.left == 0 {
-        return Err(Failure::TooLarge);
-    }
-    let inside = Setting {
-        room: at.room - 1,
-        left: at.left - 1,
-        ..at
-    };
+    let inside = at.inside()?;
     nested(alloc, entries, under, *first, rest, inside)
 }
 

@@ -260,7 +260,6 @@ pub(super) fn kept_parts<'a>(
 
 /// UNCHANGED of the subscript of an action that stutters.
 #[cycle(expand)]
-#[tactic(auto, using(crate::proofs::Sizes::no_room, crate::proofs::Sizes::none_left))]
 pub(super) fn kept_subscript<'a>(
     alloc: Global,
     entries: &mut Entries<'_, 'a>,
@@ -274,17 +273,7 @@ pub(super) fn kept_subscript<'a>(
     ensures kept { OnOk result (listed entries.new ≡ listed entries.old) }
     ensures same { Gives at.room at.left result (kept_part (settled_primes at.primes) place (scope_at (listed entries.old) at.scope) at.bound tree.now) }
 {
-    if at.room == 0 {
-        return Err(Failure::TooLarge);
-    }
-    if at.left == 0 {
-        return Err(Failure::TooLarge);
-    }
-    let inside = Setting {
-        room: at.room - 1,
-        left: at.left - 1,
-        ..at
-    };
+    let inside = at.inside()?;
     unchanged_node(alloc, entries, place, tree, inside)
 }
 

@@ -82,17 +82,7 @@ fn tuple_of<'a>(
     ensures kept { OnOk result (listed entries.new ≡ listed entries.old) }
     ensures same { Gives at.room at.left result (made (λ xs. expr.tuple place (exprs xs)) (each_of (part_in at.primes (scope_at (listed entries.old) at.scope) at.bound) items.now)) }
 {
-    if at.room == 0 {
-        return Err(Failure::TooLarge);
-    }
-    if at.left == 0 {
-        return Err(Failure::TooLarge);
-    }
-    let inside = Setting {
-        room: at.room - 1,
-        left: at.left - 1,
-        ..at
-    };
+    let inside = at.inside()?;
     let many = each(alloc, entries, items, inside)?;
     Ok(Expanded {
         core: tuple(place, many.parts),

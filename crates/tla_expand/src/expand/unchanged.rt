@@ -13,9 +13,9 @@ use crate::builders::{kept_core, two_core};
 use crate::entries::Entries;
 use crate::expand::levels::{changed_subscript, kept_parts, kept_subscript, told_at};
 use crate::expand::{Setting, expand, two_parts};
-use crate::expanded::{Expanded, Many as Parts};
+use crate::expanded::{Expanded, Many};
 use crate::failure::Failure;
-use crate::nodes::{Form, Many, Two};
+use crate::nodes::{BinaryNode, Form, ListNode};
 use crate::parts::boxed;
 use crate::primes::{Primes, one_more};
 use crate::uses::find_head;
@@ -38,7 +38,7 @@ pub(super) fn tuple_items<'a>(form: Form<'a>) -> Option<&'a [Expr]>
     ensures { result ≡ tuple_parts form.entry }
 {
     match form {
-        Form::Many(_, Many::Tuple, items) => Some(items),
+        Form::Many(_, ListNode::Tuple, items) => Some(items),
         _ => None,
     }
 }
@@ -79,7 +79,7 @@ pub(super) fn kept<'a>(
             let more = one_more(at.primes);
             let told = told_at(at.sought, found.form, place);
             let two = kept_parts(alloc, entries, tree, more, told, at)?;
-            let core = two_core(alloc, place, Two::Equal, two.first, two.second)?;
+            let core = two_core(alloc, place, BinaryNode::Equal, two.first, two.second)?;
             Ok(Expanded {
                 core,
                 left: two.left,
@@ -96,7 +96,7 @@ fn kept_each<'a>(
     place: Place,
     trees: &'a [Expr],
     at: Setting,
-) -> Result<Parts, Failure>
+) -> Result<Many, Failure>
     requires linked { AreLinked (listed entries.old) }
     requires scope { at.scope ≤ length (listed entries.old) }
     requires small { at.bound + at.left ≤ most_named }
@@ -110,12 +110,11 @@ fn kept_each<'a>(
         left = part.left;
         push(&mut parts, part.core)?;
     }
-    Ok(Parts { parts, left })
+    Ok(Many { parts, left })
 }
 
 /// UNCHANGED of an expression.
 #[cycle(expand)]
-#[tactic(auto, using(crate::proofs::Sizes::no_room, crate::proofs::Sizes::none_left))]
 pub(super) fn kept_one<'a>(
     alloc: Global,
     entries: &mut Entries<'_, 'a>,
@@ -129,17 +128,7 @@ pub(super) fn kept_one<'a>(
     ensures kept { OnOk result (listed entries.new ≡ listed entries.old) }
     ensures same { Gives at.room at.left result (kept_part at.primes place (scope_at (listed entries.old) at.scope) at.bound tree.now) }
 {
-    if at.room == 0 {
-        return Err(Failure::TooLarge);
-    }
-    if at.left == 0 {
-        return Err(Failure::TooLarge);
-    }
-    let inside = Setting {
-        room: at.room - 1,
-        left: at.left - 1,
-        ..at
-    };
+    let inside = at.inside()?;
     kept(alloc, entries, place, tree, inside)
 }
 
@@ -158,23 +147,13 @@ pub(super) fn changed<'a>(
     ensures kept { OnOk result (listed entries.new ≡ listed entries.old) }
     ensures same { Gives at.room at.left result (changed_in at.primes place (scope_at (listed entries.old) at.scope) at.bound tree.now) }
 {
-    if at.room == 0 {
-        return Err(Failure::TooLarge);
-    }
-    if at.left == 0 {
-        return Err(Failure::TooLarge);
-    }
-    let inside = Setting {
-        room: at.room - 1,
-        left: at.left - 1,
-        ..at
-    };
+    let inside = at.inside()?;
     let more = one_more(at.primes);
     let two = two_parts(alloc, entries, tree, tree, more, inside)?;
     let core = two_core(
         alloc,
         place,
-        Two::Binary(Binary::Unequal),
+        BinaryNode::Binary(Binary::Unequal),
         two.first,
         two.second,
     )?;
@@ -200,13 +179,13 @@ pub(super) fn square_node<'a>(
     requires scope { at.scope ≤ length (listed entries.old) }
     requires small { at.bound + at.left ≤ most_named }
     ensures kept { OnOk result (listed entries.new ≡ listed entries.old) }
-    ensures same { Gives (at.room + 1) (at.left + 1) result (made (λ xy. nodes.two Two.Or place xy.0 xy.1) (both (part_in at.primes (scope_at (listed entries.old) at.scope) at.bound action.now) (kept_part (settled_primes at.primes) place_v (scope_at (listed entries.old) at.scope) at.bound v.now))) }
+    ensures same { Gives (at.room + 1) (at.left + 1) result (made (λ xy. nodes.two BinaryNode.Or place xy.0 xy.1) (both (part_in at.primes (scope_at (listed entries.old) at.scope) at.bound action.now) (kept_part (settled_primes at.primes) place_v (scope_at (listed entries.old) at.scope) at.bound v.now))) }
 {
     let action = expand(alloc, entries, action, at)?;
     let left = action.left;
     let action = boxed(alloc, action.core)?;
     let kept = kept_subscript(alloc, entries, place_v, v, Setting { left, ..at })?;
-    let core = two_core(alloc, place, Two::Or, action, kept.core)?;
+    let core = two_core(alloc, place, BinaryNode::Or, action, kept.core)?;
     Ok(Expanded {
         core,
         left: kept.left,
@@ -229,13 +208,13 @@ pub(super) fn angle_node<'a>(
     requires scope { at.scope ≤ length (listed entries.old) }
     requires small { at.bound + at.left ≤ most_named }
     ensures kept { OnOk result (listed entries.new ≡ listed entries.old) }
-    ensures same { Gives (at.room + 1) (at.left + 1) result (made (λ xy. nodes.two Two.And place xy.0 xy.1) (both (part_in at.primes (scope_at (listed entries.old) at.scope) at.bound action.now) (changed_in at.primes place_v (scope_at (listed entries.old) at.scope) at.bound v.now))) }
+    ensures same { Gives (at.room + 1) (at.left + 1) result (made (λ xy. nodes.two BinaryNode.And place xy.0 xy.1) (both (part_in at.primes (scope_at (listed entries.old) at.scope) at.bound action.now) (changed_in at.primes place_v (scope_at (listed entries.old) at.scope) at.bound v.now))) }
 {
     let action = expand(alloc, entries, action, at)?;
     let left = action.left;
     let action = boxed(alloc, action.core)?;
     let changed = changed_subscript(alloc, entries, place_v, v, Setting { left, ..at })?;
-    let core = two_core(alloc, place, Two::And, action, changed.core)?;
+    let core = two_core(alloc, place, BinaryNode::And, action, changed.core)?;
     Ok(Expanded {
         core,
         left: changed.left,

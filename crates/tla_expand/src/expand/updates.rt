@@ -181,16 +181,10 @@ fn step_of<'a>(
 }
 
 /// The name of a field, as a text.
-#[tactic(auto, using(crate::proofs::Sizes::no_room, crate::proofs::Sizes::none_left))]
 fn field_key(alloc: Global, name: &Written, at: Setting) -> Result<Expanded, Failure>
     ensures { Gives at.room at.left result (Some (expr.constant (places.place_of name.now.place) (value.text name.now.word))) }
 {
-    if at.room == 0 {
-        return Err(Failure::TooLarge);
-    }
-    if at.left == 0 {
-        return Err(Failure::TooLarge);
-    }
+    let inside = at.inside()?;
     let place = place_of(name.place);
-    leaf_of(alloc, place, Leaf::Text(&name.word), at.primes, at.left - 1)
+    leaf_of(alloc, place, Leaf::Text(&name.word), at.primes, inside.left)
 }

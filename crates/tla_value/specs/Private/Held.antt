@@ -1,5 +1,5 @@
 -- What a set or a function holds: nothing where it is empty, else shared members, or arguments and values.
-use Rattle.std.specs.Prelude.{◌≡◌, ℕ, pos, ◌+ℤ◌, ◌≤ℤ◌, ◌<◌, List, [], length, map, zip, Option, None, Some}
+use Rattle.std.specs.Prelude.{◌≡◌, ℕ, ◌<◌, List, [], length, map, zip, Option, None, Some}
 use Rattle.std.specs.Arc.{arc_value}
 use Rattle.std.specs.declared.sync.Arc.{Arc}
 use Rattle.std.specs.declared.alloc.Global.{Global}
@@ -7,7 +7,8 @@ use Rattle.tla_value.specs.Tree.{Tree, trees, pairs}
 use Rattle.tla_value.specs.TreeOf.{tree_of}
 use Rattle.tla_value.specs.Choices.{counted_up}
 use Rattle.tla_value.specs.TreeHash.{word_of, trees_writes, pairs_writes}
-use Rattle.tla_value.specs.IsValue.{AreValues, IsSetValue, IsFunValue}
+use Rattle.tla_value.specs.IsValue.{AreValues, FitNumbers, IsSetValue, IsFunValue}
+use Rattle.tla_value.specs.Private.Inner.{with_value_at}
 use Rattle.tla_value.specs.declared.value.Value.{Value}
 use Rattle.tla_value.specs.declared.value.Members.{Members}
 use Rattle.tla_value.specs.declared.value.Domain.{Domain}
@@ -31,18 +32,18 @@ abbrev pub domain_trees : ℕ → Domain → List Tree
 domain_trees n (Numbers z) = counted_up n z
 domain_trees n (Listed ts) = ts
 
--- so many numbers from one on are some, and numbers of 64 bits
+-- numbers of 64 bits, of which there are some, or a set of so many
 abbrev pub FitsDomain : ℕ → Domain → Type 0
-FitsDomain n (Numbers z) = (0 < n) × ((z +ℤ pos n) ≤ℤ pos 9223372036854775808)
-FitsDomain n (Listed ts) = Unit {0}
-
--- there are as many arguments as values
-abbrev pub IsMatched : Domain → List Value → Type 0
-IsMatched d vs = length (domain_trees (length vs) d) ≡ length vs
+FitsDomain n (Numbers z) = (0 < n) × FitNumbers n z
+FitsDomain n (Listed ts) = length ts ≡ n
 
 -- each argument beside its value
 abbrev pub entry_pairs : Domain → List Value → List (Tree × Tree)
 entry_pairs d vs = zip (domain_trees (length vs) d) (map tree_of vs)
+
+-- the same with another value at a place
+abbrev pub changed_pairs : Entries → ℕ → Value → List (Tree × Tree)
+changed_pairs e i v = with_value_at (entry_pairs e.domain e.values.items) i (tree_of v)
 
 abbrev pub held_pairs : Option (Arc Entries Global) → List (Tree × Tree)
 held_pairs None = []
@@ -51,10 +52,6 @@ held_pairs (Some held) = entry_pairs (arc_value held).domain (arc_value held).va
 abbrev pub FitsHeld : Option (Arc Entries Global) → Type 0
 FitsHeld None = Unit {0}
 FitsHeld (Some held) = FitsDomain (length (arc_value held).values.items) (arc_value held).domain
-
-abbrev pub IsHeldMatched : Option (Arc Entries Global) → Type 0
-IsHeldMatched None = Unit {0}
-IsHeldMatched (Some held) = IsMatched (arc_value held).domain (arc_value held).values.items
 
 abbrev pub fun_nesting : Option (Arc Entries Global) → ℕ
 fun_nesting None = 1
@@ -70,7 +67,6 @@ pub record IsHeldSet (ts : List Tree) (nesting hash : ℕ) : Type 0 where
   pub hashed : hash ≡ word_of (trees_writes (trees ts))
 
 pub record IsHeldFun (held : Option (Arc Entries Global)) : Type 0 where
-  pub matched : IsHeldMatched held
   pub fits : FitsHeld held
   pub shape : IsFunValue (held_pairs held) (fun_nesting held)
   pub hashed : fun_hash held ≡ word_of (pairs_writes (pairs (held_pairs held)))

@@ -9,4 +9,4 @@ returns-in-Unexpected-clause-explains c =
 pub returns-in-TooLarge-clause-explains : goal.returns-in-TooLarge-clause-explains
 returns-in-TooLarge-clause-explains c =
     let large = rw c.in-TooLarge.is at c.requires.because in
-    rw c.error_at.ensures (too_large c.args.text.now c.args.tokens.now c.in-TooLarge.at c.place_of-in-TooLarge.result c.requires.begins large c.place_of-in-TooLarge.ensures)
+    rw c.at.ensures (too_large c.args.text.now c.args.tokens.now c.in-TooLarge.at c.place_of-in-TooLarge.result c.requires.begins large c.place_of-in-TooLarge.ensures)

@@ -12,26 +12,22 @@ returns-then-branch-clause-ok c = λ ss es r.
     fair_part (fair_names c.args.classes.now) (replaced_in c.args.classes.now) c.args.walk.now.left.items c.args.formula c.args.walk.now.parts ss es c.requires.fair
     (sym c.in_ok-is_fair-in-Name.ensures.ok ∙ c.if-branch.true) r
 
-pub returns-in-Same-clause-ok : goal.returns-in-Same-clause-ok
-returns-in-Same-clause-ok c =
+pub returns-in_ok-push-in-Same-clause-ok : goal.returns-in_ok-push-in-Same-clause-ok
+returns-in_ok-push-in-Same-clause-ok c = λ ss es r.
     let b = replaced_in c.args.classes.now in
-    on_ok c.push.result
-    (λ h ss es r. rw h (one_part (fair_names c.args.classes.now) b c.args.walk.now.left.items c.args.formula c.args.walk.now.parts ss es _ (c.in-Same.ensures (conjuncts_of c.args.formula.names b)) r))
-    c.push.ensures.ok
+    rw c.in_ok-push-in-Same.ensures.ok
+    (one_part (fair_names c.args.classes.now) b c.args.walk.now.left.items c.args.formula c.args.walk.now.parts ss es _ (c.in-Same.ensures (conjuncts_of c.args.formula.names b)) r)
 
-pub returns-in_ok-push-in-Two-clause-ok : goal.returns-in_ok-push-in-Two-clause-ok
-returns-in_ok-push-in-Two-clause-ok c =
+pub returns-in_ok-push-in-Two-2-clause-ok : goal.returns-in_ok-push-in-Two-2-clause-ok
+returns-in_ok-push-in-Two-2-clause-ok c = λ ss es r.
     let b = replaced_in c.args.classes.now in
     let φ = fair_names c.args.classes.now in
     let p = c.args.walk.now.parts in
     let first : Formula = record { tree = c.in-Two.first; names = c.args.formula.names } in
     let second : Formula = record { tree = c.in-Two.second; names = c.args.formula.names } in
-    on_ok c.push-in-Two-2.result
-    (λ h ss es r.
     let both = two_parts φ b c.args.walk.now.left.items c.args.formula p ss es first second (c.in-Two.ensures (conjuncts_of c.args.formula.names b)) r in
-    let all = h ∙ ap (λ fs. fs ++ first ∷ []) c.in_ok-push-in-Two.ensures.ok in
-    subst (λ (fs : List Formula). AreFoundOrLeft φ b fs p ss es) (sym all) both)
-    c.push-in-Two-2.ensures.ok
+    let all = c.in_ok-push-in-Two-2.ensures.ok ∙ ap (λ fs. fs ++ first ∷ []) c.in_ok-push-in-Two.ensures.ok in
+    subst (λ (fs : List Formula). AreFoundOrLeft φ b fs p ss es) (sym all) both
 
 pub returns-in-Many-clause-ok : goal.returns-in-Many-clause-ok
 returns-in-Many-clause-ok c =
@@ -60,14 +56,12 @@ returns-in-Whole-clause-ok c =
     (λ s i ss es r. sorted (fair_names c.args.classes.now) b c.args.walk.now.left.items c.args.formula c.args.walk.now.parts ss es t c.add-in-Whole.new.self (c.in-Whole.ensures (conjuncts_of c.args.formula.names b)) s i r)
     c.add-in-Whole.ensures.steps c.add-in-Whole.ensures.initial
 
-pub returns-in-Some-clause-ok : goal.returns-in-Some-clause-ok
-returns-in-Some-clause-ok c =
+pub returns-in_ok-push-in-Some-clause-ok : goal.returns-in_ok-push-in-Some-clause-ok
+returns-in_ok-push-in-Some-clause-ok c = λ ss es r.
     let b = replaced_in c.args.classes.now in
     let n = c.args.formula.names in
     let t = tree_at c.args.formula.tree in
     let some : conjuncts_of n b c.in-Name.name.now ≡ Some (conjuncts_from b c.in-Some.body) =
     ap (λ x. conjuncts_of n b x) (sym c.as_bytes.ensures) ∙ sym c.formula.ensures ∙ ap (λ o. option_map (conjuncts_from b) o) c.in-Some.is in
     let part : conjuncts_from b c.args.formula ≡ conjuncts_from b c.in-Some.body = c.in-Name.ensures (conjuncts_of n b) ∙ ap (λ o. unwrap_or o (t ∷ [])) some in
-    on_ok c.push-in-Some.result
-    (λ h ss es r. rw h (one_part (fair_names c.args.classes.now) b c.args.walk.now.left.items c.args.formula c.args.walk.now.parts ss es _ part r))
-    c.push-in-Some.ensures.ok
+    rw c.in_ok-push-in-Some.ensures.ok (one_part (fair_names c.args.classes.now) b c.args.walk.now.left.items c.args.formula c.args.walk.now.parts ss es _ part r)

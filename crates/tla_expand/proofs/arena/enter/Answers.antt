@@ -6,12 +6,12 @@ use Rattle.tla_expand.proofs.arena.enter.Goals as goal
 pub push-requires : goal.push-requires
 push-requires c = below_rest (length (listed c.args.entries.now)) c.args.entry.what c.args.entry.rest c.requires.below
 
-pub returns-in-Ok-clause-linked : goal.returns-in-Ok-clause-linked
-returns-in-Ok-clause-linked c =
-    rw c.in-Ok.ensures.ok (are_linked_append (listed c.args.entries.now) c.args.entry c.requires.linked c.requires.below)
+pub returns-clause-linked : goal.returns-clause-linked
+returns-clause-linked c =
+    rw c.in_ok-push.ensures.ok (are_linked_append (listed c.args.entries.now) c.args.entry c.requires.linked c.requires.below)
 
-pub returns-in-Ok-clause-scope : goal.returns-in-Ok-clause-scope
-returns-in-Ok-clause-scope c =
-    let p = c.in-Ok.ensures.ok in
+pub returns-clause-scope : goal.returns-clause-scope
+returns-clause-scope c =
+    let p = c.in_ok-push.ensures.ok in
     let r : c.len.result ≡ length (listed c.args.entries.now) + 1 = c.len.ensures ∙ ap length p ∙ length-append (listed c.args.entries.now) (c.args.entry ∷ []) in
     rw (p, r) (scope_new (listed c.args.entries.now) c.args.entry)

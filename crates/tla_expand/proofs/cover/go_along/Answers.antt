@@ -1,4 +1,4 @@
-use Rattle.tla_expand.specs.Private.Gives.{head_gives, step_gives}
+use Rattle.tla_expand.specs.Private.Gives.{head_gives, reduction_gives}
 use Rattle.tla_expand.specs.Private.Walks.{IsWalkTo, GoesOn}
 use Rattle.tla_expand.proofs.Walking.{put_part, goes_by}
 use Rattle.tla_expand.specs.Listed.{listed}
@@ -17,5 +17,5 @@ returns-in-Ends-clause-goes c =
     let new = c.go_into.new.walk in
     goes_by c.go_into.result (λ whole b. GoesOn whole (listed new.entries) new.left.items new.gone.keys new.met.keys b)
     (λ whole. IsWalkTo whole es walk.left.items walk.gone.keys walk.met.keys (head_gives es c.in-Ends.head 0))
-    (λ whole. IsWalkTo whole es walk.left.items walk.gone.keys walk.met.keys (step_gives es c.args.step 0))
+    (λ whole. IsWalkTo whole es walk.left.items walk.gone.keys walk.met.keys (reduction_gives es c.args.reduction 0))
     c.go_into.ensures.goes (λ whole w. rw c.in-Ends.is at w)

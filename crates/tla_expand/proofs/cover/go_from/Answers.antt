@@ -2,7 +2,7 @@ use Rattle.std.proofs.Common.{◌≡◌, None}
 use Rattle.tla_tree.specs.View.{view}
 use Rattle.tla_expand.specs.Expand.{expand}
 use Rattle.tla_expand.specs.Primes.{with_primes}
-use Rattle.tla_expand.specs.Private.Gives.{step_gives}
+use Rattle.tla_expand.specs.Private.Gives.{reduction_gives}
 use Rattle.tla_expand.specs.Private.Walks.{IsWalkTo, GoesOn}
 use Rattle.tla_expand.specs.Scopes.{scope_at}
 use Rattle.tla_expand.proofs.Walking.{walk_grown, walk_same, put_nothing, goes_by}
@@ -13,16 +13,16 @@ pub returns-in-Ok-clause-goes : goal.returns-in-Ok-clause-goes
 returns-in-Ok-clause-goes c =
     let walk = c.args.walk.now in
     let es = listed walk.entries in
-    let mid = listed c.next_step.new.entries in
+    let mid = listed c.next_reduction.new.entries in
     let new = c.go_along.new.walk in
     let e = c.in-Ok.ensures in
     let o = with_primes c.args.primes (expand (view c.args.tree.now) (scope_at es c.args.scope) 0) in
     goes_by c.go_along.result (λ whole b. GoesOn whole (listed new.entries) new.left.items new.gone.keys new.met.keys b)
-    (λ whole. IsWalkTo whole mid walk.left.items walk.gone.keys walk.met.keys (step_gives mid c.in-Ok.step 0))
+    (λ whole. IsWalkTo whole mid walk.left.items walk.gone.keys walk.met.keys (reduction_gives mid c.in-Ok.reduction 0))
     (λ whole. IsWalkTo whole es walk.left.items walk.gone.keys walk.met.keys o)
     c.go_along.ensures.goes
     (λ whole w.
-    walk_same whole mid walk.left.items walk.gone.keys walk.met.keys o (step_gives mid c.in-Ok.step 0) (e.same 0)
+    walk_same whole mid walk.left.items walk.gone.keys walk.met.keys o (reduction_gives mid c.in-Ok.reduction 0) (e.same 0)
     (walk_grown es mid e.extends w.linked whole o walk.left.items walk.gone.keys walk.met.keys e.linked w))
 
 pub returns-in-Err-NoExpansion-clause-goes : goal.returns-in-Err-NoExpansion-clause-goes

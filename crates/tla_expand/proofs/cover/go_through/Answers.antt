@@ -1,7 +1,7 @@
 use Rattle.std.proofs.Common.{◌≡◌, ◌++◌, ◌∷◌, [], List, length, vec_len, rules, ap, ◌∙◌}
 use Rattle.tla_tree.specs.View.{view}
-use Rattle.tla_expand.specs.declared.cover.Left.{Left}
-use Rattle.tla_expand.specs.declared.cover.Left.TheVariants.{Part}
+use Rattle.tla_expand.specs.declared.cover.Visit.{Visit}
+use Rattle.tla_expand.specs.declared.cover.Visit.TheVariants.{Part}
 use Rattle.tla_expand.specs.declared.primes.Primes.TheVariants.{Never}
 use Rattle.tla_expand.specs.Expand.{expand}
 use Rattle.tla_expand.specs.Scopes.{scope_at}
@@ -13,7 +13,7 @@ use Rattle.tla_expand.proofs.cover.go_through.Goals as goal
 pub loop-turn-init : goal.loop-turn-init
 loop-turn-init c = record {
   goes = walk_starts (listed c.args.walk.now.entries) c.args.tree c.args.scope c.push.new.items.items c.args.walk.now.gone.keys c.args.walk.now.met.keys c.requires.linked c.requires.within
-      (c.in_ok-push.ensures.ok ∙ ap (λ (ls : List Left). ls ++ Part c.args.tree c.args.scope Never ∷ []) c.requires.left) c.requires.gone c.requires.met;
+      (c.in_ok-push.ensures.ok ∙ ap (λ (ls : List Visit). ls ++ Part c.args.tree c.args.scope Never ∷ []) c.requires.left) c.requires.gone c.requires.met;
 }
 
 pub loop-turn-preserved : goal.loop-turn-preserved

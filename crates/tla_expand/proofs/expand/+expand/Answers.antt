@@ -9,10 +9,10 @@ use Rattle.tla_core.specs.ExprOf.{expr_of, exprs_of_arm}
 use Rattle.tla_tree.specs.View.{view, group_view, key_view, views_items}
 use Rattle.tla_tree.specs.Tree as tree
 use Rattle.tla_tree.specs.Tree.{binders}
-use Rattle.tla_expand.specs.declared.nodes.Two.TheVariants as twos
-use Rattle.tla_expand.specs.declared.nodes.Many.TheVariants as manies
+use Rattle.tla_expand.specs.declared.nodes.BinaryNode.TheVariants as twos
+use Rattle.tla_expand.specs.declared.nodes.ListNode.TheVariants as manies
 use Rattle.tla_expand.specs.Lists.{exprs, arms_with, fields_of, updates_of, named_part, changed_part}
-use Rattle.tla_expand.specs.Maybe.{◌>>=◌, each_of}
+use Rattle.tla_expand.specs.Maybe.{each_of}
 use Rattle.tla_expand.specs.Nodes.{two, three, many, fielded}
 use Rattle.tla_expand.specs.Primes.{one_more, settled_primes, with_primes}
 use Rattle.tla_expand.specs.Expand.{expand, expand_step, binds_of}
@@ -25,7 +25,7 @@ use Rattle.tla_expand.specs.Places.{place_of}
 use Rattle.tla_expand.specs.Private.Gives.{Gives, Fails, part_in, arm_in, field_in, set_in, step_in, value_in, update_in, kept_part, changed_in, both, total, highest, sum_of, larger_of, field_nodes, field_depth, update_nodes, update_depth, parts_of}
 use Rattle.tla_expand.specs.Private.Forms.{form_in}
 use Rattle.tla_expand.proofs.Levels.{look_fails, unchanged_fails, explains_none, tuple_operand_fails, plain_operand_fails, changed_fails, tuple_looked, if_fails}
-use Rattle.tla_expand.proofs.Sizes.{Given, no_room, none_left, first_fails, second_fails, two_give, node_fails, node_gives, same_limits, limits_are, openings_primed, opened_gives, opened_fails, opened_full}
+use Rattle.tla_expand.proofs.Sizes.{Given, first_fails, second_fails, two_give, node_fails, node_gives, openings_primed, opened_gives, opened_fails, opened_full}
 use Rattle.tla_expand.proofs.Lists.{part_done, part_fails, all_done, total_more, highest_more}
 use Rattle.tla_expand.proofs.Made.{two_larger, three_larger, many_larger, cases_larger, cases_or_larger, fielded_larger, product_larger, except_larger, Triple}
 use Rattle.tla_expand.proofs.Links.{cut_back, home_keep, bind_scope}
@@ -39,14 +39,6 @@ use Rattle.tla_expand.proofs.Keys.{one_key, several_keys}
 use Rattle.tla_expand.proofs.Arms.{two_form, many_form, index_form, cases_form, cases_or_form, unchanged_form, fields_form, product_form, except_form, square_form, angle_form}
 use Rattle.tla_expand.specs.Listed.{listed}
 use Rattle.tla_expand.proofs.expand.+expand.Goals as goal
-
-pub expand-returns-then-at-eq0-clause-same : goal.expand-returns-then-at-eq0-clause-same
-expand-returns-then-at-eq0-clause-same t c =
-    no_room (part_in c.args.at.primes (scope_at (listed c.args.entries.now) c.args.at.scope) c.args.at.bound c.args.tree.now) c.args.at.room c.args.at.left c.if-at-eq0.true
-
-pub expand-returns-then-at-eq0-2-clause-same : goal.expand-returns-then-at-eq0-2-clause-same
-expand-returns-then-at-eq0-2-clause-same t c =
-    none_left (part_in c.args.at.primes (scope_at (listed c.args.entries.now) c.args.at.scope) c.args.at.bound c.args.tree.now) c.args.at.room c.args.at.left c.if-at-eq0-2.true
 
 pub node_of-returns-in-Two-clause-same : goal.node_of-returns-in-Two-clause-same
 node_of-returns-in-Two-clause-same t c =
@@ -217,22 +209,21 @@ lists::arms_of-returns-clause-same t c =
 
 pub lists::tuple_of-returns-in_err-many-clause-same : goal.lists::tuple_of-returns-in_err-many-clause-same
 lists::tuple_of-returns-in_err-many-clause-same t c =
-    let r = err_from_is_err_and c.from_residual.result c.from_residual.ensures.1 in
-    let o = each_of (part_in c.args.at.primes (scope_at (listed c.args.entries.now) c.args.at.scope) c.args.at.bound) c.args.items.now in
-    rw (r.1, r.2) (same_limits c.in_err-many.field-0.0 (o >>= λ xs. Some (tuple c.args.place (exprs xs))) c.args.at.room c.args.at.left c.if-at-eq0.false c.if-at-eq0-2.false
-    (node_fails (total nodes) (highest depth) (λ xs. tuple c.args.place (exprs xs)) c.in_err-many.field-0.0 o (c.args.at.room - 1) (c.args.at.left - 1) (many_larger manies.Tuple c.args.place) c.in_err-many.ensures.same))
+    let r = err_from_is_err_and c.from_residual-in_err-many.result c.from_residual-in_err-many.ensures.1 in
+    let inside = c.in_ok-inside.inside in
+    let e = c.in_ok-inside.ensures in
+    let o = each_of (part_in inside.primes (scope_at (listed c.args.entries.now) inside.scope) inside.bound) c.args.items.now in
+    let f = node_fails (total nodes) (highest depth) (λ xs. tuple c.args.place (exprs xs)) c.in_err-many.field-0.0 o inside.room inside.left (many_larger manies.Tuple c.args.place) c.in_err-many.ensures.same in
+    rw (r.1, r.2) (rw (e.room, e.left, e.primes, e.scope, e.bound) at f)
 
 pub lists::tuple_of-returns-clause-same : goal.lists::tuple_of-returns-clause-same
 lists::tuple_of-returns-clause-same t c =
-    let o = each_of (part_in c.args.at.primes (scope_at (listed c.args.entries.now) c.args.at.scope) c.args.at.bound) c.args.items.now in
-    let l = limits_are c.args.at.room c.args.at.left c.if-at-eq0.false c.if-at-eq0-2.false in
-    let g = node_gives (total nodes) (highest depth) (λ xs. tuple c.args.place (exprs xs)) o (map expr_of c.in_ok-many.many.parts.items) (expr_of c.tuple.result) (c.args.at.room - 1) (c.args.at.left - 1) c.in_ok-many.many.left
+    let inside = c.in_ok-inside.inside in
+    let e = c.in_ok-inside.ensures in
+    let o = each_of (part_in inside.primes (scope_at (listed c.args.entries.now) inside.scope) inside.bound) c.args.items.now in
+    let g = node_gives (total nodes) (highest depth) (λ xs. tuple c.args.place (exprs xs)) o (map expr_of c.in_ok-many.many.parts.items) (expr_of c.tuple.result) inside.room inside.left c.in_ok-many.many.left
     (many_larger manies.Tuple c.args.place) c.in_ok-many.ensures.same c.tuple.ensures in
-    rw (l.0, l.1) at g
-
-pub unchanged::kept_one-returns-then-at-eq0-clause-same : goal.unchanged::kept_one-returns-then-at-eq0-clause-same
-unchanged::kept_one-returns-then-at-eq0-clause-same t c =
-    no_room (kept_part c.args.at.primes c.args.place (scope_at (listed c.args.entries.now) c.args.at.scope) c.args.at.bound c.args.tree.now) c.args.at.room c.args.at.left c.if-at-eq0.true
+    rw (e.room, e.left, e.primes, e.scope, e.bound) at g
 
 pub levels::node_behind-returns-in_err-look_at_form-clause-same : goal.levels::node_behind-returns-in_err-look_at_form-clause-same
 levels::node_behind-returns-in_err-look_at_form-clause-same t c =
@@ -243,7 +234,7 @@ levels::node_behind-returns-in_err-look_at_form-clause-same t c =
 pub levels::look_at_tuple-returns-then-not-are_fewer-clause-fails : goal.levels::look_at_tuple-returns-then-not-are_fewer-clause-fails
 levels::look_at_tuple-returns-then-not-are_fewer-clause-fails t c =
     let σ = scope_at (listed c.args.entries.now) c.args.at.scope in
-    if_fails c.look_at_each.result (λ f h. tuple_looked c.args.head.form c.args.items σ c.args.at.bound c.args.at.primes f c.args.at.room c.args.at.left c.requires.tuple h) c.look_at_each.ensures.fails
+    if_fails c.look_at_each.result c.look_at_each.ensures.fails (λ f h. tuple_looked c.args.head.form c.args.items σ c.args.at.bound c.args.at.primes f c.args.at.room c.args.at.left c.requires.tuple h)
 
 pub levels::look_at_tuple-returns-in_err-look_at_each-clause-fails : goal.levels::look_at_tuple-returns-in_err-look_at_each-clause-fails
 levels::look_at_tuple-returns-in_err-look_at_each-clause-fails t c =
@@ -289,7 +280,7 @@ levels::look_at_operand-returns-in-None-clause-fails t c =
     let k = c.args.at.primes in
     let o = expand (view c.args.tree.now) (scope_at old c.args.at.scope) c.args.at.bound in
     let plain = plain_head (with_primes k o) c.in_ok-found.found.form (scope_at (listed c.find_head.new.entries) c.in_ok-found.found.scope) c.args.at.bound c.in_ok-found.found.primes (c.in_ok-found.ensures.same c.args.at.bound) (sym c.tuple_items.ensures ∙ c.in-None.is) in
-    if_fails c.look_at.result (λ f h p. plain_operand_fails k f p o c.args.at.room c.args.at.left plain h) (rw q at c.look_at.ensures.fails)
+    if_fails c.look_at.result (rw q at c.look_at.ensures.fails) (λ f h p. plain_operand_fails k f p o c.args.at.room c.args.at.left plain h)
 
 pub levels::unchanged_node-returns-in_err-look_at_operand-clause-same : goal.levels::unchanged_node-returns-in_err-look_at_operand-clause-same
 levels::unchanged_node-returns-in_err-look_at_operand-clause-same t c =
@@ -301,10 +292,6 @@ levels::changed_subscript-returns-in_err-look_at-clause-same t c =
     let r = err_from_is_err_and c.from_residual.result c.from_residual.ensures.1 in
     let o = expand (view c.args.tree.now) (scope_at (listed c.args.entries.now) c.args.at.scope) c.args.at.bound in
     rw (r.1, r.2) (changed_fails c.args.at.primes c.in_err-look_at.field-0.0 c.args.place o c.args.at.room c.args.at.left c.in_err-look_at.ensures.fails)
-
-pub levels::kept_subscript-returns-then-at-eq0-clause-same : goal.levels::kept_subscript-returns-then-at-eq0-clause-same
-levels::kept_subscript-returns-then-at-eq0-clause-same t c =
-    no_room (kept_part (settled_primes c.args.at.primes) c.args.place (scope_at (listed c.args.entries.now) c.args.at.scope) c.args.at.bound c.args.tree.now) c.args.at.room c.args.at.left c.if-at-eq0.true
 
 pub unchanged::kept_each-returns-in_err-part-clause-same : goal.unchanged::kept_each-returns-in_err-part-clause-same
 unchanged::kept_each-returns-in_err-part-clause-same t c =
@@ -660,20 +647,25 @@ updates::change-returns-clause-same t c =
 
 pub unchanged::changed-returns-in_err-two-clause-same : goal.unchanged::changed-returns-in_err-two-clause-same
 unchanged::changed-returns-in_err-two-clause-same t c =
-    let r = err_from_is_err_and c.from_residual.result c.from_residual.ensures.1 in
-    let o = both (part_in (one_more c.args.at.primes) (scope_at (listed c.args.entries.now) c.args.at.scope) c.args.at.bound c.args.tree.now) (part_in c.args.at.primes (scope_at (listed c.args.entries.now) c.args.at.scope) c.args.at.bound c.args.tree.now) in
-    let f = rw c.one_more-more.ensures at c.in_err-two.ensures.same in
-    rw (r.1, r.2) (same_limits c.in_err-two.field-0.0 (o >>= λ xy. Some (two (twos.Binary Unequal) c.args.place xy.0 xy.1)) c.args.at.room c.args.at.left c.if-at-eq0.false c.if-at-eq0-2.false
-    (node_fails (sum_of nodes nodes) (larger_of depth depth) (λ (xy : Expr × Expr). two (twos.Binary Unequal) c.args.place xy.0 xy.1) c.in_err-two.field-0.0 o (c.args.at.room - 1) (c.args.at.left - 1) (two_larger (twos.Binary Unequal) c.args.place) f))
+    let r = err_from_is_err_and c.from_residual-in_err-two.result c.from_residual-in_err-two.ensures.1 in
+    let inside = c.in_ok-inside.inside in
+    let e = c.in_ok-inside.ensures in
+    let σ = scope_at (listed c.args.entries.now) inside.scope in
+    let o = both (part_in (one_more c.args.at.primes) σ inside.bound c.args.tree.now) (part_in inside.primes σ inside.bound c.args.tree.now) in
+    let h = rw c.one_more-more.ensures at c.in_err-two.ensures.same in
+    let f = node_fails (sum_of nodes nodes) (larger_of depth depth) (λ (xy : Expr × Expr). two (twos.Binary Unequal) c.args.place xy.0 xy.1) c.in_err-two.field-0.0 o inside.room inside.left (two_larger (twos.Binary Unequal) c.args.place) h in
+    rw (r.1, r.2) (rw (e.room, e.left, e.primes, e.scope, e.bound) at f)
 
 pub unchanged::changed-returns-clause-same : goal.unchanged::changed-returns-clause-same
 unchanged::changed-returns-clause-same t c =
-    let o = both (part_in (one_more c.args.at.primes) (scope_at (listed c.args.entries.now) c.args.at.scope) c.args.at.bound c.args.tree.now) (part_in c.args.at.primes (scope_at (listed c.args.entries.now) c.args.at.scope) c.args.at.bound c.args.tree.now) in
-    let l = limits_are c.args.at.room c.args.at.left c.if-at-eq0.false c.if-at-eq0-2.false in
-    let f = rw c.one_more-more.ensures at c.in_ok-two.ensures.same in
-    let g = node_gives (sum_of nodes nodes) (larger_of depth depth) (λ (xy : Expr × Expr). two (twos.Binary Unequal) c.args.place xy.0 xy.1) o (parts_of c.in_ok-two.two) (expr_of c.in_ok-core.core) (c.args.at.room - 1) (c.args.at.left - 1) c.in_ok-two.two.left
-    (two_larger (twos.Binary Unequal) c.args.place) f c.in_ok-core.ensures.ok in
-    rw (l.0, l.1) at g
+    let inside = c.in_ok-inside.inside in
+    let e = c.in_ok-inside.ensures in
+    let σ = scope_at (listed c.args.entries.now) inside.scope in
+    let o = both (part_in (one_more c.args.at.primes) σ inside.bound c.args.tree.now) (part_in inside.primes σ inside.bound c.args.tree.now) in
+    let h = rw c.one_more-more.ensures at c.in_ok-two.ensures.same in
+    let g = node_gives (sum_of nodes nodes) (larger_of depth depth) (λ (xy : Expr × Expr). two (twos.Binary Unequal) c.args.place xy.0 xy.1) o (parts_of c.in_ok-two.two) (expr_of c.in_ok-core.core) inside.room inside.left c.in_ok-two.two.left
+    (two_larger (twos.Binary Unequal) c.args.place) h c.in_ok-core.ensures.ok in
+    rw (e.room, e.left, e.primes, e.scope, e.bound) at g
 
 pub node_of-returns-in-Fields-clause-same : goal.node_of-returns-in-Fields-clause-same
 node_of-returns-in-Fields-clause-same t c =

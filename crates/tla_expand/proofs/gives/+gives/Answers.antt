@@ -2,15 +2,15 @@ use Rattle.std.proofs.Common.{rules, ◌≡◌, ◌+◌, ℕ, map, drop, ap, ref
 use Rattle.tla_tree.specs.Tree as tree
 use Rattle.tla_tree.specs.View.{view, definition_view, definition_views_items}
 use Rattle.tla_expand.specs.declared.gives.Known.TheViews as views
-use Rattle.tla_expand.specs.declared.gives.Part.{Part}
+use Rattle.tla_expand.specs.declared.gives.BodyPart.{BodyPart}
 use Rattle.tla_expand.specs.declared.primes.Primes.TheVariants.{Never}
 use Rattle.tla_expand.specs.Primes.{with_primes}
 use Rattle.tla_expand.specs.Meanings.{Scope}
 use Rattle.tla_expand.specs.Expand.{expand, definitions_in}
 use Rattle.tla_expand.specs.Scopes.{scope_at}
-use Rattle.tla_expand.specs.Private.Known.{Layers, Holds, IsMeant, IsOperator, GivesBack, reached_in}
+use Rattle.tla_expand.specs.Private.Known.{Layers, Holds, IsSummary, IsOperator, GivesBack, reached_in}
 use Rattle.tla_expand.proofs.Shorter.{some_map}
-use Rattle.tla_expand.proofs.GivenWalk.{comes_back, back_more, back_none, back_let, operator_meant, other_meant, operator_back}
+use Rattle.tla_expand.proofs.GivenWalk.{comes_back, back_more, back_none, back_let, operator_summarized, other_summarized, operator_back}
 use Rattle.tla_expand.specs.Listed.{listed}
 use Rattle.tla_expand.proofs.gives.+gives.Goals as goal
 
@@ -19,9 +19,9 @@ given_in-returns-then-from-definitions t c =
     let ρ = scope_at (listed c.args.entries.now) c.args.scope in
     let a = c.args.part in
     let x = c.name_of.result in
-    let w = c.meant_by-meant.result in
+    let w = c.definition_summary-summary.result in
     let def = c.index-definitions-from.result in
-    let i : IsMeant ρ a.known.now (definition_view def) w = c.meant_by-meant.ensures in
+    let i : IsSummary ρ a.known.now (definition_view def) w = c.definition_summary-summary.ensures in
     let b : IfSome c.given_in.result (λ r. (f : Layers) (τ : Scope) → Holds ρ (views.Named x w a.known) f τ → (d : ℕ) → with_primes a.primes (expand (view a.tree.now) (definitions_in (tree.definitions (map definition_view (drop (c.args.from + 1) c.args.definitions.now))) τ) d) ≡ reached_in r f d) = c.given_in.ensures in
     some_map c.given_in.result _ _ (λ r h. back_more ρ a def c.args.definitions.now c.args.from x w r (omega arith) c.index-definitions-from.is c.name_of.ensures i h) b
 
@@ -34,25 +34,25 @@ given_in-returns-in-Let t c =
     let a = c.args.part in
     let e = c.in-Goes.end in
     let m = c.in-Let in
-    let b : Part = record { known = e.known; tree = c.deref.result; primes = e.primes; primed = e.primed } in
+    let b : BodyPart = record { known = e.known; tree = c.deref.result; primes = e.primes; primed = e.primed } in
     let v : view e.tree.now ≡ tree.Let m.field-0 (tree.definitions (map definition_view c.as_slice.result.now)) (view c.deref.result.now) =
     rw (m.is, c.as_slice.ensures.value, c.deref.ensures) (ap (λ x. tree.Let m.field-0 x (view m.tree.value)) (definition_views_items m.inner_definitions)) in
     let f : IfSome c.given_in-in-Let.result (λ r. GivesBack ρ b c.as_slice.result.now r) = c.given_in-in-Let.ensures in
     some_map c.given_in-in-Let.result _ _ (λ r h. back_none ρ a c.args.definitions.now c.args.from r (omega arith) (comes_back ρ a e r c.in-Goes.ensures (back_let ρ e b m.field-0 c.as_slice.result.now r v refl refl h))) f
 
-pub meant_by-returns-in_default : goal.meant_by-returns-in_default
-meant_by-returns-in_default t c = other_meant (scope_at (listed c.args.entries.now) c.args.scope) c.args.known.now (definition_view c.args.definition.now)
+pub definition_summary-returns-in_default : goal.definition_summary-returns-in_default
+definition_summary-returns-in_default t c = other_summarized (scope_at (listed c.args.entries.now) c.args.scope) c.args.known.now (definition_view c.args.definition.now)
 
-pub meant_by-returns-in-Some : goal.meant_by-returns-in-Some
-meant_by-returns-in-Some t c =
+pub definition_summary-returns-in-Some : goal.definition_summary-returns-in-Some
+definition_summary-returns-in-Some t c =
     let ρ = scope_at (listed c.args.entries.now) c.args.scope in
     let m = c.in-Operator in
     let n : c.len.result ≡ length m.parameters.items = search rules in
     let i : IsOperator ρ c.args.known.now m.parameters.items (view m.body) c.in-Some.reached = rw (sym c.as_slice.ensures.value) c.in-Some.ensures in
-    operator_meant ρ c.args.known.now (definition_view c.args.definition.now) m.field-0 m.parameters.items (view m.body) c.len.result c.in-Some.reached c.meant_of.result (rw m.is refl) n i c.meant_of.ensures.means c.meant_of.ensures.round
+    operator_summarized ρ c.args.known.now (definition_view c.args.definition.now) m.field-0 m.parameters.items (view m.body) c.len.result c.in-Some.reached c.operator_summary.result (rw m.is refl) n i c.operator_summary.ensures.means c.operator_summary.ensures.round
 
-pub meant_by-returns-in-None : goal.meant_by-returns-in-None
-meant_by-returns-in-None t c = other_meant (scope_at (listed c.args.entries.now) c.args.scope) c.args.known.now (definition_view c.args.definition.now)
+pub definition_summary-returns-in-None : goal.definition_summary-returns-in-None
+definition_summary-returns-in-None t c = other_summarized (scope_at (listed c.args.entries.now) c.args.scope) c.args.known.now (definition_view c.args.definition.now)
 
 pub given_by-returns : goal.given_by-returns
 given_by-returns t c =

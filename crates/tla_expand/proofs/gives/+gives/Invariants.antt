@@ -7,5 +7,5 @@ decreases-given_in l = 3 * l.left
 abbrev pub decreases-given_by : goal.decreases-given_by
 decreases-given_by l = 3 * l.left + 1
 
-abbrev pub decreases-meant_by : goal.decreases-meant_by
-decreases-meant_by l = 3 * l.left + 2
+abbrev pub decreases-definition_summary : goal.decreases-definition_summary
+decreases-definition_summary l = 3 * l.left + 2

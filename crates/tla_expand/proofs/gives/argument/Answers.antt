@@ -1,5 +1,5 @@
 use Rattle.std.proofs.Common.{None, refl}
-use Rattle.tla_expand.specs.declared.arena.Given.{Given}
+use Rattle.tla_expand.specs.declared.arena.Projection.{Projection}
 use Rattle.tla_expand.specs.declared.primes.Primes.TheVariants.{Never}
 use Rattle.tla_expand.specs.Private.Known.{depth}
 use Rattle.tla_expand.proofs.GivenWalk.{parameter_reached}
@@ -7,5 +7,5 @@ use Rattle.tla_expand.proofs.gives.argument.Goals as goal
 
 pub returns-in-Some : goal.returns-in-Some
 returns-in-Some c = λ f.
-    let given : Given = record { index = c.args.index; primes = Never; primed = None } in
+    let given : Projection = record { index = c.args.index; primes = Never; primed = None } in
     parameter_reached c.args.index (depth c.args.round.now) (record { layer = c.in-Some.layer; given = given }) f c.in-Some.ensures refl refl

@@ -4,7 +4,7 @@ use Rattle.tla_tree.specs.View.{view, views_items, definition_view, definition_v
 use Rattle.tla_expand.specs.Meanings.{Argument}
 use Rattle.tla_expand.specs.Expand.{expand}
 use Rattle.tla_expand.specs.Scopes.{scope_at, arguments_in}
-use Rattle.tla_expand.specs.Private.Gives.{step_gives, Explains}
+use Rattle.tla_expand.specs.Private.Gives.{reduction_gives, Explains}
 use Rattle.tla_expand.specs.Primes.{with_primes}
 use Rattle.tla_expand.proofs.Steps.{expand_call, shown_once}
 use Rattle.tla_expand.specs.Listed.{listed}
@@ -17,7 +17,7 @@ returns-in-Call-clause-same c =
     let same : view c.args.tree.now ≡ t.Call m.name (t.trees (map view c.as_slice-arguments.result.now)) = rw (m.is, c.as_slice-arguments.ensures.value) (ap (λ x. t.Call m.name x) (views_items m.arguments)) in
     let e : expand (view c.args.tree.now) σ ≡ (λ (d : ℕ). σ c.as_bytes-in-Call.result.now c.place_of-at-in-Call.result (arguments_in c.as_slice-arguments.result.now σ) d) =
     rw (same, c.as_bytes-in-Call.ensures, c.place_of-at-in-Call.ensures) (expand_call m.name c.as_slice-arguments.result.now σ) in
-    subst (λ (f : Argument). IfOk c.use_of-in-Call.result (λ s. (d : ℕ) → with_primes c.args.primes (f d) ≡ step_gives (listed c.use_of-in-Call.new.entries) s d)) (sym e) c.use_of-in-Call.ensures.same
+    subst (λ (f : Argument). IfOk c.use_of-in-Call.result (λ s. (d : ℕ) → with_primes c.args.primes (f d) ≡ reduction_gives (listed c.use_of-in-Call.new.entries) s d)) (sym e) c.use_of-in-Call.ensures.same
 
 pub returns-in-Call-clause-err : goal.returns-in-Call-clause-err
 returns-in-Call-clause-err c =

@@ -22,7 +22,7 @@ pub loop-turn-preserved : goal.loop-turn-preserved
 loop-turn-preserved c =
     let e = c.in_ok-head.ensures in
     let same = e.same in
-    let extends = extends_trans (listed c.args.entries.now) (listed c.loop-turn.entries) (listed c.next_step.new.entries) c.loop-turn.invariant.extends e.extends in
+    let extends = extends_trans (listed c.args.entries.now) (listed c.loop-turn.entries) (listed c.next_reduction.new.entries) c.loop-turn.invariant.extends e.extends in
     let g = c.give_back.ensures in
     record {
       linked = g.linked;
@@ -34,7 +34,7 @@ loop-turn-preserved c =
 pub give_back-requires-clause-kept : goal.give_back-requires-clause-kept
 give_back-requires-clause-kept c =
     let e = c.in_ok-head.ensures in
-    let n = extends_length (listed c.args.entries.now) (listed c.next_step.new.entries) (extends_trans (listed c.args.entries.now) (listed c.loop-turn.entries) (listed c.next_step.new.entries) c.loop-turn.invariant.extends e.extends) in
+    let n = extends_length (listed c.args.entries.now) (listed c.next_reduction.new.entries) (extends_trans (listed c.args.entries.now) (listed c.loop-turn.entries) (listed c.next_reduction.new.entries) c.loop-turn.invariant.extends e.extends) in
     omega (arith, c.requires.mark, n)
 
 pub give_back-requires-clause-scope : goal.give_back-requires-clause-scope
@@ -42,5 +42,5 @@ give_back-requires-clause-scope c = let e = c.in_ok-head.ensures in rw c.in-Goes
 
 pub last_prime-primed-requires-clause-scope : goal.last_prime-primed-requires-clause-scope
 last_prime-primed-requires-clause-scope c =
-    let x = extends_length (listed c.loop-turn.entries) (listed c.next_step.new.entries) c.in_ok-head.ensures.extends in
+    let x = extends_length (listed c.loop-turn.entries) (listed c.next_reduction.new.entries) c.in_ok-head.ensures.extends in
     omega (arith, x, c.loop-turn.invariant.within)

@@ -1,6 +1,7 @@
 use Rattle.tla_expand.specs.Scopes.{scope_at}
 use Rattle.tla_expand.proofs.Binds.{mismatch}
 use Rattle.tla_expand.proofs.GivenBack.{use_gives, use_gives_none}
+use Rattle.tla_expand.proofs.Levels.{if_made, if_fails}
 use Rattle.tla_expand.specs.Listed.{listed}
 use Rattle.tla_expand.proofs.uses.use_of.Goals as goal
 
@@ -23,3 +24,17 @@ returns-in-None-clause-err c =
     let f = c.in-Some.ensures.found in
     let m = c.in-Gives in
     use_gives_none at (at c.args.scope c.args.name.now) c.in-Some.entry m.count m.given c.args.arguments.now (at c.args.scope) c.args.place f m.is c.in-None.ensures.none
+
+pub returns-clause-within : goal.returns-clause-within
+returns-clause-within c =
+    if_made c.use_alone.result c.use_alone.ensures.within (λ s h. h (listed c.args.entries.now) c.in-Some.entry.rest c.in-Some.ensures.below c.requires.scope)
+
+pub returns-clause-same : goal.returns-clause-same
+returns-clause-same c =
+    let es = listed c.args.entries.now in
+    if_made c.use_alone.result c.use_alone.ensures.same (λ s h d. rw c.in-Some.ensures.found (h es d))
+
+pub returns-clause-err : goal.returns-clause-err
+returns-clause-err c =
+    let at = scope_at (listed c.args.entries.now) in
+    if_fails c.use_alone.result c.use_alone.ensures.err (λ e h. rw c.in-Some.ensures.found (h at (at c.args.scope)))

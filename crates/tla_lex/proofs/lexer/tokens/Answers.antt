@@ -44,7 +44,7 @@ returns-in-End-None-clause-fault c =
     inl (no_closing_line c.in-Some.from c.in_ok-tokens.field-0.tokens.items c.in-End-None.place c.in_ok-check_utf8.ensures.ok (sym c.in-Some.ensures.value) none
     (subst (λ x. Reads Module x c.in-Some.from c.in_ok-tokens.field-0.tokens.items (End c.in-End-None.place)) (body_none c.args.text.now c.in-Some.from none) r) c.at-in-End-None.ensures)
 
-found : (c : goal.In_ok-push-in-End-Some) → AreTokens c.args.text.now c.push.new.tokens.items
+found : (c : goal.In_ok-push-in-End-Some) → AreTokens c.args.text.now c.push.new.self.items
 found c =
     let text = c.args.text.now in
     let r = reads_of_body text c.body_before.result.now c.in-Some.from c.closing-line.result c.in_ok-tokens.field-0.tokens.items _ (End c.in-End-Some.place)
@@ -55,13 +55,13 @@ found c =
     let order = rw c.closing_line.ensures.value at c.closing_line.ensures.order in
     let w = found_tokens text c.in-Some.from c.in-End-Some.to c.in_ok-tokens.field-0.tokens.items c.in-End-Some.place c.in_ok-check_utf8.ensures.ok
     (sym c.in-Some.ensures.value) (sym c.closing-line.ensures.value ∙ c.in-End-Some.is-1) within order.1 order.2 r o in
-    rw (c.in_ok-push-in-End-Some.ensures.ok, c.closing_line.ensures.value) w
+    rw (c.in_ok-push-in-End-Some.ensures.items, c.closing_line.ensures.value) w
 
 pub returns-in_ok-push-in-End-Some-clause-found : goal.returns-in_ok-push-in-End-Some-clause-found
 returns-in_ok-push-in-End-Some-clause-found c = found c
 
 pub returns-in_ok-push-in-End-Some-clause-only : goal.returns-in_ok-push-in-End-Some-clause-only
-returns-in_ok-push-in-End-Some-clause-only c ts a = tokens_once c.args.text.now ts c.push.new.tokens.items a (found c)
+returns-in_ok-push-in-End-Some-clause-only c ts a = tokens_once c.args.text.now ts c.push.new.self.items a (found c)
 
 pub returns-in_default-clause-none : goal.returns-in_default-clause-none
 returns-in_default-clause-none c _ =

@@ -17,9 +17,9 @@ loop-stop-preserved c =
     let t = c.in-Begins.token in
     let size = c.in-Begins.ensures.size in
     record {
-      so_far = rw c.in_ok-push-in-Begins.ensures.ok
+      so_far = rw c.in_ok-push-in-Begins.ensures.items
           (so_far_more c.args.source c.args.text.now c.args.from c.loop-stop.tokens.items c.loop-stop.at t so.so_far (sym c.in-Begins.ensures.value));
-      in_order = rw c.in_ok-push-in-Begins.ensures.ok
+      in_order = rw c.in_ok-push-in-Begins.ensures.items
           (in_order_more c.args.from c.loop-stop.at t.end c.loop-stop.tokens.items t so.in_order size.0 size.1 (omega arith));
       place = c.place_after-place.ensures;
       within = size.2;

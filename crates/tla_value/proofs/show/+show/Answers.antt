@@ -127,27 +127,8 @@ put_pairs-returns g t c =
     puts_listed (codes " @@ ") (pair_texts (pairs (map pair_of ps))) c.loop-i.i (omega (arith, length-pair_texts ps, length-zip c.args.arguments.now c.args.values.now c.requires, c.requires, c.loop-i-test.false)) c.in_ok-written.ensures c.loop-i.invariant c.put-2.ensures
 
 -- ---- functions on numbers
-pub put_numbered_pair-returns-in_err-written-2 : goal.put_numbered_pair-returns-in_err-written-2
-put_numbered_pair-returns-in_err-written-2 g t c =
-    let same : to_z w64 (of_z w64 c.args.argument) ≡ c.args.argument = omega (arith, ints) in
-    rw same at
-    (puts_exit _ _ c.from_residual-in_err-written-2.ensures.1
-    (puts_then c.in_ok-written.ensures (puts_short (codes " :> " ++ text_of (tree_of c.args.value.now)) c.in_err-written-2.ensures)))
-
-pub put_numbered_pair-returns-in_err-written-3 : goal.put_numbered_pair-returns-in_err-written-3
-put_numbered_pair-returns-in_err-written-3 g t c =
-    let same : to_z w64 (of_z w64 c.args.argument) ≡ c.args.argument = omega (arith, ints) in
-    rw same at
-    (puts_exit _ _ c.from_residual-in_err-written-3.ensures.1
-    (puts_then c.in_ok-written.ensures (puts_then c.in_ok-written-2.ensures (puts_short (text_of (tree_of c.args.value.now)) c.in_err-written-3.ensures))))
-
-pub put_numbered_pair-returns : goal.put_numbered_pair-returns
-put_numbered_pair-returns g t c =
-    let same : to_z w64 (of_z w64 c.args.argument) ≡ c.args.argument = omega (arith, ints) in
-    rw same at (puts_then c.in_ok-written.ensures (puts_then c.in_ok-written-2.ensures (puts_then c.in_ok-written-3.ensures c.put_value.ensures)))
-
-pub put_numbered-put_numbered_pair-requires : goal.put_numbered-put_numbered_pair-requires
-put_numbered-put_numbered_pair-requires g t c κs within = (omega (arith, depth-member-is c.args.values.now c.loop-i.i c.index-values-i.result c.index-values-i.is), within)
+pub put_numbered-put_pair-requires : goal.put_numbered-put_pair-requires
+put_numbered-put_pair-requires g t c κs within = (omega (arith, depth-member-is c.args.values.now c.loop-i.i c.index-values-i.result c.index-values-i.is), within)
 
 pub put_numbered-loop-i-preserved : goal.put_numbered-loop-i-preserved
 put_numbered-loop-i-preserved g t c =

@@ -43,9 +43,6 @@ decreases-put_field g l = 6 * depth (tree_of l.value.now) + 1
 abbrev pub decreases-put_pair : goal.decreases-put_pair
 decreases-put_pair g l = 6 * max (depth (tree_of l.argument.now)) (depth (tree_of l.value.now)) + 1
 
-abbrev pub decreases-put_numbered_pair : goal.decreases-put_numbered_pair
-decreases-put_numbered_pair g l = 6 * depth (tree_of l.value.now) + 1
-
 -- the first texts went out
 abbrev pub invariant-put_set-loop-i : goal.invariant-put_set-loop-i
 invariant-put_set-loop-i g l =

@@ -4,16 +4,16 @@ use Rattle.tla_defs.proofs.Tabled.{one_more, found_more}
 use Rattle.tla_defs.proofs.Temporals.{property_grows}
 use Rattle.tla_defs.proofs.table.Table.find.Goals as goal
 
-pub returns-in-Ok-clause-one : goal.returns-in-Ok-clause-one
-returns-in-Ok-clause-one c = λ t.
+pub returns-clause-one : goal.returns-clause-one
+returns-clause-one c = λ t.
     let f = property c.args.class in
     let made = sym c.in_ok-is_of.ensures.ok ∙ c.if-not-branch.false in
-    ap found_count c.in-Ok.ensures.entries
+    ap found_count c.in_ok-insert.ensures.entries
     ∙ one_more f (property_grows c.args.class) c.args.self.now.definitions.entries c.args.items.now c.in-Some.name.now c.in-Some.body.now _ c.in-Some.ensures.value c.if-body.false refl refl made
 
-pub returns-in-Ok-clause-more : goal.returns-in-Ok-clause-more
-returns-in-Ok-clause-more c =
+pub returns-clause-more : goal.returns-clause-more
+returns-clause-more c =
     let f = property c.args.class in
     let made = sym c.in_ok-is_of.ensures.ok ∙ c.if-not-branch.false in
-    rw c.in-Ok.ensures.entries
+    rw c.in_ok-insert.ensures.entries
     (found_more f (property_grows c.args.class) c.args.self.now.definitions.entries c.args.items.now c.in-Some.name.now c.in-Some.body.now _ c.in-Some.ensures.value c.if-body.false refl refl made)

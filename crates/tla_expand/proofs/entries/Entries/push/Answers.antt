@@ -13,9 +13,9 @@ invariant_of-self c =
     let added = node_added (s.known.now ++ s.made.items) n c.requires c.name_hash-hash.ensures j.ensures.below j.ensures.same s.indexed in
     record { indexed = rw c.push.ensures.items (pushed (is_ok c.push.result) s.known.now s.made.items n s.indexed added) }
 
-pub returns-in-Ok-clause-ok : goal.returns-in-Ok-clause-ok
+pub returns-clause-ok : goal.returns-clause-ok
 unfolding listed
-returns-in-Ok-clause-ok c =
+returns-clause-ok c =
     let s = c.args.self.now in
     let n : Node = record { entry = c.args.entry; hash = c.name_hash-hash.result; jumps = c.jumps_from-jumps.result } in
-    entries_more s.known.now s.made.items c.push.new.self.items n c.in-Ok.ensures.items
+    entries_more s.known.now s.made.items c.push.new.self.items n c.in_ok-push.ensures.items

@@ -4,6 +4,7 @@ use Rattle.tla_expand.specs.Scopes.{scope_at, AreLinked, Extends}
 use Rattle.tla_expand.specs.Meanings.{Scope}
 use Rattle.tla_expand.specs.Bound.{with_items, openings}
 use Rattle.tla_expand.specs.Private.Binders.{binds_in}
+use Rattle.tla_expand.specs.Private.Gives.{most_named}
 use Rattle.tla_expand.specs.Listed.{listed}
 use Rattle.tla_expand.proofs.expand.binding.name_items.Given as goal
 
@@ -12,6 +13,6 @@ invariant-loop-i l = record {
   linked : AreLinked (listed l.entries);
   extends : Extends (listed l.entries) (listed l.fn.entries);
   within : l.at ≤ length (listed l.entries);
-  small : (σ : Scope) (d : ℕ) → l.next + items_in (openings (binds_in (drop l.i l.binds) σ) d) ≤ 1000000;
+  small : (σ : Scope) (d : ℕ) → l.next + items_in (openings (binds_in (drop l.i l.binds) σ) d) ≤ most_named;
   same : (σ : Scope) → with_items (binds_in l.binds σ) l.bound (scope_at (listed l.fn.entries) l.scope) ≡ with_items (binds_in (drop l.i l.binds) σ) l.next (scope_at (listed l.entries) l.at);
 }

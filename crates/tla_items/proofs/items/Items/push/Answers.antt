@@ -10,12 +10,12 @@ invariant_of-self-inside-then-contains_key c =
     let is = c.self.inside.list.items in
     let says = c.as_bytes-name.ensures ∙ ap (λ (w : Written). w.word) c.replaced_name.ensures in
     let has = sym c.contains_key.ensures ∙ c.if-contains_key.true in
-    (rw c.in-Ok.ensures.items (first_known es is c.as_bytes-name.result c.args.item says c.self.inside.first_ones has), tt)
+    (rw c.in_ok-push.ensures.items (first_known es is c.as_bytes-name.result c.args.item says c.self.inside.first_ones has), tt)
 
-pub invariant_of-self-inside-in-Ok-insert : goal.invariant_of-self-inside-in-Ok-insert
-invariant_of-self-inside-in-Ok-insert c =
+pub invariant_of-self-inside-in-Ok : goal.invariant_of-self-inside-in-Ok
+invariant_of-self-inside-in-Ok c =
     let es = c.self.inside.firsts.entries in
     let is = c.self.inside.list.items in
     let says = c.as_bytes-name.ensures ∙ ap (λ (w : Written). w.word) c.replaced_name.ensures in
     let lacks = absent _ (sym c.contains_key.ensures ∙ c.if-contains_key.false) in
-    (rw (c.in-Ok-insert.ensures.entries, c.in-Ok.ensures.items) (first_new es is c.as_bytes-name.result c.args.item says c.self.inside.first_ones lacks), tt)
+    (rw (c.in-Ok.ensures.entries, c.in_ok-push.ensures.items) (first_new es is c.as_bytes-name.result c.args.item says c.self.inside.first_ones lacks), tt)

@@ -4,7 +4,8 @@ use Rattle.tla_value.specs.Tree.{trees, deepest, members-trees}
 use Rattle.tla_value.specs.TreeOf.{tree_of}
 use Rattle.tla_value.specs.IsValue.{IsSetList, IsFunValue}
 use Rattle.tla_value.proofs.Made.{makes_fun, IsValue-fun}
-use Rattle.tla_value.proofs.OnDomain.{on_entry, deepest-on, is-on}
+use Rattle.tla_value.specs.Private.Falls.{deepest-both}
+use Rattle.tla_value.proofs.OnDomain.{on_entry, is-on}
 use Rattle.tla_value.proofs.Pairs.{length-zip}
 use Rattle.tla_value.proofs.value.FunValue.on.Goals as goal
 
@@ -16,7 +17,7 @@ returns-then-deepest-ge-MAX_NESTING c =
     let list : IsSetList ks = subst IsSetList (members-trees ks) c.nesting.ensures.value.1 in
     let few = list.few in
     let deep : c.deepest_of.result ≡ deepest (trees ts) = c.deepest_of.ensures.nesting ∙ ap (λ vs. deepest (trees (map tree_of vs))) c.deref.ensures.value in
-    (omega (arith, few, long, length-zip ks ts long), omega (arith, deepest-on ks ts long, deep, c.nesting.ensures.nesting, c.max-deepest.ensures, c.if-deepest-ge-MAX_NESTING.true))
+    (omega (arith, few, long, length-zip ks ts long), omega (arith, deepest-both ks ts long, deep, c.nesting.ensures.nesting, c.max-deepest.ensures, c.if-deepest-ge-MAX_NESTING.true))
 
 pub from_parts-requires-clause-value : goal.from_parts-requires-clause-value
 from_parts-requires-clause-value c =

@@ -16,7 +16,6 @@ put_held-requires-clause-shallow c = still_shallow (held_pairs c.self.inside.hel
 
 pub invariant_of-self-2 : goal.invariant_of-self-2
 invariant_of-self-2 c = record {
-  matched = c.in_ok-put_held.ensures.matched;
   fits = c.in_ok-put_held.ensures.fits;
   shape = rw (c.in_ok-put_held.ensures.pairs, c.in_ok-put_held.ensures.nesting)
       (IsFunValue-with_value_at (held_pairs c.self.inside.held) _ c.args.index (tree_of c.args.value) c.self.invariant.shape

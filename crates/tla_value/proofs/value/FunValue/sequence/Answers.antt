@@ -6,8 +6,8 @@ use Rattle.tla_value.specs.IsValue.{IsFunValue}
 use Rattle.tla_value.specs.Choices.{counted_up, numbered}
 use Rattle.tla_value.specs.Private.Held.{entry_pairs}
 use Rattle.tla_value.proofs.Made.{makes_fun, IsValue-fun}
-use Rattle.tla_value.proofs.OnDomain.{numbered-zip, length-numbered, deepest-numbered, is-sequence}
-use Rattle.tla_value.proofs.Ranges.{length-counted_up}
+use Rattle.tla_value.proofs.OnDomain.{length-numbered, deepest-numbered, is-sequence}
+use Rattle.tla_value.proofs.Tuples.{numbered_is}
 use Rattle.tla_value.proofs.value.FunValue.sequence.Goals as goal
 
 pub returns-then-as_slice-gt-MAX_ELEMENTS : goal.returns-then-as_slice-gt-MAX_ELEMENTS
@@ -19,14 +19,11 @@ returns-then-deepest-ge-MAX_NESTING c =
     let deep : c.deepest_of-deepest.result ≡ deepest (trees ts) = c.deepest_of-deepest.ensures.nesting ∙ ap (λ vs. deepest (trees (map tree_of vs))) c.deref.ensures.value in
     (omega (arith, length-numbered 1 ts, length-map c.args.values.items tree_of, ap length c.as_slice.ensures.value, c.if-as_slice-gt-MAX_ELEMENTS.false), omega (arith, deepest-numbered 1 ts, deep, c.if-deepest-ge-MAX_NESTING.true))
 
-pub from_parts-requires-clause-matched : goal.from_parts-requires-clause-matched
-from_parts-requires-clause-matched c = ap length c.first_numbers-domain.ensures.numbers ∙ length-counted_up (length c.args.values.items) (pos 1)
-
 same : (c : goal.After-first_numbers-domain) → entry_pairs c.first_numbers-domain.result c.args.values.items ≡ numbered 1 (map tree_of c.args.values.items)
 same c =
     let vs = c.args.values.items in
     ap (λ ks. zip ks (map tree_of vs)) (c.first_numbers-domain.ensures.numbers ∙ ap (λ n. counted_up n (pos 1)) (sym (length-map vs tree_of)))
-    ∙ sym (numbered-zip 1 (map tree_of vs))
+    ∙ numbered_is 1 (map tree_of vs)
 
 pub from_parts-requires-clause-value : goal.from_parts-requires-clause-value
 from_parts-requires-clause-value c =
@@ -43,7 +40,7 @@ returns c =
     let deep : c.deepest_of-deepest.result ≡ deepest (trees ts) = c.deepest_of-deepest.ensures.nesting ∙ ap (λ us. deepest (trees (map tree_of us))) c.deref.ensures.value in
     let is : entry_pairs c.first_numbers-domain.result vs ≡ numbered 1 ts =
     ap (λ ks. zip ks ts) (c.first_numbers-domain.ensures.numbers ∙ ap (λ n. counted_up n (pos 1)) (sym (length-map vs tree_of)))
-    ∙ sym (numbered-zip 1 ts) in
+    ∙ numbered_is 1 ts in
     makes_fun (numbered 1 ts) c.from_parts.result (subst (λ ps. IfOk c.from_parts.result (λ f. f ≡ ps)) is c.from_parts.ensures.ok) c.from_parts.ensures.err
     (IsValue-fun (numbered 1 ts) _ (is-sequence ts (suc (deepest (trees ts))) (omega (arith, length-map vs tree_of, ap length c.as_slice.ensures.value, c.if-as_slice-gt-MAX_ELEMENTS.false)) (rw c.deref.ensures.value at c.deepest_of-deepest.ensures.values)
     (omega (arith, deep, c.if-deepest-ge-MAX_NESTING.false)) refl))

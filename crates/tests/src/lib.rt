@@ -1,0 +1,18 @@
+//! Tests of the public calls of the libraries: what no clause says, and no report of `acceptance`.
+//!
+//! They stand in one crate of their own, above all libraries: a crate with tests is proved a second time, and what two crates
+//! of tests have in common would be proved in each.
+#![tactic(auto)]
+
+#[cfg(test)]
+mod runs;
+#[cfg(test)]
+mod specifications;
+#[cfg(test)]
+mod texts;
+#[cfg(test)]
+mod values;
+#[cfg(test)]
+mod workers;
+#[cfg(test)]
+mod writer;

@@ -1,0 +1,133 @@
+//! Gates that hold workers.
+
+use std::sync::atomic::{AtomicU64, Ordering};
+use std::thread::yield_now;
+use tla_check::{Gate, GatePlace, Pass};
+
+/// How often a held worker looks whether it may go on, at most.
+const TURNS: u64 = 1_000_000_000;
+
+/// Which pieces are held.
+#[derive(Clone, Copy)]
+pub enum Held {
+    /// The first that is entered.
+    First,
+    /// Those of these numbers.
+    Pieces { from: u64, to: u64 },
+}
+
+/// What lets the held pieces go.
+#[derive(Clone, Copy)]
+pub enum Until {
+    /// So many of them were entered.
+    Entered(u64),
+    /// So many pieces were left.
+    Left(u64),
+    /// This piece was left.
+    LeftPiece(u64),
+}
+
+/// A gate that holds pieces of one pass over level 0.
+#[derive(Drop)]
+pub struct Holds {
+    pass: Pass,
+    held: Held,
+    until: Until,
+    /// How many pieces were entered.
+    entered: AtomicU64,
+    left_piece: AtomicU64,
+    /// How many held pieces were entered, and how many pieces were left.
+    held_entered: AtomicU64,
+    left: AtomicU64,
+    /// How many held pieces were dropped, and how many others.
+    held_dropped: AtomicU64,
+    others_dropped: AtomicU64,
+    /// How many pieces went on though nothing let them go.
+    late: AtomicU64,
+}
+
+impl Holds {
+    pub fn new(pass: Pass, held: Held, until: Until) -> Holds {
+        Holds {
+            pass,
+            held,
+            until,
+            entered: AtomicU64::new(0),
+            left_piece: AtomicU64::new(0),
+            held_entered: AtomicU64::new(0),
+            left: AtomicU64::new(0),
+            held_dropped: AtomicU64::new(0),
+            others_dropped: AtomicU64::new(0),
+            late: AtomicU64::new(0),
+        }
+    }
+
+    /// Whether each held piece was let go in time, so many held pieces were entered, and so many pieces left.
+    pub fn has_seen(&self, entered: u64, left: u64) -> bool {
+        self.late.load(Ordering::SeqCst) == 0
+            && self.held_entered.load(Ordering::SeqCst) == entered
+            && self.left.load(Ordering::SeqCst) == left
+    }
+
+    /// Whether so many held pieces and so many others were dropped.
+    pub fn has_dropped(&self, held: u64, others: u64) -> bool {
+        self.held_dropped.load(Ordering::SeqCst) == held
+            && self.others_dropped.load(Ordering::SeqCst) == others
+    }
+
+    fn is_here(&self, place: &GatePlace) -> bool {
+        place.level == 0 && place.pass == self.pass
+    }
+
+    fn is_held(&self, place: &GatePlace, entered_before: u64) -> bool {
+        match self.held {
+            Held::First => entered_before == 0,
+            Held::Pieces { from, to } => from <= place.piece && place.piece <= to,
+        }
+    }
+
+    fn is_open(&self) -> bool {
+        match self.until {
+            Until::Entered(pieces) => self.held_entered.load(Ordering::SeqCst) >= pieces,
+            Until::Left(pieces) => self.left.load(Ordering::SeqCst) >= pieces,
+            Until::LeftPiece(_) => self.left_piece.load(Ordering::SeqCst) > 0,
+        }
+    }
+
+    fn wait(&self) {
+        for _ in 0..TURNS {
+            if self.is_open() {
+                return;
+            }
+            yield_now();
+        }
+        self.late.fetch_add(1, Ordering::SeqCst);
+    }
+}
+
+impl Gate for Holds {
+    fn enter(&self, place: &GatePlace) {
+        if self.is_here(place) {
+            let before = self.entered.fetch_add(1, Ordering::SeqCst);
+            if self.is_held(place, before) {
+                self.held_entered.fetch_add(1, Ordering::SeqCst);
+                self.wait();
+            }
+        }
+    }
+
+    fn leave(&self, place: &GatePlace, dropped: bool) {
+        if !self.is_here(place) {
+            return;
+        }
+        if dropped && self.is_held(place, 1) {
+            self.held_dropped.fetch_add(1, Ordering::SeqCst);
+        } else if dropped {
+            self.others_dropped.fetch_add(1, Ordering::SeqCst);
+        }
+        if matches!(self.until, Until::LeftPiece(piece) if piece == place.piece) {
+            self.left_piece.store(1, Ordering::SeqCst);
+        }
+        self.left.fetch_add(1, Ordering::SeqCst);
+    }
+}

@@ -1,0 +1,182 @@
+//! Checks whose gates hold pieces: that workers are at work at once, that pieces are dropped, and that shards are merged side
+//! by side.
+
+use crate::specifications::{EIGHT_BAD, NONE_BAD, Specification, TWO_BAD};
+use crate::workers::checks::{Crew, ends_as_wanted};
+use crate::workers::gates::{Held, Holds, Until};
+use std::sync::Wait;
+use std::thread::Threads;
+use tla_check::Pass;
+
+/// A check of a specification of one level of ten states, and what its gate counts.
+#[derive(Clone, Copy)]
+struct Row {
+    name: &'static str,
+    specification: Specification,
+    crew: Crew,
+    pass: Pass,
+    held: Held,
+    until: Until,
+    /// How many held pieces are entered, and how many pieces are left.
+    entered: u64,
+    left: u64,
+    /// How many held pieces are dropped, and how many others, where that doesn't depend on which worker comes first.
+    dropped: Option<(u64, u64)>,
+}
+
+const TWO: Crew = Crew { workers: 2, cut: 1 };
+
+const SEVEN: Crew = Crew { workers: 7, cut: 1 };
+
+/// Two workers meet in the pass over the invariants.
+const MEETING: Row = Row {
+    name: "two workers look at invariants at once",
+    specification: TWO_BAD,
+    crew: TWO,
+    pass: Pass::Invariants,
+    held: Held::Pieces { from: 0, to: 1 },
+    until: Until::Entered(2),
+    entered: 2,
+    left: 10,
+    dropped: None,
+};
+
+/// Three shards of a level, which one thread merges.
+const MERGE: Row = Row {
+    name: "the first shard that one thread merges is told by its number",
+    specification: NONE_BAD,
+    crew: Crew {
+        workers: 3,
+        cut: 64,
+    },
+    pass: Pass::Merge,
+    held: Held::Pieces { from: 0, to: 0 },
+    until: Until::Entered(1),
+    entered: 1,
+    left: 3,
+    dropped: None,
+};
+
+const THREE: Crew = Crew { workers: 3, cut: 1 };
+
+static ROWS: [Row; 16] = [
+    MEETING,
+    Row {
+        name: "two workers look for steps at once",
+        specification: NONE_BAD,
+        pass: Pass::Steps,
+        ..MEETING
+    },
+    Row {
+        name: "seven workers look at invariants at once",
+        crew: SEVEN,
+        held: Held::Pieces { from: 0, to: 6 },
+        until: Until::Entered(7),
+        entered: 7,
+        ..MEETING
+    },
+    Row {
+        name: "seven workers look for steps at once",
+        specification: NONE_BAD,
+        crew: SEVEN,
+        pass: Pass::Steps,
+        held: Held::Pieces { from: 0, to: 6 },
+        until: Until::Entered(7),
+        entered: 7,
+        ..MEETING
+    },
+    Row {
+        name: "one worker looks at the other invariants while the other is held",
+        held: Held::First,
+        until: Until::Left(9),
+        entered: 1,
+        ..MEETING
+    },
+    Row {
+        name: "one worker looks for the other steps while the other is held",
+        specification: NONE_BAD,
+        pass: Pass::Steps,
+        held: Held::First,
+        until: Until::Left(9),
+        entered: 1,
+        ..MEETING
+    },
+    Row {
+        name: "the least of two bad states is told, though the other is found first",
+        held: Held::Pieces { from: 2, to: 2 },
+        until: Until::LeftPiece(9),
+        entered: 1,
+        ..MEETING
+    },
+    Row {
+        name: "pieces above a bad state are dropped",
+        held: Held::Pieces { from: 3, to: 9 },
+        until: Until::LeftPiece(2),
+        entered: 7,
+        dropped: Some((7, 0)),
+        ..MEETING
+    },
+    Row {
+        name: "pieces above the least of eight bad states are dropped",
+        specification: EIGHT_BAD,
+        held: Held::Pieces { from: 3, to: 9 },
+        until: Until::LeftPiece(2),
+        entered: 7,
+        dropped: Some((7, 0)),
+        ..MEETING
+    },
+    Row {
+        name: "shards are merged side by side",
+        specification: NONE_BAD,
+        pass: Pass::Merge,
+        left: 2,
+        dropped: Some((0, 0)),
+        ..MEETING
+    },
+    MERGE,
+    Row {
+        name: "the second shard that one thread merges is told by its number",
+        held: Held::Pieces { from: 1, to: 1 },
+        ..MERGE
+    },
+    Row {
+        name: "the third shard that one thread merges is told by its number",
+        held: Held::Pieces { from: 2, to: 2 },
+        ..MERGE
+    },
+    Row {
+        name: "the first shard of three threads is told by its number",
+        crew: THREE,
+        ..MERGE
+    },
+    Row {
+        name: "the second shard of three threads is told by its number",
+        crew: THREE,
+        held: Held::Pieces { from: 1, to: 1 },
+        ..MERGE
+    },
+    Row {
+        name: "the third shard of three threads is told by its number",
+        crew: THREE,
+        held: Held::Pieces { from: 2, to: 2 },
+        ..MERGE
+    },
+];
+
+/// Whether a check ends as its row says, and its gate let each held piece go in time.
+fn goes_as_wanted<R: AllocGlobal + Threads + Wait + Sync>(rt: &R, row: &Row) -> bool {
+    let gate = Holds::new(row.pass, row.held, row.until);
+    let ends = ends_as_wanted(rt, &row.specification, row.crew, &gate);
+    let drops = match row.dropped {
+        Some((held, others)) => gate.has_dropped(held, others),
+        None => true,
+    };
+    ends && drops && gate.has_seen(row.entered, row.left)
+}
+
+#[test]
+fn gates_hold_pieces(rt: HostRuntime) {
+    for row in &ROWS {
+        assert!(rt; goes_as_wanted(&rt, row), "{}", row.name);
+    }
+}
