@@ -3,7 +3,7 @@
 use std::alloc::{AllocError, Global};
 
 /// What is wanted of a case.
-#[derive(Clone, Copy)]
+#[derive(Clone, Copy, Debug, PartialEq, Eq)]
 pub enum Wanted {
     /// The report of the case, and this status.
     Status(u8),
@@ -19,7 +19,7 @@ pub enum Wanted {
 }
 
 /// A line of the list.
-#[derive(Drop)]
+#[derive(Debug, Drop)]
 pub struct Case<'a> {
     pub name: &'a str,
     pub wanted: Wanted,

@@ -44,7 +44,7 @@ pub(crate) struct Gone {
 #[derive(Clone, Copy)]
 pub(crate) enum Piece<'a> {
     Variable(usize),
-    Tuple(&'a Vec<Expr>),
+    Tuple(&'a [Expr]),
     Other,
 }
 
@@ -137,7 +137,7 @@ fn go_into<'a>(walk: &mut Walk<'_, 'a>, head: Head<'a>) -> Result<bool, Failure>
             Ok(true)
         }
         Piece::Tuple(items) => {
-            push_parts(&mut walk.left, items.as_slice(), head.scope, head.primes)?;
+            push_parts(&mut walk.left, items, head.scope, head.primes)?;
             Ok(true)
         }
         Piece::Other => Ok(false),

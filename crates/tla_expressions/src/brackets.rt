@@ -9,17 +9,20 @@ ghost use Rattle.tla_grammar.specs.Edges as edges;
 ghost use Rattle.tla_expressions.specs.Reading.{expr};
 ghost use Rattle.tla_expressions.specs.ReadingBrackets as reading;
 ghost use Rattle.tla_expressions.specs.Gives.{Gives, GivesItems, GivesTrees};
+ghost use Rattle.tla_expressions.specs.Private.Nests.{Nests};
 
 use crate::grammar::Grammar;
 use crate::parts::{Parsed, ParsedItems, image_of, listing_of, mapping_of, node};
-use crate::reader::Reader;
+use std::alloc::Global;
 use tla_grammar::{
     Between, Context, Opened, Refusal, binds, filters, following, is_kind, opened_by, refused, seen,
 };
 use tla_lex::{Kind, Place, Token};
 use tla_tree::{Brackets, Expr, Fairness, Step, Written, push_inner};
 
-impl<R: Reader> Grammar<R> {
+impl<F: Fn(Global, &[u8], &[Token], usize, Context, u8, usize) -> Result<Parsed, Refusal>> Grammar<
+    F,
+> {
     /// The expressions behind the first, and the closing bracket.
     #[tactic(auto, unfolding(crate::specs::ReadingBrackets::others))]
     fn others(
@@ -30,7 +33,7 @@ impl<R: Reader> Grammar<R> {
         close: Kind,
         first: Parsed,
     ) -> Result<ParsedItems, Refusal>
-        requires nests { R.reads_to self.now.reader self.now.depth }
+        requires nests { Nests self.now.depth (F.pre self.now.expr) (F.post self.now.expr) }
         requires depth { first.depth ≡ edges.depth (view first.tree.value) }
         requires shallow { first.depth ≤ self.now.depth }
         ensures { GivesTrees text.now tokens.now self.now.depth result (reading.others text.now tokens.now (expr text.now tokens.now self.now.depth) context close (view first.tree.value) first.end) }
@@ -68,7 +71,7 @@ impl<R: Reader> Grammar<R> {
         context: Context,
         from: usize,
     ) -> Result<Parsed, Refusal>
-        requires nests { R.reads_to self.now.reader self.now.depth }
+        requires nests { Nests self.now.depth (F.pre self.now.expr) (F.post self.now.expr) }
         requires small { self.now.depth ≤ MAX_DEPTH }
         ensures { Gives text.now tokens.now (self.now.depth + 1) result (reading.subscript text.now tokens.now (expr text.now tokens.now self.now.depth) context from) }
     {
@@ -100,7 +103,7 @@ impl<R: Reader> Grammar<R> {
         step: Step,
         first: Parsed,
     ) -> Result<Parsed, Refusal>
-        requires nests { R.reads_to self.now.reader self.now.depth }
+        requires nests { Nests self.now.depth (F.pre self.now.expr) (F.post self.now.expr) }
         requires within { first.end < length tokens.now }
         requires depth { first.depth ≡ edges.depth (view first.tree.value) }
         requires shallow { first.depth ≤ self.now.depth }
@@ -131,7 +134,7 @@ impl<R: Reader> Grammar<R> {
         fairness: Fairness,
         from: usize,
     ) -> Result<Parsed, Refusal>
-        requires nests { R.reads_to self.now.reader self.now.depth }
+        requires nests { Nests self.now.depth (F.pre self.now.expr) (F.post self.now.expr) }
         requires within { from < length tokens.now }
         requires small { self.now.depth ≤ MAX_DEPTH }
         ensures { Gives text.now tokens.now (self.now.depth + 1) result (reading.fair text.now tokens.now (expr text.now tokens.now self.now.depth) (self.now.depth + 1) context at fairness from) }
@@ -166,7 +169,7 @@ impl<R: Reader> Grammar<R> {
         at: Place,
         from: usize,
     ) -> Result<Parsed, Refusal>
-        requires nests { R.reads_to self.now.reader self.now.depth }
+        requires nests { Nests self.now.depth (F.pre self.now.expr) (F.post self.now.expr) }
         requires within { from < length tokens.now }
         requires small { self.now.depth ≤ MAX_DEPTH }
         ensures { Gives text.now tokens.now (self.now.depth + 1) result (reading.filter text.now tokens.now (expr text.now tokens.now self.now.depth) context at from) }
@@ -197,7 +200,7 @@ impl<R: Reader> Grammar<R> {
         at: Place,
         first: Parsed,
     ) -> Result<Parsed, Refusal>
-        requires nests { R.reads_to self.now.reader self.now.depth }
+        requires nests { Nests self.now.depth (F.pre self.now.expr) (F.post self.now.expr) }
         requires within { first.end < length tokens.now }
         requires depth { first.depth ≡ edges.depth (view first.tree.value) }
         requires shallow { first.depth ≤ self.now.depth }
@@ -227,7 +230,7 @@ impl<R: Reader> Grammar<R> {
         from: usize,
         first: Parsed,
     ) -> Result<Parsed, Refusal>
-        requires nests { R.reads_to self.now.reader self.now.depth }
+        requires nests { Nests self.now.depth (F.pre self.now.expr) (F.post self.now.expr) }
         requires within { from < length tokens.now }
         requires depth { first.depth ≡ edges.depth (view first.tree.value) }
         requires shallow { first.depth ≤ self.now.depth }
@@ -263,7 +266,7 @@ impl<R: Reader> Grammar<R> {
         at: Place,
         from: usize,
     ) -> Result<Parsed, Refusal>
-        requires nests { R.reads_to self.now.reader self.now.depth }
+        requires nests { Nests self.now.depth (F.pre self.now.expr) (F.post self.now.expr) }
         requires within { from < length tokens.now }
         requires small { self.now.depth ≤ MAX_DEPTH }
         ensures { Gives text.now tokens.now (self.now.depth + 1) result (reading.brace text.now tokens.now (expr text.now tokens.now self.now.depth) context at from) }
@@ -293,7 +296,7 @@ impl<R: Reader> Grammar<R> {
         at: Place,
         from: usize,
     ) -> Result<Parsed, Refusal>
-        requires nests { R.reads_to self.now.reader self.now.depth }
+        requires nests { Nests self.now.depth (F.pre self.now.expr) (F.post self.now.expr) }
         requires within { from < length tokens.now }
         requires small { self.now.depth ≤ MAX_DEPTH }
         ensures { Gives text.now tokens.now (self.now.depth + 1) result (reading.tuple text.now tokens.now (expr text.now tokens.now self.now.depth) (self.now.depth + 1) context at from) }
@@ -334,7 +337,7 @@ impl<R: Reader> Grammar<R> {
         at: Place,
         from: usize,
     ) -> Result<Parsed, Refusal>
-        requires nests { R.reads_to self.now.reader self.now.depth }
+        requires nests { Nests self.now.depth (F.pre self.now.expr) (F.post self.now.expr) }
         requires within { from < length tokens.now }
         requires small { self.now.depth ≤ MAX_DEPTH }
         ensures { Gives text.now tokens.now (self.now.depth + 1) result (reading.mapping text.now tokens.now (expr text.now tokens.now self.now.depth) context at from) }
@@ -365,7 +368,7 @@ impl<R: Reader> Grammar<R> {
         at: Place,
         first: Parsed,
     ) -> Result<Parsed, Refusal>
-        requires nests { R.reads_to self.now.reader self.now.depth }
+        requires nests { Nests self.now.depth (F.pre self.now.expr) (F.post self.now.expr) }
         requires within { first.end < length tokens.now }
         requires depth { first.depth ≡ edges.depth (view first.tree.value) }
         requires shallow { first.depth ≤ self.now.depth }
@@ -395,7 +398,7 @@ impl<R: Reader> Grammar<R> {
         start: usize,
         first: Parsed,
     ) -> Result<Parsed, Refusal>
-        requires nests { R.reads_to self.now.reader self.now.depth }
+        requires nests { Nests self.now.depth (F.pre self.now.expr) (F.post self.now.expr) }
         requires depth { first.depth ≡ edges.depth (view first.tree.value) }
         requires shallow { first.depth ≤ self.now.depth }
         requires small { self.now.depth ≤ MAX_DEPTH }
@@ -428,7 +431,7 @@ impl<R: Reader> Grammar<R> {
         at: Place,
         from: usize,
     ) -> Result<Parsed, Refusal>
-        requires nests { R.reads_to self.now.reader self.now.depth }
+        requires nests { Nests self.now.depth (F.pre self.now.expr) (F.post self.now.expr) }
         requires within { from < length tokens.now }
         requires small { self.now.depth ≤ MAX_DEPTH }
         ensures { Gives text.now tokens.now (self.now.depth + 1) result (reading.bracket text.now tokens.now (expr text.now tokens.now self.now.depth) (self.now.depth + 1) context at from) }

@@ -8,6 +8,7 @@ ghost use Rattle.tla_grammar.specs.Edges as edges;
 ghost use Rattle.tla_expressions.specs.Reading as reading;
 ghost use Rattle.tla_expressions.specs.ReadingLists as lists;
 ghost use Rattle.tla_expressions.specs.Gives.{Gives, GivesItems, GivesTrees, GivesGroup, GivesGroups};
+ghost use Rattle.tla_expressions.specs.Private.Nests.{Nests};
 
 use crate::grammar::Grammar;
 use crate::names::{ParsedPattern, pattern, single};
@@ -15,7 +16,7 @@ use crate::parts::{
     Parsed, ParsedBinder, ParsedBinders, ParsedItems, binder_of, call_of, junction_of, listing_of,
     node,
 };
-use crate::reader::Reader;
+use std::alloc::Global;
 use tla_grammar::{
     Between, Context, Refusal, closing, following, is_kind, may_follow, refused, refused_binder,
     seen,
@@ -23,7 +24,9 @@ use tla_grammar::{
 use tla_lex::{Kind, Place, Token};
 use tla_tree::{Brackets, Bullet, Expr, Written, push, push_inner};
 
-impl<R: Reader> Grammar<R> {
+impl<F: Fn(Global, &[u8], &[Token], usize, Context, u8, usize) -> Result<Parsed, Refusal>> Grammar<
+    F,
+> {
     /// Expressions with commas or bullets between them, one or more, behind those of a front that ends where the next begins.
     #[tactic(auto, using(crate::proofs::Steps::depths_snoc))]
     pub fn exprs_behind(
@@ -34,7 +37,7 @@ impl<R: Reader> Grammar<R> {
         between: Between,
         front: ParsedItems,
     ) -> Result<ParsedItems, Refusal>
-        requires nests { R.reads_to self.now.reader self.now.depth }
+        requires nests { Nests self.now.depth (F.pre self.now.expr) (F.post self.now.expr) }
         requires depth { front.depth ≡ edges.depths (trees (map view front.items.items)) }
         requires shallow { front.depth ≤ self.now.depth }
         ensures { GivesItems text.now tokens.now self.now.depth result (lists.exprs text.now tokens.now (reading.expr text.now tokens.now self.now.depth) (length tokens.now) (map view front.items.items) context between front.end) }
@@ -64,7 +67,7 @@ impl<R: Reader> Grammar<R> {
         between: Between,
         from: usize,
     ) -> Result<ParsedItems, Refusal>
-        requires nests { R.reads_to self.now.reader self.now.depth }
+        requires nests { Nests self.now.depth (F.pre self.now.expr) (F.post self.now.expr) }
         ensures { GivesItems text.now tokens.now self.now.depth result (lists.exprs text.now tokens.now (reading.expr text.now tokens.now self.now.depth) (length tokens.now) [] context between from) }
     {
         let front = ParsedItems {
@@ -85,7 +88,7 @@ impl<R: Reader> Grammar<R> {
         close: Kind,
         from: usize,
     ) -> Result<ParsedItems, Refusal>
-        requires nests { R.reads_to self.now.reader self.now.depth }
+        requires nests { Nests self.now.depth (F.pre self.now.expr) (F.post self.now.expr) }
         ensures { GivesTrees text.now tokens.now self.now.depth result (lists.some text.now tokens.now (reading.expr text.now tokens.now self.now.depth) context close from) }
     {
         let found = self.exprs(text, tokens, context, Between::Comma, from)?;
@@ -110,7 +113,7 @@ impl<R: Reader> Grammar<R> {
         brackets: Brackets,
         from: usize,
     ) -> Result<Parsed, Refusal>
-        requires nests { R.reads_to self.now.reader self.now.depth }
+        requires nests { Nests self.now.depth (F.pre self.now.expr) (F.post self.now.expr) }
         requires within { from < length tokens.now }
         requires small { self.now.depth ≤ MAX_DEPTH }
         ensures { Gives text.now tokens.now (self.now.depth + 1) result (lists.listing text.now tokens.now (reading.expr text.now tokens.now self.now.depth) context at brackets from) }
@@ -145,7 +148,7 @@ impl<R: Reader> Grammar<R> {
         t: Token,
         from: usize,
     ) -> Result<Parsed, Refusal>
-        requires nests { R.reads_to self.now.reader self.now.depth }
+        requires nests { Nests self.now.depth (F.pre self.now.expr) (F.post self.now.expr) }
         requires within { from < length tokens.now }
         requires small { self.now.depth ≤ MAX_DEPTH }
         ensures { Gives text.now tokens.now (self.now.depth + 1) result (reading.named text.now tokens.now (reading.expr text.now tokens.now self.now.depth) context t from) }
@@ -170,7 +173,7 @@ impl<R: Reader> Grammar<R> {
         at: Place,
         from: usize,
     ) -> Result<Parsed, Refusal>
-        requires nests { R.reads_to self.now.reader self.now.depth }
+        requires nests { Nests self.now.depth (F.pre self.now.expr) (F.post self.now.expr) }
         requires within { from < length tokens.now }
         requires small { self.now.depth ≤ MAX_DEPTH }
         ensures { Gives text.now tokens.now (self.now.depth + 1) result (lists.paren text.now tokens.now (reading.expr text.now tokens.now self.now.depth) context at from) }
@@ -192,7 +195,7 @@ impl<R: Reader> Grammar<R> {
         form: Option<usize>,
         front: ParsedPattern,
     ) -> Result<ParsedBinder, Refusal>
-        requires { R.reads_to self.now.reader self.now.depth }
+        requires { Nests self.now.depth (F.pre self.now.expr) (F.post self.now.expr) }
         ensures { GivesGroup text.now tokens.now self.now.depth result (lists.set_behind text.now tokens.now (reading.expr text.now tokens.now self.now.depth) context (pattern_view front.pattern) front.end) }
     {
         if !is_kind(Kind::Member, seen(tokens, context.column, front.end)) {
@@ -217,7 +220,7 @@ impl<R: Reader> Grammar<R> {
         form: Option<usize>,
         from: usize,
     ) -> Result<ParsedBinder, Refusal>
-        requires nests { R.reads_to self.now.reader self.now.depth }
+        requires nests { Nests self.now.depth (F.pre self.now.expr) (F.post self.now.expr) }
         requires within { from ≤ length tokens.now }
         ensures { GivesGroup text.now tokens.now self.now.depth result (lists.group text.now tokens.now (reading.expr text.now tokens.now self.now.depth) context from) }
     {
@@ -235,7 +238,7 @@ impl<R: Reader> Grammar<R> {
         form: Option<usize>,
         from: usize,
     ) -> Result<ParsedBinder, Refusal>
-        requires nests { R.reads_to self.now.reader self.now.depth }
+        requires nests { Nests self.now.depth (F.pre self.now.expr) (F.post self.now.expr) }
         requires within { from ≤ length tokens.now }
         ensures { GivesGroup text.now tokens.now self.now.depth result (lists.one_group text.now tokens.now (reading.expr text.now tokens.now self.now.depth) context from) }
     {
@@ -253,7 +256,7 @@ impl<R: Reader> Grammar<R> {
         form: Option<usize>,
         from: usize,
     ) -> Result<ParsedBinders, Refusal>
-        requires nests { R.reads_to self.now.reader self.now.depth }
+        requires nests { Nests self.now.depth (F.pre self.now.expr) (F.post self.now.expr) }
         requires within { from ≤ length tokens.now }
         ensures { GivesGroups text.now tokens.now self.now.depth result (lists.groups text.now tokens.now (reading.expr text.now tokens.now self.now.depth) (length tokens.now) [] context from) }
     {
@@ -288,7 +291,7 @@ impl<R: Reader> Grammar<R> {
         bullet: Bullet,
         from: usize,
     ) -> Result<Parsed, Refusal>
-        requires nests { R.reads_to self.now.reader self.now.depth }
+        requires nests { Nests self.now.depth (F.pre self.now.expr) (F.post self.now.expr) }
         requires within { from < length tokens.now }
         requires small { self.now.depth ≤ MAX_DEPTH }
         ensures { Gives text.now tokens.now (self.now.depth + 1) result (reading.junction text.now tokens.now (reading.expr text.now tokens.now self.now.depth) context at bullet from) }

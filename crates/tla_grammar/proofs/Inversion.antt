@@ -98,14 +98,11 @@ postfix_kind form.Prime = k.Prime
 postfix_kind form.Index = k.LeftBracket
 postfix_kind form.Field = k.Dot
 
-none_is : (f : Postfix) → ◌≡◌ {A = Option Postfix} None (Some f) → ⊥
-none_is f h = cc
-
 postfix_is : (kind : Kind) (f : Postfix) → postfix_of kind ≡ Some f → kind ≡ postfix_kind f
-postfix_is k.Prime f h = let e : form.Prime ≡ f = cc in ap postfix_kind e
-postfix_is k.LeftBracket f h = let e : form.Index ≡ f = cc in ap postfix_kind e
-postfix_is k.Dot f h = let e : form.Field ≡ f = cc in ap postfix_kind e
-postfix_is _ f h = absurd (none_is f h)
+postfix_is k.Prime form.Prime h = refl
+postfix_is k.LeftBracket form.Index h = refl
+postfix_is k.Dot form.Field h = refl
+postfix_is _ _ h = absurd (let z : ⊥ = cc in z)
 
 module _ (ts : List Token) where
   kind_by : (column at : ℕ) (kind : Kind) (o : Option Token) → seen ts column at ≡ o → kind_at kind o ≡ true → Has ts column kind at

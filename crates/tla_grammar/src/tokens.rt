@@ -116,24 +116,20 @@ pub fn is_kind(kind: Kind, token: Option<Token>) -> bool
     }
 }
 
-/// Whether it is this bullet.
-fn is_bullet(bullet: Bullet, found: Option<Bullet>) -> bool
-    ensures { result ≡ spec.is_bullet bullet found }
-{
-    match (bullet, found) {
-        (Bullet::And, Some(Bullet::And)) => true,
-        (Bullet::Or, Some(Bullet::Or)) => true,
-        _ => false,
-    }
-}
-
 /// Whether this bullet stands here, in the column.
 pub fn is_bullet_at(tokens: &[Token], column: u128, bullet: Bullet, at: usize) -> bool
     ensures value { result ≡ spec.is_bullet_at column bullet (slice_get tokens.now at) }
     ensures within { IsTrue result → at < length tokens.now }
 {
     match tokens.get(at) {
-        Some(t) => t.place.column == column && is_bullet(bullet, bullet_of(t.kind)),
+        Some(t) => {
+            t.place.column == column
+                && match (bullet, bullet_of(t.kind)) {
+                    (Bullet::And, Some(Bullet::And)) => true,
+                    (Bullet::Or, Some(Bullet::Or)) => true,
+                    _ => false,
+                }
+        }
         None => false,
     }
 }

@@ -21,7 +21,7 @@ pub enum Stop {
 }
 
 /// What comes next behind blanks and comments.
-#[derive(Clone, Copy)]
+#[derive(Clone, Copy, Debug)]
 pub enum Front {
     Begins(Token),
     Stops(Stop),

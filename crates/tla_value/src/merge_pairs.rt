@@ -6,7 +6,6 @@ ghost use Rattle.tla_value.specs.Order.{tree_cmp};
 ghost use Rattle.tla_value.specs.Funs.{arguments, fun_of};
 ghost use Rattle.tla_value.specs.declared.error.ValueError.TheVariants.{Memory};
 
-use crate::copy::copy_pair;
 use crate::error::ValueError;
 use crate::order::compare;
 use crate::value::Value;
@@ -60,7 +59,9 @@ fn keep_pair(
     ensures ok { OnOk result (kept.new.items ≡ kept.old.items ++ pair.now ∷ []) }
     ensures err { IfErr result (λ e. e ≡ Memory) }
 {
-    kept.push(copy_pair(alloc, &pair.0, &pair.1)?)?;
+    let argument = pair.0.copy(alloc)?;
+    let value = pair.1.copy(alloc)?;
+    kept.push((argument, value))?;
     Ok(())
 }
 
