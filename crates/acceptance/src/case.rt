@@ -3,7 +3,7 @@
 use std::alloc::{AllocError, Global};
 
 /// What is wanted of a case.
-#[derive(Clone, Copy, Debug, PartialEq, Eq)]
+#[derive(Clone, Copy)]
 pub enum Wanted {
     /// The report of the case, and this status.
     Status(u8),
@@ -19,7 +19,7 @@ pub enum Wanted {
 }
 
 /// A line of the list.
-#[derive(Debug, Drop)]
+#[derive(Drop)]
 pub struct Case<'a> {
     pub name: &'a str,
     pub wanted: Wanted,

@@ -4,7 +4,7 @@ use std::alloc::{AllocError, Global};
 use std::io::Write;
 use std::rt::Files;
 use std::{fs, io};
-use tla_explain::{CODES, CodeText};
+use tla_explain::{CodeText, code_tables, text_of};
 
 /// Whether a line of the document says what is told of a code.
 fn is_in(alloc: Global, page: &str, text: &CodeText) -> Result<bool, AllocError> {
@@ -22,15 +22,40 @@ fn is_in(alloc: Global, page: &str, text: &CodeText) -> Result<bool, AllocError>
     Ok(page.lines().any(|other| other == line.as_str()))
 }
 
+/// Whether the code alone finds what is told of it.
+fn is_found(text: &CodeText) -> bool {
+    match text_of(text.code) {
+        Some(found) => found.code == text.code && found.rule == text.rule,
+        None => false,
+    }
+}
+
+/// Names the codes of a table of which the document says something else, or that aren't found.
+fn compare_table<R: AllocGlobal, W: Write>(
+    rt: &R,
+    page: &str,
+    table: &[CodeText],
+    out: &mut W,
+) -> io::Result<()> {
+    for text in table {
+        if !is_in(rt.alloc(), page, text)? {
+            writeln!(out, "  not in CODES.md: {}", text.code)?;
+        }
+        if !is_found(text) {
+            writeln!(out, "  not found: {}", text.code)?;
+        }
+    }
+    Ok(())
+}
+
 /// Names the codes of which the document says something else.
 pub fn compare_codes<R: AllocGlobal + Files, W: Write>(rt: &R, out: &mut W) -> io::Result<()> {
     let page = fs::read_to_string(rt, "CODES.md")?;
-    for text in &CODES {
-        if !is_in(rt.alloc(), page.as_str(), text)? {
-            writeln!(out, "  not in CODES.md: {}", text.code)?;
-        }
+    let mut count: usize = 0;
+    for table in code_tables() {
+        compare_table(rt, page.as_str(), table, out)?;
+        count = count.saturating_add(table.len());
     }
-    let count = CODES.len();
     writeln!(out, "  {count} codes")?;
     Ok(())
 }

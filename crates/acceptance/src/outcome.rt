@@ -76,9 +76,32 @@ fn ends_alike<R: Threads + Wait + Sync>(
     options: Option<Options>,
     wanted: &Ending,
 ) -> bool {
-    options
-        .and_then(|options| ending_of(rt, alloc, texts.0, texts.1, &options))
-        .is_some_and(|it| it.status == wanted.status && it.report == wanted.report)
+    let Some(options) = options else {
+        return false;
+    };
+    match ending_of(rt, alloc, texts.0, texts.1, &options) {
+        Some(ending) => ending.status == wanted.status && ending.report == wanted.report,
+        None => false,
+    }
+}
+
+/// Whether the check of these texts by each number of workers with each number of states ends like this.
+fn ends_alike_by_each<R: Threads + Wait + Sync>(
+    rt: &R,
+    alloc: Global,
+    texts: (&[u8], &[u8]),
+    limit: u64,
+    wanted: &Ending,
+) -> bool {
+    for workers in WORKERS {
+        for cut in CUTS {
+            let options = Options::new(workers, cut, limit);
+            if !ends_alike(rt, alloc, texts, options, wanted) {
+                return false;
+            }
+        }
+    }
+    true
 }
 
 /// Whether the check of these texts, again, ends like this.
@@ -91,12 +114,7 @@ fn ends_alike_again<R: Threads + Wait + Sync>(
     wanted: &Ending,
 ) -> bool {
     match again {
-        Again::ByEach => WORKERS.iter().all(|&workers| {
-            CUTS.iter().all(|&cut| {
-                let options = Options::new(workers, cut, limit);
-                ends_alike(rt, alloc, texts, options, wanted)
-            })
-        }),
+        Again::ByEach => ends_alike_by_each(rt, alloc, texts, limit, wanted),
         Again::InTurn(text) => {
             let workers = WORKERS[text % WORKERS.len()];
             let options = Options::new(workers, CUTS[text % CUTS.len()], limit);

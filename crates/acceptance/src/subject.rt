@@ -79,12 +79,12 @@ static SUBJECTS: [(&str, Call, Pieces); 33] = [
     (
         "one_name_fits",
         Call::On(OnModel::FitsNames(1)),
-        &[("b = 7", 1)],
+        &[("\\E c \\in {b} : b = c", 1)],
     ),
     (
         "no_name_fits",
         Call::On(OnModel::FitsNames(0)),
-        &[("b = 7", 1)],
+        &[("\\E c \\in {b} : b = c", 1)],
     ),
     ("values_fit", Call::On(OnModel::FitsValues(true)), TRUE),
     ("no_values_fit", Call::On(OnModel::FitsValues(false)), TRUE),

@@ -10,7 +10,9 @@ use Rattle.tla_tree.specs.declared.word.Written.{Written}
 use Rattle.tla_config.specs.declared.keyword.Keyword.{Keyword}
 use Rattle.tla_config.specs.declared.keyword.Keyword.TheVariants as word
 use Rattle.tla_config.specs.Configuration.{Has, Is, Begins, IsName}
-use Rattle.tla_config.specs.Private.Fronts.{unless_keyword, name_by, name_of, with_place, keyword_by, keyword_of, same_kind, kind_at, digits_by, digits_of}
+use Rattle.tla_lex.proofs.SameKind.{same_is}
+use Rattle.tla_lex.specs.SameKind.{same_kind}
+use Rattle.tla_config.specs.Private.Fronts.{unless_keyword, name_by, name_of, with_place, keyword_by, keyword_of, kind_at, digits_by, digits_of}
 use Rattle.tla_config.specs.Private.Keywords.{keywords, lookup}
 use Rattle.tla_config.specs.Names.{Name, is_among, statement_words}
 use Rattle.tla_config.proofs.Words.{name_word, name_is_none}
@@ -23,19 +25,9 @@ pub one_token : (o : Option Token) (t u : Token) → o ≡ Some t → o ≡ Some
 one_token o t u a b = cc
 
 -- a token of a kind that is asked for
-same_kind_is : (kind other : Kind) → same_kind kind other ≡ true → other ≡ kind
-same_kind_is k.Comma k.Comma h = refl
-same_kind_is k.Equal k.Equal h = refl
-same_kind_is k.Substitute k.Substitute h = refl
-same_kind_is k.LeftBracket k.LeftBracket h = refl
-same_kind_is k.LeftBrace k.LeftBrace h = refl
-same_kind_is k.RightBrace k.RightBrace h = refl
-same_kind_is k.Minus k.Minus h = refl
-same_kind_is _ _ h = (let z : ⊥ = cc in absurd z)
-
 pub kind_found : (kind : Kind) (o : Option Token) → kind_at kind o ≡ true → (t : Token) × (o ≡ Some t) × (t.kind ≡ kind)
 kind_found kind None h = (let z : ⊥ = cc in absurd z)
-kind_found kind (Some t) h = (t, refl, same_kind_is kind t.kind h)
+kind_found kind (Some t) h = (t, refl, same_is kind t.kind h)
 
 -- a number
 digits_kind : (t u : Token) (kind : Kind) → digits_by t kind ≡ Some u → (t ≡ u) × (kind ≡ k.Digits)

@@ -4,7 +4,7 @@ ghost use Rattle.std.specs.Prelude.{◌≡◌, ◌<◌, length, slice_get, OnSom
 ghost use Rattle.tla_config.specs.Private.Fronts as spec;
 
 use crate::keyword::{Keyword, keyword_of};
-use tla_lex::{Kind, Place, Token};
+use tla_lex::{Kind, Place, Token, same_kind};
 use tla_tree::slice_of;
 
 /// The token of this number, where it is a name and no word of a statement.
@@ -50,16 +50,7 @@ pub fn is_kind(kind: Kind, tokens: &[Token], at: usize) -> bool
     let Some(t) = tokens.get(at) else {
         return false;
     };
-    match (kind, t.kind) {
-        (Kind::Comma, Kind::Comma) => true,
-        (Kind::Equal, Kind::Equal) => true,
-        (Kind::Substitute, Kind::Substitute) => true,
-        (Kind::LeftBracket, Kind::LeftBracket) => true,
-        (Kind::LeftBrace, Kind::LeftBrace) => true,
-        (Kind::RightBrace, Kind::RightBrace) => true,
-        (Kind::Minus, Kind::Minus) => true,
-        _ => false,
-    }
+    same_kind(kind, t.kind)
 }
 
 /// The truth value that the token of this number writes.

@@ -243,22 +243,23 @@ fn model<'a>(
     ensures refused { IfErr result (λ e. e.code ≢ Memory → refused.IsLast (map unit_view units.now) (map statement_view statements.now) (Ok (behaviour_of behaviour.entry)) e) }
     ensures none { IfErr result (λ e. e.code ≢ Memory → (m : ModelTree) → model.IsModel (map unit_view units.now) (map statement_view statements.now) m → ⊥) }
 {
-    let scopes = global_scope(alloc, units, items)?;
-    let places = Places::of(units, items);
+    let global = global_scope(alloc, units, items)?;
+    let scopes = &*global;
+    let places = &Places::of(units, items);
     let count = variables.words().len();
-    let meant = meaning(alloc, units, items, &scopes, count, behaviour)?;
-    let assumptions = assumptions(alloc, units, &scopes)?;
-    let init = boxed(alloc, initial_predicate(alloc, &places, &scopes, &meant))?;
-    let next = boxed(alloc, next_action(alloc, &places, &scopes, &meant))?;
-    let invariants = invariants(alloc, &places, &scopes, statements)?;
-    let constraints = constraints(alloc, &places, &scopes, statements)?;
+    let meant = meaning(alloc, units, items, scopes, count, behaviour)?;
+    let assumptions = assumptions(alloc, units, scopes)?;
+    let init = boxed(alloc, initial_predicate(alloc, places, scopes, &meant))?;
+    let next = boxed(alloc, next_action(alloc, places, scopes, &meant))?;
+    let invariants = invariants(alloc, places, scopes, statements)?;
+    let constraints = constraints(alloc, places, scopes, statements)?;
     let names = variables.texts(alloc)?;
     let check = looks_for_deadlock(statements);
     Ok(Model::new(
         names,
         assumptions,
-        Box::into_inner(init),
-        Box::into_inner(next),
+        init,
+        next,
         invariants,
         constraints,
         check,

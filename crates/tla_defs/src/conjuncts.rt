@@ -46,9 +46,9 @@ fn push_each<'a>(
 #[derive(Clone, Copy)]
 pub(crate) enum Split<'a> {
     /// The formula in parentheses.
-    Same(&'a Expr),
-    Two(&'a Expr, &'a Expr),
-    Many(&'a [Expr]),
+    Same(&'a Box<Expr>),
+    Two(&'a Box<Expr>, &'a Box<Expr>),
+    Many(&'a Vec<Expr>),
     Name(&'a Word),
     /// A conjunct itself.
     Whole,

@@ -201,34 +201,35 @@ fn with_units<'a>(
 
 /// What the names mean, where operators that replace names mean what they did so far.
 fn meant<'a>(
+    alloc: Global,
     scopes: Scopes<'a>,
     replaced: &Names<'_>,
     given: &Items<'a>,
     units: &'a [Unit],
-) -> Result<Scopes<'a>, DefsError>
+) -> Result<Box<Scopes<'a>>, DefsError>
     requires { replaced.now ≡ items.replaced_names given.now }
-    ensures ok { IfOk result (λ s. scope_of s ≡ global.meant (map unit_view units.now) given.now (scope_of scopes.entry)) }
+    ensures ok { IfOk result (λ s. scope_of s.value ≡ global.meant (map unit_view units.now) given.now (scope_of scopes.entry)) }
     ensures err { IfErr result (λ e. e.code ≡ Memory) }
 {
     let counted = Counted {
         scopes: with_items(scopes.anew(), given)?,
         variables: 0,
     };
-    with_units(counted, replaced, units)
+    Ok(Box::new(alloc, with_units(counted, replaced, units)?)?)
 }
 
 /// What the names mean, once more for each item with an operator. The passes behind one that leaves no operator open say
 /// nothing new, and aren't made.
 fn raised<'a>(
     alloc: Global,
-    scopes: Scopes<'a>,
+    scopes: Box<Scopes<'a>>,
     replaced: &Names<'_>,
     given: &Items<'a>,
     units: &'a [Unit],
-) -> Result<Scopes<'a>, DefsError>
+) -> Result<Box<Scopes<'a>>, DefsError>
     requires replaced { replaced.now ≡ items.replaced_names given.now }
-    requires first { scope_of scopes ≡ global.meant (map unit_view units.now) given.now standard }
-    ensures ok { IfOk result (λ s. scope_of s ≡ global.raised (map unit_view units.now) given.now given.now (scope_of scopes.entry)) }
+    requires first { scope_of scopes.value ≡ global.meant (map unit_view units.now) given.now standard }
+    ensures ok { IfOk result (λ s. scope_of s.value ≡ global.raised (map unit_view units.now) given.now given.now (scope_of scopes.entry.value)) }
     ensures err { IfErr result (λ e. e.code ≡ Memory) }
 {
     let mut all = scopes;
@@ -239,7 +240,7 @@ fn raised<'a>(
             if waiting.is_empty() {
                 return Ok(all);
             }
-            all = meant(all, replaced, given, units)?;
+            all = meant(alloc, Box::into_inner(all), replaced, given, units)?;
             waiting = still_open(alloc, waiting, units, given)?;
         }
         left = rest;
@@ -247,16 +248,16 @@ fn raised<'a>(
     Ok(all)
 }
 
-/// The scope of a module where the configuration has these items. The only error is want of memory.
+/// The scope of a module where the configuration has these items, in a box. The only error is want of memory.
 pub(crate) fn global_scope<'a>(
     alloc: Global,
     units: &'a [Unit],
     given: &Items<'a>,
-) -> Result<Scopes<'a>, DefsError>
-    ensures ok { IfOk result (λ s. scope_of s ≡ global.global (map unit_view units.now) given.now) }
+) -> Result<Box<Scopes<'a>>, DefsError>
+    ensures ok { IfOk result (λ s. scope_of s.value ≡ global.global (map unit_view units.now) given.now) }
     ensures err { IfErr result (λ e. e.code ≡ Memory) }
 {
     let replaced = given.names(alloc)?;
-    let first = meant(Scopes::new(alloc), &replaced, given, units)?;
+    let first = meant(alloc, Scopes::new(alloc), &replaced, given, units)?;
     raised(alloc, first, &replaced, given, units)
 }

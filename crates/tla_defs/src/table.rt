@@ -5,8 +5,10 @@ ghost use Rattle.std.specs.Str.{bytes_eq};
 ghost use Rattle.tla_config.specs.declared.error.DefsCode.TheVariants.{Memory};
 ghost use Rattle.tla_config.specs.Names.{Name};
 ghost use Rattle.tla_tree.specs.Tree.{Tree};
+ghost use Rattle.tla_tree.specs.Units as unit_tree;
 ghost use Rattle.tla_tree.specs.Units.{UnitTree};
 ghost use Rattle.tla_tree.specs.UnitsView.{unit_view};
+ghost use Rattle.tla_tree.specs.View.{definition_view};
 ghost use Rattle.tla_names.specs.Maybe.{or_else};
 ghost use Rattle.tla_defs.specs.Bodies.{body_if, body_in, body_of, names_with};
 ghost use Rattle.tla_defs.specs.Private.Conjuncts.{bodies_of, found_names};
@@ -50,6 +52,23 @@ pub(crate) struct Definitions<'t, 'a> {
     pub(crate) items: &'t Items<'a>,
 }
 
+/// The name and the body of a definition, where it has no parameters.
+fn without_parameters<'a>(definition: &'a Definition) -> Option<(&'a [u8], &'a Expr)>
+    ensures global { (us : List UnitTree) (x : Name) → spec.body_or (option_map spec.named result) x (body_in us x) ≡ body_in (unit_tree.Defines (definition_view definition.entry.now) ∷ us) x }
+    ensures local { (at : _) (us : List UnitTree) (x : Name) → spec.body_or (option_map spec.named result) x (body_in us x) ≡ body_in (unit_tree.Local at (definition_view definition.entry.now) ∷ us) x }
+{
+    match definition {
+        Definition::Operator(name, parameters, body) => {
+            if parameters.len() == 0 {
+                Some((name.word.as_bytes(), body))
+            } else {
+                None
+            }
+        }
+        Definition::Function(_, _, _) => None,
+    }
+}
+
 /// The name and the body of the definition of a unit, where it has no parameters.
 fn defined<'a>(unit: &'a Unit) -> Option<(&'a [u8], &'a Expr)>
     ensures { (us : List UnitTree) (x : Name) → spec.body_or (option_map spec.named result) x (body_in us x) ≡ body_in (unit_view unit.entry.now ∷ us) x }
@@ -58,14 +77,7 @@ fn defined<'a>(unit: &'a Unit) -> Option<(&'a [u8], &'a Expr)>
         Unit::Operator(name, body) | Unit::Assume(_, Some(name), body) => {
             Some((name.word.as_bytes(), body))
         }
-        Unit::Defines(Definition::Operator(name, parameters, body))
-        | Unit::Local(_, Definition::Operator(name, parameters, body)) => {
-            if parameters.len() == 0 {
-                Some((name.word.as_bytes(), body))
-            } else {
-                None
-            }
-        }
+        Unit::Defines(definition) | Unit::Local(_, definition) => without_parameters(definition),
         _ => None,
     }
 }

@@ -1,5 +1,5 @@
 -- What isn't there under some primes isn't there under more, nor with UNCHANGED or as a subscript; and what fails there fails in the whole.
-use Rattle.std.proofs.Common.{◌≡◌, ◌≤◌, ℕ, ◌+◌, Bool, true, false, refl, ap, sym, ◌∙◌, arith, subst, map, List, Option, Some, None, Result, Ok, Err, Bor}
+use Rattle.std.proofs.Common.{◌≡◌, ◌≤◌, ℕ, ◌+◌, Bool, true, false, refl, ap, sym, ◌∙◌, arith, subst, map, List, Option, Some, None, Result, Ok, Err, Bor, Vec, Global}
 use Rattle.std.specs.Prelude.{IfOk, IfErr}
 use Rattle.tla_core.specs.declared.fault.Place.{Place}
 use Rattle.tla_core.specs.declared.expression.Binary.TheVariants.{Unequal}
@@ -160,25 +160,26 @@ changed_fails k TooLarge p o room left h = λ y e n d.
 changed_fails k Memory p o room left h = tt
 
 -- the parts of a tuple that are looked at
-many_looked : (q : Place) (f : ListNode) (ts us : Bor (List syntax.Expr)) (σ : Scope) (d : ℕ) (k : Primes) (s : Failure) (room left : ℕ) → tuple_of f ts ≡ Some us
-    → FailsBy (total nodes) (highest depth) room left s (each_of (part_in k σ d) us.now) → Fails (room + 1) (left + 1) s (with_primes k (form_in (form.Many q f ts) σ d))
+many_looked : (q : Place) (f : ListNode) (ts us : Bor (Vec syntax.Expr Global)) (σ : Scope) (d : ℕ) (k : Primes) (s : Failure) (room left : ℕ) → tuple_of f ts ≡ Some us
+    → FailsBy (total nodes) (highest depth) room left s (each_of (part_in k σ d) us.now.items) → Fails (room + 1) (left + 1) s (with_primes k (form_in (form.Many q f ts) σ d))
 many_looked q manies.Tuple ts us σ d k s room left t h =
     let same : ts ≡ us = cc in
-    rw (same, many_shown manies.Tuple k q (expand_each (trees (map view us.now)) σ d) (each_of (part_in k σ d) us.now) (each_in k us.now σ d))
-    (node_fails (total nodes) (highest depth) (λ xs. many manies.Tuple q (exprs xs)) s (each_of (part_in k σ d) us.now) room left (many_larger manies.Tuple q) h)
+    rw (same, many_shown manies.Tuple k q (expand_each (trees (map view us.now.items)) σ d) (each_of (part_in k σ d) us.now.items) (each_in k us.now.items σ d))
+    (node_fails (total nodes) (highest depth) (λ xs. many manies.Tuple q (exprs xs)) s (each_of (part_in k σ d) us.now.items) room left (many_larger manies.Tuple q) h)
 many_looked q manies.Set ts us σ d k s room left t h = let no : ⊥ = cc in absurd no
 many_looked q manies.And ts us σ d k s room left t h = let no : ⊥ = cc in absurd no
 many_looked q manies.Or ts us σ d k s room left t h = let no : ⊥ = cc in absurd no
 many_looked q manies.Product ts us σ d k s room left t h = let no : ⊥ = cc in absurd no
 
-pub tuple_looked : (fm : Form) (us : Bor (List syntax.Expr)) (σ : Scope) (d : ℕ) (k : Primes) (s : Failure) (room left : ℕ) → tuple_parts fm ≡ Some us
-    → FailsBy (total nodes) (highest depth) room left s (each_of (part_in k σ d) us.now) → Fails (room + 1) (left + 1) s (with_primes k (form_in fm σ d))
+pub tuple_looked : (fm : Form) (us : Bor (Vec syntax.Expr Global)) (σ : Scope) (d : ℕ) (k : Primes) (s : Failure) (room left : ℕ) → tuple_parts fm ≡ Some us
+    → FailsBy (total nodes) (highest depth) room left s (each_of (part_in k σ d) us.now.items) → Fails (room + 1) (left + 1) s (with_primes k (form_in fm σ d))
 tuple_looked (form.Many q f ts) us σ d k s room left t h = many_looked q f ts us σ d k s room left t h
 tuple_looked (form.Leaf q l) us σ d k s room left t h = let no : ⊥ = cc in absurd no
 tuple_looked (form.Variable q i) us σ d k s room left t h = let no : ⊥ = cc in absurd no
 tuple_looked (form.One q f a) us σ d k s room left t h = let no : ⊥ = cc in absurd no
 tuple_looked (form.Two q f a b) us σ d k s room left t h = let no : ⊥ = cc in absurd no
 tuple_looked (form.Three q f a b c) us σ d k s room left t h = let no : ⊥ = cc in absurd no
+tuple_looked (form.Use q u a) us σ d k s room left t h = let no : ⊥ = cc in absurd no
 tuple_looked (form.Headed q f a b) us σ d k s room left t h = let no : ⊥ = cc in absurd no
 tuple_looked (form.Cases q a b) us σ d k s room left t h = let no : ⊥ = cc in absurd no
 tuple_looked (form.Fields q f fs) us σ d k s room left t h = let no : ⊥ = cc in absurd no

@@ -18,6 +18,7 @@ pub mod Kept
 pub mod Levels
 pub mod Groups
 pub mod Arms
+pub mod Builtins
 pub mod Plain
 pub mod Nested
 pub mod Gathered

@@ -22,8 +22,8 @@ agree at at2 n (Bound i) rest x h b = ap (λ (σ : Scope). with_name x (bound_na
 agree at at2 n (Variable i) rest x h b = ap (λ (σ : Scope). with_name x (variable i) σ) (h rest b)
 agree at at2 n (Value v) rest x h b = ap (λ (σ : Scope). with_name x (value_name v.now) σ) (h rest b)
 agree at at2 n (Function p bs body home) rest x h b =
-    ap (λ (σ : Scope). with_name x (parameter (gathered gathers.Function p (binds_of (binders (map group_view bs.now)) σ) (expand (view body.now)) σ)) (at rest)) (h home b.0)
-    ∙ ap (λ (σ : Scope). with_name x (parameter (gathered gathers.Function p (binds_of (binders (map group_view bs.now)) (at2 home)) (expand (view body.now)) (at2 home))) σ) (h rest b.1)
+    ap (λ (σ : Scope). with_name x (parameter (gathered gathers.Function p (binds_of (binders (map group_view bs.now.items)) σ) (expand (view body.now)) σ)) (at rest)) (h home b.0)
+    ∙ ap (λ (σ : Scope). with_name x (parameter (gathered gathers.Function p (binds_of (binders (map group_view bs.now.items)) (at2 home)) (expand (view body.now)) (at2 home))) σ) (h rest b.1)
 agree at at2 n Unknown rest x h b = ap (λ (σ : Scope). with_name x unknown σ) (h rest b)
 agree at at2 n (Argument t s) rest x h b =
     ap (λ (σ : Scope). with_name x (parameter (expand (view t.now) σ)) (at rest)) (h s b.0)

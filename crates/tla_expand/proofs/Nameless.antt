@@ -1,5 +1,5 @@
 -- A form that is neither a variable nor a tuple expands to no nested tuple of variables.
-use Rattle.std.proofs.Common.{◌≡◌, ℕ, ◌+◌, Bool, true, false, List, [], ◌∷◌, length, map, refl, Bor, Option, Some, None}
+use Rattle.std.proofs.Common.{◌≡◌, ℕ, ◌+◌, Bool, true, false, List, [], ◌∷◌, length, map, refl, Bor, Vec, Global, Option, Some, None}
 use Rattle.std.specs.Prelude.{nat_le, if◌then◌else◌}
 use Rattle.tla_core.specs.declared.fault.Place.{Place}
 use Rattle.tla_core.specs.Expr.{Expr, Exprs, Fields, constant, next, equal, tuple, cases, product, except, no_exprs, more_exprs, no_arms, other}
@@ -44,6 +44,7 @@ use Rattle.tla_expand.specs.Meanings.{Scope, Argument}
 use Rattle.tla_core.specs.Patterns.{items_in}
 use Rattle.tla_expand.specs.Bound.{Bind, bind_entry, under as under_element, nested, last_or, set_for, openings, with_elements, with_items, under_openings}
 use Rattle.tla_expand.specs.Expand.{expand, expand_each, expand_key, expand_arms, expand_fields, expand_updates, binds_of}
+use Rattle.tla_expand.specs.Scopes.{arguments_in}
 use Rattle.tla_expand.specs.Private.Forms.{form_in}
 use Rattle.tla_expand.specs.Private.Gives.{both, is_tuple, part_in, key_in, arm_in, field_in, update_in}
 use Rattle.tla_expand.specs.Private.Walks.{IsNoTuple, piece_of, piece_of_many, piece_of_variable}
@@ -52,6 +53,7 @@ use Rattle.tla_expand.proofs.Kept.{unchanged_plain, kept_settled}
 use Rattle.tla_expand.proofs.Made.{leaf_shown, one_shown, two_shown, three_shown, many_shown, cases_shown, gather_shown, fielded_shown, product_shown, except_shown, binding_shown, Triple}
 use Rattle.tla_expand.proofs.Lists.{each_in, arms_in, arms_or_in}
 use Rattle.tla_expand.proofs.NamedParts.{fields_in, updates_in}
+use Rattle.tla_expand.proofs.Builtins.{HoldsOfUses, use_holds}
 
 some_nameless : (a x : Expr) → is_names a ≡ false → Some a ≡ Some x → is_names x ≡ false
 some_nameless a x t h = let w : a ≡ x = cc in rw (← w) t
@@ -109,7 +111,7 @@ three_nameless : (f : TernaryNode) (p : Place) (x y z : Expr) → is_names (thre
 three_nameless threes.If p x y z = refl
 three_nameless threes.SubSeq p x y z = refl
 
-many_nameless : (f : ListNode) (p : Place) (ts : Bor (List syntax.Expr)) (xs : Exprs) → piece_of_many f ts ≡ Other → is_names (many f p xs) ≡ false
+many_nameless : (f : ListNode) (p : Place) (ts : Bor (Vec syntax.Expr Global)) (xs : Exprs) → piece_of_many f ts ≡ Other → is_names (many f p xs) ≡ false
 many_nameless manies.Set p ts xs h = refl
 many_nameless manies.Tuple p ts xs h = cc
 many_nameless manies.And p ts xs h = refl
@@ -152,49 +154,65 @@ nested_nameless f k p (b ∷ bs) body σ d =
     rw (binding_shown f k p (b.1 d) (under_element p b.0 (last_or bs body (nested f p bs body)) σ d))
     (made_nameless (both (with_primes k (b.1 d)) (with_primes k (under_element p b.0 (last_or bs body (nested f p bs body)) σ d))) (λ (xy : Expr × Expr). binding f p xy.0 xy.1) (λ xy. binding_nameless f p xy.0 xy.1))
 
+one_part : (f : UnaryNode) (k : Primes) (p : Place) (a : Option Expr) → IsNoTuple (with_primes k (a >>= λ x. Some (one f p x)))
+one_part f k p a = rw (one_shown f k p a) (made_nameless (with_primes k a) (λ x. one f p x) (one_nameless f p))
+
+two_parts : (f : BinaryNode) (k : Primes) (p : Place) (a b : Option Expr) → IsNoTuple (with_primes k (a >>= λ x. b >>= λ y. Some (two f p x y)))
+two_parts f k p a b = rw (two_shown f k p a b) (made_nameless (both (with_primes k a) (with_primes k b)) (λ (xy : Expr × Expr). two f p xy.0 xy.1) (λ xy. two_nameless f p xy.0 xy.1))
+
+three_parts : (f : TernaryNode) (k : Primes) (p : Place) (a b c : Option Expr) → IsNoTuple (with_primes k (a >>= λ x. b >>= λ y. c >>= λ z. Some (three f p x y z)))
+three_parts f k p a b c =
+    rw (three_shown f k p a b c) (made_nameless (both (both (with_primes k a) (with_primes k b)) (with_primes k c)) (λ (t : Triple). three f p t.0.0 t.0.1 t.1) (λ t. three_nameless f p t.0.0 t.0.1 t.1))
+
+uses_nameless : (k : Primes) (p : Place) → HoldsOfUses (λ o. IsNoTuple (with_primes k o)) p
+uses_nameless k p = record {
+  of_nothing = λ e q. cc;
+  of_leaf = λ l. rw (leaf_shown k l p) (leaf_nameless l p);
+  of_one = λ f a. one_part f k p a;
+  of_two = λ f a b. two_parts f k p a b;
+  of_three = λ f a b c. three_parts f k p a b c;
+}
+
 pub form_nameless : (fm : Form) (σ : Scope) (d : ℕ) (k : Primes) → piece_of k fm ≡ Other → IsNoTuple (with_primes k (form_in fm σ d))
 form_nameless (form.Leaf p l) σ d k h = rw (leaf_shown k l p) (leaf_nameless l p)
 form_nameless (form.Variable p i) σ d k h = now_nameless k p i h
-form_nameless (form.One p f t) σ d k h = rw (one_shown f k p (expand (view t.now) σ d)) (made_nameless (with_primes k (expand (view t.now) σ d)) (λ x. one f p x) (one_nameless f p))
-form_nameless (form.Two p f a b) σ d k h =
-    rw (two_shown f k p (expand (view a.now) σ d) (expand (view b.now) σ d))
-    (made_nameless (both (with_primes k (expand (view a.now) σ d)) (with_primes k (expand (view b.now) σ d))) (λ (xy : Expr × Expr). two f p xy.0 xy.1) (λ xy. two_nameless f p xy.0 xy.1))
-form_nameless (form.Three p f a b c) σ d k h =
-    rw (three_shown f k p (expand (view a.now) σ d) (expand (view b.now) σ d) (expand (view c.now) σ d))
-    (made_nameless (both (both (with_primes k (expand (view a.now) σ d)) (with_primes k (expand (view b.now) σ d))) (with_primes k (expand (view c.now) σ d))) (λ (t : Triple). three f p t.0.0 t.0.1 t.1) (λ t. three_nameless f p t.0.0 t.0.1 t.1))
+form_nameless (form.One p f t) σ d k h = one_part f k p (expand (view t.now.value) σ d)
+form_nameless (form.Two p f a b) σ d k h = two_parts f k p (expand (view a.now.value) σ d) (expand (view b.now.value) σ d)
+form_nameless (form.Three p f a b c) σ d k h = three_parts f k p (expand (view a.now.value) σ d) (expand (view b.now.value) σ d) (expand (view c.now.value) σ d)
+form_nameless (form.Use p u ts) σ d k h = use_holds (λ o. IsNoTuple (with_primes k o)) p (uses_nameless k p) u (arguments_in ts.now σ) d
 form_nameless (form.Many p f ts) σ d k h =
-    rw (many_shown f k p (expand_each (trees (map view ts.now)) σ d) (each_of (part_in k σ d) ts.now) (each_in k ts.now σ d)) (made_nameless (each_of (part_in k σ d) ts.now) (λ xs. many f p (exprs xs)) (λ xs. many_nameless f p ts (exprs xs) h))
+    rw (many_shown f k p (expand_each (trees (map view ts.now.items)) σ d) (each_of (part_in k σ d) ts.now.items) (each_in k ts.now.items σ d)) (made_nameless (each_of (part_in k σ d) ts.now.items) (λ xs. many f p (exprs xs)) (λ xs. many_nameless f p ts (exprs xs) h))
 form_nameless (form.Headed p headed.Index f ts) σ d k h =
-    rw (two_shown twos.Apply k p (expand (view f.now) σ d) (expand_key (trees (map view ts.now)) σ d))
-    (made_nameless (both (part_in k σ d f.now) (key_in k σ d ts.now)) (λ (xy : Expr × Expr). two twos.Apply p xy.0 xy.1) (λ xy. refl))
+    rw (two_shown twos.Apply k p (expand (view f.now.value) σ d) (expand_key (trees (map view ts.now.items)) σ d))
+    (made_nameless (both (part_in k σ d f.now.value) (key_in k σ d ts.now.items)) (λ (xy : Expr × Expr). two twos.Apply p xy.0 xy.1) (λ xy. refl))
 form_nameless (form.Cases p as' None) σ d k h =
-    rw (cases_shown k p (λ xs. arms_with xs no_arms) (expand_arms (t.arms (map choice_view as'.now)) (Some no_arms) σ d) (each_of (arm_in k σ d) as'.now) (arms_in k as'.now σ d))
-    (made_nameless (each_of (arm_in k σ d) as'.now) (λ xs. cases p (arms_with xs no_arms)) (λ xs. refl))
+    rw (cases_shown k p (λ xs. arms_with xs no_arms) (expand_arms (t.arms (map choice_view as'.now.items)) (Some no_arms) σ d) (each_of (arm_in k σ d) as'.now.items) (arms_in k as'.now.items σ d))
+    (made_nameless (each_of (arm_in k σ d) as'.now.items) (λ xs. cases p (arms_with xs no_arms)) (λ xs. refl))
 form_nameless (form.Cases p as' (Some z)) σ d k h =
-    rw (cases_shown k p (λ xs. arms_with xs.0 (other xs.1)) (expand_arms (t.arms (map choice_view as'.now)) (expand (view z.now) σ d >>= λ x. Some (other x)) σ d) (both (each_of (arm_in k σ d) as'.now) (part_in k σ d z.now)) (arms_or_in k as'.now (view z.now) σ d))
-    (made_nameless (both (each_of (arm_in k σ d) as'.now) (part_in k σ d z.now)) (λ xs. cases p (arms_with xs.0 (other xs.1))) (λ xs. refl))
+    rw (cases_shown k p (λ xs. arms_with xs.0 (other xs.1)) (expand_arms (t.arms (map choice_view as'.now.items)) (expand (view z.now.value) σ d >>= λ x. Some (other x)) σ d) (both (each_of (arm_in k σ d) as'.now.items) (part_in k σ d z.now.value)) (arms_or_in k as'.now.items (view z.now.value) σ d))
+    (made_nameless (both (each_of (arm_in k σ d) as'.now.items) (part_in k σ d z.now.value)) (λ xs. cases p (arms_with xs.0 (other xs.1))) (λ xs. refl))
 form_nameless (form.Binders p (under.Gathered f) bs t) σ d k h =
-    let b = binds_of (binders (map group_view bs.now)) σ in
+    let b = binds_of (binders (map group_view bs.now.items)) σ in
     let sets = each_of (λ (n : Bind). set_for p n.0 (n.1 d)) b in
     let os = openings b d in
     let inner = under_openings p os (expand (view t.now) (with_items b (d + length b) (with_elements b d σ)) (d + length b + items_in os)) in
     rw (gather_shown f k p sets inner (sets >>= each_of (primes k)) refl)
     (made_nameless (both (sets >>= each_of (primes k)) (with_primes k inner)) (λ (xy : List Expr × Expr). gather f p (exprs xy.0) xy.1) (λ xy. gather_nameless f p (exprs xy.0) xy.1))
 form_nameless (form.Fields p f fs) σ d k h =
-    rw (fielded_shown f k p (expand_fields (t.fields (map field_view fs.now)) σ d) (each_of (field_in k σ d) fs.now) (fields_in k fs.now σ d))
-    (made_nameless (each_of (field_in k σ d) fs.now) (λ xs. fielded f p (fields_of xs)) (λ xs. fielded_nameless f p (fields_of xs)))
+    rw (fielded_shown f k p (expand_fields (t.fields (map field_view fs.now.items)) σ d) (each_of (field_in k σ d) fs.now.items) (fields_in k fs.now.items σ d))
+    (made_nameless (each_of (field_in k σ d) fs.now.items) (λ xs. fielded f p (fields_of xs)) (λ xs. fielded_nameless f p (fields_of xs)))
 form_nameless (form.Headed p headed.Product z zs) σ d k h =
-    rw (product_shown k p (expand (view z.now) σ d) (expand_each (trees (map view zs.now)) σ d) (each_of (part_in k σ d) zs.now) (each_in k zs.now σ d))
-    (made_nameless (both (part_in k σ d z.now) (each_of (part_in k σ d) zs.now)) (λ (xs : Expr × List Expr). product p (exprs (xs.0 ∷ xs.1))) (λ xs. refl))
+    rw (product_shown k p (expand (view z.now.value) σ d) (expand_each (trees (map view zs.now.items)) σ d) (each_of (part_in k σ d) zs.now.items) (each_in k zs.now.items σ d))
+    (made_nameless (both (part_in k σ d z.now.value) (each_of (part_in k σ d) zs.now.items)) (λ (xs : Expr × List Expr). product p (exprs (xs.0 ∷ xs.1))) (λ xs. refl))
 form_nameless (form.Except p z us) σ d k h =
-    rw (except_shown k p (expand (view z.now) σ d) (expand_updates (t.updates (map update_view us.now)) σ d) (each_of (update_in k σ d) us.now) (updates_in k us.now σ d))
-    (made_nameless (both (part_in k σ d z.now) (each_of (update_in k σ d) us.now)) (λ (xs : Expr × List (List Expr × Expr)). except p xs.0 (updates_of xs.1)) (λ xs. refl))
+    rw (except_shown k p (expand (view z.now.value) σ d) (expand_updates (t.updates (map update_view us.now.items)) σ d) (each_of (update_in k σ d) us.now.items) (updates_in k us.now.items σ d))
+    (made_nameless (both (part_in k σ d z.now.value) (each_of (update_in k σ d) us.now.items)) (λ (xs : Expr × List (List Expr × Expr)). except p xs.0 (updates_of xs.1)) (λ xs. refl))
 form_nameless (form.Action p steps.Box z q v) σ d k h =
-    rw (two_shown twos.Or k p (expand (view z.now) σ d) (expand (view v.now) σ d >>= unchanged q))
-    (made_nameless (both (part_in k σ d z.now) (with_primes k (expand (view v.now) σ d >>= unchanged q))) (λ (xy : Expr × Expr). two twos.Or p xy.0 xy.1) (λ xy. refl))
+    rw (two_shown twos.Or k p (expand (view z.now.value) σ d) (expand (view v.now.value) σ d >>= unchanged q))
+    (made_nameless (both (part_in k σ d z.now.value) (with_primes k (expand (view v.now.value) σ d >>= unchanged q))) (λ (xy : Expr × Expr). two twos.Or p xy.0 xy.1) (λ xy. refl))
 form_nameless (form.Action p steps.Angle z q v) σ d k h =
-    rw (two_shown twos.And k p (expand (view z.now) σ d) (expand (view v.now) σ d >>= changed q))
-    (made_nameless (both (part_in k σ d z.now) (with_primes k (expand (view v.now) σ d >>= changed q))) (λ (xy : Expr × Expr). two twos.And p xy.0 xy.1) (λ xy. refl))
-form_nameless (form.Unchanged p t) σ d k h = rw (kept_settled k p (expand (view t.now) σ d)) (after_nameless p (with_primes (settled_primes k) (expand (view t.now) σ d)))
-form_nameless (form.Binders p (under.Nested f) bs t) σ d k h = nested_nameless f k p (binds_of (binders (map group_view bs.now)) σ) (expand (view t.now)) σ d
-form_nameless (form.Binds p f w s t) σ d k h = nested_nameless f k p (bind_entry (pattern_view w.now) (expand (view s.now) σ) []) (expand (view t.now)) σ d
+    rw (two_shown twos.And k p (expand (view z.now.value) σ d) (expand (view v.now.value) σ d >>= changed q))
+    (made_nameless (both (part_in k σ d z.now.value) (with_primes k (expand (view v.now.value) σ d >>= changed q))) (λ (xy : Expr × Expr). two twos.And p xy.0 xy.1) (λ xy. refl))
+form_nameless (form.Unchanged p t) σ d k h = rw (kept_settled k p (expand (view t.now.value) σ d)) (after_nameless p (with_primes (settled_primes k) (expand (view t.now.value) σ d)))
+form_nameless (form.Binders p (under.Nested f) bs t) σ d k h = nested_nameless f k p (binds_of (binders (map group_view bs.now.items)) σ) (expand (view t.now)) σ d
+form_nameless (form.Binds p f w s t) σ d k h = nested_nameless f k p (bind_entry (pattern_view w.now) (expand (view s.now.value) σ) []) (expand (view t.now.value)) σ d

@@ -1,5 +1,5 @@
 -- A form that is no tuple expands to none.
-use Rattle.std.proofs.Common.{◌≡◌, ℕ, ◌+◌, Bool, true, false, List, [], ◌∷◌, length, map, refl, sym, Bor, Option, Some, None}
+use Rattle.std.proofs.Common.{◌≡◌, ℕ, ◌+◌, Bool, true, false, List, [], ◌∷◌, length, map, refl, sym, Bor, Vec, Global, Option, Some, None}
 use Rattle.std.specs.Prelude.{nat_le, if◌then◌else◌}
 use Rattle.tla_core.specs.declared.fault.Place.{Place}
 use Rattle.tla_core.specs.Expr.{Expr, Exprs, Fields, constant, equal, tuple, cases, product, except, no_exprs, more_exprs, no_arms, other}
@@ -44,6 +44,7 @@ use Rattle.tla_expand.specs.Meanings.{Scope, Argument, with_name, bound_name}
 use Rattle.tla_core.specs.Patterns.{items_in}
 use Rattle.tla_expand.specs.Bound.{Bind, bind_entry, under as under_element, nested, last_or, set_for, openings, with_elements, with_items, under_openings}
 use Rattle.tla_expand.specs.Expand.{expand, expand_each, expand_key, expand_arms, expand_fields, expand_updates, binds_of}
+use Rattle.tla_expand.specs.Scopes.{arguments_in}
 use Rattle.tla_expand.specs.Private.Forms.{form_in, tuple_of, tuple_parts}
 use Rattle.tla_expand.specs.Private.Gives.{is_tuple, Plain, both, total, highest, part_in, key_in, arm_in, field_in, update_in, kept_part, sum_of, larger_of, Makes, FailsBy, Fails}
 use Rattle.tla_expand.specs.Primes.{with_primes}
@@ -51,6 +52,7 @@ use Rattle.tla_expand.proofs.Kept.{some_plain, unchanged_plain, kept_settled, ke
 use Rattle.tla_expand.proofs.Made.{leaf_shown, one_shown, two_shown, three_shown, many_shown, cases_shown, gather_shown, fielded_shown, product_shown, except_shown, binding_shown, kept_larger, two_larger, Triple}
 use Rattle.tla_expand.proofs.Lists.{each_in, arms_in, arms_or_in, kept_tuple}
 use Rattle.tla_expand.proofs.NamedParts.{fields_in, updates_in}
+use Rattle.tla_expand.proofs.Builtins.{HoldsOfUses, use_holds}
 use Rattle.tla_expand.proofs.Sizes.{Given, node_fails, node_gives}
 
 made_plain : {A : Type 0} (o : Option A) (f : A → Expr) → ((x : A) → is_tuple (f x) ≡ false) → Plain (o >>= λ x. Some (f x))
@@ -106,7 +108,7 @@ three_plain : (f : TernaryNode) (p : Place) (x y z : Expr) → is_tuple (three f
 three_plain threes.If p x y z = refl
 three_plain threes.SubSeq p x y z = refl
 
-many_plain : (f : ListNode) (p : Place) (ts : Bor (List syntax.Expr)) (xs : Exprs) → tuple_of f ts ≡ None → is_tuple (many f p xs) ≡ false
+many_plain : (f : ListNode) (p : Place) (ts : Bor (Vec syntax.Expr Global)) (xs : Exprs) → tuple_of f ts ≡ None → is_tuple (many f p xs) ≡ false
 many_plain manies.Set p ts xs h = refl
 many_plain manies.Tuple p ts xs h = cc
 many_plain manies.And p ts xs h = refl
@@ -149,78 +151,95 @@ nested_plain f k p (b ∷ bs) body σ d =
     rw (binding_shown f k p (b.1 d) (under_element p b.0 (last_or bs body (nested f p bs body)) σ d))
     (made_plain (both (with_primes k (b.1 d)) (with_primes k (under_element p b.0 (last_or bs body (nested f p bs body)) σ d))) (λ (xy : Expr × Expr). binding f p xy.0 xy.1) (λ xy. binding_plain f p xy.0 xy.1))
 
+one_part : (f : UnaryNode) (k : Primes) (p : Place) (a : Option Expr) → Plain (with_primes k (a >>= λ x. Some (one f p x)))
+one_part f k p a = rw (one_shown f k p a) (made_plain (with_primes k a) (λ x. one f p x) (one_plain f p))
+
+two_parts : (f : BinaryNode) (k : Primes) (p : Place) (a b : Option Expr) → Plain (with_primes k (a >>= λ x. b >>= λ y. Some (two f p x y)))
+two_parts f k p a b = rw (two_shown f k p a b) (made_plain (both (with_primes k a) (with_primes k b)) (λ (xy : Expr × Expr). two f p xy.0 xy.1) (λ xy. two_plain f p xy.0 xy.1))
+
+three_parts : (f : TernaryNode) (k : Primes) (p : Place) (a b c : Option Expr) → Plain (with_primes k (a >>= λ x. b >>= λ y. c >>= λ z. Some (three f p x y z)))
+three_parts f k p a b c =
+    rw (three_shown f k p a b c) (made_plain (both (both (with_primes k a) (with_primes k b)) (with_primes k c)) (λ (t : Triple). three f p t.0.0 t.0.1 t.1) (λ t. three_plain f p t.0.0 t.0.1 t.1))
+
+uses_plain : (k : Primes) (p : Place) → HoldsOfUses (λ o. Plain (with_primes k o)) p
+uses_plain k p = record {
+  of_nothing = λ e q. cc;
+  of_leaf = λ l. rw (leaf_shown k l p) (leaf_plain l p);
+  of_one = λ f a. one_part f k p a;
+  of_two = λ f a b. two_parts f k p a b;
+  of_three = λ f a b c. three_parts f k p a b c;
+}
+
 form_plain : (fm : Form) (σ : Scope) (d : ℕ) (k : Primes) → tuple_parts fm ≡ None → Plain (with_primes k (form_in fm σ d))
 form_plain (form.Leaf p l) σ d k h = rw (leaf_shown k l p) (leaf_plain l p)
 form_plain (form.Variable p i) σ d k h = now_plain k p i
-form_plain (form.One p f t) σ d k h = rw (one_shown f k p (expand (view t.now) σ d)) (made_plain (with_primes k (expand (view t.now) σ d)) (λ x. one f p x) (one_plain f p))
-form_plain (form.Two p f a b) σ d k h =
-    rw (two_shown f k p (expand (view a.now) σ d) (expand (view b.now) σ d))
-    (made_plain (both (with_primes k (expand (view a.now) σ d)) (with_primes k (expand (view b.now) σ d))) (λ (xy : Expr × Expr). two f p xy.0 xy.1) (λ xy. two_plain f p xy.0 xy.1))
-form_plain (form.Three p f a b c) σ d k h =
-    rw (three_shown f k p (expand (view a.now) σ d) (expand (view b.now) σ d) (expand (view c.now) σ d))
-    (made_plain (both (both (with_primes k (expand (view a.now) σ d)) (with_primes k (expand (view b.now) σ d))) (with_primes k (expand (view c.now) σ d))) (λ (t : Triple). three f p t.0.0 t.0.1 t.1) (λ t. three_plain f p t.0.0 t.0.1 t.1))
+form_plain (form.One p f t) σ d k h = one_part f k p (expand (view t.now.value) σ d)
+form_plain (form.Two p f a b) σ d k h = two_parts f k p (expand (view a.now.value) σ d) (expand (view b.now.value) σ d)
+form_plain (form.Three p f a b c) σ d k h = three_parts f k p (expand (view a.now.value) σ d) (expand (view b.now.value) σ d) (expand (view c.now.value) σ d)
+form_plain (form.Use p u ts) σ d k h = use_holds (λ o. Plain (with_primes k o)) p (uses_plain k p) u (arguments_in ts.now σ) d
 form_plain (form.Many p f ts) σ d k h =
-    rw (many_shown f k p (expand_each (trees (map view ts.now)) σ d) (each_of (part_in k σ d) ts.now) (each_in k ts.now σ d)) (made_plain (each_of (part_in k σ d) ts.now) (λ xs. many f p (exprs xs)) (λ xs. many_plain f p ts (exprs xs) h))
+    rw (many_shown f k p (expand_each (trees (map view ts.now.items)) σ d) (each_of (part_in k σ d) ts.now.items) (each_in k ts.now.items σ d)) (made_plain (each_of (part_in k σ d) ts.now.items) (λ xs. many f p (exprs xs)) (λ xs. many_plain f p ts (exprs xs) h))
 form_plain (form.Headed p headed.Index f ts) σ d k h =
-    rw (two_shown twos.Apply k p (expand (view f.now) σ d) (expand_key (trees (map view ts.now)) σ d))
-    (made_plain (both (part_in k σ d f.now) (key_in k σ d ts.now)) (λ (xy : Expr × Expr). two twos.Apply p xy.0 xy.1) (λ xy. refl))
+    rw (two_shown twos.Apply k p (expand (view f.now.value) σ d) (expand_key (trees (map view ts.now.items)) σ d))
+    (made_plain (both (part_in k σ d f.now.value) (key_in k σ d ts.now.items)) (λ (xy : Expr × Expr). two twos.Apply p xy.0 xy.1) (λ xy. refl))
 form_plain (form.Cases p as' None) σ d k h =
-    rw (cases_shown k p (λ xs. arms_with xs no_arms) (expand_arms (t.arms (map choice_view as'.now)) (Some no_arms) σ d) (each_of (arm_in k σ d) as'.now) (arms_in k as'.now σ d))
-    (made_plain (each_of (arm_in k σ d) as'.now) (λ xs. cases p (arms_with xs no_arms)) (λ xs. refl))
+    rw (cases_shown k p (λ xs. arms_with xs no_arms) (expand_arms (t.arms (map choice_view as'.now.items)) (Some no_arms) σ d) (each_of (arm_in k σ d) as'.now.items) (arms_in k as'.now.items σ d))
+    (made_plain (each_of (arm_in k σ d) as'.now.items) (λ xs. cases p (arms_with xs no_arms)) (λ xs. refl))
 form_plain (form.Cases p as' (Some z)) σ d k h =
-    rw (cases_shown k p (λ xs. arms_with xs.0 (other xs.1)) (expand_arms (t.arms (map choice_view as'.now)) (expand (view z.now) σ d >>= λ x. Some (other x)) σ d) (both (each_of (arm_in k σ d) as'.now) (part_in k σ d z.now)) (arms_or_in k as'.now (view z.now) σ d))
-    (made_plain (both (each_of (arm_in k σ d) as'.now) (part_in k σ d z.now)) (λ xs. cases p (arms_with xs.0 (other xs.1))) (λ xs. refl))
+    rw (cases_shown k p (λ xs. arms_with xs.0 (other xs.1)) (expand_arms (t.arms (map choice_view as'.now.items)) (expand (view z.now.value) σ d >>= λ x. Some (other x)) σ d) (both (each_of (arm_in k σ d) as'.now.items) (part_in k σ d z.now.value)) (arms_or_in k as'.now.items (view z.now.value) σ d))
+    (made_plain (both (each_of (arm_in k σ d) as'.now.items) (part_in k σ d z.now.value)) (λ xs. cases p (arms_with xs.0 (other xs.1))) (λ xs. refl))
 form_plain (form.Binders p (under.Gathered f) bs t) σ d k h =
-    let b = binds_of (binders (map group_view bs.now)) σ in
+    let b = binds_of (binders (map group_view bs.now.items)) σ in
     let sets = each_of (λ (n : Bind). set_for p n.0 (n.1 d)) b in
     let os = openings b d in
     let inner = under_openings p os (expand (view t.now) (with_items b (d + length b) (with_elements b d σ)) (d + length b + items_in os)) in
     rw (gather_shown f k p sets inner (sets >>= each_of (primes k)) refl)
     (made_plain (both (sets >>= each_of (primes k)) (with_primes k inner)) (λ (xy : List Expr × Expr). gather f p (exprs xy.0) xy.1) (λ xy. gather_plain f p (exprs xy.0) xy.1))
 form_plain (form.Fields p f fs) σ d k h =
-    rw (fielded_shown f k p (expand_fields (t.fields (map field_view fs.now)) σ d) (each_of (field_in k σ d) fs.now) (fields_in k fs.now σ d))
-    (made_plain (each_of (field_in k σ d) fs.now) (λ xs. fielded f p (fields_of xs)) (λ xs. fielded_plain f p (fields_of xs)))
+    rw (fielded_shown f k p (expand_fields (t.fields (map field_view fs.now.items)) σ d) (each_of (field_in k σ d) fs.now.items) (fields_in k fs.now.items σ d))
+    (made_plain (each_of (field_in k σ d) fs.now.items) (λ xs. fielded f p (fields_of xs)) (λ xs. fielded_plain f p (fields_of xs)))
 form_plain (form.Headed p headed.Product z zs) σ d k h =
-    rw (product_shown k p (expand (view z.now) σ d) (expand_each (trees (map view zs.now)) σ d) (each_of (part_in k σ d) zs.now) (each_in k zs.now σ d))
-    (made_plain (both (part_in k σ d z.now) (each_of (part_in k σ d) zs.now)) (λ (xs : Expr × List Expr). product p (exprs (xs.0 ∷ xs.1))) (λ xs. refl))
+    rw (product_shown k p (expand (view z.now.value) σ d) (expand_each (trees (map view zs.now.items)) σ d) (each_of (part_in k σ d) zs.now.items) (each_in k zs.now.items σ d))
+    (made_plain (both (part_in k σ d z.now.value) (each_of (part_in k σ d) zs.now.items)) (λ (xs : Expr × List Expr). product p (exprs (xs.0 ∷ xs.1))) (λ xs. refl))
 form_plain (form.Except p z us) σ d k h =
-    rw (except_shown k p (expand (view z.now) σ d) (expand_updates (t.updates (map update_view us.now)) σ d) (each_of (update_in k σ d) us.now) (updates_in k us.now σ d))
-    (made_plain (both (part_in k σ d z.now) (each_of (update_in k σ d) us.now)) (λ (xs : Expr × List (List Expr × Expr)). except p xs.0 (updates_of xs.1)) (λ xs. refl))
+    rw (except_shown k p (expand (view z.now.value) σ d) (expand_updates (t.updates (map update_view us.now.items)) σ d) (each_of (update_in k σ d) us.now.items) (updates_in k us.now.items σ d))
+    (made_plain (both (part_in k σ d z.now.value) (each_of (update_in k σ d) us.now.items)) (λ (xs : Expr × List (List Expr × Expr)). except p xs.0 (updates_of xs.1)) (λ xs. refl))
 form_plain (form.Action p steps.Box z q v) σ d k h =
-    rw (two_shown twos.Or k p (expand (view z.now) σ d) (expand (view v.now) σ d >>= unchanged q))
-    (made_plain (both (part_in k σ d z.now) (with_primes k (expand (view v.now) σ d >>= unchanged q))) (λ (xy : Expr × Expr). two twos.Or p xy.0 xy.1) (λ xy. refl))
+    rw (two_shown twos.Or k p (expand (view z.now.value) σ d) (expand (view v.now.value) σ d >>= unchanged q))
+    (made_plain (both (part_in k σ d z.now.value) (with_primes k (expand (view v.now.value) σ d >>= unchanged q))) (λ (xy : Expr × Expr). two twos.Or p xy.0 xy.1) (λ xy. refl))
 form_plain (form.Action p steps.Angle z q v) σ d k h =
-    rw (two_shown twos.And k p (expand (view z.now) σ d) (expand (view v.now) σ d >>= changed q))
-    (made_plain (both (part_in k σ d z.now) (with_primes k (expand (view v.now) σ d >>= changed q))) (λ (xy : Expr × Expr). two twos.And p xy.0 xy.1) (λ xy. refl))
-form_plain (form.Unchanged p t) σ d k h = rw (kept_settled k p (expand (view t.now) σ d)) (after_plain p (with_primes (settled_primes k) (expand (view t.now) σ d)))
-form_plain (form.Binders p (under.Nested f) bs t) σ d k h = nested_plain f k p (binds_of (binders (map group_view bs.now)) σ) (expand (view t.now)) σ d
-form_plain (form.Binds p f w s t) σ d k h = nested_plain f k p (bind_entry (pattern_view w.now) (expand (view s.now) σ) []) (expand (view t.now)) σ d
+    rw (two_shown twos.And k p (expand (view z.now.value) σ d) (expand (view v.now.value) σ d >>= changed q))
+    (made_plain (both (part_in k σ d z.now.value) (with_primes k (expand (view v.now.value) σ d >>= changed q))) (λ (xy : Expr × Expr). two twos.And p xy.0 xy.1) (λ xy. refl))
+form_plain (form.Unchanged p t) σ d k h = rw (kept_settled k p (expand (view t.now.value) σ d)) (after_plain p (with_primes (settled_primes k) (expand (view t.now.value) σ d)))
+form_plain (form.Binders p (under.Nested f) bs t) σ d k h = nested_plain f k p (binds_of (binders (map group_view bs.now.items)) σ) (expand (view t.now)) σ d
+form_plain (form.Binds p f w s t) σ d k h = nested_plain f k p (bind_entry (pattern_view w.now) (expand (view s.now.value) σ) []) (expand (view t.now.value)) σ d
 
 pub plain_head : (o : Option Expr) (fm : Form) (σ : Scope) (d : ℕ) (k : Primes) → o ≡ with_primes k (form_in fm σ d) → tuple_parts fm ≡ None → Plain o
 plain_head o fm σ d k h t = rw h (form_plain fm σ d k t)
 
 -- a tuple
-of_tuple : (f : ListNode) (ts us : Bor (List syntax.Expr)) → tuple_of f ts ≡ Some us → (f ≡ manies.Tuple) × (ts ≡ us)
+of_tuple : (f : ListNode) (ts us : Bor (Vec syntax.Expr Global)) → tuple_of f ts ≡ Some us → (f ≡ manies.Tuple) × (ts ≡ us)
 of_tuple manies.Tuple ts us h = (refl, (let w : ts ≡ us = cc in w))
 of_tuple manies.Set ts us h = cc
 of_tuple manies.And ts us h = cc
 of_tuple manies.Or ts us h = cc
 of_tuple manies.Product ts us h = cc
 
-many_kept : (o : Option Expr) (q : Place) (f : ListNode) (ts us : Bor (List syntax.Expr)) (σ : Scope) (d : ℕ) (k : Primes) (p : Place) → o ≡ with_primes k (form_in (form.Many q f ts) σ d) → tuple_of f ts ≡ Some us
-    → (o >>= unchanged p) ≡ (each_of (kept_part k p σ d) us.now >>= λ xs. Some (kept p (exprs xs)))
+many_kept : (o : Option Expr) (q : Place) (f : ListNode) (ts us : Bor (Vec syntax.Expr Global)) (σ : Scope) (d : ℕ) (k : Primes) (p : Place) → o ≡ with_primes k (form_in (form.Many q f ts) σ d) → tuple_of f ts ≡ Some us
+    → (o >>= unchanged p) ≡ (each_of (kept_part k p σ d) us.now.items >>= λ xs. Some (kept p (exprs xs)))
 many_kept o q f ts us σ d k p h t =
     let g = of_tuple f ts us t in
-    rw (h, g.0, g.1, many_shown manies.Tuple k q (expand_each (trees (map view us.now)) σ d) (each_of (part_in k σ d) us.now) (each_in k us.now σ d)) (kept_tuple k p q us.now σ d)
+    rw (h, g.0, g.1, many_shown manies.Tuple k q (expand_each (trees (map view us.now.items)) σ d) (each_of (part_in k σ d) us.now.items) (each_in k us.now.items σ d)) (kept_tuple k p q us.now.items σ d)
 
-pub tuple_kept : (o : Option Expr) (fm : Form) (us : Bor (List syntax.Expr)) (σ : Scope) (d : ℕ) (k : Primes) (p : Place) → o ≡ with_primes k (form_in fm σ d) → tuple_parts fm ≡ Some us
-    → (o >>= unchanged p) ≡ (each_of (kept_part k p σ d) us.now >>= λ xs. Some (kept p (exprs xs)))
+pub tuple_kept : (o : Option Expr) (fm : Form) (us : Bor (Vec syntax.Expr Global)) (σ : Scope) (d : ℕ) (k : Primes) (p : Place) → o ≡ with_primes k (form_in fm σ d) → tuple_parts fm ≡ Some us
+    → (o >>= unchanged p) ≡ (each_of (kept_part k p σ d) us.now.items >>= λ xs. Some (kept p (exprs xs)))
 tuple_kept o (form.Many q f ts) us σ d k p h t = many_kept o q f ts us σ d k p h t
 tuple_kept o (form.Leaf q l) us σ d k p h t = cc
 tuple_kept o (form.Variable q i) us σ d k p h t = cc
 tuple_kept o (form.One q f a) us σ d k p h t = cc
 tuple_kept o (form.Two q f a b) us σ d k p h t = cc
 tuple_kept o (form.Three q f a b c) us σ d k p h t = cc
+tuple_kept o (form.Use q u a) us σ d k p h t = cc
 tuple_kept o (form.Headed q f a b) us σ d k p h t = cc
 tuple_kept o (form.Cases q a b) us σ d k p h t = cc
 tuple_kept o (form.Fields q f fs) us σ d k p h t = cc
@@ -230,15 +249,15 @@ tuple_kept o (form.Unchanged q a) us σ d k p h t = cc
 tuple_kept o (form.Binders q f bs a) us σ d k p h t = cc
 tuple_kept o (form.Binds q f w a b) us σ d k p h t = cc
 
-pub tuple_fails : (o : Option Expr) (fm : Form) (us : Bor (List syntax.Expr)) (σ : Scope) (d : ℕ) (k : Primes) (p : Place) (s : Failure) (room left : ℕ) → o ≡ with_primes k (form_in fm σ d) → tuple_parts fm ≡ Some us
-    → FailsBy (total nodes) (highest depth) room left s (each_of (kept_part k p σ d) us.now) → Fails (room + 1) (left + 1) s (o >>= unchanged p)
+pub tuple_fails : (o : Option Expr) (fm : Form) (us : Bor (Vec syntax.Expr Global)) (σ : Scope) (d : ℕ) (k : Primes) (p : Place) (s : Failure) (room left : ℕ) → o ≡ with_primes k (form_in fm σ d) → tuple_parts fm ≡ Some us
+    → FailsBy (total nodes) (highest depth) room left s (each_of (kept_part k p σ d) us.now.items) → Fails (room + 1) (left + 1) s (o >>= unchanged p)
 tuple_fails o fm us σ d k p s room left h t g =
-    rw (tuple_kept o fm us σ d k p h t) (node_fails (total nodes) (highest depth) (λ xs. kept p (exprs xs)) s (each_of (kept_part k p σ d) us.now) room left (kept_larger p) g)
+    rw (tuple_kept o fm us σ d k p h t) (node_fails (total nodes) (highest depth) (λ xs. kept p (exprs xs)) s (each_of (kept_part k p σ d) us.now.items) room left (kept_larger p) g)
 
-pub tuple_gives : (o : Option Expr) (fm : Form) (us : Bor (List syntax.Expr)) (σ : Scope) (d : ℕ) (k : Primes) (p : Place) (xs : List Expr) (c : Expr) (rest room left : ℕ) → o ≡ with_primes k (form_in fm σ d) → tuple_parts fm ≡ Some us
-    → Makes (total nodes) (highest depth) room left rest xs (each_of (kept_part k p σ d) us.now) → c ≡ kept p (exprs xs) → Given (o >>= unchanged p) c rest (left + 1) (room + 1)
+pub tuple_gives : (o : Option Expr) (fm : Form) (us : Bor (Vec syntax.Expr Global)) (σ : Scope) (d : ℕ) (k : Primes) (p : Place) (xs : List Expr) (c : Expr) (rest room left : ℕ) → o ≡ with_primes k (form_in fm σ d) → tuple_parts fm ≡ Some us
+    → Makes (total nodes) (highest depth) room left rest xs (each_of (kept_part k p σ d) us.now.items) → c ≡ kept p (exprs xs) → Given (o >>= unchanged p) c rest (left + 1) (room + 1)
 tuple_gives o fm us σ d k p xs c rest room left h t g e =
-    rw (tuple_kept o fm us σ d k p h t) (node_gives (total nodes) (highest depth) (λ ys. kept p (exprs ys)) (each_of (kept_part k p σ d) us.now) xs c room left rest (kept_larger p) g e)
+    rw (tuple_kept o fm us σ d k p h t) (node_gives (total nodes) (highest depth) (λ ys. kept p (exprs ys)) (each_of (kept_part k p σ d) us.now.items) xs c room left rest (kept_larger p) g e)
 
 -- an equation
 pub equal_fails : (o : Option Expr) (k m : Primes) (p : Place) (s : Failure) (room left : ℕ) → Plain (with_primes k o) → m ≡ one_more k

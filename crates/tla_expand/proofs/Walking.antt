@@ -1,5 +1,5 @@
 -- A walk over the parts of a nested tuple, step by step.
-use Rattle.std.proofs.Common.{◌≡◌, ◌≤◌, ◌<◌, ◌+◌, ◌⊎◌, inl, inr, ℕ, zero, suc, Bool, true, false, List, [], ◌∷◌, ◌++◌, map, length, get_or, take, append_assoc, refl, sym, ap, ◌∙◌, arith, Bor, Option, Some, None}
+use Rattle.std.proofs.Common.{◌≡◌, ◌≤◌, ◌<◌, ◌+◌, ◌⊎◌, inl, inr, ℕ, zero, suc, Bool, true, false, List, [], ◌∷◌, ◌++◌, map, length, get_or, take, append_assoc, refl, sym, ap, ◌∙◌, arith, Bor, Vec, Global, Option, Some, None}
 use Rattle.std.specs.Prelude.{nat_eq, ◌&&◌, ◌||◌, IfOk, IfSome, Result, Ok, Err}
 use Rattle.std.specs.List.{list_any}
 use Rattle.std.proofs.lemmas.Bool.{eqb-true, eqb-false, eq-eqb}
@@ -226,7 +226,7 @@ meaning_grown at other n (Bound i) rest h b = refl
 meaning_grown at other n (Variable i) rest h b = refl
 meaning_grown at other n (Value v) rest h b = refl
 meaning_grown at other n (Function p bs body home) rest h b =
-    ap (λ (σ : Scope). parameter (gathered gathers.Function p (binds_of (binders (map group_view bs.now)) σ) (expand (view body.now)) σ)) (h home b.0)
+    ap (λ (σ : Scope). parameter (gathered gathers.Function p (binds_of (binders (map group_view bs.now.items)) σ) (expand (view body.now)) σ)) (h home b.0)
 meaning_grown at other n Unknown rest h b = refl
 meaning_grown at other n (Argument t s) rest h b = ap (λ (σ : Scope). parameter (expand (view t.now) σ)) (h s b.0)
 meaning_grown at other n (Definition xs body home) rest h b = ap (λ (σ : Scope). operator xs.now (expand (view body.now)) σ) (h home b.0)
@@ -563,6 +563,7 @@ variable_piece k (form.Leaf q l) i h σ d = cc
 variable_piece k (form.One q f a) i h σ d = cc
 variable_piece k (form.Two q f a b) i h σ d = cc
 variable_piece k (form.Three q f a b c) i h σ d = cc
+variable_piece k (form.Use q u a) i h σ d = cc
 variable_piece k (form.Headed q f a b) i h σ d = cc
 variable_piece k (form.Cases q a b) i h σ d = cc
 variable_piece k (form.Fields q f fs) i h σ d = cc
@@ -572,11 +573,11 @@ variable_piece k (form.Unchanged q a) i h σ d = cc
 variable_piece k (form.Binders q f bs a) i h σ d = cc
 variable_piece k (form.Binds q f w a b) i h σ d = cc
 
-pub tuple_piece : (k : Primes) (fm : Form) (ts : Bor (List syntax.Expr)) → piece_of k fm ≡ piece.Tuple ts → (σ : Scope) (d : ℕ)
-    → (p : Place) × (with_primes k (form_in fm σ d) ≡ (each_of (part_in k σ d) ts.now >>= λ xs. Some (tuple p (exprs xs))))
+pub tuple_piece : (k : Primes) (fm : Form) (ts : Bor (Vec syntax.Expr Global)) → piece_of k fm ≡ piece.Tuple ts → (σ : Scope) (d : ℕ)
+    → (p : Place) × (with_primes k (form_in fm σ d) ≡ (each_of (part_in k σ d) ts.now.items >>= λ xs. Some (tuple p (exprs xs))))
 tuple_piece k (form.Many q manies.Tuple us) ts h σ d =
     let w : us ≡ ts = cc in
-    (q, rw (sym w) (many_shown manies.Tuple k q (expand_each (trees (map view us.now)) σ d) (each_of (part_in k σ d) us.now) (each_in k us.now σ d)))
+    (q, rw (sym w) (many_shown manies.Tuple k q (expand_each (trees (map view us.now.items)) σ d) (each_of (part_in k σ d) us.now.items) (each_in k us.now.items σ d)))
 tuple_piece k (form.Many q manies.Set us) ts h σ d = cc
 tuple_piece k (form.Many q manies.And us) ts h σ d = cc
 tuple_piece k (form.Many q manies.Or us) ts h σ d = cc
@@ -588,6 +589,7 @@ tuple_piece k (form.Leaf q l) ts h σ d = cc
 tuple_piece k (form.One q f a) ts h σ d = cc
 tuple_piece k (form.Two q f a b) ts h σ d = cc
 tuple_piece k (form.Three q f a b c) ts h σ d = cc
+tuple_piece k (form.Use q u a) ts h σ d = cc
 tuple_piece k (form.Headed q f a b) ts h σ d = cc
 tuple_piece k (form.Cases q a b) ts h σ d = cc
 tuple_piece k (form.Fields q f fs) ts h σ d = cc

@@ -34,7 +34,7 @@ pub(crate) enum What<'a> {
     /// The parameters and the body of a definition, in the scope where it stands.
     Definition(&'a [Written], &'a Expr, usize),
     /// The place, the binder list and the body of a function that is defined by its name, in the scope where it stands.
-    Function(Place, &'a [Binder], &'a Expr, usize),
+    Function(Place, &'a Vec<Binder>, &'a Expr, usize),
     /// An operator of so many parameters that gives back one of its arguments.
     Gives(usize, Projection),
     /// An operator of a module under another name.

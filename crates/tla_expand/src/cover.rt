@@ -44,7 +44,7 @@ pub(crate) struct Gone {
 #[derive(Clone, Copy)]
 pub(crate) enum Piece<'a> {
     Variable(usize),
-    Tuple(&'a [Expr]),
+    Tuple(&'a Vec<Expr>),
     Other,
 }
 
@@ -137,7 +137,7 @@ fn go_into<'a>(walk: &mut Walk<'_, 'a>, head: Head<'a>) -> Result<bool, Failure>
             Ok(true)
         }
         Piece::Tuple(items) => {
-            push_parts(&mut walk.left, items, head.scope, head.primes)?;
+            push_parts(&mut walk.left, items.as_slice(), head.scope, head.primes)?;
             Ok(true)
         }
         Piece::Other => Ok(false),
@@ -159,7 +159,7 @@ fn go_along<'a>(walk: &mut Walk<'_, 'a>, reduction: Reduction<'a>) -> Result<boo
     }
 }
 
-/// Reduces an expression by a step; whether it may be a part. The only error is want of memory.
+/// Reduces an expression once; whether it may be a part. The only error is want of memory.
 fn go_from<'a>(
     walk: &mut Walk<'_, 'a>,
     tree: &'a Expr,

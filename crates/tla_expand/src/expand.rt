@@ -11,8 +11,9 @@ ghost use Rattle.tla_expand.specs.Maybe.{each_of};
 ghost use Rattle.tla_expand.specs.Lists.{exprs, arms_with, fields_of};
 ghost use Rattle.tla_expand.specs.Primes.{primed_now, with_primes};
 ghost use Rattle.tla_expand.specs.Nodes as nodes;
+ghost use Rattle.tla_expand.specs.Meanings.{builtin_meaning};
 ghost use Rattle.tla_expand.specs.Expand as expansion;
-ghost use Rattle.tla_expand.specs.Scopes.{AreLinked, scope_at};
+ghost use Rattle.tla_expand.specs.Scopes.{AreLinked, scope_at, arguments_in};
 ghost use Rattle.tla_expand.specs.Private.Forms.{form_in};
 ghost use Rattle.tla_model.specs.Size.{IsWithinLimits};
 ghost use Rattle.tla_expand.specs.Private.Gives.{part_in, key_in, arm_in, field_in, both, made, Fails, Gives, GivesTwo, most_named};
@@ -32,7 +33,7 @@ use crate::entries::Entries;
 use crate::expanded::{Expanded, Pair};
 use crate::failure::Failure;
 use crate::nodes::{
-    BinaryNode, Binders, Fielded, Form, Headed, Leaf, ListNode, TernaryNode, UnaryNode,
+    BinaryNode, Binders, Builtin, Fielded, Form, Headed, Leaf, ListNode, TernaryNode, UnaryNode,
 };
 use crate::parts::boxed;
 use crate::primes::Primes;
@@ -175,18 +176,25 @@ pub(crate) fn node_of<'a>(
         Form::One(place, node, part) => one_node(alloc, entries, place, node, part, at),
         Form::Two(place, node, a, b) => two_node(alloc, entries, place, node, a, b, at),
         Form::Three(place, node, a, b, c) => three_node(alloc, entries, place, node, a, b, c, at),
-        Form::Many(place, node, items) => many_node(alloc, entries, place, node, items, at),
+        Form::Many(place, node, items) => {
+            many_node(alloc, entries, place, node, items.as_slice(), at)
+        }
+        Form::Use(place, builtin, arguments) => {
+            use_node(alloc, entries, place, builtin, arguments, at)
+        }
         Form::Headed(place, node, first, others) => match node {
-            Headed::Index => index_node(alloc, entries, place, first, others, at),
-            Headed::Product => product_node(alloc, entries, place, first, others, at),
+            Headed::Index => index_node(alloc, entries, place, first, others.as_slice(), at),
+            Headed::Product => product_node(alloc, entries, place, first, others.as_slice(), at),
         },
         Form::Cases(place, arms, last) => match last {
-            None => cases_node(alloc, entries, place, arms, at),
-            Some(last) => cases_or_node(alloc, entries, place, arms, last, at),
+            None => cases_node(alloc, entries, place, arms.as_slice(), at),
+            Some(last) => cases_or_node(alloc, entries, place, arms.as_slice(), last, at),
         },
-        Form::Fields(place, node, fields) => fields_node(alloc, entries, place, node, fields, at),
+        Form::Fields(place, node, fields) => {
+            fields_node(alloc, entries, place, node, fields.as_slice(), at)
+        }
         Form::Except(place, function, updates) => {
-            except_node(alloc, entries, place, function, updates, at)
+            except_node(alloc, entries, place, function, updates.as_slice(), at)
         }
         Form::Action(place, step, action, place_v, v) => match step {
             Step::Box => square_node(alloc, entries, place, action, place_v, v, at),
@@ -194,14 +202,57 @@ pub(crate) fn node_of<'a>(
         },
         Form::Unchanged(place, operand) => unchanged_node(alloc, entries, place, operand, at),
         Form::Binders(place, Binders::Nested(node), groups, body) => {
-            bound_several(alloc, entries, place, node, groups, body, at)
+            bound_several(alloc, entries, place, node, groups.as_slice(), body, at)
         }
         Form::Binders(place, Binders::Gathered(node), groups, body) => {
-            gather_node(alloc, entries, place, node, groups, body, at)
+            gather_node(alloc, entries, place, node, groups.as_slice(), body, at)
         }
         Form::Binds(place, node, pattern, set, body) => {
             bound_one(alloc, entries, place, node, pattern, set, body, at)
         }
+    }
+}
+
+/// The use of an operator of a module.
+#[cycle(expand)]
+#[inline(never)]
+fn use_node<'a>(
+    alloc: Global,
+    entries: &mut Entries<'_, 'a>,
+    place: Place,
+    builtin: Builtin,
+    arguments: &'a [Expr],
+    at: Setting,
+) -> Result<Expanded, Failure>
+    requires linked { AreLinked (listed entries.old) }
+    requires scope { at.scope ≤ length (listed entries.old) }
+    requires small { at.bound + at.left ≤ most_named }
+    ensures kept { OnOk result (listed entries.new ≡ listed entries.old) }
+    ensures same { Gives (at.room + 1) (at.left + 1) result (with_primes at.primes (builtin_meaning builtin place (arguments_in arguments.now (scope_at (listed entries.old) at.scope)) at.bound)) }
+{
+    match builtin {
+        Builtin::Kinds(kind) => match arguments {
+            [] => leaf_of(alloc, place, Leaf::Kinds(kind), at.primes, at.left),
+            _ => Err(Failure::NoExpansion(place)),
+        },
+        Builtin::Sequences => match arguments {
+            [first] => one_node(alloc, entries, place, UnaryNode::Sequences, first, at),
+            _ => Err(Failure::NoExpansion(place)),
+        },
+        Builtin::One(operator) => match arguments {
+            [first] => one_node(alloc, entries, place, UnaryNode::Unary(operator), first, at),
+            _ => Err(Failure::NoExpansion(place)),
+        },
+        Builtin::Two(node) => match arguments {
+            [one, other] => two_node(alloc, entries, place, node, one, other, at),
+            _ => Err(Failure::NoExpansion(place)),
+        },
+        Builtin::Three(node) => match arguments {
+            [first, second, third] => {
+                three_node(alloc, entries, place, node, first, second, third, at)
+            }
+            _ => Err(Failure::NoExpansion(place)),
+        },
     }
 }
 

@@ -1,10 +1,11 @@
 //! Forms with their parts.
 
-ghost use Rattle.std.specs.Prelude.{◌≡◌, IfSome, IfNone, ℕ, None};
+ghost use Rattle.std.specs.Prelude.{◌≡◌, ℕ, false, None};
+ghost use Rattle.tla_core.specs.declared.fault.Place.{Place};
 ghost use Rattle.tla_tree.specs.View.{view};
 ghost use Rattle.tla_expand.specs.Meanings.{Scope, builtin_meaning};
 ghost use Rattle.tla_expand.specs.Expand.{of_quantifier};
-ghost use Rattle.tla_expand.specs.Private.Forms.{GivesForm, GivesPrefix, form_in};
+ghost use Rattle.tla_expand.specs.Private.Forms.{GivesForm, GivesPrefix};
 ghost use Rattle.tla_expand.specs.Private.Forms as spec;
 ghost use Rattle.tla_expand.specs.Scopes.{arguments_in};
 
@@ -54,11 +55,11 @@ fn plain_form<'a>(tree: &'a Expr) -> OwnForm<'a>
         Expr::Constant(at, word) => OwnForm::Form(Form::Leaf(place_of(*at), Leaf::Word(*word))),
         Expr::Listing(at, brackets, items) => {
             let node = of_brackets(*brackets);
-            OwnForm::Form(Form::Many(place_of(*at), node, items.as_slice()))
+            OwnForm::Form(Form::Many(place_of(*at), node, items))
         }
         Expr::Junction(at, bullet, items) => {
             let node = of_bullet(*bullet);
-            OwnForm::Form(Form::Many(place_of(*at), node, items.as_slice()))
+            OwnForm::Form(Form::Many(place_of(*at), node, items))
         }
         Expr::Field(at, record, name) => {
             OwnForm::Form(Form::One(place_of(*at), UnaryNode::Field(&name.word), record))
@@ -75,8 +76,8 @@ fn plain_form<'a>(tree: &'a Expr) -> OwnForm<'a>
 }
 
 /// What a prefix operator makes of its operand.
-fn prefix_form<'a>(at: Place, operator: Prefix, operand: &'a Expr) -> OwnForm<'a>
-    ensures { GivesPrefix result at operator (view operand.now) }
+fn prefix_form<'a>(at: Place, operator: Prefix, operand: &'a Box<Expr>) -> OwnForm<'a>
+    ensures { GivesPrefix result at operator (view operand.now.value) }
 {
     if let Prefix::Unchanged = operator {
         return OwnForm::Form(Form::Unchanged(at, operand));
@@ -94,12 +95,11 @@ fn other_form<'a>(tree: &'a Expr) -> OwnForm<'a>
     match tree {
         Expr::Unary(at, operator, operand) => prefix_form(place_of(*at), *operator, operand),
         Expr::Index(at, function, arguments) => {
-            let arguments = arguments.as_slice();
             OwnForm::Form(Form::Headed(place_of(*at), Headed::Index, function, arguments))
         }
         Expr::Quantified(at, quantifier, groups, body) => {
             let node = Binders::Nested(of_quantifier(*quantifier));
-            OwnForm::Form(Form::Binders(place_of(*at), node, groups.as_slice(), body))
+            OwnForm::Form(Form::Binders(place_of(*at), node, groups, body))
         }
         Expr::Choose(at, pattern, set, body) => {
             OwnForm::Form(Form::Binds(place_of(*at), Binding::Choose, pattern, set, body))
@@ -109,15 +109,15 @@ fn other_form<'a>(tree: &'a Expr) -> OwnForm<'a>
         }
         Expr::Image(at, body, groups) => {
             let node = Binders::Gathered(Gather::Image);
-            OwnForm::Form(Form::Binders(place_of(*at), node, groups.as_slice(), body))
+            OwnForm::Form(Form::Binders(place_of(*at), node, groups, body))
         }
         Expr::Function(at, groups, body) => {
             let node = Binders::Gathered(Gather::Function);
-            OwnForm::Form(Form::Binders(place_of(*at), node, groups.as_slice(), body))
+            OwnForm::Form(Form::Binders(place_of(*at), node, groups, body))
         }
         Expr::Case(at, arms, other) => match other {
-            None => OwnForm::Form(Form::Cases(place_of(*at), arms.as_slice(), None)),
-            Some(last) => OwnForm::Form(Form::Cases(place_of(*at), arms.as_slice(), Some(last))),
+            None => OwnForm::Form(Form::Cases(place_of(*at), arms, None)),
+            Some(last) => OwnForm::Form(Form::Cases(place_of(*at), arms, Some(last))),
         },
         _ => OwnForm::Goes,
     }
@@ -132,16 +132,16 @@ fn made_form<'a>(tree: &'a Expr) -> OwnForm<'a>
             OwnForm::Form(Form::Two(place_of(*at), BinaryNode::Functions, domain, range))
         }
         Expr::Record(at, fields) => {
-            OwnForm::Form(Form::Fields(place_of(*at), Fielded::Record, fields.as_slice()))
+            OwnForm::Form(Form::Fields(place_of(*at), Fielded::Record, fields))
         }
         Expr::RecordSet(at, fields) => {
-            OwnForm::Form(Form::Fields(place_of(*at), Fielded::Records, fields.as_slice()))
+            OwnForm::Form(Form::Fields(place_of(*at), Fielded::Records, fields))
         }
         Expr::Product(at, first, others) => {
-            OwnForm::Form(Form::Headed(place_of(*at), Headed::Product, first, others.as_slice()))
+            OwnForm::Form(Form::Headed(place_of(*at), Headed::Product, first, others))
         }
         Expr::Except(at, function, updates) => {
-            OwnForm::Form(Form::Except(place_of(*at), function, updates.as_slice()))
+            OwnForm::Form(Form::Except(place_of(*at), function, updates))
         }
         Expr::Action(at, step, action, v) => {
             let place_v = place_of(v.place());
@@ -165,35 +165,15 @@ pub(crate) fn form_of<'a>(tree: &'a Expr) -> OwnForm<'a>
     }
 }
 
-/// The use of an operator of a module, where it has so many arguments.
-pub(crate) fn builtin_form<'a>(
-    place: Place,
-    builtin: Builtin,
-    arguments: &'a [Expr],
-) -> Option<Form<'a>>
-    ensures some { IfSome result (λ f. (σ : Scope) (d : ℕ) → builtin_meaning builtin place (arguments_in arguments.now σ) d ≡ form_in f σ d) }
-    ensures none { IfNone result ((σ : Scope) (d : ℕ) → builtin_meaning builtin place (arguments_in arguments.now σ) d ≡ None) }
+/// Whether an operator of a module takes these arguments.
+pub(crate) fn takes(builtin: Builtin, arguments: &[Expr]) -> bool
+    ensures { result ≡ false → (p : Place) (σ : Scope) (d : ℕ) → builtin_meaning builtin p (arguments_in arguments.now σ) d ≡ None }
 {
     match builtin {
-        Builtin::Kinds(kind) => match arguments {
-            [] => Some(Form::Leaf(place, Leaf::Kinds(kind))),
-            _ => None,
-        },
-        Builtin::Sequences => match arguments {
-            [first] => Some(Form::One(place, UnaryNode::Sequences, first)),
-            _ => None,
-        },
-        Builtin::One(operator) => match arguments {
-            [first] => Some(Form::One(place, UnaryNode::Unary(operator), first)),
-            _ => None,
-        },
-        Builtin::Two(node) => match arguments {
-            [first, second] => Some(Form::Two(place, node, first, second)),
-            _ => None,
-        },
-        Builtin::Three(node) => match arguments {
-            [first, second, third] => Some(Form::Three(place, node, first, second, third)),
-            _ => None,
-        },
+        Builtin::Kinds(_) => matches!(arguments, []),
+        Builtin::Sequences => matches!(arguments, [_]),
+        Builtin::One(_) => matches!(arguments, [_]),
+        Builtin::Two(_) => matches!(arguments, [_, _]),
+        Builtin::Three(_) => matches!(arguments, [_, _, _]),
     }
 }

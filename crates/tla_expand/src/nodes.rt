@@ -123,29 +123,31 @@ pub(crate) enum Builtin {
     Three(TernaryNode),
 }
 
-/// A form with its parts, at a place.
+/// A form with its parts, at a place. It refers to their boxes and lists as they lie in the tree.
 #[derive(Clone, Copy)]
 pub(crate) enum Form<'a> {
     Leaf(Place, Leaf<'a>),
     /// A variable.
     Variable(Place, usize),
-    One(Place, UnaryNode<'a>, &'a Expr),
-    Two(Place, BinaryNode, &'a Expr, &'a Expr),
-    Three(Place, TernaryNode, &'a Expr, &'a Expr, &'a Expr),
-    Many(Place, ListNode, &'a [Expr]),
+    One(Place, UnaryNode<'a>, &'a Box<Expr>),
+    Two(Place, BinaryNode, &'a Box<Expr>, &'a Box<Expr>),
+    Three(Place, TernaryNode, &'a Box<Expr>, &'a Box<Expr>, &'a Box<Expr>),
+    Many(Place, ListNode, &'a Vec<Expr>),
+    /// An operator of a module with its arguments.
+    Use(Place, Builtin, &'a [Expr]),
     /// A first part, and others.
-    Headed(Place, Headed, &'a Expr, &'a [Expr]),
+    Headed(Place, Headed, &'a Box<Expr>, &'a Vec<Expr>),
     /// CASE, with the value of OTHER.
-    Cases(Place, &'a [Arm], Option<&'a Expr>),
-    Unchanged(Place, &'a Expr),
-    Binders(Place, Binders, &'a [Binder], &'a Expr),
-    Fields(Place, Fielded, &'a [Field]),
+    Cases(Place, &'a Vec<Arm>, Option<&'a Box<Expr>>),
+    Unchanged(Place, &'a Box<Expr>),
+    Binders(Place, Binders, &'a Vec<Binder>, &'a Expr),
+    Fields(Place, Fielded, &'a Vec<Field>),
     /// EXCEPT
-    Except(Place, &'a Expr, &'a [Update]),
+    Except(Place, &'a Box<Expr>, &'a Vec<Update>),
     /// `[A]_v` or `<<A>>_v`, with the place of v.
-    Action(Place, Step, &'a Expr, Place, &'a Expr),
+    Action(Place, Step, &'a Box<Expr>, Place, &'a Box<Expr>),
     /// A set, and a body under one entry.
-    Binds(Place, Binding, &'a Pattern, &'a Expr, &'a Expr),
+    Binds(Place, Binding, &'a Pattern, &'a Box<Expr>, &'a Box<Expr>),
 }
 
 impl<'a> Form<'a> {
@@ -158,6 +160,7 @@ impl<'a> Form<'a> {
             | Form::Two(place, _, _, _)
             | Form::Three(place, _, _, _, _)
             | Form::Many(place, _, _)
+            | Form::Use(place, _, _)
             | Form::Headed(place, _, _, _)
             | Form::Cases(place, _, _)
             | Form::Unchanged(place, _)

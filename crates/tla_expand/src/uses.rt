@@ -15,7 +15,7 @@ use crate::arena::{Entry, What, bind, enter, find};
 use crate::builders::place_of;
 use crate::entries::Entries;
 use crate::failure::Failure;
-use crate::forms::{builtin_form, form_of};
+use crate::forms::{form_of, takes};
 use crate::gives::{given_argument, gives, later, with_more};
 use crate::nodes::{Binders, Builtin, Form, Gather, Leaf, OwnForm};
 use crate::operators::builtin_for;
@@ -34,7 +34,7 @@ pub(crate) struct Head<'a> {
     pub(crate) primed: Option<Place>,
 }
 
-/// What an expression is reduced to by a step: another one in a scope, with primes on it; or its form.
+/// What an expression is reduced to: another one in a scope, with primes on it; or its form.
 #[derive(Clone, Copy)]
 pub(crate) enum Reduction<'a> {
     Goes(&'a Expr, usize, Primes),
@@ -71,15 +71,15 @@ fn use_of_builtin<'a>(
     ensures same { IfOk result (λ h. (es : List arena_entry.Entry) (d : ℕ) → with_primes primes (builtin_meaning builtin place (arguments_in arguments.now (scope_at es scope)) d) ≡ head_gives es h d) }
     ensures err { IfErr result (λ e. (σ : Scope) → Explains e (λ d. builtin_meaning builtin place (arguments_in arguments.now σ) d)) }
 {
-    match builtin_form(place, builtin, arguments) {
-        Some(form) => Ok(Head {
-            form,
-            scope,
-            primes,
-            primed: None,
-        }),
-        None => Err(Failure::NoExpansion(place)),
+    if !takes(builtin, arguments) {
+        return Err(Failure::NoExpansion(place));
     }
+    Ok(Head {
+        form: Form::Use(place, builtin, arguments),
+        scope,
+        primes,
+        primed: None,
+    })
 }
 
 /// The use of a name that takes no arguments.
@@ -229,7 +229,7 @@ pub(crate) fn entry_of<'a>(
         }
         Definition::Function(name, groups, body) => Entry {
             name: name.word.as_bytes(),
-            what: What::Function(place_of(name.place), groups.as_slice(), body, scope),
+            what: What::Function(place_of(name.place), groups, body, scope),
             rest: scope,
         },
     }

@@ -305,13 +305,7 @@ const E16: CodeText = CodeText {
     cure: "",
 };
 
-/// The codes, in the order of the stages of a check.
-pub static CODES: [CodeText; 42] = [
-    L1, L2, L3, L4, L5, L6, L7, L8, P1, P2, P3, P4, P5, P6, C1, C2, C3, C4, C5, C6, C7, C8, C9,
-    C10, C11, C12, E1, E2, E3, E4, E5, E6, E7, E8, E9, E10, E11, E12, E13, E14, E15, E16,
-];
-
-// The same codes in parts: a function that names fewer texts is proved sooner.
+// Tables of a stage each, or of half a stage: a function that names fewer texts is proved sooner.
 static TOKENS: [CodeText; 8] = [L1, L2, L3, L4, L5, L6, L7, L8];
 
 static TREES: [CodeText; 6] = [P1, P2, P3, P4, P5, P6];
@@ -346,6 +340,11 @@ fn operations() -> &'static [CodeText] {
 
 fn values() -> &'static [CodeText] {
     &VALUES
+}
+
+/// The codes in tables, in the order of the stages of a check.
+pub fn code_tables() -> [&'static [CodeText]; 6] {
+    [tokens(), trees(), names(), models(), operations(), values()]
 }
 
 /// What this code means.

@@ -18,7 +18,7 @@ mod refusal_text;
 mod trace;
 mod values;
 
-pub use codes::{CODES, CodeText, text_of};
+pub use codes::{CodeText, code_tables, text_of};
 use page::Page;
 pub use places::FileNames;
 use places::Sources;

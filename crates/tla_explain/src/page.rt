@@ -72,11 +72,6 @@ impl Page {
         self.refused = self.refused || write!(self.bytes, "{number}").is_err();
     }
 
-    /// Adds a number that may be negative.
-    pub(crate) fn put_integer(&mut self, number: i64) {
-        self.refused = self.refused || write!(self.bytes, "{number}").is_err();
-    }
-
     /// Adds a hint, of these texts.
     pub(crate) fn hint(&mut self, texts: &[&str]) {
         self.put_text("hint: ");

@@ -69,17 +69,10 @@ fn put_changes_from(page: &mut Page, name: &str, first: i64, before: &[Value], a
     let mut number = first;
     for (old, new) in before.iter().zip(after.iter()) {
         if old != new {
-            put_change_at_number(page, name, number, old, new);
+            put_change_at(page, name, &Value::Int(number), old, new);
         }
         number = number.saturating_add(1);
     }
-}
-
-fn put_change_at_number(page: &mut Page, name: &str, number: i64, old: &Value, new: &Value) {
-    page.put(&["    ", name, "["]);
-    page.put_integer(number);
-    page.put_text("]");
-    put_from_to(page, old, new);
 }
 
 /// Adds what changes where the arguments are these.

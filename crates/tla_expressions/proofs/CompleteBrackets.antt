@@ -15,7 +15,8 @@ use Rattle.tla_tree.specs.declared.tree.Fairness.TheVariants as fa
 use Rattle.tla_tree.specs.Tree.{Tree, Trees, Pattern, Binders, Fields, Updates, none, more, no_fields, field, Name, Paren, Listing, Filter, Image, Function, FunctionSet, Record, RecordSet, Except, Action, Fair}
 use Rattle.tla_grammar.specs.Edges.{depth, depths}
 use Rattle.tla_grammar.specs.Tokens.{seen, Has}
-use Rattle.tla_grammar.specs.Kinds.{same_kind, kind_at}
+use Rattle.tla_lex.specs.SameKind.{same_kind}
+use Rattle.tla_grammar.specs.Kinds.{kind_at}
 use Rattle.tla_grammar.specs.Grammar.{Spells, Listed, Others, is_subscript}
 use Rattle.tla_grammar.specs.Outcome.{at_op}
 use Rattle.tla_grammar.specs.Ahead.{filters}

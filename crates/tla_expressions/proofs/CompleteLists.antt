@@ -14,7 +14,8 @@ use Rattle.tla_tree.specs.Places.{place}
 use Rattle.tla_grammar.specs.Edges.{depth, depths, bound_depth}
 use Rattle.tla_grammar.specs.Tokens.{seen, goes_on, is_bullet_at, may_follow, Has}
 use Rattle.tla_grammar.specs.Entries.{is_single, Entry}
-use Rattle.tla_grammar.specs.Kinds.{same_kind, kind_at, closing}
+use Rattle.tla_lex.specs.SameKind.{same_kind}
+use Rattle.tla_grammar.specs.Kinds.{kind_at, closing}
 use Rattle.tla_grammar.specs.Grammar.{Spells, Items, Listed, Others, Bound, MoreBound, is_some}
 use Rattle.tla_grammar.specs.Marks.{following}
 use Rattle.tla_expressions.specs.ReadingLists.{exprs, some, listing, set_behind, group, one_group, groups}

@@ -13,7 +13,8 @@ use Rattle.tla_grammar.specs.Operators.{low, high, infix_of}
 use Rattle.tla_tree.specs.Places.{place}
 use Rattle.tla_grammar.specs.Edges.{yields, edge_allows, top_above, depth, depths}
 use Rattle.tla_grammar.specs.Tokens.{seen, is_suffix, Has}
-use Rattle.tla_grammar.specs.Kinds.{same_kind, kind_at}
+use Rattle.tla_lex.specs.SameKind.{same_kind}
+use Rattle.tla_grammar.specs.Kinds.{kind_at}
 use Rattle.tla_grammar.specs.Ending.{allows, may_end}
 use Rattle.tla_grammar.specs.Grammar.{Spells, Factors}
 use Rattle.tla_grammar.specs.Marks.{following}

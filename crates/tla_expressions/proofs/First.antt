@@ -18,9 +18,10 @@ use Rattle.tla_tree.specs.declared.tree.Step.{Step}
 use Rattle.tla_tree.specs.declared.tree.Step.TheVariants as st
 use Rattle.tla_tree.specs.declared.tree.Fairness.{Fairness}
 use Rattle.tla_tree.specs.declared.tree.Fairness.TheVariants as fa
-use Rattle.tla_grammar.specs.Kinds.{same_kind, kind_at, opening, closing, step_opening, fairness_word}
+use Rattle.tla_lex.specs.SameKind.{same_kind}
+use Rattle.tla_grammar.specs.Kinds.{kind_at, opening, closing, step_opening, fairness_word}
 use Rattle.tla_grammar.specs.Grammar.{Spells}
-use Rattle.tla_grammar.proofs.Inversion.{same_is}
+use Rattle.tla_lex.proofs.SameKind.{same_is}
 use Rattle.tla_expressions.proofs.Follow.{infix_no_suffix}
 
 -- kinds of tokens that end something, and begin no expression

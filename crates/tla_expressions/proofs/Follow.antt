@@ -13,7 +13,8 @@ use Rattle.tla_tree.specs.Tree.{Tree}
 use Rattle.tla_grammar.specs.Operators.{low, high, left_group, prefix_low, prefix_high, infix_of, bullet_of}
 use Rattle.tla_grammar.specs.Edges.{yields, edge_allows}
 use Rattle.tla_grammar.specs.Tokens.{is_suffix, right_of, seen, goes_on, is_some_infix, is_bullet, is_bullet_at, may_follow, Has}
-use Rattle.tla_grammar.specs.Kinds.{same_kind, kind_at}
+use Rattle.tla_lex.specs.SameKind.{same_kind}
+use Rattle.tla_grammar.specs.Kinds.{kind_at}
 use Rattle.tla_grammar.specs.Ending.{above, infix_at, allows, may_end}
 use Rattle.tla_grammar.specs.Marks.{postfix_of, postfix_at}
 use Rattle.tla_grammar.proofs.Inversion.{and_true}

@@ -7,7 +7,8 @@ use Rattle.tla_grammar.specs.declared.context.Context.{Context}
 use Rattle.tla_grammar.specs.declared.ahead.Opened.TheVariants as opened
 use Rattle.tla_tree.specs.Tree.{Tree, Pattern, Each, Tuple, Binders, unbound, bound}
 use Rattle.tla_grammar.specs.Tokens.{seen, Has}
-use Rattle.tla_grammar.specs.Kinds.{same_kind, kind_at, role_of}
+use Rattle.tla_lex.specs.SameKind.{same_kind}
+use Rattle.tla_grammar.specs.Kinds.{kind_at, role_of}
 use Rattle.tla_grammar.specs.Entries.{is_single, Binds, Entry}
 use Rattle.tla_grammar.specs.Grammar.{Spells, Bound, MoreBound}
 use Rattle.tla_grammar.specs.Ahead.{behind, binds, filters, maps, ending, opened_by}

@@ -9,20 +9,17 @@ ghost use Rattle.tla_grammar.specs.Edges as edges;
 ghost use Rattle.tla_expressions.specs.Reading.{expr};
 ghost use Rattle.tla_expressions.specs.ReadingBrackets as reading;
 ghost use Rattle.tla_expressions.specs.Gives.{Gives, GivesItems, GivesTrees};
-ghost use Rattle.tla_expressions.specs.Private.Nests.{Nests};
 
 use crate::grammar::Grammar;
 use crate::parts::{Parsed, ParsedItems, image_of, listing_of, mapping_of, node};
-use std::alloc::Global;
+use crate::reader::Reader;
 use tla_grammar::{
     Between, Context, Opened, Refusal, binds, filters, following, is_kind, opened_by, refused, seen,
 };
 use tla_lex::{Kind, Place, Token};
 use tla_tree::{Brackets, Expr, Fairness, Step, Written, push_inner};
 
-impl<F: Fn(Global, &[u8], &[Token], usize, Context, u8, usize) -> Result<Parsed, Refusal>> Grammar<
-    F,
-> {
+impl<R: Reader> Grammar<R> {
     /// The expressions behind the first, and the closing bracket.
     #[tactic(auto, unfolding(crate::specs::ReadingBrackets::others))]
     fn others(
@@ -33,7 +30,7 @@ impl<F: Fn(Global, &[u8], &[Token], usize, Context, u8, usize) -> Result<Parsed,
         close: Kind,
         first: Parsed,
     ) -> Result<ParsedItems, Refusal>
-        requires nests { Nests self.now.depth (F.pre self.now.expr) (F.post self.now.expr) }
+        requires nests { R.reads_to self.now.reader self.now.depth }
         requires depth { first.depth ≡ edges.depth (view first.tree.value) }
         requires shallow { first.depth ≤ self.now.depth }
         ensures { GivesTrees text.now tokens.now self.now.depth result (reading.others text.now tokens.now (expr text.now tokens.now self.now.depth) context close (view first.tree.value) first.end) }
@@ -71,7 +68,7 @@ impl<F: Fn(Global, &[u8], &[Token], usize, Context, u8, usize) -> Result<Parsed,
         context: Context,
         from: usize,
     ) -> Result<Parsed, Refusal>
-        requires nests { Nests self.now.depth (F.pre self.now.expr) (F.post self.now.expr) }
+        requires nests { R.reads_to self.now.reader self.now.depth }
         requires small { self.now.depth ≤ MAX_DEPTH }
         ensures { Gives text.now tokens.now (self.now.depth + 1) result (reading.subscript text.now tokens.now (expr text.now tokens.now self.now.depth) context from) }
     {
@@ -103,7 +100,7 @@ impl<F: Fn(Global, &[u8], &[Token], usize, Context, u8, usize) -> Result<Parsed,
         step: Step,
         first: Parsed,
     ) -> Result<Parsed, Refusal>
-        requires nests { Nests self.now.depth (F.pre self.now.expr) (F.post self.now.expr) }
+        requires nests { R.reads_to self.now.reader self.now.depth }
         requires within { first.end < length tokens.now }
         requires depth { first.depth ≡ edges.depth (view first.tree.value) }
         requires shallow { first.depth ≤ self.now.depth }
@@ -134,7 +131,7 @@ impl<F: Fn(Global, &[u8], &[Token], usize, Context, u8, usize) -> Result<Parsed,
         fairness: Fairness,
         from: usize,
     ) -> Result<Parsed, Refusal>
-        requires nests { Nests self.now.depth (F.pre self.now.expr) (F.post self.now.expr) }
+        requires nests { R.reads_to self.now.reader self.now.depth }
         requires within { from < length tokens.now }
         requires small { self.now.depth ≤ MAX_DEPTH }
         ensures { Gives text.now tokens.now (self.now.depth + 1) result (reading.fair text.now tokens.now (expr text.now tokens.now self.now.depth) (self.now.depth + 1) context at fairness from) }
@@ -169,7 +166,7 @@ impl<F: Fn(Global, &[u8], &[Token], usize, Context, u8, usize) -> Result<Parsed,
         at: Place,
         from: usize,
     ) -> Result<Parsed, Refusal>
-        requires nests { Nests self.now.depth (F.pre self.now.expr) (F.post self.now.expr) }
+        requires nests { R.reads_to self.now.reader self.now.depth }
         requires within { from < length tokens.now }
         requires small { self.now.depth ≤ MAX_DEPTH }
         ensures { Gives text.now tokens.now (self.now.depth + 1) result (reading.filter text.now tokens.now (expr text.now tokens.now self.now.depth) context at from) }
@@ -200,7 +197,7 @@ impl<F: Fn(Global, &[u8], &[Token], usize, Context, u8, usize) -> Result<Parsed,
         at: Place,
         first: Parsed,
     ) -> Result<Parsed, Refusal>
-        requires nests { Nests self.now.depth (F.pre self.now.expr) (F.post self.now.expr) }
+        requires nests { R.reads_to self.now.reader self.now.depth }
         requires within { first.end < length tokens.now }
         requires depth { first.depth ≡ edges.depth (view first.tree.value) }
         requires shallow { first.depth ≤ self.now.depth }
@@ -230,7 +227,7 @@ impl<F: Fn(Global, &[u8], &[Token], usize, Context, u8, usize) -> Result<Parsed,
         from: usize,
         first: Parsed,
     ) -> Result<Parsed, Refusal>
-        requires nests { Nests self.now.depth (F.pre self.now.expr) (F.post self.now.expr) }
+        requires nests { R.reads_to self.now.reader self.now.depth }
         requires within { from < length tokens.now }
         requires depth { first.depth ≡ edges.depth (view first.tree.value) }
         requires shallow { first.depth ≤ self.now.depth }
@@ -266,7 +263,7 @@ impl<F: Fn(Global, &[u8], &[Token], usize, Context, u8, usize) -> Result<Parsed,
         at: Place,
         from: usize,
     ) -> Result<Parsed, Refusal>
-        requires nests { Nests self.now.depth (F.pre self.now.expr) (F.post self.now.expr) }
+        requires nests { R.reads_to self.now.reader self.now.depth }
         requires within { from < length tokens.now }
         requires small { self.now.depth ≤ MAX_DEPTH }
         ensures { Gives text.now tokens.now (self.now.depth + 1) result (reading.brace text.now tokens.now (expr text.now tokens.now self.now.depth) context at from) }
@@ -296,7 +293,7 @@ impl<F: Fn(Global, &[u8], &[Token], usize, Context, u8, usize) -> Result<Parsed,
         at: Place,
         from: usize,
     ) -> Result<Parsed, Refusal>
-        requires nests { Nests self.now.depth (F.pre self.now.expr) (F.post self.now.expr) }
+        requires nests { R.reads_to self.now.reader self.now.depth }
         requires within { from < length tokens.now }
         requires small { self.now.depth ≤ MAX_DEPTH }
         ensures { Gives text.now tokens.now (self.now.depth + 1) result (reading.tuple text.now tokens.now (expr text.now tokens.now self.now.depth) (self.now.depth + 1) context at from) }
@@ -337,7 +334,7 @@ impl<F: Fn(Global, &[u8], &[Token], usize, Context, u8, usize) -> Result<Parsed,
         at: Place,
         from: usize,
     ) -> Result<Parsed, Refusal>
-        requires nests { Nests self.now.depth (F.pre self.now.expr) (F.post self.now.expr) }
+        requires nests { R.reads_to self.now.reader self.now.depth }
         requires within { from < length tokens.now }
         requires small { self.now.depth ≤ MAX_DEPTH }
         ensures { Gives text.now tokens.now (self.now.depth + 1) result (reading.mapping text.now tokens.now (expr text.now tokens.now self.now.depth) context at from) }
@@ -368,7 +365,7 @@ impl<F: Fn(Global, &[u8], &[Token], usize, Context, u8, usize) -> Result<Parsed,
         at: Place,
         first: Parsed,
     ) -> Result<Parsed, Refusal>
-        requires nests { Nests self.now.depth (F.pre self.now.expr) (F.post self.now.expr) }
+        requires nests { R.reads_to self.now.reader self.now.depth }
         requires within { first.end < length tokens.now }
         requires depth { first.depth ≡ edges.depth (view first.tree.value) }
         requires shallow { first.depth ≤ self.now.depth }
@@ -398,7 +395,7 @@ impl<F: Fn(Global, &[u8], &[Token], usize, Context, u8, usize) -> Result<Parsed,
         start: usize,
         first: Parsed,
     ) -> Result<Parsed, Refusal>
-        requires nests { Nests self.now.depth (F.pre self.now.expr) (F.post self.now.expr) }
+        requires nests { R.reads_to self.now.reader self.now.depth }
         requires depth { first.depth ≡ edges.depth (view first.tree.value) }
         requires shallow { first.depth ≤ self.now.depth }
         requires small { self.now.depth ≤ MAX_DEPTH }
@@ -431,7 +428,7 @@ impl<F: Fn(Global, &[u8], &[Token], usize, Context, u8, usize) -> Result<Parsed,
         at: Place,
         from: usize,
     ) -> Result<Parsed, Refusal>
-        requires nests { Nests self.now.depth (F.pre self.now.expr) (F.post self.now.expr) }
+        requires nests { R.reads_to self.now.reader self.now.depth }
         requires within { from < length tokens.now }
         requires small { self.now.depth ≤ MAX_DEPTH }
         ensures { Gives text.now tokens.now (self.now.depth + 1) result (reading.bracket text.now tokens.now (expr text.now tokens.now self.now.depth) (self.now.depth + 1) context at from) }

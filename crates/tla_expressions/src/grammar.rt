@@ -6,9 +6,9 @@ ghost use Rattle.tla_grammar.specs.Edges as edges;
 ghost use Rattle.tla_grammar.specs.Tokens as spec;
 ghost use Rattle.tla_expressions.specs.Reading as reading;
 ghost use Rattle.tla_expressions.specs.Gives.{Gives, GivesDefinition};
-ghost use Rattle.tla_expressions.specs.Private.Nests.{Nests};
 
 use crate::parts::{Parsed, ParsedDefinition, index_of, node};
+use crate::reader::Reader;
 use std::alloc::Global;
 use tla_grammar::{
     Context, Postfix, Refusal, bullet_of, constant_of, edge_allows, high, is_product, name_at,
@@ -18,17 +18,15 @@ use tla_lex::{Kind, Place, Token};
 use tla_tree::{Expr, Fairness, Infix, MAX_DEPTH, Prefix, Written};
 
 /// The rules of expressions, over a reader of the expressions in them.
-#[derive(Clone, Copy)]
-pub struct Grammar<F> {
+#[derive(Drop)]
+pub struct Grammar<R> {
     pub alloc: Global,
     /// How deep inner expressions may be.
     pub depth: usize,
-    pub expr: F,
+    pub reader: R,
 }
 
-impl<F: Fn(Global, &[u8], &[Token], usize, Context, u8, usize) -> Result<Parsed, Refusal>> Grammar<
-    F,
-> {
+impl<R: Reader> Grammar<R> {
     /// An expression one level deeper.
     pub fn inner(
         &self,
@@ -38,10 +36,11 @@ impl<F: Fn(Global, &[u8], &[Token], usize, Context, u8, usize) -> Result<Parsed,
         floor: u8,
         at: usize,
     ) -> Result<Parsed, Refusal>
-        requires { Nests self.now.depth (F.pre self.now.expr) (F.post self.now.expr) }
+        requires { R.reads_to self.now.reader self.now.depth }
         ensures { Gives text.now tokens.now self.now.depth result (reading.expr text.now tokens.now self.now.depth context floor at) }
     {
-        (self.expr)(self.alloc, text, tokens, self.depth, context, floor, at)
+        self.reader
+            .read(self.alloc, text, tokens, self.depth, context, floor, at)
     }
 
     /// `f[e, ..]`, behind the tree, which begins at a token of this number.
@@ -54,7 +53,7 @@ impl<F: Fn(Global, &[u8], &[Token], usize, Context, u8, usize) -> Result<Parsed,
         start: usize,
         first: Parsed,
     ) -> Result<Parsed, Refusal>
-        requires nests { Nests self.now.depth (F.pre self.now.expr) (F.post self.now.expr) }
+        requires nests { R.reads_to self.now.reader self.now.depth }
         requires within { first.end < length tokens.now }
         requires depth { first.depth ≡ edges.depth (view first.tree.value) }
         requires shallow { first.depth ≤ self.now.depth + 1 }
@@ -85,7 +84,7 @@ impl<F: Fn(Global, &[u8], &[Token], usize, Context, u8, usize) -> Result<Parsed,
         first: Parsed,
         form: Postfix,
     ) -> Result<Parsed, Refusal>
-        requires nests { Nests self.now.depth (F.pre self.now.expr) (F.post self.now.expr) }
+        requires nests { R.reads_to self.now.reader self.now.depth }
         requires within { first.end < length tokens.now }
         requires depth { first.depth ≡ edges.depth (view first.tree.value) }
         requires shallow { first.depth ≤ self.now.depth + 1 }
@@ -128,7 +127,6 @@ impl<F: Fn(Global, &[u8], &[Token], usize, Context, u8, usize) -> Result<Parsed,
     }
 
     /// The closed form that begins at a token of this number, under the postfix forms that follow.
-    #[tactic(auto, using(crate::proofs::Steps::postfix_done, crate::proofs::Steps::postfix_more, crate::proofs::Steps::postfix_full))]
     fn postfixes(
         &self,
         text: &[u8],
@@ -137,7 +135,7 @@ impl<F: Fn(Global, &[u8], &[Token], usize, Context, u8, usize) -> Result<Parsed,
         start: usize,
         first: Parsed,
     ) -> Result<Parsed, Refusal>
-        requires nests { Nests self.now.depth (F.pre self.now.expr) (F.post self.now.expr) }
+        requires nests { R.reads_to self.now.reader self.now.depth }
         requires depth { first.depth ≡ edges.depth (view first.tree.value) }
         requires shallow { first.depth ≤ self.now.depth + 1 }
         requires small { self.now.depth ≤ MAX_DEPTH }
@@ -170,7 +168,7 @@ impl<F: Fn(Global, &[u8], &[Token], usize, Context, u8, usize) -> Result<Parsed,
         at: Place,
         from: usize,
     ) -> Result<Parsed, Refusal>
-        requires nests { Nests self.now.depth (F.pre self.now.expr) (F.post self.now.expr) }
+        requires nests { R.reads_to self.now.reader self.now.depth }
         requires within { from < length tokens.now }
         requires small { self.now.depth ≤ MAX_DEPTH }
         ensures { Gives text.now tokens.now (self.now.depth + 1) result (reading.prefix text.now tokens.now (reading.expr text.now tokens.now self.now.depth) context op at from) }
@@ -190,7 +188,7 @@ impl<F: Fn(Global, &[u8], &[Token], usize, Context, u8, usize) -> Result<Parsed,
         left: Parsed,
         op: Infix,
     ) -> Result<Parsed, Refusal>
-        requires nests { Nests self.now.depth (F.pre self.now.expr) (F.post self.now.expr) }
+        requires nests { R.reads_to self.now.reader self.now.depth }
         requires within { left.end < length tokens.now }
         requires depth { left.depth ≡ edges.depth (view left.tree.value) }
         requires shallow { left.depth ≤ self.now.depth + 1 }
@@ -222,7 +220,6 @@ impl<F: Fn(Global, &[u8], &[Token], usize, Context, u8, usize) -> Result<Parsed,
     }
 
     /// The operand that begins at a token of this number, under the operators that follow.
-    #[tactic(auto, using(crate::proofs::Steps::climb_done, crate::proofs::Steps::climb_more, crate::proofs::Steps::climb_full))]
     fn climb(
         &self,
         text: &[u8],
@@ -232,7 +229,7 @@ impl<F: Fn(Global, &[u8], &[Token], usize, Context, u8, usize) -> Result<Parsed,
         start: usize,
         first: Parsed,
     ) -> Result<Parsed, Refusal>
-        requires nests { Nests self.now.depth (F.pre self.now.expr) (F.post self.now.expr) }
+        requires nests { R.reads_to self.now.reader self.now.depth }
         requires depth { first.depth ≡ edges.depth (view first.tree.value) }
         requires shallow { first.depth ≤ self.now.depth + 1 }
         requires small { self.now.depth ≤ MAX_DEPTH }
@@ -263,7 +260,7 @@ impl<F: Fn(Global, &[u8], &[Token], usize, Context, u8, usize) -> Result<Parsed,
         from: usize,
         tree: Expr,
     ) -> Result<Parsed, Refusal>
-        requires nests { Nests self.now.depth (F.pre self.now.expr) (F.post self.now.expr) }
+        requires nests { R.reads_to self.now.reader self.now.depth }
         requires within { from < length tokens.now }
         requires flat { edges.depth (view tree) ≡ 1 }
         requires small { self.now.depth ≤ MAX_DEPTH }
@@ -283,7 +280,7 @@ impl<F: Fn(Global, &[u8], &[Token], usize, Context, u8, usize) -> Result<Parsed,
         t: Token,
         from: usize,
     ) -> Result<Parsed, Refusal>
-        requires nests { Nests self.now.depth (F.pre self.now.expr) (F.post self.now.expr) }
+        requires nests { R.reads_to self.now.reader self.now.depth }
         requires within { from < length tokens.now }
         requires token { spec.seen tokens.now context.column from ≡ Some t }
         requires small { self.now.depth ≤ MAX_DEPTH }
@@ -317,7 +314,7 @@ impl<F: Fn(Global, &[u8], &[Token], usize, Context, u8, usize) -> Result<Parsed,
         context: Context,
         from: usize,
     ) -> Result<Parsed, Refusal>
-        requires nests { Nests self.now.depth (F.pre self.now.expr) (F.post self.now.expr) }
+        requires nests { R.reads_to self.now.reader self.now.depth }
         requires small { self.now.depth ≤ MAX_DEPTH }
         ensures { Gives text.now tokens.now (self.now.depth + 1) result (reading.operand text.now tokens.now (reading.expr text.now tokens.now self.now.depth) (self.now.depth + 1) context from) }
     {
@@ -384,7 +381,7 @@ impl<F: Fn(Global, &[u8], &[Token], usize, Context, u8, usize) -> Result<Parsed,
         floor: u8,
         at: usize,
     ) -> Result<Parsed, Refusal>
-        requires nests { Nests self.now.depth (F.pre self.now.expr) (F.post self.now.expr) }
+        requires nests { R.reads_to self.now.reader self.now.depth }
         requires small { self.now.depth ≤ MAX_DEPTH }
         ensures { Gives text.now tokens.now (self.now.depth + 1) result (reading.level text.now tokens.now (reading.expr text.now tokens.now self.now.depth) self.now.depth context floor at) }
     {
@@ -413,7 +410,7 @@ pub fn expr(
     Grammar {
         alloc,
         depth: depth - 1,
-        expr,
+        reader: expr,
     }
     .level(text, tokens, context, floor, at)
 }
@@ -431,7 +428,7 @@ pub fn definition(
     Grammar {
         alloc,
         depth: MAX_DEPTH,
-        expr,
+        reader: expr,
     }
     .definition(text, tokens, context, from)
 }

@@ -8,7 +8,6 @@ ghost use Rattle.tla_grammar.specs.Edges as edges;
 ghost use Rattle.tla_expressions.specs.Reading as reading;
 ghost use Rattle.tla_expressions.specs.ReadingLists as lists;
 ghost use Rattle.tla_expressions.specs.Gives.{Gives, GivesItems, GivesTrees, GivesGroup, GivesGroups};
-ghost use Rattle.tla_expressions.specs.Private.Nests.{Nests};
 
 use crate::grammar::Grammar;
 use crate::names::{ParsedPattern, pattern, single};
@@ -16,7 +15,7 @@ use crate::parts::{
     Parsed, ParsedBinder, ParsedBinders, ParsedItems, binder_of, call_of, junction_of, listing_of,
     node,
 };
-use std::alloc::Global;
+use crate::reader::Reader;
 use tla_grammar::{
     Between, Context, Refusal, closing, following, is_kind, may_follow, refused, refused_binder,
     seen,
@@ -24,9 +23,7 @@ use tla_grammar::{
 use tla_lex::{Kind, Place, Token};
 use tla_tree::{Brackets, Bullet, Expr, Written, push, push_inner};
 
-impl<F: Fn(Global, &[u8], &[Token], usize, Context, u8, usize) -> Result<Parsed, Refusal>> Grammar<
-    F,
-> {
+impl<R: Reader> Grammar<R> {
     /// Expressions with commas or bullets between them, one or more, behind those of a front that ends where the next begins.
     #[tactic(auto, using(crate::proofs::Steps::depths_snoc))]
     pub fn exprs_behind(
@@ -37,7 +34,7 @@ impl<F: Fn(Global, &[u8], &[Token], usize, Context, u8, usize) -> Result<Parsed,
         between: Between,
         front: ParsedItems,
     ) -> Result<ParsedItems, Refusal>
-        requires nests { Nests self.now.depth (F.pre self.now.expr) (F.post self.now.expr) }
+        requires nests { R.reads_to self.now.reader self.now.depth }
         requires depth { front.depth ≡ edges.depths (trees (map view front.items.items)) }
         requires shallow { front.depth ≤ self.now.depth }
         ensures { GivesItems text.now tokens.now self.now.depth result (lists.exprs text.now tokens.now (reading.expr text.now tokens.now self.now.depth) (length tokens.now) (map view front.items.items) context between front.end) }
@@ -67,7 +64,7 @@ impl<F: Fn(Global, &[u8], &[Token], usize, Context, u8, usize) -> Result<Parsed,
         between: Between,
         from: usize,
     ) -> Result<ParsedItems, Refusal>
-        requires nests { Nests self.now.depth (F.pre self.now.expr) (F.post self.now.expr) }
+        requires nests { R.reads_to self.now.reader self.now.depth }
         ensures { GivesItems text.now tokens.now self.now.depth result (lists.exprs text.now tokens.now (reading.expr text.now tokens.now self.now.depth) (length tokens.now) [] context between from) }
     {
         let front = ParsedItems {
@@ -88,7 +85,7 @@ impl<F: Fn(Global, &[u8], &[Token], usize, Context, u8, usize) -> Result<Parsed,
         close: Kind,
         from: usize,
     ) -> Result<ParsedItems, Refusal>
-        requires nests { Nests self.now.depth (F.pre self.now.expr) (F.post self.now.expr) }
+        requires nests { R.reads_to self.now.reader self.now.depth }
         ensures { GivesTrees text.now tokens.now self.now.depth result (lists.some text.now tokens.now (reading.expr text.now tokens.now self.now.depth) context close from) }
     {
         let found = self.exprs(text, tokens, context, Between::Comma, from)?;
@@ -113,7 +110,7 @@ impl<F: Fn(Global, &[u8], &[Token], usize, Context, u8, usize) -> Result<Parsed,
         brackets: Brackets,
         from: usize,
     ) -> Result<Parsed, Refusal>
-        requires nests { Nests self.now.depth (F.pre self.now.expr) (F.post self.now.expr) }
+        requires nests { R.reads_to self.now.reader self.now.depth }
         requires within { from < length tokens.now }
         requires small { self.now.depth ≤ MAX_DEPTH }
         ensures { Gives text.now tokens.now (self.now.depth + 1) result (lists.listing text.now tokens.now (reading.expr text.now tokens.now self.now.depth) context at brackets from) }
@@ -148,7 +145,7 @@ impl<F: Fn(Global, &[u8], &[Token], usize, Context, u8, usize) -> Result<Parsed,
         t: Token,
         from: usize,
     ) -> Result<Parsed, Refusal>
-        requires nests { Nests self.now.depth (F.pre self.now.expr) (F.post self.now.expr) }
+        requires nests { R.reads_to self.now.reader self.now.depth }
         requires within { from < length tokens.now }
         requires small { self.now.depth ≤ MAX_DEPTH }
         ensures { Gives text.now tokens.now (self.now.depth + 1) result (reading.named text.now tokens.now (reading.expr text.now tokens.now self.now.depth) context t from) }
@@ -173,7 +170,7 @@ impl<F: Fn(Global, &[u8], &[Token], usize, Context, u8, usize) -> Result<Parsed,
         at: Place,
         from: usize,
     ) -> Result<Parsed, Refusal>
-        requires nests { Nests self.now.depth (F.pre self.now.expr) (F.post self.now.expr) }
+        requires nests { R.reads_to self.now.reader self.now.depth }
         requires within { from < length tokens.now }
         requires small { self.now.depth ≤ MAX_DEPTH }
         ensures { Gives text.now tokens.now (self.now.depth + 1) result (lists.paren text.now tokens.now (reading.expr text.now tokens.now self.now.depth) context at from) }
@@ -195,7 +192,7 @@ impl<F: Fn(Global, &[u8], &[Token], usize, Context, u8, usize) -> Result<Parsed,
         form: Option<usize>,
         front: ParsedPattern,
     ) -> Result<ParsedBinder, Refusal>
-        requires { Nests self.now.depth (F.pre self.now.expr) (F.post self.now.expr) }
+        requires { R.reads_to self.now.reader self.now.depth }
         ensures { GivesGroup text.now tokens.now self.now.depth result (lists.set_behind text.now tokens.now (reading.expr text.now tokens.now self.now.depth) context (pattern_view front.pattern) front.end) }
     {
         if !is_kind(Kind::Member, seen(tokens, context.column, front.end)) {
@@ -220,7 +217,7 @@ impl<F: Fn(Global, &[u8], &[Token], usize, Context, u8, usize) -> Result<Parsed,
         form: Option<usize>,
         from: usize,
     ) -> Result<ParsedBinder, Refusal>
-        requires nests { Nests self.now.depth (F.pre self.now.expr) (F.post self.now.expr) }
+        requires nests { R.reads_to self.now.reader self.now.depth }
         requires within { from ≤ length tokens.now }
         ensures { GivesGroup text.now tokens.now self.now.depth result (lists.group text.now tokens.now (reading.expr text.now tokens.now self.now.depth) context from) }
     {
@@ -238,7 +235,7 @@ impl<F: Fn(Global, &[u8], &[Token], usize, Context, u8, usize) -> Result<Parsed,
         form: Option<usize>,
         from: usize,
     ) -> Result<ParsedBinder, Refusal>
-        requires nests { Nests self.now.depth (F.pre self.now.expr) (F.post self.now.expr) }
+        requires nests { R.reads_to self.now.reader self.now.depth }
         requires within { from ≤ length tokens.now }
         ensures { GivesGroup text.now tokens.now self.now.depth result (lists.one_group text.now tokens.now (reading.expr text.now tokens.now self.now.depth) context from) }
     {
@@ -256,7 +253,7 @@ impl<F: Fn(Global, &[u8], &[Token], usize, Context, u8, usize) -> Result<Parsed,
         form: Option<usize>,
         from: usize,
     ) -> Result<ParsedBinders, Refusal>
-        requires nests { Nests self.now.depth (F.pre self.now.expr) (F.post self.now.expr) }
+        requires nests { R.reads_to self.now.reader self.now.depth }
         requires within { from ≤ length tokens.now }
         ensures { GivesGroups text.now tokens.now self.now.depth result (lists.groups text.now tokens.now (reading.expr text.now tokens.now self.now.depth) (length tokens.now) [] context from) }
     {
@@ -291,7 +288,7 @@ impl<F: Fn(Global, &[u8], &[Token], usize, Context, u8, usize) -> Result<Parsed,
         bullet: Bullet,
         from: usize,
     ) -> Result<Parsed, Refusal>
-        requires nests { Nests self.now.depth (F.pre self.now.expr) (F.post self.now.expr) }
+        requires nests { R.reads_to self.now.reader self.now.depth }
         requires within { from < length tokens.now }
         requires small { self.now.depth ≤ MAX_DEPTH }
         ensures { Gives text.now tokens.now (self.now.depth + 1) result (reading.junction text.now tokens.now (reading.expr text.now tokens.now self.now.depth) context at bullet from) }

@@ -9,6 +9,7 @@ pub mod laws;
 pub mod names;
 mod parts;
 mod product;
+mod reader;
 mod record_parts;
 mod records;
 

@@ -6,20 +6,17 @@ ghost use Rattle.tla_tree.specs.declared.tree.TheConstants.{MAX_DEPTH};
 ghost use Rattle.tla_grammar.specs.Edges as edges;
 ghost use Rattle.tla_expressions.specs.Reading as reading;
 ghost use Rattle.tla_expressions.specs.Gives.{Gives, GivesItems};
-ghost use Rattle.tla_expressions.specs.Private.Nests.{Nests};
 
 use crate::grammar::Grammar;
 use crate::parts::{Parsed, ParsedItems, node, product_of};
-use std::alloc::Global;
+use crate::reader::Reader;
 use tla_grammar::{
     Between, Context, Refusal, edge_allows, following, high, is_kind, refused, seen,
 };
 use tla_lex::{Kind, Token};
 use tla_tree::{Infix, push_inner};
 
-impl<F: Fn(Global, &[u8], &[Token], usize, Context, u8, usize) -> Result<Parsed, Refusal>> Grammar<
-    F,
-> {
+impl<R: Reader> Grammar<R> {
     /// An operand behind the first.
     #[tactic(auto, unfolding(crate::specs::Reading::factor))]
     fn factor(
@@ -29,7 +26,7 @@ impl<F: Fn(Global, &[u8], &[Token], usize, Context, u8, usize) -> Result<Parsed,
         context: Context,
         from: usize,
     ) -> Result<Parsed, Refusal>
-        requires { Nests self.now.depth (F.pre self.now.expr) (F.post self.now.expr) }
+        requires { R.reads_to self.now.reader self.now.depth }
         ensures { Gives text.now tokens.now self.now.depth result (reading.factor text.now tokens.now (reading.expr text.now tokens.now self.now.depth) context from) }
     {
         let e = self.inner(text, tokens, context, high(Infix::Product), from)?;
@@ -52,7 +49,7 @@ impl<F: Fn(Global, &[u8], &[Token], usize, Context, u8, usize) -> Result<Parsed,
         context: Context,
         from: usize,
     ) -> Result<ParsedItems, Refusal>
-        requires nests { Nests self.now.depth (F.pre self.now.expr) (F.post self.now.expr) }
+        requires nests { R.reads_to self.now.reader self.now.depth }
         ensures { GivesItems text.now tokens.now self.now.depth result (reading.factors text.now tokens.now (reading.expr text.now tokens.now self.now.depth) (length tokens.now) [] context from) }
     {
         let mut items = Vec::new(self.alloc);
@@ -81,7 +78,7 @@ impl<F: Fn(Global, &[u8], &[Token], usize, Context, u8, usize) -> Result<Parsed,
         start: usize,
         first: Parsed,
     ) -> Result<Parsed, Refusal>
-        requires nests { Nests self.now.depth (F.pre self.now.expr) (F.post self.now.expr) }
+        requires nests { R.reads_to self.now.reader self.now.depth }
         requires within { first.end < length tokens.now }
         requires depth { first.depth ≡ edges.depth (view first.tree.value) }
         requires shallow { first.depth ≤ self.now.depth + 1 }

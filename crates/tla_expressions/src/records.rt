@@ -9,25 +9,22 @@ ghost use Rattle.tla_grammar.specs.Edges as edges;
 ghost use Rattle.tla_expressions.specs.Reading.{expr};
 ghost use Rattle.tla_expressions.specs.ReadingBrackets as reading;
 ghost use Rattle.tla_expressions.specs.Gives.{Gives, GivesItems, GivesTrees};
-ghost use Rattle.tla_expressions.specs.Private.Nests.{Nests};
 ghost use Rattle.tla_expressions.specs.Private.GivesRecords.{GivesField, GivesFields, GivesKey, GivesKeys, GivesUpdate, GivesUpdates};
 
 use crate::grammar::Grammar;
 use crate::parts::{Parsed, node};
+use crate::reader::Reader;
 use crate::record_parts::{
     ParsedField, ParsedFields, ParsedKey, ParsedKeys, ParsedUpdate, ParsedUpdates, except_of,
     key_of, record_of, record_set_of,
 };
-use std::alloc::Global;
 use tla_grammar::{
     Between, Context, Refusal, following, is_kind, name_at, refused, refused_update, seen,
 };
 use tla_lex::{Kind, Place, Token};
 use tla_tree::{Field, Key, Update, Written, push};
 
-impl<F: Fn(Global, &[u8], &[Token], usize, Context, u8, usize) -> Result<Parsed, Refusal>> Grammar<
-    F,
-> {
+impl<R: Reader> Grammar<R> {
     /// A field, with this mark behind its name.
     #[tactic(auto, unfolding(crate::specs::ReadingBrackets::entry))]
     fn entry(
@@ -38,7 +35,7 @@ impl<F: Fn(Global, &[u8], &[Token], usize, Context, u8, usize) -> Result<Parsed,
         mark: Kind,
         from: usize,
     ) -> Result<ParsedField, Refusal>
-        requires nests { Nests self.now.depth (F.pre self.now.expr) (F.post self.now.expr) }
+        requires nests { R.reads_to self.now.reader self.now.depth }
         ensures { GivesField text.now tokens.now self.now.depth result (reading.entry text.now tokens.now (expr text.now tokens.now self.now.depth) context mark from) }
     {
         let Some(name) = name_at(seen(tokens, context.column, from)) else {
@@ -69,7 +66,7 @@ impl<F: Fn(Global, &[u8], &[Token], usize, Context, u8, usize) -> Result<Parsed,
         mark: Kind,
         from: usize,
     ) -> Result<ParsedFields, Refusal>
-        requires nests { Nests self.now.depth (F.pre self.now.expr) (F.post self.now.expr) }
+        requires nests { R.reads_to self.now.reader self.now.depth }
         ensures { GivesFields text.now tokens.now self.now.depth result (reading.entries text.now tokens.now (expr text.now tokens.now self.now.depth) (length tokens.now) [] context mark from) }
     {
         let mut fields = Vec::new(self.alloc);
@@ -98,7 +95,7 @@ impl<F: Fn(Global, &[u8], &[Token], usize, Context, u8, usize) -> Result<Parsed,
         at: Place,
         from: usize,
     ) -> Result<Parsed, Refusal>
-        requires nests { Nests self.now.depth (F.pre self.now.expr) (F.post self.now.expr) }
+        requires nests { R.reads_to self.now.reader self.now.depth }
         requires within { from < length tokens.now }
         requires small { self.now.depth ≤ MAX_DEPTH }
         ensures { Gives text.now tokens.now (self.now.depth + 1) result (reading.record_of text.now tokens.now (expr text.now tokens.now self.now.depth) context at from) }
@@ -122,7 +119,7 @@ impl<F: Fn(Global, &[u8], &[Token], usize, Context, u8, usize) -> Result<Parsed,
         at: Place,
         from: usize,
     ) -> Result<Parsed, Refusal>
-        requires nests { Nests self.now.depth (F.pre self.now.expr) (F.post self.now.expr) }
+        requires nests { R.reads_to self.now.reader self.now.depth }
         requires within { from < length tokens.now }
         requires small { self.now.depth ≤ MAX_DEPTH }
         ensures { Gives text.now tokens.now (self.now.depth + 1) result (reading.records_of text.now tokens.now (expr text.now tokens.now self.now.depth) context at from) }
@@ -145,7 +142,7 @@ impl<F: Fn(Global, &[u8], &[Token], usize, Context, u8, usize) -> Result<Parsed,
         context: Context,
         from: usize,
     ) -> Result<ParsedKey, Refusal>
-        requires nests { Nests self.now.depth (F.pre self.now.expr) (F.post self.now.expr) }
+        requires nests { R.reads_to self.now.reader self.now.depth }
         ensures { GivesKey text.now tokens.now self.now.depth result (reading.key_at text.now tokens.now (expr text.now tokens.now self.now.depth) context from) }
     {
         if is_kind(Kind::LeftBracket, seen(tokens, context.column, from)) {
@@ -180,7 +177,7 @@ impl<F: Fn(Global, &[u8], &[Token], usize, Context, u8, usize) -> Result<Parsed,
         context: Context,
         from: usize,
     ) -> Result<ParsedKeys, Refusal>
-        requires nests { Nests self.now.depth (F.pre self.now.expr) (F.post self.now.expr) }
+        requires nests { R.reads_to self.now.reader self.now.depth }
         ensures { GivesKeys text.now tokens.now self.now.depth result (reading.path text.now tokens.now (expr text.now tokens.now self.now.depth) (length tokens.now) [] context from) }
     {
         let mut keys = Vec::new(self.alloc);
@@ -208,7 +205,7 @@ impl<F: Fn(Global, &[u8], &[Token], usize, Context, u8, usize) -> Result<Parsed,
         context: Context,
         from: usize,
     ) -> Result<ParsedUpdate, Refusal>
-        requires nests { Nests self.now.depth (F.pre self.now.expr) (F.post self.now.expr) }
+        requires nests { R.reads_to self.now.reader self.now.depth }
         ensures { GivesUpdate text.now tokens.now self.now.depth result (reading.change text.now tokens.now (expr text.now tokens.now self.now.depth) context from) }
     {
         if !is_kind(Kind::Bang, seen(tokens, context.column, from)) {
@@ -242,7 +239,7 @@ impl<F: Fn(Global, &[u8], &[Token], usize, Context, u8, usize) -> Result<Parsed,
         context: Context,
         from: usize,
     ) -> Result<ParsedUpdates, Refusal>
-        requires nests { Nests self.now.depth (F.pre self.now.expr) (F.post self.now.expr) }
+        requires nests { R.reads_to self.now.reader self.now.depth }
         ensures { GivesUpdates text.now tokens.now self.now.depth result (reading.changes text.now tokens.now (expr text.now tokens.now self.now.depth) (length tokens.now) [] context from) }
     {
         let mut updates = Vec::new(self.alloc);
@@ -275,7 +272,7 @@ impl<F: Fn(Global, &[u8], &[Token], usize, Context, u8, usize) -> Result<Parsed,
         at: Place,
         first: Parsed,
     ) -> Result<Parsed, Refusal>
-        requires nests { Nests self.now.depth (F.pre self.now.expr) (F.post self.now.expr) }
+        requires nests { R.reads_to self.now.reader self.now.depth }
         requires within { first.end < length tokens.now }
         requires depth { first.depth ≡ edges.depth (view first.tree.value) }
         requires shallow { first.depth ≤ self.now.depth }

@@ -11,7 +11,9 @@ use Rattle.tla_tree.specs.declared.tree.Bullet.TheVariants as b
 use Rattle.tla_grammar.specs.Operators.{low, infix_of, bullet_of, same_bullet}
 use Rattle.tla_tree.specs.Words.{written}
 use Rattle.tla_grammar.specs.Tokens.{right_of, seen, is_bullet_at, Has, Writes, KindAt, Commas}
-use Rattle.tla_grammar.specs.Kinds.{same_kind, kind_at}
+use Rattle.tla_lex.proofs.SameKind.{same_is}
+use Rattle.tla_lex.specs.SameKind.{same_kind}
+use Rattle.tla_grammar.specs.Kinds.{kind_at}
 use Rattle.tla_grammar.specs.Ending.{above, infix_at}
 use Rattle.tla_grammar.specs.Outcome.{Outcome, ◌>>=◌, need, room, at_op}
 use Rattle.tla_grammar.specs.Marks.{name_at, postfix_of, postfix_at}
@@ -55,54 +57,20 @@ and_true false t h = absurd (let z : ⊥ = cc in z)
 no : false ≡ true → ⊥
 no h = cc
 
--- what is the same kind is that kind
-pub same_is : (wanted kind : Kind) → same_kind wanted kind ≡ true → kind ≡ wanted
-same_is k.Name k.Name h = refl
-same_is k.Separator k.Separator h = refl
-same_is k.Closing k.Closing h = refl
-same_is k.LeftParen k.LeftParen h = refl
-same_is k.RightParen k.RightParen h = refl
-same_is k.LeftBracket k.LeftBracket h = refl
-same_is k.RightBracket k.RightBracket h = refl
-same_is k.RightBrace k.RightBrace h = refl
-same_is k.RightTuple k.RightTuple h = refl
-same_is k.Underscore k.Underscore h = refl
-same_is k.Comma k.Comma h = refl
-same_is k.Colon k.Colon h = refl
-same_is k.Prime k.Prime h = refl
-same_is k.Define k.Define h = refl
-same_is k.Module k.Module h = refl
-same_is k.Member k.Member h = refl
-same_is k.Then k.Then h = refl
-same_is k.Else k.Else h = refl
-same_is k.In k.In h = refl
-same_is k.Box k.Box h = refl
-same_is k.Arrow k.Arrow h = refl
-same_is k.MapsTo k.MapsTo h = refl
-same_is k.Other k.Other h = refl
-same_is k.Equal k.Equal h = refl
-same_is k.RightBracketSubscript k.RightBracketSubscript h = refl
-same_is k.RightTupleSubscript k.RightTupleSubscript h = refl
-same_is k.Except k.Except h = refl
-same_is k.Bang k.Bang h = refl
-same_is k.Dot k.Dot h = refl
-same_is k.LeftTuple k.LeftTuple h = refl
-same_is k.Extends k.Extends h = refl
-same_is k.Choose k.Choose h = refl
-same_is k.Product k.Product h = refl
-same_is _ _ h = absurd (no h)
-
 -- the token that begins a postfix form
 abbrev pub postfix_kind : Postfix → Kind
 postfix_kind form.Prime = k.Prime
 postfix_kind form.Index = k.LeftBracket
 postfix_kind form.Field = k.Dot
 
+none_is : (f : Postfix) → ◌≡◌ {A = Option Postfix} None (Some f) → ⊥
+none_is f h = cc
+
 postfix_is : (kind : Kind) (f : Postfix) → postfix_of kind ≡ Some f → kind ≡ postfix_kind f
-postfix_is k.Prime form.Prime h = refl
-postfix_is k.LeftBracket form.Index h = refl
-postfix_is k.Dot form.Field h = refl
-postfix_is _ _ h = absurd (let z : ⊥ = cc in z)
+postfix_is k.Prime f h = let e : form.Prime ≡ f = cc in ap postfix_kind e
+postfix_is k.LeftBracket f h = let e : form.Index ≡ f = cc in ap postfix_kind e
+postfix_is k.Dot f h = let e : form.Field ≡ f = cc in ap postfix_kind e
+postfix_is _ f h = absurd (none_is f h)
 
 module _ (ts : List Token) where
   kind_by : (column at : ℕ) (kind : Kind) (o : Option Token) → seen ts column at ≡ o → kind_at kind o ≡ true → Has ts column kind at

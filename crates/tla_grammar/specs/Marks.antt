@@ -8,7 +8,8 @@ use Rattle.tla_grammar.specs.declared.tokens.Between.TheVariants as between
 use Rattle.tla_grammar.specs.declared.tokens.Postfix.{Postfix}
 use Rattle.tla_grammar.specs.declared.tokens.Postfix.TheVariants as form
 use Rattle.tla_grammar.specs.Tokens.{seen, is_bullet_at}
-use Rattle.tla_grammar.specs.Kinds.{same_kind, kind_at}
+use Rattle.tla_lex.specs.SameKind.{same_kind}
+use Rattle.tla_grammar.specs.Kinds.{kind_at}
 
 -- the token, where it is a name
 abbrev pub name_at : Option Token → Option Token

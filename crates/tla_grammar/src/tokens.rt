@@ -14,7 +14,7 @@ use crate::ahead::{Role, role_of};
 use crate::operators::{bullet_of, infix_of, low, prefix_of};
 use crate::refusal::Refusal;
 use std::alloc::Global;
-use tla_lex::{Kind, Token, string_text};
+use tla_lex::{Kind, Token, same_kind, string_text};
 use tla_tree::{Brackets, Bullet, Infix, Word, slice_of};
 
 /// What stands between the items of a list.
@@ -78,40 +78,16 @@ pub fn is_kind(kind: Kind, token: Option<Token>) -> bool
     let Some(t) = token else {
         return false;
     };
-    match (kind, t.kind) {
-        (Kind::Name, Kind::Name) => true,
-        (Kind::Separator, Kind::Separator) => true,
-        (Kind::Closing, Kind::Closing) => true,
-        (Kind::LeftParen, Kind::LeftParen) => true,
-        (Kind::RightParen, Kind::RightParen) => true,
-        (Kind::LeftBracket, Kind::LeftBracket) => true,
-        (Kind::RightBracket, Kind::RightBracket) => true,
-        (Kind::RightBrace, Kind::RightBrace) => true,
-        (Kind::RightTuple, Kind::RightTuple) => true,
-        (Kind::Underscore, Kind::Underscore) => true,
-        (Kind::Comma, Kind::Comma) => true,
-        (Kind::Colon, Kind::Colon) => true,
-        (Kind::Prime, Kind::Prime) => true,
-        (Kind::Define, Kind::Define) => true,
-        (Kind::Module, Kind::Module) => true,
-        (Kind::Member, Kind::Member) => true,
-        (Kind::Then, Kind::Then) => true,
-        (Kind::Else, Kind::Else) => true,
-        (Kind::In, Kind::In) => true,
-        (Kind::Box, Kind::Box) => true,
-        (Kind::Arrow, Kind::Arrow) => true,
-        (Kind::MapsTo, Kind::MapsTo) => true,
-        (Kind::Other, Kind::Other) => true,
-        (Kind::Equal, Kind::Equal) => true,
-        (Kind::RightBracketSubscript, Kind::RightBracketSubscript) => true,
-        (Kind::RightTupleSubscript, Kind::RightTupleSubscript) => true,
-        (Kind::Except, Kind::Except) => true,
-        (Kind::Bang, Kind::Bang) => true,
-        (Kind::Dot, Kind::Dot) => true,
-        (Kind::LeftTuple, Kind::LeftTuple) => true,
-        (Kind::Extends, Kind::Extends) => true,
-        (Kind::Choose, Kind::Choose) => true,
-        (Kind::Product, Kind::Product) => true,
+    same_kind(kind, t.kind)
+}
+
+/// Whether it is this bullet.
+fn is_bullet(bullet: Bullet, found: Option<Bullet>) -> bool
+    ensures { result ≡ spec.is_bullet bullet found }
+{
+    match (bullet, found) {
+        (Bullet::And, Some(Bullet::And)) => true,
+        (Bullet::Or, Some(Bullet::Or)) => true,
         _ => false,
     }
 }
@@ -122,14 +98,7 @@ pub fn is_bullet_at(tokens: &[Token], column: u128, bullet: Bullet, at: usize) -
     ensures within { IsTrue result → at < length tokens.now }
 {
     match tokens.get(at) {
-        Some(t) => {
-            t.place.column == column
-                && match (bullet, bullet_of(t.kind)) {
-                    (Bullet::And, Some(Bullet::And)) => true,
-                    (Bullet::Or, Some(Bullet::Or)) => true,
-                    _ => false,
-                }
-        }
+        Some(t) => t.place.column == column && is_bullet(bullet, bullet_of(t.kind)),
         None => false,
     }
 }

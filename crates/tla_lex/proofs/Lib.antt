@@ -25,3 +25,4 @@ pub mod ClosingLeads
 pub mod ClosingFound
 pub mod HeaderFound
 pub mod FrontFound
+pub mod SameKind

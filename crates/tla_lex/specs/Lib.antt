@@ -15,6 +15,7 @@ pub mod Header
 pub mod Closing
 pub mod Module
 pub mod Tokens
+pub mod SameKind
 pub mod InCode
 pub mod Fronts
 pub mod ScannerLaws

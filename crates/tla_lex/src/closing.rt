@@ -10,7 +10,7 @@ use crate::bytes::{first, is_equal_sign};
 use crate::gap::{Mode, turn};
 
 /// In code or a comment, in a string, or behind a backslash in a string.
-#[derive(Clone, Copy, Debug)]
+#[derive(Clone, Copy)]
 pub enum Region {
     Code(Mode),
     Text,

@@ -7,7 +7,7 @@ ghost use Rattle.tla_lex.specs.Private.GapSize as size;
 use crate::bytes::{first, is_blank};
 
 /// In a comment to the end of the line, so many comments deep, or at the second byte of a mark that leads there.
-#[derive(Clone, Copy, Debug)]
+#[derive(Clone, Copy)]
 pub enum Mode {
     Line,
     Depth(usize),
@@ -15,7 +15,7 @@ pub enum Mode {
 }
 
 /// How long a gap is, or where in it the comment stands that stays open.
-#[derive(Clone, Copy, Debug)]
+#[derive(Clone, Copy)]
 pub enum Gap {
     End(usize),
     Open(usize),

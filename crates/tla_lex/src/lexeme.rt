@@ -21,7 +21,7 @@ pub enum Source {
 }
 
 /// A token's kind and length, or a fault's code and how far behind the front it stands.
-#[derive(Clone, Copy, Debug)]
+#[derive(Clone, Copy)]
 pub enum Lexeme {
     Found(Kind, usize),
     Fault(LexCode, usize),

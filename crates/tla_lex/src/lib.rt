@@ -23,4 +23,4 @@ pub use lexeme::Source;
 pub use lexer::{configuration_tokens, tokens};
 pub use scan::{Scan, Stop};
 pub use string::string_text;
-pub use token::{Kind, Place, Token};
+pub use token::{Kind, Place, Token, same_kind};

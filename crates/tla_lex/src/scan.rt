@@ -21,7 +21,7 @@ pub enum Stop {
 }
 
 /// What comes next behind blanks and comments.
-#[derive(Clone, Copy, Debug)]
+#[derive(Clone, Copy)]
 pub enum Front {
     Begins(Token),
     Stops(Stop),

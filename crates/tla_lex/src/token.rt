@@ -1,5 +1,8 @@
 //! Tokens, with their kinds and places.
 
+ghost use Rattle.std.specs.Prelude.{◌≡◌};
+ghost use Rattle.tla_lex.specs.SameKind as kinds;
+
 /// A line and a column, both from 1. A column counts characters, and a tab leads to the next column of the form 8n + 1.
 #[derive(Clone, Copy, Debug, PartialEq, Eq)]
 pub struct Place {
@@ -204,4 +207,49 @@ pub enum Kind {
     By,
     Obvious,
     Omitted,
+}
+
+/// Whether two kinds are the same, of those that stand between the parts of forms, units and statements.
+pub fn same_kind(wanted: Kind, kind: Kind) -> bool
+    ensures { result ≡ kinds.same_kind wanted kind }
+{
+    match (wanted, kind) {
+        (Kind::Name, Kind::Name) => true,
+        (Kind::Separator, Kind::Separator) => true,
+        (Kind::Closing, Kind::Closing) => true,
+        (Kind::LeftParen, Kind::LeftParen) => true,
+        (Kind::RightParen, Kind::RightParen) => true,
+        (Kind::LeftBracket, Kind::LeftBracket) => true,
+        (Kind::RightBracket, Kind::RightBracket) => true,
+        (Kind::RightBrace, Kind::RightBrace) => true,
+        (Kind::RightTuple, Kind::RightTuple) => true,
+        (Kind::Underscore, Kind::Underscore) => true,
+        (Kind::Comma, Kind::Comma) => true,
+        (Kind::Colon, Kind::Colon) => true,
+        (Kind::Prime, Kind::Prime) => true,
+        (Kind::Define, Kind::Define) => true,
+        (Kind::Module, Kind::Module) => true,
+        (Kind::Member, Kind::Member) => true,
+        (Kind::Then, Kind::Then) => true,
+        (Kind::Else, Kind::Else) => true,
+        (Kind::In, Kind::In) => true,
+        (Kind::Box, Kind::Box) => true,
+        (Kind::Arrow, Kind::Arrow) => true,
+        (Kind::MapsTo, Kind::MapsTo) => true,
+        (Kind::Other, Kind::Other) => true,
+        (Kind::Equal, Kind::Equal) => true,
+        (Kind::RightBracketSubscript, Kind::RightBracketSubscript) => true,
+        (Kind::RightTupleSubscript, Kind::RightTupleSubscript) => true,
+        (Kind::Except, Kind::Except) => true,
+        (Kind::Bang, Kind::Bang) => true,
+        (Kind::Dot, Kind::Dot) => true,
+        (Kind::LeftTuple, Kind::LeftTuple) => true,
+        (Kind::Extends, Kind::Extends) => true,
+        (Kind::Choose, Kind::Choose) => true,
+        (Kind::Product, Kind::Product) => true,
+        (Kind::Substitute, Kind::Substitute) => true,
+        (Kind::LeftBrace, Kind::LeftBrace) => true,
+        (Kind::Minus, Kind::Minus) => true,
+        _ => false,
+    }
 }

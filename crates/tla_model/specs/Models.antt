@@ -6,7 +6,7 @@ use Rattle.tla_model.specs.declared.model.Model.{Model}
 
 -- the model that a model in memory stands for
 abbrev pub model_of : Model → ModelTree
-model_of m = tree_of_parts m.variables.items m.assumptions.items m.init m.next m.invariants.items m.constraints.items m.check_deadlock
+model_of m = tree_of_parts m.variables.items m.assumptions.items m.init.value m.next.value m.invariants.items m.constraints.items m.check_deadlock
 
 -- every model in memory is sound
 pub model_is_sound : (m : Model) → IsSound (model_of m)

@@ -14,12 +14,12 @@ use tla_value::Text;
 pub struct Model {
     variables: Vec<Text>,
     assumptions: Vec<Core>,
-    init: Core,
-    next: Core,
+    init: Box<Core>,
+    next: Box<Core>,
     invariants: Vec<StatePredicate>,
     constraints: Vec<StatePredicate>,
     check_deadlock: bool,
-    ghost sound: { IsSound (tree_of_parts variables.items assumptions.items init next invariants.items constraints.items check_deadlock) } by { IsSound-prop (tree_of_parts variables.items assumptions.items init next invariants.items constraints.items check_deadlock) },
+    ghost sound: { IsSound (tree_of_parts variables.items assumptions.items init.value next.value invariants.items constraints.items check_deadlock) } by { IsSound-prop (tree_of_parts variables.items assumptions.items init.value next.value invariants.items constraints.items check_deadlock) },
 }
 
 impl Model {
@@ -29,14 +29,14 @@ impl Model {
     pub fn new(
         variables: Vec<Text>,
         assumptions: Vec<Core>,
-        init: Core,
-        next: Core,
+        init: Box<Core>,
+        next: Box<Core>,
         invariants: Vec<StatePredicate>,
         constraints: Vec<StatePredicate>,
         check_deadlock: bool,
     ) -> Model
-        requires { IsSound (tree_of_parts variables.items assumptions.items init next invariants.items constraints.items check_deadlock) }
-        ensures { model_of result ≡ tree_of_parts variables.items assumptions.items init next invariants.items constraints.items check_deadlock }
+        requires { IsSound (tree_of_parts variables.items assumptions.items init.value next.value invariants.items constraints.items check_deadlock) }
+        ensures { model_of result ≡ tree_of_parts variables.items assumptions.items init.value next.value invariants.items constraints.items check_deadlock }
     {
         Model {
             variables,

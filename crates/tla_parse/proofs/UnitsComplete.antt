@@ -10,7 +10,8 @@ use Rattle.tla_grammar.specs.Modules.{is_module}
 use Rattle.tla_grammar.specs.Edges.{depth}
 use Rattle.tla_tree.specs.Words.{word_of, written}
 use Rattle.tla_grammar.specs.Tokens.{seen, goes_on, Has, Names}
-use Rattle.tla_grammar.specs.Kinds.{same_kind, kind_at}
+use Rattle.tla_lex.specs.SameKind.{same_kind}
+use Rattle.tla_grammar.specs.Kinds.{kind_at}
 use Rattle.tla_tree.specs.Units.{UnitTree, Separator, Extends, Variables, Operator, Defines, Local, Constants, Assume, Theorem, Declared}
 use Rattle.tla_parse.specs.Units.{Blanks, Declares, MoreDeclared, AllDeclared, Claims, has_parameters, is_extends, is_separator, unit_depth, units_depth, outermost, SpellsUnit, Units, SpellsModule}
 use Rattle.tla_grammar.specs.Marks.{name_at, following}

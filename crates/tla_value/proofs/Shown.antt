@@ -98,16 +98,26 @@ pub puts_more : {a b c : Option (List ℕ)} {before middle after : ℕ} {separat
 puts_more step p q = rw step.more (puts_then p q)
 
 -- the next text did not go out whole
+pub puts_cut : {a b c : Option (List ℕ)} {before middle : ℕ} {separator piece : List ℕ} {ts : List (List ℕ)} {i : ℕ} {fault : ShortWrite}
+    → IsNext separator ts i piece → Puts a b before (joined separator (take i ts)) (Ok middle) → Puts b c middle piece (Err fault) → Puts a c before (joined separator ts) (Err fault)
+puts_cut step p q = rw (step.whole, step.more) (puts_short step.rest (puts_then p q))
+
+-- all went out
+pub puts_joined : {a b : Option (List ℕ)} {before after : ℕ} (separator : List ℕ) (ts : List (List ℕ)) (i : ℕ)
+    → length ts ≤ i → Puts a b before (joined separator (take i ts)) (Ok after) → Puts a b before (joined separator ts) (Ok after)
+puts_joined separator ts i within p = rw (take_all i ts within) at p
+
+-- the next text of an opened list did not go out whole
 pub puts_stopped : {a b c d : Option (List ℕ)} {before start middle : ℕ} {opening separator piece : List ℕ} {ts : List (List ℕ)} {i : ℕ} {fault : ShortWrite} (closing : List ℕ)
     → IsNext separator ts i piece → Puts a b before opening (Ok start) → Puts b c start (joined separator (take i ts)) (Ok middle) → Puts c d middle piece (Err fault)
     → Puts a d before (listed opening separator closing ts) (Err fault)
-puts_stopped closing step o p q = puts_then o (puts_short closing (rw (step.whole, step.more) (puts_short step.rest (puts_then p q))))
+puts_stopped closing step o p q = puts_then o (puts_short closing (puts_cut step p q))
 
 -- all went out, and then what closes the list, or not the whole of that
 pub puts_listed : {a b c d : Option (List ℕ)} {before start middle : ℕ} {opening closing : List ℕ} {r : Result ℕ ShortWrite} (separator : List ℕ) (ts : List (List ℕ)) (i : ℕ)
     → length ts ≤ i → Puts a b before opening (Ok start) → Puts b c start (joined separator (take i ts)) (Ok middle) → Puts c d middle closing r
     → Puts a d before (listed opening separator closing ts) r
-puts_listed separator ts i within o p q = puts_then o (puts_then (rw (take_all i ts within) at p) q)
+puts_listed separator ts i within o p q = puts_then o (puts_then (puts_joined separator ts i within p) q)
 
 -- a string in quotes: a byte did not go out whole, and all went out
 pub quoted_stopped : {a b c d : Option (List ℕ)} {before start middle : ℕ} {fault : ShortWrite} (s : List ℕ) (i : ℕ) (e : ℕ) → i < length s

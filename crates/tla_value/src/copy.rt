@@ -1,5 +1,5 @@
 // Copies of values. They share what the values hold, so that each costs one count.
-ghost use Rattle.std.specs.Prelude.{◌≡◌, map, IfOk, IfErr};
+ghost use Rattle.std.specs.Prelude.{◌≡◌, length, map, zip, IfOk, IfErr};
 ghost use Rattle.std.specs.List.Sorted.{IsStrictlySortedBy};
 ghost use Rattle.tla_value.specs.Tree.{fun, pairs};
 ghost use Rattle.tla_value.specs.TreeOf.{pair_of};
@@ -41,6 +41,37 @@ pub(crate) fn copy_items(alloc: Global, items: &[Value]) -> Result<Vec<Value>, V
     Ok(copies)
 }
 
+// A copy of an argument, beside a copy of the value at it.
+pub(crate) fn copy_pair(
+    alloc: Global,
+    argument: &Value,
+    value: &Value,
+) -> Result<(Value, Value), ValueError>
+    ensures ok { IfOk result (λ p. p ≡ (argument.now, value.now)) }
+    ensures err { IfErr result (λ e. e ≡ Memory) }
+{
+    let argument = argument.copy(alloc)?;
+    let value = value.copy(alloc)?;
+    Ok((argument, value))
+}
+
+// Copies of some arguments, each beside a copy of its value.
+fn copy_zipped(
+    alloc: Global,
+    arguments: &[Value],
+    values: &[Value],
+) -> Result<Vec<(Value, Value)>, ValueError>
+    requires { length arguments.now ≡ length values.now }
+    ensures ok { IfOk result (λ v. map pair_of v.items ≡ map pair_of (zip arguments.now values.now)) }
+    ensures err { IfErr result (λ e. e ≡ Memory) }
+{
+    let mut pairs = Vec::with_capacity(alloc, values.len())?;
+    for i in 0..values.len() {
+        pairs.push(copy_pair(alloc, &arguments[i], &values[i])?)?;
+    }
+    Ok(pairs)
+}
+
 // The pairs of a function, in a list of their own.
 pub(crate) fn copy_pairs(alloc: Global, of: &FunValue) -> Result<Vec<(Value, Value)>, ValueError>
     ensures ok { IfOk result (λ v. map pair_of v.items ≡ of.now) }
@@ -50,12 +81,5 @@ pub(crate) fn copy_pairs(alloc: Global, of: &FunValue) -> Result<Vec<(Value, Val
 {
     let values = of.values();
     let domain = of.domain(alloc)?;
-    let arguments = domain.items();
-    let mut pairs = Vec::with_capacity(alloc, values.len())?;
-    for i in 0..values.len() {
-        let argument = arguments[i].copy(alloc)?;
-        let value = values[i].copy(alloc)?;
-        pairs.push((argument, value))?;
-    }
-    Ok(pairs)
+    copy_zipped(alloc, domain.items(), values)
 }

@@ -6,6 +6,7 @@ ghost use Rattle.tla_value.specs.Order.{tree_cmp};
 ghost use Rattle.tla_value.specs.Funs.{arguments, fun_of};
 ghost use Rattle.tla_value.specs.declared.error.ValueError.TheVariants.{Memory};
 
+use crate::copy::copy_pair;
 use crate::error::ValueError;
 use crate::order::compare;
 use crate::value::Value;
@@ -59,9 +60,7 @@ fn keep_pair(
     ensures ok { OnOk result (kept.new.items ≡ kept.old.items ++ pair.now ∷ []) }
     ensures err { IfErr result (λ e. e ≡ Memory) }
 {
-    let argument = pair.0.copy(alloc)?;
-    let value = pair.1.copy(alloc)?;
-    kept.push((argument, value))?;
+    kept.push(copy_pair(alloc, &pair.0, &pair.1)?)?;
     Ok(())
 }
 

@@ -5,12 +5,12 @@ ghost use Rattle.std.specs.List.{list_all, list_any};
 ghost use Rattle.std.specs.Str.{bytes_eq};
 ghost use Rattle.std.specs.Char.{is_ascii_alphabetic};
 ghost use Rattle.counted_writer.specs.Puts.{Puts, AddsFirst};
-ghost use Rattle.tla_value.specs.Tree.{trees, pairs as pairs_of, set, fun};
+ghost use Rattle.tla_value.specs.Tree.{int, trees, pairs as pairs_of, set, fun};
 ghost use Rattle.tla_value.specs.TreeOf.{tree_of, pair_of};
 ghost use Rattle.tla_value.specs.Arguments.{numbers_from};
 ghost use Rattle.tla_value.specs.IsValue.{FitNumbers};
 ghost use Rattle.tla_value.specs.TextNames.{is_word_byte, begins_fairness, is_identifier, is_reserved};
-ghost use Rattle.tla_value.specs.Text.{text_of, escaped, quoted, field_name, is_field, listed, member_texts, field_texts, pair_texts};
+ghost use Rattle.tla_value.specs.Text.{text_of, escaped, quoted, field_name, is_field, joined, listed, member_texts, field_texts, pair_texts};
 ghost use Rattle.tla_value.specs.Private.Inner.{separator_before};
 
 use crate::fun::are_from_one;
@@ -92,11 +92,21 @@ fn put_set<W: Write>(of: &SetValue, out: &mut W, written: u64) -> Result<u64, Sh
     ensures { Puts (W.contents out.old) (W.contents out.new) written (text_of (set (trees of.now))) result }
 {
     let items = of.items();
-    let mut written = put(out, written, b"{")?;
+    let written = put(out, written, b"{")?;
+    let written = put_items(items, out, written)?;
+    put(out, written, b"}")
+}
+
+// Writes some values with commas between them.
+#[cycle(show)]
+fn put_items<W: Write>(items: &[Value], out: &mut W, written: u64) -> Result<u64, ShortWrite>
+    ensures { Puts (W.contents out.old) (W.contents out.new) written (joined (codes ", ") (member_texts (trees (map tree_of items.now)))) result }
+{
+    let mut written = written;
     for i in 0..items.len() {
         written = put_item(&items[i], i, out, written)?;
     }
-    put(out, written, b"}")
+    Ok(written)
 }
 
 // Writes the item at an index, behind a comma unless it is the first.
@@ -189,10 +199,8 @@ fn put_sequence<W: Write>(values: &[Value], out: &mut W, written: u64) -> Result
     ensures { Puts (W.contents out.old) (W.contents out.new) written
         (listed (codes "<<") (codes ", ") (codes ">>") (member_texts (trees (map tree_of values.now)))) result }
 {
-    let mut written = put(out, written, b"<<")?;
-    for i in 0..values.len() {
-        written = put_item(&values[i], i, out, written)?;
-    }
+    let written = put(out, written, b"<<")?;
+    let written = put_items(values, out, written)?;
     put(out, written, b">>")
 }
 
@@ -273,9 +281,23 @@ fn put_numbered<W: Write>(
 {
     let mut written = put(out, written, b"(")?;
     for i in 0..values.len() {
-        written = put_pair(&Value::Int(first + i as i64), &values[i], i, out, written)?;
+        written = put_numbered_pair(first + i as i64, &values[i], i, out, written)?;
     }
     put(out, written, b")")
+}
+
+#[cycle(show)]
+fn put_numbered_pair<W: Write>(
+    argument: i64,
+    value: &Value,
+    index: usize,
+    out: &mut W,
+    written: u64,
+) -> Result<u64, ShortWrite>
+    ensures { Puts (W.contents out.old) (W.contents out.new) written
+        (separator_before index (codes " @@ ") ++ (text_of (int argument) ++ (codes " :> " ++ text_of (tree_of value.now)))) result }
+{
+    put_pair(&Value::Int(argument), value, index, out, written)
 }
 
 #[cycle(show)]

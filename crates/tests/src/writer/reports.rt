@@ -46,6 +46,7 @@ fn a_report_ends_where_its_writer_does(rt: HostRuntime) {
                 &options,
                 &NoGate,
             );
+            assert!(rt; checked.status() == specification.status);
             assert_cuts(&rt, rt.alloc(), &checked, specification.report.as_bytes());
         }
     }

@@ -1,6 +1,7 @@
 -- What stands at a token, as the reader of a configuration asks for it. Private contracts alone cite this.
 use Rattle.std.specs.Prelude.{Bool, true, false, Option, Some, None}
 use Rattle.tla_lex.specs.Bytes.{Bytes}
+use Rattle.tla_lex.specs.SameKind.{same_kind}
 use Rattle.tla_lex.specs.declared.token.Kind.{Kind}
 use Rattle.tla_lex.specs.declared.token.Kind.TheVariants as k
 use Rattle.tla_lex.specs.declared.token.Place.{Place}
@@ -36,17 +37,6 @@ keyword_by text t _ = None
 abbrev pub keyword_of : Bytes → Option Token → Option (Keyword × Place)
 keyword_of text None = None
 keyword_of text (Some t) = keyword_by text t t.kind
-
--- the same kind, of those that stand between the parts of statements
-abbrev pub same_kind : Kind → Kind → Bool
-same_kind k.Comma k.Comma = true
-same_kind k.Equal k.Equal = true
-same_kind k.Substitute k.Substitute = true
-same_kind k.LeftBracket k.LeftBracket = true
-same_kind k.LeftBrace k.LeftBrace = true
-same_kind k.RightBrace k.RightBrace = true
-same_kind k.Minus k.Minus = true
-same_kind _ _ = false
 
 abbrev pub kind_at : Kind → Option Token → Bool
 kind_at kind None = false

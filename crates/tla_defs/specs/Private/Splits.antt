@@ -8,8 +8,8 @@ use Rattle.tla_defs.specs.declared.conjuncts.Split.TheVariants as split
 use Rattle.tla_defs.specs.Specification.{conjuncts_in, conjuncts_each}
 
 abbrev pub conjuncts_by : (Name → Option (List Tree)) → Tree → Split → List Tree
-conjuncts_by ρ t (split.Same e) = conjuncts_in ρ (view e.now)
-conjuncts_by ρ t (split.Two a c) = conjuncts_in ρ (view a.now) ++ conjuncts_in ρ (view c.now)
-conjuncts_by ρ t (split.Many es) = conjuncts_each ρ (trees (map view es.now))
+conjuncts_by ρ t (split.Same e) = conjuncts_in ρ (view e.now.value)
+conjuncts_by ρ t (split.Two a c) = conjuncts_in ρ (view a.now.value) ++ conjuncts_in ρ (view c.now.value)
+conjuncts_by ρ t (split.Many es) = conjuncts_each ρ (trees (map view es.now.items))
 conjuncts_by ρ t (split.Name w) = unwrap_or (ρ w.now) (t ∷ [])
 conjuncts_by ρ t split.Whole = t ∷ []

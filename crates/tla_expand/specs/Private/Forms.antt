@@ -1,5 +1,6 @@
 -- What a form with its parts means, under a scope. Private contracts alone cite this.
-use Rattle.std.specs.Prelude.{◌≡◌, ℕ, ◌+◌, List, [], map, Option, Some, None}
+use Rattle.std.specs.Prelude.{◌≡◌, ℕ, ◌+◌, List, [], map, Option, Some, None, Vec, Box}
+use Rattle.std.specs.declared.alloc.Global.{Global}
 use Rattle.std.specs.Borrow.{Bor}
 use Rattle.tla_core.specs.Expr.{Arms, now, cases, product, except, more_exprs, no_arms, other}
 use Rattle.tla_core.specs.declared.fault.Place.{Place}
@@ -24,33 +25,35 @@ use Rattle.tla_expand.specs.declared.nodes.OwnForm.TheVariants as own_form
 use Rattle.tla_expand.specs.Maybe.{◌>>=◌}
 use Rattle.tla_expand.specs.Nodes.{leaf, one, two, three, many, fielded}
 use Rattle.tla_expand.specs.Unchanged.{unchanged, changed}
-use Rattle.tla_expand.specs.Meanings.{Scope, Argument}
+use Rattle.tla_expand.specs.Meanings.{Scope, Argument, builtin_meaning}
+use Rattle.tla_expand.specs.Scopes.{arguments_in}
 use Rattle.tla_expand.specs.Bound.{bind_entry, nested, gathered}
 use Rattle.tla_expand.specs.Expand.{prefixed, expand, expand_each, expand_key, expand_arms, expand_fields, expand_updates, binds_of}
 
 -- the value of OTHER, where there is one
-abbrev pub last_in : Option (Bor s.Expr) → Scope → ℕ → Option Arms
+abbrev pub last_in : Option (Bor (Box s.Expr Global)) → Scope → ℕ → Option Arms
 last_in None σ d = Some no_arms
-last_in (Some t) σ d = expand (view t.now) σ d >>= λ x. Some (other x)
+last_in (Some t) σ d = expand (view t.now.value) σ d >>= λ x. Some (other x)
 
 abbrev pub form_in : Form → Scope → Argument
 form_in (form.Leaf p l) σ d = leaf l p
 form_in (form.Variable p i) σ d = Some (now p i)
-form_in (form.One p f t) σ d = expand (view t.now) σ d >>= λ x. Some (one f p x)
-form_in (form.Two p f a b) σ d = expand (view a.now) σ d >>= λ x. expand (view b.now) σ d >>= λ y. Some (two f p x y)
-form_in (form.Three p f a b c) σ d = expand (view a.now) σ d >>= λ x. expand (view b.now) σ d >>= λ y. expand (view c.now) σ d >>= λ z. Some (three f p x y z)
-form_in (form.Many p f ts) σ d = expand_each (trees (map view ts.now)) σ d >>= λ xs. Some (many f p xs)
-form_in (form.Headed p headed.Index f ts) σ d = expand (view f.now) σ d >>= λ x. expand_key (trees (map view ts.now)) σ d >>= λ y. Some (two twos.Apply p x y)
-form_in (form.Headed p headed.Product t ts) σ d = expand (view t.now) σ d >>= λ x. expand_each (trees (map view ts.now)) σ d >>= λ xs. Some (product p (more_exprs x xs))
-form_in (form.Cases p as' o) σ d = expand_arms (arms (map choice_view as'.now)) (last_in o σ d) σ d >>= λ xs. Some (cases p xs)
-form_in (form.Fields p f fs) σ d = expand_fields (fields (map field_view fs.now)) σ d >>= λ xs. Some (fielded f p xs)
-form_in (form.Except p t us) σ d = expand (view t.now) σ d >>= λ x. expand_updates (updates (map update_view us.now)) σ d >>= λ ys. Some (except p x ys)
-form_in (form.Action p steps.Box t q v) σ d = expand (view t.now) σ d >>= λ x. (expand (view v.now) σ d >>= unchanged q) >>= λ y. Some (two twos.Or p x y)
-form_in (form.Action p steps.Angle t q v) σ d = expand (view t.now) σ d >>= λ x. (expand (view v.now) σ d >>= changed q) >>= λ y. Some (two twos.And p x y)
-form_in (form.Unchanged p t) σ d = expand (view t.now) σ d >>= unchanged p
-form_in (form.Binders p (under.Nested f) bs t) σ d = nested f p (binds_of (binders (map group_view bs.now)) σ) (expand (view t.now)) σ d
-form_in (form.Binders p (under.Gathered f) bs t) σ d = gathered f p (binds_of (binders (map group_view bs.now)) σ) (expand (view t.now)) σ d
-form_in (form.Binds p f w s t) σ d = nested f p (bind_entry (pattern_view w.now) (expand (view s.now) σ) []) (expand (view t.now)) σ d
+form_in (form.One p f t) σ d = expand (view t.now.value) σ d >>= λ x. Some (one f p x)
+form_in (form.Two p f a b) σ d = expand (view a.now.value) σ d >>= λ x. expand (view b.now.value) σ d >>= λ y. Some (two f p x y)
+form_in (form.Three p f a b c) σ d = expand (view a.now.value) σ d >>= λ x. expand (view b.now.value) σ d >>= λ y. expand (view c.now.value) σ d >>= λ z. Some (three f p x y z)
+form_in (form.Many p f ts) σ d = expand_each (trees (map view ts.now.items)) σ d >>= λ xs. Some (many f p xs)
+form_in (form.Use p u ts) σ d = builtin_meaning u p (arguments_in ts.now σ) d
+form_in (form.Headed p headed.Index f ts) σ d = expand (view f.now.value) σ d >>= λ x. expand_key (trees (map view ts.now.items)) σ d >>= λ y. Some (two twos.Apply p x y)
+form_in (form.Headed p headed.Product t ts) σ d = expand (view t.now.value) σ d >>= λ x. expand_each (trees (map view ts.now.items)) σ d >>= λ xs. Some (product p (more_exprs x xs))
+form_in (form.Cases p as' o) σ d = expand_arms (arms (map choice_view as'.now.items)) (last_in o σ d) σ d >>= λ xs. Some (cases p xs)
+form_in (form.Fields p f fs) σ d = expand_fields (fields (map field_view fs.now.items)) σ d >>= λ xs. Some (fielded f p xs)
+form_in (form.Except p t us) σ d = expand (view t.now.value) σ d >>= λ x. expand_updates (updates (map update_view us.now.items)) σ d >>= λ ys. Some (except p x ys)
+form_in (form.Action p steps.Box t q v) σ d = expand (view t.now.value) σ d >>= λ x. (expand (view v.now.value) σ d >>= unchanged q) >>= λ y. Some (two twos.Or p x y)
+form_in (form.Action p steps.Angle t q v) σ d = expand (view t.now.value) σ d >>= λ x. (expand (view v.now.value) σ d >>= changed q) >>= λ y. Some (two twos.And p x y)
+form_in (form.Unchanged p t) σ d = expand (view t.now.value) σ d >>= unchanged p
+form_in (form.Binders p (under.Nested f) bs t) σ d = nested f p (binds_of (binders (map group_view bs.now.items)) σ) (expand (view t.now)) σ d
+form_in (form.Binders p (under.Gathered f) bs t) σ d = gathered f p (binds_of (binders (map group_view bs.now.items)) σ) (expand (view t.now)) σ d
+form_in (form.Binds p f w s t) σ d = nested f p (bind_entry (pattern_view w.now) (expand (view s.now.value) σ) []) (expand (view t.now.value)) σ d
 
 abbrev pub GivesForm : OwnForm → Tree → Type 0
 GivesForm (own_form.Form f) t = (σ : Scope) (d : ℕ) → expand t σ d ≡ form_in f σ d
@@ -71,10 +74,10 @@ of_bullet bullet.And = manies.And
 of_bullet bullet.Or = manies.Or
 
 -- the parts of a tuple
-abbrev pub tuple_of : ListNode → Bor (List s.Expr) → Option (Bor (List s.Expr))
+abbrev pub tuple_of : ListNode → Bor (Vec s.Expr Global) → Option (Bor (Vec s.Expr Global))
 tuple_of manies.Tuple ts = Some ts
 tuple_of f ts = None
 
-abbrev pub tuple_parts : Form → Option (Bor (List s.Expr))
+abbrev pub tuple_parts : Form → Option (Bor (Vec s.Expr Global))
 tuple_parts (form.Many p f ts) = tuple_of f ts
 tuple_parts fm = None

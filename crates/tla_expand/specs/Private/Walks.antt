@@ -1,5 +1,6 @@
 -- A walk over the parts of a nested tuple. Private contracts alone cite this.
-use Rattle.std.specs.Prelude.{◌≡◌, ◌≤◌, ◌<◌, ◌⊎◌, ℕ, Bool, true, false, List, [], ◌∷◌, ◌++◌, map, length, get_or, Option, Some, nat_eq}
+use Rattle.std.specs.Prelude.{◌≡◌, ◌≤◌, ◌<◌, ◌⊎◌, ℕ, Bool, true, false, List, [], ◌∷◌, ◌++◌, map, length, get_or, Option, Some, nat_eq, Vec}
+use Rattle.std.specs.declared.alloc.Global.{Global}
 use Rattle.std.specs.Borrow.{Bor}
 use Rattle.std.specs.List.{list_any}
 use Rattle.tla_core.specs.declared.fault.Place.{Place}
@@ -60,7 +61,7 @@ piece_of_variable Never i = piece.Variable i
 piece_of_variable Once i = piece.Other
 piece_of_variable Twice i = piece.Other
 
-abbrev pub piece_of_many : ListNode → Bor (List syntax.Expr) → Piece
+abbrev pub piece_of_many : ListNode → Bor (Vec syntax.Expr Global) → Piece
 piece_of_many manies.Tuple ts = piece.Tuple ts
 piece_of_many f ts = piece.Other
 

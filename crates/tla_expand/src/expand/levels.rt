@@ -97,7 +97,7 @@ fn look_at_tuple<'a>(
     alloc: Global,
     entries: &mut Entries<'_, 'a>,
     head: Head<'a>,
-    items: &'a [Expr],
+    items: &'a Vec<Expr>,
     outer: Primes,
     at: Setting,
 ) -> Result<(), Failure>
@@ -108,15 +108,16 @@ fn look_at_tuple<'a>(
     ensures kept { OnOk result (listed entries.new ≡ listed entries.old) }
     ensures fails { IfErr result (λ f. Fails (at.room + 1) (at.left + 1) f (with_primes at.primes (form_in head.entry.form (scope_at (listed entries.old) at.scope) at.bound))) }
 {
+    let trees = items.as_slice();
     if !are_fewer(outer, at.primes) {
-        return look_at_each(alloc, entries, items, at);
+        return look_at_each(alloc, entries, trees, at);
     }
     let before = Setting {
         primes: outer,
         ..at
     };
-    look_at_each(alloc, entries, items, before)?;
-    match look_at_each(alloc, entries, items, at) {
+    look_at_each(alloc, entries, trees, before)?;
+    match look_at_each(alloc, entries, trees, at) {
         Err(Failure::NoExpansion(_)) => Err(Failure::NoExpansion(primed_at(head, outer))),
         Err(failure) => Err(failure),
         Ok(_) => Ok(()),

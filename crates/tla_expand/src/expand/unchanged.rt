@@ -34,7 +34,7 @@ pub(super) fn settled(primes: Primes) -> Primes
 }
 
 /// The parts of a tuple.
-pub(super) fn tuple_items<'a>(form: Form<'a>) -> Option<&'a [Expr]>
+pub(super) fn tuple_items<'a>(form: Form<'a>) -> Option<&'a Vec<Expr>>
     ensures { result ≡ tuple_parts form.entry }
 {
     match form {
@@ -67,7 +67,7 @@ pub(super) fn kept<'a>(
                 primes: found.primes,
                 ..at
             };
-            let many = kept_each(alloc, entries, place, items, inside)?;
+            let many = kept_each(alloc, entries, place, items.as_slice(), inside)?;
             entries.truncate(mark);
             Ok(Expanded {
                 core: kept_core(place, many.parts),

@@ -23,21 +23,21 @@ pub new-requires : goal.new-requires
 new-requires c =
     let us = map unit_view c.args.units.now in
     let cs = map statement_view c.args.statements.now in
-    let at = c.in_ok-scopes.ensures.ok ∙ ap (λ is. global us is) c.requires.items in
+    let at = ap (λ s. scope_of s) c.deref-scopes.ensures ∙ c.in_ok-global.ensures.ok ∙ ap (λ is. global us is) c.requires.items in
     let counted = sym (length-map c.words-count.result.now (λ (w : Bor (List ℕ)). w.now)) ∙ ap (λ (xs : List (List ℕ)). length xs) c.words-count.ensures ∙ ap (λ (xs : List (List ℕ)). length xs) c.requires.variables in
-    let means = meaning_behaviour us cs c.args.items.now (scope_of c.in_ok-scopes.scopes) (length c.words-count.result.now) (behaviour_of c.args.behaviour) c.in_ok-meant.meant c.requires.items at counted c.requires.only c.in_ok-meant.ensures.found in
-    rw (c.into_inner.ensures, c.into_inner-2.ensures) (sound us cs _ (parts_model us cs (scope_of c.in_ok-scopes.scopes) c.in_ok-names.names.items c.in_ok-assumptions.assumptions.items c.in_ok-init.init.value c.in_ok-next.next.value c.in_ok-invariants.invariants.items c.in_ok-constraints.constraints.items c.looks_for_deadlock-check.result means.0 (action_tree c.in_ok-meant.meant)
+    let means = meaning_behaviour us cs c.args.items.now (scope_of c.deref-scopes.result.now) (length c.words-count.result.now) (behaviour_of c.args.behaviour) c.in_ok-meant.meant c.requires.items at counted c.requires.only c.in_ok-meant.ensures.found in
+    sound us cs _ (parts_model us cs (scope_of c.deref-scopes.result.now) c.in_ok-names.names.items c.in_ok-assumptions.assumptions.items c.in_ok-init.init.value c.in_ok-next.next.value c.in_ok-invariants.invariants.items c.in_ok-constraints.constraints.items c.looks_for_deadlock-check.result means.0 (action_tree c.in_ok-meant.meant)
     at c.requires.known (rw c.requires.items at c.requires.given) (rw c.requires.items at c.requires.valued) c.requires.named (rw c.requires.items at c.requires.straight) means.2 (c.in_ok-names.ensures.ok ∙ c.requires.variables)
-    c.in_ok-assumptions.ensures.found (rw c.in_ok-init.ensures.ok at (c.initial_predicate.ensures.found means.0 means.1)) (rw c.in_ok-next.ensures.ok at c.next_action.ensures.found) c.in_ok-invariants.ensures.found c.in_ok-constraints.ensures.found c.looks_for_deadlock-check.ensures))
+    c.in_ok-assumptions.ensures.found (rw c.in_ok-init.ensures.ok at (c.initial_predicate.ensures.found means.0 means.1)) (rw c.in_ok-next.ensures.ok at c.next_action.ensures.found) c.in_ok-invariants.ensures.found c.in_ok-constraints.ensures.found c.looks_for_deadlock-check.ensures)
 
 pub returns-clause-found : goal.returns-clause-found
 returns-clause-found c =
     let us = map unit_view c.args.units.now in
     let cs = map statement_view c.args.statements.now in
-    let at = c.in_ok-scopes.ensures.ok ∙ ap (λ is. global us is) c.requires.items in
+    let at = ap (λ s. scope_of s) c.deref-scopes.ensures ∙ c.in_ok-global.ensures.ok ∙ ap (λ is. global us is) c.requires.items in
     let counted = sym (length-map c.words-count.result.now (λ (w : Bor (List ℕ)). w.now)) ∙ ap (λ (xs : List (List ℕ)). length xs) c.words-count.ensures ∙ ap (λ (xs : List (List ℕ)). length xs) c.requires.variables in
-    let means = meaning_behaviour us cs c.args.items.now (scope_of c.in_ok-scopes.scopes) (length c.words-count.result.now) (behaviour_of c.args.behaviour) c.in_ok-meant.meant c.requires.items at counted c.requires.only c.in_ok-meant.ensures.found in
-    rw (c.new.ensures, c.into_inner.ensures, c.into_inner-2.ensures) (parts_model us cs (scope_of c.in_ok-scopes.scopes) c.in_ok-names.names.items c.in_ok-assumptions.assumptions.items c.in_ok-init.init.value c.in_ok-next.next.value c.in_ok-invariants.invariants.items c.in_ok-constraints.constraints.items c.looks_for_deadlock-check.result means.0 (action_tree c.in_ok-meant.meant)
+    let means = meaning_behaviour us cs c.args.items.now (scope_of c.deref-scopes.result.now) (length c.words-count.result.now) (behaviour_of c.args.behaviour) c.in_ok-meant.meant c.requires.items at counted c.requires.only c.in_ok-meant.ensures.found in
+    rw c.new.ensures (parts_model us cs (scope_of c.deref-scopes.result.now) c.in_ok-names.names.items c.in_ok-assumptions.assumptions.items c.in_ok-init.init.value c.in_ok-next.next.value c.in_ok-invariants.invariants.items c.in_ok-constraints.constraints.items c.looks_for_deadlock-check.result means.0 (action_tree c.in_ok-meant.meant)
     at c.requires.known (rw c.requires.items at c.requires.given) (rw c.requires.items at c.requires.valued) c.requires.named (rw c.requires.items at c.requires.straight) means.2 (c.in_ok-names.ensures.ok ∙ c.requires.variables)
     c.in_ok-assumptions.ensures.found (rw c.in_ok-init.ensures.ok at (c.initial_predicate.ensures.found means.0 means.1)) (rw c.in_ok-next.ensures.ok at c.next_action.ensures.found) c.in_ok-invariants.ensures.found c.in_ok-constraints.ensures.found c.looks_for_deadlock-check.ensures)
 
@@ -45,17 +45,17 @@ pub returns-in_err-meant-clause-none : goal.returns-in_err-meant-clause-none
 returns-in_err-meant-clause-none c =
     let us = map unit_view c.args.units.now in
     let cs = map statement_view c.args.statements.now in
-    let at = c.in_ok-scopes.ensures.ok ∙ ap (λ is. global us is) c.requires.items in
+    let at = ap (λ s. scope_of s) c.deref-scopes.ensures ∙ c.in_ok-global.ensures.ok ∙ ap (λ is. global us is) c.requires.items in
     let counted = sym (length-map c.words-count.result.now (λ (w : Bor (List ℕ)). w.now)) ∙ ap (λ (xs : List (List ℕ)). length xs) c.words-count.ensures ∙ ap (λ (xs : List (List ℕ)). length xs) c.requires.variables in
     let e = err_from_is_err_and c.from_residual-in_err-meant.result c.from_residual-in_err-meant.ensures.1 in
-    rw (e.1, e.2) (λ h. no_meaning us cs c.args.items.now (scope_of c.in_ok-scopes.scopes) (length c.words-count.result.now) (behaviour_of c.args.behaviour) c.in_err-meant.field-0.0 c.requires.items at counted c.requires.only
+    rw (e.1, e.2) (λ h. no_meaning us cs c.args.items.now (scope_of c.deref-scopes.result.now) (length c.words-count.result.now) (behaviour_of c.args.behaviour) c.in_err-meant.field-0.0 c.requires.items at counted c.requires.only
     (c.in_err-meant.ensures.refused h) c.in_err-meant.ensures.none)
 
 pub returns-in_err-assumptions-clause-none : goal.returns-in_err-assumptions-clause-none
 returns-in_err-assumptions-clause-none c =
     let us = map unit_view c.args.units.now in
     let cs = map statement_view c.args.statements.now in
-    let at = c.in_ok-scopes.ensures.ok ∙ ap (λ is. global us is) c.requires.items in
+    let at = ap (λ s. scope_of s) c.deref-scopes.ensures ∙ c.in_ok-global.ensures.ok ∙ ap (λ is. global us is) c.requires.items in
     let e = err_from_is_err_and c.from_residual-in_err-assumptions.result c.from_residual-in_err-assumptions.ensures.1 in
     rw (e.1, e.2) (λ h. no_assumptions us cs _ at (c.in_err-assumptions.ensures.none h))
 
@@ -63,9 +63,9 @@ pub returns-in_err-init-clause-none : goal.returns-in_err-init-clause-none
 returns-in_err-init-clause-none c =
     let us = map unit_view c.args.units.now in
     let cs = map statement_view c.args.statements.now in
-    let at = c.in_ok-scopes.ensures.ok ∙ ap (λ is. global us is) c.requires.items in
+    let at = ap (λ s. scope_of s) c.deref-scopes.ensures ∙ c.in_ok-global.ensures.ok ∙ ap (λ is. global us is) c.requires.items in
     let counted = sym (length-map c.words-count.result.now (λ (w : Bor (List ℕ)). w.now)) ∙ ap (λ (xs : List (List ℕ)). length xs) c.words-count.ensures ∙ ap (λ (xs : List (List ℕ)). length xs) c.requires.variables in
-    let means = meaning_behaviour us cs c.args.items.now (scope_of c.in_ok-scopes.scopes) (length c.words-count.result.now) (behaviour_of c.args.behaviour) c.in_ok-meant.meant c.requires.items at counted c.requires.only c.in_ok-meant.ensures.found in
+    let means = meaning_behaviour us cs c.args.items.now (scope_of c.deref-scopes.result.now) (length c.words-count.result.now) (behaviour_of c.args.behaviour) c.in_ok-meant.meant c.requires.items at counted c.requires.only c.in_ok-meant.ensures.found in
     let e = err_from_is_err_and c.from_residual-in_err-init.result c.from_residual-in_err-init.ensures.1 in
     rw (e.1, e.2) (λ h. no_init us cs _ means.0 (action_tree c.in_ok-meant.meant) at means.2 ((rw (c.in_err-init.ensures.err h) at (c.initial_predicate.ensures.none means.0 means.1)) h))
 
@@ -73,9 +73,9 @@ pub returns-in_err-next-clause-none : goal.returns-in_err-next-clause-none
 returns-in_err-next-clause-none c =
     let us = map unit_view c.args.units.now in
     let cs = map statement_view c.args.statements.now in
-    let at = c.in_ok-scopes.ensures.ok ∙ ap (λ is. global us is) c.requires.items in
+    let at = ap (λ s. scope_of s) c.deref-scopes.ensures ∙ c.in_ok-global.ensures.ok ∙ ap (λ is. global us is) c.requires.items in
     let counted = sym (length-map c.words-count.result.now (λ (w : Bor (List ℕ)). w.now)) ∙ ap (λ (xs : List (List ℕ)). length xs) c.words-count.ensures ∙ ap (λ (xs : List (List ℕ)). length xs) c.requires.variables in
-    let means = meaning_behaviour us cs c.args.items.now (scope_of c.in_ok-scopes.scopes) (length c.words-count.result.now) (behaviour_of c.args.behaviour) c.in_ok-meant.meant c.requires.items at counted c.requires.only c.in_ok-meant.ensures.found in
+    let means = meaning_behaviour us cs c.args.items.now (scope_of c.deref-scopes.result.now) (length c.words-count.result.now) (behaviour_of c.args.behaviour) c.in_ok-meant.meant c.requires.items at counted c.requires.only c.in_ok-meant.ensures.found in
     let e = err_from_is_err_and c.from_residual-in_err-next.result c.from_residual-in_err-next.ensures.1 in
     rw (e.1, e.2) (λ h. no_next us cs _ means.0 (action_tree c.in_ok-meant.meant) at means.2 ((rw (c.in_err-next.ensures.err h) at c.next_action.ensures.none) h))
 
@@ -83,7 +83,7 @@ pub returns-in_err-invariants-clause-none : goal.returns-in_err-invariants-claus
 returns-in_err-invariants-clause-none c =
     let us = map unit_view c.args.units.now in
     let cs = map statement_view c.args.statements.now in
-    let at = c.in_ok-scopes.ensures.ok ∙ ap (λ is. global us is) c.requires.items in
+    let at = ap (λ s. scope_of s) c.deref-scopes.ensures ∙ c.in_ok-global.ensures.ok ∙ ap (λ is. global us is) c.requires.items in
     let e = err_from_is_err_and c.from_residual-in_err-invariants.result c.from_residual-in_err-invariants.ensures.1 in
     rw (e.1, e.2) (λ h. no_invariants us cs _ at (c.in_err-invariants.ensures.none h))
 
@@ -91,7 +91,7 @@ pub returns-in_err-constraints-clause-none : goal.returns-in_err-constraints-cla
 returns-in_err-constraints-clause-none c =
     let us = map unit_view c.args.units.now in
     let cs = map statement_view c.args.statements.now in
-    let at = c.in_ok-scopes.ensures.ok ∙ ap (λ is. global us is) c.requires.items in
+    let at = ap (λ s. scope_of s) c.deref-scopes.ensures ∙ c.in_ok-global.ensures.ok ∙ ap (λ is. global us is) c.requires.items in
     let e = err_from_is_err_and c.from_residual-in_err-constraints.result c.from_residual-in_err-constraints.ensures.1 in
     rw (e.1, e.2) (λ h. no_constraints us cs _ at (c.in_err-constraints.ensures.none h))
 
@@ -107,14 +107,14 @@ returns-in_err-meant-clause-refused c =
     let counted = sym (length-map c.words-count.result.now (λ (w : Bor (List ℕ)). w.now)) ∙ ap (λ (xs : List (List ℕ)). length xs) c.words-count.ensures ∙ ap (λ (xs : List (List ℕ)). length xs) c.requires.variables in
     let e = err_from_is_err_and c.from_residual-in_err-meant.result c.from_residual-in_err-meant.ensures.1 in
     let cs = map statement_view c.args.statements.now in
-    rw (e.1, e.2) (λ h. meaning_refused us cs is (scope_of c.in_ok-scopes.scopes) (length c.words-count.result.now) (behaviour_of c.args.behaviour) c.in_err-meant.field-0.0
-    c.requires.items c.in_ok-scopes.ensures.ok counted (c.in_err-meant.ensures.refused h) c.in_err-meant.ensures.none)
+    rw (e.1, e.2) (λ h. meaning_refused us cs is (scope_of c.deref-scopes.result.now) (length c.words-count.result.now) (behaviour_of c.args.behaviour) c.in_err-meant.field-0.0
+    c.requires.items (ap (λ s. scope_of s) c.deref-scopes.ensures ∙ c.in_ok-global.ensures.ok) counted (c.in_err-meant.ensures.refused h) c.in_err-meant.ensures.none)
 
 pub returns-in_err-assumptions-clause-refused : goal.returns-in_err-assumptions-clause-refused
 returns-in_err-assumptions-clause-refused c =
     let us = map unit_view c.args.units.now in
     let cs = map statement_view c.args.statements.now in
-    let at = c.in_ok-scopes.ensures.ok ∙ ap (λ is. global us is) c.requires.items in
+    let at = ap (λ s. scope_of s) c.deref-scopes.ensures ∙ c.in_ok-global.ensures.ok ∙ ap (λ is. global us is) c.requires.items in
     let e = err_from_is_err_and c.from_residual-in_err-assumptions.result c.from_residual-in_err-assumptions.ensures.1 in
     rw (e.1, e.2) (λ h. inr (of_assumption (subst (λ ρ. IsOfAssumption ρ (assumptions_of us) c.in_err-assumptions.field-0.0) at (c.in_err-assumptions.ensures.formula h))))
 
@@ -122,9 +122,9 @@ pub returns-in_err-init-clause-refused : goal.returns-in_err-init-clause-refused
 returns-in_err-init-clause-refused c =
     let us = map unit_view c.args.units.now in
     let cs = map statement_view c.args.statements.now in
-    let at = c.in_ok-scopes.ensures.ok ∙ ap (λ is. global us is) c.requires.items in
+    let at = ap (λ s. scope_of s) c.deref-scopes.ensures ∙ c.in_ok-global.ensures.ok ∙ ap (λ is. global us is) c.requires.items in
     let counted = sym (length-map c.words-count.result.now (λ (w : Bor (List ℕ)). w.now)) ∙ ap (λ (xs : List (List ℕ)). length xs) c.words-count.ensures ∙ ap (λ (xs : List (List ℕ)). length xs) c.requires.variables in
-    let means = meaning_behaviour us cs c.args.items.now (scope_of c.in_ok-scopes.scopes) (length c.words-count.result.now) (behaviour_of c.args.behaviour) c.in_ok-meant.meant c.requires.items at counted c.requires.only c.in_ok-meant.ensures.found in
+    let means = meaning_behaviour us cs c.args.items.now (scope_of c.deref-scopes.result.now) (length c.words-count.result.now) (behaviour_of c.args.behaviour) c.in_ok-meant.meant c.requires.items at counted c.requires.only c.in_ok-meant.ensures.found in
     let e = err_from_is_err_and c.from_residual-in_err-init.result c.from_residual-in_err-init.ensures.1 in
     rw (e.1, e.2) (λ h. inr (of_initial means.0 (action_tree c.in_ok-meant.meant) means.2 (subst (λ ρ. IsOfFormula (expand means.0 ρ 0) read.Once c.in_err-init.field-0.0) at ((rw (c.in_err-init.ensures.err h) at (c.initial_predicate.ensures.formula means.0 means.1)) h))))
 
@@ -132,9 +132,9 @@ pub returns-in_err-next-clause-refused : goal.returns-in_err-next-clause-refused
 returns-in_err-next-clause-refused c =
     let us = map unit_view c.args.units.now in
     let cs = map statement_view c.args.statements.now in
-    let at = c.in_ok-scopes.ensures.ok ∙ ap (λ is. global us is) c.requires.items in
+    let at = ap (λ s. scope_of s) c.deref-scopes.ensures ∙ c.in_ok-global.ensures.ok ∙ ap (λ is. global us is) c.requires.items in
     let counted = sym (length-map c.words-count.result.now (λ (w : Bor (List ℕ)). w.now)) ∙ ap (λ (xs : List (List ℕ)). length xs) c.words-count.ensures ∙ ap (λ (xs : List (List ℕ)). length xs) c.requires.variables in
-    let means = meaning_behaviour us cs c.args.items.now (scope_of c.in_ok-scopes.scopes) (length c.words-count.result.now) (behaviour_of c.args.behaviour) c.in_ok-meant.meant c.requires.items at counted c.requires.only c.in_ok-meant.ensures.found in
+    let means = meaning_behaviour us cs c.args.items.now (scope_of c.deref-scopes.result.now) (length c.words-count.result.now) (behaviour_of c.args.behaviour) c.in_ok-meant.meant c.requires.items at counted c.requires.only c.in_ok-meant.ensures.found in
     let e = err_from_is_err_and c.from_residual-in_err-next.result c.from_residual-in_err-next.ensures.1 in
     rw (e.1, e.2) (λ h. inr (of_action means.0 (action_tree c.in_ok-meant.meant) means.2 (subst (λ ρ. IsOfFormula (expand (action_tree c.in_ok-meant.meant) ρ 0) read.Never c.in_err-next.field-0.0) at ((rw (c.in_err-next.ensures.err h) at c.next_action.ensures.formula) h))))
 
@@ -142,7 +142,7 @@ pub returns-in_err-invariants-clause-refused : goal.returns-in_err-invariants-cl
 returns-in_err-invariants-clause-refused c =
     let us = map unit_view c.args.units.now in
     let cs = map statement_view c.args.statements.now in
-    let at = c.in_ok-scopes.ensures.ok ∙ ap (λ is. global us is) c.requires.items in
+    let at = ap (λ s. scope_of s) c.deref-scopes.ensures ∙ c.in_ok-global.ensures.ok ∙ ap (λ is. global us is) c.requires.items in
     let e = err_from_is_err_and c.from_residual-in_err-invariants.result c.from_residual-in_err-invariants.ensures.1 in
     rw (e.1, e.2) (λ h. inr (of_invariant (subst (λ ρ. IsOfPredicate ρ (invariants_named cs) c.in_err-invariants.field-0.0) at (c.in_err-invariants.ensures.formula h))))
 
@@ -150,6 +150,6 @@ pub returns-in_err-constraints-clause-refused : goal.returns-in_err-constraints-
 returns-in_err-constraints-clause-refused c =
     let us = map unit_view c.args.units.now in
     let cs = map statement_view c.args.statements.now in
-    let at = c.in_ok-scopes.ensures.ok ∙ ap (λ is. global us is) c.requires.items in
+    let at = ap (λ s. scope_of s) c.deref-scopes.ensures ∙ c.in_ok-global.ensures.ok ∙ ap (λ is. global us is) c.requires.items in
     let e = err_from_is_err_and c.from_residual-in_err-constraints.result c.from_residual-in_err-constraints.ensures.1 in
     rw (e.1, e.2) (λ h. inr (of_constraint (subst (λ ρ. IsOfPredicate ρ (constraints_named cs) c.in_err-constraints.field-0.0) at (c.in_err-constraints.ensures.formula h))))

@@ -1,7 +1,6 @@
-use Rattle.std.proofs.Common.{◌≡◌, ◌++◌, ◌∷◌, [], List, subst, Some, None, ap, sym, ◌∙◌, option_map}
+use Rattle.std.proofs.Common.{◌≡◌, ◌++◌, ◌∷◌, [], Some, None, ap, sym, ◌∙◌, option_map}
 use Rattle.std.specs.Prelude.{unwrap_or}
-use Rattle.tla_defs.specs.declared.conjuncts.Formula.{Formula}
-use Rattle.tla_defs.specs.Private.Conjuncts.{replaced_in, fair_names, conjuncts_from, conjuncts_left, AreFoundOrLeft}
+use Rattle.tla_defs.specs.Private.Conjuncts.{replaced_in, fair_names, conjuncts_from, conjuncts_left}
 use Rattle.tla_defs.specs.Private.Seen.{tree_at}
 use Rattle.tla_defs.specs.Specification.{conjuncts_of}
 use Rattle.tla_defs.proofs.FoundOrLeft.{goes_on, one_part, two_parts, fair_part, sorted, on_ok, on_ok_two}
@@ -16,25 +15,20 @@ pub returns-in_ok-push-in-Same-clause-ok : goal.returns-in_ok-push-in-Same-claus
 returns-in_ok-push-in-Same-clause-ok c = λ ss es r.
     let b = replaced_in c.args.classes.now in
     rw c.in_ok-push-in-Same.ensures.ok
-    (one_part (fair_names c.args.classes.now) b c.args.walk.now.left.items c.args.formula c.args.walk.now.parts ss es _ (c.in-Same.ensures (conjuncts_of c.args.formula.names b)) r)
+    (one_part (fair_names c.args.classes.now) b c.args.walk.now.left.items c.args.formula c.args.walk.now.parts ss es _ (rw (← c.deref.ensures) at (c.in-Same.ensures (conjuncts_of c.args.formula.names b))) r)
 
 pub returns-in_ok-push-in-Two-2-clause-ok : goal.returns-in_ok-push-in-Two-2-clause-ok
 returns-in_ok-push-in-Two-2-clause-ok c = λ ss es r.
     let b = replaced_in c.args.classes.now in
-    let φ = fair_names c.args.classes.now in
-    let p = c.args.walk.now.parts in
-    let first : Formula = record { tree = c.in-Two.first; names = c.args.formula.names } in
-    let second : Formula = record { tree = c.in-Two.second; names = c.args.formula.names } in
-    let both = two_parts φ b c.args.walk.now.left.items c.args.formula p ss es first second (c.in-Two.ensures (conjuncts_of c.args.formula.names b)) r in
-    let all = c.in_ok-push-in-Two-2.ensures.ok ∙ ap (λ fs. fs ++ first ∷ []) c.in_ok-push-in-Two.ensures.ok in
-    subst (λ (fs : List Formula). AreFoundOrLeft φ b fs p ss es) (sym all) both
+    rw (c.in_ok-push-in-Two-2.ensures.ok, c.in_ok-push-in-Two.ensures.ok)
+    (two_parts (fair_names c.args.classes.now) b c.args.walk.now.left.items c.args.formula c.args.walk.now.parts ss es _ _ (rw (← c.deref-in-Two.ensures, ← c.deref-in-Two-2.ensures) at (c.in-Two.ensures (conjuncts_of c.args.formula.names b))) r)
 
 pub returns-in-Many-clause-ok : goal.returns-in-Many-clause-ok
 returns-in-Many-clause-ok c =
     let b = replaced_in c.args.classes.now in
     on_ok c.push_each.result
     (λ h ss es r. goes_on (fair_names c.args.classes.now) b c.args.walk.now.left.items c.args.formula c.args.walk.now.parts ss es c.push_each.new.formulas.items
-    (h ∙ ap (λ ts. ts ++ conjuncts_left b c.args.walk.now.left.items) (sym (c.in-Many.ensures (conjuncts_of c.args.formula.names b)))) r)
+    (h ∙ ap (λ ts. ts ++ conjuncts_left b c.args.walk.now.left.items) (sym (rw (← c.deref-in-Many.ensures.value) at (c.in-Many.ensures (conjuncts_of c.args.formula.names b))))) r)
     (c.push_each.ensures.ok b)
 
 pub returns-in-None-clause-ok : goal.returns-in-None-clause-ok

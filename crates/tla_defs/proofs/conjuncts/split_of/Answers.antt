@@ -1,8 +1,8 @@
-use Rattle.std.proofs.Common.{ap, sym, ◌∙◌, map}
+use Rattle.std.proofs.Common.{ap, ◌∙◌}
 use Rattle.tla_tree.specs.declared.tree.Bullet.TheVariants as bullet
-use Rattle.tla_tree.specs.Tree.{trees, Junction}
+use Rattle.tla_tree.specs.Tree.{Junction}
 use Rattle.tla_tree.specs.View.{view, views_items}
-use Rattle.tla_defs.specs.Specification.{conjuncts_in, conjuncts_each}
+use Rattle.tla_defs.specs.Specification.{conjuncts_in}
 use Rattle.tla_defs.proofs.conjuncts.split_of.Goals as goal
 
 pub returns-in-And : goal.returns-in-And
@@ -10,4 +10,3 @@ returns-in-And c = λ ρ.
     let m = c.in-Junction in
     ap (λ k. conjuncts_in ρ (view k)) (rw c.in-And.is at m.is)
     ∙ ap (λ x. conjuncts_in ρ (Junction m.field-0 bullet.And x)) (views_items m.items)
-    ∙ ap (λ us. conjuncts_each ρ (trees (map view us))) (sym c.deref-in-And.ensures.value)

@@ -9,8 +9,8 @@ use Rattle.tla_defs.proofs.global.raised.Given as goal
 
 abbrev pub invariant-loop-left : goal.invariant-loop-left
 invariant-loop-left l = record {
-  same : global.raised (map unit_view l.units) l.given l.given (scope_of l.initial.all) ≡ global.raised (map unit_view l.units) l.given (map item_of l.left) (scope_of l.all);
-  settled : (β : Scope) × (scope_of l.all ≡ global.meant (map unit_view l.units) l.given β) × AreSettled l.waiting l.given β (scope_of l.all);
+  same : global.raised (map unit_view l.units) l.given l.given (scope_of l.initial.all.value) ≡ global.raised (map unit_view l.units) l.given (map item_of l.left) (scope_of l.all.value);
+  settled : (β : Scope) × (scope_of l.all.value ≡ global.meant (map unit_view l.units) l.given β) × AreSettled l.waiting l.given β (scope_of l.all.value);
 }
 
 abbrev pub decreases-loop-left : goal.decreases-loop-left

@@ -20,7 +20,7 @@ returns-in_ok-push_parts-in-Tuple-clause-goes c = λ whole w.
     let walk = c.args.walk.now in
     let es = listed walk.entries in
     let v = tuple_piece h.primes h.form c.in-Tuple.items (sym c.piece_of.ensures ∙ c.in-Tuple.is) (scope_at es h.scope) 0 in
-    put_tuple es h.scope h.primes whole (head_gives es h 0) walk.left.items c.push_parts.new.left.items walk.gone.keys walk.met.keys v.0 c.in-Tuple.items.now v.1 c.in_ok-push_parts-in-Tuple.ensures.ok c.requires.within w
+    put_tuple es h.scope h.primes whole (head_gives es h 0) walk.left.items c.push_parts.new.left.items walk.gone.keys walk.met.keys v.0 c.in-Tuple.items.now.items v.1 (rw c.as_slice.ensures.value at c.in_ok-push_parts-in-Tuple.ensures.ok) c.requires.within w
 
 pub returns-in-Other-clause-goes : goal.returns-in-Other-clause-goes
 returns-in-Other-clause-goes c = λ whole w.

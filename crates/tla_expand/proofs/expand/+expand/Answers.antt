@@ -36,24 +36,40 @@ use Rattle.tla_expand.proofs.Nested.{inner_fails, nested_gives}
 use Rattle.tla_expand.proofs.NamedParts.{field_some, field_fails}
 use Rattle.tla_expand.proofs.Gathered.{names_small, sets_fail, body_fails, gather_gives}
 use Rattle.tla_expand.proofs.Keys.{one_key, several_keys}
-use Rattle.tla_expand.proofs.Arms.{two_form, many_form, index_form, cases_form, cases_or_form, unchanged_form, fields_form, product_form, except_form, square_form, angle_form}
+use Rattle.tla_expand.proofs.Arms.{one_form, two_form, three_form, two_use, many_form, index_form, cases_form, cases_or_form, unchanged_form, fields_form, product_form, except_form, square_form, angle_form}
 use Rattle.tla_expand.specs.Listed.{listed}
 use Rattle.tla_expand.proofs.expand.+expand.Goals as goal
+
+pub node_of-returns-in-One-clause-same : goal.node_of-returns-in-One-clause-same
+node_of-returns-in-One-clause-same t c =
+    let m = c.in-One in
+    rw (one_form c.args.form (scope_at (listed c.args.entries.now) c.args.at.scope) c.args.at.bound c.args.at.primes m.place m.node m.part m.is) (rw c.deref.ensures at c.one_node.ensures.same)
+
+pub node_of-returns-in-Three-clause-same : goal.node_of-returns-in-Three-clause-same
+node_of-returns-in-Three-clause-same t c =
+    let m = c.in-Three in
+    rw (three_form c.args.form (scope_at (listed c.args.entries.now) c.args.at.scope) c.args.at.bound c.args.at.primes m.place m.node m.a m.b m.c m.is) (rw (c.deref-in-Three.ensures, c.deref-in-Three-2.ensures, c.deref-in-Three-3.ensures) at c.three_node.ensures.same)
 
 pub node_of-returns-in-Two-clause-same : goal.node_of-returns-in-Two-clause-same
 node_of-returns-in-Two-clause-same t c =
     let m = c.in-Two in
-    rw (two_form c.args.form (scope_at (listed c.args.entries.now) c.args.at.scope) c.args.at.bound c.args.at.primes m.place m.node m.a m.b m.is) c.two_node.ensures.same
+    rw (two_form c.args.form (scope_at (listed c.args.entries.now) c.args.at.scope) c.args.at.bound c.args.at.primes m.place m.node m.a m.b m.is) (rw (c.deref-in-Two.ensures, c.deref-in-Two-2.ensures) at c.two_node.ensures.same)
 
 pub node_of-returns-in-Many-clause-same : goal.node_of-returns-in-Many-clause-same
 node_of-returns-in-Many-clause-same t c =
     let m = c.in-Many in
-    rw (many_form c.args.form (scope_at (listed c.args.entries.now) c.args.at.scope) c.args.at.bound c.args.at.primes m.place m.node m.items m.is) c.many_node.ensures.same
+    rw (many_form c.args.form (scope_at (listed c.args.entries.now) c.args.at.scope) c.args.at.bound c.args.at.primes m.place m.node m.items m.is) (rw c.as_slice.ensures.value at c.many_node.ensures.same)
 
 pub node_of-returns-in-Unchanged-clause-same : goal.node_of-returns-in-Unchanged-clause-same
 node_of-returns-in-Unchanged-clause-same t c =
     let m = c.in-Unchanged in
-    rw (unchanged_form c.args.form (scope_at (listed c.args.entries.now) c.args.at.scope) c.args.at.bound c.args.at.primes m.place m.operand m.is) c.unchanged_node.ensures.same
+    rw (unchanged_form c.args.form (scope_at (listed c.args.entries.now) c.args.at.scope) c.args.at.bound c.args.at.primes m.place m.operand m.is) (rw c.deref-in-Unchanged.ensures at c.unchanged_node.ensures.same)
+
+pub use_node-returns-in-len2-clause-same : goal.use_node-returns-in-len2-clause-same
+use_node-returns-in-len2-clause-same t c =
+    let m = c.in-Two in
+    let σ = scope_at (listed c.args.entries.now) c.args.at.scope in
+    rw (m.is, two_use m.node c.args.place c.args.arguments.now c.one-item.result c.other-item.result σ c.args.at.bound c.args.at.primes (omega arith) (omega arith) c.one-item.is c.other-item.is) c.two_node.ensures.same
 
 pub two_node-returns-in_err-two-clause-same : goal.two_node-returns-in_err-two-clause-same
 two_node-returns-in_err-two-clause-same t c =
@@ -234,7 +250,7 @@ levels::node_behind-returns-in_err-look_at_form-clause-same t c =
 pub levels::look_at_tuple-returns-then-not-are_fewer-clause-fails : goal.levels::look_at_tuple-returns-then-not-are_fewer-clause-fails
 levels::look_at_tuple-returns-then-not-are_fewer-clause-fails t c =
     let σ = scope_at (listed c.args.entries.now) c.args.at.scope in
-    if_fails c.look_at_each.result c.look_at_each.ensures.fails (λ f h. tuple_looked c.args.head.form c.args.items σ c.args.at.bound c.args.at.primes f c.args.at.room c.args.at.left c.requires.tuple h)
+    if_fails c.look_at_each.result (rw c.as_slice-trees.ensures.value at c.look_at_each.ensures.fails) (λ f h. tuple_looked c.args.head.form c.args.items σ c.args.at.bound c.args.at.primes f c.args.at.room c.args.at.left c.requires.tuple h)
 
 pub levels::look_at_tuple-returns-in_err-look_at_each-clause-fails : goal.levels::look_at_tuple-returns-in_err-look_at_each-clause-fails
 levels::look_at_tuple-returns-in_err-look_at_each-clause-fails t c =
@@ -242,18 +258,18 @@ levels::look_at_tuple-returns-in_err-look_at_each-clause-fails t c =
     let σ = scope_at (listed c.args.entries.now) c.args.at.scope in
     let f = c.in_err-look_at_each.field-0.0 in
     rw (r.1, r.2) (look_fails c.args.outer c.args.at.primes f (form_in c.args.head.form σ c.args.at.bound) (c.args.at.room + 1) (c.args.at.left + 1) (sym c.are_fewer.ensures ∙ c.if-not-are_fewer.false)
-    (tuple_looked c.args.head.form c.args.items σ c.args.at.bound c.args.outer f c.args.at.room c.args.at.left c.requires.tuple c.in_err-look_at_each.ensures.fails))
+    (tuple_looked c.args.head.form c.args.items σ c.args.at.bound c.args.outer f c.args.at.room c.args.at.left c.requires.tuple (rw c.as_slice-trees.ensures.value at c.in_err-look_at_each.ensures.fails)))
 
 pub levels::look_at_tuple-returns-in-Err-NoExpansion-clause-fails : goal.levels::look_at_tuple-returns-in-Err-NoExpansion-clause-fails
 levels::look_at_tuple-returns-in-Err-NoExpansion-clause-fails t c =
     let m = c.in-Err-NoExpansion in
     tuple_looked c.args.head.form c.args.items (scope_at (listed c.args.entries.now) c.args.at.scope) c.args.at.bound c.args.at.primes (NoExpansion c.primed_at.result) c.args.at.room c.args.at.left c.requires.tuple
-    (rw c.in_ok-look_at_each.ensures.kept at (rw m.field-0-is at m.ensures.fails))
+    (rw (c.in_ok-look_at_each.ensures.kept, c.as_slice-trees.ensures.value) at (rw m.field-0-is at m.ensures.fails))
 
 pub levels::look_at_tuple-returns-in-Err-clause-fails : goal.levels::look_at_tuple-returns-in-Err-clause-fails
 levels::look_at_tuple-returns-in-Err-clause-fails t c =
     tuple_looked c.args.head.form c.args.items (scope_at (listed c.args.entries.now) c.args.at.scope) c.args.at.bound c.args.at.primes c.in-Err.failure c.args.at.room c.args.at.left c.requires.tuple
-    (rw c.in_ok-look_at_each.ensures.kept at c.in-Err.ensures.fails)
+    (rw (c.in_ok-look_at_each.ensures.kept, c.as_slice-trees.ensures.value) at c.in-Err.ensures.fails)
 
 pub levels::look_at_operand-returns-in_err-found-clause-fails : goal.levels::look_at_operand-returns-in_err-found-clause-fails
 levels::look_at_operand-returns-in_err-found-clause-fails t c =
@@ -351,13 +367,13 @@ unchanged::kept-returns-in_err-many-in-Some-clause-same t c =
     let r = err_from_is_err_and c.from_residual-in_err-many-in-Some.result c.from_residual-in_err-many-in-Some.ensures.1 in
     rw (r.1, r.2) (tuple_fails (part_in c.args.at.primes (scope_at (listed c.args.entries.now) c.args.at.scope) c.args.at.bound c.args.tree.now) c.in_ok-found.found.form c.in-Some.items
     (scope_at (listed c.find_head.new.entries) c.in_ok-found.found.scope) c.args.at.bound c.in_ok-found.found.primes c.args.place c.in_err-many-in-Some.field-0.0 c.args.at.room c.args.at.left
-    (c.in_ok-found.ensures.same c.args.at.bound) (sym c.tuple_items.ensures ∙ c.in-Some.is) c.in_err-many-in-Some.ensures.same)
+    (c.in_ok-found.ensures.same c.args.at.bound) (sym c.tuple_items.ensures ∙ c.in-Some.is) (rw c.as_slice.ensures.value at c.in_err-many-in-Some.ensures.same))
 
 pub unchanged::kept-returns-in_ok-many-in-Some-clause-same : goal.unchanged::kept-returns-in_ok-many-in-Some-clause-same
 unchanged::kept-returns-in_ok-many-in-Some-clause-same t c =
     tuple_gives (part_in c.args.at.primes (scope_at (listed c.args.entries.now) c.args.at.scope) c.args.at.bound c.args.tree.now) c.in_ok-found.found.form c.in-Some.items
     (scope_at (listed c.find_head.new.entries) c.in_ok-found.found.scope) c.args.at.bound c.in_ok-found.found.primes c.args.place (map expr_of c.in_ok-many-in-Some.many.parts.items) (expr_of c.kept_core.result) c.in_ok-many-in-Some.many.left c.args.at.room c.args.at.left
-    (c.in_ok-found.ensures.same c.args.at.bound) (sym c.tuple_items.ensures ∙ c.in-Some.is) c.in_ok-many-in-Some.ensures.same c.kept_core.ensures
+    (c.in_ok-found.ensures.same c.args.at.bound) (sym c.tuple_items.ensures ∙ c.in-Some.is) (rw c.as_slice.ensures.value at c.in_ok-many-in-Some.ensures.same) c.kept_core.ensures
 
 pub binding::nested-returns-in_err-inner-clause-same : goal.binding::nested-returns-in_err-inner-clause-same
 binding::nested-returns-in_err-inner-clause-same t c =
@@ -670,12 +686,12 @@ unchanged::changed-returns-clause-same t c =
 pub node_of-returns-in-Fields-clause-same : goal.node_of-returns-in-Fields-clause-same
 node_of-returns-in-Fields-clause-same t c =
     let m = c.in-Fields in
-    rw (fields_form c.args.form (scope_at (listed c.args.entries.now) c.args.at.scope) c.args.at.bound c.args.at.primes m.place m.node m.fields m.is) c.fields_node.ensures.same
+    rw (fields_form c.args.form (scope_at (listed c.args.entries.now) c.args.at.scope) c.args.at.bound c.args.at.primes m.place m.node m.fields m.is) (rw c.as_slice-in-Fields.ensures.value at c.fields_node.ensures.same)
 
 pub node_of-returns-in-Except-clause-same : goal.node_of-returns-in-Except-clause-same
 node_of-returns-in-Except-clause-same t c =
     let m = c.in-Except in
-    rw (except_form c.args.form (scope_at (listed c.args.entries.now) c.args.at.scope) c.args.at.bound c.args.at.primes m.place m.function m.updates m.is) c.except_node.ensures.same
+    rw (except_form c.args.form (scope_at (listed c.args.entries.now) c.args.at.scope) c.args.at.bound c.args.at.primes m.place m.function m.updates m.is) (rw (c.deref-in-Except.ensures, c.as_slice-in-Except.ensures.value) at c.except_node.ensures.same)
 
 pub updates::step_of-returns-in-Index-clause-same : goal.updates::step_of-returns-in-Index-clause-same
 updates::step_of-returns-in-Index-clause-same t c =
@@ -786,32 +802,32 @@ lists::key-returns-in-len1-up-clause-same t c =
 pub node_of-returns-in-Index-clause-same : goal.node_of-returns-in-Index-clause-same
 node_of-returns-in-Index-clause-same t c =
     let m = c.in-Headed in
-    rw (index_form c.args.form (scope_at (listed c.args.entries.now) c.args.at.scope) c.args.at.bound c.args.at.primes m.place m.first m.others (rw c.in-Index.is at m.is)) c.index_node.ensures.same
+    rw (index_form c.args.form (scope_at (listed c.args.entries.now) c.args.at.scope) c.args.at.bound c.args.at.primes m.place m.first m.others (rw c.in-Index.is at m.is)) (rw (c.deref-in-Index.ensures, c.as_slice-in-Index.ensures.value) at c.index_node.ensures.same)
 
 pub node_of-returns-in-Product-clause-same : goal.node_of-returns-in-Product-clause-same
 node_of-returns-in-Product-clause-same t c =
     let m = c.in-Headed in
-    rw (product_form c.args.form (scope_at (listed c.args.entries.now) c.args.at.scope) c.args.at.bound c.args.at.primes m.place m.first m.others (rw c.in-Product.is at m.is)) c.product_node.ensures.same
+    rw (product_form c.args.form (scope_at (listed c.args.entries.now) c.args.at.scope) c.args.at.bound c.args.at.primes m.place m.first m.others (rw c.in-Product.is at m.is)) (rw (c.deref-in-Product.ensures, c.as_slice-in-Product.ensures.value) at c.product_node.ensures.same)
 
 pub node_of-returns-in-None-clause-same : goal.node_of-returns-in-None-clause-same
 node_of-returns-in-None-clause-same t c =
     let m = c.in-Cases in
-    rw (cases_form c.args.form (scope_at (listed c.args.entries.now) c.args.at.scope) c.args.at.bound c.args.at.primes m.place m.arms (rw c.in-None.is at m.is)) c.cases_node.ensures.same
+    rw (cases_form c.args.form (scope_at (listed c.args.entries.now) c.args.at.scope) c.args.at.bound c.args.at.primes m.place m.arms (rw c.in-None.is at m.is)) (rw c.as_slice-in-None.ensures.value at c.cases_node.ensures.same)
 
 pub node_of-returns-in-Some-clause-same : goal.node_of-returns-in-Some-clause-same
 node_of-returns-in-Some-clause-same t c =
     let m = c.in-Cases in
-    rw (cases_or_form c.args.form (scope_at (listed c.args.entries.now) c.args.at.scope) c.args.at.bound c.args.at.primes m.place m.arms c.in-Some.last (rw c.in-Some.is at m.is)) c.cases_or_node.ensures.same
+    rw (cases_or_form c.args.form (scope_at (listed c.args.entries.now) c.args.at.scope) c.args.at.bound c.args.at.primes m.place m.arms c.in-Some.last (rw c.in-Some.is at m.is)) (rw (c.as_slice-in-Some.ensures.value, c.deref-in-Some.ensures) at c.cases_or_node.ensures.same)
 
 pub node_of-returns-in-Box-clause-same : goal.node_of-returns-in-Box-clause-same
 node_of-returns-in-Box-clause-same t c =
     let m = c.in-Action in
-    rw (square_form c.args.form (scope_at (listed c.args.entries.now) c.args.at.scope) c.args.at.bound c.args.at.primes m.place m.place_v m.action m.v (rw c.in-Box.is at m.is)) c.square_node.ensures.same
+    rw (square_form c.args.form (scope_at (listed c.args.entries.now) c.args.at.scope) c.args.at.bound c.args.at.primes m.place m.place_v m.action m.v (rw c.in-Box.is at m.is)) (rw (c.deref-in-Box.ensures, c.deref-in-Box-2.ensures) at c.square_node.ensures.same)
 
 pub node_of-returns-in-Angle-clause-same : goal.node_of-returns-in-Angle-clause-same
 node_of-returns-in-Angle-clause-same t c =
     let m = c.in-Action in
-    rw (angle_form c.args.form (scope_at (listed c.args.entries.now) c.args.at.scope) c.args.at.bound c.args.at.primes m.place m.place_v m.action m.v (rw c.in-Angle.is at m.is)) c.angle_node.ensures.same
+    rw (angle_form c.args.form (scope_at (listed c.args.entries.now) c.args.at.scope) c.args.at.bound c.args.at.primes m.place m.place_v m.action m.v (rw c.in-Angle.is at m.is)) (rw (c.deref-in-Angle.ensures, c.deref-in-Angle-2.ensures) at c.angle_node.ensures.same)
 
 pub binding::gather_node-openings_of-requires : goal.binding::gather_node-openings_of-requires
 binding::gather_node-openings_of-requires t c =

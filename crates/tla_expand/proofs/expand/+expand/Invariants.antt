@@ -44,6 +44,9 @@ decreases-levels::kept_subscript l = 12 * l.at.room
 abbrev pub decreases-levels::changed_subscript : goal.decreases-levels::changed_subscript
 decreases-levels::changed_subscript l = 12 * l.at.room + 2
 
+abbrev pub decreases-use_node : goal.decreases-use_node
+decreases-use_node l = 12 * l.at.room + 5
+
 abbrev pub decreases-one_node : goal.decreases-one_node
 decreases-one_node l = 12 * l.at.room + 4
 

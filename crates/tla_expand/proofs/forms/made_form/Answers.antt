@@ -6,26 +6,26 @@ use Rattle.tla_expand.proofs.forms.made_form.Goals as goal
 pub returns-in-Record : goal.returns-in-Record
 returns-in-Record c =
     let m = c.in-Record in
-    let same : view c.args.tree.now ≡ t.Record m.at (t.fields (map field_view c.as_slice.result.now)) = rw (m.is, c.as_slice.ensures.value) (ap (λ x. t.Record m.at x) (field_views_items m.fields)) in
+    let same : view c.args.tree.now ≡ t.Record m.at (t.fields (map field_view m.fields.items)) = rw m.is (ap (λ x. t.Record m.at x) (field_views_items m.fields)) in
     λ σ d. rw (same, c.place_of-in-Record.ensures) refl
 
 pub returns-in-RecordSet : goal.returns-in-RecordSet
 returns-in-RecordSet c =
     let m = c.in-RecordSet in
-    let same : view c.args.tree.now ≡ t.RecordSet m.at (t.fields (map field_view c.as_slice-in-RecordSet.result.now)) =
-    rw (m.is, c.as_slice-in-RecordSet.ensures.value) (ap (λ x. t.RecordSet m.at x) (field_views_items m.fields)) in
+    let same : view c.args.tree.now ≡ t.RecordSet m.at (t.fields (map field_view m.fields.items)) =
+    rw m.is (ap (λ x. t.RecordSet m.at x) (field_views_items m.fields)) in
     λ σ d. rw (same, c.place_of-in-RecordSet.ensures) refl
 
 pub returns-in-Product : goal.returns-in-Product
 returns-in-Product c =
     let m = c.in-Product in
-    let same : view c.args.tree.now ≡ t.Product m.at (view c.deref-in-Product.result.now) (t.trees (map view c.as_slice-in-Product.result.now)) =
-    rw (m.is, c.as_slice-in-Product.ensures.value, c.deref-in-Product.ensures) (ap (λ x. t.Product m.at (view m.first.value) x) (views_items m.others)) in
+    let same : view c.args.tree.now ≡ t.Product m.at (view m.first.value) (t.trees (map view m.others.items)) =
+    rw m.is (ap (λ x. t.Product m.at (view m.first.value) x) (views_items m.others)) in
     λ σ d. rw (same, c.place_of-in-Product.ensures) refl
 
 pub returns-in-Except : goal.returns-in-Except
 returns-in-Except c =
     let m = c.in-Except in
-    let same : view c.args.tree.now ≡ t.Except m.at (view c.deref-in-Except.result.now) (t.updates (map update_view c.as_slice-in-Except.result.now)) =
-    rw (m.is, c.as_slice-in-Except.ensures.value, c.deref-in-Except.ensures) (ap (λ x. t.Except m.at (view m.function.value) x) (update_views_items m.updates)) in
+    let same : view c.args.tree.now ≡ t.Except m.at (view m.function.value) (t.updates (map update_view m.updates.items)) =
+    rw m.is (ap (λ x. t.Except m.at (view m.function.value) x) (update_views_items m.updates)) in
     λ σ d. rw (same, c.place_of-in-Except.ensures) refl

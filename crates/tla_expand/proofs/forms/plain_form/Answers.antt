@@ -7,11 +7,11 @@ use Rattle.tla_expand.proofs.forms.plain_form.Goals as goal
 pub returns-in-Listing : goal.returns-in-Listing
 returns-in-Listing c =
     let m = c.in-Listing in
-    let same : view c.args.tree.now ≡ t.Listing m.at m.brackets (t.trees (map view c.as_slice.result.now)) = rw (m.is, c.as_slice.ensures.value) (ap (λ x. t.Listing m.at m.brackets x) (views_items m.items)) in
-    λ σ d. rw (same, c.of_brackets-node.ensures, c.place_of-in-Listing.ensures) (expand_listing m.at m.brackets (t.trees (map view c.as_slice.result.now)) σ d)
+    let same : view c.args.tree.now ≡ t.Listing m.at m.brackets (t.trees (map view m.items.items)) = rw m.is (ap (λ x. t.Listing m.at m.brackets x) (views_items m.items)) in
+    λ σ d. rw (same, c.of_brackets-node.ensures, c.place_of-in-Listing.ensures) (expand_listing m.at m.brackets (t.trees (map view m.items.items)) σ d)
 
 pub returns-in-Junction : goal.returns-in-Junction
 returns-in-Junction c =
     let m = c.in-Junction in
-    let same : view c.args.tree.now ≡ t.Junction m.at m.bullet (t.trees (map view c.as_slice-in-Junction.result.now)) = rw (m.is, c.as_slice-in-Junction.ensures.value) (ap (λ x. t.Junction m.at m.bullet x) (views_items m.items)) in
-    λ σ d. rw (same, c.of_bullet-node.ensures, c.place_of-in-Junction.ensures) (expand_junction m.at m.bullet (t.trees (map view c.as_slice-in-Junction.result.now)) σ d)
+    let same : view c.args.tree.now ≡ t.Junction m.at m.bullet (t.trees (map view m.items.items)) = rw m.is (ap (λ x. t.Junction m.at m.bullet x) (views_items m.items)) in
+    λ σ d. rw (same, c.of_bullet-node.ensures, c.place_of-in-Junction.ensures) (expand_junction m.at m.bullet (t.trees (map view m.items.items)) σ d)

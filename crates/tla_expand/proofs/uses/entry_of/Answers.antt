@@ -11,6 +11,6 @@ returns-in-Operator-clause-scope c =
 pub returns-in-Function-clause-scope : goal.returns-in-Function-clause-scope
 returns-in-Function-clause-scope c =
     let m = c.in-Function in
-    let same : definition_view c.args.definition.now ≡ t.DefinesFunction m.name (t.binders (map group_view c.as_slice.result.now)) (view m.body) =
-    rw (m.is, c.as_slice.ensures.value) (ap (λ x. t.DefinesFunction m.name x (view m.body)) (bound_views_items m.groups)) in
+    let same : definition_view c.args.definition.now ≡ t.DefinesFunction m.name (t.binders (map group_view m.groups.items)) (view m.body) =
+    rw m.is (ap (λ x. t.DefinesFunction m.name x (view m.body)) (bound_views_items m.groups)) in
     rw (same, c.as_bytes-in-Function.ensures, c.place_of.ensures) refl

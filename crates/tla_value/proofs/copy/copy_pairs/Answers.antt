@@ -1,29 +1,13 @@
-use Rattle.std.proofs.Common.{◌∙◌, ◌++◌, ◌∷◌, [], take, zip, map, sym, ap, arith, add-one}
-use Rattle.std.proofs.Math.Seq.{take-suc}
-use Rattle.std.proofs.lemmas.List.{take_all}
+use Rattle.std.proofs.Common.{◌≡◌, ◌∙◌, map, subst, IfOk}
 use Rattle.tla_value.specs.TreeOf.{pair_of}
-use Rattle.tla_value.proofs.Pairs.{at-zip, length-zip, same-length, pairs-back}
+use Rattle.tla_value.proofs.Pairs.{same-length, pairs-back}
 use Rattle.tla_value.proofs.copy.copy_pairs.Goals as goal
 
-pub loop-i-preserved : goal.loop-i-preserved
-loop-i-preserved c =
-    let ks = c.items-arguments.result.now in
-    let vs = c.values-values.result.now in
-    let k = c.index-arguments-i.result in
-    let v = c.index-values-i.result in
-    let long = same-length ks vs c.args.of.now (c.items-arguments.ensures.items ∙ c.in_ok-domain.ensures.ok) c.values-values.ensures.values in
-    let is = at-zip ks vs c.loop-i.i k v (omega (arith, long, c.loop-i-test.true)) c.loop-i-test.true c.index-arguments-i.is c.index-values-i.is in
-    rw add-one
-    (c.in_ok-push.ensures.items
-    ∙ (λ j. c.loop-i.invariant j ++ (c.in_ok-argument.ensures.ok j, c.in_ok-value.ensures.ok j) ∷ [])
-    ∙ ap (λ p. take c.loop-i.i (zip ks vs) ++ p ∷ []) is
-    ∙ sym (take-suc (zip ks vs) c.loop-i.i (k, v) (omega (arith, length-zip ks vs long, c.loop-i-test.true))))
+pub copy_zipped-requires : goal.copy_zipped-requires
+copy_zipped-requires c = same-length _ _ c.args.of.now (c.items.ensures.items ∙ c.in_ok-domain.ensures.ok) c.values-values.ensures.values
 
 pub returns-clause-ok : goal.returns-clause-ok
 returns-clause-ok c =
-    let ks = c.items-arguments.result.now in
-    let vs = c.values-values.result.now in
-    let arguments = c.items-arguments.ensures.items ∙ c.in_ok-domain.ensures.ok in
-    let long = same-length ks vs c.args.of.now arguments c.values-values.ensures.values in
-    ap (map pair_of) (c.loop-i.invariant ∙ take_all c.loop-i.i (zip ks vs) (omega (arith, length-zip ks vs long, c.loop-i-test.false)))
-    ∙ pairs-back ks vs c.args.of.now arguments c.values-values.ensures.values
+    subst (λ ps. IfOk c.copy_zipped.result (λ v. map pair_of v.items ≡ ps))
+    (pairs-back c.items.result.now c.values-values.result.now c.args.of.now (c.items.ensures.items ∙ c.in_ok-domain.ensures.ok) c.values-values.ensures.values)
+    c.copy_zipped.ensures.ok

@@ -6,51 +6,64 @@ use Rattle.tla_value.specs.TreeOf.{tree_of, pair_of}
 use Rattle.tla_value.specs.Arguments.{numbers_from}
 use Rattle.tla_value.specs.declared.value.Value.{Value}
 use Rattle.tla_value.specs.declared.value.Value.TheVariants.{Int}
-use Rattle.tla_value.specs.Text.{text_of, member_texts, field_texts, pair_texts}
+use Rattle.tla_value.specs.Text.{text_of, field_name, joined, member_texts, field_texts, pair_texts}
 use Rattle.tla_value.proofs.Parts.{depth-member-is}
 use Rattle.tla_value.proofs.Pairs.{at-zip, length-zip, deepest-zip, length-numbers, get_or-numbers, value-count, pairs-back, deepest-values, same-length}
-use Rattle.tla_value.proofs.Shown.{next_member, next_field, next_pair, length-member_texts, length-field_texts, length-pair_texts, puts_more, puts_stopped, puts_listed, text-of-sequence, text-of-record, text-of-pairs, text-of-numbers, text-of-counted}
+use Rattle.tla_value.proofs.Shown.{next_member, next_field, next_pair, length-member_texts, length-field_texts, length-pair_texts, puts_more, puts_cut, puts_joined, puts_stopped, puts_listed, text-of-sequence, text-of-record, text-of-pairs, text-of-numbers, text-of-counted}
 use Rattle.tla_value.proofs.show.+show.Goals as goal
 
--- ---- sets
+-- ---- sets and sequences
+pub put_item-returns-in_err-written : goal.put_item-returns-in_err-written
+put_item-returns-in_err-written g t c = puts_exit _ _ c.from_residual.ensures.1 (puts_short (text_of (tree_of c.args.item.now)) c.in_err-written.ensures)
+
 pub put_item-returns : goal.put_item-returns
 put_item-returns g t c = puts_then c.in_ok-written.ensures c.put_value.ensures
 
-pub put_set-put_item-requires : goal.put_set-put_item-requires
-put_set-put_item-requires g t c κs within =
-    (omega (arith, depth-member-is c.items-items.result.now c.loop-i.i c.index-items-i.result c.index-items-i.is, ap (λ ts. deepest (trees ts)) c.items-items.ensures.items), within)
+pub put_items-put_item-requires : goal.put_items-put_item-requires
+put_items-put_item-requires g t c κs within = (omega (arith, depth-member-is c.args.items.now c.loop-i.i c.index-items-i.result c.index-items-i.is), within)
 
-pub put_set-loop-i-preserved : goal.put_set-loop-i-preserved
-put_set-loop-i-preserved g t c =
-    rw add-one (puts_more (next_member (codes ", ") c.items-items.result.now c.loop-i.i c.index-items-i.result c.loop-i-test.true c.index-items-i.is) c.loop-i.invariant c.in_ok-written-2.ensures)
+pub put_items-loop-i-preserved : goal.put_items-loop-i-preserved
+put_items-loop-i-preserved g t c =
+    rw add-one (puts_more (next_member (codes ", ") c.args.items.now c.loop-i.i c.index-items-i.result c.loop-i-test.true c.index-items-i.is) c.loop-i.invariant c.in_ok-written.ensures)
+
+pub put_items-returns-in_err-written : goal.put_items-returns-in_err-written
+put_items-returns-in_err-written g t c =
+    puts_exit _ _ c.from_residual.ensures.1 (puts_cut (next_member (codes ", ") c.args.items.now c.loop-i.i c.index-items-i.result c.loop-i-test.true c.index-items-i.is) c.loop-i.invariant c.in_err-written.ensures)
+
+pub put_items-returns : goal.put_items-returns
+put_items-returns g t c = puts_joined (codes ", ") (member_texts (trees (map tree_of c.args.items.now))) c.loop-i.i (omega (arith, length-member_texts c.args.items.now)) c.loop-i.invariant
+
+pub put_set-put_items-requires : goal.put_set-put_items-requires
+put_set-put_items-requires g t c κs within = (omega (arith, ap (λ ts. deepest (trees ts)) c.items-items.ensures.items), within)
+
+pub put_set-returns-in_err-written : goal.put_set-returns-in_err-written
+put_set-returns-in_err-written g t c =
+    puts_exit _ _ c.from_residual.ensures.1 (puts_short (joined (codes ", ") (member_texts (trees c.args.of.now)) ++ codes "}") c.in_err-written.ensures)
 
 pub put_set-returns-in_err-written-2 : goal.put_set-returns-in_err-written-2
 put_set-returns-in_err-written-2 g t c =
     rw (← c.items-items.ensures.items)
-    (puts_exit _ _ c.from_residual-in_err-written-2.ensures.1 (puts_stopped (codes "}") (next_member (codes ", ") c.items-items.result.now c.loop-i.i c.index-items-i.result c.loop-i-test.true c.index-items-i.is)
-    c.in_ok-written.ensures c.loop-i.invariant c.in_err-written-2.ensures))
+    (puts_exit _ _ c.from_residual-in_err-written-2.ensures.1 (puts_then c.in_ok-written.ensures (puts_short (codes "}") c.in_err-written-2.ensures)))
 
 pub put_set-returns : goal.put_set-returns
-put_set-returns g t c =
-    rw (← c.items-items.ensures.items) (puts_listed (codes ", ") (member_texts (trees (map tree_of c.items-items.result.now))) c.loop-i.i (omega (arith, length-member_texts c.items-items.result.now)) c.in_ok-written.ensures c.loop-i.invariant c.put-2.ensures)
+put_set-returns g t c = rw (← c.items-items.ensures.items) (puts_then c.in_ok-written.ensures (puts_then c.in_ok-written-2.ensures c.put-2.ensures))
 
--- ---- sequences
-pub put_sequence-put_item-requires : goal.put_sequence-put_item-requires
-put_sequence-put_item-requires g t c κs within = (omega (arith, depth-member-is c.args.values.now c.loop-i.i c.index-values-i.result c.index-values-i.is), within)
-
-pub put_sequence-loop-i-preserved : goal.put_sequence-loop-i-preserved
-put_sequence-loop-i-preserved g t c =
-    rw add-one (puts_more (next_member (codes ", ") c.args.values.now c.loop-i.i c.index-values-i.result c.loop-i-test.true c.index-values-i.is) c.loop-i.invariant c.in_ok-written-2.ensures)
+pub put_sequence-returns-in_err-written : goal.put_sequence-returns-in_err-written
+put_sequence-returns-in_err-written g t c =
+    puts_exit _ _ c.from_residual.ensures.1 (puts_short (joined (codes ", ") (member_texts (trees (map tree_of c.args.values.now))) ++ codes ">>") c.in_err-written.ensures)
 
 pub put_sequence-returns-in_err-written-2 : goal.put_sequence-returns-in_err-written-2
 put_sequence-returns-in_err-written-2 g t c =
-    puts_exit _ _ c.from_residual-in_err-written-2.ensures.1 (puts_stopped (codes ">>") (next_member (codes ", ") c.args.values.now c.loop-i.i c.index-values-i.result c.loop-i-test.true c.index-values-i.is)
-    c.in_ok-written.ensures c.loop-i.invariant c.in_err-written-2.ensures)
+    puts_exit _ _ c.from_residual-in_err-written-2.ensures.1 (puts_then c.in_ok-written.ensures (puts_short (codes ">>") c.in_err-written-2.ensures))
 
 pub put_sequence-returns : goal.put_sequence-returns
-put_sequence-returns g t c = puts_listed (codes ", ") (member_texts (trees (map tree_of c.args.values.now))) c.loop-i.i (omega (arith, length-member_texts c.args.values.now)) c.in_ok-written.ensures c.loop-i.invariant c.put-2.ensures
+put_sequence-returns g t c = puts_then c.in_ok-written.ensures (puts_then c.in_ok-written-2.ensures c.put-2.ensures)
 
 -- ---- records
+pub put_field-returns-in_err-written : goal.put_field-returns-in_err-written
+put_field-returns-in_err-written g t c =
+    puts_exit _ _ c.from_residual.ensures.1 (puts_short (field_name (tree_of c.args.name.now) ++ (codes " |-> " ++ text_of (tree_of c.args.value.now))) c.in_err-written.ensures)
+
 pub put_field-returns-in_err-written-2 : goal.put_field-returns-in_err-written-2
 put_field-returns-in_err-written-2 g t c =
     puts_exit _ _ c.from_residual-in_err-written-2.ensures.1
@@ -75,6 +88,10 @@ put_record-loop-i-preserved g t c =
     let is = at-zip ks vs c.loop-i.i c.index-names-i.result c.index-values-i.result c.loop-i-test.true (omega (arith, c.requires, c.loop-i-test.true)) c.index-names-i.is c.index-values-i.is in
     rw add-one (puts_more (next_field (codes ", ") (zip ks vs) c.loop-i.i (c.index-names-i.result, c.index-values-i.result) (omega (arith, c.requires, length-zip ks vs c.requires, c.loop-i-test.true)) is) c.loop-i.invariant c.in_ok-written-2.ensures)
 
+pub put_record-returns-in_err-written : goal.put_record-returns-in_err-written
+put_record-returns-in_err-written g t c =
+    puts_exit _ _ c.from_residual.ensures.1 (puts_short (joined (codes ", ") (field_texts (pairs (map pair_of (zip c.args.names.now c.args.values.now)))) ++ codes "]") c.in_err-written.ensures)
+
 pub put_record-returns-in_err-written-2 : goal.put_record-returns-in_err-written-2
 put_record-returns-in_err-written-2 g t c =
     let ks = c.args.names.now in
@@ -89,6 +106,10 @@ put_record-returns g t c =
     puts_listed (codes ", ") (field_texts (pairs (map pair_of ps))) c.loop-i.i (omega (arith, length-field_texts ps, length-zip c.args.names.now c.args.values.now c.requires, c.requires, c.loop-i-test.false)) c.in_ok-written.ensures c.loop-i.invariant c.put-2.ensures
 
 -- ---- other functions
+pub put_pair-returns-in_err-written : goal.put_pair-returns-in_err-written
+put_pair-returns-in_err-written g t c =
+    puts_exit _ _ c.from_residual.ensures.1 (puts_short (text_of (tree_of c.args.argument.now) ++ (codes " :> " ++ text_of (tree_of c.args.value.now))) c.in_err-written.ensures)
+
 pub put_pair-returns-in_err-written-2 : goal.put_pair-returns-in_err-written-2
 put_pair-returns-in_err-written-2 g t c =
     puts_exit _ _ c.from_residual-in_err-written-2.ensures.1
@@ -113,6 +134,10 @@ put_pairs-loop-i-preserved g t c =
     let is = at-zip ks vs c.loop-i.i c.index-arguments-i.result c.index-values-i.result c.loop-i-test.true (omega (arith, c.requires, c.loop-i-test.true)) c.index-arguments-i.is c.index-values-i.is in
     rw add-one (puts_more (next_pair (codes " @@ ") (zip ks vs) c.loop-i.i (c.index-arguments-i.result, c.index-values-i.result) (omega (arith, c.requires, length-zip ks vs c.requires, c.loop-i-test.true)) is) c.loop-i.invariant c.in_ok-written-2.ensures)
 
+pub put_pairs-returns-in_err-written : goal.put_pairs-returns-in_err-written
+put_pairs-returns-in_err-written g t c =
+    puts_exit _ _ c.from_residual.ensures.1 (puts_short (joined (codes " @@ ") (pair_texts (pairs (map pair_of (zip c.args.arguments.now c.args.values.now)))) ++ codes ")") c.in_err-written.ensures)
+
 pub put_pairs-returns-in_err-written-2 : goal.put_pairs-returns-in_err-written-2
 put_pairs-returns-in_err-written-2 g t c =
     let ks = c.args.arguments.now in
@@ -127,8 +152,8 @@ put_pairs-returns g t c =
     puts_listed (codes " @@ ") (pair_texts (pairs (map pair_of ps))) c.loop-i.i (omega (arith, length-pair_texts ps, length-zip c.args.arguments.now c.args.values.now c.requires, c.requires, c.loop-i-test.false)) c.in_ok-written.ensures c.loop-i.invariant c.put-2.ensures
 
 -- ---- functions on numbers
-pub put_numbered-put_pair-requires : goal.put_numbered-put_pair-requires
-put_numbered-put_pair-requires g t c κs within = (omega (arith, depth-member-is c.args.values.now c.loop-i.i c.index-values-i.result c.index-values-i.is), within)
+pub put_numbered-put_numbered_pair-requires : goal.put_numbered-put_numbered_pair-requires
+put_numbered-put_numbered_pair-requires g t c κs within = (omega (arith, depth-member-is c.args.values.now c.loop-i.i c.index-values-i.result c.index-values-i.is), within)
 
 pub put_numbered-loop-i-preserved : goal.put_numbered-loop-i-preserved
 put_numbered-loop-i-preserved g t c =
@@ -141,6 +166,10 @@ put_numbered-loop-i-preserved g t c =
     let next : to_z w64 (of_z w64 (z +ℤ to_z w64 i)) ≡ z +ℤ pos i = omega (arith, ints) in
     let is = at-zip (numbers_from n z) vs i k v (omega (arith, length-numbers n z, c.loop-i-test.true)) c.loop-i-test.true (sym (get_or-numbers n z i k c.loop-i-test.true)) c.index-values-i.is in
     rw add-one (puts_more (next_pair (codes " @@ ") (zip (numbers_from n z) vs) i (k, v) (omega (arith, length-zip (numbers_from n z) vs (length-numbers n z), c.loop-i-test.true)) is) c.loop-i.invariant (rw next at c.in_ok-written-2.ensures))
+
+pub put_numbered-returns-in_err-written : goal.put_numbered-returns-in_err-written
+put_numbered-returns-in_err-written g t c =
+    puts_exit _ _ c.from_residual.ensures.1 (puts_short (joined (codes " @@ ") (pair_texts (pairs (map pair_of (zip (numbers_from (length c.args.values.now) c.args.first) c.args.values.now)))) ++ codes ")") c.in_err-written.ensures)
 
 pub put_numbered-returns-in_err-written-2 : goal.put_numbered-returns-in_err-written-2
 put_numbered-returns-in_err-written-2 g t c =

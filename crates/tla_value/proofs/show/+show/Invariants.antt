@@ -16,6 +16,9 @@ decreases-put_set g l = 6 * deepest (trees l.of.now) + 4
 abbrev pub decreases-put_item : goal.decreases-put_item
 decreases-put_item g l = 6 * depth (tree_of l.item.now) + 1
 
+abbrev pub decreases-put_items : goal.decreases-put_items
+decreases-put_items g l = 6 * deepest (trees (map tree_of l.items.now)) + 2
+
 abbrev pub decreases-put_function : goal.decreases-put_function
 decreases-put_function g l = 6 * deepest_pair (pairs l.of.now) + 5
 
@@ -40,17 +43,16 @@ decreases-put_pairs g l = 6 * deepest_pair (pairs (map pair_of (zip l.arguments.
 abbrev pub decreases-put_field : goal.decreases-put_field
 decreases-put_field g l = 6 * depth (tree_of l.value.now) + 1
 
+abbrev pub decreases-put_numbered_pair : goal.decreases-put_numbered_pair
+decreases-put_numbered_pair g l = 6 * depth (tree_of l.value.now) + 2
+
 abbrev pub decreases-put_pair : goal.decreases-put_pair
 decreases-put_pair g l = 6 * max (depth (tree_of l.argument.now)) (depth (tree_of l.value.now)) + 1
 
 -- the first texts went out
-abbrev pub invariant-put_set-loop-i : goal.invariant-put_set-loop-i
-invariant-put_set-loop-i g l =
+abbrev pub invariant-put_items-loop-i : goal.invariant-put_items-loop-i
+invariant-put_items-loop-i g l =
     Puts (g.W.Write.contents l.initial.out) (g.W.Write.contents l.out) l.initial.written (joined (codes ", ") (take l.i (member_texts (trees (map tree_of l.items))))) (Ok l.written)
-
-abbrev pub invariant-put_sequence-loop-i : goal.invariant-put_sequence-loop-i
-invariant-put_sequence-loop-i g l =
-    Puts (g.W.Write.contents l.initial.out) (g.W.Write.contents l.out) l.initial.written (joined (codes ", ") (take l.i (member_texts (trees (map tree_of l.values))))) (Ok l.written)
 
 abbrev pub invariant-put_record-loop-i : goal.invariant-put_record-loop-i
 invariant-put_record-loop-i g l =

@@ -1,0 +1,47 @@
+//! The reader of the expressions in an expression.
+
+ghost use Rattle.std.specs.Prelude.{ℕ};
+ghost use Rattle.tla_expressions.specs.Reading.{expr};
+ghost use Rattle.tla_expressions.specs.Gives.{Gives};
+ghost use Rattle.tla_expressions.specs.Private.Nests.{Nests};
+
+use crate::parts::Parsed;
+use std::alloc::Global;
+use tla_grammar::{Context, Refusal};
+use tla_lex::Token;
+
+/// What reads an expression of so many levels at most, in a context, whose top is above a floor.
+pub trait Reader {
+    ghost reads_to: { Self → ℕ → Type 0 };
+
+    fn read(
+        &self,
+        alloc: Global,
+        text: &[u8],
+        tokens: &[Token],
+        depth: usize,
+        context: Context,
+        floor: u8,
+        at: usize,
+    ) -> Result<Parsed, Refusal>
+        requires { reads_to self.now depth }
+        ensures { Gives text.now tokens.now depth result (expr text.now tokens.now depth context floor at) };
+}
+
+impl<F: Fn(Global, &[u8], &[Token], usize, Context, u8, usize) -> Result<Parsed, Refusal>> Reader
+    for F {
+    ghost reads_to = { λ f depth. Nests depth (F.pre f) (F.post f) };
+
+    fn read(
+        &self,
+        alloc: Global,
+        text: &[u8],
+        tokens: &[Token],
+        depth: usize,
+        context: Context,
+        floor: u8,
+        at: usize,
+    ) -> Result<Parsed, Refusal> {
+        self(alloc, text, tokens, depth, context, floor, at)
+    }
+}
