@@ -1,4 +1,2 @@
 pub mod Loops
 pub mod Parts
-pub mod FixedTrees
-pub mod KnownParts

@@ -172,8 +172,7 @@ pub(crate) fn three_core(
     }
 }
 
-/// A conjunction of its parts.
-pub(crate) fn conjunction(place: Place, parts: Vec<Core>) -> Core
+fn conjunction(place: Place, parts: Vec<Core>) -> Core
     ensures { expr_of result ≡ expr.conjunction place (exprs (map expr_of parts.items)) }
 {
     Core::Conjunction(place, parts)
@@ -185,19 +184,16 @@ fn disjunction(place: Place, parts: Vec<Core>) -> Core
     Core::Disjunction(place, parts)
 }
 
-fn enumerated(alloc: Global, place: Place, parts: Vec<Core>) -> Result<Core, Failure>
-    ensures ok { IfOk result (λ c. expr_of c ≡ expr.enumerated place (exprs (map expr_of parts.items))) }
-    ensures err { IfErr result (λ e. e ≡ Failure.Memory) }
+fn enumerated(place: Place, parts: Vec<Core>) -> Core
+    ensures { expr_of result ≡ expr.enumerated place (exprs (map expr_of parts.items)) }
 {
-    Ok(Core::set_of(alloc, place, parts)?)
+    Core::Enumerated(place, parts)
 }
 
-/// A tuple of its parts. The only error is want of memory.
-pub(crate) fn tuple(alloc: Global, place: Place, parts: Vec<Core>) -> Result<Core, Failure>
-    ensures ok { IfOk result (λ c. expr_of c ≡ expr.tuple place (exprs (map expr_of parts.items))) }
-    ensures err { IfErr result (λ e. e ≡ Failure.Memory) }
+pub(crate) fn tuple(place: Place, parts: Vec<Core>) -> Core
+    ensures { expr_of result ≡ expr.tuple place (exprs (map expr_of parts.items)) }
 {
-    Ok(Core::tuple_of(alloc, place, parts)?)
+    Core::Tuple(place, parts)
 }
 
 fn product(place: Place, parts: Vec<Core>) -> Core
@@ -206,22 +202,16 @@ fn product(place: Place, parts: Vec<Core>) -> Core
     Core::Product(place, parts)
 }
 
-/// A node of a list of parts. The only error is want of memory.
-pub(crate) fn many_core(
-    alloc: Global,
-    place: Place,
-    node: ListNode,
-    parts: Vec<Core>,
-) -> Result<Core, Failure>
-    ensures ok { IfOk result (λ c. expr_of c ≡ nodes.many node place (exprs (map expr_of parts.items))) }
-    ensures err { IfErr result (λ e. e ≡ Failure.Memory) }
+/// A node of a list of parts.
+pub(crate) fn many_core(place: Place, node: ListNode, parts: Vec<Core>) -> Core
+    ensures { expr_of result ≡ nodes.many node place (exprs (map expr_of parts.items)) }
 {
     match node {
-        ListNode::Set => enumerated(alloc, place, parts),
-        ListNode::Tuple => tuple(alloc, place, parts),
-        ListNode::And => Ok(conjunction(place, parts)),
-        ListNode::Or => Ok(disjunction(place, parts)),
-        ListNode::Product => Ok(product(place, parts)),
+        ListNode::Set => enumerated(place, parts),
+        ListNode::Tuple => tuple(place, parts),
+        ListNode::And => conjunction(place, parts),
+        ListNode::Or => disjunction(place, parts),
+        ListNode::Product => product(place, parts),
     }
 }
 
@@ -362,27 +352,20 @@ fn function(place: Place, sets: Vec<Core>, body: Box<Core>) -> Core
     Core::Function(place, sets, body)
 }
 
-/// A node of fields. The only error is want of memory.
-pub(crate) fn fielded_core(
-    alloc: Global,
-    place: Place,
-    node: Fielded,
-    fields: Vec<(Text, Core)>,
-) -> Result<Core, Failure>
-    ensures ok { IfOk result (λ c. expr_of c ≡ nodes.fielded node place (fields_of (map named_part fields.items))) }
-    ensures err { IfErr result (λ e. e ≡ Failure.Memory) }
+/// A node of fields.
+pub(crate) fn fielded_core(place: Place, node: Fielded, fields: Vec<(Text, Core)>) -> Core
+    ensures { expr_of result ≡ nodes.fielded node place (fields_of (map named_part fields.items)) }
 {
     match node {
-        Fielded::Record => record(alloc, place, fields),
-        Fielded::Records => Ok(records(place, fields)),
+        Fielded::Record => record(place, fields),
+        Fielded::Records => records(place, fields),
     }
 }
 
-fn record(alloc: Global, place: Place, fields: Vec<(Text, Core)>) -> Result<Core, Failure>
-    ensures ok { IfOk result (λ c. expr_of c ≡ expr.record_of place (fields_of (map named_part fields.items))) }
-    ensures err { IfErr result (λ e. e ≡ Failure.Memory) }
+fn record(place: Place, fields: Vec<(Text, Core)>) -> Core
+    ensures { expr_of result ≡ expr.record_of place (fields_of (map named_part fields.items)) }
 {
-    Ok(Core::record_of(alloc, place, fields)?)
+    Core::Record(place, fields)
 }
 
 fn records(place: Place, fields: Vec<(Text, Core)>) -> Core

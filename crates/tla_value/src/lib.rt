@@ -10,7 +10,6 @@
 mod choice;
 mod copy;
 mod domain;
-mod equality;
 mod error;
 mod fun;
 mod hash;

@@ -84,9 +84,8 @@ fn tuple_of<'a>(
 {
     let inside = at.inside()?;
     let many = each(alloc, entries, items, inside)?;
-    let core = tuple(alloc, place, many.parts)?;
     Ok(Expanded {
-        core,
+        core: tuple(place, many.parts),
         left: many.left,
     })
 }

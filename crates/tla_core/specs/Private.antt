@@ -1,2 +1,0 @@
--- What serves the code: no public contract cites these.
-pub mod Known
