@@ -1,6 +1,8 @@
 -- What stands at a token.
 use Rattle.std.proofs.Common.{◌≡◌, ℕ, ◌<◌, true, false, List, Option, Some, None, ◌⊎◌, inl, inr, slice_get, refl, sym, ap, ◌∙◌, length}
 use Rattle.std.proofs.lemmas.Option.{slice_get_within}
+use Rattle.tla_lex.proofs.SameKind.{same_is}
+use Rattle.tla_lex.specs.SameKind.{same_kind}
 use Rattle.tla_lex.specs.declared.token.Kind.{Kind}
 use Rattle.tla_lex.specs.declared.token.Kind.TheVariants as k
 use Rattle.tla_lex.specs.declared.token.Place.{Place}
@@ -10,8 +12,6 @@ use Rattle.tla_tree.specs.declared.word.Written.{Written}
 use Rattle.tla_config.specs.declared.keyword.Keyword.{Keyword}
 use Rattle.tla_config.specs.declared.keyword.Keyword.TheVariants as word
 use Rattle.tla_config.specs.Configuration.{Has, Is, Begins, IsName}
-use Rattle.tla_lex.proofs.SameKind.{same_is}
-use Rattle.tla_lex.specs.SameKind.{same_kind}
 use Rattle.tla_config.specs.Private.Fronts.{unless_keyword, name_by, name_of, with_place, keyword_by, keyword_of, kind_at, digits_by, digits_of}
 use Rattle.tla_config.specs.Private.Keywords.{keywords, lookup}
 use Rattle.tla_config.specs.Names.{Name, is_among, statement_words}

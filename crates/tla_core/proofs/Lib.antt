@@ -1,2 +1,4 @@
 pub mod Loops
 pub mod Parts
+pub mod FixedTrees
+pub mod KnownParts

@@ -6,6 +6,7 @@ use Rattle.tla_value.specs.TreeOf.{tree_of}
 use Rattle.tla_core.specs.Meaning.{Meaning}
 use Rattle.tla_core.specs.Value.{means}
 use Rattle.tla_core.specs.Fits.{fits}
+use Rattle.tla_core.specs.LiteralOf.{literal_of}
 use Rattle.tla_core.specs.Expr.{Expr, Exprs, Fields, Arms, Updates, constant, bound, now, next, unary, binary, equal, sub_seq, enumerated, tuple, record_of, conjunction, disjunction, implies, conditional, cases, assert, for_all, for_some, choose, image, function, except, member, not_member, subset, kind_set, booleans, sequences, power, functions, records, product, cup, cap, minus, filtered, opened, tried, no_exprs, more_exprs, no_fields, more_fields, no_arms, other, more_arms, no_updates, more_updates}
 use Rattle.tla_core.specs.Expr as expr
 use Rattle.tla_core.specs.declared.expression.Unary.{Unary}
@@ -15,7 +16,7 @@ use Rattle.tla_core.specs.declared.expression.Binary.TheVariants.{Iff, Unequal, 
 use Rattle.tla_core.specs.declared.expression.Kind.{Kind}
 use Rattle.tla_core.specs.declared.expression.Kind.TheVariants.{Naturals, Integers, Strings}
 use Rattle.tla_core.specs.declared.expression.Core.{Core, Row_of-Core, end_of-Core, more_of-Core, Row_of-Core-Record-1-2, end_of-Core-Record-1-2, more_of-Core-Record-1-2, Row_of-Core-Cases-1-2, end_of-Core-Cases-1-2, more_of-Core-Cases-1-2, Row_of-Core-Except-2-3, end_of-Core-Except-2-3, more_of-Core-Except-2-3, Held-Core-Cases-2, None', Some'}
-use Rattle.tla_core.specs.declared.expression.Core.TheVariants.{Constant, Bound, Now, Next, Unary', Binary', Apply', Equal', Field', SubSeq', Enumerated', Tuple', Record', Conjunction', Disjunction', Implies', If', Cases', Assert', ForAll', ForSome', Choose', Image', Function', Member', NotMember', Subset', KindSet, Booleans, Sequences', Power', Functions', Records', Product', Cup', Cap', Minus', Filter', Except', Opened', Tried'}
+use Rattle.tla_core.specs.declared.expression.Core.TheVariants.{Constant, Bound, Now, Next, Unary', Binary', Apply', Equal', Field', SubSeq', Enumerated', Tuple', Record', Conjunction', Disjunction', Implies', If', Cases', Assert', ForAll', ForSome', Choose', Image', Function', Member', NotMember', Subset', KindSet, Booleans, Sequences', Power', Functions', Records', Product', Cup', Cap', Minus', Filter', Except', Opened', Tried', Literal}
 
 -- the operators
 abbrev pub unary_of : Unary → expr.Unary
@@ -96,6 +97,7 @@ abbrev mutual
   expr_of (Filter' at _ a _ e) = filtered at (expr_of a) (expr_of e)
   expr_of (Opened' at openings _ e) = opened at openings.items (expr_of e)
   expr_of (Tried' at count _ a) = tried at count (expr_of a)
+  expr_of (Literal l) = literal_of l
 
   pub exprs_of : {m : _} → Row_of-Core m → Exprs
   exprs_of end_of-Core = no_exprs

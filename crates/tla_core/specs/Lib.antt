@@ -11,5 +11,9 @@ pub mod Membership
 pub mod SetForms
 pub mod Value
 pub mod Laws
+pub mod Always
+pub mod FixedOf
+pub mod LiteralOf
 pub mod ExprOf
 pub mod Fits
+pub mod Private

@@ -2,6 +2,7 @@
 ghost use Rattle.std.specs.Prelude.{◌≡◌};
 
 use crate::fault::Place;
+use crate::literal::Literal;
 use tla_value::{Text, Value};
 
 /// An operator on one value.
@@ -151,6 +152,8 @@ pub enum Core {
     Opened(Place, Vec<Opening>, Box<Core>),
     /// A set of sequences of so many items.
     Tried(Place, usize, Box<Core>),
+    /// An expression that is made of constants alone, with its value.
+    Literal(Literal),
 }
 
 impl Core {
@@ -210,6 +213,7 @@ impl Core {
             Core::Filter(place, _, _) => place,
             Core::Opened(place, _, _) => place,
             Core::Tried(place, _, _) => place,
+            Core::Literal(literal) => literal.lent_place(),
         }
     }
 }

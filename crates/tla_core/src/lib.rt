@@ -3,8 +3,12 @@
 
 mod expression;
 mod fault;
+mod fixed;
+mod literal;
+mod making;
 mod names;
 mod primed;
 
 pub use expression::{Binary, Core, Kind, Opening, Unary};
 pub use fault::{Fault, FaultCode, Place, memory};
+pub use literal::Literal;

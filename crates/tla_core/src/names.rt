@@ -137,6 +137,7 @@ fn fits_within(core: &Core, names: Option<usize>, variables: usize, now: bool) -
                 && fits_within(body, with_items(openings, names), variables, now)
         }
         Core::Tried(_, _, set) => fits_within(set, names, variables, now),
+        Core::Literal(_) => true,
     }
 }
 

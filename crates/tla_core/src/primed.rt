@@ -70,6 +70,7 @@ fn has_next(core: &Core) -> bool
         Core::Disjunction(_, parts) => some_has_next(parts),
         Core::Opened(_, _, body) => has_next(body),
         Core::Tried(_, _, set) => has_next(set),
+        Core::Literal(_) => false,
     }
 }
 

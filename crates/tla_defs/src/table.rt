@@ -53,7 +53,7 @@ pub(crate) struct Definitions<'t, 'a> {
 }
 
 /// The name and the body of a definition, where it has no parameters.
-fn without_parameters<'a>(definition: &'a Definition) -> Option<(&'a [u8], &'a Expr)>
+fn named_body<'a>(definition: &'a Definition) -> Option<(&'a [u8], &'a Expr)>
     ensures global { (us : List UnitTree) (x : Name) → spec.body_or (option_map spec.named result) x (body_in us x) ≡ body_in (unit_tree.Defines (definition_view definition.entry.now) ∷ us) x }
     ensures local { (at : _) (us : List UnitTree) (x : Name) → spec.body_or (option_map spec.named result) x (body_in us x) ≡ body_in (unit_tree.Local at (definition_view definition.entry.now) ∷ us) x }
 {
@@ -77,7 +77,7 @@ fn defined<'a>(unit: &'a Unit) -> Option<(&'a [u8], &'a Expr)>
         Unit::Operator(name, body) | Unit::Assume(_, Some(name), body) => {
             Some((name.word.as_bytes(), body))
         }
-        Unit::Defines(definition) | Unit::Local(_, definition) => without_parameters(definition),
+        Unit::Defines(definition) | Unit::Local(_, definition) => named_body(definition),
         _ => None,
     }
 }

@@ -172,7 +172,8 @@ pub(crate) fn three_core(
     }
 }
 
-fn conjunction(place: Place, parts: Vec<Core>) -> Core
+/// A conjunction of its parts.
+pub(crate) fn conjunction(place: Place, parts: Vec<Core>) -> Core
     ensures { expr_of result ≡ expr.conjunction place (exprs (map expr_of parts.items)) }
 {
     Core::Conjunction(place, parts)
@@ -184,16 +185,19 @@ fn disjunction(place: Place, parts: Vec<Core>) -> Core
     Core::Disjunction(place, parts)
 }
 
-fn enumerated(place: Place, parts: Vec<Core>) -> Core
-    ensures { expr_of result ≡ expr.enumerated place (exprs (map expr_of parts.items)) }
+fn enumerated(alloc: Global, place: Place, parts: Vec<Core>) -> Result<Core, Failure>
+    ensures ok { IfOk result (λ c. expr_of c ≡ expr.enumerated place (exprs (map expr_of parts.items))) }
+    ensures err { IfErr result (λ e. e ≡ Failure.Memory) }
 {
-    Core::Enumerated(place, parts)
+    Ok(Core::set_of(alloc, place, parts)?)
 }
 
-pub(crate) fn tuple(place: Place, parts: Vec<Core>) -> Core
-    ensures { expr_of result ≡ expr.tuple place (exprs (map expr_of parts.items)) }
+/// A tuple of its parts. The only error is want of memory.
+pub(crate) fn tuple(alloc: Global, place: Place, parts: Vec<Core>) -> Result<Core, Failure>
+    ensures ok { IfOk result (λ c. expr_of c ≡ expr.tuple place (exprs (map expr_of parts.items))) }
+    ensures err { IfErr result (λ e. e ≡ Failure.Memory) }
 {
-    Core::Tuple(place, parts)
+    Ok(Core::tuple_of(alloc, place, parts)?)
 }
 
 fn product(place: Place, parts: Vec<Core>) -> Core
@@ -202,16 +206,22 @@ fn product(place: Place, parts: Vec<Core>) -> Core
     Core::Product(place, parts)
 }
 
-/// A node of a list of parts.
-pub(crate) fn many_core(place: Place, node: ListNode, parts: Vec<Core>) -> Core
-    ensures { expr_of result ≡ nodes.many node place (exprs (map expr_of parts.items)) }
+/// A node of a list of parts. The only error is want of memory.
+pub(crate) fn many_core(
+    alloc: Global,
+    place: Place,
+    node: ListNode,
+    parts: Vec<Core>,
+) -> Result<Core, Failure>
+    ensures ok { IfOk result (λ c. expr_of c ≡ nodes.many node place (exprs (map expr_of parts.items))) }
+    ensures err { IfErr result (λ e. e ≡ Failure.Memory) }
 {
     match node {
-        ListNode::Set => enumerated(place, parts),
-        ListNode::Tuple => tuple(place, parts),
-        ListNode::And => conjunction(place, parts),
-        ListNode::Or => disjunction(place, parts),
-        ListNode::Product => product(place, parts),
+        ListNode::Set => enumerated(alloc, place, parts),
+        ListNode::Tuple => tuple(alloc, place, parts),
+        ListNode::And => Ok(conjunction(place, parts)),
+        ListNode::Or => Ok(disjunction(place, parts)),
+        ListNode::Product => Ok(product(place, parts)),
     }
 }
 
@@ -352,20 +362,27 @@ fn function(place: Place, sets: Vec<Core>, body: Box<Core>) -> Core
     Core::Function(place, sets, body)
 }
 
-/// A node of fields.
-pub(crate) fn fielded_core(place: Place, node: Fielded, fields: Vec<(Text, Core)>) -> Core
-    ensures { expr_of result ≡ nodes.fielded node place (fields_of (map named_part fields.items)) }
+/// A node of fields. The only error is want of memory.
+pub(crate) fn fielded_core(
+    alloc: Global,
+    place: Place,
+    node: Fielded,
+    fields: Vec<(Text, Core)>,
+) -> Result<Core, Failure>
+    ensures ok { IfOk result (λ c. expr_of c ≡ nodes.fielded node place (fields_of (map named_part fields.items))) }
+    ensures err { IfErr result (λ e. e ≡ Failure.Memory) }
 {
     match node {
-        Fielded::Record => record(place, fields),
-        Fielded::Records => records(place, fields),
+        Fielded::Record => record(alloc, place, fields),
+        Fielded::Records => Ok(records(place, fields)),
     }
 }
 
-fn record(place: Place, fields: Vec<(Text, Core)>) -> Core
-    ensures { expr_of result ≡ expr.record_of place (fields_of (map named_part fields.items)) }
+fn record(alloc: Global, place: Place, fields: Vec<(Text, Core)>) -> Result<Core, Failure>
+    ensures ok { IfOk result (λ c. expr_of c ≡ expr.record_of place (fields_of (map named_part fields.items))) }
+    ensures err { IfErr result (λ e. e ≡ Failure.Memory) }
 {
-    Core::Record(place, fields)
+    Ok(Core::record_of(alloc, place, fields)?)
 }
 
 fn records(place: Place, fields: Vec<(Text, Core)>) -> Core

@@ -17,12 +17,11 @@ ghost use Rattle.tla_expand.specs.Primes.{with_primes};
 ghost use Rattle.tla_expand.specs.Scopes.{AreLinked, scope_at};
 ghost use Rattle.tla_expand.specs.Listed.{listed};
 
-use crate::builders::{many_core, place_of};
+use crate::builders::{self, place_of};
 use crate::entries::Entries;
 use crate::expand::{NODES_BELOW, PATH_BELOW, Setting, expand};
 use crate::expanded::Many;
 use crate::failure::Failure;
-use crate::nodes::ListNode;
 use crate::primes::Primes;
 use std::alloc::Global;
 use tla_core::Core;
@@ -79,5 +78,5 @@ pub(crate) fn conjunction<'a>(
     ensures none { IfErr result (λ f. f ≢ Failure.Memory → (e : expr.Expr) → with_primes primes (expansion.expand (Junction place bullet.And (trees_of (map (λ (t : Bor syntax.Expr). view t.now) trees.now))) (scope_at (listed entries.old) scope) 0) ≡ Some e → IsWithinLimits e → ⊥) }
 {
     let many = each_apart(alloc, entries, trees, scope, primes, sought)?;
-    Ok(many_core(place_of(place), ListNode::And, many.parts))
+    Ok(builders::conjunction(place_of(place), many.parts))
 }

@@ -355,8 +355,9 @@ fn many_node<'a>(
     ensures same { Gives (at.room + 1) (at.left + 1) result (made (λ xs. nodes.many node place (exprs xs)) (each_of (part_in at.primes (scope_at (listed entries.old) at.scope) at.bound) items.now)) }
 {
     let many = each(alloc, entries, items, at)?;
+    let core = many_core(alloc, place, node, many.parts)?;
     Ok(Expanded {
-        core: many_core(place, node, many.parts),
+        core,
         left: many.left,
     })
 }
@@ -485,8 +486,9 @@ fn fields_node<'a>(
     ensures same { Gives (at.room + 1) (at.left + 1) result (made (λ xs. nodes.fielded node place (fields_of xs)) (each_of (field_in at.primes (scope_at (listed entries.old) at.scope) at.bound) fields.now)) }
 {
     let made = named_parts(alloc, entries, fields, at)?;
+    let core = fielded_core(alloc, place, node, made.fields)?;
     Ok(Expanded {
-        core: fielded_core(place, node, made.fields),
+        core,
         left: made.left,
     })
 }

@@ -1,6 +1,7 @@
 -- Brackets, braces and subscripts that are spelled are read.
 use Rattle.std.proofs.Common.{◌≡◌, ℕ, ◌+◌, ◌≤◌, true, false, nat_le, length, List, [], ◌∷◌, Ok, refl, arith}
 use Rattle.std.proofs.lemmas.Bool.{le-leb}
+use Rattle.tla_lex.specs.SameKind.{same_kind}
 use Rattle.tla_lex.specs.declared.token.Place.{Place}
 use Rattle.tla_lex.specs.declared.token.Token.{Token}
 use Rattle.tla_lex.specs.declared.token.Kind.{Kind}
@@ -15,7 +16,6 @@ use Rattle.tla_tree.specs.declared.tree.Fairness.TheVariants as fa
 use Rattle.tla_tree.specs.Tree.{Tree, Trees, Pattern, Binders, Fields, Updates, none, more, no_fields, field, Name, Paren, Listing, Filter, Image, Function, FunctionSet, Record, RecordSet, Except, Action, Fair}
 use Rattle.tla_grammar.specs.Edges.{depth, depths}
 use Rattle.tla_grammar.specs.Tokens.{seen, Has}
-use Rattle.tla_lex.specs.SameKind.{same_kind}
 use Rattle.tla_grammar.specs.Kinds.{kind_at}
 use Rattle.tla_grammar.specs.Grammar.{Spells, Listed, Others, is_subscript}
 use Rattle.tla_grammar.specs.Outcome.{at_op}

@@ -1,5 +1,6 @@
 -- Lists that are spelled are read.
 use Rattle.std.proofs.Common.{◌≡◌, ℕ, ◌+◌, ◌<◌, ◌≤◌, true, false, slice_get, length, List, [], ◌∷◌, None, Ok, refl, arith}
+use Rattle.tla_lex.specs.SameKind.{same_kind}
 use Rattle.tla_lex.specs.declared.token.Place.{Place}
 use Rattle.tla_lex.specs.declared.token.Token.{Token}
 use Rattle.tla_lex.specs.declared.token.Kind.{Kind}
@@ -14,7 +15,6 @@ use Rattle.tla_tree.specs.Places.{place}
 use Rattle.tla_grammar.specs.Edges.{depth, depths, bound_depth}
 use Rattle.tla_grammar.specs.Tokens.{seen, goes_on, is_bullet_at, may_follow, Has}
 use Rattle.tla_grammar.specs.Entries.{is_single, Entry}
-use Rattle.tla_lex.specs.SameKind.{same_kind}
 use Rattle.tla_grammar.specs.Kinds.{kind_at, closing}
 use Rattle.tla_grammar.specs.Grammar.{Spells, Items, Listed, Others, Bound, MoreBound, is_some}
 use Rattle.tla_grammar.specs.Marks.{following}

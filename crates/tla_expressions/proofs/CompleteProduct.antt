@@ -1,6 +1,7 @@
 -- Products that are spelled are read.
 use Rattle.std.proofs.Common.{◌≡◌, ℕ, ◌+◌, ◌-◌, ◌<◌, ◌≤◌, true, false, not, ◌||◌, nat_le, length, List, [], ◌∷◌, Option, Some, None, Ok, refl, ◌∙◌, arith}
 use Rattle.std.proofs.lemmas.Bool.{ltb-true, le-leb}
+use Rattle.tla_lex.specs.SameKind.{same_kind}
 use Rattle.tla_lex.specs.declared.token.Place.{Place}
 use Rattle.tla_lex.specs.declared.token.Token.{Token}
 use Rattle.tla_lex.specs.declared.token.Kind.{Kind}
@@ -13,7 +14,6 @@ use Rattle.tla_grammar.specs.Operators.{low, high, infix_of}
 use Rattle.tla_tree.specs.Places.{place}
 use Rattle.tla_grammar.specs.Edges.{yields, edge_allows, top_above, depth, depths}
 use Rattle.tla_grammar.specs.Tokens.{seen, is_suffix, Has}
-use Rattle.tla_lex.specs.SameKind.{same_kind}
 use Rattle.tla_grammar.specs.Kinds.{kind_at}
 use Rattle.tla_grammar.specs.Ending.{allows, may_end}
 use Rattle.tla_grammar.specs.Grammar.{Spells, Factors}

@@ -1,5 +1,6 @@
 -- Records and updates that are spelled are read.
 use Rattle.std.proofs.Common.{◌≡◌, ℕ, ◌+◌, ◌<◌, ◌≤◌, true, false, length, List, [], ◌∷◌, Some, Ok, refl, arith}
+use Rattle.tla_lex.specs.SameKind.{same_kind}
 use Rattle.tla_lex.specs.declared.token.Place.{Place}
 use Rattle.tla_lex.specs.declared.token.Token.{Token}
 use Rattle.tla_lex.specs.declared.token.Kind.{Kind}
@@ -10,7 +11,6 @@ use Rattle.tla_tree.specs.declared.word.Written.{Written}
 use Rattle.tla_tree.specs.Tree.{Tree, Fields, Key, Keys, Updates, Entry, Change, no_fields, field, AtIndex, AtField, no_keys, key, no_updates, update, Record, RecordSet, Except}
 use Rattle.tla_grammar.specs.Edges.{depth, fields_depth, key_depth, keys_depth, updates_depth}
 use Rattle.tla_grammar.specs.Tokens.{goes_on, Has, Writes}
-use Rattle.tla_lex.specs.SameKind.{same_kind}
 use Rattle.tla_grammar.specs.Grammar.{Spells, Fielded, MoreFields, Leads, Selects, Updated, MoreUpdates, is_path, updating}
 use Rattle.tla_expressions.specs.Reading.{expr}
 use Rattle.tla_grammar.specs.Marks.{following}

@@ -1,5 +1,7 @@
 -- The first token of an expression.
 use Rattle.std.proofs.Common.{◌≡◌, ℕ, ◌+◌, Bool, true, false, ◌⊎◌, inl, inr, List, Some, refl}
+use Rattle.tla_lex.specs.SameKind.{same_kind}
+use Rattle.tla_lex.proofs.SameKind.{same_is}
 use Rattle.tla_lex.specs.declared.token.Token.{Token}
 use Rattle.tla_lex.specs.declared.token.Kind.{Kind}
 use Rattle.tla_lex.specs.declared.token.Kind.TheVariants as k
@@ -18,10 +20,8 @@ use Rattle.tla_tree.specs.declared.tree.Step.{Step}
 use Rattle.tla_tree.specs.declared.tree.Step.TheVariants as st
 use Rattle.tla_tree.specs.declared.tree.Fairness.{Fairness}
 use Rattle.tla_tree.specs.declared.tree.Fairness.TheVariants as fa
-use Rattle.tla_lex.specs.SameKind.{same_kind}
 use Rattle.tla_grammar.specs.Kinds.{kind_at, opening, closing, step_opening, fairness_word}
 use Rattle.tla_grammar.specs.Grammar.{Spells}
-use Rattle.tla_lex.proofs.SameKind.{same_is}
 use Rattle.tla_expressions.proofs.Follow.{infix_no_suffix}
 
 -- kinds of tokens that end something, and begin no expression

@@ -1,6 +1,7 @@
 -- What may follow a tree, and where a reading stops.
 use Rattle.std.proofs.Common.{◌≡◌, ℕ, ◌<◌, ◌≤◌, Bool, true, false, not, ◌&&◌, ◌||◌, ◌⊎◌, inl, inr, nat_lt, nat_eq, if◌then◌else◌, List, Option, Some, None, refl, arith}
 use Rattle.std.proofs.lemmas.Bool.{ltb-true, lt-ltb, le-ltb, eqb-true}
+use Rattle.tla_lex.specs.SameKind.{same_kind}
 use Rattle.tla_lex.specs.declared.token.Token.{Token}
 use Rattle.tla_lex.specs.declared.token.Kind.{Kind}
 use Rattle.tla_lex.specs.declared.token.Kind.TheVariants as k
@@ -13,7 +14,6 @@ use Rattle.tla_tree.specs.Tree.{Tree}
 use Rattle.tla_grammar.specs.Operators.{low, high, left_group, prefix_low, prefix_high, infix_of, bullet_of}
 use Rattle.tla_grammar.specs.Edges.{yields, edge_allows}
 use Rattle.tla_grammar.specs.Tokens.{is_suffix, right_of, seen, goes_on, is_some_infix, is_bullet, is_bullet_at, may_follow, Has}
-use Rattle.tla_lex.specs.SameKind.{same_kind}
 use Rattle.tla_grammar.specs.Kinds.{kind_at}
 use Rattle.tla_grammar.specs.Ending.{above, infix_at, allows, may_end}
 use Rattle.tla_grammar.specs.Marks.{postfix_of, postfix_at}

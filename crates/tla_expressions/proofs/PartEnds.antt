@@ -1,5 +1,6 @@
 -- What the token that ends a part says of the form.
 use Rattle.std.proofs.Common.{◌≡◌, ℕ, ◌+◌, Bool, true, false, ◌&&◌, ◌||◌, ◌⊎◌, inl, inr, List, [], ◌∷◌, Option, Some, None, drop, refl, sym, ◌∙◌}
+use Rattle.tla_lex.specs.SameKind.{same_kind}
 use Rattle.tla_lex.specs.declared.token.Token.{Token}
 use Rattle.tla_lex.specs.declared.token.Kind.{Kind}
 use Rattle.tla_lex.specs.declared.token.Kind.TheVariants as k
@@ -7,7 +8,6 @@ use Rattle.tla_grammar.specs.declared.context.Context.{Context}
 use Rattle.tla_grammar.specs.declared.ahead.Opened.TheVariants as opened
 use Rattle.tla_tree.specs.Tree.{Tree, Pattern, Each, Tuple, Binders, unbound, bound}
 use Rattle.tla_grammar.specs.Tokens.{seen, Has}
-use Rattle.tla_lex.specs.SameKind.{same_kind}
 use Rattle.tla_grammar.specs.Kinds.{kind_at, role_of}
 use Rattle.tla_grammar.specs.Entries.{is_single, Binds, Entry}
 use Rattle.tla_grammar.specs.Grammar.{Spells, Bound, MoreBound}

@@ -11,14 +11,14 @@ use crate::parts::{
     Parsed, ParsedArm, ParsedArms, ParsedDefinition, ParsedDefinitions, arm_of, case_of,
     case_with_other, function_of, let_of, node, quantified_of,
 };
-use crate::reader::Reader;
+use crate::reader::ExpressionReader;
 use tla_grammar::{
     Between, Context, Refusal, following, is_kind, name_at, refused, refused_parameter, seen,
 };
 use tla_lex::{Kind, Place, Token};
 use tla_tree::{Definition, Expr, Quantifier, Written, push};
 
-impl<R: Reader> Grammar<R> {
+impl<R: ExpressionReader> Grammar<R> {
     /// `\A x, y \in S, z \in T : p` or `\E x, y \in S, z \in T : p`
     #[tactic(auto, unfolding(crate::specs::Reading::quantified))]
     pub fn quantified(
@@ -30,7 +30,7 @@ impl<R: Reader> Grammar<R> {
         quantifier: Quantifier,
         from: usize,
     ) -> Result<Parsed, Refusal>
-        requires nests { R.reads_to self.now.reader self.now.depth }
+        requires reads { R.reads_to self.now.reader self.now.depth }
         requires within { from < length tokens.now }
         requires small { self.now.depth ≤ MAX_DEPTH }
         ensures { Gives text.now tokens.now (self.now.depth + 1) result (reading.quantified text.now tokens.now (reading.expr text.now tokens.now self.now.depth) context at quantifier from) }
@@ -58,7 +58,7 @@ impl<R: Reader> Grammar<R> {
         at: Place,
         from: usize,
     ) -> Result<Parsed, Refusal>
-        requires nests { R.reads_to self.now.reader self.now.depth }
+        requires reads { R.reads_to self.now.reader self.now.depth }
         requires within { from < length tokens.now }
         requires small { self.now.depth ≤ MAX_DEPTH }
         ensures { Gives text.now tokens.now (self.now.depth + 1) result (reading.chosen text.now tokens.now (reading.expr text.now tokens.now self.now.depth) context at from) }
@@ -86,7 +86,7 @@ impl<R: Reader> Grammar<R> {
         at: Place,
         from: usize,
     ) -> Result<Parsed, Refusal>
-        requires nests { R.reads_to self.now.reader self.now.depth }
+        requires reads { R.reads_to self.now.reader self.now.depth }
         requires within { from < length tokens.now }
         requires small { self.now.depth ≤ MAX_DEPTH }
         ensures { Gives text.now tokens.now (self.now.depth + 1) result (reading.choice text.now tokens.now (reading.expr text.now tokens.now self.now.depth) context at from) }
@@ -117,7 +117,7 @@ impl<R: Reader> Grammar<R> {
         context: Context,
         from: usize,
     ) -> Result<ParsedArm, Refusal>
-        requires nests { R.reads_to self.now.reader self.now.depth }
+        requires reads { R.reads_to self.now.reader self.now.depth }
         ensures { GivesArm text.now tokens.now self.now.depth result (reading.arm_at text.now tokens.now (reading.expr text.now tokens.now self.now.depth) context from) }
     {
         let guard = self.inner(text, tokens, context, 0, from)?;
@@ -137,7 +137,7 @@ impl<R: Reader> Grammar<R> {
         context: Context,
         from: usize,
     ) -> Result<ParsedArms, Refusal>
-        requires nests { R.reads_to self.now.reader self.now.depth }
+        requires reads { R.reads_to self.now.reader self.now.depth }
         ensures { GivesArms text.now tokens.now self.now.depth result (reading.arms_at text.now tokens.now (reading.expr text.now tokens.now self.now.depth) (length tokens.now) [] context from) }
     {
         let mut arms = Vec::new(self.alloc);
@@ -166,7 +166,7 @@ impl<R: Reader> Grammar<R> {
         at: Place,
         from: usize,
     ) -> Result<Parsed, Refusal>
-        requires nests { R.reads_to self.now.reader self.now.depth }
+        requires reads { R.reads_to self.now.reader self.now.depth }
         requires within { from < length tokens.now }
         requires small { self.now.depth ≤ MAX_DEPTH }
         ensures { Gives text.now tokens.now (self.now.depth + 1) result (reading.cases text.now tokens.now (reading.expr text.now tokens.now self.now.depth) context at from) }
@@ -203,7 +203,7 @@ impl<R: Reader> Grammar<R> {
         form: usize,
         from: usize,
     ) -> Result<ParsedDefinition, Refusal>
-        requires nests { R.reads_to self.now.reader self.now.depth }
+        requires reads { R.reads_to self.now.reader self.now.depth }
         requires within { from ≤ length tokens.now }
         ensures { GivesDefinition text.now tokens.now self.now.depth result (reading.operator text.now tokens.now (reading.expr text.now tokens.now self.now.depth) context t from) }
     {
@@ -234,7 +234,7 @@ impl<R: Reader> Grammar<R> {
         t: Token,
         form: usize,
     ) -> Result<ParsedDefinition, Refusal>
-        requires nests { R.reads_to self.now.reader self.now.depth }
+        requires reads { R.reads_to self.now.reader self.now.depth }
         requires within { form + 2 ≤ length tokens.now }
         ensures { GivesDefinition text.now tokens.now self.now.depth result (reading.function text.now tokens.now (reading.expr text.now tokens.now self.now.depth) context t (form + 2)) }
     {
@@ -265,7 +265,7 @@ impl<R: Reader> Grammar<R> {
         t: Token,
         from: usize,
     ) -> Result<ParsedDefinition, Refusal>
-        requires nests { R.reads_to self.now.reader self.now.depth }
+        requires reads { R.reads_to self.now.reader self.now.depth }
         requires within { from < length tokens.now }
         ensures { GivesDefinition text.now tokens.now self.now.depth result (reading.defined text.now tokens.now (reading.expr text.now tokens.now self.now.depth) context t from) }
     {
@@ -300,7 +300,7 @@ impl<R: Reader> Grammar<R> {
         context: Context,
         from: usize,
     ) -> Result<ParsedDefinition, Refusal>
-        requires nests { R.reads_to self.now.reader self.now.depth }
+        requires reads { R.reads_to self.now.reader self.now.depth }
         ensures { GivesDefinition text.now tokens.now self.now.depth result (reading.definition text.now tokens.now (reading.expr text.now tokens.now self.now.depth) context from) }
     {
         let Some(t) = name_at(seen(tokens, context.column, from)) else {
@@ -318,7 +318,7 @@ impl<R: Reader> Grammar<R> {
         context: Context,
         from: usize,
     ) -> Result<ParsedDefinitions, Refusal>
-        requires nests { R.reads_to self.now.reader self.now.depth }
+        requires reads { R.reads_to self.now.reader self.now.depth }
         ensures { GivesDefinitions text.now tokens.now self.now.depth result (reading.definitions_at text.now tokens.now (reading.expr text.now tokens.now self.now.depth) (length tokens.now) [] context from) }
     {
         let mut definitions = Vec::new(self.alloc);
@@ -351,7 +351,7 @@ impl<R: Reader> Grammar<R> {
         at: Place,
         from: usize,
     ) -> Result<Parsed, Refusal>
-        requires nests { R.reads_to self.now.reader self.now.depth }
+        requires reads { R.reads_to self.now.reader self.now.depth }
         requires within { from < length tokens.now }
         requires small { self.now.depth ≤ MAX_DEPTH }
         ensures { Gives text.now tokens.now (self.now.depth + 1) result (reading.lets text.now tokens.now (reading.expr text.now tokens.now self.now.depth) context at from) }

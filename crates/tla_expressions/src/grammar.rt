@@ -8,7 +8,7 @@ ghost use Rattle.tla_expressions.specs.Reading as reading;
 ghost use Rattle.tla_expressions.specs.Gives.{Gives, GivesDefinition};
 
 use crate::parts::{Parsed, ParsedDefinition, index_of, node};
-use crate::reader::Reader;
+use crate::reader::ExpressionReader;
 use std::alloc::Global;
 use tla_grammar::{
     Context, Postfix, Refusal, bullet_of, constant_of, edge_allows, high, is_product, name_at,
@@ -26,7 +26,7 @@ pub struct Grammar<R> {
     pub reader: R,
 }
 
-impl<R: Reader> Grammar<R> {
+impl<R: ExpressionReader> Grammar<R> {
     /// An expression one level deeper.
     pub fn inner(
         &self,
@@ -53,7 +53,7 @@ impl<R: Reader> Grammar<R> {
         start: usize,
         first: Parsed,
     ) -> Result<Parsed, Refusal>
-        requires nests { R.reads_to self.now.reader self.now.depth }
+        requires reads { R.reads_to self.now.reader self.now.depth }
         requires within { first.end < length tokens.now }
         requires depth { first.depth ≡ edges.depth (view first.tree.value) }
         requires shallow { first.depth ≤ self.now.depth + 1 }
@@ -84,7 +84,7 @@ impl<R: Reader> Grammar<R> {
         first: Parsed,
         form: Postfix,
     ) -> Result<Parsed, Refusal>
-        requires nests { R.reads_to self.now.reader self.now.depth }
+        requires reads { R.reads_to self.now.reader self.now.depth }
         requires within { first.end < length tokens.now }
         requires depth { first.depth ≡ edges.depth (view first.tree.value) }
         requires shallow { first.depth ≤ self.now.depth + 1 }
@@ -135,7 +135,7 @@ impl<R: Reader> Grammar<R> {
         start: usize,
         first: Parsed,
     ) -> Result<Parsed, Refusal>
-        requires nests { R.reads_to self.now.reader self.now.depth }
+        requires reads { R.reads_to self.now.reader self.now.depth }
         requires depth { first.depth ≡ edges.depth (view first.tree.value) }
         requires shallow { first.depth ≤ self.now.depth + 1 }
         requires small { self.now.depth ≤ MAX_DEPTH }
@@ -168,7 +168,7 @@ impl<R: Reader> Grammar<R> {
         at: Place,
         from: usize,
     ) -> Result<Parsed, Refusal>
-        requires nests { R.reads_to self.now.reader self.now.depth }
+        requires reads { R.reads_to self.now.reader self.now.depth }
         requires within { from < length tokens.now }
         requires small { self.now.depth ≤ MAX_DEPTH }
         ensures { Gives text.now tokens.now (self.now.depth + 1) result (reading.prefix text.now tokens.now (reading.expr text.now tokens.now self.now.depth) context op at from) }
@@ -188,7 +188,7 @@ impl<R: Reader> Grammar<R> {
         left: Parsed,
         op: Infix,
     ) -> Result<Parsed, Refusal>
-        requires nests { R.reads_to self.now.reader self.now.depth }
+        requires reads { R.reads_to self.now.reader self.now.depth }
         requires within { left.end < length tokens.now }
         requires depth { left.depth ≡ edges.depth (view left.tree.value) }
         requires shallow { left.depth ≤ self.now.depth + 1 }
@@ -229,7 +229,7 @@ impl<R: Reader> Grammar<R> {
         start: usize,
         first: Parsed,
     ) -> Result<Parsed, Refusal>
-        requires nests { R.reads_to self.now.reader self.now.depth }
+        requires reads { R.reads_to self.now.reader self.now.depth }
         requires depth { first.depth ≡ edges.depth (view first.tree.value) }
         requires shallow { first.depth ≤ self.now.depth + 1 }
         requires small { self.now.depth ≤ MAX_DEPTH }
@@ -260,7 +260,7 @@ impl<R: Reader> Grammar<R> {
         from: usize,
         tree: Expr,
     ) -> Result<Parsed, Refusal>
-        requires nests { R.reads_to self.now.reader self.now.depth }
+        requires reads { R.reads_to self.now.reader self.now.depth }
         requires within { from < length tokens.now }
         requires flat { edges.depth (view tree) ≡ 1 }
         requires small { self.now.depth ≤ MAX_DEPTH }
@@ -280,7 +280,7 @@ impl<R: Reader> Grammar<R> {
         t: Token,
         from: usize,
     ) -> Result<Parsed, Refusal>
-        requires nests { R.reads_to self.now.reader self.now.depth }
+        requires reads { R.reads_to self.now.reader self.now.depth }
         requires within { from < length tokens.now }
         requires token { spec.seen tokens.now context.column from ≡ Some t }
         requires small { self.now.depth ≤ MAX_DEPTH }
@@ -314,7 +314,7 @@ impl<R: Reader> Grammar<R> {
         context: Context,
         from: usize,
     ) -> Result<Parsed, Refusal>
-        requires nests { R.reads_to self.now.reader self.now.depth }
+        requires reads { R.reads_to self.now.reader self.now.depth }
         requires small { self.now.depth ≤ MAX_DEPTH }
         ensures { Gives text.now tokens.now (self.now.depth + 1) result (reading.operand text.now tokens.now (reading.expr text.now tokens.now self.now.depth) (self.now.depth + 1) context from) }
     {
@@ -381,7 +381,7 @@ impl<R: Reader> Grammar<R> {
         floor: u8,
         at: usize,
     ) -> Result<Parsed, Refusal>
-        requires nests { R.reads_to self.now.reader self.now.depth }
+        requires reads { R.reads_to self.now.reader self.now.depth }
         requires small { self.now.depth ≤ MAX_DEPTH }
         ensures { Gives text.now tokens.now (self.now.depth + 1) result (reading.level text.now tokens.now (reading.expr text.now tokens.now self.now.depth) self.now.depth context floor at) }
     {

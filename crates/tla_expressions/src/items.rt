@@ -15,7 +15,7 @@ use crate::parts::{
     Parsed, ParsedBinder, ParsedBinders, ParsedItems, binder_of, call_of, junction_of, listing_of,
     node,
 };
-use crate::reader::Reader;
+use crate::reader::ExpressionReader;
 use tla_grammar::{
     Between, Context, Refusal, closing, following, is_kind, may_follow, refused, refused_binder,
     seen,
@@ -23,7 +23,7 @@ use tla_grammar::{
 use tla_lex::{Kind, Place, Token};
 use tla_tree::{Brackets, Bullet, Expr, Written, push, push_inner};
 
-impl<R: Reader> Grammar<R> {
+impl<R: ExpressionReader> Grammar<R> {
     /// Expressions with commas or bullets between them, one or more, behind those of a front that ends where the next begins.
     #[tactic(auto, using(crate::proofs::Steps::depths_snoc))]
     pub fn exprs_behind(
@@ -34,7 +34,7 @@ impl<R: Reader> Grammar<R> {
         between: Between,
         front: ParsedItems,
     ) -> Result<ParsedItems, Refusal>
-        requires nests { R.reads_to self.now.reader self.now.depth }
+        requires reads { R.reads_to self.now.reader self.now.depth }
         requires depth { front.depth ≡ edges.depths (trees (map view front.items.items)) }
         requires shallow { front.depth ≤ self.now.depth }
         ensures { GivesItems text.now tokens.now self.now.depth result (lists.exprs text.now tokens.now (reading.expr text.now tokens.now self.now.depth) (length tokens.now) (map view front.items.items) context between front.end) }
@@ -64,7 +64,7 @@ impl<R: Reader> Grammar<R> {
         between: Between,
         from: usize,
     ) -> Result<ParsedItems, Refusal>
-        requires nests { R.reads_to self.now.reader self.now.depth }
+        requires reads { R.reads_to self.now.reader self.now.depth }
         ensures { GivesItems text.now tokens.now self.now.depth result (lists.exprs text.now tokens.now (reading.expr text.now tokens.now self.now.depth) (length tokens.now) [] context between from) }
     {
         let front = ParsedItems {
@@ -85,7 +85,7 @@ impl<R: Reader> Grammar<R> {
         close: Kind,
         from: usize,
     ) -> Result<ParsedItems, Refusal>
-        requires nests { R.reads_to self.now.reader self.now.depth }
+        requires reads { R.reads_to self.now.reader self.now.depth }
         ensures { GivesTrees text.now tokens.now self.now.depth result (lists.some text.now tokens.now (reading.expr text.now tokens.now self.now.depth) context close from) }
     {
         let found = self.exprs(text, tokens, context, Between::Comma, from)?;
@@ -110,7 +110,7 @@ impl<R: Reader> Grammar<R> {
         brackets: Brackets,
         from: usize,
     ) -> Result<Parsed, Refusal>
-        requires nests { R.reads_to self.now.reader self.now.depth }
+        requires reads { R.reads_to self.now.reader self.now.depth }
         requires within { from < length tokens.now }
         requires small { self.now.depth ≤ MAX_DEPTH }
         ensures { Gives text.now tokens.now (self.now.depth + 1) result (lists.listing text.now tokens.now (reading.expr text.now tokens.now self.now.depth) context at brackets from) }
@@ -145,7 +145,7 @@ impl<R: Reader> Grammar<R> {
         t: Token,
         from: usize,
     ) -> Result<Parsed, Refusal>
-        requires nests { R.reads_to self.now.reader self.now.depth }
+        requires reads { R.reads_to self.now.reader self.now.depth }
         requires within { from < length tokens.now }
         requires small { self.now.depth ≤ MAX_DEPTH }
         ensures { Gives text.now tokens.now (self.now.depth + 1) result (reading.named text.now tokens.now (reading.expr text.now tokens.now self.now.depth) context t from) }
@@ -170,7 +170,7 @@ impl<R: Reader> Grammar<R> {
         at: Place,
         from: usize,
     ) -> Result<Parsed, Refusal>
-        requires nests { R.reads_to self.now.reader self.now.depth }
+        requires reads { R.reads_to self.now.reader self.now.depth }
         requires within { from < length tokens.now }
         requires small { self.now.depth ≤ MAX_DEPTH }
         ensures { Gives text.now tokens.now (self.now.depth + 1) result (lists.paren text.now tokens.now (reading.expr text.now tokens.now self.now.depth) context at from) }
@@ -217,7 +217,7 @@ impl<R: Reader> Grammar<R> {
         form: Option<usize>,
         from: usize,
     ) -> Result<ParsedBinder, Refusal>
-        requires nests { R.reads_to self.now.reader self.now.depth }
+        requires reads { R.reads_to self.now.reader self.now.depth }
         requires within { from ≤ length tokens.now }
         ensures { GivesGroup text.now tokens.now self.now.depth result (lists.group text.now tokens.now (reading.expr text.now tokens.now self.now.depth) context from) }
     {
@@ -235,7 +235,7 @@ impl<R: Reader> Grammar<R> {
         form: Option<usize>,
         from: usize,
     ) -> Result<ParsedBinder, Refusal>
-        requires nests { R.reads_to self.now.reader self.now.depth }
+        requires reads { R.reads_to self.now.reader self.now.depth }
         requires within { from ≤ length tokens.now }
         ensures { GivesGroup text.now tokens.now self.now.depth result (lists.one_group text.now tokens.now (reading.expr text.now tokens.now self.now.depth) context from) }
     {
@@ -253,7 +253,7 @@ impl<R: Reader> Grammar<R> {
         form: Option<usize>,
         from: usize,
     ) -> Result<ParsedBinders, Refusal>
-        requires nests { R.reads_to self.now.reader self.now.depth }
+        requires reads { R.reads_to self.now.reader self.now.depth }
         requires within { from ≤ length tokens.now }
         ensures { GivesGroups text.now tokens.now self.now.depth result (lists.groups text.now tokens.now (reading.expr text.now tokens.now self.now.depth) (length tokens.now) [] context from) }
     {
@@ -288,7 +288,7 @@ impl<R: Reader> Grammar<R> {
         bullet: Bullet,
         from: usize,
     ) -> Result<Parsed, Refusal>
-        requires nests { R.reads_to self.now.reader self.now.depth }
+        requires reads { R.reads_to self.now.reader self.now.depth }
         requires within { from < length tokens.now }
         requires small { self.now.depth ≤ MAX_DEPTH }
         ensures { Gives text.now tokens.now (self.now.depth + 1) result (reading.junction text.now tokens.now (reading.expr text.now tokens.now self.now.depth) context at bullet from) }

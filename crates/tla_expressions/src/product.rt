@@ -9,14 +9,14 @@ ghost use Rattle.tla_expressions.specs.Gives.{Gives, GivesItems};
 
 use crate::grammar::Grammar;
 use crate::parts::{Parsed, ParsedItems, node, product_of};
-use crate::reader::Reader;
+use crate::reader::ExpressionReader;
 use tla_grammar::{
     Between, Context, Refusal, edge_allows, following, high, is_kind, refused, seen,
 };
 use tla_lex::{Kind, Token};
 use tla_tree::{Infix, push_inner};
 
-impl<R: Reader> Grammar<R> {
+impl<R: ExpressionReader> Grammar<R> {
     /// An operand behind the first.
     #[tactic(auto, unfolding(crate::specs::Reading::factor))]
     fn factor(
@@ -49,7 +49,7 @@ impl<R: Reader> Grammar<R> {
         context: Context,
         from: usize,
     ) -> Result<ParsedItems, Refusal>
-        requires nests { R.reads_to self.now.reader self.now.depth }
+        requires reads { R.reads_to self.now.reader self.now.depth }
         ensures { GivesItems text.now tokens.now self.now.depth result (reading.factors text.now tokens.now (reading.expr text.now tokens.now self.now.depth) (length tokens.now) [] context from) }
     {
         let mut items = Vec::new(self.alloc);
@@ -78,7 +78,7 @@ impl<R: Reader> Grammar<R> {
         start: usize,
         first: Parsed,
     ) -> Result<Parsed, Refusal>
-        requires nests { R.reads_to self.now.reader self.now.depth }
+        requires reads { R.reads_to self.now.reader self.now.depth }
         requires within { first.end < length tokens.now }
         requires depth { first.depth ≡ edges.depth (view first.tree.value) }
         requires shallow { first.depth ≤ self.now.depth + 1 }

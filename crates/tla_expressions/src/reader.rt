@@ -11,7 +11,8 @@ use tla_grammar::{Context, Refusal};
 use tla_lex::Token;
 
 /// What reads an expression of so many levels at most, in a context, whose top is above a floor.
-pub trait Reader {
+pub trait ExpressionReader {
+    // that expressions of so many levels may be read
     ghost reads_to: { Self → ℕ → Type 0 };
 
     fn read(
@@ -28,8 +29,9 @@ pub trait Reader {
         ensures { Gives text.now tokens.now depth result (expr text.now tokens.now depth context floor at) };
 }
 
-impl<F: Fn(Global, &[u8], &[Token], usize, Context, u8, usize) -> Result<Parsed, Refusal>> Reader
-    for F {
+impl<
+    F: Fn(Global, &[u8], &[Token], usize, Context, u8, usize) -> Result<Parsed, Refusal>,
+> ExpressionReader for F {
     ghost reads_to = { λ f depth. Nests depth (F.pre f) (F.post f) };
 
     fn read(

@@ -13,7 +13,7 @@ ghost use Rattle.tla_expressions.specs.Private.GivesRecords.{GivesField, GivesFi
 
 use crate::grammar::Grammar;
 use crate::parts::{Parsed, node};
-use crate::reader::Reader;
+use crate::reader::ExpressionReader;
 use crate::record_parts::{
     ParsedField, ParsedFields, ParsedKey, ParsedKeys, ParsedUpdate, ParsedUpdates, except_of,
     key_of, record_of, record_set_of,
@@ -24,7 +24,7 @@ use tla_grammar::{
 use tla_lex::{Kind, Place, Token};
 use tla_tree::{Field, Key, Update, Written, push};
 
-impl<R: Reader> Grammar<R> {
+impl<R: ExpressionReader> Grammar<R> {
     /// A field, with this mark behind its name.
     #[tactic(auto, unfolding(crate::specs::ReadingBrackets::entry))]
     fn entry(
@@ -35,7 +35,7 @@ impl<R: Reader> Grammar<R> {
         mark: Kind,
         from: usize,
     ) -> Result<ParsedField, Refusal>
-        requires nests { R.reads_to self.now.reader self.now.depth }
+        requires reads { R.reads_to self.now.reader self.now.depth }
         ensures { GivesField text.now tokens.now self.now.depth result (reading.entry text.now tokens.now (expr text.now tokens.now self.now.depth) context mark from) }
     {
         let Some(name) = name_at(seen(tokens, context.column, from)) else {
@@ -66,7 +66,7 @@ impl<R: Reader> Grammar<R> {
         mark: Kind,
         from: usize,
     ) -> Result<ParsedFields, Refusal>
-        requires nests { R.reads_to self.now.reader self.now.depth }
+        requires reads { R.reads_to self.now.reader self.now.depth }
         ensures { GivesFields text.now tokens.now self.now.depth result (reading.entries text.now tokens.now (expr text.now tokens.now self.now.depth) (length tokens.now) [] context mark from) }
     {
         let mut fields = Vec::new(self.alloc);
@@ -95,7 +95,7 @@ impl<R: Reader> Grammar<R> {
         at: Place,
         from: usize,
     ) -> Result<Parsed, Refusal>
-        requires nests { R.reads_to self.now.reader self.now.depth }
+        requires reads { R.reads_to self.now.reader self.now.depth }
         requires within { from < length tokens.now }
         requires small { self.now.depth ≤ MAX_DEPTH }
         ensures { Gives text.now tokens.now (self.now.depth + 1) result (reading.record_of text.now tokens.now (expr text.now tokens.now self.now.depth) context at from) }
@@ -119,7 +119,7 @@ impl<R: Reader> Grammar<R> {
         at: Place,
         from: usize,
     ) -> Result<Parsed, Refusal>
-        requires nests { R.reads_to self.now.reader self.now.depth }
+        requires reads { R.reads_to self.now.reader self.now.depth }
         requires within { from < length tokens.now }
         requires small { self.now.depth ≤ MAX_DEPTH }
         ensures { Gives text.now tokens.now (self.now.depth + 1) result (reading.records_of text.now tokens.now (expr text.now tokens.now self.now.depth) context at from) }
@@ -142,7 +142,7 @@ impl<R: Reader> Grammar<R> {
         context: Context,
         from: usize,
     ) -> Result<ParsedKey, Refusal>
-        requires nests { R.reads_to self.now.reader self.now.depth }
+        requires reads { R.reads_to self.now.reader self.now.depth }
         ensures { GivesKey text.now tokens.now self.now.depth result (reading.key_at text.now tokens.now (expr text.now tokens.now self.now.depth) context from) }
     {
         if is_kind(Kind::LeftBracket, seen(tokens, context.column, from)) {
@@ -177,7 +177,7 @@ impl<R: Reader> Grammar<R> {
         context: Context,
         from: usize,
     ) -> Result<ParsedKeys, Refusal>
-        requires nests { R.reads_to self.now.reader self.now.depth }
+        requires reads { R.reads_to self.now.reader self.now.depth }
         ensures { GivesKeys text.now tokens.now self.now.depth result (reading.path text.now tokens.now (expr text.now tokens.now self.now.depth) (length tokens.now) [] context from) }
     {
         let mut keys = Vec::new(self.alloc);
@@ -205,7 +205,7 @@ impl<R: Reader> Grammar<R> {
         context: Context,
         from: usize,
     ) -> Result<ParsedUpdate, Refusal>
-        requires nests { R.reads_to self.now.reader self.now.depth }
+        requires reads { R.reads_to self.now.reader self.now.depth }
         ensures { GivesUpdate text.now tokens.now self.now.depth result (reading.change text.now tokens.now (expr text.now tokens.now self.now.depth) context from) }
     {
         if !is_kind(Kind::Bang, seen(tokens, context.column, from)) {
@@ -239,7 +239,7 @@ impl<R: Reader> Grammar<R> {
         context: Context,
         from: usize,
     ) -> Result<ParsedUpdates, Refusal>
-        requires nests { R.reads_to self.now.reader self.now.depth }
+        requires reads { R.reads_to self.now.reader self.now.depth }
         ensures { GivesUpdates text.now tokens.now self.now.depth result (reading.changes text.now tokens.now (expr text.now tokens.now self.now.depth) (length tokens.now) [] context from) }
     {
         let mut updates = Vec::new(self.alloc);
@@ -272,7 +272,7 @@ impl<R: Reader> Grammar<R> {
         at: Place,
         first: Parsed,
     ) -> Result<Parsed, Refusal>
-        requires nests { R.reads_to self.now.reader self.now.depth }
+        requires reads { R.reads_to self.now.reader self.now.depth }
         requires within { first.end < length tokens.now }
         requires depth { first.depth ≡ edges.depth (view first.tree.value) }
         requires shallow { first.depth ≤ self.now.depth }

@@ -1,5 +1,7 @@
 -- What an `Ok` says of the steps that gave it, and what the tests on tokens say.
 use Rattle.std.proofs.Common.{◌≡◌, ℕ, Bool, true, false, ◌&&◌, ◌⊎◌, inl, inr, IsTrue, nat_lt, if◌then◌else◌, slice_get, List, Option, Some, None, Ok, Err, refl, ap, ◌∙◌, subst, eq-eqb, add-one, ◌+◌}
+use Rattle.tla_lex.proofs.SameKind.{no, same_is}
+use Rattle.tla_lex.specs.SameKind.{same_kind}
 use Rattle.tla_lex.specs.declared.token.Token.{Token}
 use Rattle.tla_lex.specs.declared.token.Kind.{Kind}
 use Rattle.tla_lex.specs.declared.token.Kind.TheVariants as k
@@ -11,8 +13,6 @@ use Rattle.tla_tree.specs.declared.tree.Bullet.TheVariants as b
 use Rattle.tla_grammar.specs.Operators.{low, infix_of, bullet_of, same_bullet}
 use Rattle.tla_tree.specs.Words.{written}
 use Rattle.tla_grammar.specs.Tokens.{right_of, seen, is_bullet_at, Has, Writes, KindAt, Commas}
-use Rattle.tla_lex.proofs.SameKind.{same_is}
-use Rattle.tla_lex.specs.SameKind.{same_kind}
 use Rattle.tla_grammar.specs.Kinds.{kind_at}
 use Rattle.tla_grammar.specs.Ending.{above, infix_at}
 use Rattle.tla_grammar.specs.Outcome.{Outcome, ◌>>=◌, need, room, at_op}
@@ -53,9 +53,6 @@ and_true true t h = (refl, h)
 and_true false t h = absurd (let z : ⊥ = cc in z)
 
 -- ---- tokens
-
-no : false ≡ true → ⊥
-no h = cc
 
 -- the token that begins a postfix form
 abbrev pub postfix_kind : Postfix → Kind

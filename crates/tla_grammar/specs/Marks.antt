@@ -1,5 +1,6 @@
 -- The marks between the parts of forms: names, what stands between the items of a list, and what begins a postfix form.
 use Rattle.std.specs.Prelude.{ℕ, ◌+◌, not, ◌&&◌, ◌||◌, if◌then◌else◌, List, Option, Some, None, slice_get}
+use Rattle.tla_lex.specs.SameKind.{same_kind}
 use Rattle.tla_lex.specs.declared.token.Token.{Token}
 use Rattle.tla_lex.specs.declared.token.Kind.{Kind}
 use Rattle.tla_lex.specs.declared.token.Kind.TheVariants as k
@@ -8,7 +9,6 @@ use Rattle.tla_grammar.specs.declared.tokens.Between.TheVariants as between
 use Rattle.tla_grammar.specs.declared.tokens.Postfix.{Postfix}
 use Rattle.tla_grammar.specs.declared.tokens.Postfix.TheVariants as form
 use Rattle.tla_grammar.specs.Tokens.{seen, is_bullet_at}
-use Rattle.tla_lex.specs.SameKind.{same_kind}
 use Rattle.tla_grammar.specs.Kinds.{kind_at}
 
 -- the token, where it is a name

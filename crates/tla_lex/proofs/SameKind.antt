@@ -4,7 +4,7 @@ use Rattle.tla_lex.specs.SameKind.{same_kind}
 use Rattle.tla_lex.specs.declared.token.Kind.{Kind}
 use Rattle.tla_lex.specs.declared.token.Kind.TheVariants as k
 
-no : false ≡ true → ⊥
+pub no : false ≡ true → ⊥
 no h = cc
 
 pub same_is : (wanted kind : Kind) → same_kind wanted kind ≡ true → kind ≡ wanted

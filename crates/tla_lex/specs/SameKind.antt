@@ -1,4 +1,4 @@
--- Whether two kinds are the same, of those that stand between the parts of forms, units and statements.
+-- Whether two kinds are the same, of those that stand between the parts of forms, units and statements; false of all others.
 use Rattle.std.specs.Prelude.{Bool, true, false}
 use Rattle.tla_lex.specs.declared.token.Kind.{Kind}
 use Rattle.tla_lex.specs.declared.token.Kind.TheVariants as k

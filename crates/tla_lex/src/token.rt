@@ -209,7 +209,8 @@ pub enum Kind {
     Omitted,
 }
 
-/// Whether two kinds are the same, of those that stand between the parts of forms, units and statements.
+/// Whether two kinds are the same, of those that stand between the parts of forms, units and statements. Of any other kind it
+/// is false, also where both are that kind.
 pub fn same_kind(wanted: Kind, kind: Kind) -> bool
     ensures { result ≡ kinds.same_kind wanted kind }
 {

@@ -2,6 +2,7 @@
 use Rattle.std.proofs.Common.{◌≡◌, ℕ, zero, suc, ◌+◌, ◌-◌, ◌<◌, ◌≤◌, true, false, not, ◌&&◌, ◌||◌, nat_eq, length, List, [], ◌∷◌, ◌++◌, Bool, if◌then◌else◌, inl, inr, Option, Some, None, Ok, refl, ap, ◌∙◌, append_assoc, arith, eq-eqb}
 use Rattle.std.specs.List.{list_all}
 use Rattle.std.proofs.lemmas.List.{append-nil}
+use Rattle.tla_lex.specs.SameKind.{same_kind}
 use Rattle.tla_lex.specs.declared.token.Token.{Token}
 use Rattle.tla_lex.specs.declared.token.Kind.{Kind}
 use Rattle.tla_lex.specs.declared.token.Kind.TheVariants as k
@@ -10,7 +11,6 @@ use Rattle.tla_grammar.specs.Modules.{is_module}
 use Rattle.tla_grammar.specs.Edges.{depth}
 use Rattle.tla_tree.specs.Words.{word_of, written}
 use Rattle.tla_grammar.specs.Tokens.{seen, goes_on, Has, Names}
-use Rattle.tla_lex.specs.SameKind.{same_kind}
 use Rattle.tla_grammar.specs.Kinds.{kind_at}
 use Rattle.tla_tree.specs.Units.{UnitTree, Separator, Extends, Variables, Operator, Defines, Local, Constants, Assume, Theorem, Declared}
 use Rattle.tla_parse.specs.Units.{Blanks, Declares, MoreDeclared, AllDeclared, Claims, has_parameters, is_extends, is_separator, unit_depth, units_depth, outermost, SpellsUnit, Units, SpellsModule}

@@ -1,5 +1,5 @@
 -- What the units in memory stand for.
-use Rattle.std.specs.Prelude.{List, map}
+use Rattle.std.specs.Prelude.{map}
 use Rattle.tla_tree.specs.declared.unit.Unit.{Unit}
 use Rattle.tla_tree.specs.declared.unit.Unit.TheVariants.{Separator, Extends, Variables, Operator, Defines, Local, Constants, Assume, Theorem}
 use Rattle.tla_tree.specs.declared.unit.Declaration.{Declaration}

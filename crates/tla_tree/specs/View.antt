@@ -1,13 +1,9 @@
 -- What a tree in memory stands for.
-use Rattle.std.specs.Prelude.{◌≡◌, List, [], ◌∷◌, map, refl}
+use Rattle.std.specs.Prelude.{◌≡◌, map, refl}
 use Rattle.std.proofs.Common.{ap, ◌∙◌, sym, Vec, Global}
-use Rattle.tla_lex.specs.declared.token.Place.{Place}
-use Rattle.tla_tree.specs.declared.tree.Brackets.{Brackets}
-use Rattle.tla_tree.specs.declared.tree.Bullet.{Bullet}
 use Rattle.tla_tree.specs.declared.tree.Binder.{Binder}
 use Rattle.tla_tree.specs.declared.tree.Pattern.{Pattern}
 use Rattle.tla_tree.specs.declared.tree.Pattern.TheVariants as p
-use Rattle.tla_tree.specs.declared.word.Written.{Written}
 use Rattle.tla_tree.specs.declared.tree.Definition.TheBlock.{hidden-the_row-Expr-1, items_hidden-the_row-Expr-1, hidden-the_row-Binder-0, items_hidden-the_row-Binder-0, hidden-the_row-Arm-2, items_hidden-the_row-Arm-2, hidden-the_row-Definition-3, items_hidden-the_row-Definition-3, hidden-the_row-Key-5, items_hidden-the_row-Key-5, items_shown-the_row-Key-5, hidden-the_row-Field-4, items_hidden-the_row-Field-4, hidden-the_row-Update-6, items_hidden-the_row-Update-6, Held-Expr-Case-2}
 use Rattle.tla_tree.specs.declared.tree.Expr.{Expr, Name, Number, Text, Constant, At, Paren', Listing', Call', Prime', Index', Field', Unary', Binary', Quantified', Choose', If', Case', Let', Junction', Filter', Image', Function', FunctionSet', Record', RecordSet', Except', Action', Fair', Product', None', Some', Row_of-Expr, end_of-Expr, more_of-Expr, items-the_row-Expr, Row_of-Binder, end_of-Binder, more_of-Binder, items-the_row-Binder, Row_of-Arm, end_of-Arm, more_of-Arm, items-the_row-Arm, Row_of-Definition, end_of-Definition, more_of-Definition, items-the_row-Definition, Row_of-Field, end_of-Field, more_of-Field, items-the_row-Field, Row_of-Key, end_of-Key, more_of-Key, items-the_row-Key, Row_of-Update, end_of-Update, more_of-Update, items-the_row-Update}
 use Rattle.tla_tree.specs.declared.tree.Arm.{Arm}

@@ -5,6 +5,7 @@ pub mod Pairs
 pub mod Places
 pub mod Fed
 pub mod Compared
+pub mod Same
 pub mod Sorts
 pub mod FunSorts
 pub mod Passes

@@ -33,7 +33,7 @@ pub counts-up : (n k : ℕ) → counts_from k (counted_up n (pos k)) ≡ true
 counts-up zero k = refl
 counts-up (suc n) k = both-and (tree_eq (int (pos k)) (int (pos k))) _ (eq-refl (int (pos k))) (counts-up n (k + 1))
 
-int-same : (a b : ℤ) → int a ≡ int b → a ≡ b
+pub int-same : (a b : ℤ) → int a ≡ int b → a ≡ b
 int-same a b e = cc
 
 pub counts-not : (n : ℕ) (z : ℤ) → 0 < n → (z ≡ pos 1 → ⊥) → counts_from 1 (counted_up n z) ≡ false

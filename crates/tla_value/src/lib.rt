@@ -10,6 +10,7 @@
 mod choice;
 mod copy;
 mod domain;
+mod equality;
 mod error;
 mod fun;
 mod hash;

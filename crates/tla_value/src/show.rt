@@ -286,6 +286,7 @@ fn put_numbered<W: Write>(
     put(out, written, b")")
 }
 
+// Writes a pair whose argument is a number.
 #[cycle(show)]
 fn put_numbered_pair<W: Write>(
     argument: i64,

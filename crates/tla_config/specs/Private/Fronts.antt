@@ -1,7 +1,7 @@
 -- What stands at a token, as the reader of a configuration asks for it. Private contracts alone cite this.
 use Rattle.std.specs.Prelude.{Bool, true, false, Option, Some, None}
-use Rattle.tla_lex.specs.Bytes.{Bytes}
 use Rattle.tla_lex.specs.SameKind.{same_kind}
+use Rattle.tla_lex.specs.Bytes.{Bytes}
 use Rattle.tla_lex.specs.declared.token.Kind.{Kind}
 use Rattle.tla_lex.specs.declared.token.Kind.TheVariants as k
 use Rattle.tla_lex.specs.declared.token.Place.{Place}

@@ -84,8 +84,9 @@ fn tuple_of<'a>(
 {
     let inside = at.inside()?;
     let many = each(alloc, entries, items, inside)?;
+    let core = tuple(alloc, place, many.parts)?;
     Ok(Expanded {
-        core: tuple(place, many.parts),
+        core,
         left: many.left,
     })
 }

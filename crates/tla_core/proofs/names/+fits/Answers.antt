@@ -6,6 +6,7 @@ use Rattle.tla_core.specs.declared.expression.Core.{Core}
 use Rattle.tla_core.specs.Fits.{fits, Counts}
 use Rattle.tla_core.proofs.Loops.{list_all_step, list_all_stop, list_all_end}
 use Rattle.tla_core.proofs.Parts.{enumerated_fits, tuple_fits, conjunction_fits, disjunction_fits, record_fits, image_fits, function_fits, records_fits, product_fits, except_fits, arm_fits, cases_fit, cases_or_fit}
+use Rattle.tla_core.proofs.FixedTrees.{literal_fits}
 use Rattle.tla_core.proofs.names.+fits.Goals as goal
 
 pub fits_within-returns-in-Enumerated : goal.fits_within-returns-in-Enumerated
@@ -140,3 +141,6 @@ fits_within-returns-then-fits_within-5 t c = λ n h.
     c.updates_fit.ensures n h
     ∙ ap (λ us. list_all (update_fits n c.args.variables c.args.now) us) c.deref-then-fits_within-5.ensures.value
     ∙ sym (ap (λ k. fits (expr_of k) n c.args.variables c.args.now) m.is ∙ except_fits m.field-0 m.function m.updates n c.args.variables c.args.now ∙ ap (λ b. b && list_all (update_fits n c.args.variables c.args.now) m.updates.items) base)
+
+pub fits_within-returns-in-Literal : goal.fits_within-returns-in-Literal
+fits_within-returns-in-Literal t c = λ n h. sym (literal_fits c.args.core.now c.in-Literal.field-0 c.in-Literal.is n c.args.variables c.args.now)

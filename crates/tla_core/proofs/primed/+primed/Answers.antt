@@ -7,6 +7,7 @@ use Rattle.tla_core.specs.Functions.{updates_primed}
 use Rattle.tla_core.specs.Value.{means}
 use Rattle.tla_core.specs.Meaning.{any_primed}
 use Rattle.tla_core.proofs.Parts.{means_enumerated, means_tuple, means_conjunction, means_disjunction, means_record, means_records, means_product, means_image, means_function, means_except, means_cases, means_cases_or}
+use Rattle.tla_core.proofs.FixedTrees.{literal_unprimed}
 use Rattle.tla_core.proofs.primed.+primed.Goals as goal
 
 pub has_next-returns-in-Enumerated : goal.has_next-returns-in-Enumerated
@@ -122,3 +123,6 @@ has_next-returns-else-has_next-5 t c =
     c.updates_have_next.ensures
     ∙ ap (λ us. updates_primed (updates_of_cores us)) c.deref-else-has_next-5.ensures.value
     ∙ sym (ap (λ m. m.primed) (means_except c.args.core.now n.field-0 n.function n.updates n.is) ∙ ap (λ b. b || updates_primed (updates_of_cores n.updates.items)) base)
+
+pub has_next-returns-in-Literal : goal.has_next-returns-in-Literal
+has_next-returns-in-Literal t c = sym (literal_unprimed c.args.core.now c.in-Literal.field-0 c.in-Literal.is)

@@ -11,7 +11,7 @@ use Rattle.tla_value.specs.Tree.{Tree}
 use Rattle.tla_core.specs.Fault.{Outcome}
 use Rattle.tla_core.specs.declared.fault.Place.{Place}
 use Rattle.tla_core.specs.declared.fault.Fault.{Fault}
-use Rattle.tla_operators.specs.Gives.{Gives, GivesBy, GivesTruth}
+use Rattle.tla_operators.specs.Gives.{Gives, GivesBy, GivesTruth, contains_rule}
 use Rattle.tla_eval.specs.Private.Parts.{record_rule, product_rule, record_set_rule, tested, one_of_rule}
 use Rattle.tla_eval.specs.Private.Chosen.{image_rule, chosen_function_rule, values_for, value_at}
 use Rattle.tla_sets.specs.Domain.{function_rule, AreForChoices, IsDomain}
@@ -38,6 +38,7 @@ use Rattle.tla_core.specs.Kinds.{items, as_set, make_fun}
 use Rattle.tla_core.specs.Lists.{each, all_hold, some_hold}
 use Rattle.tla_core.specs.Operators.{binary_rule}
 use Rattle.tla_core.specs.SetForms.{means-records, means-product}
+use Rattle.tla_core.proofs.FixedTrees.{literal_value, literal_has}
 use Rattle.tla_eval.proofs.evaluation.+evaluate.Goals as goal
 
 pub evaluate_other-returns-in-Conjunction : goal.evaluate_other-returns-in-Conjunction
@@ -552,3 +553,29 @@ set_forms::is_function_into-returns-then-has_domain t c =
     (sym (ap (option_map (λ (f : Bor (List (Tree × Tree))). f.now)) c.in-Some.is) ∙ c.if_function.ensures)
     c.in_ok-set-in-Some.ensures c.value.ensures c.in_ok-arguments-in-Some.ensures c.has_domain.ensures c.if-has_domain.true c.values.ensures.values in
     subst (λ (o : Outcome Bool). GivesTruth c.has_all.result o) (sym e) c.has_all.ensures
+
+pub evaluate-returns-in-Literal : goal.evaluate-returns-in-Literal
+evaluate-returns-in-Literal t c =
+    let n = c.in-Literal in
+    literal_value c.args.core.now n.literal (tree_of c.value.result.now) n.is c.value.ensures (bound_in c.args.env) (present_in c.args.env) (next_in c.args.env)
+
+pub evaluate_other-returns-in-Literal : goal.evaluate_other-returns-in-Literal
+evaluate_other-returns-in-Literal t c =
+    let n = c.in-Literal in
+    literal_value c.args.core.now n.literal (tree_of c.value.result.now) n.is c.value.ensures (bound_in c.args.env) (present_in c.args.env) (next_in c.args.env)
+
+pub has-returns-in-Literal : goal.has-returns-in-Literal
+has-returns-in-Literal t c =
+    let n = c.in-Literal in
+    let v = tree_of c.args.value.now in
+    let e = literal_has c.args.core.now n.literal (tree_of c.value.result.now) v n.is c.value.ensures (bound_in c.args.env) (present_in c.args.env) (next_in c.args.env)
+    ∙ ap (λ (p : Place). contains_rule p (tree_of c.value.result.now) v) (sym c.lent_place.ensures) in
+    subst (λ (o : Outcome Bool). GivesTruth c.contains.result o) (sym e) c.contains.ensures
+
+pub has_other-returns-in-Literal : goal.has_other-returns-in-Literal
+has_other-returns-in-Literal t c =
+    let n = c.in-Literal in
+    let v = tree_of c.args.value.now in
+    let e = literal_has c.args.core.now n.literal (tree_of c.value.result.now) v n.is c.value.ensures (bound_in c.args.env) (present_in c.args.env) (next_in c.args.env)
+    ∙ ap (λ (p : Place). contains_rule p (tree_of c.value.result.now) v) (sym c.lent_place.ensures) in
+    subst (λ (o : Outcome Bool). GivesTruth c.contains.result o) (sym e) c.contains.ensures

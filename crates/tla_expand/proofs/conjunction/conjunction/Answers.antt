@@ -24,11 +24,11 @@ returns-in_err-many-clause-gone c =
 pub returns-clause-found : goal.returns-clause-found
 returns-clause-found c =
     let xs = map expr_of c.in_ok-many.many.parts.items in
-    let same : expr_of c.many_core.result ≡ conjunction (place_of c.args.place) (exprs xs) = c.many_core.ensures ∙ ap (λ (p : Place). conjunction p (exprs xs)) c.place_of.ensures in
-    (conjunction_gives c.args.trees.now (scope_at (listed c.args.entries.now) c.args.scope) c.args.primes (place_of c.args.place) xs (expr_of c.many_core.result) c.in_ok-many.many.left c.in_ok-many.ensures.same same).0
+    let same : expr_of c.conjunction.result ≡ conjunction (place_of c.args.place) (exprs xs) = c.conjunction.ensures ∙ ap (λ (p : Place). conjunction p (exprs xs)) c.place_of.ensures in
+    (conjunction_gives c.args.trees.now (scope_at (listed c.args.entries.now) c.args.scope) c.args.primes (place_of c.args.place) xs (expr_of c.conjunction.result) c.in_ok-many.many.left c.in_ok-many.ensures.same same).0
 
 pub returns-clause-limits : goal.returns-clause-limits
 returns-clause-limits c =
     let xs = map expr_of c.in_ok-many.many.parts.items in
-    let same : expr_of c.many_core.result ≡ conjunction (place_of c.args.place) (exprs xs) = c.many_core.ensures ∙ ap (λ (p : Place). conjunction p (exprs xs)) c.place_of.ensures in
-    limits_given _ (expr_of c.many_core.result) c.in_ok-many.many.left (conjunction_gives c.args.trees.now (scope_at (listed c.args.entries.now) c.args.scope) c.args.primes (place_of c.args.place) xs (expr_of c.many_core.result) c.in_ok-many.many.left c.in_ok-many.ensures.same same)
+    let same : expr_of c.conjunction.result ≡ conjunction (place_of c.args.place) (exprs xs) = c.conjunction.ensures ∙ ap (λ (p : Place). conjunction p (exprs xs)) c.place_of.ensures in
+    limits_given _ (expr_of c.conjunction.result) c.in_ok-many.many.left (conjunction_gives c.args.trees.now (scope_at (listed c.args.entries.now) c.args.scope) c.args.primes (place_of c.args.place) xs (expr_of c.conjunction.result) c.in_ok-many.many.left c.in_ok-many.ensures.same same)

@@ -111,7 +111,7 @@ pub many_node-returns-clause-same : goal.many_node-returns-clause-same
 many_node-returns-clause-same t c =
     let σ = scope_at (listed c.args.entries.now) c.args.at.scope in
     node_gives (total nodes) (highest depth) (λ xs. many c.args.node c.args.place (exprs xs)) (each_of (part_in c.args.at.primes σ c.args.at.bound) c.args.items.now)
-    (map expr_of c.in_ok-many.many.parts.items) (expr_of c.many_core.result) c.args.at.room c.args.at.left c.in_ok-many.many.left (many_larger c.args.node c.args.place) c.in_ok-many.ensures.same c.many_core.ensures
+    (map expr_of c.in_ok-many.many.parts.items) (expr_of c.in_ok-core.core) c.args.at.room c.args.at.left c.in_ok-many.many.left (many_larger c.args.node c.args.place) c.in_ok-many.ensures.same c.in_ok-core.ensures.ok
 
 pub cases_node-returns-in_err-made-clause-same : goal.cases_node-returns-in_err-made-clause-same
 cases_node-returns-in_err-made-clause-same t c =
@@ -237,8 +237,8 @@ lists::tuple_of-returns-clause-same t c =
     let inside = c.in_ok-inside.inside in
     let e = c.in_ok-inside.ensures in
     let o = each_of (part_in inside.primes (scope_at (listed c.args.entries.now) inside.scope) inside.bound) c.args.items.now in
-    let g = node_gives (total nodes) (highest depth) (λ xs. tuple c.args.place (exprs xs)) o (map expr_of c.in_ok-many.many.parts.items) (expr_of c.tuple.result) inside.room inside.left c.in_ok-many.many.left
-    (many_larger manies.Tuple c.args.place) c.in_ok-many.ensures.same c.tuple.ensures in
+    let g = node_gives (total nodes) (highest depth) (λ xs. tuple c.args.place (exprs xs)) o (map expr_of c.in_ok-many.many.parts.items) (expr_of c.in_ok-core.core) inside.room inside.left c.in_ok-many.many.left
+    (many_larger manies.Tuple c.args.place) c.in_ok-many.ensures.same c.in_ok-core.ensures.ok in
     rw (e.room, e.left, e.primes, e.scope, e.bound) at g
 
 pub levels::node_behind-returns-in_err-look_at_form-clause-same : goal.levels::node_behind-returns-in_err-look_at_form-clause-same
@@ -458,7 +458,7 @@ fields_node-returns-in_err-made-clause-same t c =
 
 pub fields_node-returns-clause-same : goal.fields_node-returns-clause-same
 fields_node-returns-clause-same t c =
-    node_gives (total field_nodes) (highest field_depth) (λ xs. fielded c.args.node c.args.place (fields_of xs)) (each_of (field_in c.args.at.primes (scope_at (listed c.args.entries.now) c.args.at.scope) c.args.at.bound) c.args.fields.now) (map named_part c.in_ok-made.made.fields.items) (expr_of c.fielded_core.result) c.args.at.room c.args.at.left c.in_ok-made.made.left (fielded_larger c.args.node c.args.place) c.in_ok-made.ensures.same c.fielded_core.ensures
+    node_gives (total field_nodes) (highest field_depth) (λ xs. fielded c.args.node c.args.place (fields_of xs)) (each_of (field_in c.args.at.primes (scope_at (listed c.args.entries.now) c.args.at.scope) c.args.at.bound) c.args.fields.now) (map named_part c.in_ok-made.made.fields.items) (expr_of c.in_ok-core.core) c.args.at.room c.args.at.left c.in_ok-made.made.left (fielded_larger c.args.node c.args.place) c.in_ok-made.ensures.same c.in_ok-core.ensures.ok
 
 pub product_node-returns-in_err-first-clause-same : goal.product_node-returns-in_err-first-clause-same
 product_node-returns-in_err-first-clause-same t c =

@@ -1,0 +1,19 @@
+use Rattle.std.proofs.Common.{◌≡◌, Ok, map}
+use Rattle.tla_value.specs.TreeOf.{tree_of}
+use Rattle.tla_value.specs.declared.value.Value.{Value}
+use Rattle.tla_value.specs.Sets.{set_of}
+use Rattle.tla_core.specs.declared.fault.Place.{Place}
+use Rattle.tla_core.specs.Always.{IsAlways}
+use Rattle.tla_core.specs.ExprOf.{parts_of_cores}
+use Rattle.tla_core.specs.Kinds.{rising_set}
+use Rattle.tla_core.specs.Meaning.{means-enumerated}
+use Rattle.tla_core.proofs.KnownParts.{enumerated_known, if_kept}
+use Rattle.tla_core.proofs.making.known_set.Goals as goal
+
+pub returns-in-Some : goal.returns-in-Some
+returns-in-Some c =
+    let values = c.in-Some.values.items in
+    let made = set_of (map tree_of values) in
+    let each = rw c.in-Some.is at c.in_ok-values.ensures in
+    if_kept (λ (v : Value). (p : Place) → rising_set p made ≡ Ok (tree_of v)) (λ (v : Value). (p : Place) → IsAlways (means-enumerated p (parts_of_cores c.args.parts.now)) (tree_of v)) c.set_within.result
+    (λ v k p. enumerated_known p c.args.parts.now values (tree_of v) each (k p)) (c.set_within.ensures made c.from_values.ensures)

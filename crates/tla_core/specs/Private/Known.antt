@@ -1,0 +1,26 @@
+-- Parts whose values are known. Private contracts alone cite this.
+use Rattle.std.specs.Prelude.{◌≡◌, ℕ, List}
+use Rattle.tla_value.specs.Tree.{text}
+use Rattle.tla_value.specs.TreeOf.{tree_of}
+use Rattle.tla_value.specs.declared.value.Value.{Value}
+use Rattle.tla_core.specs.Expr.{Expr}
+use Rattle.tla_core.specs.Value.{means}
+use Rattle.tla_core.specs.ExprOf.{expr_of}
+use Rattle.tla_core.specs.FixedOf.{fixed_of}
+use Rattle.tla_core.specs.Always.{IsAlways}
+use Rattle.tla_core.specs.declared.expression.Core.{Core}
+use Rattle.tla_core.specs.declared.fixed.Fixed.{Fixed}
+
+abbrev pub HasValue : Core → Value → Type 0
+HasValue c v = IsAlways (means (expr_of c)) (tree_of v)
+
+-- a field with its name and its value
+abbrev pub HasField : List ℕ × Core → Value × Value → Type 0
+HasField f p = (tree_of p.0 ≡ text f.0) × IsAlways (means (expr_of f.1)) (tree_of p.1)
+
+-- fields as they stand in memory
+abbrev pub named_core : List ℕ × Core → List ℕ × Expr
+named_core f = (f.0, expr_of f.1)
+
+abbrev pub named_fixed : List ℕ × Fixed → List ℕ × Expr
+named_fixed f = (f.0, fixed_of f.1)

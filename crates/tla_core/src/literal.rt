@@ -1,0 +1,54 @@
+//! Expressions whose value is kept.
+ghost use Rattle.std.specs.Prelude.{◌≡◌};
+ghost use Rattle.tla_value.specs.TreeOf.{tree_of};
+ghost use Rattle.tla_core.specs.Value.{means};
+ghost use Rattle.tla_core.specs.FixedOf.{fixed_of};
+ghost use Rattle.tla_core.specs.Always.{IsAlways, IsAlways-prop};
+
+use crate::fault::Place;
+use crate::fixed::Fixed;
+use std::alloc::{AllocError, Global};
+use tla_value::Value;
+
+/// An expression that is made of constants alone, and its value, which it has whatever the bound names and the states are.
+#[derive(Drop)]
+pub struct Literal {
+    tree: Box<Fixed>,
+    value: Value,
+    ghost always: { IsAlways (means (fixed_of tree.value)) (tree_of value) } by { IsAlways-prop (means (fixed_of tree.value)) (tree_of value) },
+}
+
+impl Literal {
+    ghost use Rattle.std.specs.Prelude.{IfOk};
+    ghost use Rattle.tla_core.specs.LiteralOf.{literal_of};
+
+    /// An expression with its value. The only error is want of memory.
+    pub(crate) fn new(alloc: Global, tree: Fixed, value: Value) -> Result<Literal, AllocError>
+        requires { IsAlways (means (fixed_of tree)) (tree_of value) }
+        ensures { IfOk result (λ l. literal_of l ≡ fixed_of tree) }
+    {
+        let tree = Box::new(alloc, tree)?;
+        Ok(Literal { tree, value })
+    }
+
+    /// The value of the expression.
+    pub fn value(&self) -> &Value
+        ensures { IsAlways (means (literal_of self.now)) (tree_of result.now) }
+    {
+        &self.value
+    }
+
+    /// The place of the expression, lent.
+    pub fn lent_place(&self) -> &Place
+        ensures { result.now ≡ (means (literal_of self.now)).place }
+    {
+        self.tree.lent_place()
+    }
+
+    /// The expression, without its value.
+    pub(crate) fn into_tree(self) -> Fixed
+        ensures { fixed_of result ≡ literal_of self }
+    {
+        Box::into_inner(self.tree)
+    }
+}
