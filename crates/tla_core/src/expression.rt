@@ -152,7 +152,7 @@ pub enum Core {
     Opened(Place, Vec<Opening>, Box<Core>),
     /// A set of sequences of so many items.
     Tried(Place, usize, Box<Core>),
-    /// An expression that is made of constants alone, with its value.
+    /// A set in braces, a tuple or a record whose value is kept.
     Literal(Literal),
 }
 

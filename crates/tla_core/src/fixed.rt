@@ -1,4 +1,4 @@
-//! Expressions that are made of constants alone.
+//! Values, and sets in braces, tuples and records of such.
 ghost use Rattle.std.specs.Prelude.{◌≡◌};
 
 use crate::fault::Place;
