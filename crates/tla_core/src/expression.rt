@@ -152,7 +152,7 @@ pub enum Core {
     Opened(Place, Vec<Opening>, Box<Core>),
     /// A set of sequences of so many items.
     Tried(Place, usize, Box<Core>),
-    /// A set in braces, a tuple or a record whose value is kept.
+    /// An expression that is made of constants alone, with its value.
     Literal(Literal),
 }
 

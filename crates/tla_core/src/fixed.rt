@@ -1,4 +1,4 @@
-//! Values, and sets in braces, tuples and records of such.
+//! Expressions that are made of constants alone.
 ghost use Rattle.std.specs.Prelude.{◌≡◌};
 
 use crate::fault::Place;

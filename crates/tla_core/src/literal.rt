@@ -10,8 +10,7 @@ use crate::fixed::Fixed;
 use std::alloc::{AllocError, Global};
 use tla_value::Value;
 
-/// A set in braces, a tuple or a record of values and of such expressions, and its value, which it has whatever the bound names and
-/// the states are.
+/// An expression that is made of constants alone, and its value, which it has whatever the bound names and the states are.
 #[derive(Drop)]
 pub struct Literal {
     tree: Box<Fixed>,

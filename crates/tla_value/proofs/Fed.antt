@@ -3,12 +3,10 @@ use Rattle.std.proofs.Common.{◌≡◌, ℕ, zero, suc, ◌<◌, ◌++◌, ℤ,
 use Rattle.std.proofs.Math.Seq.{drop-cons}
 use Rattle.std.proofs.lemmas.Cmp.{int_eq_equiv}
 use Rattle.std.proofs.lemmas.List.Sums.{fold-append}
-use Rattle.std.specs.Hash as fed
 use Rattle.std.specs.Hash.FoldHasher as folding
-use Rattle.tla_value.specs.declared.hash.TheConstants.{GAP}
 use Rattle.tla_value.specs.Tree.{Tree, int, trees, pairs}
 use Rattle.tla_value.specs.TreeOf.{tree_of, pair_of}
-use Rattle.tla_value.specs.TreeHash.{is_next, argument_behind, tree_writes, trees_writes, pairs_writes, writes_behind}
+use Rattle.tla_value.specs.TreeHash.{is_next, unless_next, tree_writes, trees_writes, pairs_writes, writes_behind}
 use Rattle.tla_value.specs.Choices.{counted_up}
 use Rattle.tla_value.specs.declared.value.Value.{Value}
 use Rattle.tla_value.specs.declared.value.Value.TheVariants.{Truth, Int, Text, Model, Set, Fun}
@@ -24,10 +22,10 @@ fed_first (x ∷ xs) (y ∷ ys) d k v e l f g h =
 
 -- the next pair, and then what is left
 pub fed_more : (a : Tree) (ps : List (Value × Value)) (i : ℕ) (k v : Value) → i < length ps → (k, v) ≡ get_or ps i (k, v)
-    → (h : _) → fold folding.write h (writes_behind a (pairs (map pair_of (drop i ps)))) ≡ fold folding.write (fold folding.write (fold folding.write h (argument_behind a (tree_of k) (tree_writes (tree_of k)))) (tree_writes (tree_of v))) (writes_behind (tree_of k) (pairs (map pair_of (drop (suc i) ps))))
+    → (h : _) → fold folding.write h (writes_behind a (pairs (map pair_of (drop i ps)))) ≡ fold folding.write (fold folding.write (fold folding.write h (unless_next a (tree_of k) (tree_writes (tree_of k)))) (tree_writes (tree_of v))) (writes_behind (tree_of k) (pairs (map pair_of (drop (suc i) ps))))
 fed_more a ps i k v l is h =
     ap (λ qs. fold folding.write h (writes_behind a (pairs (map pair_of qs)))) (drop-cons ps i (k, v) l ∙ ap (λ p. p ∷ drop (suc i) ps) (sym is))
-    ∙ fold-append folding.write h (argument_behind a (tree_of k) (tree_writes (tree_of k))) _
+    ∙ fold-append folding.write h (unless_next a (tree_of k) (tree_writes (tree_of k))) _
     ∙ fold-append folding.write _ (tree_writes (tree_of v)) _
 
 -- ---- of numbers that follow one another the first alone
@@ -37,7 +35,7 @@ fed_behind zero z (t ∷ ts) e = absurd (omega arith)
 fed_behind (suc n) z [] e = absurd (omega arith)
 fed_behind (suc n) z (t ∷ ts) e =
     let y = z +ℤ pos 1 in
-    ap (λ b. cond b [] (fed.u64 GAP ++ tree_writes (int y)) ++ (tree_writes t ++ writes_behind (int y) (pairs (zip (counted_up n (y +ℤ pos 1)) ts)))) (int_eq_equiv.refl y)
+    ap (λ b. cond b [] (tree_writes (int y)) ++ (tree_writes t ++ writes_behind (int y) (pairs (zip (counted_up n (y +ℤ pos 1)) ts)))) (int_eq_equiv.refl y)
     ∙ ap (λ ws. tree_writes t ++ ws) (fed_behind n y ts (omega arith))
 
 pub fed_numbers : (n : ℕ) (z : ℤ) (ts : List Tree) → length ts ≡ n → 0 < n → pairs_writes (pairs (zip (counted_up n z) ts)) ≡ tree_writes (int z) ++ trees_writes (trees ts)

@@ -1,26 +1,24 @@
 -- What a tree feeds a hasher: its kind, unless it is a number, and then what it holds. A set and a function feed one word, the hash of their parts:
--- of a function each argument and its value, pair by pair, but of arguments that are numbers one behind the other the first alone. A mark tells where
--- another argument follows.
+-- of a function each argument and its value, pair by pair, without the arguments that are the number behind the one before.
 use Rattle.std.specs.Prelude.{ℕ, ◌++◌, [], fold, Bool, false, pos, ◌+ℤ◌, if◌then◌else◌}
 use Rattle.std.specs.Ordering.{int_eq}
 use Rattle.std.specs.Hash as fed
 use Rattle.std.specs.Hash.{HashWrites}
 use Rattle.std.specs.Hash.FoldHasher as folding
-use Rattle.tla_value.specs.declared.hash.TheConstants.{GAP}
 use Rattle.tla_value.specs.Tree.{Tree, Trees, Pairs, truth, int, text, model, set, fun, no_trees, more_trees, no_pairs, more_pairs}
 
 -- the word that a hasher makes of some writes
 unfoldable pub word_of : HashWrites → ℕ
 word_of ws = folding.finish (fold folding.write folding.initial ws)
 
--- whether the second tree is the first one plus one
+-- whether a tree is the number behind another
 abbrev pub is_next : Tree → Tree → Bool
 is_next (int x) (int y) = int_eq (x +ℤ pos 1) y
 is_next _ _ = false
 
--- the writes `ws` of an argument b that stands behind a
-abbrev pub argument_behind : Tree → Tree → HashWrites → HashWrites
-argument_behind a b ws = if is_next a b then [] else fed.u64 GAP ++ ws
+-- the writes of an argument behind another
+abbrev pub unless_next : Tree → Tree → HashWrites → HashWrites
+unless_next a b ws = if is_next a b then [] else ws
 
 abbrev mutual
   pub tree_writes : Tree → HashWrites
@@ -39,7 +37,7 @@ abbrev mutual
   pairs_writes no_pairs = []
   pairs_writes (more_pairs a v ps) = tree_writes a ++ (tree_writes v ++ writes_behind a ps)
 
-  -- the writes of the pairs that stand behind an argument
+  -- the pairs behind an argument
   pub writes_behind : Tree → Pairs → HashWrites
   writes_behind a no_pairs = []
-  writes_behind a (more_pairs b v ps) = argument_behind a b (tree_writes b) ++ (tree_writes v ++ writes_behind b ps)
+  writes_behind a (more_pairs b v ps) = unless_next a b (tree_writes b) ++ (tree_writes v ++ writes_behind b ps)

@@ -11,15 +11,14 @@ use Rattle.tla_core.specs.Always.{IsAlways}
 use Rattle.tla_core.specs.declared.expression.Core.{Core}
 use Rattle.tla_core.specs.declared.fixed.Fixed.{Fixed}
 
--- an expression with the value that it has whatever the names and the states are
 abbrev pub HasValue : Core → Value → Type 0
 HasValue c v = IsAlways (means (expr_of c)) (tree_of v)
 
 -- a field with its name and its value
 abbrev pub HasField : List ℕ × Core → Value × Value → Type 0
-HasField f p = (tree_of p.0 ≡ text f.0) × HasValue f.1 p.1
+HasField f p = (tree_of p.0 ≡ text f.0) × IsAlways (means (expr_of f.1)) (tree_of p.1)
 
--- the name of a field, beside the expression that is meant
+-- fields as they stand in memory
 abbrev pub named_core : List ℕ × Core → List ℕ × Expr
 named_core f = (f.0, expr_of f.1)
 

@@ -3,7 +3,7 @@ use Rattle.std.proofs.lemmas.List.{drop_all}
 use Rattle.std.specs.Hash.FoldHasher as folding
 use Rattle.tla_value.specs.Tree.{pairs}
 use Rattle.tla_value.specs.TreeOf.{tree_of, pair_of}
-use Rattle.tla_value.specs.TreeHash.{word_of, tree_writes, pairs_writes, writes_behind, argument_behind}
+use Rattle.tla_value.specs.TreeHash.{word_of, tree_writes, pairs_writes, writes_behind, unless_next}
 use Rattle.tla_value.specs.declared.value.Value.{Value}
 use Rattle.tla_value.specs.declared.value.Value.TheVariants.{Truth}
 use Rattle.tla_value.proofs.Pairs.{at-zip, length-zip, map-zip, read_at}
@@ -35,7 +35,7 @@ loop-i-preserved c =
     let before : get_or ks (i - 1) d ≡ b = read_at ks (i - 1) d b (omega (arith, c.requires, c.loop-i-test.true)) c.index-arguments-i.is in
     let here : get_or ks (i + 1 - 1) d ≡ k = ap (λ j. get_or ks j d) (omega arith) ∙ read_at ks i d k (omega (arith, c.requires, c.loop-i-test.true)) c.index-arguments-i-in-loop-i.is in
     let more = fed_more (tree_of (get_or ks (i - 1) d)) (zip ks vs) i k v (omega (arith, length-zip ks vs c.requires, c.loop-i-test.true)) is h in
-    let fed = c.hash-in-loop-i.ensures ∙ ap (λ s. fold folding.write s (tree_writes (tree_of v))) (c.feed_behind.ensures ∙ ap (λ x. fold folding.write h (argument_behind (tree_of x) (tree_of k) (tree_writes (tree_of k)))) (sym before)) in
+    let fed = c.hash-in-loop-i.ensures ∙ ap (λ s. fold folding.write s (tree_writes (tree_of v))) (c.feed_behind.ensures ∙ ap (λ x. fold folding.write h (unless_next (tree_of x) (tree_of k) (tree_writes (tree_of k)))) (sym before)) in
     (λ j. fold folding.write (fed j) (writes_behind (tree_of (here j)) (pairs (map pair_of (drop (add-one i j) (zip ks vs)))))) ∙ sym more ∙ c.loop-i.invariant
 
 -- behind the last pair nothing is left to be fed
