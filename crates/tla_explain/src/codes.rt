@@ -99,7 +99,7 @@ const P5: CodeText = CodeText {
     code: "P5",
     rule: "A form that is left out, named behind the colon.",
     example: "`Least == CHOOSE n : n > x` → `Module refused: P5 at line 6, column 10: CHOOSE.`",
-    cure: "docs/LANGUAGE.md says what to write in its place.",
+    cure: "docs/user/language.md says what to write in its place.",
 };
 
 const P6: CodeText = CodeText {
