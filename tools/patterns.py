@@ -1,12 +1,12 @@
 #!/usr/bin/env python3
-"""Measures whether a pattern in the states makes their table slow: what a state costs where all follow one.
+"""Measures whether a pattern in the states makes their table slow.
 
-    .ci/patterns [--program FILE] [--runs N] [KIND..]
+    tools/patterns.py [--program FILE] [--runs N] [KIND..]
 
-A model has the states of one pattern as its initial ones, and a step from each to itself, so that nearly all of a run is what the
-table of states takes. The kinds are numbers, pairs, triples, sequences, sets and functions; without a name all. The first pattern
-of a kind is the plainest. Of N runs (3), by one worker each, the shortest counts. The program is crates/tlacheck/out/tlacheck,
-which is proved and built where it is not there.
+A model's initial states follow one pattern, and each has a step to itself, so that a run spends nearly all its time in the
+table of states. The kinds are numbers, pairs, triples, sequences, sets and functions. Without a name it takes all. The first
+pattern of a kind is the plainest. Of N runs (3), by one worker each, the shortest counts. The program is crates/tlacheck/out/tlacheck,
+which is proved and built if it is not there.
 """
 import argparse
 import pathlib
@@ -15,7 +15,7 @@ import tempfile
 
 sys.dont_write_bytecode = True
 
-from built import built, measured
+from programs import built, measured
 
 CONFIGURATION = "INIT Init\nNEXT Next\nCHECK_DEADLOCK FALSE\n"
 
@@ -28,13 +28,13 @@ def each(expression):
 
 
 def digits(base, count, times=1):
-    """The digits of `i`, each so many times as large."""
+    """The digits of `i`, each multiplied by `times`."""
     return ", ".join(f"{times} * ((i \\div {base**place}) % {base})" for place in reversed(range(count)))
 
 
 KINDS = {
     "numbers": {
-        "one behind the other": each("i"),
+        "one after the other": each("i"),
         "negative": each("0 - i"),
         "multiples of 256": each("i * 256"),
         "multiples of 65,536": each("i * 65536"),
@@ -64,7 +64,7 @@ KINDS = {
         "of 18 numbers": "SUBSET (0..17)",
         "of 18 multiples of 65,536": "SUBSET {i * 65536 : i \\in 0..17}",
         "of 18 powers of 2": f"SUBSET {{{', '.join(str(2**it) for it in range(18))}}}",
-        "three behind one another": each("{i, i + 1, i + 2}"),
+        "three in a row": each("{i, i + 1, i + 2}"),
         "a number and its double": each("{i, 2 * i}"),
     },
     "functions": {

@@ -1,13 +1,13 @@
 #!/usr/bin/env python3
-"""Measures the stack that a run needs: of each worked specification that is nested deep, and of long lists of anything.
+"""Measures the stack that a run needs, for each case that is nested deep and for long lists.
 
-    .ci/stack [--program FILE] [--count N]
+    tools/stack.py [--program FILE] [--count N]
 
-Prints the least stack in KiB, of the first thread and of each thread that is started, with which a run by two workers still
-prints its report: of texts that are deep for one layer alone, of the cases of acceptance the five that need most, and of each
-list with N parts (10,000) beside one with a tenth of them, since no list may be stack depth. The status is 0 where four times
-as much is still within a thread's stack of 8,192 KiB. The program is crates/tlacheck/out/tlacheck, which is proved and built
-where it is not there.
+Prints the least stack in KiB, of the first thread and of each other, with which a run by two workers prints the same report
+and ends with the same status as with 8,192 KiB. It does so for texts that are deep for one layer alone, for the five cases of
+acceptance that need most, and for each list with N parts (10,000) and with a tenth of them, since a list must not take stack.
+The status is 0 if four times as much is still within a thread's stack of 8,192 KiB. The program is crates/tlacheck/out/tlacheck, which is proved and built
+if it is not there.
 """
 import argparse
 import itertools
@@ -19,30 +19,31 @@ import tempfile
 
 sys.dont_write_bytecode = True
 
-from built import TOP, built
-from long import CONFIGURATION, listed, module, named
+from acceptance_cases import CASES, active_cases
+from long_lists import CONFIGURATION, listed, module, named
+from programs import built
 
-DATA = TOP / "crates" / "acceptance" / "data"
 A_THREADS = 8192
 STEP = 16
 
 
 def within(kib, words):
-    """What a run prints with so much stack."""
+    """The exit status and the report of a run with a stack of this size."""
     def bound():
         resource.setrlimit(resource.RLIMIT_STACK, (kib * 1024, resource.RLIM_INFINITY))
-    return subprocess.run(words, stdout=subprocess.PIPE, stderr=subprocess.DEVNULL, preexec_fn=bound, check=False).stdout
+    run = subprocess.run(words, stdout=subprocess.PIPE, stderr=subprocess.DEVNULL, preexec_fn=bound, check=False)
+    return run.returncode, run.stdout
 
 
 def least(words):
-    """The least stack with which a run prints what it prints with that of a thread, in steps of 16 KiB."""
-    report = within(A_THREADS, words)
-    if not report:
-        raise SystemExit(f"WRONG: no report within {A_THREADS} KiB: {words}")
+    """The least stack with which a run ends as it does with that of a thread, in steps of 16 KiB."""
+    ended = within(A_THREADS, words)
+    if ended[0] < 0 or not ended[1]:
+        raise SystemExit(f"WRONG: status {ended[0]}, {len(ended[1])} bytes of report within {A_THREADS} KiB: {words}")
     low, high = 0, A_THREADS // STEP
     while high - low > 1:
         middle = (low + high) // 2
-        if within(middle * STEP, words) == report:
+        if within(middle * STEP, words) == ended:
             high = middle
         else:
             low = middle
@@ -50,10 +51,9 @@ def least(words):
 
 
 def nested():
-    """Name, module and configuration of the worked specifications that are nested deep."""
-    for line in (DATA / "active").read_text().splitlines():
-        name, kind = line.split()[:2]
-        folder = DATA / name
+    """Name, module and configuration of the cases that are nested deep."""
+    for name, kind, *_ in active_cases():
+        folder = CASES / name
         if kind == "texts" and name.startswith("depths/"):
             texts = (folder / "texts").read_bytes().split(b"\f")
             for number in range(0, len(texts) - 1, 2):

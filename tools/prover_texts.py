@@ -1,11 +1,11 @@
 #!/usr/bin/env python3
-"""Lists the functions of a library of which the prover makes the longest texts before it proves anything.
+"""Lists the functions of a library for which the prover writes the longest texts before it proves anything.
 
-    .ci/made CRATE [COUNT]
+    tools/prover_texts.py CRATE [COUNT]
 
-Prints the megabytes of the steps of each of the COUNT (20) longest, under the sum of all, by what the last `rt ci` or `rt lib` left in
-crates/CRATE/out. Each statement of a function has in it the whole type of each place that it touches, and a type has the whole of
-each type to which it refers, also behind a variant; of a box or a list it has the name alone.
+Prints the sum, and then the megabytes of each of the COUNT (20) longest, from what the last `rt ci` or `rt lib` left in
+crates/CRATE/out. A statement's text has the whole type of each place that it touches, and a type has the whole of each type to
+which it refers, also in a variant; of a box or a list it has only the name.
 """
 import argparse
 import sys
@@ -13,7 +13,7 @@ from collections import Counter
 
 sys.dont_write_bytecode = True
 
-from built import TOP
+from programs import TOP
 
 
 def function_of(name):

@@ -1,4 +1,4 @@
-"""Texts with long lists, for the commands that measure what lists cost."""
+"""Specifications with long lists, for the commands that measure what lists cost."""
 
 MODULE = "---- MODULE M ----\nEXTENDS Integers, Sequences\nVARIABLE x\n{before}Init == x = 0\nNext == x' = {next}\n====\n"
 CONFIGURATION = "INIT Init NEXT Next CHECK_DEADLOCK FALSE\n"
@@ -9,7 +9,7 @@ def module(after="0", before=""):
 
 
 def listed(count):
-    """Name, module and configuration of each list of so many parts."""
+    """Name, module and configuration of each kind of list, with this number of parts."""
     numbers = range(count)
 
     def many(form, between=", "):

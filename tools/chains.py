@@ -1,10 +1,10 @@
 #!/usr/bin/env python3
 """Measures what a level costs: chains of levels of one state each, by 1, 2 and 4 workers.
 
-    .ci/chains [--program FILE] [LEVELS..]
+    tools/chains.py [--program FILE] [LEVELS..]
 
-Prints seconds, processor seconds and memory of each run, and what a level took. The program is crates/tlacheck/out/tlacheck,
-which is proved and built where it is not there.
+Prints the seconds, processor seconds and memory of each run, and the microseconds of a level. The program is crates/tlacheck/out/tlacheck,
+which is proved and built if it is not there.
 """
 import argparse
 import pathlib
@@ -13,7 +13,7 @@ import tempfile
 
 sys.dont_write_bytecode = True
 
-from built import built, measured
+from programs import built, measured
 
 MODULE = "---- MODULE Chain ----\nEXTENDS Integers\nVARIABLE x\nInit == x = 1\nNext == x < {levels} /\\ x' = x + 1\n====\n"
 CONFIGURATION = "INIT Init\nNEXT Next\nCHECK_DEADLOCK FALSE\n"
@@ -34,7 +34,7 @@ def main():
                 text, seconds, used, memory = measured([program, module, configuration, "--workers", str(workers)])
                 wrong += text != f"No error.\nLevels {levels}, states {levels}.\n"
                 each = used / levels * 1e6
-                print(f"{levels} levels, {workers} workers: {seconds:.2f} s, {used:.2f} processor s, {memory} MiB, {each:.1f} microseconds a level", flush=True)
+                print(f"{levels} levels, {workers} worker{'s' * (workers > 1)}: {seconds:.2f} s, {used:.2f} processor s, {memory} MiB, {each:.1f} microseconds a level", flush=True)
     return min(wrong, 1)
 
 

@@ -1,18 +1,18 @@
 #!/usr/bin/env python3
-"""Runs the gate and prints what it took: processor seconds of each crate, by what they went into, and of the whole the minutes, the
-most memory that its provers held at once, and the disk that it took.
+"""Runs the gate and prints what it took: the processor seconds of each crate, by kind of work, and the whole's minutes, the most
+memory of its provers at one time, and the disk.
 
-    .ci/minutes [--anew]
+    tools/minutes.py [--anew]
 
-Each proof gets one processor (RT_JOBS, as many at once as there are processors, of four or more all but one, where memory allows):
-with more a proof takes many more processor seconds and hardly less time, and where all are busy each proof is slower. What an
-earlier run on this machine passed, and nothing changed since, takes no time here, but with --anew; the line `rt: ok` says how
-much was done. (So it is with rattle-kit-13f. With rattle-kit-13b each run does all, and there is no --anew.) The gate's own lines
-come first, as they are, but for the one that counts what passed, which is printed last.
+Each proof gets one processor. RT_JOBS is the number of proofs at one time: all processors, of four or more all but one, if memory
+allows. With more processors a proof takes many more processor seconds and hardly less time. With rattle-kit-13f, what an earlier
+run on this machine passed is proved again only if it changed, or with --anew; the line `rt: ok` shows how much was done. With
+rattle-kit-13b each run does all, and there is no --anew. The gate's own lines come first; the one that counts what passed is
+printed last.
 
-Where a processor is shared with what this machine can't see, as that of most virtual machines is, each second does less. So a
-loop that always does the same is timed all the while: the last lines say how much longer it took on the average than at its
-best, and what the processor minutes would be if each second did as much as the best.
+Most virtual machines share their processors with others, so that a second does less than at best. To show this, a loop that always
+does the same is timed throughout: the last lines have the ratio of its average to its best time, and what the processor minutes
+would be if each second did as much as the best.
 """
 import argparse
 import os
@@ -25,19 +25,19 @@ import time
 
 sys.dont_write_bytecode = True
 
-from built import TOP
+from programs import TOP
 
 KINDS = ("proof", "tests", "wrong bodies")
 
 # What a proof may need of memory, in bytes.
 ROOM = 5 * 2**30
 
-# How many seconds lie between two timings of the loop.
+# The seconds between two timings of the loop.
 BETWEEN = 20
 
 
 def lanes():
-    """How many proofs run at once, each on one processor: one is left free of four or more, and memory has to allow it."""
+    """The number of proofs at one time, each on one processor: all, of four or more all but one, if memory allows."""
     with open("/proc/meminfo", encoding="utf-8") as file:
         free = 1024 * int(re.search(r"MemAvailable:\s+(\d+)", file.read()).group(1))
     processors = len(os.sched_getaffinity(0))
@@ -45,7 +45,7 @@ def lanes():
 
 
 def kind_of(words):
-    """What a process of the prover is there for. Of a program, its builds count with its proof."""
+    """The kind of work of a prover's process. The builds of a program count with its proof."""
     if "--test" in words:
         return "tests"
     if "src/main.rt" in words:
@@ -82,14 +82,14 @@ def processes(above):
 
 
 def loop():
-    """Processor seconds of a loop that always does the same."""
+    """The processor seconds of a loop that always does the same."""
     begun = time.thread_time()
     sum(number * number for number in range(1_000_000))
     return time.thread_time() - begun
 
 
 def shared(loops, minutes):
-    """A line that says how fast the processors were."""
+    """A line about the speed of the processors."""
     slower = sum(loops) / len(loops) / min(loops)
     return f"a loop took {slower:.2f} times as long on the average as at its best: {minutes / slower:.0f} processor minutes at the best"
 
@@ -111,7 +111,7 @@ def table(seen, minutes, most):
 
 
 def sample(gate, seen, most):
-    """Notes, every second, what the gate's processes have taken so far, until it has ended."""
+    """Records, every second until the gate ends, what its processes have taken."""
     before = shutil.disk_usage(TOP).used
     begun = time.time()
     while gate.poll() is None:
@@ -125,8 +125,8 @@ def sample(gate, seen, most):
         time.sleep(1)
 
 
-def told(gate):
-    """Prints the gate's lines as they come, all but the one that counts what passed, which is answered."""
+def printed(gate):
+    """Prints the gate's lines as they come, all but the one that counts what passed, which it returns."""
     count = []
     for line in gate.stdout:
         if re.fullmatch(r"\d+ passed, \d+ failed\s*", line):
@@ -146,7 +146,7 @@ def main():
     with subprocess.Popen(command, cwd=TOP, env=settings, **ways) as gate:
         sampler = threading.Thread(target=sample, args=(gate, seen, most), daemon=True)
         sampler.start()
-        count = told(gate)
+        count = printed(gate)
         gate.wait()
     sampler.join()
     print(*table(seen, (time.time() - begun) / 60, most), *count, sep="\n", flush=True)

@@ -1,12 +1,12 @@
 #!/usr/bin/env python3
 """Measures what several workers gain: two-phase commit with 7 resource managers, and six counters of 0 to 9.
 
-    .ci/speed-up [--program FILE] [--runs RUNS] [--cut STATES] [--real-time]
+    tools/speed_up.py [--program FILE] [--runs RUNS] [--cut STATES] [--real-time]
 
-Each by 1, 2 and 4 workers in pieces of so many states (1024), the best of RUNS runs (3), with seconds, processor seconds and
-memory, and how many times as fast as one worker; then four runs of the counters at once. The program is
-crates/tlacheck/out/tlacheck, which is proved and built where it is not there. Only a machine with four processors that does
-nothing else tells something.
+Each model is run by 1, 2 and 4 workers in pieces of STATES states (1024). A row has the seconds, processor seconds and memory
+of the best of RUNS runs (3), and the ratio to one worker. Then four runs of the counters at once. The program is
+crates/tlacheck/out/tlacheck, which is proved and built if it is not there. Only a quiet machine with
+four processors shows anything.
 
 With --real-time each run has real-time priority (chrt, as root): no ordinary process takes a processor from it for long, and a
 thread that starts goes to a free processor at once, whereas otherwise two were seen to share one for tens of milliseconds. While
@@ -24,7 +24,7 @@ import time
 
 sys.dont_write_bytecode = True
 
-from built import TOP, built, measured
+from programs import TOP, built, measured
 
 COUNTERS = """---- MODULE Counters ----
 EXTENDS Naturals
@@ -70,28 +70,30 @@ def rows(program, runs, name, words, last):
     alone = None
     for workers in (1, 2, 4):
         tried = [measured([*program, *words, "--quiet", "--workers", str(workers)]) for _ in range(runs)]
-        for said, *_ in tried:
-            if said != f"No error.\n{last}\n":
-                raise SystemExit(f"WRONG: {name} by {workers} workers: {said!r}")
-        _, seconds, used, memory = min(tried, key=lambda it: it[1])
+        for run in tried:
+            if run.report != f"No error.\n{last}\n":
+                raise SystemExit(f"WRONG: {name} by {workers} workers: {run.report!r}")
+        _, seconds, used, memory = min(tried, key=lambda it: it.seconds)
         alone = alone or seconds
         yield f"| {name} | {workers} | {seconds:.1f} | {used:.1f} | {memory} | {alone / seconds:.2f} |"
 
 
 def at_once(program, name, words):
-    """A line that tells what four runs by one worker each take side by side: what the machine itself loses then."""
+    """A line about four runs by one worker each, side by side, which shows what the machine itself loses."""
     begun, ends = time.time(), []
     command, silent = [*program, *words, "--quiet"], subprocess.DEVNULL
     runs = [subprocess.Popen(command, stdout=silent, stderr=silent) for _ in range(4)]
     while len(ends) < len(runs):
-        os.wait()
+        _, status = os.wait()
+        if status != 0:
+            raise SystemExit(f"WRONG: one of four runs of {name} ended with status {os.waitstatus_to_exitcode(status)}")
         ends.append(time.time() - begun)
     return f"Four runs of {name} at once, by one worker each: {ends[0]:.1f} to {ends[-1]:.1f} seconds."
 
 
 def print_tables(program, said):
-    """Prints the rows of each model, and behind those of the counters the line of four runs at once."""
-    print("| model | workers | seconds | processor seconds | MiB | times as fast |\n|---|---|---|---|---|---|")
+    """Prints the rows of each model, and after those of the counters the line of four runs at once."""
+    print("| model | workers | seconds | processor seconds | MiB | ratio to one worker |\n|---|---|---|---|---|---|")
     for name, module, configuration, last in texts():
         with tempfile.TemporaryDirectory() as folder:
             files = [f"{folder}/Model.tla", f"{folder}/Model.cfg"]

@@ -1,25 +1,23 @@
 #!/usr/bin/env python3
-"""Measures six models in three sizes each, by one worker and by four, and another checker of the same models beside.
+"""Measures six models in three sizes each, by one worker and by four, if asked beside another checker.
 
-    .ci/compare [--program FILE] [--other FILE] [--runs N] [MODEL..]
+    tools/compare.py [--program FILE] [--other FILE] [--runs N] [MODEL..]
 
-The models are those of .ci/models: counters, dining philosophers, a filter lock, two-phase commit, the alternating bit
-protocol and gossip; without a name it takes all. Prints a row for each size and number of workers: seconds, processor
-seconds and MiB, of N runs (1) the one of least processor seconds, and of these the microseconds for each state, with how
-many times as many they are as at the size before. With --other, a program that takes MODULE CONFIG --workers N as this one
-does, its processor seconds and MiB follow, and how many times as much this one took of both. Each report is looked at: with
-other states than the model has, the command ends at once. The program is crates/tlacheck/out/tlacheck, which is proved and
-built where it is not there.
+The models are in tools/bench/models: counters, dining philosophers, a filter lock, two-phase commit, the alternating bit
+protocol and gossip. Without a name it takes all. It prints a row for each size and number of workers: seconds, processor
+seconds and MiB of the best of N runs (1), by processor seconds; the microseconds a state; and their growth from the size
+before. --other names a program that takes MODULE CONFIG --workers N; its processor seconds and MiB follow, and the ratios.
+If a report has another number of states than the model, or a run another status than 0, the command ends. The program is
+crates/tlacheck/out/tlacheck, which is proved and built if it is not there.
 """
 import argparse
-import pathlib
 import re
 import sys
 import tempfile
 
 sys.dont_write_bytecode = True
 
-from built import TOP, built, measured
+from programs import TOP, built, measured
 
 # the constants of each size, and how many states they lead to
 SIZES = {
@@ -39,24 +37,24 @@ def behaviour(name):
 
 
 def best(runs, words, states):
-    """The least processor seconds of so many runs, with their seconds and memory."""
+    """Of these runs the one of least processor seconds."""
     tried = []
     for _ in range(runs):
-        said, *took = measured(words)
-        if not re.search(rf"\b{states}\b", said):
-            raise SystemExit(f"WRONG: {' '.join(words)}: {said!r}")
-        tried.append(took)
-    return min(tried, key=lambda it: it[1])
+        run = measured(words)
+        if not re.search(rf"\b{states}\b", run.report):
+            raise SystemExit(f"WRONG: {' '.join(words)}: {run.report!r}")
+        tried.append(run)
+    return min(tried, key=lambda it: it.processor_seconds)
 
 
 def row(said, program, name, size, states, workers, files, before):
-    """A row for one size by so many workers, and the microseconds for each state; `before` has those of the size before."""
-    seconds, used, memory = best(said.runs, [program, *files, "--quiet", "--workers", workers], states)
+    """A row for one size and number of workers, and the microseconds a state; `before` has those of the size before."""
+    _, seconds, used, memory = best(said.runs, [program, *files, "--quiet", "--workers", workers], states)
     each = 1e6 * used / states
     grown = f"{each / before:.2f}" if before else ""
     cells = [name, size, f"{states:,}", workers, f"{seconds:.2f}", f"{used:.2f}", memory, f"{each:.1f}", grown]
     if said.other:
-        _, theirs, their_memory = best(said.runs, [said.other, *files, "--workers", workers], states)
+        _, _, theirs, their_memory = best(said.runs, [said.other, *files, "--workers", workers], states)
         cells += [f"{theirs:.2f}", their_memory, f"{used / max(theirs, 0.01):.1f}", f"{memory / max(their_memory, 1):.2f}"]
     return "| " + " | ".join(map(str, cells)) + " |", each
 
@@ -70,10 +68,10 @@ def main():
     said = parser.parse_args()
     program = built("tlacheck", said.program)
     heads = ["model", "size", "states", "workers", "seconds", "processor seconds", "MiB", "microseconds a state", "growth"]
-    heads += ["the other's processor seconds", "MiB", "times as long", "times as much"] if said.other else []
+    heads += ["the other's processor seconds", "its MiB", "ratio of time", "ratio of memory"] if said.other else []
     print("| " + " | ".join(heads) + " |\n" + "|---" * len(heads) + "|")
     for name in said.models:
-        module = TOP / ".ci" / "models" / f"{name}.tla"
+        module = TOP / "tools" / "bench" / "models" / f"{name}.tla"
         before = {}
         for size, states in SIZES[name]:
             with tempfile.NamedTemporaryFile("w", suffix=".cfg") as configuration:

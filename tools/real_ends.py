@@ -1,12 +1,12 @@
 #!/usr/bin/env python3
-"""Runs tlacheck where files, memory and time really end, and looks at what it says.
+"""Runs tlacheck where files, memory and time really end, and checks what it reports.
 
-    .ci/real-ends [--program FILE] [PART..]
+    tools/real_ends.py [--program FILE] [PART..]
 
 The parts are `outputs` (a full device, pipes that nobody reads), `inputs` (a folder, no file, a pipe that never ends, a
 file that grows), `masses` (64 MiB of one thing as the module and as the configuration), `memory` (a million states within
-ten limits of memory) and `signals` (an interrupt); without a name all are run. Each run has an end in time, and each input
-one in size. The program is crates/tlacheck/out/tlacheck, which is proved and built where it is not there.
+ten limits of memory) and `signals` (an interrupt). Without a name it runs all. Each run is bounded in time, and each input
+in size. The program is crates/tlacheck/out/tlacheck, which is proved and built if it is not there.
 """
 
 import argparse
@@ -24,11 +24,11 @@ import time
 
 sys.dont_write_bytecode = True
 
-from built import built
+from programs import built
 
 MIB = 1 << 20
 
-# A file is read in so many reads at most.
+# The most reads of a file.
 MOST_READS = 1_000_000
 
 CONFIG = b"INIT Init\nNEXT Next\n"
@@ -93,7 +93,7 @@ class Ends:
         (self.folder / name).write_bytes(text)
 
     def start(self, *words, memory=None, **how):
-        """Starts the program on these words, where given with so many bytes of memory."""
+        """Starts the program on these words, within `memory` bytes if given."""
 
         def limit():
             resource.setrlimit(resource.RLIMIT_CORE, (0, 0))
@@ -141,7 +141,7 @@ class Ends:
         started.stdout.read(10)
         started.stdout.close()
         errors = started.stderr.read()
-        self.expect("Long.tla to a pipe that is closed behind ten bytes", (started.wait(60), None, errors), (21, None, b""))
+        self.expect("Long.tla to a pipe that is closed after ten bytes", (started.wait(60), None, errors), (21, None, b""))
         words = ["sh", "-c", 'exec "$0" --quiet M.tla M.cfg >&-', self.program]
         ran = subprocess.run(words, cwd=self.folder, stderr=subprocess.PIPE, timeout=60)
         self.expect("M.tla to no output", (ran.returncode, None, ran.stderr), (21, None, b""))
@@ -149,7 +149,7 @@ class Ends:
             self.expect("--help to a full device", self.run("--help", stdout=full), (21, None, b""))
 
     def inputs(self):
-        """What can't be read, or not to its end, is told."""
+        """What can't be read, or not to its end, is reported."""
         (self.folder / "Folder").mkdir()
         self.expect("a folder as the module", self.run("Folder", "M.cfg"), cannot_read("Folder", "it is a folder"))
         self.expect("a folder as the configuration", self.run("M.tla", "Folder"), cannot_read("Folder", "it is a folder"))
@@ -162,7 +162,7 @@ class Ends:
             self.expect(f"a pipe that gives {size} bytes a read and has no end", found, cannot_read("Fifo", cause))
         self.put("Grows.tla", COUNTER)
         found = self.beside(self.grow, "Grows.tla", "M.cfg")
-        self.expect("a file that grows behind the closing line", found, (0, COUNTED, b""))
+        self.expect("a file that grows after the closing line", found, (0, COUNTED, b""))
 
     def beside(self, work, *words, **how):
         """A run, beside a thread that works until the run has ended."""
@@ -226,7 +226,7 @@ class Ends:
         return self.run(*words, seconds=300, memory=8192 * MIB)
 
     def memory(self):
-        """Within any limit of memory a report is told, or that there is none."""
+        """Within any limit of memory there is a report, or `Out of memory.`."""
         self.put("Million.tla", MILLION)
         self.put("Million.cfg", MILLION_CONFIG)
         for size in (4, 8, 16, 32, 64, 128, 256, 512, 1024, 4096):
@@ -269,7 +269,7 @@ def refused(line):
 
 
 def place_of_no_utf8(text):
-    """Where the first bytes stand that are no character. A tab goes on to the next column 8n + 1."""
+    """The place of the first bytes that are no character. A tab goes on to the next column 8n + 1."""
     try:
         text.decode()
     except UnicodeDecodeError as error:

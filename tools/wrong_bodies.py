@@ -1,14 +1,14 @@
 #!/usr/bin/env python3
-"""Tries the wrong bodies that the gate leaves out, crates/NAME/wrong-bodies, of these crates or of all: the prover must refuse each.
+"""Tries the wrong bodies that the gate leaves out, crates/NAME/wrong-bodies, of these crates or of all. The prover must refuse each.
 
-    .ci/wrong-bodies [--in FOLDER] [--jobs N] [NAME..]
+    tools/wrong_bodies.py [--in FOLDER] [--jobs N] [NAME..]
 
-It works on a copy of the last commit, or in FOLDER, a clone, where what was built before need not be built again. Those that stand
-in different functions are put into the crate together, and the prover checks these functions and what they call. A wrong body is
-refused where a goal of its own function isn't proved. It is tried alone where nothing is told of the function, since one that it
-calls is refused, and where it changes a constant, since then the whole crate is checked; alone, whatever isn't proved refuses it.
-A line for each says what refused it; the status is 0 where all are refused. One that takes away what a proof file of its function
-names is refused for that alone, maybe, and says little of the contract: its line says so, and the last one counts them.
+It works on a copy of the last commit, or in FOLDER, a clone, where what is built need not be built again. Wrong bodies in different
+functions are put into the crate together, and the prover checks these functions and what they call. A wrong body is refused if a
+goal of its own function isn't proved. It is tried alone if the prover reports nothing about the function, since one that it calls
+is refused, and if it changes a constant, since then the whole crate is checked; then any goal that isn't proved refuses it.
+A line for each shows what refused it; the status is 0 if all are refused. A wrong body that removes what a proof file of its
+function names may be refused for that alone, and shows little about the contract: its line says so, and the last one counts them.
 """
 import argparse
 import pathlib
@@ -20,14 +20,14 @@ from dataclasses import dataclass, field
 
 sys.dont_write_bytecode = True
 
-from built import TOP
+from programs import TOP
 
-# How many are tried together at most.
+# The most that are tried together.
 MOST = 20
 
 FUNCTION = re.compile(r"^(\s*)(?:pub(?:\([a-z]+\))? )?(?:const )?fn (\w+)")
 TYPE = re.compile(r"(?m)^(?:pub(?:\([a-z]+\))? )?(?:struct|enum) (\w+)")
-TOLD = re.compile(r"(?m)^(?:\w+: )?(?:\./)?(src/\S+?):(\d+):\d+: ?(.*)$")
+REPORTED = re.compile(r"(?m)^(?:\w+: )?(?:\./)?(src/\S+?):(\d+):\d+: ?(.*)$")
 ANSWER = re.compile(r"(?m)^\./proofs/(\S+?)/\w+\.antt:\d+:\d+: error: (.*)$")
 STATE = re.compile(r"(?m)^fn \w+::(\S+?): (.*)$")
 NAMES = re.compile(r"has no field|is not in scope|has no `|was not admitted")
@@ -46,7 +46,7 @@ class Function:
 
 @dataclass
 class WrongBody:
-    """A wrong body: the lines that it changes in a file of its crate, and the functions in which all of them stand, if they do."""
+    """A wrong body: the lines that it changes in a file of its crate, and their functions, if each is in one."""
 
     name: str
     file: str
@@ -62,7 +62,7 @@ def module_of(file):
 
 
 def modules_of_types(crate):
-    """The module in which each type of a crate stands."""
+    """The module of each type of a crate."""
     files = sorted((crate / "src").rglob("*.rt"))
     return {name: module_of(str(file.relative_to(crate))) for file in files for name in TYPE.findall(file.read_text(encoding="utf-8"))}
 
@@ -99,7 +99,7 @@ def functions_of(file, text, modules):
 
 
 def read(crate, path, modules):
-    """The wrong body that a file says."""
+    """The wrong body in a file."""
     lines = path.read_text(encoding="utf-8").split("\n")
     olds = [line[5:] for line in lines if line.startswith("old: ")]
     news = [line[5:] for line in lines if line.startswith("new:")]
@@ -108,7 +108,7 @@ def read(crate, path, modules):
     functions, now, places = functions_of(wrong.file, text, modules), text, []
     for old, new in wrong.pairs:
         if now.count(old) != 1:
-            wrong.why_bad = f"its old text stands {now.count(old)} times"
+            wrong.why_bad = f"its old text occurs {now.count(old)} times"
             return wrong
         if text.count(old) == 1:
             line = text.count("\n", 0, text.find(old)) + 1
@@ -120,7 +120,7 @@ def read(crate, path, modules):
 
 
 def together(waiting):
-    """Some of those that wait, of which no two stand in one function."""
+    """Some of those that wait, no two in one function."""
     taken, batch = set(), []
     for wrong in waiting:
         own = {(wrong.file, it.first) for it in wrong.functions}
@@ -131,7 +131,7 @@ def together(waiting):
 
 
 def checked(crate, batch, jobs):
-    """What the prover says of the functions of these wrong bodies, once all of them are put into the crate."""
+    """What the prover reports about the functions of these wrong bodies, with all of them in the crate."""
     before = {wrong.file: (crate / wrong.file).read_text(encoding="utf-8") for wrong in batch}
     after = dict(before)
     for wrong in batch:
@@ -154,30 +154,30 @@ def is_path_of(function, path):
     return path == function.asked or (path.startswith(function.asked) and path.endswith(f"::{function.name}"))
 
 
-def told_of(wrong, said):
-    """What the prover says against the functions of a wrong body."""
-    told = []
+def reported_of(wrong, said):
+    """What the prover reports against the functions of a wrong body."""
+    reported = []
     for it in wrong.functions:
-        told += [what for file, line, what in TOLD.findall(said) if file == wrong.file and it.first <= int(line) <= it.last]
+        reported += [what for file, line, what in REPORTED.findall(said) if file == wrong.file and it.first <= int(line) <= it.last]
         for place, what in ANSWER.findall(said):
             # (functions that call one another are proved in one folder, whose name begins with +)
             of_cycle = "+" in place and re.match(rf"`(?:\w+::)*{it.name}-", what)
             if of_cycle or is_path_of(it, place.replace("/", "::")):
-                told.append(what)
-    return told
+                reported.append(what)
+    return reported
 
 
 def judged(wrong, said):
-    """Whether a wrong body was refused, None where nothing is known, and why."""
-    told = told_of(wrong, said)
+    """Whether a wrong body was refused, or None if that isn't known; and why."""
+    reported = reported_of(wrong, said)
     if not STATE.search(said):
-        wrong.why_bad = told[0] if told else ""
-        return (False, told[0]) if told else (None, said[-300:])
+        wrong.why_bad = reported[0] if reported else ""
+        return (False, reported[0]) if reported else (None, said[-300:])
     states = [state for path, state in STATE.findall(said) if any(is_path_of(it, path) for it in wrong.functions)]
     if states and all(state.startswith("proved") for state in states):
         return False, "it is still proved"
-    wrong.says_little = any(NAMES.search(it) for it in told)
-    return (True, told[0]) if told else (None, "; ".join(states) or said[-300:])
+    wrong.says_little = any(NAMES.search(it) for it in reported)
+    return (True, reported[0]) if reported else (None, "; ".join(states) or said[-300:])
 
 
 def verdict_of(wrong, is_refused, why):

@@ -1,13 +1,13 @@
 #!/usr/bin/env python3
 """Measures how the time of a search grows with its states and with the parts of a specification.
 
-    .ci/growth [--program FILE] [--runs N] [KIND..]
+    tools/growth.py [--program FILE] [--runs N] [KIND..]
 
-The kinds are states (counters of a larger and larger range), variables, invariants, disjuncts, members (of a set that each
-state has), arguments (of a function that each state has) and definitions (each within the one before); without a name all.
-Prints for each size seconds, MiB and how the time grew from the size before, the growth of the size divided out: 1 is linear,
-and less is less. Of N runs (3), by one worker each, the shortest counts. The program is crates/tlacheck/out/tlacheck, which
-is proved and built where it is not there.
+The kinds are states (counters of a larger and larger range), variables, invariants, disjuncts, members (of a set in each
+state), arguments (of a function in each state) and definitions (each uses the one before). Without a name it takes all.
+It prints for each size the seconds, the MiB, and the growth of the time from the size before divided by the growth of the
+size: 1 is linear. Of N runs (3), by one worker each, the shortest counts. The program is crates/tlacheck/out/tlacheck, which
+is proved and built if it is not there.
 """
 import argparse
 import pathlib
@@ -16,7 +16,7 @@ import tempfile
 
 sys.dont_write_bytecode = True
 
-from built import built, measured
+from programs import built, measured
 
 CONFIGURATION = "INIT Init\nNEXT Next\nINVARIANT Inv\nCHECK_DEADLOCK FALSE\n"
 

@@ -1,12 +1,12 @@
 #!/usr/bin/env python3
 """Measures how time and memory grow with the lists of a text.
 
-    .ci/lists [--program FILE] [--seconds N] [COUNT..]
+    tools/lists.py [--program FILE] [--seconds N] [COUNT..]
 
-Prints for each kind of list, with 1,000, 10,000 and 100,000 parts (or as many as are given), seconds and MiB of a run by one
-worker, one row for each kind, and the code where the text is refused, as beyond a limit. A run of more than 100 processor
-seconds is ended, and each longer one of its kind isn't begun. The status is 0 where no run ended by another signal. The
-program is crates/tlacheck/out/tlacheck, which is proved and built where it is not there.
+Prints a row for each kind of list: for 1,000, 10,000 and 100,000 parts (or the given counts) the seconds and MiB of a run by
+one worker, and the code if the text is beyond a limit. A run of more than 100 processor seconds is ended, and longer lists
+of its kind are skipped. The status is 1 if a run ended by another signal, or with a status that doesn't fit its report. The
+program is crates/tlacheck/out/tlacheck, which is proved and built if it is not there.
 """
 import argparse
 import itertools
@@ -22,23 +22,31 @@ import time
 
 sys.dont_write_bytecode = True
 
-from built import built
-from long import listed, named
+from programs import built
+from long_lists import listed, named
+
+
+# How a report shows a code, and the status of each kind of report.
+CODE = re.compile(r"^(Module refused:|Configuration refused:|Fault) (\w+)")
+STATUSES = {None: 0, "Module refused:": 20, "Configuration refused:": 20, "Fault": 12}
 
 
 def measured(words, most):
-    """The seconds and the MiB of a run, and the code of a refusal; or the signal that ended it, and nothing where its time did."""
+    """The seconds and MiB of a run, with the code of its report; what is wrong with it; or None if its time was over."""
     def bound():
         resource.setrlimit(resource.RLIMIT_CPU, (most, most + 1))
     before = time.time()
     with subprocess.Popen(words, stdout=subprocess.PIPE, text=True, preexec_fn=bound) as run:
-        refused = re.search(r"refused: (\w+)", run.stdout.read())
+        report = run.stdout.read()
         _, status, used = os.wait4(run.pid, 0)
-        run.returncode = status
-    if os.WIFSIGNALED(status):
-        ended = os.WTERMSIG(status)
-        return None if ended == signal.SIGXCPU else f"WRONG: signal {ended}"
-    code = f", {refused[1]}" if refused else ""
+        run.returncode = os.waitstatus_to_exitcode(status)
+    if run.returncode == -signal.SIGXCPU:
+        return None
+    found = CODE.search(report)
+    wanted = STATUSES[found[1] if found else None]
+    if run.returncode != wanted:
+        return f"WRONG: status {run.returncode} after {report[:100]!r}"
+    code = f", {found[2]}" if found else ""
     return f"{time.time() - before:.2f} s, {used.ru_maxrss // 1024} MiB{code}"
 
 

@@ -1,9 +1,9 @@
 #!/usr/bin/env python3
-"""Counts the instructions of a run that tells how far it is, and of the same run with --quiet, in pieces of 1,024 states and of one.
+"""Counts the instructions of a run with progress lines and of the same run with --quiet, in pieces of 1,024 states and of one.
 
-    .ci/signs-of-life [--program FILE]
+    tools/progress_cost.py [--program FILE]
 
-The program is crates/tlacheck/out/tlacheck, which is proved and built where it is not there. valgrind counts; under it the
+The program is crates/tlacheck/out/tlacheck, which is proved and built if it is not there. valgrind counts; under it the
 run takes long enough for a line every few seconds.
 """
 
@@ -16,7 +16,7 @@ import tempfile
 
 sys.dont_write_bytecode = True
 
-from built import built
+from programs import built
 
 MODULE = """---- MODULE Grid ----
 EXTENDS Integers
@@ -31,10 +31,10 @@ CONFIGURATION = "INIT Init\nNEXT Next\nINVARIANT Inv\n"
 
 
 def instructions(words):
-    """How many instructions a run takes, and how many lines it tells."""
+    """The number of instructions of a run, and of its progress lines."""
     line = ["valgrind", "--tool=callgrind", "--callgrind-out-file=/dev/null", *words]
-    told = subprocess.run(line, check=True, capture_output=True, text=True).stderr
-    return int(re.search(r"Collected : (\d+)", told).group(1)), told.count("tlacheck: level")
+    errors = subprocess.run(line, check=True, capture_output=True, text=True).stderr
+    return int(re.search(r"Collected : (\d+)", errors).group(1)), errors.count("tlacheck: level")
 
 
 def main():
@@ -48,9 +48,9 @@ def main():
         for cut in ("1024", "1"):
             words = [program, module, configuration, "--cut", cut]
             quiet, _ = instructions([*words, "--quiet"])
-            telling, lines = instructions(words)
-            more = 100 * (telling - quiet) / quiet
-            print(f"in pieces of {cut}: {quiet} instructions, {telling} with {lines} lines told, {more:.3f} percent more")
+            whole, lines = instructions(words)
+            more = 100 * (whole - quiet) / quiet
+            print(f"in pieces of {cut}: {quiet} instructions, {whole} with {lines} progress lines, {more:.3f} percent more")
 
 
 if __name__ == "__main__":

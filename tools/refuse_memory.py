@@ -1,20 +1,20 @@
 #!/usr/bin/env python3
-"""Refuses each request for memory in turn, and each start of a thread, and looks at what is said then.
+"""Refuses each request for memory in turn, and each start of a thread, and checks what is reported.
 
-    .ci/refuse-memory [--jobs N] [--every] [--program FILE] [--calls FILE] [calls] [CASE..]
+    tools/refuse_memory.py [--jobs N] [--every] [--program FILE] [--calls FILE] [calls] [CASE..]
 
-A case is a folder of crates/acceptance/data, as search/deadlock. Without names these are taken: worked specifications,
-limits and levels, and of each kind of answer and refusal that these don't have the case with the shortest texts; with
---every all cases of one text, which takes hours; and words of the command line that are refused. `calls` are those of
-crates/acceptance, which are taken too without names: calls of the libraries, each on an input of its own.
+A case is a folder of crates/acceptance/data, such as search/deadlock. Without names it takes worked specifications, limits
+and levels, the shortest case of each other kind of answer and refusal, command lines that are refused, and the calls. With
+--every it takes all cases of one text, which takes hours. `calls` are the calls of the libraries in crates/acceptance, each
+on an input of its own.
 tlacheck is run over a case by one worker and by two. Request N for memory is refused, for N = 1, 2, .. until a run meets
-no refusal; then the same with each request behind it; then start N of a thread. Each report has to be the one with ample
-memory, `Out of memory.`, or `A worker could not be started.` where a start was refused; one start at least has to be told so.
-Before the check begins it is the line that says that the command line or a file couldn't be read. A call has to answer as with
-ample memory, or want of memory, and in that case what it was lent has to be as it was.
+no refusal; then request N and all after it; then start N of a thread. Each report has to be the one with ample memory,
+`Out of memory.`, or `A worker could not be started.` where a start was refused; at least one start has to give the last.
+Before the check begins it is the line that the command line or a file couldn't be read. A call has to answer as with ample
+memory, or that there is no memory; then what it borrowed has to be unchanged.
 
 The programs are crates/tlacheck/out/tlacheck and crates/acceptance/out/acceptance, each of which is proved and built
-where it is not there. cc compiles a small library that stands before the C library's malloc; it is no part of a program.
+if it is not there. cc compiles a small library that is loaded before the C library; it is no part of a program.
 """
 
 import argparse
@@ -29,9 +29,9 @@ import tempfile
 
 sys.dont_write_bytecode = True
 
-from built import TOP, built
+from acceptance_cases import CASES, active_cases
+from programs import TOP, built
 
-DATA = TOP / "crates/acceptance/data"
 CALLS = TOP / "crates/acceptance"
 
 # Worked specifications, and limits and levels that the shortest cases don't reach.
@@ -45,7 +45,7 @@ WORKED = """
 
 CREWS = [["--workers", "1"], ["--workers", "2", "--cut", "1"]]
 
-# No sweep goes on beyond so many requests, and no run beyond so many seconds.
+# The most requests of a sweep, and the most seconds of a run.
 MOST = 200_000
 SECONDS = 20
 
@@ -138,9 +138,9 @@ NO_MEMORY = (22, b"Out of memory.\n")
 NO_WORKER = (22, b"A worker could not be started.\n")
 
 AMPLE, MEMORY, WORKER = "as with ample memory", "`Out of memory.`", "`A worker could not be started.`"
-LINE, INPUTS, WANT = "for the command line", "for its inputs", "want of memory"
+LINE, INPUTS, WANT = "for the command line", "for its inputs", "out of memory"
 
-# What tlacheck may say where something is refused, in the order of its stages.
+# What tlacheck may report if something is refused, in the order of its stages.
 SAYS = {
     NO_LINE: LINE,
     (21, b"tlacheck: cannot read module.tla\ncause: out of memory\n"): "for the module's file",
@@ -149,24 +149,23 @@ SAYS = {
     NO_WORKER: WORKER,
 }
 
-# Want of memory, as each library answers it, and that no worker could be started.
+# Out of memory, as each library answers it, and that no worker could be started.
 WANTS = "V3 NoMemory Memory E16 S1".split()
 UNSTARTED = "S2"
 
 Case = collections.namedtuple("Case", "name folder status options report size")
 
-# What is run, what it says with ample memory, what else it may say, and what it says where a start is refused.
+# What is run, what it reports with ample memory, what else it may report, and what it reports if a start is refused.
 Subject = collections.namedtuple("Subject", "name words folder ample says unstarted")
 
-# Whether something was refused, `m` for memory or `s` for a start, and what was said with which status.
+# What was refused, `m` for memory or `s` for a start, and the status and output of the run.
 Outcome = collections.namedtuple("Outcome", "told said")
 
 
 def cases():
     """The cases of one text."""
-    for line in (DATA / "active").read_text().splitlines():
-        name, status, *options = line.split()
-        folder = DATA / name
+    for name, status, *options in active_cases():
+        folder = CASES / name
         if status.isdigit() and (folder / "report").is_file():
             report = (folder / "report").read_bytes()
             size = sum((folder / it).stat().st_size for it in ("module.tla", "model.cfg"))
@@ -182,7 +181,7 @@ def kind_of(case):
 
 
 def chosen(names, every):
-    """The cases of these names, or those that stand for all."""
+    """The cases of these names, or a selection of all."""
     found = {it.name: it for it in cases()}
     for name in names:
         if name not in found:
@@ -220,19 +219,18 @@ def bad_numbers(program):
     """Command lines with a number beyond its limit."""
     for words in BAD_NUMBERS:
         line = [program, "module.tla", "model.cfg", *words.split()]
-        yield Subject(words, line, DATA, BAD_NUMBER, {NO_LINE: LINE}, WORKER)
+        yield Subject(words, line, CASES, BAD_NUMBER, {NO_LINE: LINE}, WORKER)
 
 
 def refused_answer(block, code):
-    """What is printed of a call that answers this code, and leaves what it was lent as it was."""
+    """What is printed of a call that answers this code, and leaves what it borrowed unchanged."""
     lines = [f"  answer {code}" if it.startswith("  answer") else it for it in block]
     lent = [it.replace("lent", "left", 1) for it in lines if it.startswith("  lent")]
     return "".join(f"{it}\n" for it in [it for it in lines if not it.startswith("  left")] + lent).encode()
 
 
 def calls(program):
-    """The calls of the libraries. What each prints with ample memory is in the stored run of their program, behind what else it
-    does."""
+    """The calls of the libraries. The stored run of their program has what each prints with ample memory."""
     blocks = re.findall(r"^\S.*\n(?: .*\n)*", (CALLS / "stdout").read_text(), re.M)
     for block in map(str.splitlines, blocks):
         name = block[0]
@@ -288,24 +286,24 @@ class Harness:
         return Outcome(told, (ran.returncode, ran.stdout))
 
     def meaning(self, subject, outcome, behind):
-        """What a run says, or None where it may not say that."""
+        """What a run reports, or None if it may not report that."""
         if outcome.said == subject.ample:
-            # (a part of a next level, and a shard that is given back, need no thread of their own)
+            # (a part of a next level, and a shard that is dropped, need no thread of their own)
             return AMPLE
         said = subject.says.get(outcome.said)
         if outcome.told == "s" and not behind:
             return said if said == subject.unstarted else None
         return said if outcome.told else None
 
-    def tell_wrong(self, subject, what, outcome):
-        """Prints a run that says something wrong."""
+    def print_wrong(self, subject, what, outcome):
+        """Prints a run that reports something wrong."""
         self.wrong += 1
         status, text = outcome.said
         print(f"WRONG: {subject.name}: {what} gives status {status} and\n{text.decode(errors='replace')}", flush=True)
 
     def sweep(self, subject, variable, behind=False):
         """Refuses the first, the second, and so on, until a run meets no refusal."""
-        what = variable + (" and all behind it" if behind else "")
+        what = variable + (" and all after it" if behind else "")
         met = {}
         step = 16 * self.jobs
         for first in range(1, MOST, step):
@@ -316,28 +314,28 @@ class Harness:
             for number, outcome in zip(numbers, outcomes):
                 meaning = self.meaning(subject, outcome, behind)
                 if not outcome.told and meaning == AMPLE:
-                    return self.tell(subject, what, met)
+                    return self.print_sweep(subject, what, met)
                 if meaning is None:
-                    self.tell_wrong(subject, f"{what} {number} refused", outcome)
+                    self.print_wrong(subject, f"{what} {number} refused", outcome)
                 met.setdefault(meaning, []).append(number)
         self.wrong += 1
         print(f"WRONG: {subject.name}: more than {MOST} of {what}")
         return None
 
-    def tell(self, subject, what, met):
-        """Prints how often what was said, and counts it. Stages come one behind the other."""
+    def print_sweep(self, subject, what, met):
+        """Prints and counts the reports of a sweep. Its stages come in order."""
         stages = [it for it in dict.fromkeys(subject.says.values()) if it in met and it != WORKER]
         for one, later in zip(stages, stages[1:]):
             if met[one][-1] > met[later][0]:
                 self.wrong += 1
-                print(f"WRONG: {subject.name}: {what} {met[one][-1]} is told {one}, and {met[later][0]} {later}")
+                print(f"WRONG: {subject.name}: {what} {met[one][-1]} reports {one}, and {met[later][0]} {later}")
         count = sum(map(len, met.values()))
         if count == 0 and what != "start":
             self.wrong += 1
             print(f"WRONG: {subject.name}: no {what} was met, as if the library were not there")
         if count and what == "start" and WORKER not in met:
             self.wrong += 1
-            print(f"WRONG: {subject.name}: no start that was refused is told")
+            print(f"WRONG: {subject.name}: no start that was refused is reported")
         self.refusals[what] += count
         parts = ", ".join(f"{len(numbers)} {meaning or 'WRONG'}" for meaning, numbers in met.items())
         print(f"{subject.name}: each {what}: {count} refused{': ' if parts else ''}{parts}", flush=True)
@@ -347,7 +345,7 @@ class Harness:
         self.subjects += 1
         ample = self.run(subject, {})
         if ample.said != subject.ample:
-            self.tell_wrong(subject, "nothing refused", ample)
+            self.print_wrong(subject, "nothing refused", ample)
             return
         self.sweep(subject, "request")
         self.sweep(subject, "request", behind=True)

@@ -1,10 +1,10 @@
 #!/usr/bin/env python3
 """Lists the functions of a crate whose proofs have the most steps, by what the last `rt check` of the crate kept.
 
-    .ci/heavy CRATE [COUNT]
+    tools/heavy_proofs.py CRATE [COUNT]
 
-Prints the kilobytes of the steps of each of the COUNT (20) largest, the drops of types among them. What makes a function
-stand far above its neighbours mostly is a large tree that it may have to let go.
+Prints the kilobytes of the steps of each of the COUNT (20) largest, the drops of types among them. Where a function is far
+larger than its neighbours, the reason mostly is a large tree that it may have to drop.
 """
 import argparse
 import re
@@ -12,7 +12,7 @@ import sys
 
 sys.dont_write_bytecode = True
 
-from built import TOP
+from programs import TOP
 
 
 def steps_of(crate):
