@@ -260,7 +260,7 @@ const E10: CodeText = CodeText {
     code: "E10",
     rule: "A set or function of more than 1,000,000 parts.",
     example: "`Inv == 1..1000001 # {}` → `Fault E10 at line 6, column 8 in invariant Inv.`",
-    cure: "Ask membership, which lists nothing.",
+    cure: "For a range, write `a <= x /\\ x <= b`. Membership in `SUBSET S`, `[S -> T]`, `[a : S]` and `S \\X T` builds no set.",
 };
 
 const E11: CodeText = CodeText {
