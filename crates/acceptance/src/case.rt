@@ -1,35 +1,39 @@
-//! The list of the cases.
+//! The list of a group's cases.
 
 use std::alloc::{AllocError, Global};
+use std::io;
 
-/// What is wanted of a case.
+/// What a case compares.
 #[derive(Clone, Copy)]
 pub enum Wanted {
-    /// The report of the case, and this status.
+    /// The report, and this status.
     Status(u8),
-    /// Of the module cut short after n bytes, line n of the report.
+    /// The report, by each line of `options`: a status, and words of the command line.
+    Options,
+    /// For each n, the report of the module's first n bytes with line n of `report`.
     Prefixes,
-    /// Of the module with a line of `lines` and the closing line behind it, for each line in turn, the next part of the
-    /// report.
+    /// The report of the module with one more line, for each line of `lines`.
     Lines,
-    /// Of each module of `texts` with the configuration behind it, in turn, the next part of the report.
+    /// The report of each module and configuration in `texts`.
     Texts,
-    /// Beside the report, what `told` says.
+    /// The explanation, with `told`.
     Told,
 }
 
 /// A line of the list.
 #[derive(Drop)]
 pub struct Case<'a> {
-    pub name: &'a str,
+    pub folder: String,
     pub wanted: Wanted,
-    /// Words of the command line behind the two files.
+    /// Words of the command line after the two files.
     pub options: Vec<&'a str>,
 }
 
 impl Wanted {
     fn read(word: &str) -> Option<Wanted> {
-        if word == "prefixes" {
+        if word == "options" {
+            Some(Wanted::Options)
+        } else if word == "prefixes" {
             Some(Wanted::Prefixes)
         } else if word == "lines" {
             Some(Wanted::Lines)
@@ -43,9 +47,31 @@ impl Wanted {
     }
 }
 
+/// A line of `options`.
+#[derive(Drop)]
+pub struct Row<'a> {
+    pub status: u8,
+    pub options: Vec<&'a str>,
+}
+
+impl<'a> Row<'a> {
+    /// The status and the words of a line, or none where the line has no status.
+    pub fn read(alloc: Global, line: &'a str) -> Result<Option<Row<'a>>, AllocError> {
+        let mut words = line.split_whitespace();
+        let Some(Wanted::Status(status)) = words.next().and_then(Wanted::read) else {
+            return Ok(None);
+        };
+        let mut options = Vec::new(alloc);
+        for word in words {
+            options.push(word)?;
+        }
+        Ok(Some(Row { status, options }))
+    }
+}
+
 impl<'a> Case<'a> {
-    /// The case of a line, or none where it has no name or no status.
-    pub fn read(alloc: Global, line: &'a str) -> Result<Option<Case<'a>>, AllocError> {
+    /// The case of a line in this group's list, or none where the line has no name or no status.
+    pub fn read(alloc: Global, group: &str, line: &'a str) -> io::Result<Option<Case<'a>>> {
         let mut words = line.split_whitespace();
         let Some(name) = words.next() else {
             return Ok(None);
@@ -58,7 +84,7 @@ impl<'a> Case<'a> {
             options.push(word)?;
         }
         Ok(Some(Case {
-            name,
+            folder: format!(in alloc; "{group}/{name}")?,
             wanted,
             options,
         }))

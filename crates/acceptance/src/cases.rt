@@ -1,21 +1,31 @@
-//! The cases of the data folder: each is run, and those are named whose report or status isn't the one that is wanted. Each case
-//! is checked with its own options, and, where levels are searched, again by 1, 2, 7 and 64 workers in pieces of 1, 3 and
-//! 65,536 states: each of the one with each of the other. Where a case has many texts, each text is checked again by one of
-//! these twelve pairs, in turn. All reports of a text have to be the same bytes.
+//! The cases of the data folder: each is run, and those are named whose report, explanation or
+//! status isn't the one that is wanted.
 //!
-//! The file `active` has a line for each case: the name of the case's folder, the status that is wanted, and words of the
-//! command line. The folder has `module.tla`, `model.cfg` and `report`. Where the word `prefixes` stands for the status,
-//! the module is checked cut short after 0, 1, .. bytes, each time with the next line of `report` as the report that is
-//! wanted, and status 20. Where it is `lines`, the folder has a file `lines` too: each of its lines ends the module in
-//! turn, and `report` has what is wanted of each, one behind the other. Where it is `texts`, the folder has a file `texts`
-//! and no module or configuration of its own: modules, each with its configuration behind it, a form feed between each two
-//! of these texts, and `report` has what is wanted of each. Where it is `told`, the folder has a file `told` in place of a
-//! report: what a reader is told of the check with the case's own options.
+//! Each case is checked with its own options. Where levels are searched, it is checked again by 1,
+//! 2, 7 and 64 workers in pieces of 1, 3 and 65,536 states: each of the one with each of the other.
+//! Where a case has many texts or many options, each is checked again by one of these twelve pairs,
+//! in turn. All reports of a text have to be the same bytes.
+//!
+//! The file `active` names the groups, a line each, and `GROUP/active` has a line for each case of
+//! the group: the name of its folder, what is compared, and words of the command line. What is
+//! compared is one of these:
+//!
+//! - a status: the folder has `module.tla`, `model.cfg` and the `report` that is wanted, with this
+//!   exit status;
+//! - `options`: the same three files, and `options`, whose lines have a status and words of the
+//!   command line each;
+//! - `prefixes`: the same three files; the module is checked cut short after 0, 1, .. bytes, each
+//!   time with the next line of `report` as the report, and status 20;
+//! - `lines`: the same three files, and `lines`; each of its lines in turn ends the module, and
+//!   `report` has the reports of all, one after the other;
+//! - `texts`: the folder has `texts` and `report`; `texts` has modules, each followed by its
+//!   configuration, with a form feed between each two texts, and `report` has the reports of all;
+//! - `told`: the folder has `module.tla`, `model.cfg` and `told`, the explanation that is wanted.
 
 use crate::case::{Case, Wanted};
 use crate::outcome::{
-    CaseFiles, is_as_wanted, lines_are_as_wanted, options_of, prefixes_are_as_wanted,
-    texts_are_as_wanted,
+    CaseFiles, is_as_wanted, lines_are_as_wanted, options_are_as_wanted, options_of,
+    prefixes_are_as_wanted, texts_are_as_wanted,
 };
 use crate::told::is_told_as_wanted;
 use std::io::Write;
@@ -24,27 +34,37 @@ use std::sync::Wait;
 use std::thread::Threads;
 use std::{fs, io};
 
-fn bytes_of<R: AllocGlobal + Files>(rt: &R, case: &str, file: &str) -> io::Result<Vec<u8>> {
-    let path = format!(in rt.alloc(); "{case}/{file}")?;
+fn path_of<R: AllocGlobal>(rt: &R, folder: &str, file: &str) -> io::Result<String> {
+    Ok(format!(in rt.alloc(); "{folder}/{file}")?)
+}
+
+fn bytes_of<R: AllocGlobal + Files>(rt: &R, folder: &str, file: &str) -> io::Result<Vec<u8>> {
+    let path = path_of(rt, folder, file)?;
     fs::read(rt, path.as_str())
 }
 
-fn files_of<R: AllocGlobal + Files>(rt: &R, case: &str) -> io::Result<CaseFiles> {
+fn text_of<R: AllocGlobal + Files>(rt: &R, folder: &str, file: &str) -> io::Result<String> {
+    let path = path_of(rt, folder, file)?;
+    fs::read_to_string(rt, path.as_str())
+}
+
+fn files_of<R: AllocGlobal + Files>(rt: &R, folder: &str) -> io::Result<CaseFiles> {
     Ok(CaseFiles {
-        module: bytes_of(rt, case, "module.tla")?,
-        config: bytes_of(rt, case, "model.cfg")?,
-        report: bytes_of(rt, case, "report")?,
+        module: bytes_of(rt, folder, "module.tla")?,
+        config: bytes_of(rt, folder, "model.cfg")?,
+        report: bytes_of(rt, folder, "report")?,
     })
 }
 
-/// Whether what is told of a case is what its file `told` says.
-fn tells<R: AllocGlobal + Files + Threads + Wait + Sync>(
+/// Whether the explanation of the case is what its file `told` says.
+fn explains<R: AllocGlobal + Files + Threads + Wait + Sync>(
     rt: &R,
     case: &Case<'_>,
 ) -> io::Result<bool> {
-    let module = bytes_of(rt, case.name, "module.tla")?;
-    let configuration = bytes_of(rt, case.name, "model.cfg")?;
-    let wanted = bytes_of(rt, case.name, "told")?;
+    let folder = case.folder.as_str();
+    let module = bytes_of(rt, folder, "module.tla")?;
+    let configuration = bytes_of(rt, folder, "model.cfg")?;
+    let wanted = bytes_of(rt, folder, "told")?;
     let Some(options) = options_of(rt.alloc(), case.options.as_slice())? else {
         return Ok(false);
     };
@@ -55,9 +75,10 @@ fn passes<R: AllocGlobal + Files + Threads + Wait + Sync>(
     rt: &R,
     case: &Case<'_>,
 ) -> io::Result<bool> {
+    let folder = case.folder.as_str();
     match case.wanted {
         Wanted::Status(status) => {
-            let files = files_of(rt, case.name)?;
+            let files = files_of(rt, folder)?;
             is_as_wanted(
                 rt,
                 rt.alloc(),
@@ -68,38 +89,62 @@ fn passes<R: AllocGlobal + Files + Threads + Wait + Sync>(
                 &files.report,
             )
         }
-        Wanted::Prefixes => prefixes_are_as_wanted(rt, rt.alloc(), &files_of(rt, case.name)?),
+        Wanted::Options => {
+            let files = files_of(rt, folder)?;
+            let lines = text_of(rt, folder, "options")?;
+            options_are_as_wanted(rt, rt.alloc(), &files, lines.as_str())
+        }
+        Wanted::Prefixes => prefixes_are_as_wanted(rt, rt.alloc(), &files_of(rt, folder)?),
         Wanted::Lines => {
-            let files = files_of(rt, case.name)?;
-            let lines = bytes_of(rt, case.name, "lines")?;
+            let files = files_of(rt, folder)?;
+            let lines = bytes_of(rt, folder, "lines")?;
             lines_are_as_wanted(rt, rt.alloc(), &files, lines.as_slice())
         }
         Wanted::Texts => {
-            let texts = bytes_of(rt, case.name, "texts")?;
-            let report = bytes_of(rt, case.name, "report")?;
+            let texts = bytes_of(rt, folder, "texts")?;
+            let report = bytes_of(rt, folder, "report")?;
             texts_are_as_wanted(rt, rt.alloc(), texts.as_slice(), report.as_slice())
         }
-        Wanted::Told => tells(rt, case),
+        Wanted::Told => explains(rt, case),
     }
 }
 
-/// Runs all cases, and names those that don't pass.
+/// Runs the cases of a group, names those that differ, and answers whether there are cases and all
+/// of them agree.
+fn run_group<R: AllocGlobal + Files + Threads + Wait + Sync, W: Write>(
+    rt: &R,
+    group: &str,
+    out: &mut W,
+) -> io::Result<bool> {
+    let list = text_of(rt, group, "active")?;
+    let mut agree = !list.is_empty();
+    for line in list.as_str().lines() {
+        let passed = match Case::read(rt.alloc(), group, line)? {
+            Some(case) => passes(rt, &case)?,
+            None => false,
+        };
+        if !passed {
+            writeln!(out, "  {group}/{line}")?;
+            agree = false;
+        }
+    }
+    Ok(agree)
+}
+
+/// Runs all cases, and names those that differ.
 pub fn run_cases<R: AllocGlobal + Files + Threads + Wait + Sync, W: Write>(
     rt: &R,
     out: &mut W,
 ) -> io::Result<()> {
-    let list = fs::read_to_string(rt, "active")?;
-    let mut cases: u64 = 0;
-    for line in list.as_str().lines() {
-        let Some(case) = Case::read(rt.alloc(), line)? else {
-            writeln!(out, "  no case: {line}")?;
-            continue;
-        };
-        if !passes(rt, &case)? {
-            writeln!(out, "  {}", case.name)?;
+    let groups = fs::read_to_string(rt, "active")?;
+    let mut agree = !groups.is_empty();
+    for group in groups.as_str().lines() {
+        if !run_group(rt, group, out)? {
+            agree = false;
         }
-        cases = cases.wrapping_add(1);
     }
-    writeln!(out, "  {cases} cases")?;
+    if agree {
+        writeln!(out, "  all cases agree")?;
+    }
     Ok(())
 }

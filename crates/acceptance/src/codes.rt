@@ -30,32 +30,39 @@ fn is_found(text: &CodeText) -> bool {
     }
 }
 
-/// Names the codes of a table of which the document says something else, or that aren't found.
+/// Names the codes of a table of which the document says something else, or that aren't found, and
+/// answers whether there are none.
 fn compare_table<R: AllocGlobal, W: Write>(
     rt: &R,
     page: &str,
     table: &[CodeText],
     out: &mut W,
-) -> io::Result<()> {
+) -> io::Result<bool> {
+    let mut agree = !table.is_empty();
     for text in table {
         if !is_in(rt.alloc(), page, text)? {
             writeln!(out, "  not in CODES.md: {}", text.code)?;
+            agree = false;
         }
         if !is_found(text) {
             writeln!(out, "  not found: {}", text.code)?;
+            agree = false;
         }
     }
-    Ok(())
+    Ok(agree)
 }
 
 /// Names the codes of which the document says something else.
 pub fn compare_codes<R: AllocGlobal + Files, W: Write>(rt: &R, out: &mut W) -> io::Result<()> {
     let page = fs::read_to_string(rt, "CODES.md")?;
-    let mut count: usize = 0;
+    let mut agree = true;
     for table in code_tables() {
-        compare_table(rt, page.as_str(), table, out)?;
-        count = count.saturating_add(table.len());
+        if !compare_table(rt, page.as_str(), table, out)? {
+            agree = false;
+        }
     }
-    writeln!(out, "  {count} codes")?;
+    if agree {
+        writeln!(out, "  all codes agree")?;
+    }
     Ok(())
 }

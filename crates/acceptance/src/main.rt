@@ -1,9 +1,10 @@
-//! Runs worked specifications, makes calls of the libraries on fixed inputs, and prints what comes of each.
+//! Runs the acceptance cases and single calls of the libraries, and prints the outcome.
 //!
-//! Each word of the command line says what is done, in turn: `cases` runs the cases of the data folder; `codes` names each code
-//! of which CODES.md, the document, doesn't say what the program tells; each other word names a call, whose answer is printed
-//! with how it leaves what it was lent. Where memory runs out in a call, also for its inputs, or a worker could not be
-//! started, the status is 22, as that of a check.
+//! Each word of the command line is one thing to do, in turn: `cases` runs the cases of the data
+//! folder and names those that differ; `codes` names each code for which the document CODES.md and
+//! the program differ; each other word names a call, whose answer is printed with what it borrowed,
+//! before and after. If memory runs out in a call or for its inputs, or a worker can't be started,
+//! the status is 22, as that of a check.
 #![tactic(auto)]
 
 mod call;
@@ -33,7 +34,7 @@ use telling::tell;
 
 const NO_ANSWER: u8 = 22;
 
-/// The status that a call comes to.
+/// The status that a call ends with.
 fn status_of(made: &Result<Made, Refusal>) -> u8 {
     let refusal = match made {
         Ok(made) => made.answer.as_ref().err(),
@@ -45,7 +46,7 @@ fn status_of(made: &Result<Made, Refusal>) -> u8 {
     }
 }
 
-/// Makes the call of this name, tells it, and answers the status that it comes to.
+/// Makes the call of this name, prints it, and answers the status that it ends with.
 fn make_named<R: AllocGlobal + Threads + Wait + Sync, W: Write>(
     rt: &R,
     name: &str,

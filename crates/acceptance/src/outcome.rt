@@ -1,5 +1,6 @@
 //! What a check answers.
 
+use crate::case::Row;
 use std::alloc::Global;
 use std::io;
 use std::sync::Wait;
@@ -30,7 +31,8 @@ const CUTS: [u64; 3] = [1, 3, 65_536];
 enum Again {
     /// Each number of workers with each number of states.
     ByEach,
-    /// The next in turn of each, where this is the number of the text among many. After twelve texts each pair had its turn.
+    /// The next in turn of each, where this is the number of the text among many. After twelve
+    /// texts each pair had its turn.
     InTurn(usize),
 }
 
@@ -85,7 +87,8 @@ fn ends_alike<R: Threads + Wait + Sync>(
     }
 }
 
-/// Whether the check of these texts by each number of workers with each number of states ends like this.
+/// Whether the check of these texts by each number of workers with each number of states ends like
+/// this.
 fn ends_alike_by_each<R: Threads + Wait + Sync>(
     rt: &R,
     alloc: Global,
@@ -123,7 +126,8 @@ fn ends_alike_again<R: Threads + Wait + Sync>(
     }
 }
 
-/// The options that words of the command line name behind the two files, or none where the line is refused.
+/// The options that words of the command line name behind the two files, or none where the line is
+/// refused.
 pub fn options_of(alloc: Global, words: &[&str]) -> io::Result<Option<Options>> {
     let mut all = vec![in alloc; "tlacheck", "MODULE", "CONFIG"]?;
     all.extend_from_slice(words)?;
@@ -133,8 +137,8 @@ pub fn options_of(alloc: Global, words: &[&str]) -> io::Result<Option<Options>> 
     Ok(Some(line.options))
 }
 
-/// The status of a check of these texts and what it reports, or none where the report isn't written, or where a check again
-/// ends otherwise. `options` are words of the command line.
+/// The status of a check of these texts and what it reports, or none where the report isn't
+/// written, or where a check again ends otherwise. `options` are words of the command line.
 fn reported<R: Threads + Wait + Sync>(
     rt: &R,
     alloc: Global,
@@ -173,7 +177,30 @@ pub fn is_as_wanted<R: Threads + Wait + Sync>(
     }
 }
 
-/// Whether each line of the report is that of the module cut short after as many bytes as lines stand before it.
+/// Whether the check of the case by the options of each of these lines, in turn, ends with the
+/// status of the line and writes the report of the case.
+pub fn options_are_as_wanted<R: Threads + Wait + Sync>(
+    rt: &R,
+    alloc: Global,
+    files: &CaseFiles,
+    lines: &str,
+) -> io::Result<bool> {
+    for (number, line) in lines.lines().enumerate() {
+        let Some(row) = Row::read(alloc, line)? else {
+            return Ok(false);
+        };
+        let again = Again::InTurn(number);
+        let options = row.options.as_slice();
+        match reported(rt, alloc, &files.module, &files.config, options, again)? {
+            Some((status, report)) if status == row.status && report == files.report => {}
+            _ => return Ok(false),
+        }
+    }
+    Ok(!lines.is_empty())
+}
+
+/// Whether each line of the report is that of the module cut short after as many bytes as lines
+/// stand before it.
 pub fn prefixes_are_as_wanted<R: Threads + Wait + Sync>(
     rt: &R,
     alloc: Global,
@@ -196,7 +223,8 @@ pub fn prefixes_are_as_wanted<R: Threads + Wait + Sync>(
 /// What ends a module.
 const CLOSING: &[u8] = b"====\n";
 
-/// Whether the reports of the module with each of these lines as its last, one behind the other, are that of the case.
+/// Whether the reports of the module with each of these lines as its last, one behind the other,
+/// are that of the case.
 pub fn lines_are_as_wanted<R: Threads + Wait + Sync>(
     rt: &R,
     alloc: Global,
@@ -224,8 +252,8 @@ pub fn lines_are_as_wanted<R: Threads + Wait + Sync>(
 /// What stands between two texts of a file `texts`.
 const BETWEEN: u8 = b'\x0c';
 
-/// Whether the reports of each module of these texts with the configuration behind it, one behind the other, are this
-/// one. A module without a configuration is none.
+/// Whether the reports of each module of these texts with the configuration behind it, one behind
+/// the other, are this one. A module without a configuration is none.
 pub fn texts_are_as_wanted<R: Threads + Wait + Sync>(
     rt: &R,
     alloc: Global,

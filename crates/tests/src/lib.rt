@@ -5,6 +5,8 @@
 #![tactic(auto)]
 
 #[cfg(test)]
+mod hashing;
+#[cfg(test)]
 mod runs;
 #[cfg(test)]
 mod specifications;

@@ -9,3 +9,4 @@ mod checks;
 mod gates;
 mod graphs;
 mod held;
+mod one_hash;

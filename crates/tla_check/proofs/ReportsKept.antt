@@ -15,7 +15,7 @@ zero-says : (answer : Answer) → (answer_status answer ≡ 0) ↔ kept.SaysNoEr
 zero-says (NoError counts) = (λ e. tt, λ h. refl)
 zero-says (InvariantFalse i trace counts) = (λ e. absurd (omega (arith, e)), λ h. absurd h)
 zero-says (Deadlock trace counts) = (λ e. absurd (omega (arith, e)), λ h. absurd h)
-zero-says (Faulted fault formula trace counts) = (λ e. absurd (omega (arith, e)), λ h. absurd h)
+zero-says (Faulted fault part trace counts) = (λ e. absurd (omega (arith, e)), λ h. absurd h)
 zero-says (AssumptionFalse number) = (λ e. absurd (omega (arith, e)), λ h. absurd h)
 zero-says (Limit counts) = (λ e. absurd (omega (arith, e)), λ h. absurd h)
 
@@ -24,7 +24,7 @@ says-no-fault : (answer : Answer) → kept.SaysNoError answer → kept.FaultsInR
 says-no-fault (NoError counts) h f = f
 says-no-fault (InvariantFalse i trace counts) h f = h
 says-no-fault (Deadlock trace counts) h f = h
-says-no-fault (Faulted fault formula trace counts) h f = h
+says-no-fault (Faulted fault part trace counts) h f = h
 says-no-fault (AssumptionFalse number) h f = h
 says-no-fault (Limit counts) h f = h
 
@@ -32,7 +32,7 @@ says-no-limit : (answer : Answer) → kept.SaysNoError answer → kept.PassesLim
 says-no-limit (NoError counts) h l = l
 says-no-limit (InvariantFalse i trace counts) h l = h
 says-no-limit (Deadlock trace counts) h l = h
-says-no-limit (Faulted fault formula trace counts) h l = h
+says-no-limit (Faulted fault part trace counts) h l = h
 says-no-limit (AssumptionFalse number) h l = h
 says-no-limit (Limit counts) h l = h
 

@@ -11,6 +11,7 @@ ghost use Rattle.tla_report.specs.Codes.{is_named_code};
 ghost use Rattle.tla_report.specs.Report.{report};
 ghost use Rattle.tla_report.specs.Status.{status_of};
 ghost use Rattle.tla_report.specs.declared.checked.Checked.{Checked};
+ghost use Rattle.tla_value.specs.declared.error.ValueError.TheVariants as value_error;
 
 use crate::carried::{defs_code, lex_code, parse_code};
 use std::alloc::Global;
@@ -182,7 +183,8 @@ fn answered<G: Gate, R: Threads + Wait + Sync>(
 }
 
 fn variable_names(alloc: Global, variables: &[Text]) -> Result<Names, ValueError>
-    ensures { IfOk result (λ names. names ≡ variables.now) }
+    ensures ok { IfOk result (λ names. names ≡ variables.now) }
+    ensures err { IfErr result (λ e. e ≡ value_error.Memory) }
 {
     let mut names = Vec::new(alloc);
     for variable in variables {
@@ -193,7 +195,8 @@ fn variable_names(alloc: Global, variables: &[Text]) -> Result<Names, ValueError
 
 /// The names of invariants, or of constraints.
 fn predicate_names(alloc: Global, predicates: &[StatePredicate]) -> Result<Names, ValueError>
-    ensures { IfOk result (λ names. names ≡ names_in (map predicate_of predicates.now)) }
+    ensures ok { IfOk result (λ names. names ≡ names_in (map predicate_of predicates.now)) }
+    ensures err { IfErr result (λ e. e ≡ value_error.Memory) }
 {
     let mut names = Vec::new(alloc);
     for predicate in predicates {

@@ -15,5 +15,5 @@ pub use tla_report::{
     write_report,
 };
 pub use tla_search::{
-    Answer, Counts, Formula, Gate, GatePlace, NoGate, Options, Pass, SearchError, Trace,
+    Answer, Counts, Gate, GatePlace, NoGate, Options, Part, Pass, SearchError, Trace,
 };

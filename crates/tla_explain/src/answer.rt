@@ -88,8 +88,8 @@ fn tell_wrong(page: &mut Page, telling: &Telling<'_>, answered: &Answered) {
             tell_false(page, telling, answered.invariants.name(*invariant), count);
         }
         Answer::Deadlock { .. } => tell_deadlock(page, telling, count),
-        Answer::Faulted { fault, formula, .. } => {
-            faults::tell(page, telling, answered, fault, *formula);
+        Answer::Faulted { fault, part, .. } => {
+            faults::tell(page, telling, answered, fault, *part);
         }
         Answer::AssumptionFalse { number } => tell_assumption(page, telling, *number),
         Answer::NoError { .. } | Answer::Limit { .. } => {}

@@ -99,7 +99,7 @@ const P5: CodeText = CodeText {
     code: "P5",
     rule: "A form that is left out, named behind the colon.",
     example: "`Least == CHOOSE n : n > x` → `Module refused: P5 at line 6, column 10: CHOOSE.`",
-    cure: "docs/LANGUAGE.md says what to write in its place.",
+    cure: "docs/user/language.md says what to write in its place.",
 };
 
 const P6: CodeText = CodeText {
@@ -260,7 +260,7 @@ const E10: CodeText = CodeText {
     code: "E10",
     rule: "A set or function of more than 1,000,000 parts.",
     example: "`Inv == 1..1000001 # {}` → `Fault E10 at line 6, column 8 in invariant Inv.`",
-    cure: "Ask membership, which lists nothing.",
+    cure: "For a range, write `a <= x /\\ x <= b`. Membership in `SUBSET S`, `[S -> T]`, `[a : S]` and `S \\X T` builds no set.",
 };
 
 const E11: CodeText = CodeText {

@@ -7,7 +7,7 @@ use crate::page::Page;
 use crate::places::{token_place, word};
 use crate::trace::put_part;
 use crate::values::put_state;
-use tla_check::{Answered, Formula};
+use tla_check::{Answered, Part};
 use tla_core::{Core, Fault, FaultCode, Place};
 use tla_lex::{Kind, Token};
 use tla_steps::lacking_parts;
@@ -19,16 +19,16 @@ pub(crate) fn tell(
     telling: &Telling<'_>,
     answered: &Answered,
     fault: &Fault,
-    formula: Formula,
+    part: Part,
 ) {
-    let action = action_of(telling, formula);
+    let action = action_of(telling, part);
     let place = match fault.variable {
         Some(_) => Some(action.place()),
         None => fault.place,
     };
     begin_at(page, telling.sources, place);
     put_title(page, answered, fault);
-    put_formula(page, answered, formula);
+    put_part_name(page, answered, part);
     end_at(page, telling.sources, place);
     page.put_rule(fault.code.name());
     tell_cause(page, telling, answered, fault, action);
@@ -65,19 +65,19 @@ fn put_title(page: &mut Page, answered: &Answered, fault: &Fault) {
     page.put(&[" (", fault.code.name(), "), in "]);
 }
 
-/// Adds what a formula is called.
-fn put_formula(page: &mut Page, answered: &Answered, formula: Formula) {
-    match formula {
-        Formula::Assumption(number) => {
+/// Adds the name of the part in which the fault was met.
+fn put_part_name(page: &mut Page, answered: &Answered, part: Part) {
+    match part {
+        Part::Assumption(number) => {
             page.put_text("assumption ");
             page.put_number(u128::from(number));
         }
-        Formula::Initial => page.put_text("the initial predicate"),
-        Formula::NextAction => page.put_text("the next-state action"),
-        Formula::Invariant(index) => {
+        Part::Initial => page.put_text("the initial predicate"),
+        Part::NextAction => page.put_text("the next-state action"),
+        Part::Invariant(index) => {
             put_named(page, "invariant", answered.invariants.as_slice(), index);
         }
-        Formula::Constraint(index) => {
+        Part::Constraint(index) => {
             put_named(page, "constraint", answered.constraints.as_slice(), index);
         }
     }
@@ -116,9 +116,9 @@ fn code_title(code: FaultCode) -> &'static str {
 }
 
 /// What is read where a variable is left without a value.
-fn action_of<'a>(telling: &Telling<'a>, formula: Formula) -> &'a Core {
-    match formula {
-        Formula::Initial => telling.model.init(),
+fn action_of<'a>(telling: &Telling<'a>, part: Part) -> &'a Core {
+    match part {
+        Part::Initial => telling.model.init(),
         _ => telling.model.next(),
     }
 }

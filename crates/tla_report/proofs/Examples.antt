@@ -6,7 +6,7 @@ use Rattle.tla_value.specs.Tree.{int}
 use Rattle.tla_core.specs.declared.fault.FaultCode.TheVariants.{Overflow, SmallDivisor, Lacking, TooMany}
 use Rattle.tla_search.specs.declared.answer.Answer.{Answer}
 use Rattle.tla_search.specs.declared.answer.Answer.TheVariants.{NoError, InvariantFalse, Deadlock, Faulted, AssumptionFalse, Limit}
-use Rattle.tla_search.specs.declared.finding.Formula.TheVariants.{Assumption, NextAction, Constraint}
+use Rattle.tla_search.specs.declared.finding.Part.TheVariants.{Assumption, NextAction, Constraint}
 use Rattle.tla_config.specs.declared.error.Source.TheVariants.{Module, Configuration}
 use Rattle.tla_report.specs.declared.checked.RefusalCode.TheVariants.{NumberTooLarge, StatementLeftOut}
 use Rattle.tla_report.specs.declared.checked.Checked.{Checked}

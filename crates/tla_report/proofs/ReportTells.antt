@@ -27,7 +27,7 @@ told-first : (variables invariants constraints : List (List ℕ)) (limit : ℕ) 
 told-first variables invariants constraints limit (NoError counts) states last = refl
 told-first variables invariants constraints limit (InvariantFalse i trace counts) states last = refl
 told-first variables invariants constraints limit (Deadlock trace counts) states last = refl
-told-first variables invariants constraints limit (Faulted fault formula trace counts) states last = refl
+told-first variables invariants constraints limit (Faulted fault part trace counts) states last = refl
 told-first variables invariants constraints limit (AssumptionFalse number) states last = refl
 told-first variables invariants constraints limit (Limit counts) states last = refl
 
@@ -50,7 +50,7 @@ first-says : (variables invariants constraints : List (List ℕ)) (limit : ℕ) 
 first-says variables invariants constraints limit (NoError counts) states last e = (states ++ last, refl)
 first-says variables invariants constraints limit (InvariantFalse i trace counts) states last e = absurd (omega (arith, e))
 first-says variables invariants constraints limit (Deadlock trace counts) states last e = absurd (omega (arith, e))
-first-says variables invariants constraints limit (Faulted fault formula trace counts) states last e = absurd (omega (arith, e))
+first-says variables invariants constraints limit (Faulted fault part trace counts) states last e = absurd (omega (arith, e))
 first-says variables invariants constraints limit (AssumptionFalse number) states last e = absurd (omega (arith, e))
 first-says variables invariants constraints limit (Limit counts) states last e = absurd (omega (arith, e))
 

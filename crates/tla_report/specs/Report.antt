@@ -8,8 +8,8 @@ use Rattle.tla_core.specs.declared.fault.Place.{Place}
 use Rattle.tla_core.specs.declared.fault.Fault.{Fault}
 use Rattle.tla_core.specs.Fault.{code_text}
 use Rattle.tla_search.specs.Answers.{trace_of, counts_of}
-use Rattle.tla_search.specs.declared.finding.Formula.{Formula}
-use Rattle.tla_search.specs.declared.finding.Formula.TheVariants.{Assumption, Initial, NextAction, Invariant, Constraint}
+use Rattle.tla_search.specs.declared.finding.Part.{Part}
+use Rattle.tla_search.specs.declared.finding.Part.TheVariants.{Assumption, Initial, NextAction, Invariant, Constraint}
 use Rattle.tla_levels.specs.declared.answer.Counts.{Counts}
 use Rattle.tla_search.specs.declared.answer.Answer.{Answer}
 use Rattle.tla_search.specs.declared.answer.Answer.TheVariants.{NoError, InvariantFalse, Deadlock, Faulted, AssumptionFalse, Limit}
@@ -35,27 +35,27 @@ site_text variables place (Some i) = concat (codes " for variable " ∷ name_at 
 site_text variables (Some p) None = place_text p
 site_text variables None None = []
 
-abbrev pub formula_text : List (List ℕ) → List (List ℕ) → Formula → List ℕ
-formula_text invariants constraints (Assumption number) = concat (codes "assumption " ∷ decimal number ∷ [])
-formula_text invariants constraints Initial = codes "the initial predicate"
-formula_text invariants constraints NextAction = codes "the next-state action"
-formula_text invariants constraints (Invariant i) = concat (codes "invariant " ∷ name_at invariants i ∷ [])
-formula_text invariants constraints (Constraint i) = concat (codes "constraint " ∷ name_at constraints i ∷ [])
+abbrev pub part_text : List (List ℕ) → List (List ℕ) → Part → List ℕ
+part_text invariants constraints (Assumption number) = concat (codes "assumption " ∷ decimal number ∷ [])
+part_text invariants constraints Initial = codes "the initial predicate"
+part_text invariants constraints NextAction = codes "the next-state action"
+part_text invariants constraints (Invariant i) = concat (codes "invariant " ∷ name_at invariants i ∷ [])
+part_text invariants constraints (Constraint i) = concat (codes "constraint " ∷ name_at constraints i ∷ [])
 
 -- the end of the line of a fault
-abbrev pub formula_line : List (List ℕ) → List (List ℕ) → Formula → List ℕ
-formula_line invariants constraints formula = line (codes " in " ∷ formula_text invariants constraints formula ∷ codes "." ∷ [])
+abbrev pub part_line : List (List ℕ) → List (List ℕ) → Part → List ℕ
+part_line invariants constraints part = line (codes " in " ∷ part_text invariants constraints part ∷ codes "." ∷ [])
 
-abbrev pub fault_line : List (List ℕ) → List (List ℕ) → List (List ℕ) → Fault → Formula → List ℕ
-fault_line variables invariants constraints fault formula =
-    concat (codes "Fault " ∷ code_text fault.code ∷ site_text variables fault.place fault.variable ∷ []) ++ formula_line invariants constraints formula
+abbrev pub fault_line : List (List ℕ) → List (List ℕ) → List (List ℕ) → Fault → Part → List ℕ
+fault_line variables invariants constraints fault part =
+    concat (codes "Fault " ∷ code_text fault.code ∷ site_text variables fault.place fault.variable ∷ []) ++ part_line invariants constraints part
 
 -- what the search found, given the names of the variables, of the invariants and of the constraints, and the limit
 abbrev pub first_line : List (List ℕ) → List (List ℕ) → List (List ℕ) → ℕ → Answer → List ℕ
 first_line variables invariants constraints limit (NoError counts) = line (codes "No error." ∷ [])
 first_line variables invariants constraints limit (InvariantFalse i trace counts) = line (codes "Invariant " ∷ name_at invariants i ∷ codes " is false." ∷ [])
 first_line variables invariants constraints limit (Deadlock trace counts) = line (codes "Deadlock." ∷ [])
-first_line variables invariants constraints limit (Faulted fault formula trace counts) = fault_line variables invariants constraints fault formula
+first_line variables invariants constraints limit (Faulted fault part trace counts) = fault_line variables invariants constraints fault part
 first_line variables invariants constraints limit (AssumptionFalse number) = line (codes "Assumption " ∷ decimal number ∷ codes " is false." ∷ [])
 first_line variables invariants constraints limit (Limit counts) = line (codes "State limit " ∷ decimal limit ∷ codes " passed." ∷ [])
 

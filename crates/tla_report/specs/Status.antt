@@ -9,7 +9,7 @@ abbrev pub answer_status : Answer → ℕ
 answer_status (NoError counts) = 0
 answer_status (InvariantFalse i trace counts) = 10
 answer_status (Deadlock trace counts) = 11
-answer_status (Faulted fault formula trace counts) = 12
+answer_status (Faulted fault part trace counts) = 12
 answer_status (AssumptionFalse number) = 13
 answer_status (Limit counts) = 14
 

@@ -4,17 +4,17 @@ ghost use Rattle.std.specs.Io.KnownBytes.{Appends};
 ghost use Rattle.counted_writer.specs.Puts.{Puts, AddsFirst};
 ghost use Rattle.tla_value.specs.TreeOf.{tree_of};
 ghost use Rattle.tla_search.specs.Answers.{trace_of};
-ghost use Rattle.tla_search.specs.IsNamed.{AreWhole, IsAboutOne, IsNamedFormula};
+ghost use Rattle.tla_search.specs.IsNamed.{AreWhole, IsAboutOne, IsNamedPart};
 ghost use Rattle.tla_report.specs.Codes.{refusal_code};
 ghost use Rattle.tla_report.specs.Private.Pieces.{piece_text, pieces_text};
-ghost use Rattle.tla_report.specs.Report.{report, line, first_line, fault_line, site_text, formula_line, place_text, trace_lines, state_lines, value_line, value_lines, counts_line, answer_report, refusal_line, ending, source_text};
+ghost use Rattle.tla_report.specs.Report.{report, line, first_line, fault_line, site_text, part_line, place_text, trace_lines, state_lines, value_line, value_lines, counts_line, answer_report, refusal_line, ending, source_text};
 
 use crate::checked::{Answered, Checked, Names, Refusal, RefusalCode};
 use counted_writer::{ShortWrite, put, put_number};
 use std::io::Write;
 use tla_config::Source;
 use tla_core::{Fault, Place};
-use tla_search::{Answer, Counts, Formula};
+use tla_search::{Answer, Counts, Part};
 use tla_value::{State, Text, Value};
 
 /// A write failed or took no byte.
@@ -72,7 +72,7 @@ fn put_first_line<W: Write>(answered: &Answered, out: &mut W) -> Result<u64, Sho
             put_line(&pieces, out, 0)
         }
         Answer::Deadlock { .. } => put_line(&[Piece::Text("Deadlock.")], out, 0),
-        Answer::Faulted { fault, formula, .. } => put_fault(fault, *formula, answered, out),
+        Answer::Faulted { fault, part, .. } => put_fault(fault, *part, answered, out),
         Answer::AssumptionFalse { number } => {
             let pieces = [
                 Piece::Text("Assumption "),
@@ -94,19 +94,19 @@ fn put_first_line<W: Write>(answered: &Answered, out: &mut W) -> Result<u64, Sho
 
 fn put_fault<W: Write>(
     fault: &Fault,
-    formula: Formula,
+    part: Part,
     answered: &Answered,
     out: &mut W,
 ) -> Result<u64, ShortWrite>
     requires about { IsAboutOne (length answered.now.variables) fault.now.place fault.now.variable }
-    requires named { IsNamedFormula (length answered.now.invariants) (length answered.now.constraints) formula }
+    requires named { IsNamedPart (length answered.now.invariants) (length answered.now.constraints) part }
     ensures { Puts (W.contents out.old) (W.contents out.new) 0
-        (fault_line answered.now.variables answered.now.invariants answered.now.constraints fault.now formula) result }
+        (fault_line answered.now.variables answered.now.invariants answered.now.constraints fault.now part) result }
 {
     let pieces = [Piece::Text("Fault "), Piece::Text(fault.code.name())];
     let written = put_pieces(&pieces, out, 0)?;
     let written = put_site(fault, &answered.variables, out, written)?;
-    put_formula(formula, answered, out, written)
+    put_part(part, answered, out, written)
 }
 
 // Writes what a fault is about.
@@ -134,18 +134,18 @@ fn put_site<W: Write>(
 }
 
 // Writes the rest of the line, which says where the fault was met.
-fn put_formula<W: Write>(
-    formula: Formula,
+fn put_part<W: Write>(
+    part: Part,
     answered: &Answered,
     out: &mut W,
     written: u64,
 ) -> Result<u64, ShortWrite>
-    requires { IsNamedFormula (length answered.now.invariants) (length answered.now.constraints) formula }
+    requires { IsNamedPart (length answered.now.invariants) (length answered.now.constraints) part }
     ensures { Puts (W.contents out.old) (W.contents out.new) written
-        (formula_line answered.now.invariants answered.now.constraints formula) result }
+        (part_line answered.now.invariants answered.now.constraints part) result }
 {
-    match formula {
-        Formula::Assumption(number) => {
+    match part {
+        Part::Assumption(number) => {
             let pieces = [
                 Piece::Text(" in assumption "),
                 Piece::Number(u128::from(number)),
@@ -153,9 +153,9 @@ fn put_formula<W: Write>(
             ];
             put_line(&pieces, out, written)
         }
-        Formula::Initial => put_line(&[Piece::Text(" in the initial predicate.")], out, written),
-        Formula::NextAction => put_line(&[Piece::Text(" in the next-state action.")], out, written),
-        Formula::Invariant(invariant) => {
+        Part::Initial => put_line(&[Piece::Text(" in the initial predicate.")], out, written),
+        Part::NextAction => put_line(&[Piece::Text(" in the next-state action.")], out, written),
+        Part::Invariant(invariant) => {
             let pieces = [
                 Piece::Text(" in invariant "),
                 Piece::Text(answered.invariants.name(invariant)),
@@ -163,7 +163,7 @@ fn put_formula<W: Write>(
             ];
             put_line(&pieces, out, written)
         }
-        Formula::Constraint(constraint) => {
+        Part::Constraint(constraint) => {
             let pieces = [
                 Piece::Text(" in constraint "),
                 Piece::Text(answered.constraints.name(constraint)),

@@ -59,7 +59,7 @@ fn lacking(alloc: Global) -> Result<Checked, AllocError> {
     };
     let answer = Answer::Faulted {
         fault,
-        formula: Formula::Invariant(0),
+        part: Part::Invariant(0),
         trace: one_state(alloc, -7)?,
         counts: Counts {
             levels: 1,

@@ -27,9 +27,10 @@ pub enum Until {
     LeftPiece(u64),
 }
 
-/// A gate that holds pieces of one pass over level 0.
+/// A gate that holds pieces of one pass over one level.
 #[derive(Drop)]
 pub struct Holds {
+    level: u64,
     pass: Pass,
     held: Held,
     until: Until,
@@ -47,8 +48,9 @@ pub struct Holds {
 }
 
 impl Holds {
-    pub fn new(pass: Pass, held: Held, until: Until) -> Holds {
+    pub fn new(level: u64, pass: Pass, held: Held, until: Until) -> Holds {
         Holds {
+            level,
             pass,
             held,
             until,
@@ -76,7 +78,7 @@ impl Holds {
     }
 
     fn is_here(&self, place: &GatePlace) -> bool {
-        place.level == 0 && place.pass == self.pass
+        place.level == self.level && place.pass == self.pass
     }
 
     fn is_held(&self, place: &GatePlace, entered_before: u64) -> bool {

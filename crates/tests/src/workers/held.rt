@@ -1,19 +1,20 @@
-//! Checks whose gates hold pieces: that workers are at work at once, that pieces are dropped, and that shards are merged side
-//! by side.
+//! Checks whose gates hold pieces: that workers are at work at once, that pieces are dropped, that shards are merged side
+//! by side, that a piece has as many states as was asked for, and that the gate gets the number of each level.
 
-use crate::specifications::{EIGHT_BAD, NONE_BAD, Specification, TWO_BAD};
+use crate::specifications::{EIGHT_BAD, JUGS, NONE_BAD, Specification, TWO_BAD};
 use crate::workers::checks::{Crew, ends_as_wanted};
 use crate::workers::gates::{Held, Holds, Until};
 use std::sync::Wait;
 use std::thread::Threads;
 use tla_check::Pass;
 
-/// A check of a specification of one level of ten states, and what its gate counts.
+/// A check of a specification, and what its gate counts in one pass over one level.
 #[derive(Clone, Copy)]
 struct Row {
     name: &'static str,
     specification: Specification,
     crew: Crew,
+    level: u64,
     pass: Pass,
     held: Held,
     until: Until,
@@ -33,6 +34,7 @@ const MEETING: Row = Row {
     name: "two workers look at invariants at once",
     specification: TWO_BAD,
     crew: TWO,
+    level: 0,
     pass: Pass::Invariants,
     held: Held::Pieces { from: 0, to: 1 },
     until: Until::Entered(2),
@@ -49,6 +51,7 @@ const MERGE: Row = Row {
         workers: 3,
         cut: 64,
     },
+    level: 0,
     pass: Pass::Merge,
     held: Held::Pieces { from: 0, to: 0 },
     until: Until::Entered(1),
@@ -59,7 +62,28 @@ const MERGE: Row = Row {
 
 const THREE: Crew = Crew { workers: 3, cut: 1 };
 
-static ROWS: [Row; 16] = [
+/// Ten states, of which a piece has three.
+const FOUR_PIECES: Row = Row {
+    name: "ten states make four pieces of three, at whose invariants workers look",
+    specification: NONE_BAD,
+    crew: Crew { workers: 2, cut: 3 },
+    held: Held::Pieces { from: 3, to: 3 },
+    until: Until::Entered(1),
+    entered: 1,
+    left: 4,
+    ..MEETING
+};
+
+/// The jugs, whose levels have 1, 2, 3, 2, 2, 2 and 2 states. The last has the state in which the invariant is FALSE.
+const LEVEL_ONE: Row = Row {
+    name: "the gate gets the number of level 1 in the pass over the invariants",
+    specification: JUGS,
+    level: 1,
+    left: 2,
+    ..MEETING
+};
+
+static ROWS: [Row; 22] = [
     MEETING,
     Row {
         name: "two workers look for steps at once",
@@ -161,11 +185,36 @@ static ROWS: [Row; 16] = [
         held: Held::Pieces { from: 2, to: 2 },
         ..MERGE
     },
+    FOUR_PIECES,
+    Row {
+        name: "ten states make four pieces of three, whose steps workers look for",
+        pass: Pass::Steps,
+        ..FOUR_PIECES
+    },
+    LEVEL_ONE,
+    Row {
+        name: "the gate gets the number of level 1 in the pass over the steps",
+        pass: Pass::Steps,
+        ..LEVEL_ONE
+    },
+    Row {
+        name: "the gate gets the number of level 1 in the merge",
+        pass: Pass::Merge,
+        ..LEVEL_ONE
+    },
+    Row {
+        name: "the last level, in which an invariant is FALSE, has no merge",
+        level: 6,
+        pass: Pass::Merge,
+        entered: 0,
+        left: 0,
+        ..LEVEL_ONE
+    },
 ];
 
 /// Whether a check ends as its row says, and its gate let each held piece go in time.
 fn goes_as_wanted<R: AllocGlobal + Threads + Wait + Sync>(rt: &R, row: &Row) -> bool {
-    let gate = Holds::new(row.pass, row.held, row.until);
+    let gate = Holds::new(row.level, row.pass, row.held, row.until);
     let ends = ends_as_wanted(rt, &row.specification, row.crew, &gate);
     let drops = match row.dropped {
         Some((held, others)) => gate.has_dropped(held, others),

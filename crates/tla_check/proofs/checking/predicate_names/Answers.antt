@@ -12,7 +12,7 @@ loop-predicate-preserved c =
     ∙ ap (λ xs. xs ++ c.predicate-item.result.name ∷ []) c.loop-predicate.invariant
     ∙ sym (names-more c.args.predicates.now c.loop-predicate.predicate-index c.predicate-item.result (omega arith) c.predicate-item.is)
 
-pub returns : goal.returns
-returns c =
+pub returns-clause-ok : goal.returns-clause-ok
+returns-clause-ok c =
     let all : length c.args.predicates.now ≤ c.loop-predicate.predicate-index = omega arith in
     c.new.ensures ∙ c.loop-predicate.invariant ∙ ap (λ xs. names_in (map predicate_of xs)) (take_all c.loop-predicate.predicate-index c.args.predicates.now all)

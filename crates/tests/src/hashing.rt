@@ -1,0 +1,19 @@
+//! A hash that tells no states apart.
+
+use std::hash::Hasher;
+
+/// A hasher that gives each state the hash 0.
+#[derive(Clone, Copy, Default)]
+pub struct Zero;
+
+impl Hasher for Zero {
+    ghost write = { λ s bytes. s };
+
+    ghost finish = { λ s. 0 };
+
+    fn write(&mut self, _bytes: &[u8]) {}
+
+    fn finish(&self) -> u64 {
+        0
+    }
+}

@@ -1,0 +1,63 @@
+#!/usr/bin/env python3
+"""Checks the documents: links to files and headings, files named in code quotes, and quoted definitions.
+
+    tools/links.py
+
+A quoted definition is a code block that begins with ```antt FILE: its lines must occur in that file, one after the other.
+The status is 1 if something is missing.
+"""
+import argparse
+import re
+import sys
+import urllib.parse
+
+sys.dont_write_bytecode = True
+
+from programs import TOP
+
+LINK = re.compile(r"\[[^\]\n]*\]\(([^)\s]+)\)")
+HEADING = re.compile(r"^#+ (.*)$", re.M)
+QUOTED = re.compile(r"^```antt (\S+)\n(.*?)^```", re.M | re.S)
+BLOCK = re.compile(r"^```.*?^```\n|^    .*\n", re.M | re.S)
+NAMED = re.compile(r"`((?:crates|tools|docs|examples|\.ci)/[\w./-]+)`")
+
+
+def anchors(page):
+    """The anchors of a page's headings."""
+    return {re.sub(r"[^\w\- ]", "", it.lower()).replace(" ", "-") for it in HEADING.findall(page.read_text())}
+
+
+def wrong_in(page):
+    """What is wrong in a page."""
+    text = page.read_text()
+    plain = BLOCK.sub("", text)
+    for link in LINK.findall(re.sub(r"`[^`\n]*`", "", plain)):
+        if re.match(r"\w+:", link):
+            continue
+        name, _, heading = urllib.parse.unquote(link).partition("#")
+        target = (page.parent / name).resolve() if name else page
+        if not target.exists():
+            yield f"no file {link}"
+        elif heading and heading not in anchors(target):
+            yield f"no heading {link}"
+    for name in NAMED.findall(plain):
+        if not (TOP / name).exists() and "NAME" not in name and "/out/" not in name:
+            yield f"no file {name}"
+    for name, block in QUOTED.findall(text):
+        file = TOP / name
+        if not file.is_file() or block not in file.read_text():
+            yield f"{name} doesn't have the lines that are quoted"
+
+
+def main():
+    argparse.ArgumentParser(description=__doc__, formatter_class=argparse.RawDescriptionHelpFormatter).parse_args()
+    pages = [TOP / "README.md", *(TOP / "docs").rglob("*.md"), *(TOP / "crates").glob("*/data/*.md")]
+    wrong = [f"{page.relative_to(TOP)}: {it}" for page in sorted(pages) for it in wrong_in(page)]
+    for it in wrong:
+        print(f"WRONG: {it}")
+    print(f"{len(pages)} pages, {len(wrong)} wrong")
+    return min(1, len(wrong))
+
+
+if __name__ == "__main__":
+    sys.exit(main())
