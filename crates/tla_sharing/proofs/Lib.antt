@@ -1,0 +1,6 @@
+pub mod Pointwise
+pub mod Alike
+pub mod RaisedValue
+pub mod Copies
+pub mod Steady
+pub mod Fitting

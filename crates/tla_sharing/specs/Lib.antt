@@ -1,0 +1,3 @@
+pub mod Raise
+pub mod Variables
+pub mod Laws
