@@ -4,3 +4,5 @@ pub mod RaisedValue
 pub mod Copies
 pub mod Steady
 pub mod Fitting
+pub mod Listed
+pub mod Loops

@@ -1,3 +1,4 @@
 pub mod Raise
 pub mod Variables
 pub mod Laws
+pub mod Private

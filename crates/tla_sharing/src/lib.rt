@@ -2,3 +2,6 @@
 #![tactic(auto)]
 
 pub mod laws;
+mod raised;
+
+pub use raised::is_raised;
