@@ -74,10 +74,12 @@ Next == x' = x + 1
 NO_MEMORY = (22, b"Out of memory.\n", b"")
 NO_WORKER = (22, b"A worker could not be started.\n", b"")
 NO_REPORT = (21, b"", b"")
+UNWRITTEN = b"tlacheck: cannot write the report\n"
 
 
-def cannot_read(name, cause):
-    return (21, b"", f"tlacheck: cannot read {name}\ncause: {cause}\n".encode())
+def cannot_read(name, cause=None):
+    lines = [f"tlacheck: cannot read {name}"] + ([f"cause: {cause}"] if cause else [])
+    return (21, b"", "".join(f"{line}\n" for line in lines).encode())
 
 
 class Ends:
@@ -92,7 +94,7 @@ class Ends:
     def put(self, name, text):
         (self.folder / name).write_bytes(text)
 
-    def start(self, *words, memory=None, **how):
+    def start(self, *words, memory=None, quiet=True, **how):
         """Starts the program on these words, within `memory` bytes if given."""
 
         def limit():
@@ -101,7 +103,8 @@ class Ends:
                 resource.setrlimit(resource.RLIMIT_AS, (memory, memory))
 
         streams = {"stdin": subprocess.DEVNULL, "stdout": subprocess.PIPE, "stderr": subprocess.PIPE, **how}
-        return subprocess.Popen([self.program, "--quiet", *words], cwd=self.folder, preexec_fn=limit, **streams)
+        flags = ["--quiet"] if quiet else []
+        return subprocess.Popen([self.program, *flags, *words], cwd=self.folder, preexec_fn=limit, **streams)
 
     def run(self, *words, seconds=60, **how):
         """The status of a run and what it wrote, or None where it had no end in time."""
@@ -128,11 +131,13 @@ class Ends:
         print(f"{'' if right else 'WRONG: '}{what}: {said}", flush=True)
 
     def outputs(self):
-        """A failed write ends the program with status 21, and nothing more is written."""
+        """A failed write ends the program with status 21, and it says so unless it is quiet."""
         self.put("Long.tla", LONG)
         for name in ("M.tla", "Long.tla"):
             with open("/dev/full", "wb") as full:
                 self.expect(f"{name} to a full device", self.run(name, "M.cfg", stdout=full), (21, None, b""))
+                found = self.run(name, "M.cfg", stdout=full, quiet=False)
+                self.expect(f"{name} to a full device, not quietly", found, (21, None, UNWRITTEN))
             reads, writes = os.pipe()
             os.close(reads)
             self.expect(f"{name} to a closed pipe", self.run(name, "M.cfg", stdout=writes), (21, None, b""))
@@ -149,16 +154,20 @@ class Ends:
             self.expect("--help to a full device", self.run("--help", stdout=full), (21, None, b""))
 
     def inputs(self):
-        """What can't be read, or not to its end, is reported."""
+        """The program says what it can't read, or not to its end, and why unless it is quiet."""
         (self.folder / "Folder").mkdir()
-        self.expect("a folder as the module", self.run("Folder", "M.cfg"), cannot_read("Folder", "it is a folder"))
-        self.expect("a folder as the configuration", self.run("M.tla", "Folder"), cannot_read("Folder", "it is a folder"))
-        self.expect("no file as the module", self.run("None.tla", "M.cfg"), cannot_read("None.tla", "there is no such file"))
-        self.expect("no file as the configuration", self.run("M.tla", "None.cfg"), cannot_read("None.cfg", "there is no such file"))
-        self.expect("a module without end", self.run("/dev/zero", "M.cfg", memory=512 * MIB), cannot_read("/dev/zero", "out of memory"))
+        for what, words, name, cause, limit in (
+            ("a folder as the module", ("Folder", "M.cfg"), "Folder", "it is a folder", None),
+            ("a folder as the configuration", ("M.tla", "Folder"), "Folder", "it is a folder", None),
+            ("no file as the module", ("None.tla", "M.cfg"), "None.tla", "there is no such file", None),
+            ("no file as the configuration", ("M.tla", "None.cfg"), "None.cfg", "there is no such file", None),
+            ("a module without end", ("/dev/zero", "M.cfg"), "/dev/zero", "out of memory", 512 * MIB),
+        ):
+            self.expect(what, self.run(*words, memory=limit, quiet=False), cannot_read(name, cause))
+            self.expect(f"{what}, quietly", self.run(*words, memory=limit), cannot_read(name))
         os.mkfifo(self.folder / "Fifo")
         for size, memory, cause in ((1, None, "no end within 1000000 reads"), (65_536, 512 * MIB, "out of memory")):
-            found = self.beside(lambda _: self.feed(size), "Fifo", "M.cfg", memory=memory)
+            found = self.beside(lambda _: self.feed(size), "Fifo", "M.cfg", memory=memory, quiet=False)
             self.expect(f"a pipe that gives {size} bytes a read and has no end", found, cannot_read("Fifo", cause))
         self.put("Grows.tla", COUNTER)
         found = self.beside(self.grow, "Grows.tla", "M.cfg")

@@ -129,9 +129,8 @@ int pthread_create(pthread_t *thread, const pthread_attr_t *how, void *(*what)(v
 }
 """
 
-# Words of the command line that name a number beyond its limit.
-BAD_NUMBERS = ["--workers 65", "--cut 65537", "--max-states 16777217"]
-BAD_NUMBER = (21, b"tlacheck: bad number\nhint: --workers takes 1 to 64, --cut 1 to 65536, --max-states 1 to 16777216\n")
+# The greatest number that each option takes.
+LARGEST = {"--workers": 64, "--cut": 65536, "--max-states": 16777216}
 
 NO_LINE = (21, b"tlacheck: out of memory\n")
 NO_MEMORY = (22, b"Out of memory.\n")
@@ -143,8 +142,8 @@ LINE, INPUTS, WANT = "for the command line", "for its inputs", "out of memory"
 # What tlacheck may report if something is refused, in the order of its stages.
 SAYS = {
     NO_LINE: LINE,
-    (21, b"tlacheck: cannot read module.tla\ncause: out of memory\n"): "for the module's file",
-    (21, b"tlacheck: cannot read model.cfg\ncause: out of memory\n"): "for the configuration's file",
+    (21, b"tlacheck: cannot read module.tla\n"): "for the module's file",
+    (21, b"tlacheck: cannot read model.cfg\n"): "for the configuration's file",
     NO_MEMORY: MEMORY,
     NO_WORKER: WORKER,
 }
@@ -217,9 +216,11 @@ def checks(program, names, every):
 
 def bad_numbers(program):
     """Command lines with a number beyond its limit."""
-    for words in BAD_NUMBERS:
-        line = [program, "module.tla", "model.cfg", *words.split()]
-        yield Subject(words, line, CASES, BAD_NUMBER, {NO_LINE: LINE}, WORKER)
+    for option, most in LARGEST.items():
+        words = [option, str(most + 1)]
+        line = [program, "module.tla", "model.cfg", *words]
+        says = f"tlacheck: bad number\nhint: {option} takes a number from 1 to {most}\n"
+        yield Subject(" ".join(words), line, CASES, (21, says.encode()), {NO_LINE: LINE}, WORKER)
 
 
 def refused_answer(block, code):

@@ -1,5 +1,6 @@
 //! The list of a group's cases.
 
+use crate::told::Form;
 use std::alloc::{AllocError, Global};
 use std::io;
 
@@ -16,8 +17,10 @@ pub enum Wanted {
     Lines,
     /// The report of each module and configuration in `texts`.
     Texts,
-    /// The explanation, with `told`.
-    Told,
+    /// What is written beside the report in this form, with `told`.
+    Told(Form),
+    /// The explanation of each module and configuration in `texts`, with `told`.
+    ToldTexts,
 }
 
 /// A line of the list.
@@ -31,18 +34,16 @@ pub struct Case<'a> {
 
 impl Wanted {
     fn read(word: &str) -> Option<Wanted> {
-        if word == "options" {
-            Some(Wanted::Options)
-        } else if word == "prefixes" {
-            Some(Wanted::Prefixes)
-        } else if word == "lines" {
-            Some(Wanted::Lines)
-        } else if word == "texts" {
-            Some(Wanted::Texts)
-        } else if word == "told" {
-            Some(Wanted::Told)
-        } else {
-            Some(Wanted::Status(word.parse().ok()?))
+        match word {
+            "options" => Some(Wanted::Options),
+            "prefixes" => Some(Wanted::Prefixes),
+            "lines" => Some(Wanted::Lines),
+            "texts" => Some(Wanted::Texts),
+            "told-texts" => Some(Wanted::ToldTexts),
+            _ => match Form::read(word) {
+                Some(form) => Some(Wanted::Told(form)),
+                None => Some(Wanted::Status(word.parse().ok()?)),
+            },
         }
     }
 }

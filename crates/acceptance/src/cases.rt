@@ -20,14 +20,18 @@
 //!   `report` has the reports of all, one after the other;
 //! - `texts`: the folder has `texts` and `report`; `texts` has modules, each followed by its
 //!   configuration, with a form feed between each two texts, and `report` has the reports of all;
-//! - `told`: the folder has `module.tla`, `model.cfg` and `told`, the explanation that is wanted.
+//! - `told`: the folder has `module.tla`, `model.cfg` and `told`, the explanation that is wanted;
+//!   `whole` and `counted` are the same with values shown whole and with the steps of each part of
+//!   Next, and `graph` and `document` compare the graph of the states and the document of the run;
+//! - `told-texts`: the folder has `texts` and `told`, which has the explanation of each module and
+//!   configuration, with a form feed between each two.
 
 use crate::case::{Case, Wanted};
 use crate::outcome::{
     CaseFiles, is_as_wanted, lines_are_as_wanted, options_are_as_wanted, options_of,
     prefixes_are_as_wanted, texts_are_as_wanted,
 };
-use crate::told::is_told_as_wanted;
+use crate::told::{Form, is_told_as_wanted, texts_are_told_as_wanted};
 use std::io::Write;
 use std::rt::Files;
 use std::sync::Wait;
@@ -56,10 +60,11 @@ fn files_of<R: AllocGlobal + Files>(rt: &R, folder: &str) -> io::Result<CaseFile
     })
 }
 
-/// Whether the explanation of the case is what its file `told` says.
+/// Whether what is written beside the report in a form is what the file `told` of the case has.
 fn explains<R: AllocGlobal + Files + Threads + Wait + Sync>(
     rt: &R,
     case: &Case<'_>,
+    form: Form,
 ) -> io::Result<bool> {
     let folder = case.folder.as_str();
     let module = bytes_of(rt, folder, "module.tla")?;
@@ -68,7 +73,22 @@ fn explains<R: AllocGlobal + Files + Threads + Wait + Sync>(
     let Some(options) = options_of(rt.alloc(), case.options.as_slice())? else {
         return Ok(false);
     };
-    is_told_as_wanted(rt, rt.alloc(), &module, &configuration, &options, &wanted)
+    let alloc = rt.alloc();
+    is_told_as_wanted(rt, alloc, &module, &configuration, &options, form, &wanted)
+}
+
+/// Whether the explanations of the texts of the case are what its file `told` has.
+fn explains_each<R: AllocGlobal + Files + Threads + Wait + Sync>(
+    rt: &R,
+    case: &Case<'_>,
+) -> io::Result<bool> {
+    let folder = case.folder.as_str();
+    let texts = bytes_of(rt, folder, "texts")?;
+    let wanted = bytes_of(rt, folder, "told")?;
+    let Some(options) = options_of(rt.alloc(), case.options.as_slice())? else {
+        return Ok(false);
+    };
+    texts_are_told_as_wanted(rt, rt.alloc(), &texts, &options, &wanted)
 }
 
 fn passes<R: AllocGlobal + Files + Threads + Wait + Sync>(
@@ -105,7 +125,8 @@ fn passes<R: AllocGlobal + Files + Threads + Wait + Sync>(
             let report = bytes_of(rt, folder, "report")?;
             texts_are_as_wanted(rt, rt.alloc(), texts.as_slice(), report.as_slice())
         }
-        Wanted::Told => explains(rt, case),
+        Wanted::Told(form) => explains(rt, case, form),
+        Wanted::ToldTexts => explains_each(rt, case),
     }
 }
 

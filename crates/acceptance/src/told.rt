@@ -1,27 +1,106 @@
-//! What a check tells beside its report.
+//! What a check writes beside its report.
 
 use std::alloc::Global;
 use std::io;
 use std::sync::Wait;
 use std::thread::Threads;
-use tla_check::{NoGate, Options, check};
-use tla_explain::{FileNames, explain};
+use tla_check::{Checked, NoGate, Options, check};
+use tla_explain::{FileNames, Style, explain, write_document, write_graph};
 
-/// Whether what is told of the check of these texts is this.
+/// What is written beside a report.
+#[derive(Clone, Copy)]
+pub enum Form {
+    Explanation,
+    /// An explanation in which values are shown whole.
+    Whole,
+    /// An explanation with the steps of each part of Next.
+    Counted,
+    Graph,
+    Document,
+}
+
+impl Form {
+    /// The form of this name.
+    pub fn read(word: &str) -> Option<Form> {
+        match word {
+            "told" => Some(Form::Explanation),
+            "whole" => Some(Form::Whole),
+            "counted" => Some(Form::Counted),
+            "graph" => Some(Form::Graph),
+            "document" => Some(Form::Document),
+            _ => None,
+        }
+    }
+}
+
+/// Whether what is written of the check of these texts is this.
 pub fn is_told_as_wanted<R: Threads + Wait + Sync>(
     rt: &R,
     alloc: Global,
     module: &[u8],
     configuration: &[u8],
     options: &Options,
+    form: Form,
     wanted: &[u8],
 ) -> io::Result<bool> {
     let checked = check(rt, alloc, module, configuration, options, &NoGate);
+    let mut told = Vec::new(alloc);
+    write_form(&mut told, module, configuration, &checked, form)?;
+    Ok(told.as_slice() == wanted)
+}
+
+fn write_form<'a>(
+    told: &mut Vec<u8>,
+    module: &'a [u8],
+    configuration: &'a [u8],
+    checked: &'a Checked,
+    form: Form,
+) -> io::Result<()> {
+    let alloc = *told.allocator();
     let names = FileNames {
         module: "module.tla",
         configuration: "model.cfg",
     };
-    let mut told = Vec::new(alloc);
-    explain(&mut told, &names, module, configuration, &checked, alloc)?;
-    Ok(told.as_slice() == wanted)
+    let style = Style {
+        full: matches!(form, Form::Whole),
+        coverage: matches!(form, Form::Counted),
+    };
+    match form {
+        Form::Explanation | Form::Whole | Form::Counted => {
+            explain(alloc, told, &names, module, configuration, checked, style)
+        }
+        Form::Graph => write_graph(alloc, told, module, configuration, checked),
+        Form::Document => write_document(alloc, told, &names, module, configuration, checked),
+    }
+}
+
+/// What is between two texts, and between two explanations.
+const BETWEEN: u8 = b'\x0c';
+
+/// Whether the explanations of each module of these texts, with the configuration after it, are in turn what `wanted` has. A
+/// module without a configuration is none.
+pub fn texts_are_told_as_wanted<R: Threads + Wait + Sync>(
+    rt: &R,
+    alloc: Global,
+    texts: &[u8],
+    options: &Options,
+    wanted: &[u8],
+) -> io::Result<bool> {
+    let mut parts = wanted.split(|b| *b == BETWEEN);
+    let mut module: Option<&[u8]> = None;
+    for text in texts.split(|b| *b == BETWEEN) {
+        let Some(first) = module else {
+            module = Some(text);
+            continue;
+        };
+        let Some(part) = parts.next() else {
+            return Ok(false);
+        };
+        let form = Form::Explanation;
+        if !is_told_as_wanted(rt, alloc, first, text, options, form, part)? {
+            return Ok(false);
+        }
+        module = None;
+    }
+    Ok(module.is_none() && parts.next().is_none())
 }

@@ -1,56 +1,57 @@
-//! What a check answers, told to a reader: where it is in the files, what the rule is, what was probably meant, and what each
-//! step of a trace changes.
+//! What a check answers, explained: where it is in the files, what the rule is, what was probably
+//! meant, what each step of a trace changes, and which parts of Next made steps. Also the states as a
+//! graph, and a run as a document.
 //!
-//! Nothing here changes a report. What is told is made from the answer and the two texts.
+//! Nothing here changes a report. All is made from the answer and the two texts.
 #![tactic(auto)]
 
-mod answer;
-mod binders;
-mod codes;
-mod definitions;
-mod faults;
-mod models;
-mod names;
-mod page;
-mod places;
-mod refusal;
-mod refusal_text;
-mod trace;
-mod values;
+mod document;
+mod drawing;
+mod graph;
 
-pub use codes::{CodeText, code_tables, text_of};
-use page::Page;
-pub use places::FileNames;
-use places::Sources;
+pub use document::write_document;
+pub use graph::write_graph;
 use std::alloc::Global;
 use std::io;
 use std::io::Write;
-use tla_check::Checked;
+pub use tla_page::codes::{CodeText, code_tables, text_of};
+use tla_page::page::Page;
+pub use tla_page::places::FileNames;
+use tla_page::places::Sources;
+pub use tla_page::style::Style;
+use tla_report::Checked;
+use tla_traces::coverage::put_coverage;
 
-/// Writes what a check of these two texts answered, for a reader at a terminal or an editor. Nothing is written where
-/// there is no error. An error is want of memory or a write that failed.
-pub fn explain<W: Write>(
-    writer: &mut W,
-    names: &FileNames<'_>,
-    module: &[u8],
-    configuration: &[u8],
-    checked: &Checked,
+/// Writes what a check of these two texts answered, for a reader at a terminal or an editor. Where
+/// there is no error, only the parts of Next that never made a step are named, and with
+/// `style.coverage` the steps of each part are counted. An error means that memory ran out, or a write
+/// failed.
+pub fn explain<'a, W: Write>(
     alloc: Global,
+    writer: &mut W,
+    names: &FileNames<'a>,
+    module: &'a [u8],
+    configuration: &'a [u8],
+    checked: &Checked,
+    style: Style,
 ) -> io::Result<()> {
-    let mut page = Page::new(alloc);
+    let mut page = Page::new(alloc, style.full);
     let sources = Sources {
         names: *names,
         module,
         configuration,
     };
     tell(&mut page, &sources, checked);
+    if let Checked::Answered(answered) = checked {
+        put_coverage(&mut page, &sources, answered, style.coverage);
+    }
     writer.write_all(page.told()?)
 }
 
 fn tell(page: &mut Page, sources: &Sources<'_>, checked: &Checked) {
     match checked {
-        Checked::Refused(refused) => refusal::tell(page, sources, refused),
-        Checked::Answered(answered) => answer::tell(page, sources, answered),
+        Checked::Refused(refused) => tla_refusals::refusal::tell(page, sources, refused),
+        Checked::Answered(answered) => tla_answers::answer::tell(page, sources, answered),
         Checked::NoMemory => page.put_text("out of memory: allow more, or check a smaller model\n"),
         Checked::NoWorker => {
             page.put_text("a worker could not be started: ask for fewer, by --workers\n");

@@ -1,8 +1,15 @@
-//! Brackets that are open.
+//! Brackets and words that are open.
 
 use crate::places::is_before;
 use std::alloc::{AllocError, Global};
 use tla_lex::{Kind, Place, Token};
+
+/// What a token opened, and what it still waits for, as it is written.
+#[derive(Clone, Copy, Debug)]
+pub struct Open {
+    pub token: Token,
+    pub wanted: &'static str,
+}
 
 /// Whether a token opens a bracket.
 pub fn opens_bracket(kind: Kind) -> bool {
@@ -25,43 +32,68 @@ pub fn closes_bracket(kind: Kind) -> bool {
     )
 }
 
-/// Whether a token opens what another has to close.
-fn opens(kind: Kind) -> bool {
-    opens_bracket(kind) || matches!(kind, Kind::If | Kind::Let)
-}
-
-/// Whether a token closes what another opened.
-fn closes(kind: Kind) -> bool {
-    closes_bracket(kind) || matches!(kind, Kind::Else | Kind::In)
-}
-
-/// What closes a bracket, an IF or a LET, as it is written.
-pub fn closing_of(kind: Kind) -> Option<&'static str> {
+/// What a token opens that another has to close: a bracket, an IF, a LET, or names that a colon
+/// follows.
+fn wanted_after(kind: Kind) -> Option<&'static str> {
     match kind {
         Kind::LeftParen => Some(")"),
         Kind::LeftBracket => Some("]"),
         Kind::LeftBrace => Some("}"),
         Kind::LeftTuple => Some(">>"),
-        Kind::If => Some("THEN .. ELSE"),
+        Kind::If => Some("THEN"),
         Kind::Let => Some("IN"),
+        Kind::ForAll | Kind::Exists | Kind::Choose => Some(":"),
         _ => None,
     }
 }
 
-/// The last of the tokens before a place that opens what none of the tokens before that place closes. The only error is want
-/// of memory.
+/// Whether a token closes what waits for this.
+fn is_closed_by(wanted: &str, kind: Kind) -> bool {
+    match kind {
+        Kind::RightParen => wanted == ")",
+        Kind::RightBracket | Kind::RightBracketSubscript => wanted == "]",
+        Kind::RightBrace => wanted == "}",
+        Kind::RightTuple | Kind::RightTupleSubscript => wanted == ">>",
+        Kind::Then => wanted == "THEN",
+        Kind::Else => wanted == "ELSE",
+        Kind::In => wanted == "IN",
+        Kind::Colon => wanted == ":",
+        _ => false,
+    }
+}
+
+/// Takes up one token more. The only error is out of memory.
+fn take_up(open: &mut Vec<Open>, token: Token) -> Result<(), AllocError> {
+    if let Some(wanted) = wanted_after(token.kind) {
+        open.push(Open { token, wanted })?;
+        return Ok(());
+    }
+    let Some(last) = open.last().copied() else {
+        return Ok(());
+    };
+    if !is_closed_by(last.wanted, token.kind) {
+        return Ok(());
+    }
+    let _ = open.pop();
+    if token.kind == Kind::Then {
+        open.push(Open {
+            token: last.token,
+            wanted: "ELSE",
+        })?;
+    }
+    Ok(())
+}
+
+/// The last of the tokens before a place that opens what none of the tokens before that place
+/// closes. The only error is out of memory.
 pub fn innermost_open(
     alloc: Global,
     tokens: &[Token],
     place: Place,
-) -> Result<Option<Token>, AllocError> {
+) -> Result<Option<Open>, AllocError> {
     let mut open = Vec::new(alloc);
     for token in tokens.iter().take_while(|t| is_before(t.place, place)) {
-        if opens(token.kind) {
-            open.push(*token)?;
-        } else if closes(token.kind) {
-            let _ = open.pop();
-        }
+        take_up(&mut open, *token)?;
     }
     Ok(open.pop())
 }

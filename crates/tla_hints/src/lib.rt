@@ -1,21 +1,31 @@
-//! Hints for the reader of a refusal: the line of a place with a caret below it, the name that was probably meant, the
-//! module that has an operator, and the bracket that is still open.
+//! Hints for the reader of a refusal: the line of a place with a caret below it, the name that was
+//! probably meant, the module that has an operator, the bracket that is still open, and what to
+//! write in place of what is left out.
 #![tactic(auto)]
 
 mod brackets;
+mod characters;
 mod columns;
+mod forms;
+mod library;
 mod lines;
 mod modules;
 mod names;
 mod places;
+mod reserved;
 mod statements;
+mod table;
 mod words;
 
-pub use brackets::{closes_bracket, closing_of, innermost_open, opens_bracket};
+pub use brackets::{Open, closes_bracket, innermost_open, opens_bracket};
+pub use characters::{sign_cure, symbols, word_meant};
 pub use columns::{blanks, front};
+pub use forms::{form_cure, module_cure};
+pub use library::library_cure;
 pub use lines::line_of;
 pub use modules::module_with;
-pub use names::{Near, nearest};
+pub use names::{Near, is_swapped, nearest};
 pub use places::is_before;
-pub use statements::STATEMENTS;
+pub use reserved::{BACKSLASHED, LIBRARY, MODULES, RESERVED};
+pub use statements::{LEFT_OUT, STATEMENTS, statement_cure};
 pub use words::word_of;

@@ -29,3 +29,19 @@ pub fn nearest(alloc: Global, name: &str, known: &[&str]) -> Result<Option<Near>
     }
     Ok(best)
 }
+
+/// Whether two neighbours of a name, in turned order, make the other name of it.
+pub fn is_swapped(name: &[u8], other: &[u8]) -> bool {
+    if name.len() != other.len() {
+        return false;
+    }
+    let Some(at) = name.iter().zip(other.iter()).position(|(a, b)| a != b) else {
+        return false;
+    };
+    match (name.get(at..), other.get(at..)) {
+        (Some([a, b, rest @ ..]), Some([c, d, others @ ..])) => {
+            a == d && b == c && rest == others
+        }
+        _ => false,
+    }
+}

@@ -1,7 +1,6 @@
 -- What the functions of the command line cite.
-use Rattle.std.proofs.Common.{◌≡◌, ◌⊎◌, ◌∙◌, ap, ℕ, List, [], refl, false, true, codes, sym, subst, inl, inr, arith}
-use Rattle.std.specs.Prelude.{Option, None, Some, IfNone, IsSome, ◌↔◌, Result, Ok, Err, IfErr, IsErrAnd}
-use Rattle.std.proofs.lemmas.Bool.{cases_lt}
+use Rattle.std.proofs.Common.{◌≡◌, ◌∙◌, ap, List, [], refl, true, codes, sym, subst, inl, inr}
+use Rattle.std.specs.Prelude.{None, Some, Result, Ok, Err, IfErr, IsErrAnd}
 use Rattle.clap.specs.Words.{App, HasKind, HasMatchesOf, IsAmong, Text, app_of, fault_of, found_of, is_simple, is_simple_and_free, kind_of, matches_of, rows_of}
 use Rattle.clap.proofs.OnLiterals.{clap_on_literals}
 use Rattle.clap.specs.declared.builder.command.Command.{Command}
@@ -9,11 +8,14 @@ use Rattle.clap.specs.declared.parser.matches.ArgMatches.{ArgMatches}
 use Rattle.clap.specs.declared.error.Error.{Error}
 use Rattle.clap.specs.declared.error.kind.ErrorKind.{ErrorKind}
 use Rattle.clap.specs.declared.error.kind.ErrorKind.TheVariants.{OutOfMemory}
-use Rattle.tla_search.specs.Options.{IsCount, IsWithinLimits, Numbers, MAX_PIECE, MAX_WORKERS}
-use Rattle.tla_search.specs.declared.options.TheConstants.{MAX_STATES}
-use Rattle.tla_line.specs.CommandLine.{NamesBadNumber, Writes, WritesNoCount, faults_of, text_of, tlacheck}
+use Rattle.tla_line.specs.CommandLine.{NamesBadNumber, WritesNoCount, faults_of, most_of, text_of, tlacheck}
+use Rattle.tla_line.specs.LineFault.{IsFaultOf, IsNoLine, fault_by_kind, fault_from}
+use Rattle.tla_line.specs.Private.Parsing.{IsOfClap, text_for}
 use Rattle.tla_line.specs.declared.line.LineFault.{LineFault}
-use Rattle.tla_line.specs.LineFault.{IsFaultOf, fault_by_kind, fault_from}
+use Rattle.tla_line.specs.declared.line.LineFault.TheVariants.{Refused, Number, Memory}
+use Rattle.tla_line.specs.declared.line.NoLine.{NoLine}
+use Rattle.tla_line.specs.declared.number.NumberOption.{NumberOption}
+use Rattle.tla_line.specs.declared.number.NumberOption.TheVariants.{Workers, Cut, MaxStates}
 
 -- an error of one of the kinds that fit the words gives a fault that fits them
 pub fault_fits : (words : List Text) (e : Error) → HasKind (faults_of words) e → IsFaultOf words (fault_from e)
@@ -23,38 +25,6 @@ fault_fits words e (inr among) = go (kind_of e) among
     go : (k : ErrorKind) → IsAmong (kind_of e) (faults_of words) → IsFaultOf words (fault_by_kind k e)
     go OutOfMemory h = tt
     go _ h = h
-
-is_count_or_not : (most n : ℕ) → IsCount most n ⊎ (IsCount most n → ⊥)
-is_count_or_not most n = elim (cases_lt 0 n) [
-  | inl low ↦ elim (cases_lt most n) [
-    | inl over ↦ inr (λ h. absurd (omega (arith, h.1)))
-    | inr high ↦ inl (omega arith, high)
-  ]
-  | inr none ↦ inr (λ h. absurd (omega (arith, h.0)))
-]
-
--- a text writes one number
-no_count : (most n : ℕ) (text : Text) → Writes text n → (IsCount most n → ⊥) → WritesNoCount most text
-no_count most n text writes out m also count = out (subst (IsCount most) (sym also.1 ∙ writes.1) count)
-
--- where three numbers are not within the limits, one of their texts is bad
-pub bad_number : (workers cut limit : Text) (n : Numbers) → Writes workers n.workers → Writes cut n.cut → Writes limit n.limit
-    → (IsWithinLimits n → ⊥) → WritesNoCount MAX_WORKERS workers ⊎ (WritesNoCount MAX_PIECE cut ⊎ WritesNoCount MAX_STATES limit)
-bad_number workers cut limit n w c l out = elim (is_count_or_not MAX_WORKERS n.workers) [
-  | inr bad ↦ inl (no_count MAX_WORKERS n.workers workers w bad)
-  | inl w_ok ↦ elim (is_count_or_not MAX_PIECE n.cut) [
-    | inr bad ↦ inr (inl (no_count MAX_PIECE n.cut cut c bad))
-    | inl c_ok ↦ elim (is_count_or_not MAX_STATES n.limit) [
-      | inr bad ↦ inr (inr (no_count MAX_STATES n.limit limit l bad))
-      | inl l_ok ↦ absurd (out (w_ok, c_ok, l_ok))
-    ]
-  ]
-]
-
--- what holds where there is no value holds of an answer that comes only under P
-pub none_of : {A : Type 0} (P Q : Type 0) (r : Option A) → (IsSome r ↔ P) → ((P → ⊥) → Q) → IfNone r Q
-none_of P Q None h q = q (λ p. let bad : false ≡ true = h.1 p in cc)
-none_of P Q (Some x) h q = tt
 
 -- an answer that is a fault of which P holds
 pub err_is : {T : Type 0} (P : LineFault → Type 0) (r : Result T LineFault) (f : LineFault) → IsErrAnd r (λ x. x ≡ f) → P f → IfErr r P
@@ -85,12 +55,37 @@ pub rows_known : (words : List Text) (c : Command) (m : ArgMatches) → app_of c
     → rows_of (found_of m) ≡ matches_of tlacheck words
 rows_known words c m app h = subst (λ (a : App). rows_of (found_of m) ≡ matches_of a words) app (h (ap is_simple app ∙ is_read)).0
 
--- one of three texts that the words name is bad
-pub bad_named : (words : List Text) (workers cut limit : Text) → text_of words (codes "workers") ≡ Some workers
+-- a fault of `clap` is no number
+pub of_clap : (e : Error) → IsOfClap (fault_from e)
+of_clap e = go (kind_of e)
+  where
+    go : (k : ErrorKind) → IsOfClap (fault_by_kind k e)
+    go OutOfMemory = tt
+    go _ = tt
+
+no_number : (fault : LineFault) → IsOfClap fault → fault ≡ Number → ⊥
+no_number (Refused e) of is = cc
+no_number Number of is = absurd of
+no_number Memory of is = cc
+
+-- words that `clap` refuses name no line
+pub refused_words : {T : Type 0} (words : List Text) (r : Result T NoLine) (fault : LineFault)
+    → IsErrAnd r (λ n. n ≡ record { fault = fault; bad_number = None }) → IsFaultOf words fault → IsOfClap fault → IfErr r (IsNoLine words)
+refused_words words (Ok x) fault is fits of = tt
+refused_words words (Err n) fault is fits of = subst (IsNoLine words) (sym is) (record { fault = fits; option = no_number fault of })
+
+-- words that give an option a bad number name no line
+pub bad_words : {T : Type 0} (words : List Text) (r : Result T NoLine) (option : NumberOption)
+    → IsErrAnd r (λ n. n ≡ record { fault = Number; bad_number = Some option }) → faults_of words ≡ [] → NamesBadNumber words option
+    → IfErr r (IsNoLine words)
+bad_words words (Ok x) option is taken bad = tt
+bad_words words (Err n) option is taken bad =
+    subst (IsNoLine words) (sym is) (record { fault = (taken, option, bad); option = (refl, bad) })
+
+-- the words name the bad text of the option
+pub bad_named : (words : List Text) (option : NumberOption) (workers cut limit : Text) → text_of words (codes "workers") ≡ Some workers
     → text_of words (codes "cut") ≡ Some cut → text_of words (codes "max-states") ≡ Some limit
-    → WritesNoCount MAX_WORKERS workers ⊎ (WritesNoCount MAX_PIECE cut ⊎ WritesNoCount MAX_STATES limit) → NamesBadNumber words
-bad_named words workers cut limit w c l bad = elim bad [
-  | inl b ↦ inl (rw w b)
-  | inr (inl b) ↦ inr (inl (rw c b))
-  | inr (inr b) ↦ inr (inr (rw l b))
-]
+    → WritesNoCount (most_of option) (text_for option workers cut limit) → NamesBadNumber words option
+bad_named words Workers workers cut limit w c l bad = rw w bad
+bad_named words Cut workers cut limit w c l bad = rw c bad
+bad_named words MaxStates workers cut limit w c l bad = rw l bad

@@ -1,17 +1,21 @@
--- The command line `tlacheck MODULE CONFIG [--workers N] [--cut N] [--max-states N] [--explain] [--quiet]`,
--- and what the words of a call name by it. How words match a command is told by the crate `clap`
--- (its `matches_of` and `fault_of`); the command is this project's own choice.
-use Rattle.std.specs.Prelude.{◌≡◌, ◌<◌, ◌^◌, ◌⊎◌, ℕ, Bool, List, [], ◌∷◌, ◌++◌, Option, Some, true, false, codes}
-use Rattle.std.specs.Prelude.{IsSomeAnd}
+-- The command line `tlacheck MODULE CONFIG [OPTIONS]`, and what the words of a call name by it. How
+-- words match a command is said by the crate `clap` (its `matches_of` and `fault_of`); the command is
+-- this project's own choice.
+use Rattle.std.specs.Prelude.{◌≡◌, ◌<◌, ◌^◌, ℕ, Bool, List, [], ◌∷◌, Option, Some, true, false, codes}
+use Rattle.std.specs.Prelude.{IsSomeAnd, option_map}
+use Rattle.std.specs.List.{list_any}
+use Rattle.std.specs.Borrow.{Bor}
+use Rattle.std.specs.Str.{bytes_eq}
 use Rattle.std.specs.Str.Parse.{IsNumeral, digits_value, without_leading_plus}
-use Rattle.clap.specs.Words.{App, IsAmong, Kinds, Rule, Text, fault_of, first_of, matches_of, new_app}
+use Rattle.clap.specs.Words.{App, Kinds, Rule, Text, fault_of, first_of, matches_of, new_app}
 use Rattle.clap.specs.Words.{new_rule, one_of, with_rule}
 use Rattle.clap.specs.Simple.{on_top}
 use Rattle.clap.specs.declared.builder.action.ArgAction.TheVariants.{Set, SetTrue}
-use Rattle.clap.specs.declared.error.kind.ErrorKind.TheVariants.{MissingRequiredArgument}
 use Rattle.tla_search.specs.Options.{IsCount, IsWithinLimits, MAX_PIECE, MAX_WORKERS}
 use Rattle.tla_search.specs.declared.options.TheConstants.{MAX_STATES}
 use Rattle.tla_line.specs.declared.line.Line.{Line}
+use Rattle.tla_line.specs.declared.number.NumberOption.{NumberOption}
+use Rattle.tla_line.specs.declared.number.NumberOption.TheVariants.{Workers, Cut, MaxStates}
 
 -- ---- the command
 
@@ -28,6 +32,14 @@ number_option name fallback = record (new_rule name) {
   defaults = fallback ∷ [];
 }
 
+-- `--name FILE`, which has no text where the words don't give it
+abbrev pub file_option : Text → Rule
+file_option name = record (new_rule name) {
+  long = Some name;
+  action = Some Set;
+  value_names = 1;
+}
+
 -- `--name`, a word by itself
 abbrev pub flag : Text → Rule
 flag name = record (new_rule name) { long = Some name; action = Some SetTrue }
@@ -36,17 +48,26 @@ flag name = record (new_rule name) { long = Some name; action = Some SetTrue }
 abbrev pub with_version : App → App
 with_version = on_top (λ s. record s { has_version = true })
 
+-- an app with more arguments, in this order
+abbrev pub add_rules : App → List Rule → App
+add_rules app [] = app
+add_rules app (rule ∷ rules) = add_rules (with_rule app rule) rules
+
 -- the command, to which `clap` adds `--help` and `--version`
 abbrev pub tlacheck : App
-tlacheck =
-    with_rule (with_rule (with_rule (with_rule (with_rule (with_rule (with_rule (with_version (new_app (codes "tlacheck")))
-    (required_word (codes "MODULE")))
-    (required_word (codes "CONFIG")))
-    (number_option (codes "workers") (codes "1")))
-    (number_option (codes "cut") (codes "1024")))
-    (number_option (codes "max-states") (codes "16777216")))
-    (flag (codes "explain")))
-    (flag (codes "quiet"))
+tlacheck = add_rules (with_version (new_app (codes "tlacheck"))) (
+    required_word (codes "MODULE")
+    ∷ required_word (codes "CONFIG")
+    ∷ number_option (codes "workers") (codes "1")
+    ∷ number_option (codes "cut") (codes "1024")
+    ∷ number_option (codes "max-states") (codes "16777216")
+    ∷ file_option (codes "json")
+    ∷ file_option (codes "dot")
+    ∷ flag (codes "full")
+    ∷ flag (codes "coverage")
+    ∷ flag (codes "explain")
+    ∷ flag (codes "quiet")
+    ∷ [])
 
 -- ---- what words name; the first word is the program's name
 
@@ -78,7 +99,15 @@ Writes text n = IsNumeral 10 (without_leading_plus text)
 abbrev pub NamesNumber : List Text → Text → ℕ → Type 0
 NamesNumber words option n = IsSomeAnd (text_of words option) (λ text. Writes text n)
 
--- the words name the module, the configuration and the three numbers of the line, and whether it is quiet
+-- the words name this file for the option, or none
+abbrev pub NamesFile : List Text → Text → Option (Bor Text) → Type 0
+NamesFile words option file = text_of words option ≡ option_map (λ name. name.now) file
+
+-- the words set the flag exactly where this is true
+abbrev pub SetsFlag : List Text → Text → Bool → Type 0
+SetsFlag words name set = IsSet (flag_of words name) set
+
+-- the words name each part of the line
 pub record NamesLine (words : List Text) (line : Line) : Type 0 where
   pub module_file : text_of words (codes "MODULE") ≡ Some line.module.now
   pub config_file : text_of words (codes "CONFIG") ≡ Some line.config.now
@@ -86,30 +115,39 @@ pub record NamesLine (words : List Text) (line : Line) : Type 0 where
   pub cut : NamesNumber words (codes "cut") line.options.cut
   pub limit : NamesNumber words (codes "max-states") line.options.limit
   pub within : IsWithinLimits line.options
-  pub quiet : IsSet (flag_of words (codes "quiet")) line.quiet
+  pub json : NamesFile words (codes "json") line.json
+  pub dot : NamesFile words (codes "dot") line.dot
+  pub full : SetsFlag words (codes "full") line.full
+  pub coverage : SetsFlag words (codes "coverage") line.coverage
+  pub quiet : SetsFlag words (codes "quiet") line.quiet
 
--- the one is NAME.tla, the other NAME.cfg
-pub record LiesBeside (module_file config_file : Text) : Type 0 where
-  pub name : Text
-  pub module_ends : module_file ≡ name ++ codes ".tla"
-  pub config_ends : config_file ≡ name ++ codes ".cfg"
-
--- The line that the words mean: the one that they name; or where a word is missing, the one that they name with a last
--- word NAME.cfg, which is CONFIG, MODULE being NAME.tla.
-pub data MeanLine (words : List Text) (line : Line) : Type 0 where
-  named : NamesLine words line → MeanLine words line
-  beside : IsAmong MissingRequiredArgument (faults_of words) → LiesBeside line.module.now line.config.now
-      → NamesLine (words ++ line.config.now ∷ []) line → MeanLine words line
+-- the words mean the line
+pub record MeanLine (words : List Text) (line : Line) : Type 0 where
+  -- `clap` finds no fault in them
+  pub taken : faults_of words ≡ []
+  -- they name each part of it
+  pub names : NamesLine words line
 
 -- the text writes no number from 1 to most
 abbrev pub WritesNoCount : ℕ → Text → Type 0
 WritesNoCount most text = (n : ℕ) → Writes text n → IsCount most n → ⊥
 
--- the words give the option a text that writes no number from 1 to most
-abbrev pub NamesNoCount : List Text → Text → ℕ → Type 0
-NamesNoCount words option most = IsSomeAnd (text_of words option) (WritesNoCount most)
+-- the name of an option that takes a number
+abbrev pub name_of : NumberOption → Text
+name_of Workers = codes "workers"
+name_of Cut = codes "cut"
+name_of MaxStates = codes "max-states"
 
--- one of the three texts writes no number, or one outside its limits
-abbrev pub NamesBadNumber : List Text → Type 0
-NamesBadNumber words = NamesNoCount words (codes "workers") MAX_WORKERS
-    ⊎ (NamesNoCount words (codes "cut") MAX_PIECE ⊎ NamesNoCount words (codes "max-states") MAX_STATES)
+-- the greatest number that it takes; the least is 1
+abbrev pub most_of : NumberOption → ℕ
+most_of Workers = MAX_WORKERS
+most_of Cut = MAX_PIECE
+most_of MaxStates = MAX_STATES
+
+-- the words give the option a text that writes no number within its range
+abbrev pub NamesBadNumber : List Text → NumberOption → Type 0
+NamesBadNumber words option = IsSomeAnd (text_of words (name_of option)) (WritesNoCount (most_of option))
+
+-- `--quiet` is one of the words
+abbrev pub is_quiet : List Text → Bool
+is_quiet words = list_any (λ word. bytes_eq word (codes "--quiet")) words

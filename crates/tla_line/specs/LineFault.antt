@@ -1,19 +1,33 @@
 -- When each fault of a command line comes.
-use Rattle.std.specs.Prelude.{◌≡◌, ◌++◌, ◌⊎◌, List, [], ◌∷◌, Option, Some, None, codes, ⊤}
+use Rattle.std.specs.Prelude.{◌≡◌, ◌⊎◌, List, [], Option, Some, None, codes, ⊤}
+use Rattle.std.specs.Option.{option_map_or}
 use Rattle.clap.specs.Words.{IsAmong, Text, kind_of}
 use Rattle.clap.specs.declared.error.Error.{Error}
 use Rattle.clap.specs.declared.error.kind.ErrorKind.{ErrorKind}
-use Rattle.clap.specs.declared.error.kind.ErrorKind.TheVariants.{DisplayHelp, DisplayVersion, MissingRequiredArgument, OutOfMemory}
+use Rattle.clap.specs.declared.error.kind.ErrorKind.TheVariants.{DisplayHelp, DisplayVersion, OutOfMemory}
 use Rattle.tla_line.specs.CommandLine.{NamesBadNumber, faults_of}
 use Rattle.tla_line.specs.declared.line.LineFault.{LineFault}
 use Rattle.tla_line.specs.declared.line.LineFault.TheVariants.{Refused, Number, Memory}
+use Rattle.tla_line.specs.declared.line.NoLine.{NoLine}
+use Rattle.tla_line.specs.declared.number.NumberOption.{NumberOption}
+use Rattle.tla_line.specs.declared.number.NumberOption.TheVariants.{Workers, Cut, MaxStates}
 
--- the fault fits the words: `clap` refuses them for the kind that the error tells; or it takes them,
--- and one of the three texts is no number within its limits. Of memory nothing is said.
+-- The fault fits the words: `clap` refuses them for the kind that the error has; or it takes them,
+-- and an option is given no number within its range. Of memory nothing is said.
 abbrev pub IsFaultOf : List Text → LineFault → Type 0
 IsFaultOf words (Refused e) = IsAmong (kind_of e) (faults_of words)
-IsFaultOf words Number = (faults_of words ≡ []) × NamesBadNumber words
+IsFaultOf words Number = (faults_of words ≡ []) × (option : NumberOption) × NamesBadNumber words option
 IsFaultOf words Memory = ⊤
+
+-- the option is one of a bad number, and there is one exactly where the fault is a number
+abbrev pub FitsOption : List Text → LineFault → Option NumberOption → Type 0
+FitsOption words fault (Some option) = (fault ≡ Number) × NamesBadNumber words option
+FitsOption words fault None = fault ≡ Number → ⊥
+
+-- the words name no line for this reason
+pub record IsNoLine (words : List Text) (no_line : NoLine) : Type 0 where
+  pub fault : IsFaultOf words no_line.fault
+  pub option : FitsOption words no_line.fault no_line.bad_number
 
 -- the fault that an error of `clap` is
 abbrev pub fault_by_kind : ErrorKind → Error → LineFault
@@ -23,11 +37,6 @@ fault_by_kind _ e = Refused e
 abbrev pub fault_from : Error → LineFault
 fault_from e = fault_by_kind (kind_of e) e
 
--- a word that has to be there is missing
-abbrev pub LacksWord : LineFault → Type 0
-LacksWord (Refused e) = kind_of e ≡ MissingRequiredArgument
-LacksWord _ = ⊥
-
 -- the words ask for help, or for the version
 abbrev pub IsHelp : LineFault → Type 0
 IsHelp (Refused e) = (kind_of e ≡ DisplayHelp) ⊎ (kind_of e ≡ DisplayVersion)
@@ -36,5 +45,15 @@ IsHelp _ = ⊥
 -- the text that the user sees, with its line feeds; of the texts of `clap` nothing is said
 abbrev pub text_of_fault : LineFault → Option Text
 text_of_fault (Refused e) = None
-text_of_fault Number = Some (codes "tlacheck: bad number\n" ++ codes "hint: --workers takes 1 to 64, --cut 1 to 65536, --max-states 1 to 16777216\n")
-text_of_fault Memory = Some (codes "tlacheck: out of memory" ++ 10 ∷ [])
+text_of_fault Number = Some (codes "tlacheck: bad number\n")
+text_of_fault Memory = Some (codes "tlacheck: out of memory\n")
+
+-- the line that helps with a bad number
+abbrev pub hint_of : NumberOption → Text
+hint_of Workers = codes "hint: --workers takes a number from 1 to 64\n"
+hint_of Cut = codes "hint: --cut takes a number from 1 to 65536\n"
+hint_of MaxStates = codes "hint: --max-states takes a number from 1 to 16777216\n"
+
+-- what helps: of a bad number the option and its range
+abbrev pub help_of : NoLine → Text
+help_of no_line = option_map_or hint_of no_line.bad_number []

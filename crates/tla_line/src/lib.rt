@@ -2,5 +2,7 @@
 #![tactic(auto)]
 
 mod line;
+mod number;
 
-pub use line::{Line, LineFault, read_line};
+pub use line::{Line, LineFault, NoLine, is_quiet, read_line, read_words};
+pub use number::NumberOption;

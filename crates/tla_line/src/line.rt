@@ -1,21 +1,26 @@
 //! The command line.
-ghost use Rattle.std.specs.Prelude.{◌≡◌, ◌↔◌, ◌⊎◌, [], IsTrue, IfOk, IfErr};
-ghost use Rattle.std.specs.Prelude.{IfSome, IfNone, OnOk, option_map};
+ghost use Rattle.std.specs.Prelude.{◌≡◌, ◌↔◌, [], IsTrue, IfOk, IfErr, None, Some, OnOk, option_map};
 ghost use Rattle.clap.specs.Words.{app_of, found_of, matches_of, rows_of, rule_of};
 ghost use Rattle.clap.specs.Walk.{first_of, one_of, texts};
-ghost use Rattle.tla_search.specs.Options.{IsWithinLimits, MAX_PIECE, MAX_WORKERS};
-ghost use Rattle.tla_search.specs.declared.options.TheConstants.{MAX_STATES};
-ghost use Rattle.tla_line.specs.CommandLine.{IsSet, NamesLine, Writes, WritesNoCount, faults_of};
-ghost use Rattle.tla_line.specs.CommandLine.{flag, number_option, required_word, tlacheck};
-ghost use Rattle.tla_line.specs.LineFault.{IsFaultOf, IsHelp, LacksWord, fault_from, text_of_fault};
-ghost use Rattle.tla_line.specs.Private.Parsing.{AlwaysHasValue, GivesEach, HasEach, HasValue, IsArgument};
-ghost use Rattle.tla_line.specs.Private.Parsing.{WritesNoNumber};
+ghost use Rattle.tla_search.specs.Options.{IsWithinLimits};
+ghost use Rattle.tla_line.specs.CommandLine.{IsSet, MeanLine, Writes, WritesNoCount, faults_of};
+ghost use Rattle.tla_line.specs.CommandLine.{file_option, flag, is_quiet, most_of, number_option};
+ghost use Rattle.tla_line.specs.CommandLine.{required_word, tlacheck};
+ghost use Rattle.tla_line.specs.LineFault.{IsFaultOf, IsHelp, IsNoLine, fault_from, help_of};
+ghost use Rattle.tla_line.specs.LineFault.{text_of_fault};
+ghost use Rattle.tla_line.specs.Private.Parsing.{AlwaysHasValue, GivesEach, HasEach, HasValue};
+ghost use Rattle.tla_line.specs.Private.Parsing.{IsArgument, IsOfClap, text_for};
 
+use crate::number::NumberOption;
 use clap::error::ErrorKind;
 use clap::{Arg, ArgAction, ArgMatches, Command};
 use std::alloc::{AllocError, Global};
 use std::fmt;
 use tla_search::Options;
+
+/// What `--version` says after the program's name.
+const VERSION: &str =
+    "0.1.0, proved with rattle-kit-13f when built by rt run; a build by rt try is not proved";
 
 /// What `--help` says last.
 const STATUSES: &str = "Exit statuses:
@@ -32,11 +37,6 @@ const STATUSES: &str = "Exit statuses:
 Example:
   tlacheck Jugs.tla Jugs.cfg --workers 4";
 
-/// What is told of a number that is none, or outside its limits.
-const BAD_NUMBER: &str = "tlacheck: bad number
-hint: --workers takes 1 to 64, --cut 1 to 65536, --max-states 1 to 16777216
-";
-
 /// What the words of a call name.
 #[derive(Clone, Copy, Debug, PartialEq, Eq)]
 pub struct Line<'a> {
@@ -45,8 +45,16 @@ pub struct Line<'a> {
     /// The path of the configuration's file.
     pub config: &'a str,
     pub options: Options,
-    /// Whether nothing is explained on standard error.
+    /// Whether standard error gets nothing but what keeps a report from being made.
     pub quiet: bool,
+    /// Whether the explanation shows values whole.
+    pub full: bool,
+    /// Whether the explanation counts the steps of each part of the next-state action.
+    pub coverage: bool,
+    /// The file that gets report and explanation as a JSON document.
+    pub json: Option<&'a str>,
+    /// The file that gets the states that were seen as a graph.
+    pub dot: Option<&'a str>,
 }
 
 /// Why the words of a call name no line. Its `Display` is the text for the user, with its line
@@ -62,23 +70,13 @@ pub enum LineFault {
 }
 
 impl LineFault {
-    /// Whether a word that has to be there is missing.
-    pub fn lacks_word(&self) -> bool
-        ensures { IsTrue result ↔ LacksWord self.now }
-    {
-        match self {
-            LineFault::Refused(error) => matches!(error.kind(), ErrorKind::MissingRequiredArgument),
-            _ => false,
-        }
-    }
-
     /// The text for the user, where it isn't one of `clap`.
     pub fn own_text(&self) -> Option<&'static str>
         ensures { option_map (λ text. text.now) result ≡ text_of_fault self.now }
     {
         match self {
             LineFault::Refused(_) => None,
-            LineFault::Number => Some(BAD_NUMBER),
+            LineFault::Number => Some("tlacheck: bad number\n"),
             LineFault::Memory => Some("tlacheck: out of memory\n"),
         }
     }
@@ -129,29 +127,89 @@ impl From<AllocError> for LineFault {
     }
 }
 
-/// What `words`, the program's name first, name by
-/// `tlacheck MODULE CONFIG [--workers N] [--cut N] [--max-states N] [--explain] [--quiet]`, as `clap`
+/// Why the words of a call name no line, with the option of a bad number.
+#[derive(Debug, Drop)]
+pub struct NoLine {
+    pub fault: LineFault,
+    pub bad_number: Option<NumberOption>,
+}
+
+impl NoLine {
+    /// What helps with it: the option of a bad number and its range.
+    pub fn help(&self) -> &'static str
+        ensures { result.now ≡ help_of self.now }
+    {
+        match self.bad_number {
+            Some(option) => option.hint(),
+            None => "",
+        }
+    }
+}
+
+impl From<LineFault> for NoLine {
+    ghost from_gives = { λ fault n. n ≡ record { fault = fault; bad_number = None } };
+
+    fn from(fault: LineFault) -> NoLine {
+        NoLine {
+            fault,
+            bad_number: None,
+        }
+    }
+}
+
+impl From<NumberOption> for NoLine {
+    ghost use Rattle.tla_line.specs.declared.line.LineFault.TheVariants.{Number};
+
+    ghost from_gives = { λ o n. n ≡ record { fault = Number; bad_number = Some o } };
+
+    fn from(option: NumberOption) -> NoLine {
+        NoLine {
+            fault: LineFault::Number,
+            bad_number: Some(option),
+        }
+    }
+}
+
+/// Whether `--quiet` is one of the words. It reads words that `clap` refuses, too.
+pub fn is_quiet(words: &[&str]) -> bool
+    ensures { result ≡ is_quiet (texts words.now) }
+{
+    words.contains(&"--quiet")
+}
+
+/// What `words`, the program's name first, name by `tlacheck MODULE CONFIG [OPTIONS]`, as `clap`
 /// reads them. The numbers are 1, 1024 and 16,777,216 where the words don't give them. What was
 /// found is explained unless the line is quiet, so `--explain` changes nothing.
 pub fn read_line<'a>(alloc: Global, words: &'a [&'a str]) -> Result<Line<'a>, LineFault>
-    ensures taken { OnOk result (faults_of (texts words.entry.now) ≡ []) }
-    ensures line { IfOk result (NamesLine (texts words.entry.now)) }
+    ensures line { IfOk result (MeanLine (texts words.entry.now)) }
     ensures fault { IfErr result (IsFaultOf (texts words.entry.now)) }
+{
+    match read_words(alloc, words) {
+        Ok(line) => Ok(line),
+        Err(no_line) => Err(no_line.fault),
+    }
+}
+
+/// As `read_line`, with the option of a bad number.
+pub fn read_words<'a>(alloc: Global, words: &'a [&'a str]) -> Result<Line<'a>, NoLine>
+    ensures line { IfOk result (MeanLine (texts words.entry.now)) }
+    ensures fault { IfErr result (IsNoLine (texts words.entry.now)) }
 {
     let matches = parse(alloc, words)?;
     let options = read_options(
         text(&matches, "workers"),
         text(&matches, "cut"),
         text(&matches, "max-states"),
-    );
-    let Some(options) = options else {
-        return Err(LineFault::Number);
-    };
+    )?;
     Ok(Line {
         module: text(&matches, "MODULE"),
         config: text(&matches, "CONFIG"),
         options,
         quiet: is_set(&matches, "quiet"),
+        full: is_set(&matches, "full"),
+        coverage: is_set(&matches, "coverage"),
+        json: file(&matches, "json"),
+        dot: file(&matches, "dot"),
     })
 }
 
@@ -170,24 +228,29 @@ fn text<'a>(matches: &ArgMatches<'a>, name: &str) -> &'a str
     matches.get_str(name).unwrap()
 }
 
-/// The options of three texts, where each writes a number within its limits.
-fn read_options(workers: &str, cut: &str, limit: &str) -> Option<Options>
-    ensures within { IfSome result IsWithinLimits }
-    ensures workers { IfSome result (λ o. Writes workers.now o.workers) }
-    ensures cut { IfSome result (λ o. Writes cut.now o.cut) }
-    ensures limit { IfSome result (λ o. Writes limit.now o.limit) }
-    ensures bad { IfNone result (WritesNoCount MAX_WORKERS workers.now
-        ⊎ (WritesNoCount MAX_PIECE cut.now ⊎ WritesNoCount MAX_STATES limit.now)) }
+/// The file that the matches name for the option of this name.
+fn file<'a>(matches: &ArgMatches<'a>, name: &str) -> Option<&'a str>
+    ensures { first_of name.now (rows_of (found_of matches.now)) ≡ option_map (λ s. s.now) result }
 {
-    Options::new(number(workers)?, number(cut)?, number(limit)?)
+    matches.get_str(name)
 }
 
-/// The number that the text writes.
-fn number(text: &str) -> Option<u64>
-    ensures some { IfSome result (Writes text.now) }
-    ensures none { IfNone result (WritesNoNumber text.now) }
+/// The options of three texts, or the first that isn't given a number within its range.
+fn read_options(workers: &str, cut: &str, limit: &str) -> Result<Options, NumberOption>
+    ensures within { IfOk result IsWithinLimits }
+    ensures workers { IfOk result (λ o. Writes workers.now o.workers) }
+    ensures cut { IfOk result (λ o. Writes cut.now o.cut) }
+    ensures limit { IfOk result (λ o. Writes limit.now o.limit) }
+    ensures bad { IfErr result (λ o.
+        WritesNoCount (most_of o) (text_for o workers.now cut.now limit.now)) }
 {
-    text.parse().ok()
+    let workers = NumberOption::Workers.number(workers)?;
+    let cut = NumberOption::Cut.number(cut)?;
+    let limit = NumberOption::MaxStates.number(limit)?;
+    match Options::new(workers, cut, limit) {
+        Some(options) => Ok(options),
+        None => unreachable!(),
+    }
 }
 
 /// The matches of the words.
@@ -197,6 +260,7 @@ fn parse<'a>(alloc: Global, words: &'a [&'a str]) -> Result<ArgMatches<'a>, Line
         rows_of (found_of m) ≡ matches_of tlacheck (texts words.entry.now)) }
     ensures values { IfOk result HasEach }
     ensures fault { IfErr result (IsFaultOf (texts words.entry.now)) }
+    ensures clap { IfErr result IsOfClap }
 {
     let command = command(alloc)?;
     Ok(command.try_get_matches_from(words)?)
@@ -208,16 +272,12 @@ fn command<'a>(alloc: Global) -> Result<Command<'a>, AllocError>
     ensures values { IfOk result GivesEach }
 {
     Command::new(alloc, "tlacheck")
-        .version("0.1.0")
+        .version(VERSION)
         .about("Checks a TLA+ module under a configuration")
-        .override_usage("tlacheck [OPTIONS] <MODULE> [CONFIG]")
+        .override_usage("tlacheck [OPTIONS] <MODULE> <CONFIG>")
         .after_help(STATUSES)
         .arg(required_word(alloc, "MODULE", "The file of the module"))?
-        .arg(required_word(
-            alloc,
-            "CONFIG",
-            "The file of the configuration; where it is left out, NAME.cfg for a MODULE NAME.tla",
-        ))?
+        .arg(required_word(alloc, "CONFIG", "The file of the configuration"))?
         .arg(number_option(alloc, "workers", "1", "How many threads search, 1 to 64"))?
         .arg(number_option(
             alloc,
@@ -231,15 +291,31 @@ fn command<'a>(alloc: Global) -> Result<Command<'a>, AllocError>
             "16777216",
             "How many states may be found, 1 to 16777216",
         ))?
+        .arg(file_option(
+            alloc,
+            "json",
+            "Write report and explanation to FILE as JSON",
+        ))?
+        .arg(file_option(
+            alloc,
+            "dot",
+            "Write the states that were found to FILE as a graph for Graphviz",
+        ))?
+        .arg(flag(alloc, "full", "Show values whole in the explanation"))?
+        .arg(flag(
+            alloc,
+            "coverage",
+            "Count the steps of each part of the next-state action",
+        ))?
         .arg(flag(
             alloc,
             "explain",
-            "Explain on standard error what was found, as is done unless --quiet is given",
+            "Explain on standard error what was found, which is the default",
         ))?
         .arg(flag(
             alloc,
             "quiet",
-            "Leave standard error to what keeps a report from being made",
+            "Write to standard error only why there is no report",
         ))
 }
 
@@ -266,6 +342,18 @@ fn number_option<'a>(alloc: Global, name: &'a str, fallback: &'a str, help: &'a 
         .value_name("N")
         .action(ArgAction::Set)
         .default_value(fallback)
+        .help(help)
+}
+
+/// The option `--name FILE`.
+fn file_option<'a>(alloc: Global, name: &'a str, help: &'a str) -> Arg<'a>
+    ensures rule { rule_of result ≡ file_option name.entry.now }
+    ensures argument { IsArgument name.entry.now result }
+{
+    Arg::new(alloc, name)
+        .long(name)
+        .value_name("FILE")
+        .action(ArgAction::Set)
         .help(help)
 }
 

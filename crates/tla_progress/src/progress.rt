@@ -1,72 +1,107 @@
-//! The gate that tells how far a search has come.
+//! The gate that shows how far a search has come.
 
+use crate::greatest::GreatestLevel;
+use crate::memory::Memory;
 use crate::seen::Seen;
 use std::io::Eprint;
 use std::sync::atomic::{AtomicU64, Ordering};
 use std::time::{Clock, Instant};
 use tla_workers::{Gate, GatePlace, Pass};
 
-/// When the first line is told, in milliseconds from the beginning.
+/// When the first line is written, in milliseconds from the beginning.
 const FIRST: u64 = 2_000;
 
-/// How many milliseconds pass from one line to the next, at least.
-const BETWEEN: u64 = 5_000;
+/// How many milliseconds lie between two lines at least: in the first minute, in the first ten
+/// minutes, and later.
+const BETWEEN: [u64; 3] = [5_000, 30_000, 60_000];
+
+/// A minute and ten minutes, in milliseconds.
+const MINUTE: u64 = 60_000;
+
+const TEN_MINUTES: u64 = 600_000;
 
 /// How many milliseconds after another a look at the clock is a soon one.
 const SOON: u64 = 100;
 
-/// How many pieces pass without a look at the clock, at most. One less than a power of 2, as each such number here.
+/// How many pieces pass without a look at the clock, at most. One less than a power of 2, as each
+/// such number here.
 const MOST_SKIPPED: u64 = 1_023;
 
-/// A gate that is always open. Where it is told when the run began, it tells how far the search has come, a line every few
-/// seconds. What fails in that is told to nobody.
+/// A gate that is always open. Where it knows when the run began, it writes how far the search has
+/// come, a line every few seconds and later every minute. What fails in that is ignored.
+///
+/// A worker writes the line. Where standard error is a pipe that is full and that nobody reads,
+/// this worker waits, and the search with it.
 #[derive(Drop)]
-pub struct Progress<'a, R> {
+pub struct Progress<'a, R, M> {
     rt: &'a R,
+    memory: M,
     began: Option<Instant>,
     /// How many states a piece has at most.
     cut: u64,
+    greatest: &'a GreatestLevel,
     /// When the next line is due, in milliseconds from the beginning.
     due: AtomicU64,
-    /// The pieces of all levels whose invariants were asked.
+    /// The pieces of all levels whose invariants were checked.
     asked: AtomicU64,
     /// The pieces of all levels whose steps were read.
     read: AtomicU64,
-    /// The pieces of all levels whose new states were put together.
-    merged: AtomicU64,
+    /// When the last line was written, in milliseconds from the beginning.
+    written: AtomicU64,
+    /// How often a state had been gone through then.
+    passed: AtomicU64,
     /// When the clock was looked at last, in milliseconds from the beginning.
     looked: AtomicU64,
     /// How many pieces pass without a look at the clock.
     skipped: AtomicU64,
+    /// The pieces of all passes.
+    counted: AtomicU64,
 }
 
-impl<'a, R: Clock + Eprint> Progress<'a, R> {
-    /// A gate for a search in pieces of up to `cut` states, in a run that began then. It tells nothing where `began` is none.
-    pub fn new(rt: &'a R, began: Option<Instant>, cut: u64) -> Progress<'a, R> {
+impl<'a, R: Clock + Eprint, M: Memory> Progress<'a, R, M> {
+    /// A gate for a search in pieces of up to `cut` states, in a run that began then. It writes
+    /// nothing where `began` is none.
+    pub fn new(
+        rt: &'a R,
+        memory: M,
+        began: Option<Instant>,
+        cut: u64,
+        greatest: &'a GreatestLevel,
+    ) -> Progress<'a, R, M> {
         Progress {
             rt,
+            memory,
             began,
             cut,
+            greatest,
             due: AtomicU64::new(FIRST),
             asked: AtomicU64::new(0),
             read: AtomicU64::new(0),
-            merged: AtomicU64::new(0),
+            written: AtomicU64::new(0),
+            passed: AtomicU64::new(0),
             looked: AtomicU64::new(0),
             skipped: AtomicU64::new(0),
+            counted: AtomicU64::new(0),
         }
     }
 
-    /// Counts a piece of a pass, and answers whether the clock is to be looked at.
+    /// Counts a piece of a pass, and answers whether to look at the clock.
     fn count(&self, pass: Pass) -> bool {
-        let number = match pass {
-            Pass::Invariants => self.asked.fetch_add(1, Ordering::SeqCst),
-            Pass::Steps => self.read.fetch_add(1, Ordering::SeqCst),
-            Pass::Merge => self.merged.fetch_add(1, Ordering::SeqCst),
-        };
+        match pass {
+            Pass::Invariants => {
+                self.asked.fetch_add(1, Ordering::SeqCst);
+            }
+            Pass::Steps => {
+                self.read.fetch_add(1, Ordering::SeqCst);
+            }
+            Pass::Merge => {}
+        }
+        let number = self.counted.fetch_add(1, Ordering::SeqCst);
         number & self.skipped.load(Ordering::SeqCst) == 0
     }
 
-    /// Skips more pieces up to the next look at the clock where this one comes soon after another, else none.
+    /// Skips more pieces up to the next look at the clock where this one comes soon after another,
+    /// else none.
     fn pace(&self, now: u64) {
         let before = self.looked.swap(now, Ordering::SeqCst);
         let skipped = self.skipped.load(Ordering::SeqCst);
@@ -81,56 +116,85 @@ impl<'a, R: Clock + Eprint> Progress<'a, R> {
         self.skipped.store(next, Ordering::SeqCst);
     }
 
-    /// Tells how far the search has come, where a line is due that no other thread tells.
-    fn tell_if_due(&self, place: &GatePlace, now: u64) {
+    /// Writes how far the search has come, where a line is due that no other thread writes.
+    fn write_if_due(&self, place: &GatePlace, now: u64) {
         let due = self.due.load(Ordering::SeqCst);
         if now < due {
             return;
         }
-        let next = now.saturating_add(BETWEEN);
-        let told = self
+        let next = now.saturating_add(between(now));
+        let taken = self
             .due
             .compare_exchange(due, next, Ordering::SeqCst, Ordering::SeqCst);
-        if told.is_ok() {
+        if taken.is_ok() {
             let _ = self.rt.eprintln(self.seen(place, now));
         }
     }
 
-    /// How far the search has come. Each piece of a level but its last one is full.
+    /// How many states are in this many pieces of this many levels, at least. Each piece of a level
+    /// but its last one is full.
+    fn states_in(&self, pieces: u64, levels: u64) -> u64 {
+        let full = pieces.saturating_sub(levels).saturating_mul(self.cut);
+        full.saturating_add(levels.min(pieces))
+    }
+
+    /// How far the search has come.
     fn seen(&self, place: &GatePlace, now: u64) -> Seen {
         let asked = self.asked.load(Ordering::SeqCst);
         let read = self.read.load(Ordering::SeqCst);
         let levels = place.level.saturating_add(1);
-        let full = asked.saturating_sub(levels).saturating_mul(self.cut);
-        let states = full.saturating_add(levels);
+        let states = self.states_in(asked, levels);
         Seen {
+            seconds: now / 1_000,
             levels,
+            pass: place.pass,
             states,
             left: match place.pass {
-                Pass::Invariants => None,
-                Pass::Steps | Pass::Merge => {
-                    Some(asked.saturating_sub(read).saturating_mul(self.cut))
-                }
+                Pass::Steps => Some(asked.saturating_sub(read).saturating_mul(self.cut)),
+                Pass::Invariants | Pass::Merge => None,
             },
-            per_second: states.saturating_mul(1_000) / now.max(1),
+            per_second: self.rate(states.saturating_add(self.states_in(read, levels)), now),
+            memory: self.memory.in_use(),
         }
+    }
+
+    /// How many states a second were gone through since the last line, where states were gone
+    /// through so often up to now: each for its invariants and for its steps.
+    fn rate(&self, passed: u64, now: u64) -> u64 {
+        let before = self.passed.swap(passed, Ordering::SeqCst);
+        let since = self.written.swap(now, Ordering::SeqCst);
+        let halves = passed.saturating_sub(before).saturating_mul(500);
+        halves / now.saturating_sub(since).max(1)
     }
 }
 
-impl<R: Clock + Eprint + Sync> Gate for Progress<'_, R> {
+/// How many milliseconds lie between a line and the next one.
+fn between(now: u64) -> u64 {
+    let [first, later, last] = BETWEEN;
+    if now < MINUTE {
+        first
+    } else if now < TEN_MINUTES {
+        later
+    } else {
+        last
+    }
+}
+
+impl<R: Clock + Eprint + Sync, M: Memory + Sync> Gate for Progress<'_, R, M> {
     fn enter(&self, _place: &GatePlace) {}
 
     fn leave(&self, place: &GatePlace, _dropped: bool) {
         let Some(began) = self.began else {
             return;
         };
+        self.greatest.see(place);
         if !self.count(place.pass) {
             return;
         }
         if let Ok(time) = began.elapsed(self.rt) {
             let now = u64::try_from(time.as_millis()).unwrap_or(u64::MAX);
             self.pace(now);
-            self.tell_if_due(place, now);
+            self.write_if_due(place, now);
         }
     }
 }

@@ -1,22 +1,29 @@
 -- What the functions of a run cite.
-use Rattle.std.proofs.Common.{◌≡◌, ◌∙◌, ◌+◌, ◌<◌, ◌++◌, ap, sym, subst, ℕ, Bool, true, false, List, [], ◌∷◌, Option, length, map, take, get_or}
+use Rattle.std.proofs.Common.{◌≡◌, ◌∙◌, ◌+◌, ◌<◌, ◌++◌, ap, sym, subst, codes, append_assoc, append-nil}
+use Rattle.std.proofs.Common.{ℕ, Bool, true, false, List, [], ◌∷◌, Option, None, Some, inl, inr, length, map, option_map, take, get_or}
 use Rattle.std.specs.Prelude.{Result, Ok, Err, IfErr, OnOk}
 use Rattle.std.specs.Result.{is_err}
+use Rattle.std.specs.Io.KnownBytes.{Appends}
+use Rattle.std.proofs.Math.Seq.{take-length}
 use Rattle.std.proofs.lemmas.List.{map-append, take_more}
 use Rattle.counted_writer.specs.declared.ShortWrite.{ShortWrite}
 use Rattle.counted_writer.specs.Puts.{Puts}
+use Rattle.counted_writer.specs.PutsLaws.{appends_nothing, appends_then, puts_all}
 use Rattle.std.specs.Borrow.{Bor}
-use Rattle.clap.specs.Words.{IsAmong, Text}
+use Rattle.clap.specs.Words.{Text}
 use Rattle.clap.specs.Walk.{texts}
-use Rattle.clap.specs.declared.error.kind.ErrorKind.TheVariants.{MissingRequiredArgument}
-use Rattle.tla_line.specs.CommandLine.{LiesBeside, MeanLine, NamesLine, beside, faults_of, named}
+use Rattle.tla_line.specs.CommandLine.{MeanLine, is_quiet}
 use Rattle.tla_line.specs.declared.line.Line.{Line}
-use Rattle.tla_line.specs.declared.line.LineFault.{LineFault}
-use Rattle.tla_line.specs.declared.line.LineFault.TheVariants.{Refused, Number, Memory}
-use Rattle.tla_line.specs.LineFault.{IsFaultOf, LacksWord}
+use Rattle.tla_line.specs.declared.line.LineFault.TheVariants.{Memory}
+use Rattle.tla_line.specs.declared.line.NoLine.{NoLine}
+use Rattle.tla_line.specs.LineFault.{IsNoLine}
 use Rattle.tla_report.specs.declared.checked.Checked.{Checked}
 use Rattle.tla_check.specs.Checks.{IsChecked}
-use Rattle.tla_run.specs.Runs.{ComesTo, Files, GetsNothing, GetsUpTo, Holds, IsCheckOf, IsRun, IsSomeRun, Writing, no_words, on_line, on_words}
+use Rattle.tla_run.specs.declared.host.Inputs.{Inputs}
+use Rattle.tla_run.specs.Private.Growing.{Grows}
+use Rattle.tla_run.specs.Private.Reading.{HoldsBoth}
+use Rattle.tla_run.specs.Runs.{AsksFor, ComesTo, Files, Gets, GetsNothing, GetsUpTo, Holds, IsCheckOf, IsRun, IsSomeRun, Says, SaysMore, Writing}
+use Rattle.tla_run.specs.Runs.{no_words, on_line, on_words, refused}
 
 -- what was put is the first bytes of it
 pub gets_put : (old new : Option (List ℕ)) (bytes : List ℕ) (r : Result ℕ ShortWrite) → Puts old new 0 bytes r
@@ -32,30 +39,98 @@ pub write_done : {T E : Type 0} (P : Type 0) (r : Result T E) (failed : Bool) �
 write_done P (Ok x) failed same is h = h
 write_done P (Err e) failed same is h = let bad : true ≡ false = sym same ∙ is in cc
 
--- what is right of the bytes that were read is right of the files
-pub check_of : (files : Files) (line : Line) (checked : Checked) (text config text2 config2 : List ℕ) → Holds files line.module.now text
-    → Holds files line.config.now config → text2 ≡ text → config2 ≡ config → IsChecked text2 config2 line.options.limit checked
-    → IsCheckOf files line checked
-check_of files line checked text config text2 config2 reads_text reads_config same_text same_config right = record {
-  text = text;
-  config = config;
-  reads_text = reads_text;
-  reads_config = reads_config;
-  right = subst (λ t. IsChecked t config line.options.limit checked) same_text
-      (subst (λ c. IsChecked text2 c line.options.limit checked) same_config right);
+-- what is right of the texts is right of the files
+pub check_of : (files : Files) (inputs : Inputs) (checked : Checked) → HoldsBoth files inputs
+    → IsChecked inputs.module.now inputs.config.now inputs.line.now.options.limit checked → IsCheckOf files inputs.line.now checked
+check_of files inputs checked reads right = record {
+  text = inputs.module.now;
+  config = inputs.config.now;
+  reads_text = reads.text;
+  reads_config = reads.config;
+  right = right;
 }
 
--- a fault that a word is missing says that `clap` finds it missing
-pub word_missing : (words : List Text) (fault : LineFault) → IsFaultOf words fault → LacksWord fault → IsAmong MissingRequiredArgument (faults_of words)
-word_missing words (Refused e) fits lacks = subst (λ k. IsAmong k (faults_of words)) lacks fits
-word_missing words Number fits lacks = absurd lacks
-word_missing words Memory fits lacks = absurd lacks
+-- the texts are those of both files
+pub holds_both : (files : Files) (inputs : Inputs) (text config : List ℕ) → inputs.module.now ≡ text → inputs.config.now ≡ config
+    → Holds files inputs.line.now.module.now text → Holds files inputs.line.now.config.now config → HoldsBoth files inputs
+holds_both files inputs text config same_text same_config reads_text reads_config = record {
+  text = subst (Holds files inputs.line.now.module.now) (sym same_text) reads_text;
+  config = subst (Holds files inputs.line.now.config.now) (sym same_config) reads_config;
+}
 
--- the line of the words with CONFIG behind them
-pub means_beside : (words longer : List Text) (fault : LineFault) (line : Line) (name : Text) → IsFaultOf words fault → LacksWord fault
-    → longer ≡ words ++ name ∷ [] → line.config.now ≡ name → LiesBeside line.module.now line.config.now → NamesLine longer line → MeanLine words line
-means_beside words longer fault line name fits lacks same config lies names =
-    beside (word_missing words fault fits lacks) lies (subst (λ ws. NamesLine ws line) (same ∙ ap (λ n. words ++ n ∷ []) (sym config)) names)
+-- a file that is named for `--json`, or for `--dot`
+pub asks_json : (line : Line) (name : Bor Text) → line.json ≡ Some name → AsksFor line name.now
+asks_json line name is = inl (ap (option_map (λ file. file.now)) is)
+
+pub asks_dot : (line : Line) (name : Bor Text) → line.dot ≡ Some name → AsksFor line name.now
+asks_dot line name is = inr (ap (option_map (λ file. file.now)) is)
+
+-- ---- what is said
+
+-- of a line that is said quietly
+pub says_quietly : (quiet : Bool) (err : Writing) (line help : List ℕ) → quiet ≡ true → GetsUpTo err line → Says quiet err line help
+says_quietly quiet err line help is says = record {
+  quietly = λ _. says;
+  openly = λ other. let bad : true ≡ false = sym is ∙ other in cc;
+}
+
+-- of a line with what helps
+pub says_openly : (quiet : Bool) (err : Writing) (line help : List ℕ) → quiet ≡ false → SaysMore err (line ++ help) → Says quiet err line help
+says_openly quiet err line help is says = record {
+  quietly = λ other. let bad : false ≡ true = sym is ∙ other in cc;
+  openly = λ _. says;
+}
+
+-- the bytes alone, without a hint
+pub says_no_more : (err : Writing) (bytes : List ℕ) → GetsUpTo err bytes → SaysMore err bytes
+says_no_more err bytes says = ([], (says.0, subst (λ t. Gets err (take says.0 t)) (sym (append-nil bytes)) says.1))
+
+-- a line without anything that helps
+pub says_alone : (quiet : Bool) (err : Writing) (line : List ℕ) → GetsUpTo err line → Says quiet err line []
+says_alone quiet err line says = record {
+  quietly = λ _. says;
+  openly = λ _. says_no_more err (line ++ []) (says.0, subst (λ t. Gets err (take says.0 t)) (sym (append-nil line)) says.1);
+}
+
+-- what was put, without anything behind a line
+pub gets_alone : (old new : Option (List ℕ)) (line : List ℕ) (r : Result ℕ ShortWrite) → Puts old new 0 (line ++ []) r
+    → GetsUpTo (record { old = old; new = new }) line
+gets_alone old new line r h = (h.taken, subst (λ t. Appends old new (take h.taken t)) (append-nil line) h.added)
+
+-- all was put, and then further bytes
+pub gets_more : (old middle new : Option (List ℕ)) (bytes : List ℕ) (written : ℕ) → Puts old middle 0 bytes (Ok written) → Grows middle new
+    → SaysMore (record { old = old; new = new }) bytes
+gets_more old middle new bytes written h more = (
+  more.0,
+  (
+    length (bytes ++ more.0),
+    subst (Appends old new) (sym (take-length (bytes ++ more.0)))
+        (appends_then old middle new bytes more.0 (puts_all h) more.1),
+  ),
+)
+
+-- what was put and what may be hinted at after it
+pub grows_put : (old new : Option (List ℕ)) (before : ℕ) (bytes : List ℕ) (r : Result ℕ ShortWrite) → Puts old new before bytes r → Grows old new
+grows_put old new before bytes r h = (take h.taken bytes, h.added)
+
+pub grows_none : (old : Option (List ℕ)) → Grows old old
+grows_none old = ([], appends_nothing old)
+
+-- a line about a file, and what is put after it
+pub file_line : (start name end more : List ℕ) → start ++ (name ++ (end ++ more)) ≡ (start ++ (name ++ end)) ++ more
+file_line start name end more = sym (append_assoc start (name ++ end) more ∙ ap (λ t. start ++ t) (append_assoc name end more))
+
+pub puts_line : (start name end more : List ℕ) {old new : Option (List ℕ)} {before : ℕ} {r : Result ℕ ShortWrite}
+    → Puts old new before (start ++ (name ++ (end ++ more))) r → Puts old new before ((start ++ (name ++ end)) ++ more) r
+puts_line start name end more {old} {new} {before} {r} h = subst (λ bytes. Puts old new before bytes r) (file_line start name end more) h
+
+-- a line and more of it, of which nothing is promised
+pub says_with : (old new : Option (List ℕ)) (line more : List ℕ) (r : Result ℕ ShortWrite) → Puts old new 0 (line ++ more) r
+    → SaysMore (record { old = old; new = new }) (line ++ [])
+says_with old new line more r h =
+    (more, (h.taken, subst (λ t. Appends old new (take h.taken (t ++ more))) (sym (append-nil line)) h.added))
+
+-- ---- the words
 
 map_more : {A : Type 0} (f : A → List ℕ) (xs : List A) (i : ℕ) (x : A) → i < length xs → x ≡ get_or xs i x
     → map f (take (i + 1) xs) ≡ map f (take i xs) ++ f x ∷ []
@@ -70,29 +145,25 @@ texts_more f t words list longer i word x before pushed same l is =
     ap (map t) pushed ∙ map-append t list (x ∷ []) ∙ ap (λ ts. ts ++ t x ∷ []) before ∙ ap (λ y. map f (take i words) ++ y ∷ []) same
     ∙ sym (map_more f words i word l is)
 
--- the texts with one more behind them
-pub texts_with : {B : Type 0} (t : B → List ℕ) (words : List (List ℕ)) (list longer : List B) (x : B) → map t list ≡ words → longer ≡ list ++ x ∷ []
-    → map t longer ≡ words ++ t x ∷ []
-texts_with t words list longer x before pushed = ap (map t) pushed ∙ map-append t list (x ∷ []) ∙ ap (λ ts. ts ++ t x ∷ []) before
-
--- a fault of the texts of words is one of the words
-pub fault_of_texts : (words : List Text) (slice items : List (Bor Text)) (fault : LineFault) → slice ≡ items → texts items ≡ words
-    → IsFaultOf (texts slice) fault → IsFaultOf words fault
-fault_of_texts words slice items fault is same fits = subst (λ ws. IsFaultOf ws fault) (ap texts is ∙ same) fits
-
--- the run on a line that the words name
+-- the run on a line that the words mean
 pub runs_line : (words : List Text) (slice items : List (Bor Text)) (files : Files) (line : Line) (out err : Writing) (status : ℕ) → slice ≡ items
-    → texts items ≡ words → NamesLine (texts slice) line → ComesTo files line out err status → IsRun words files out err status
-runs_line words slice items files line out err status is same names comes =
-    on_line line (named (subst (λ ws. NamesLine ws line) (ap texts is ∙ same) names)) comes
+    → texts items ≡ words → MeanLine (texts slice) line → ComesTo files line out err status → IsRun words files out err status
+runs_line words slice items files line out err status is same means comes =
+    on_line line (subst (λ ws. MeanLine ws line) (ap texts is ∙ same) means) comes
 
--- the run on a line that they name with CONFIG behind them
-pub runs_beside : (words : List Text) (slice items : List (Bor Text)) (fault : LineFault) (files : Files) (line : Line) (name : Text)
-    (out err : Writing) (status : ℕ) → IsFaultOf words fault → LacksWord fault → slice ≡ items → texts items ≡ words ++ name ∷ []
-    → line.config.now ≡ name → LiesBeside line.module.now line.config.now → NamesLine (texts slice) line → ComesTo files line out err status
-    → IsRun words files out err status
-runs_beside words slice items fault files line name out err status fits lacks is same config lies names comes =
-    on_line line (means_beside words (texts slice) fault line name fits lacks (ap texts is ∙ same) config lies names) comes
+-- the run on words that mean none
+pub runs_refused : (words : List Text) (slice items : List (Bor Text)) (files : Files) (no_line : NoLine) (out err : Writing) (status : ℕ)
+    → slice ≡ items → texts items ≡ words → IsNoLine (texts slice) no_line
+    → (IsNoLine (texts slice) no_line → IsRun (texts slice) files out err status) → IsRun words files out err status
+runs_refused words slice items files no_line out err status is same fits runs =
+    subst (λ ws. IsRun ws files out err status) (ap texts is ∙ same) (runs fits)
+
+-- the run where memory ran out before the words were read
+pub runs_out : (words : List Text) (files : Files) (out err : Writing) (status : ℕ) → GetsNothing out
+    → GetsUpTo err (codes "tlacheck: out of memory\n") → status ≡ 21 → IsRun words files out err status
+runs_out words files out err status nothing says ends =
+    refused (record { fault = Memory; bad_number = None }) (record { fault = tt; option = λ is. cc }) (λ help. absurd help) nothing
+    (says_alone (is_quiet words) err (codes "tlacheck: out of memory\n") says) ends
 
 -- the run of a process
 pub runs_some : (words : List Text) (files : Files) (out err : Writing) (status : ℕ) → IsRun words files out err status → IsSomeRun out err status

@@ -1,18 +1,20 @@
 -- What a run of the program does: what it writes, and the status with which it ends. (This project's own choice.)
-use Rattle.std.specs.Prelude.{◌≡◌, ◌⊎◌, ℕ, List, Option, take, IfSome}
+use Rattle.std.specs.Prelude.{◌≡◌, ◌⊎◌, ◌++◌, ℕ, Bool, true, false, List, Option, Some, [], codes, take, option_map, IfSome}
 use Rattle.std.specs.Io.KnownBytes.{Appends}
 use Rattle.counted_writer.specs.Puts.{AddsFirst}
 use Rattle.clap.specs.Words.{Text}
 use Rattle.tla_line.specs.declared.line.Line.{Line}
-use Rattle.tla_line.specs.declared.line.LineFault.{LineFault}
-use Rattle.tla_line.specs.CommandLine.{MeanLine}
-use Rattle.tla_line.specs.LineFault.{IsFaultOf, IsHelp, text_of_fault}
+use Rattle.tla_line.specs.declared.line.NoLine.{NoLine}
+use Rattle.tla_line.specs.CommandLine.{MeanLine, is_quiet}
+use Rattle.tla_line.specs.LineFault.{IsHelp, IsNoLine, help_of, text_of_fault}
 use Rattle.tla_report.specs.declared.checked.Checked.{Checked}
 use Rattle.tla_check.specs.Checks.{IsChecked}
 use Rattle.tla_report.specs.Report.{report}
 use Rattle.tla_report.specs.Status.{status_of}
 use Rattle.tla_run.specs.declared.unread.Unread.{Unread}
-use Rattle.tla_run.specs.Unread.{unread_text}
+use Rattle.tla_run.specs.Unread.{cause_text}
+
+-- ---- what a writer gets
 
 -- the bytes that a writer has before and after a run, where they are known
 pub record Writing : Type 0 where
@@ -31,6 +33,31 @@ GetsNothing w = w.new ≡ w.old
 abbrev pub GetsUpTo : Writing → List ℕ → Type 0
 GetsUpTo w bytes = (taken : ℕ) × Gets w (take taken bytes)
 
+-- these bytes, and further ones that hint at what was meant, were written, or the first of them
+abbrev pub SaysMore : Writing → List ℕ → Type 0
+SaysMore w bytes = (hints : List ℕ) × GetsUpTo w (bytes ++ hints)
+
+-- A line was written: alone under `--quiet`, and else with what helps after it.
+pub record Says (quiet : Bool) (err : Writing) (line help : List ℕ) : Type 0 where
+  pub quietly : quiet ≡ true → GetsUpTo err line
+  pub openly : quiet ≡ false → SaysMore err (line ++ help)
+
+-- ---- the lines that are written
+
+-- `tlacheck: cannot read FILE`
+abbrev pub cannot_read : Text → List ℕ
+cannot_read name = codes "tlacheck: cannot read " ++ (name ++ codes "\n")
+
+-- `tlacheck: cannot write FILE`
+abbrev pub cannot_write : Text → List ℕ
+cannot_write name = codes "tlacheck: cannot write " ++ (name ++ codes "\n")
+
+-- what is said of a report that a write cut short
+abbrev pub unwritten_report : List ℕ
+unwritten_report = codes "tlacheck: cannot write the report\n"
+
+-- ---- what a line comes to
+
 -- the bytes of files by their names, where they are known
 abbrev pub Files : Type 0
 Files = Text → Option (List ℕ)
@@ -47,26 +74,40 @@ pub record IsCheckOf (files : Files) (line : Line) (checked : Checked) : Type 0 
   pub reads_config : Holds files line.config.now config
   pub right : IsChecked text config line.options.limit checked
 
--- what a line comes to
+-- the line asks for a file of this name, by `--json` or by `--dot`
+abbrev pub AsksFor : Line → Text → Type 0
+AsksFor line name = (option_map (λ file. file.now) line.json ≡ Some name) ⊎ (option_map (λ file. file.now) line.dot ≡ Some name)
+
+-- what a run on a line comes to
 pub data ComesTo (files : Files) (line : Line) (out err : Writing) (status : ℕ) : Type 0 where
-  -- the first writer got the report of what is right of the two files, and the status is its status
-  reported : (checked : Checked) → IsCheckOf files line checked → Gets out (report checked) → status ≡ status_of checked → ComesTo files line out err status
+  -- The first writer got the report of what is right of the two files, and the status is its status. Under `--quiet` the
+  -- second got nothing.
+  reported : (checked : Checked) → IsCheckOf files line checked → Gets out (report checked) → (line.quiet ≡ true → GetsNothing err)
+      → status ≡ status_of checked → ComesTo files line out err status
   -- a write of the report failed
   cut_short : (checked : Checked) (written : ℕ) → IsCheckOf files line checked → AddsFirst out.old out.new (report checked) written
-      → GetsNothing err → status ≡ 21 → ComesTo files line out err status
+      → (line.quiet ≡ true → GetsNothing err) → (line.quiet ≡ false → GetsUpTo err unwritten_report) → status ≡ 21
+      → ComesTo files line out err status
   -- one of the two files could not be read
   unread : (name : Text) (cause : Unread) → (name ≡ line.module.now) ⊎ (name ≡ line.config.now) → GetsNothing out
-      → GetsUpTo err (unread_text name cause) → status ≡ 21 → ComesTo files line out err status
+      → Says line.quiet err (cannot_read name) (cause_text cause) → status ≡ 21 → ComesTo files line out err status
+  -- a file that the line asks for could not be created
+  uncreated : (name : Text) → AsksFor line name → GetsNothing out → Says line.quiet err (cannot_write name) [] → status ≡ 21
+      → ComesTo files line out err status
+
+-- ---- what a run comes to
 
 -- what a run on these words comes to
 pub data IsRun (words : List Text) (files : Files) (out err : Writing) (status : ℕ) : Type 0 where
   -- the words mean a line
   on_line : (line : Line) → MeanLine words line → ComesTo files line out err status → IsRun words files out err status
   -- they mean none; of the texts of `clap` nothing is said
-  refused : (fault : LineFault) → IsFaultOf words fault → (IsHelp fault → ⊥) → GetsNothing out → IfSome (text_of_fault fault) (GetsUpTo err)
+  refused : (no_line : NoLine) → IsNoLine words no_line → (IsHelp no_line.fault → ⊥) → GetsNothing out
+      → IfSome (text_of_fault no_line.fault) (λ text. Says (is_quiet words) err text (help_of no_line))
       → status ≡ 21 → IsRun words files out err status
   -- they ask for help or for the version; the status is 21 where a write failed
-  helped : (fault : LineFault) → IsFaultOf words fault → IsHelp fault → GetsNothing err → (status ≡ 0) ⊎ (status ≡ 21) → IsRun words files out err status
+  helped : (no_line : NoLine) → IsNoLine words no_line → IsHelp no_line.fault → GetsNothing err → (status ≡ 0) ⊎ (status ≡ 21)
+      → IsRun words files out err status
 
 -- a run on words that the process has, or it has none that are text
 pub data IsSomeRun (out err : Writing) (status : ℕ) : Type 0 where

@@ -1,9 +1,9 @@
--- What is told of a file that is not read.
-use Rattle.std.specs.Prelude.{ℕ, List, ◌++◌, codes}
-use Rattle.clap.specs.Words.{Text}
+-- Why a file is not read.
+use Rattle.std.specs.Prelude.{ℕ, List, codes}
 use Rattle.tla_run.specs.declared.unread.Unread.{Unread}
 use Rattle.tla_run.specs.declared.unread.Unread.TheVariants.{Missing, Path, Folder, NotPermitted, Endless, Memory, Failed}
 
+-- the line that says it
 abbrev pub cause_text : Unread → List ℕ
 cause_text Missing = codes "cause: there is no such file\n"
 cause_text Path = codes "cause: a part of its path is no folder\n"
@@ -12,7 +12,3 @@ cause_text NotPermitted = codes "cause: no permission to read it\n"
 cause_text Endless = codes "cause: no end within 1000000 reads\n"
 cause_text Memory = codes "cause: out of memory\n"
 cause_text Failed = codes "cause: it can't be opened, or a read failed\n"
-
--- two lines, with the file's name and the cause
-abbrev pub unread_text : Text → Unread → List ℕ
-unread_text name cause = codes "tlacheck: cannot read " ++ (name ++ (codes "\n" ++ cause_text cause))

@@ -1,14 +1,25 @@
 //! What a run has of the process.
-ghost use Rattle.std.specs.Prelude.{◌≡◌, ℕ, List, Option, Some, None, IfOk, IfSome};
+ghost use Rattle.std.specs.Prelude.{◌≡◌, ℕ, List, Option, None, false, IfOk, IfSome, Some};
 
 use std::io;
 use std::io::{Read, Write};
 use tla_check::{Checked, Gate, Line};
 
+/// What a run checks: the line that its words mean, and the texts of the two files.
+#[derive(Clone, Copy)]
+pub struct Inputs<'a> {
+    pub line: &'a Line<'a>,
+    pub module: &'a [u8],
+    pub config: &'a [u8],
+}
+
 /// What a run has of the process beside its words, its two writers and its threads.
 pub trait Host {
     /// A file that is open for reading.
     type File: Read + Drop;
+
+    /// A file that was created and is open for writing.
+    type NewFile: Write + Drop;
 
     /// What the search of a run goes through.
     type Gate: Gate + Drop;
@@ -20,18 +31,38 @@ pub trait Host {
     fn open(&self, name: &str) -> io::Result<Self::File>
         ensures { IfOk result (λ f. IfSome (files self.now name.now) (λ bytes. Self.File.remaining f ≡ Some bytes)) };
 
-    /// The gate for the search of this line. What it tells, and whether that fails, changes nothing else.
-    fn gate(&self, line: &Line<'_>) -> Self::Gate;
+    /// Creates the file of this name, or empties it where it is there.
+    fn create(&self, name: &str) -> io::Result<Self::NewFile>;
 
-    /// Explains on the second writer what was found in the two files of the line. It is called once the
-    /// report was written whole, unless the line is quiet; what it writes, and whether that fails, changes
+    /// The gate for the search of a line that isn't quiet. What it says, and whether that fails, changes
     /// nothing else.
+    fn gate(&self, line: &Line<'_>) -> Self::Gate
+        requires { line.now.quiet ≡ false };
+
+    /// Explains on the second writer what was checked, for a line that isn't quiet. It is called once the
+    /// report was written whole; what it writes, and whether that fails, changes nothing else.
     fn explain<E: Write>(
         &self,
         err: &mut E,
-        line: &Line<'_>,
-        module: &[u8],
-        config: &[u8],
+        inputs: &Inputs<'_>,
         checked: &Checked,
-    );
+        gate: &Self::Gate,
+    )
+        requires { inputs.now.line.now.quiet ≡ false };
+
+    /// Writes report and explanation as a JSON document.
+    fn write_document(
+        &self,
+        file: &mut Self::NewFile,
+        inputs: &Inputs<'_>,
+        checked: &Checked,
+    ) -> io::Result<()>;
+
+    /// Writes the states that were found as a graph for Graphviz.
+    fn write_graph(
+        &self,
+        file: &mut Self::NewFile,
+        inputs: &Inputs<'_>,
+        checked: &Checked,
+    ) -> io::Result<()>;
 }

@@ -1,13 +1,16 @@
 //! A run of the program: from the words of the command line and two files to what is written and the exit status.
 #![tactic(auto)]
 
-mod beside;
+mod files;
+mod hints;
 mod host;
+mod messages;
 mod process;
 mod running;
 mod unread;
+mod words;
 
-pub use host::Host;
+pub use host::{Host, Inputs};
 pub use process::run_process;
 pub use running::run;
 pub use tla_check::{Checked, Gate, Line, LineFault, NoGate};

@@ -2,7 +2,7 @@
 ghost use Rattle.std.specs.Prelude.{◌≡◌};
 ghost use Rattle.tla_run.specs.Runs.{IsSomeRun};
 
-use crate::host::Host;
+use crate::host::{Host, Inputs};
 use crate::running::{NO_REPORT, run};
 use std::fs::OpenFile;
 use std::io::{Eprint, ErrorKind, Write};
@@ -11,9 +11,9 @@ use std::sync::Wait;
 use std::thread::Threads;
 use std::time::{Clock, Instant};
 use std::{env, fs, io};
-use tla_check::{Checked, Line, LineFault};
-use tla_explain::{FileNames, explain};
-use tla_progress::{Progress, Took};
+use tla_check::{Checked, Gate, GatePlace, Line, LineFault};
+use tla_explain::{FileNames, Style, explain, write_document, write_graph};
+use tla_progress::{GreatestLevel, NoMemory, Progress, Took};
 
 /// Runs the program on the process's own words and files, with these writers for its standard output
 /// and its standard error, and answers the status with which it ends.
@@ -26,9 +26,13 @@ pub fn run_process<
     ensures { IsSomeRun (record { old = O.contents out.old; new = O.contents out.new })
         (record { old = E.contents err.old; new = E.contents err.new }) result }
 {
-    let began = Instant::now(rt).ok();
+    let greatest = GreatestLevel::new();
+    let process = Process {
+        rt,
+        greatest: &greatest,
+    };
     match words(rt) {
-        Ok(words) => run(rt, rt.alloc(), &words, &Process { rt, began }, out, err),
+        Ok(words) => run(rt, rt.alloc(), &words, &process, out, err),
         Err(error) => tell_no_words(&error, err),
     }
 }
@@ -37,14 +41,34 @@ pub fn run_process<
 #[derive(Drop)]
 struct Process<'a, R> {
     rt: &'a R,
-    /// When it began, if there is a clock.
+    /// Which level of its search is the greatest.
+    greatest: &'a GreatestLevel,
+}
+
+/// The gate of a search that isn't quiet. It is the first to read the clock.
+#[derive(Drop)]
+struct Watch<'a, R> {
+    /// When the search began, if there is a clock.
     began: Option<Instant>,
+    progress: Progress<'a, R, NoMemory>,
+}
+
+impl<R: Clock + Eprint + Sync> Gate for Watch<'_, R> {
+    fn enter(&self, place: &GatePlace) {
+        self.progress.enter(place);
+    }
+
+    fn leave(&self, place: &GatePlace, dropped: bool) {
+        self.progress.leave(place, dropped);
+    }
 }
 
 impl<'a, R: AllocGlobal + Clock + Eprint + Files + Sync> Host for Process<'a, R> {
     type File = R::File;
 
-    type Gate = Progress<'a, R>;
+    type NewFile = R::File;
+
+    type Gate = Watch<'a, R>;
 
     fn open(&self, name: &str) -> io::Result<R::File> {
         let file = fs::open(self.rt, name)?;
@@ -54,29 +78,84 @@ impl<'a, R: AllocGlobal + Clock + Eprint + Files + Sync> Host for Process<'a, R>
         }
     }
 
-    fn gate(&self, line: &Line<'_>) -> Progress<'a, R> {
-        let began = if line.quiet { None } else { self.began };
-        Progress::new(self.rt, began, line.options.cut())
+    fn create(&self, name: &str) -> io::Result<R::File> {
+        fs::create(self.rt, name)
+    }
+
+    fn gate(&self, line: &Line<'_>) -> Watch<'a, R> {
+        let began = Instant::now(self.rt).ok();
+        let cut = line.options.cut();
+        Watch {
+            began,
+            progress: Progress::new(self.rt, NoMemory, began, cut, self.greatest),
+        }
     }
 
     fn explain<E: Write>(
         &self,
         err: &mut E,
-        line: &Line<'_>,
-        module: &[u8],
-        config: &[u8],
+        inputs: &Inputs<'_>,
         checked: &Checked,
+        gate: &Watch<'a, R>,
     ) {
-        let names = FileNames {
-            module: line.module,
-            configuration: line.config,
+        let took = self.took(inputs.line, checked, gate.began);
+        let style = Style {
+            full: inputs.line.full,
+            coverage: inputs.line.coverage,
         };
-        let took = Took::since(self.rt, self.began);
-        // What fails here is told to nobody: the report is out.
-        let _ = explain(err, &names, module, config, checked, self.rt.alloc());
+        let names = names(inputs.line);
+        let (module, config) = (inputs.module, inputs.config);
+        // Nobody hears of what fails here: the report is out.
+        let _ = explain(self.rt.alloc(), err, &names, module, config, checked, style);
         if let Some(took) = took {
             let _ = writeln!(err, "{took}");
         }
+    }
+
+    fn write_document(
+        &self,
+        file: &mut R::File,
+        inputs: &Inputs<'_>,
+        checked: &Checked,
+    ) -> io::Result<()> {
+        let names = names(inputs.line);
+        write_document(
+            self.rt.alloc(),
+            file,
+            &names,
+            inputs.module,
+            inputs.config,
+            checked,
+        )
+    }
+
+    fn write_graph(
+        &self,
+        file: &mut R::File,
+        inputs: &Inputs<'_>,
+        checked: &Checked,
+    ) -> io::Result<()> {
+        write_graph(self.rt.alloc(), file, inputs.module, inputs.config, checked)
+    }
+}
+
+/// The names of the two files, for a reader.
+fn names<'a>(line: &Line<'a>) -> FileNames<'a> {
+    FileNames {
+        module: line.module,
+        configuration: line.config,
+    }
+}
+
+impl<R: Clock> Process<'_, R> {
+    /// What a long run went through, and how long it took.
+    fn took(&self, line: &Line<'_>, checked: &Checked, began: Option<Instant>) -> Option<Took> {
+        let Checked::Answered(answered) = checked else {
+            return None;
+        };
+        let counts = answered.answer.counts();
+        let greatest = self.greatest.greatest(line.options.cut());
+        Took::since(self.rt, began, counts.levels, counts.states, greatest)
     }
 }
 
@@ -89,7 +168,7 @@ fn words<R: AllocGlobal + Env>(rt: &R) -> io::Result<Vec<String>> {
     Ok(words)
 }
 
-/// Tells why there are no words.
+/// Says why there are no words.
 fn tell_no_words<E: Write>(error: &io::Error, err: &mut E) -> u8
     ensures { result ≡ 21 }
 {

@@ -1,20 +1,23 @@
 //! The run.
-ghost use Rattle.std.specs.Prelude.{◌≡◌, List, IfOk, IfSome, map, string_bytes};
-ghost use Rattle.counted_writer.specs.Puts.{Puts};
-ghost use Rattle.clap.specs.Walk.{Text};
-ghost use Rattle.tla_line.specs.LineFault.{IsFaultOf, LacksWord, text_of_fault};
-ghost use Rattle.tla_run.specs.Runs.{ComesTo, Files, GetsUpTo, Holds, IsRun};
-ghost use Rattle.tla_run.specs.Unread.{unread_text};
+ghost use Rattle.std.specs.Prelude.{◌≡◌, true, false, IfOk, IfErr, map, string_bytes};
+ghost use Rattle.clap.specs.Walk.{texts};
+ghost use Rattle.tla_line.specs.LineFault.{IsNoLine};
+ghost use Rattle.tla_run.specs.Private.Reading.{HoldsBoth};
+ghost use Rattle.tla_run.specs.Runs.{ComesTo, Files, GetsNothing, Holds, IsRun, Writing};
 
-use crate::beside::{as_texts, configuration_beside, is_beside, with_word};
-use crate::host::Host;
-use crate::unread::Unread;
-use counted_writer::{ShortWrite, put};
+use crate::files::{NewFiles, create_files, write_files};
+use crate::host::{Host, Inputs};
+use crate::messages::{
+    complain, tell_no_memory, tell_uncreated, tell_unread, tell_unwritten, tell_unwritten_report,
+};
+use crate::unread::{Unread, UnreadFile};
+use crate::words::as_texts;
 use std::alloc::Global;
 use std::io::Write;
 use std::sync::Wait;
 use std::thread::Threads;
-use tla_check::{Line, LineFault, check, read_line, read_whole, write_report};
+use tla_check::{Line, NoGate, check, read_whole, write_report};
+use tla_line::{NoLine, read_words};
 
 /// The status of a run that gives no whole report: for its command line, a file or a failed write.
 pub const NO_REPORT: u8 = 21;
@@ -22,9 +25,10 @@ pub const NO_REPORT: u8 = 21;
 /// Runs the program on the words of its command line, its own name first, and answers the status with
 /// which it ends. The report goes to `out`, and all else to `err`.
 ///
-/// Where the words leave CONFIG out and MODULE is NAME.tla, it is NAME.cfg. Each file is read whole, in
-/// at most 1,000,000 reads of up to 65,536 bytes. A failed write ends the run.
-#[tactic(auto, using(crate::proofs::RunLemmas::runs_line, crate::proofs::RunLemmas::fault_of_texts))]
+/// Each file is read whole, in at most 1,000,000 reads of up to 65,536 bytes. The files that the line asks
+/// for are created before the search, and written after the report. A failed write of the report ends the
+/// run.
+#[tactic(auto, using(crate::proofs::RunLemmas::runs_line))]
 pub fn run<H: Host, O: Write, E: Write, R: Threads + Wait + Sync>(
     rt: &R,
     alloc: Global,
@@ -38,87 +42,42 @@ pub fn run<H: Host, O: Write, E: Write, R: Threads + Wait + Sync>(
         (record { old = E.contents err.old; new = E.contents err.new }) result }
 {
     let Ok(texts) = as_texts(alloc, words) else {
-        return refuse(&LineFault::Memory, out, err);
+        tell_no_memory(err);
+        return NO_REPORT;
     };
-    let fault = match read_line(alloc, texts.as_slice()) {
-        Ok(line) => return run_line(rt, alloc, &line, host, out, err),
-        Err(fault) => fault,
-    };
-    if !fault.lacks_word() {
-        return refuse(&fault, out, err);
+    let texts = texts.as_slice();
+    match read_words(alloc, texts) {
+        Ok(line) => run_line(rt, alloc, &line, host, out, err),
+        Err(no_line) => refuse(alloc, &no_line, texts, host, out, err),
     }
-    run_beside(rt, alloc, words, &fault, host, out, err)
 }
 
-/// The run on words that lack one. It may be CONFIG, which lies beside MODULE then.
-#[tactic(auto, using(crate::proofs::RunLemmas::runs_beside))]
-fn run_beside<H: Host, O: Write, E: Write, R: Threads + Wait + Sync>(
-    rt: &R,
+/// Says why the words mean no line, or writes the help that they ask for.
+fn refuse<H: Host, O: Write, E: Write>(
     alloc: Global,
-    words: &[String],
-    fault: &LineFault,
+    no_line: &NoLine,
+    words: &[&str],
     host: &H,
     out: &mut O,
     err: &mut E,
 ) -> u8
-    requires fault { IsFaultOf (map string_bytes words.now) fault.now }
-    requires lacks { LacksWord fault.now }
-    ensures { IsRun (map string_bytes words.now) (H.files host.now)
+    ensures { (files : Files) → IsNoLine (texts words.now) no_line.now
+        → IsRun (texts words.now) files
         (record { old = O.contents out.old; new = O.contents out.new })
         (record { old = E.contents err.old; new = E.contents err.new }) result }
 {
-    let Ok(name) = configuration_beside(alloc, words) else {
-        return refuse(&LineFault::Memory, out, err);
-    };
-    let Some(name) = name else {
-        return refuse(fault, out, err);
-    };
-    let Ok(longer) = with_word(alloc, words, name.as_str()) else {
-        return refuse(&LineFault::Memory, out, err);
-    };
-    let line = match read_line(alloc, longer.as_slice()) {
-        Ok(line) => line,
-        Err(LineFault::Memory) => return refuse(&LineFault::Memory, out, err),
-        Err(_) => return refuse(fault, out, err),
-    };
-    if !is_beside(&line, name.as_str()) {
-        return refuse(fault, out, err);
-    }
-    run_line(rt, alloc, &line, host, out, err)
-}
-
-/// Tells why the words mean no line, or the help that they ask for.
-fn refuse<O: Write, E: Write>(fault: &LineFault, out: &mut O, err: &mut E) -> u8
-    ensures { (words : List Text) (files : Files) → IsFaultOf words fault.now → IsRun words files
-        (record { old = O.contents out.old; new = O.contents out.new })
-        (record { old = E.contents err.old; new = E.contents err.new }) result }
-{
-    if fault.is_help() {
-        return match write!(out, "{fault}") {
+    if no_line.fault.is_help() {
+        return match write!(out, "{}", no_line.fault) {
             Ok(()) => 0,
             Err(_) => NO_REPORT,
         };
     }
-    complain(fault, err);
+    complain(alloc, host, no_line, words, err);
     NO_REPORT
 }
 
-/// Writes the text of a fault.
-fn complain<E: Write>(fault: &LineFault, err: &mut E)
-    ensures { IfSome (text_of_fault fault.now)
-        (GetsUpTo (record { old = E.contents err.old; new = E.contents err.new })) }
-{
-    match fault.own_text() {
-        Some(text) => {
-            let _ = put(err, 0, text.as_bytes());
-        }
-        None => {
-            let _ = write!(err, "{fault}");
-        }
-    }
-}
-
 /// Checks the files of a line and writes the report.
+#[tactic(auto, using(crate::proofs::RunLemmas::holds_both))]
 fn run_line<H: Host, O: Write, E: Write, R: Threads + Wait + Sync>(
     rt: &R,
     alloc: Global,
@@ -131,53 +90,117 @@ fn run_line<H: Host, O: Write, E: Write, R: Threads + Wait + Sync>(
         (record { old = O.contents out.old; new = O.contents out.new })
         (record { old = E.contents err.old; new = E.contents err.new }) result }
 {
-    let module = match read(alloc, host, line.module) {
+    let module = match read(alloc, host, line.module, ".tla") {
         Ok(bytes) => bytes,
-        Err(cause) => return tell_unread(line.module, cause, err),
+        Err(file) => {
+            tell_unread(alloc, host, line.quiet, &file, err);
+            return NO_REPORT;
+        }
     };
-    let config = match read(alloc, host, line.config) {
+    let config = match read(alloc, host, line.config, ".cfg") {
         Ok(bytes) => bytes,
-        Err(cause) => return tell_unread(line.config, cause, err),
+        Err(file) => {
+            tell_unread(alloc, host, line.quiet, &file, err);
+            return NO_REPORT;
+        }
     };
-    let gate = host.gate(line);
-    let checked = check(rt, alloc, &module, &config, &line.options, &gate);
+    let mut files = match create_files(host, line) {
+        Ok(files) => files,
+        Err(file) => {
+            tell_uncreated(line.quiet, &file, err);
+            return NO_REPORT;
+        }
+    };
+    let inputs = Inputs {
+        line,
+        module: module.as_slice(),
+        config: config.as_slice(),
+    };
+    if line.quiet {
+        run_quietly(rt, alloc, &inputs, host, &mut files, out)
+    } else {
+        run_openly(rt, alloc, &inputs, host, &mut files, out, err)
+    }
+}
+
+/// Checks the texts and writes the report, and nothing to standard error.
+fn run_quietly<H: Host, O: Write, R: Threads + Wait + Sync>(
+    rt: &R,
+    alloc: Global,
+    inputs: &Inputs<'_>,
+    host: &H,
+    files: &mut NewFiles<H::NewFile>,
+    out: &mut O,
+) -> u8
+    requires quiet { inputs.now.line.now.quiet ≡ true }
+    requires reads { HoldsBoth (H.files host.now) inputs.now }
+    ensures { (err : Writing) → GetsNothing err → ComesTo (H.files host.now) inputs.now.line.now
+        (record { old = O.contents out.old; new = O.contents out.new }) err result }
+{
+    let options = &inputs.line.options;
+    let checked = check(rt, alloc, inputs.module, inputs.config, options, &NoGate);
     if write_report(&checked, out).is_err() {
         return NO_REPORT;
     }
-    if !line.quiet {
-        host.explain(err, line, &module, &config, &checked);
-    }
+    let _ = write_files(host, files, inputs, &checked);
     checked.status()
 }
 
-/// The bytes of the file of a name, if it can be read.
-fn read<H: Host>(alloc: Global, host: &H, name: &str) -> Result<Vec<u8>, Unread>
-    ensures { IfOk result (λ v. Holds (H.files host.now) name.now v.items) }
+/// Checks the texts, writes the report and explains it.
+fn run_openly<H: Host, O: Write, E: Write, R: Threads + Wait + Sync>(
+    rt: &R,
+    alloc: Global,
+    inputs: &Inputs<'_>,
+    host: &H,
+    files: &mut NewFiles<H::NewFile>,
+    out: &mut O,
+    err: &mut E,
+) -> u8
+    requires not_quiet { inputs.now.line.now.quiet ≡ false }
+    requires reads { HoldsBoth (H.files host.now) inputs.now }
+    ensures { ComesTo (H.files host.now) inputs.now.line.now
+        (record { old = O.contents out.old; new = O.contents out.new })
+        (record { old = E.contents err.old; new = E.contents err.new }) result }
+{
+    let gate = host.gate(inputs.line);
+    let options = &inputs.line.options;
+    let checked = check(rt, alloc, inputs.module, inputs.config, options, &gate);
+    if write_report(&checked, out).is_err() {
+        tell_unwritten_report(err);
+        return NO_REPORT;
+    }
+    host.explain(err, inputs, &checked, &gate);
+    let unwritten = write_files(host, files, inputs, &checked);
+    tell_unwritten(&unwritten, err);
+    checked.status()
+}
+
+/// The bytes of the file of a name, if it can be read. A file of its kind has this ending.
+fn read<'a, H: Host>(
+    alloc: Global,
+    host: &H,
+    name: &'a str,
+    ending: &'static str,
+) -> Result<Vec<u8>, UnreadFile<'a>>
+    ensures bytes { IfOk result (λ v. Holds (H.files host.now) name.now v.items) }
+    ensures name { IfErr result (λ file. file.name ≡ name.entry) }
 {
     let mut file = match host.open(name) {
         Ok(file) => file,
-        Err(error) => return Err(Unread::by_kind(error.kind())),
+        Err(error) => {
+            return Err(UnreadFile {
+                name,
+                cause: Unread::by_kind(error.kind()),
+                ending,
+            });
+        }
     };
     match read_whole(alloc, &mut file) {
         Ok(bytes) => Ok(bytes),
-        Err(fault) => Err(Unread::by_fault(fault)),
+        Err(fault) => Err(UnreadFile {
+            name,
+            cause: Unread::by_fault(fault),
+            ending,
+        }),
     }
-}
-
-/// Tells which file can't be read, and why.
-fn tell_unread<E: Write>(name: &str, cause: Unread, err: &mut E) -> u8
-    ensures text { GetsUpTo (record { old = E.contents err.old; new = E.contents err.new }) (unread_text name.now cause) }
-    ensures status { result ≡ 21 }
-{
-    let _ = put_unread(name, cause, err);
-    NO_REPORT
-}
-
-fn put_unread<E: Write>(name: &str, cause: Unread, err: &mut E) -> Result<u64, ShortWrite>
-    ensures { Puts (E.contents err.old) (E.contents err.new) 0 (unread_text name.now cause) result }
-{
-    let written = put(err, 0, b"tlacheck: cannot read ")?;
-    let written = put(err, written, name.as_bytes())?;
-    let written = put(err, written, b"\n")?;
-    put(err, written, cause.text().as_bytes())
 }

@@ -5,12 +5,21 @@ ghost use Rattle.tla_run.specs.Unread.{cause_text};
 use std::io::ErrorKind;
 use tla_check::ReadFault;
 
-/// Why a file is not read, as it is told.
+/// A file that is not read.
+#[derive(Clone, Copy)]
+pub struct UnreadFile<'a> {
+    pub name: &'a str,
+    pub cause: Unread,
+    /// The ending that a file of its kind has.
+    pub ending: &'static str,
+}
+
+/// Why a file is not read.
 #[derive(Clone, Copy, Debug, PartialEq, Eq)]
 pub enum Unread {
     /// No file has this name.
     Missing,
-    /// Its path goes on behind a name that is no folder's.
+    /// A part of its path is no folder.
     Path,
     Folder,
     NotPermitted,
@@ -43,7 +52,7 @@ impl Unread {
         }
     }
 
-    /// The line that tells it.
+    /// The line that says it.
     pub fn text(self) -> &'static str
         ensures { result.now ≡ cause_text self }
     {

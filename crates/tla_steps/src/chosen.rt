@@ -1,13 +1,14 @@
 //! A part of an action, and what was chosen on the way to it.
 
 use std::alloc::{AllocError, Global};
-use tla_core::Place;
-use tla_value::{Value, ValueError};
+use tla_core::{Fault, Place, memory};
+use tla_value::Value;
 
-/// The value that a `\E` chose for one of its names. A name of a pattern has an item of the element.
+/// The value of a name that a quantifier or another form binds. A name of a pattern has an item of
+/// the element.
 #[derive(Drop)]
 pub struct Chosen {
-    /// The place of the `\E`.
+    /// The place of the form that binds the name.
     pub place: Place,
     /// Which of its names it is, from 0.
     pub name: usize,
@@ -18,6 +19,8 @@ pub struct Chosen {
 #[derive(Drop)]
 pub struct Taken {
     pub place: Place,
+    /// The place of the innermost conjunction in which it is the part that leads on.
+    pub within: Option<Place>,
     pub chosen: Vec<Chosen>,
 }
 
@@ -25,7 +28,7 @@ pub struct Taken {
 #[derive(Drop)]
 pub(crate) struct Path {
     values: Vec<Value>,
-    /// The place of the `\E` of each; none where it has no name in the text.
+    /// The place of the form that binds each; none where it has no name in the text.
     places: Vec<Option<Place>>,
 }
 
@@ -37,9 +40,16 @@ impl Path {
         }
     }
 
-    /// One choice more. The only error is want of memory.
+    /// One choice more. The only error is that memory ran out.
     pub(crate) fn push(&mut self, place: Place, value: Value) -> Result<(), AllocError> {
         self.places.push(Some(place))?;
+        self.values.push(value)?;
+        Ok(())
+    }
+
+    /// One value more that has no name in the text. The only error is that memory ran out.
+    pub(crate) fn push_unnamed(&mut self, value: Value) -> Result<(), AllocError> {
+        self.places.push(None)?;
         self.values.push(value)?;
         Ok(())
     }
@@ -67,8 +77,8 @@ impl Path {
         &mut self.values
     }
 
-    /// A part at which these choices lead. The only error is want of memory.
-    pub(crate) fn taken(&self, alloc: Global, place: Place) -> Result<Taken, ValueError> {
+    /// The choices that have a name. The only error is that memory ran out.
+    pub(crate) fn chosen(&self, alloc: Global) -> Result<Vec<Chosen>, Fault> {
         let mut chosen = Vec::new(alloc);
         let mut last = None;
         let mut name = 0usize;
@@ -82,12 +92,15 @@ impl Path {
                 0
             };
             last = Some(at);
+            let Ok(value) = value.copy(alloc) else {
+                return Err(memory());
+            };
             chosen.push(Chosen {
                 place: at,
                 name,
-                value: value.copy(alloc)?,
+                value,
             })?;
         }
-        Ok(Taken { place, chosen })
+        Ok(chosen)
     }
 }

@@ -1,12 +1,30 @@
-//! The parts of an action: which of them a step makes true, and which leave a variable without a next value.
+//! The parts of an action and of a state predicate: which of them a step makes true, which leave a
+//! variable without a next value, which decide that the whole is FALSE, which stop an action, and
+//! which fault.
 //!
-//! A part is what stands under the disjunctions and the `\E` of an action, as TLC names its actions.
+//! A part of an action is what its disjunctions and its `\E` lead to, as TLC names its actions.
+//! Where one conjunct alone leads on to such parts, they are the parts.
 #![tactic(auto)]
 
+mod action;
+mod blocked;
 mod chosen;
+mod culprit;
+mod initial;
 mod lacking;
+mod reading;
+mod reason;
+mod stray;
 mod taken;
+mod walk;
 
+pub use action::{Action, ActionPart, action_parts};
+pub use blocked::{Blocked, blocked_parts};
 pub use chosen::{Chosen, Taken};
-pub use lacking::lacking_parts;
+pub use culprit::{Culprit, culprit_in};
+pub use initial::{initial_states, is_false_in_all};
+pub use lacking::{lacking_part, lacking_parts};
+pub use reading::culprit_of_reading;
+pub use reason::{Operand, Reason, Verdict, reasons_against};
+pub use stray::Stray;
 pub use taken::{next_values, taken_parts};

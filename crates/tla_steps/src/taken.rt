@@ -1,20 +1,42 @@
 //! The parts that a step makes true.
 
-use crate::chosen::{Path, Taken};
+use crate::action::{Action, ActionPart, leading};
+use crate::chosen::Taken;
+use crate::walk::Walk;
 use std::alloc::Global;
-use tla_core::{Core, Fault, FaultCode, Opening, Place, memory};
-use tla_eval::{Partial, eval, opened};
-use tla_value::{State, Value};
+use tla_core::{Core, Fault, Opening, Place, memory};
+use tla_eval::Partial;
+use tla_value::State;
 
-/// A step, and what is looked for in it.
+/// A step whose parts are looked for.
 #[derive(Clone, Copy)]
-struct Search<'a> {
-    alloc: Global,
-    now: &'a State,
+struct Step<'a> {
     next: &'a Partial,
+    action: Action<'a>,
+    /// The conjunction that the search went into last.
+    within: Option<Place>,
 }
 
-/// The next values of a step to a state. The only error is want of memory.
+impl<'a> Step<'a> {
+    /// The same step, once the search went into the conjunction at a place.
+    fn inside(&self, place: Place) -> Step<'a> {
+        Step {
+            next: self.next,
+            action: self.action,
+            within: Some(place),
+        }
+    }
+
+    /// Whether nobody asks for a part.
+    fn skips(&self, part: &Core) -> bool {
+        self.action.skipped.contains(&ActionPart {
+            place: part.place(),
+            within: self.within,
+        })
+    }
+}
+
+/// The next values of a step to a state. The only error is that memory ran out.
 pub fn next_values(alloc: Global, state: &State) -> Result<Partial, Fault> {
     let values = state.values();
     let mut next = Partial::unset(alloc, values.len())?;
@@ -29,147 +51,144 @@ pub fn next_values(alloc: Global, state: &State) -> Result<Partial, Fault> {
     Ok(next)
 }
 
-/// The parts of an action that are TRUE of a step, in the order of the text, as far as `budget` evaluations show them. A part
-/// whose value is a fault isn't TRUE. The only error is want of memory.
+/// The parts of an action that are TRUE of a step, in the order of the text, as far as `budget`
+/// evaluations show them. A part whose value is a fault isn't TRUE. The only error is that memory
+/// ran out.
 pub fn taken_parts(
     alloc: Global,
-    action: &Core,
+    action: Action<'_>,
     now: &State,
     next: &Partial,
     budget: &mut u64,
 ) -> Result<Vec<Taken>, Fault> {
-    let search = Search { alloc, now, next };
-    let mut path = Path::new(alloc);
+    let step = Step {
+        next,
+        action,
+        within: None,
+    };
+    let mut walk = Walk::new(alloc, Some(now), *budget);
     let mut found = Vec::new(alloc);
-    look(action, &search, &mut path, budget, &mut found)?;
+    let outcome = find_taken(action.core, &step, &mut walk, &mut found);
+    *budget = walk.budget();
+    outcome?;
     Ok(found)
 }
 
+/// Finds the parts under disjunctions and `\E` that are TRUE.
 #[cycle(taken)]
-fn look(
+fn find_taken(
     part: &Core,
-    search: &Search<'_>,
-    path: &mut Path,
-    budget: &mut u64,
+    step: &Step<'_>,
+    walk: &mut Walk<'_>,
     found: &mut Vec<Taken>,
 ) -> Result<(), Fault> {
     match part {
-        Core::Disjunction(_, parts) => look_at_all(parts, search, path, budget, found),
-        Core::ForSome(place, set, body) => {
-            look_at_each(body, set, *place, search, path, budget, found)
-        }
+        Core::Disjunction(_, parts) => find_in_disjuncts(parts, step, walk, found),
+        Core::ForSome(place, set, body) => find_by_element(body, set, *place, step, walk, found),
         Core::Opened(place, openings, body) => {
-            look_under_items(body, openings, *place, search, path, budget, found)
+            find_by_items(body, openings, *place, step, walk, found)
         }
-        _ => look_at_one(part, search, path, budget, found),
+        Core::Conjunction(place, conjuncts) => {
+            let Some(index) = leading(*place, conjuncts, step.action.starts) else {
+                return add_if_true(part, step, walk, found);
+            };
+            let count = found.len();
+            find_at(conjuncts, index, &step.inside(*place), walk, found)?;
+            if found.len() > count && walk.truth(part, step.next)? != Some(true) {
+                found.truncate(count);
+            }
+            Ok(())
+        }
+        _ => add_if_true(part, step, walk, found),
     }
 }
 
 #[cycle(taken)]
-fn look_at_all(
+fn find_in_disjuncts(
     parts: &[Core],
-    search: &Search<'_>,
-    path: &mut Path,
-    budget: &mut u64,
+    step: &Step<'_>,
+    walk: &mut Walk<'_>,
     found: &mut Vec<Taken>,
 ) -> Result<(), Fault> {
     for part in parts {
-        look(part, search, path, budget, found)?;
+        find_taken(part, step, walk, found)?;
     }
     Ok(())
 }
 
 #[cycle(taken)]
-fn look_at_each(
+fn find_by_element(
     body: &Core,
     set: &Core,
     place: Place,
-    search: &Search<'_>,
-    path: &mut Path,
-    budget: &mut u64,
+    step: &Step<'_>,
+    walk: &mut Walk<'_>,
     found: &mut Vec<Taken>,
 ) -> Result<(), Fault> {
-    let Some(Value::Set(elements)) = value_of(set, search, path, budget)? else {
+    let Some(elements) = walk.elements(set, step.next)? else {
         return Ok(());
     };
-    let count = path.len();
-    for element in elements.items() {
-        let Ok(copy) = element.copy(search.alloc) else {
-            return Err(memory());
-        };
-        path.push(place, copy)?;
-        let looked = look(body, search, path, budget, found);
-        path.truncate(count);
-        looked?;
+    let count = walk.len();
+    for element in elements {
+        walk.bind(place, element)?;
+        let outcome = find_taken(body, step, walk, found);
+        walk.truncate(count);
+        outcome?;
     }
     Ok(())
 }
 
-/// The body under the items of elements, if each has as many as its pattern has names.
+/// Looks at the body under the items of elements, if each has as many as its pattern has names.
 #[cycle(taken)]
-fn look_under_items(
+fn find_by_items(
     body: &Core,
     openings: &[Opening],
     place: Place,
-    search: &Search<'_>,
-    path: &mut Path,
-    budget: &mut u64,
+    step: &Step<'_>,
+    walk: &mut Walk<'_>,
     found: &mut Vec<Taken>,
 ) -> Result<(), Fault> {
-    let count = path.len();
-    let items = match opened(search.alloc, place, openings, path.values()) {
-        Ok(items) => items,
-        Err(fault) if fault.code == FaultCode::Memory => return Err(fault),
-        Err(_) => return Ok(()),
-    };
-    for opening in openings {
-        path.hide(opening.name);
+    let count = walk.len();
+    if !walk.open(place, openings)? {
+        return Ok(());
     }
-    for item in items {
-        path.push(place, item)?;
-    }
-    let looked = look(body, search, path, budget, found);
-    path.truncate(count);
-    looked
+    let outcome = find_taken(body, step, walk, found);
+    walk.truncate(count);
+    outcome
 }
 
-/// A part that isn't looked into.
-fn look_at_one(
-    part: &Core,
-    search: &Search<'_>,
-    path: &mut Path,
-    budget: &mut u64,
+/// Finds the parts of one conjunct.
+#[cycle(taken)]
+fn find_at(
+    conjuncts: &[Core],
+    index: usize,
+    step: &Step<'_>,
+    walk: &mut Walk<'_>,
     found: &mut Vec<Taken>,
 ) -> Result<(), Fault> {
-    if let Some(Value::Truth(true)) = value_of(part, search, path, budget)? {
-        match path.taken(search.alloc, part.place()) {
-            Ok(taken) => found.push(taken)?,
-            Err(_) => return Err(memory()),
-        }
+    match conjuncts.get(index) {
+        Some(conjunct) => find_taken(conjunct, step, walk, found),
+        None => Ok(()),
+    }
+}
+
+fn add_if_true(
+    part: &Core,
+    step: &Step<'_>,
+    walk: &mut Walk<'_>,
+    found: &mut Vec<Taken>,
+) -> Result<(), Fault> {
+    if !step.skips(part) && walk.truth(part, step.next)? == Some(true) {
+        add(part, step, walk, found)?;
     }
     Ok(())
 }
 
-/// The value of an expression; none where it is a fault, or where nothing is left of the budget.
-fn value_of(
-    core: &Core,
-    search: &Search<'_>,
-    path: &mut Path,
-    budget: &mut u64,
-) -> Result<Option<Value>, Fault> {
-    if *budget == 0 {
-        return Ok(None);
-    }
-    *budget -= 1;
-    match eval(
-        search.alloc,
-        core,
-        path.values(),
-        Some(search.now),
-        search.next,
-    ) {
-        Ok(value) => Ok(Some(value)),
-        Err(fault) if fault.code == FaultCode::Memory => Err(fault),
-        Err(_) => Ok(None),
-    }
+fn add(part: &Core, step: &Step<'_>, walk: &Walk<'_>, found: &mut Vec<Taken>) -> Result<(), Fault> {
+    found.push(Taken {
+        place: part.place(),
+        within: step.within,
+        chosen: walk.chosen()?,
+    })?;
+    Ok(())
 }

@@ -8,18 +8,40 @@ use tla_search::SearchError;
 use tla_value::ValueError;
 
 #[test]
-fn errors_are_told_by_their_codes(rt: HostRuntime) -> Result<(), Fail> {
-    let told = format!(in rt.alloc();
-        "{} {} {} {} {} {} {}",
+fn values_errors_are_their_codes(rt: HostRuntime) -> Result<(), Fail> {
+    let texts = format!(in rt.alloc();
+        "{} {} {}",
+        ValueError::TooMany,
+        ValueError::TooDeep,
+        ValueError::Memory,
+    )?;
+    assert!(rt; texts.as_str() == "V1 V2 V3");
+    Ok(())
+}
+
+#[test]
+fn boards_and_searches_errors_are_their_codes(rt: HostRuntime) -> Result<(), Fail> {
+    let texts = format!(in rt.alloc();
+        "{} {} {}",
         BoardError::Memory,
         SearchError::Memory,
         SearchError::NoWorker,
-        ValueError::Memory,
-        FaultCode::WrongKind,
-        FaultCode::Memory,
-        LineFault::Memory,
     )?;
-    assert!(rt; told.as_str() == "B1 S1 S2 V3 E1 E16 tlacheck: out of memory\n");
+    assert!(rt; texts.as_str() == "B1 S1 S2");
+    Ok(())
+}
+
+#[test]
+fn faults_are_their_codes(rt: HostRuntime) -> Result<(), Fail> {
+    let texts = format!(in rt.alloc(); "{} {}", FaultCode::WrongKind, FaultCode::Memory)?;
+    assert!(rt; texts.as_str() == "E1 E16");
+    Ok(())
+}
+
+#[test]
+fn faults_of_a_line_are_lines(rt: HostRuntime) -> Result<(), Fail> {
+    let texts = format!(in rt.alloc(); "{}{}", LineFault::Number, LineFault::Memory)?;
+    assert!(rt; texts.as_str() == "tlacheck: bad number\ntlacheck: out of memory\n");
     assert!(rt; !LineFault::Memory.is_help());
     Ok(())
 }

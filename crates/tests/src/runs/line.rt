@@ -2,6 +2,7 @@
 
 use std::test::Fail;
 use tla_check::{Line, LineFault, read_line};
+use tla_line::{NumberOption, is_quiet, read_words};
 
 /// Words, and what they name.
 #[derive(Clone, Copy)]
@@ -13,6 +14,10 @@ struct Row {
     cut: u64,
     limit: u64,
     quiet: bool,
+    full: bool,
+    coverage: bool,
+    json: Option<&'static str>,
+    dot: Option<&'static str>,
 }
 
 const PLAIN: Row = Row {
@@ -23,9 +28,13 @@ const PLAIN: Row = Row {
     cut: 1024,
     limit: 16_777_216,
     quiet: false,
+    full: false,
+    coverage: false,
+    json: None,
+    dot: None,
 };
 
-static ROWS: [Row; 10] = [
+static ROWS: [Row; 15] = [
     PLAIN,
     Row {
         words: &["tlacheck", "M.tla", "M.cfg"],
@@ -102,6 +111,47 @@ static ROWS: [Row; 10] = [
         words: &["tlacheck", "--explain", "M", "C"],
         ..PLAIN
     },
+    Row {
+        words: &["tlacheck", "--full", "M", "C"],
+        full: true,
+        ..PLAIN
+    },
+    Row {
+        words: &["tlacheck", "M", "C", "--coverage"],
+        coverage: true,
+        ..PLAIN
+    },
+    Row {
+        words: &["tlacheck", "M", "C", "--json", "out.json"],
+        json: Some("out.json"),
+        ..PLAIN
+    },
+    Row {
+        words: &["tlacheck", "M", "--dot=out.dot", "C"],
+        dot: Some("out.dot"),
+        ..PLAIN
+    },
+    Row {
+        words: &[
+            "tlacheck",
+            "--coverage",
+            "--json=a",
+            "--dot",
+            "b",
+            "--full",
+            "--quiet",
+            "--",
+            "M",
+            "--json",
+        ],
+        config: "--json",
+        quiet: true,
+        full: true,
+        coverage: true,
+        json: Some("a"),
+        dot: Some("b"),
+        ..PLAIN
+    },
 ];
 
 /// Whether a line is what its row names.
@@ -112,6 +162,10 @@ fn is_named(line: &Line<'_>, row: &Row) -> bool {
         && line.options.cut() == row.cut
         && line.options.limit() == row.limit
         && line.quiet == row.quiet
+        && line.full == row.full
+        && line.coverage == row.coverage
+        && line.json == row.json
+        && line.dot == row.dot
 }
 
 #[test]
@@ -124,7 +178,7 @@ fn names_files_and_numbers(rt: HostRuntime) -> Result<(), Fail> {
 }
 
 /// Words that name no line, and whether a number is at fault: a text that is none, or one outside its limits.
-static REFUSED: [(&[&str], bool); 18] = [
+static REFUSED: [(&[&str], bool); 22] = [
     (&["tlacheck", "M.tla", "M.cfg", "--workers", "0"], true),
     (&["tlacheck", "M.tla", "M.cfg", "--workers", "65"], true),
     (&["tlacheck", "M.tla", "M.cfg", "--workers", "x"], true),
@@ -158,6 +212,13 @@ static REFUSED: [(&[&str], bool); 18] = [
         false,
     ),
     (&["tlacheck", "M.tla", "M.cfg", "--quiet=yes"], false),
+    (&["tlacheck", "M.tla", "M.cfg", "--full=yes"], false),
+    (&["tlacheck", "M.tla", "M.cfg", "--json"], false),
+    (
+        &["tlacheck", "M.tla", "M.cfg", "--dot", "a", "--dot", "b"],
+        false,
+    ),
+    (&["tlacheck", "M.tla", "--workers", "0"], false),
 ];
 
 #[test]
@@ -171,4 +232,80 @@ fn refuses_words_and_numbers(rt: HostRuntime) {
         };
         assert!(rt; is_as_wanted, "{words:?}");
     }
+}
+
+/// Words that `clap` takes, and the option that has a bad number: the first of the three.
+static BAD_NUMBERS: [(&[&str], NumberOption); 4] = [
+    (
+        &["tlacheck", "M", "C", "--workers=65"],
+        NumberOption::Workers,
+    ),
+    (&["tlacheck", "--cut", "0", "M", "C"], NumberOption::Cut),
+    (
+        &["tlacheck", "M", "C", "--max-states", "many"],
+        NumberOption::MaxStates,
+    ),
+    (
+        &["tlacheck", "M", "C", "--max-states=0", "--cut=0"],
+        NumberOption::Cut,
+    ),
+];
+
+#[test]
+fn names_the_option_of_a_bad_number(rt: HostRuntime) {
+    for &(words, option) in &BAD_NUMBERS {
+        let named = read_words(rt.alloc(), words).err();
+        assert!(rt;
+            named.is_some_and(|no_line| no_line.bad_number == Some(option)),
+            "{words:?}"
+        );
+    }
+    let lacking = read_words(rt.alloc(), &["tlacheck", "M", "--cut=0"]).err();
+    assert!(rt; lacking.is_some_and(|no_line| no_line.bad_number.is_none()));
+}
+
+/// Words, an option, and whether the words give it a bad number.
+static GIVEN: [(&[&str], NumberOption, bool); 8] = [
+    (
+        &["tlacheck", "M.tla", "--cut", "0"],
+        NumberOption::Cut,
+        true,
+    ),
+    (&["tlacheck", "M.tla", "--cut=x"], NumberOption::Cut, true),
+    (
+        &["tlacheck", "M.tla", "--cut", "65537"],
+        NumberOption::Cut,
+        true,
+    ),
+    (
+        &["tlacheck", "M.tla", "--cut", "65536"],
+        NumberOption::Cut,
+        false,
+    ),
+    (&["tlacheck", "M.tla", "--cut"], NumberOption::Cut, false),
+    (
+        &["tlacheck", "M.tla", "--cutter=0"],
+        NumberOption::Cut,
+        false,
+    ),
+    (&["tlacheck", "--cut", "0"], NumberOption::Workers, false),
+    (
+        &["tlacheck", "--max-states=16777217"],
+        NumberOption::MaxStates,
+        true,
+    ),
+];
+
+#[test]
+fn finds_a_bad_number_in_words_that_name_no_line(rt: HostRuntime) {
+    for &(words, option, is_bad) in &GIVEN {
+        assert!(rt; option.is_bad_in(words) == is_bad, "{words:?}");
+    }
+}
+
+#[test]
+fn finds_the_word_for_quiet(rt: HostRuntime) {
+    assert!(rt; is_quiet(&["tlacheck", "M.tla", "--quiet"]));
+    assert!(rt; !is_quiet(&["tlacheck", "--quiet=yes", "-quiet"]));
+    assert!(rt; !is_quiet(&[]));
 }

@@ -6,7 +6,7 @@ use std::io::Eprint;
 use std::sync::atomic::{AtomicU64, Ordering};
 use std::test::Fail;
 use std::time::{Clock, Duration, Instant};
-use tla_progress::{Progress, Seen, Took};
+use tla_progress::{Greatest, GreatestLevel, NoMemory, Progress, Seen, Took};
 use tla_workers::{Gate, GatePlace, Pass};
 
 /// A clock, and a standard error that counts its lines.
@@ -37,53 +37,83 @@ impl Eprint for Seconds {
     }
 }
 
-/// How many lines a search of twelve levels tells, each of one piece. It leaves them at 1 to 12 seconds.
-fn lines(is_told: bool) -> u64 {
+/// A search of this many levels, each of three pieces. It leaves a piece at each second from the first one on.
+fn search_levels(rt: &Seconds, began: Option<Instant>, levels: u64, greatest: &GreatestLevel) {
+    let gate = Progress::new(rt, NoMemory, began, 10, greatest);
+    for number in 0..levels.saturating_mul(3) {
+        let place = GatePlace {
+            level: number / 3,
+            pass: Pass::Invariants,
+            piece: number % 3,
+        };
+        gate.enter(&place);
+        gate.leave(&place, false);
+    }
+}
+
+/// How many lines a search of this many levels writes, and which of them is the greatest.
+fn lines(is_shown: bool, levels: u64) -> (u64, Option<Greatest>) {
     let rt = Seconds {
         looks: AtomicU64::new(0),
         lines: AtomicU64::new(0),
     };
     let began = Instant::now(&rt).ok();
-    let gate = Progress::new(&rt, if is_told { began } else { None }, 10);
-    for level in 0..12u64 {
-        let place = GatePlace {
-            level,
-            pass: Pass::Invariants,
-            piece: 0,
-        };
-        gate.enter(&place);
-        gate.leave(&place, false);
-    }
-    rt.lines.load(Ordering::SeqCst)
+    let greatest = GreatestLevel::new();
+    search_levels(&rt, if is_shown { began } else { None }, levels, &greatest);
+    (rt.lines.load(Ordering::SeqCst), greatest.greatest(10))
 }
 
 #[test]
-fn tells_when_it_is_due(rt: HostRuntime) {
+fn writes_when_it_is_due(rt: HostRuntime) {
+    const FIRST: Option<Greatest> = Some(Greatest {
+        level: 1,
+        states: 30,
+    });
     // At 2, 7 and 12 seconds.
-    assert!(rt; lines(true) == 3);
-    assert!(rt; lines(false) == 0);
+    assert!(rt; lines(true, 4) == (3, FIRST));
+    // At 2, 7, .. 62 seconds, then at 92, 122 and 152.
+    assert!(rt; lines(true, 53) == (16, FIRST));
+    assert!(rt; lines(false, 53) == (0, None));
 }
 
 const SEEN: Seen = Seen {
+    seconds: 7,
     levels: 3,
+    pass: Pass::Steps,
     states: 2048,
     left: Some(1024),
     per_second: 500,
+    memory: Some(3072),
 };
 
-const TOLD: &str =
-    "tlacheck: level 3, at least 2048 states found, 500 a second, at most 1024 left in the level";
+const SHOWN: &str =
+    "tlacheck: 7 s, level 3, steps: at least 2048 states found, at most 1024 left in the level, 500 a second, 3 MB";
+
+const TOOK: Took = Took {
+    milliseconds: 2500,
+    levels: 12,
+    states: 5000,
+    greatest: Some(Greatest {
+        level: 9,
+        states: 2048,
+    }),
+};
+
+const TOOK_SHOWN: &str =
+    "tlacheck: 12 levels, 5000 states in 2 s, 2000 a second; level 9 is the greatest, with at most 2048 states";
 
 #[test]
 fn the_lines(rt: HostRuntime) -> Result<(), Fail> {
-    assert!(rt; format!(in rt.alloc(); "{SEEN}")?.as_str() == TOLD);
+    assert!(rt; format!(in rt.alloc(); "{SEEN}")?.as_str() == SHOWN);
+    assert!(rt; format!(in rt.alloc(); "{TOOK}")?.as_str() == TOOK_SHOWN);
     let clock = Seconds {
         looks: AtomicU64::new(0),
         lines: AtomicU64::new(0),
     };
     let began = Instant::now(&clock).ok();
-    assert!(rt; Took::since(&clock, began).is_none());
-    let took = Took::since(&clock, began).ok_or("none")?;
-    assert!(rt; format!(in rt.alloc(); "{took}")?.as_str() == "tlacheck: took 2 seconds");
+    assert!(rt; Took::since(&clock, began, 2, 6, None).is_none());
+    let took = Took::since(&clock, began, 2, 6, None).ok_or("none")?;
+    let shown = "tlacheck: 2 levels, 6 states in 2 s, 3 a second";
+    assert!(rt; format!(in rt.alloc(); "{took}")?.as_str() == shown);
     Ok(())
 }

@@ -1,14 +1,18 @@
-//! What each run writes to its two writers, and its status. The reports were worked out by hand.
+//! What each run writes to its two writers and to the files that it is asked for, and its status. The reports were worked
+//! out by hand.
 
-use crate::runs::line_texts::{BAD_NUMBER, HELP, MISSING};
+use crate::runs::line_texts::{
+    HELP, MISSING, MISSING_AND_BAD_CUT, MISSING_BESIDE, UNKNOWN_OPTION, VERSION,
+};
 use crate::writer::{End, Narrow};
 use std::alloc::{AllocError, Global};
+use std::cell::{Cell, RefCell};
 use std::io;
 use std::io::{ErrorKind, Read, Write};
 use std::sync::Wait;
 use std::test::Fail;
 use std::thread::Threads;
-use tla_run::{Checked, Host, Line, NoGate, run};
+use tla_run::{Checked, Host, Inputs, Line, NoGate, run};
 
 // A file of memory, one whose reading fails, one without an end, and one that is a folder.
 #[derive(Clone, Copy)]
@@ -29,14 +33,42 @@ impl Read for Source<'_> {
     }
 }
 
-// Files by their names, and what is told where it is explained.
+/// A file that was created. What is written to it is kept by its host.
+#[derive(Drop)]
+struct Kept<'a> {
+    texts: &'a RefCell<Vec<u8>>,
+    is_full: bool,
+}
+
+impl Write for Kept<'_> {
+    fn write(&mut self, buf: &[u8]) -> io::Result<usize> {
+        if self.is_full {
+            return Err(io::Error::from(ErrorKind::StorageFull));
+        }
+        match self.texts.try_borrow_mut() {
+            Ok(mut texts) => texts.extend_from_slice(buf)?,
+            Err(_) => return Err(io::Error::from(ErrorKind::Other)),
+        }
+        Ok(buf.len())
+    }
+
+    fn flush(&mut self) -> io::Result<()> {
+        Ok(())
+    }
+}
+
+/// Files by their names, what was written to those that were created, and how often a gate was asked for.
 #[derive(Drop)]
 struct Memory<'a> {
     files: &'a [(&'a str, Source<'a>)],
+    texts: &'a RefCell<Vec<u8>>,
+    gates: &'a Cell<u64>,
 }
 
 impl<'a> Host for Memory<'a> {
     type File = Source<'a>;
+
+    type NewFile = Kept<'a>;
 
     type Gate = NoGate;
 
@@ -48,19 +80,57 @@ impl<'a> Host for Memory<'a> {
         }
     }
 
+    fn create(&self, name: &str) -> io::Result<Kept<'a>> {
+        match name {
+            "nowhere/out" => Err(io::Error::from(ErrorKind::NotFound)),
+            "locked" => Err(io::Error::from(ErrorKind::PermissionDenied)),
+            _ => Ok(Kept {
+                texts: self.texts,
+                is_full: name == "full",
+            }),
+        }
+    }
+
     fn gate(&self, _line: &Line<'_>) -> NoGate {
+        self.gates.set(self.gates.get().saturating_add(1));
         NoGate
     }
 
     fn explain<E: Write>(
         &self,
         err: &mut E,
-        line: &Line<'_>,
-        _module: &[u8],
-        _config: &[u8],
+        inputs: &Inputs<'_>,
         _checked: &Checked,
+        _gate: &NoGate,
     ) {
-        let _ = writeln!(err, "{} under {}", line.module, line.config);
+        let line = inputs.line;
+        let full = if line.full { ", in full" } else { "" };
+        let coverage = if line.coverage { ", counted" } else { "" };
+        let _ = writeln!(err, "{} under {}{full}{coverage}", line.module, line.config);
+    }
+
+    fn write_document(
+        &self,
+        file: &mut Kept<'a>,
+        inputs: &Inputs<'_>,
+        checked: &Checked,
+    ) -> io::Result<()> {
+        let status = checked.status();
+        writeln!(
+            file,
+            "document of {} with status {status}",
+            inputs.line.module
+        )
+    }
+
+    fn write_graph(
+        &self,
+        file: &mut Kept<'a>,
+        inputs: &Inputs<'_>,
+        checked: &Checked,
+    ) -> io::Result<()> {
+        let status = checked.status();
+        writeln!(file, "graph of {} with status {status}", inputs.line.module)
     }
 }
 
@@ -137,13 +207,14 @@ static FILES: [(&str, Source<'static>); 12] = [
     ("Folder.tla", Source::Folder),
 ];
 
-/// Words, the status of a run on them, and what goes to its two writers.
+/// Words, the status of a run on them, and what goes to its two writers and to the files that it creates.
 #[derive(Clone, Copy)]
 struct Row {
     words: &'static [&'static str],
     status: u8,
     report: &'static str,
-    told: &'static str,
+    said: &'static str,
+    written: &'static str,
 }
 
 /// A report that is explained.
@@ -151,7 +222,8 @@ const EXPLAINED: Row = Row {
     words: &["tlacheck", "M.tla", "M.cfg"],
     status: 0,
     report: "No error.\nLevels 5, states 5.\n",
-    told: "M.tla under M.cfg\n",
+    said: "M.tla under M.cfg\n",
+    written: "",
 };
 
 /// No report.
@@ -159,23 +231,20 @@ const SILENT: Row = Row {
     words: &[],
     status: 21,
     report: "",
-    told: "",
+    said: "",
+    written: "",
 };
 
-const UNKNOWN_OPTION: &str = "error: unexpected argument '--depth' found
-
-  tip: to pass '--depth' as a value, use '-- --depth'
-
-Usage: tlacheck [OPTIONS] <MODULE> [CONFIG]
-
-For more information, try '--help'.
-";
-
-static ROWS: [Row; 26] = [
+static REPORTED: [Row; 15] = [
     EXPLAINED,
     Row {
         words: &["tlacheck", "M.tla", "M.cfg", "--quiet", "--explain"],
-        told: "",
+        said: "",
+        ..EXPLAINED
+    },
+    Row {
+        words: &["tlacheck", "M.tla", "M.cfg", "--full", "--coverage"],
+        said: "M.tla under M.cfg, in full, counted\n",
         ..EXPLAINED
     },
     Row {
@@ -188,7 +257,7 @@ static ROWS: [Row; 26] = [
         words: &["tlacheck", "Chain.tla", "M.cfg", "--explain"],
         status: 10,
         report: "Invariant Inv is false.\nState 1:\n/\\ x = 0\nState 2:\n/\\ x = 1\nLevels 2, states 2.\n",
-        told: "Chain.tla under M.cfg\n",
+        said: "Chain.tla under M.cfg\n",
         ..EXPLAINED
     },
     Row {
@@ -228,57 +297,173 @@ static ROWS: [Row; 26] = [
         ..SILENT
     },
     Row {
-        words: &["tlacheck", "M.tla"],
+        words: &["tlacheck", "M.tla", "M.cfg", "--json", "a"],
+        written: "document of M.tla with status 0\n",
         ..EXPLAINED
     },
     Row {
-        words: &["tlacheck", "--workers", "2", "--", "M.tla"],
-        ..EXPLAINED
-    },
-    Row {
-        words: &["tlacheck", "Lonely.tla"],
-        told: "tlacheck: cannot read Lonely.cfg\ncause: there is no such file\n",
+        words: &[
+            "tlacheck",
+            "Chain.tla",
+            "Chain.cfg",
+            "--quiet",
+            "--dot",
+            "a",
+            "--json",
+            "b",
+        ],
+        status: 11,
+        report: "Deadlock.\nState 1:\n/\\ x = 0\nState 2:\n/\\ x = 1\nLevels 2, states 2.\n",
+        written: "document of Chain.tla with status 11\ngraph of Chain.tla with status 11\n",
         ..SILENT
     },
     Row {
+        words: &["tlacheck", "M.tla", "M.cfg", "--json", "full", "--dot", "a"],
+        said: "M.tla under M.cfg\ntlacheck: cannot write full\ncause: a write failed\n",
+        written: "graph of M.tla with status 0\n",
+        ..EXPLAINED
+    },
+    Row {
+        words: &["tlacheck", "M.tla", "M.cfg", "--quiet", "--dot", "full"],
+        said: "",
+        ..EXPLAINED
+    },
+];
+
+static UNREAD: [Row; 13] = [
+    Row {
         words: &["tlacheck", "N.tla", "N.cfg"],
-        told: "tlacheck: cannot read N.tla\ncause: there is no such file\n",
+        said: "tlacheck: cannot read N.tla\ncause: there is no such file\n",
+        ..SILENT
+    },
+    Row {
+        words: &["tlacheck", "M", "M.cfg"],
+        said: "tlacheck: cannot read M\ncause: there is no such file\nhint: did you mean M.tla?\n",
+        ..SILENT
+    },
+    Row {
+        words: &["tlacheck", "M.", "M.cfg"],
+        said: "tlacheck: cannot read M.\ncause: there is no such file\nhint: did you mean M.tla?\n",
+        ..SILENT
+    },
+    Row {
+        words: &["tlacheck", "M.tla", "M"],
+        said: "tlacheck: cannot read M\ncause: there is no such file\nhint: did you mean M.cfg?\n",
+        ..SILENT
+    },
+    Row {
+        words: &["tlacheck", "M", "M.cfg", "--quiet"],
+        said: "tlacheck: cannot read M\n",
         ..SILENT
     },
     Row {
         words: &["tlacheck", "M.tla", "N.cfg", "--quiet"],
-        told: "tlacheck: cannot read N.cfg\ncause: there is no such file\n",
+        said: "tlacheck: cannot read N.cfg\n",
         ..SILENT
     },
     Row {
         words: &["tlacheck", "Folder.tla", "M.cfg"],
-        told: "tlacheck: cannot read Folder.tla\ncause: it is a folder\n",
+        said: "tlacheck: cannot read Folder.tla\ncause: it is a folder\n",
         ..SILENT
     },
     Row {
         words: &["tlacheck", "Broken.tla", "M.cfg"],
-        told: "tlacheck: cannot read Broken.tla\ncause: it can't be opened, or a read failed\n",
+        said: "tlacheck: cannot read Broken.tla\ncause: it can't be opened, or a read failed\n",
         ..SILENT
     },
     Row {
         words: &["tlacheck", "M.tla", "Endless.cfg"],
-        told: "tlacheck: cannot read Endless.cfg\ncause: no end within 1000000 reads\n",
+        said: "tlacheck: cannot read Endless.cfg\ncause: no end within 1000000 reads\n",
+        ..SILENT
+    },
+    Row {
+        words: &["tlacheck", "M.tla", "M.cfg", "--json", "nowhere/out"],
+        said: "tlacheck: cannot write nowhere/out\ncause: its folder isn't there\n",
+        ..SILENT
+    },
+    Row {
+        words: &["tlacheck", "M.tla", "M.cfg", "--dot=locked", "--quiet"],
+        said: "tlacheck: cannot write locked\n",
+        ..SILENT
+    },
+    Row {
+        words: &["tlacheck", "M.tla", "M.cfg", "--dot", "M.tla"],
+        said: "tlacheck: cannot write M.tla\ncause: it is one of the files to check\n",
+        ..SILENT
+    },
+    Row {
+        words: &["tlacheck", "M.tla", "M.cfg", "--dot", "a", "--json", "a"],
+        said: "tlacheck: cannot write a\ncause: --json and --dot name the same file\n",
+        ..SILENT
+    },
+];
+
+static NO_LINE: [Row; 15] = [
+    Row {
+        words: &["tlacheck", "M.tla"],
+        said: MISSING_BESIDE,
+        ..SILENT
+    },
+    Row {
+        words: &["tlacheck", "--workers", "2", "--", "M.tla"],
+        said: MISSING_BESIDE,
+        ..SILENT
+    },
+    Row {
+        words: &["tlacheck", "M.tla", "--quiet"],
+        said: MISSING,
+        ..SILENT
+    },
+    Row {
+        words: &["tlacheck", "Lonely.tla"],
+        said: MISSING,
+        ..SILENT
+    },
+    Row {
+        words: &["tlacheck", "M", "--cut", "2"],
+        said: MISSING,
+        ..SILENT
+    },
+    Row {
+        words: &["tlacheck", "M", "--cut", "0"],
+        said: MISSING_AND_BAD_CUT,
+        ..SILENT
+    },
+    Row {
+        words: &["tlacheck", "M", "--cut", "0", "--quiet"],
+        said: MISSING,
         ..SILENT
     },
     Row {
         words: &["tlacheck", "M.tla", "M.cfg", "--depth"],
-        told: UNKNOWN_OPTION,
+        said: UNKNOWN_OPTION,
         ..SILENT
     },
     Row {
         words: &["tlacheck", "M.tla", "M.cfg", "--workers", "0"],
-        told: BAD_NUMBER,
+        said: "tlacheck: bad number\nhint: --workers takes a number from 1 to 64\n",
+        ..SILENT
+    },
+    Row {
+        words: &["tlacheck", "M", "C", "--cut", "0"],
+        said: "tlacheck: bad number\nhint: --cut takes a number from 1 to 65536\n",
+        ..SILENT
+    },
+    Row {
+        words: &["tlacheck", "M", "C", "--max-states=many", "--quiet"],
+        said: "tlacheck: bad number\n",
         ..SILENT
     },
     Row {
         words: &["tlacheck", "--version"],
         status: 0,
-        report: "tlacheck 0.1.0\n",
+        report: VERSION,
+        ..SILENT
+    },
+    Row {
+        words: &["tlacheck", "M", "-V"],
+        status: 0,
+        report: VERSION,
         ..SILENT
     },
     Row {
@@ -293,22 +478,6 @@ static ROWS: [Row; 26] = [
         report: HELP,
         ..SILENT
     },
-    Row {
-        words: &["tlacheck", "M", "-V"],
-        status: 0,
-        report: "tlacheck 0.1.0\n",
-        ..SILENT
-    },
-    Row {
-        words: &["tlacheck", "M", "C", "--cut", "0"],
-        told: BAD_NUMBER,
-        ..SILENT
-    },
-    Row {
-        words: &["tlacheck", "M", "--cut", "2"],
-        told: MISSING,
-        ..SILENT
-    },
 ];
 
 /// The words of a call.
@@ -320,50 +489,128 @@ fn words_of(alloc: Global, words: &[&str]) -> Result<Vec<String>, AllocError> {
     Ok(list)
 }
 
-/// Whether a run on these words does what the row says.
-fn runs_as_wanted<R: Threads + Wait + Sync>(
+/// What a run writes, and what it asks its host for.
+#[derive(Drop)]
+struct Outcome {
+    status: u8,
+    out: Vec<u8>,
+    err: Vec<u8>,
+    written: Vec<u8>,
+    gates: u64,
+}
+
+/// The outcome of a run on these words.
+fn outcome_of<R: Threads + Wait + Sync>(
     rt: &R,
     alloc: Global,
-    words: &[String],
-    row: &Row,
-) -> bool {
-    let host = Memory { files: &FILES };
+    words: &[&str],
+) -> Result<Outcome, AllocError> {
+    let words = words_of(alloc, words)?;
+    let texts = RefCell::new(Vec::new(alloc));
+    let gates = Cell::new(0);
+    let host = Memory {
+        files: &FILES,
+        texts: &texts,
+        gates: &gates,
+    };
     let mut out = Vec::new(alloc);
     let mut err = Vec::new(alloc);
-    let status = run(rt, alloc, words, &host, &mut out, &mut err);
-    status == row.status
-        && out.as_slice() == row.report.as_bytes()
-        && err.as_slice() == row.told.as_bytes()
+    let status = run(rt, alloc, &words, &host, &mut out, &mut err);
+    drop(host);
+    Ok(Outcome {
+        status,
+        out,
+        err,
+        written: texts.into_inner(),
+        gates: gates.get(),
+    })
+}
+
+/// The first of the rows on whose words a run doesn't write what the row says.
+fn first_wrong<R: Threads + Wait + Sync>(
+    rt: &R,
+    alloc: Global,
+    rows: &'static [Row],
+) -> Result<Option<&'static Row>, AllocError> {
+    for row in rows {
+        let outcome = outcome_of(rt, alloc, row.words)?;
+        let is_as_wanted = outcome.status == row.status
+            && outcome.out.as_slice() == row.report.as_bytes()
+            && outcome.err.as_slice() == row.said.as_bytes()
+            && outcome.written.as_slice() == row.written.as_bytes();
+        if !is_as_wanted {
+            return Ok(Some(row));
+        }
+    }
+    Ok(None)
 }
 
 #[test]
-fn runs_end_as_wanted(rt: HostRuntime) -> Result<(), Fail> {
-    for row in &ROWS {
-        let words = words_of(rt.alloc(), row.words)?;
-        assert!(rt;
-            runs_as_wanted(&rt, rt.alloc(), &words, row),
-            "{:?}",
-            row.words
-        );
-    }
+fn runs_with_a_report(rt: HostRuntime) -> Result<(), Fail> {
+    let wrong = first_wrong(&rt, rt.alloc(), &REPORTED)?;
+    assert!(rt; wrong.is_none(), "{:?}", wrong.map(|row| row.words));
     Ok(())
+}
+
+#[test]
+fn runs_on_files_that_fail(rt: HostRuntime) -> Result<(), Fail> {
+    let wrong = first_wrong(&rt, rt.alloc(), &UNREAD)?;
+    assert!(rt; wrong.is_none(), "{:?}", wrong.map(|row| row.words));
+    Ok(())
+}
+
+#[test]
+fn runs_on_words_that_name_no_line(rt: HostRuntime) -> Result<(), Fail> {
+    let wrong = first_wrong(&rt, rt.alloc(), &NO_LINE)?;
+    assert!(rt; wrong.is_none(), "{:?}", wrong.map(|row| row.words));
+    Ok(())
+}
+
+/// Under `--quiet` no gate is asked for, so no clock is read.
+#[test]
+fn a_quiet_run_asks_for_no_gate(rt: HostRuntime) -> Result<(), Fail> {
+    let alloc = rt.alloc();
+    let open = outcome_of(&rt, alloc, &["tlacheck", "M.tla", "M.cfg"])?;
+    assert!(rt; open.gates == 1);
+    let quiet = outcome_of(&rt, alloc, &["tlacheck", "M.tla", "M.cfg", "--quiet"])?;
+    assert!(rt; quiet.gates == 0);
+    Ok(())
+}
+
+/// The status, how many bytes of the report went out, and what is said of it, where its writer has this much room.
+fn cut_short<R: Threads + Wait + Sync>(
+    rt: &R,
+    alloc: Global,
+    room: usize,
+    words: &[&str],
+) -> Result<(u8, usize, Vec<u8>), AllocError> {
+    let words = words_of(alloc, words)?;
+    let texts = RefCell::new(Vec::new(alloc));
+    let gates = Cell::new(0);
+    let host = Memory {
+        files: &FILES,
+        texts: &texts,
+        gates: &gates,
+    };
+    let mut out = Narrow::new(alloc, usize::MAX, room, End::TakesNone);
+    let mut err = Vec::new(alloc);
+    let status = run(rt, alloc, &words, &host, &mut out, &mut err);
+    Ok((status, out.taken.len(), err))
 }
 
 #[test]
 fn a_failed_write_ends_it(rt: HostRuntime) -> Result<(), Fail> {
     let alloc = rt.alloc();
-    let host = Memory { files: &FILES };
-    let words = words_of(alloc, EXPLAINED.words)?;
-    for room in [0, 9, 29, 30] {
-        let mut out = Narrow::new(alloc, usize::MAX, room, End::TakesNone);
-        let mut err = Vec::new(alloc);
-        let status = run(&rt, alloc, &words, &host, &mut out, &mut err);
-        assert!(rt; out.taken.len() == room, "{room}");
-        if room == 30 {
-            assert!(rt; status == 0);
-        } else {
-            assert!(rt; status == 21 && err.is_empty(), "{room}");
-        }
+    let open = ["tlacheck", "M.tla", "M.cfg"];
+    let quiet = ["tlacheck", "M.tla", "M.cfg", "--quiet"];
+    for room in [0, 9, 29] {
+        let (status, taken, said) = cut_short(&rt, alloc, room, &open)?;
+        assert!(rt; status == 21 && taken == room, "{room}");
+        assert!(rt; said.as_slice() == b"tlacheck: cannot write the report\n".as_slice());
+        let (status, taken, said) = cut_short(&rt, alloc, room, &quiet)?;
+        assert!(rt; status == 21 && taken == room && said.is_empty(), "{room}");
     }
+    let (status, taken, _) = cut_short(&rt, alloc, 30, &open)?;
+    assert!(rt; status == 0 && taken == 30);
     Ok(())
 }

@@ -1,5 +1,5 @@
 -- What a parse of the command gives its five arguments that have a value. Only private functions cite this page.
-use Rattle.std.specs.Prelude.{◌≡◌, ◌≤◌, ◌⊎◌, ℕ, None, Some, true, false, codes, is_some}
+use Rattle.std.specs.Prelude.{◌≡◌, ◌≤◌, ◌⊎◌, ℕ, None, Some, true, false, codes, is_some, ⊤}
 use Rattle.clap.specs.Words.{IsParsedFrom, IsPlainArg, Text, first_value, found_of}
 use Rattle.clap.specs.Facts.{WantsDefault, least_values}
 use Rattle.clap.specs.declared.builder.action.ArgAction.TheVariants.{Set}
@@ -7,6 +7,10 @@ use Rattle.clap.specs.declared.builder.arg.Arg.{Arg}
 use Rattle.clap.specs.declared.builder.command.Command.{Command}
 use Rattle.clap.specs.declared.parser.matches.ArgMatches.{ArgMatches}
 use Rattle.tla_line.specs.CommandLine.{Writes}
+use Rattle.tla_line.specs.declared.line.LineFault.{LineFault}
+use Rattle.tla_line.specs.declared.line.LineFault.TheVariants.{Number}
+use Rattle.tla_line.specs.declared.number.NumberOption.{NumberOption}
+use Rattle.tla_line.specs.declared.number.NumberOption.TheVariants.{Workers, Cut, MaxStates}
 
 -- the matches have a value of this name
 abbrev pub HasValue : ArgMatches → Text → Type 0
@@ -40,3 +44,14 @@ pub record IsArgument (id : Text) (a : Arg) : Type 0 where
 -- the text writes no number
 abbrev pub WritesNoNumber : Text → Type 0
 WritesNoNumber text = (n : ℕ) → Writes text n → ⊥
+
+-- the fault is one that `clap` has, and no number
+abbrev pub IsOfClap : LineFault → Type 0
+IsOfClap Number = ⊥
+IsOfClap _ = ⊤
+
+-- the text of an option, of three
+abbrev pub text_for : NumberOption → Text → Text → Text → Text
+text_for Workers workers cut limit = workers
+text_for Cut workers cut limit = cut
+text_for MaxStates workers cut limit = limit

@@ -1,0 +1,5 @@
+---- MODULE Wrong ----
+VARIABLES x
+Init == x = 0
+Next == y' = x
+====

@@ -1,0 +1,7 @@
+---- MODULE Semaphore ----
+EXTENDS Naturals
+VARIABLES permits, waits
+User == {"u", "v"}
+Init == permits = 1 /\ waits \in [u \in User |-> FALSE]
+Next == UNCHANGED <<permits, waits>>
+====

@@ -1,0 +1,13 @@
+//! Explanations of the answers of a search: false invariants, deadlocks, faults and assumptions.
+#![tactic(auto)]
+
+pub mod answer;
+mod arguments;
+mod cures;
+mod extents;
+mod faults;
+mod kinds;
+mod lacking;
+mod notes;
+mod operands;
+mod why;

@@ -1,0 +1,115 @@
+//! What is worth a note where no error was found.
+
+use crate::why::{tell_blocked, tell_reasons};
+use tla_config::{Statement, parse_config};
+use tla_lex::{Kind, Token};
+use tla_model::StatePredicate;
+use tla_page::definitions::definition_at;
+use tla_page::page::Page;
+use tla_page::places::{core_place, word};
+use tla_search::Counts;
+use tla_steps::{initial_states, is_false_in_all};
+use tla_traces::models::Telling;
+use tla_traces::trace::put_part;
+use tla_value::State;
+
+/// The most states of a level whose constraints are evaluated again.
+const MOST_STATES: u64 = 10_000;
+
+/// Tells what a reader may have missed, where no error was found.
+pub(crate) fn tell(page: &mut Page, telling: &Telling<'_>, counts: &Counts) {
+    if counts.levels == 0 {
+        return note_no_state(page, telling);
+    }
+    if telling.model.invariants().is_empty() {
+        note_no_invariant(page, telling);
+    }
+    if counts.levels == 1 && counts.states <= MOST_STATES {
+        note_constraints(page, telling);
+    }
+    note_fairness(page, telling);
+}
+
+/// Notes that there is no initial state, and why.
+fn note_no_state(page: &mut Page, telling: &Telling<'_>) {
+    page.put_text("note: no state makes the initial predicate TRUE, so nothing was checked\n");
+    tell_blocked(page, telling, "note: ", telling.model.init(), None);
+}
+
+fn note_no_invariant(page: &mut Page, telling: &Telling<'_>) {
+    let sources = telling.sources;
+    page.put(&["note: ", sources.names.configuration, " has no INVARIANT: "]);
+    page.put_text(if telling.model.check_deadlock() {
+        "only deadlock was checked\n"
+    } else {
+        "it was only checked that each expression has a value\n"
+    });
+}
+
+/// Notes each constraint that is FALSE at every initial state.
+fn note_constraints(page: &mut Page, telling: &Telling<'_>) {
+    let model = telling.model;
+    if model.constraints().is_empty() {
+        return;
+    }
+    let states = match initial_states(page.alloc(), model.init(), model.variables().len()) {
+        Ok(states) => states,
+        Err(_) => return page.refuse(),
+    };
+    for constraint in model.constraints() {
+        note_constraint(page, telling, constraint, &states);
+    }
+}
+
+fn note_constraint(
+    page: &mut Page,
+    telling: &Telling<'_>,
+    constraint: &StatePredicate,
+    states: &[State],
+) {
+    match is_false_in_all(page.alloc(), &constraint.core, states) {
+        Ok(true) => {
+            page.put(&["note: constraint '", constraint.name.as_str()]);
+            page.put_text("' is FALSE at every initial state, so no step was taken\n");
+            tell_reasons(page, telling, "note: ", &constraint.core, states.first());
+        }
+        Ok(false) => {}
+        Err(_) => page.refuse(),
+    }
+}
+
+/// Notes fairness in the formula that SPECIFICATION names.
+fn note_fairness(page: &mut Page, telling: &Telling<'_>) {
+    let Ok(config) = parse_config(page.alloc(), telling.sources.configuration) else {
+        return;
+    };
+    for statement in config.statements() {
+        if let Statement::Specification(_, name) = statement {
+            let name = str::from_utf8(name.word.as_bytes()).unwrap_or("");
+            note_fairness_of(page, telling, name);
+        }
+    }
+}
+
+fn note_fairness_of(page: &mut Page, telling: &Telling<'_>, specification: &str) {
+    for token in telling.tokens {
+        let is_fairness = matches!(token.kind, Kind::WeakFairness | Kind::StrongFairness);
+        if is_fairness && is_part_of(telling, token, specification) {
+            page.put_text("note: fairness is passed over, in ");
+            put_part(page, telling, core_place(token.place));
+            page.put_text(": only safety is checked\n");
+            return;
+        }
+    }
+}
+
+/// Whether a token stands in a definition, or in one that this names.
+fn is_part_of(telling: &Telling<'_>, token: &Token, specification: &str) -> bool {
+    let name = definition_at(telling.units, token.place);
+    name == specification
+        || telling.tokens.iter().any(|user| {
+            user.kind == Kind::Name
+                && word(telling.sources.module, user) == name
+                && definition_at(telling.units, user.place) == specification
+        })
+}

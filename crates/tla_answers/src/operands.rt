@@ -1,0 +1,388 @@
+//! What the operands were where an expression faults.
+
+use crate::cures::{hint_field, hint_kind, hint_next};
+use crate::extents::text_of;
+use crate::kinds::{is_record, put_domain, put_kind, wanted_of};
+use crate::why::{put_expression, put_operands, written};
+use tla_core::{Binary, Core, Fault, FaultCode};
+use tla_page::page::Page;
+use tla_search::Part;
+use tla_steps::{Culprit, Operand, culprit_in, culprit_of_reading};
+use tla_traces::binders::put_choices;
+use tla_traces::expressions::expression_of;
+use tla_traces::models::Telling;
+use tla_traces::signs::sign_of;
+use tla_tree::Expr;
+use tla_value::{Arguments, FunValue, State, Value};
+
+/// How many expressions are evaluated to find the node of a fault.
+const BUDGET: u64 = 300_000;
+
+/// The node of a fault, with its text.
+#[derive(Clone, Copy)]
+pub(crate) struct Scene<'a, 'c> {
+    pub(crate) node: &'c Core,
+    pub(crate) expr: Option<&'a Expr>,
+    pub(crate) culprit: &'c Culprit<'c>,
+}
+
+/// Tells what the operands were where a formula faults, and the values of the names that are bound
+/// there.
+pub(crate) fn tell_operands(
+    page: &mut Page,
+    telling: &Telling<'_>,
+    fault: &Fault,
+    part: Part,
+    state: Option<&State>,
+) {
+    let model = telling.model;
+    let alloc = page.alloc();
+    let variables = model.variables().len();
+    let found = match part {
+        Part::Initial => { culprit_of_reading(alloc, model.init(), fault, variables, None, BUDGET) }
+        Part::NextAction => {
+            culprit_of_reading(alloc, model.next(), fault, variables, state, BUDGET)
+        }
+        _ => match predicate_of(telling, part) {
+            Some(predicate) => culprit_in(alloc, predicate, fault, state, BUDGET),
+            None => Ok(None),
+        },
+    };
+    match found {
+        Ok(Some(culprit)) => tell_culprit(page, telling, fault.code, &culprit),
+        Ok(None) => {}
+        Err(_) => page.refuse(),
+    }
+}
+
+/// The expression of an assumption, an invariant or a constraint.
+fn predicate_of<'a>(telling: &Telling<'a>, part: Part) -> Option<&'a Core> {
+    let model = telling.model;
+    match part {
+        Part::Assumption(number) => { model.assumptions().get(number.saturating_sub(1) as usize) }
+        Part::Invariant(index) => match model.invariants().get(index) {
+            Some(predicate) => Some(&predicate.core),
+            None => None,
+        },
+        Part::Constraint(index) => match model.constraints().get(index) {
+            Some(predicate) => Some(&predicate.core),
+            None => None,
+        },
+        Part::Initial | Part::NextAction => None,
+    }
+}
+
+fn tell_culprit(page: &mut Page, telling: &Telling<'_>, code: FaultCode, culprit: &Culprit<'_>) {
+    let Some(&node) = culprit.nodes.last() else {
+        return;
+    };
+    let scene = Scene {
+        node,
+        expr: expression_of(telling.units, node),
+        culprit,
+    };
+    tell_cause(page, telling, code, &scene);
+    if !culprit.chosen.is_empty() {
+        put_choices(page, telling, &culprit.chosen);
+        page.put_text("\n");
+    }
+    match code {
+        FaultCode::WrongKind => hint_kind(page, telling, &scene),
+        FaultCode::NotSet => hint_next(page, telling, &scene),
+        FaultCode::NoField => hint_field(page, &scene),
+        _ => {}
+    }
+}
+
+/// Tells what the operands were, as the code asks for it.
+fn tell_cause<'a>(page: &mut Page, telling: &Telling<'a>, code: FaultCode, scene: &Scene<'a, '_>) {
+    let operands = scene.culprit.operands.as_slice();
+    match (code, operands) {
+        (FaultCode::WrongKind, _) => tell_wrong_kind(page, telling, scene),
+        (FaultCode::OutsideDomain, [function, argument]) => {
+            tell_outside(page, telling, scene, function, argument);
+        }
+        (FaultCode::NoField, [record]) => tell_fields(page, telling, scene, record),
+        (FaultCode::NoChoice, [set]) => tell_no_choice(page, telling, scene, set),
+        (FaultCode::TooMany, _) => tell_too_many(page, telling, scene),
+        (FaultCode::AssertFalse, _) => tell_assert(page, telling, scene),
+        (FaultCode::NotSet, _) => tell_not_set(page, telling, scene),
+        (
+            FaultCode::Overflow
+            | FaultCode::SmallDivisor
+            | FaultCode::NegativeExponent
+            | FaultCode::EmptySequence
+            | FaultCode::OutsideDomain,
+            _,
+        ) => tell_values(page, telling, scene),
+        _ => {}
+    }
+}
+
+/// Tells each operand that isn't of the kind that is wanted.
+fn tell_wrong_kind<'a>(page: &mut Page, telling: &Telling<'a>, scene: &Scene<'a, '_>) {
+    for operand in scene.culprit.operands.iter() {
+        let Some(wanted) = wanted_of(scene.node, operand.number) else {
+            continue;
+        };
+        if !wanted.admits(&operand.value) {
+            put_position(page, scene, operand.number);
+            put_name_of(page, telling, scene, operand);
+            page.put_text(" is ");
+            put_kind(page, &operand.value);
+            page.put(&["; ", wanted.text(), " is wanted\n"]);
+            return;
+        }
+    }
+}
+
+/// Adds the text of an operand after a comma, unless it is its value.
+fn put_name_of<'a>(
+    page: &mut Page,
+    telling: &Telling<'a>,
+    scene: &Scene<'a, '_>,
+    operand: &Operand<'_>,
+) {
+    let Some(expr) = written(telling, scene.expr, operand) else {
+        return;
+    };
+    match text_of(page.alloc(), telling.sources, telling.tokens, expr) {
+        Ok(text) => {
+            if !page.is_text_of(&operand.value, &text) {
+                page.put_text(", ");
+                page.put_bytes(&text);
+                page.put_text(",");
+            }
+        }
+        Err(_) => page.refuse(),
+    }
+}
+
+/// Adds which operand of a node it is: `left of \X`.
+fn put_position(page: &mut Page, scene: &Scene<'_, '_>, number: usize) {
+    let sign = sign_of(scene.node);
+    match scene.node {
+        Core::Unary(_, _, _) | Core::Power(_, _) | Core::Sequences(_, _) => {
+            page.put(&["the operand of ", sign]);
+        }
+        Core::Binary(_, Binary::Append, _, _) | Core::SubSeq(_, _, _, _) | Core::Assert(_, _, _) =>
+            {
+                page.put_text("argument ");
+                page.put_number(number.saturating_add(1) as u128);
+                page.put(&[" of ", sign]);
+            }
+        Core::Apply(_, _, _) => page.put_text("before [ ]"),
+        Core::Field(_, name, _) => page.put(&["before .", name.as_str()]),
+        Core::Except(_, _, _) => page.put_text("before EXCEPT"),
+        Core::If(_, _, _, _) => page.put_text("the condition of IF"),
+        Core::Functions(_, _, _) => page.put_text(if number == 0 {
+            "left of ->"
+        } else {
+            "right of ->"
+        }),
+        Core::ForAll(_, _, _)
+        | Core::ForSome(_, _, _)
+        | Core::Choose(_, _, _)
+        | Core::Filter(_, _, _)
+        | Core::Image(_, _, _)
+        | Core::Function(_, _, _)
+        | Core::Records(_, _) => page.put(&["the set in ", sign]),
+        Core::Conjunction(_, parts) | Core::Disjunction(_, parts) | Core::Product(_, parts)
+            if parts.len() > 2 => {
+            page.put_text("part ");
+            page.put_number(number.saturating_add(1) as u128);
+            page.put(&[" of ", sign]);
+        }
+        _ => page.put(&[if number == 0 { "left of " } else { "right of " }, sign]),
+    }
+}
+
+/// Tells an argument and the domain that it isn't in.
+fn tell_outside<'a>(
+    page: &mut Page,
+    telling: &Telling<'a>,
+    scene: &Scene<'a, '_>,
+    function: &Operand<'_>,
+    argument: &Operand<'_>,
+) {
+    let Value::Fun(value) = &function.value else {
+        return tell_values(page, telling, scene);
+    };
+    page.put_text("the argument");
+    put_name_of(page, telling, scene, argument);
+    page.put_text(" is ");
+    page.put_value(&argument.value);
+    page.put_text("; the domain of ");
+    match written(telling, scene.expr, function) {
+        Some(expr) => put_expression(page, telling, expr),
+        None => page.put_text("the function"),
+    }
+    page.put_text(" is ");
+    put_domain(page, value);
+    page.put_text("\n");
+}
+
+/// Tells the fields that a record has.
+fn tell_fields<'a>(
+    page: &mut Page,
+    telling: &Telling<'a>,
+    scene: &Scene<'a, '_>,
+    record: &Operand<'_>,
+) {
+    let Value::Fun(function) = &record.value else {
+        return;
+    };
+    match written(telling, scene.expr, record) {
+        Some(expr) => put_expression(page, telling, expr),
+        None => page.put_text("the record"),
+    }
+    if is_record(function) {
+        page.put_text(" has the fields ");
+        put_fields(page, function);
+    } else {
+        page.put_text(" is ");
+        put_kind(page, &record.value);
+    }
+    page.put_text("\n");
+}
+
+fn put_fields(page: &mut Page, function: &FunValue) {
+    let Arguments::Listed(keys) = function.arguments() else {
+        return;
+    };
+    for (index, key) in keys.iter().enumerate() {
+        if let Value::Text(name) = key {
+            page.put(&[if index > 0 { ", " } else { "" }, name.as_str()]);
+        }
+    }
+}
+
+/// Tells the set from which nothing could be chosen.
+fn tell_no_choice<'a>(
+    page: &mut Page,
+    telling: &Telling<'a>,
+    scene: &Scene<'a, '_>,
+    set: &Operand<'_>,
+) {
+    page.put_text("no element of ");
+    match written(telling, scene.expr, set) {
+        Some(expr) => put_expression(page, telling, expr),
+        None => page.put_value(&set.value),
+    }
+    page.put_text(" makes the condition TRUE");
+    put_values(page, telling, scene);
+    page.put_text("\n");
+}
+
+/// Tells the operands with their values.
+fn tell_values<'a>(page: &mut Page, telling: &Telling<'a>, scene: &Scene<'a, '_>) {
+    let Some(expr) = scene.expr else {
+        return;
+    };
+    page.put_text("in ");
+    put_expression(page, telling, expr);
+    put_values(page, telling, scene);
+    page.put_text("\n");
+}
+
+fn put_values<'a>(page: &mut Page, telling: &Telling<'a>, scene: &Scene<'a, '_>) {
+    let culprit = scene.culprit;
+    put_operands(
+        page,
+        telling,
+        scene.expr,
+        &culprit.operands,
+        &culprit.chosen,
+    );
+}
+
+/// Tells the text of Assert.
+fn tell_assert<'a>(page: &mut Page, telling: &Telling<'a>, scene: &Scene<'a, '_>) {
+    for operand in scene.culprit.operands.iter() {
+        if operand.number == 0 {
+            if let Some(expr) = written(telling, scene.expr, operand) {
+                put_expression(page, telling, expr);
+                page.put_text(" is FALSE\n");
+            }
+        } else {
+            page.put_text("Assert says ");
+            page.put_value(&operand.value);
+            page.put_text("\n");
+        }
+    }
+}
+
+/// Tells which variable has no value yet.
+fn tell_not_set<'a>(page: &mut Page, telling: &Telling<'a>, scene: &Scene<'a, '_>) {
+    if let Some(expr) = scene.expr {
+        put_expression(page, telling, expr);
+        page.put_text(" has no value yet\n");
+    }
+}
+
+/// Tells how many elements a set would have.
+fn tell_too_many<'a>(page: &mut Page, telling: &Telling<'a>, scene: &Scene<'a, '_>) {
+    let Some(count) = count_of(scene.node, &scene.culprit.operands) else {
+        return;
+    };
+    match scene.expr {
+        Some(expr) => put_expression(page, telling, expr),
+        None => page.put_text("the set"),
+    }
+    page.put_text(" would have ");
+    if count == u128::MAX {
+        page.put_text("more than 10^38");
+    } else {
+        page.put_number(count);
+    }
+    page.put_text(" parts\n");
+}
+
+/// How many elements the set of a node has, if its operands are known.
+fn count_of(node: &Core, operands: &[Operand<'_>]) -> Option<u128> {
+    match (node, operands) {
+        (Core::Binary(_, Binary::Range, _, _), [low, high]) => {
+            range_size(&low.value, &high.value)
+        }
+        (Core::Power(_, _), [set]) => Some(power_of(2, size_of(&set.value)?)),
+        (Core::Functions(_, _, _), [domain, range]) => {
+            Some(power_of(size_of(&range.value)?, size_of(&domain.value)?))
+        }
+        (Core::Product(_, _) | Core::Records(_, _) | Core::Function(_, _, _), _) => {
+            product_of(operands)
+        }
+        _ => None,
+    }
+}
+
+/// How many numbers a range has that isn't empty.
+fn range_size(low: &Value, high: &Value) -> Option<u128> {
+    match (low, high) {
+        (Value::Int(low), Value::Int(high)) => {
+            Some(u128::from(high.abs_diff(*low)).saturating_add(1))
+        }
+        (_, _) => None,
+    }
+}
+
+/// How many elements a set has.
+fn size_of(value: &Value) -> Option<u128> {
+    match value {
+        Value::Set(set) => Some(set.len() as u128),
+        _ => None,
+    }
+}
+
+/// A power, or the greatest number.
+fn power_of(base: u128, exponent: u128) -> u128 {
+    base.saturating_pow(u32::try_from(exponent).unwrap_or(u32::MAX))
+}
+
+/// The product of the sizes of sets, or the greatest number.
+fn product_of(operands: &[Operand<'_>]) -> Option<u128> {
+    let mut count: u128 = 1;
+    for operand in operands {
+        count = count.saturating_mul(size_of(&operand.value)?);
+    }
+    Some(count)
+}

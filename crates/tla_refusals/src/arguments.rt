@@ -1,0 +1,104 @@
+//! Names with the wrong number of arguments.
+
+use crate::finding::Finding;
+use crate::spot::Spot;
+use tla_hints::{closes_bracket, opens_bracket};
+use tla_lex::Kind;
+use tla_page::page::Page;
+use tla_page::units::{Known, Role, known_name};
+
+/// Finds what a name takes that has the wrong number of arguments in a module.
+pub(crate) fn find(finding: &mut Finding, spot: &Spot<'_>, known: &[Known<'_>]) {
+    let name = spot.word(spot.at);
+    let place = spot.place(spot.at);
+    let given = given_arguments(spot);
+    let Some(one) = known_name(known, name) else {
+        return hint_given(finding, given);
+    };
+    if one.arity == 0 && given > 0 {
+        finding.say_what(place, name, one.role.noun(), ", and takes no arguments");
+        if one.role != Role::Assumption {
+            let arguments = arguments_text(spot);
+            finding.hint(&[
+                "write ",
+                name,
+                "[",
+                arguments,
+                "] for the value of a function",
+            ]);
+        }
+    } else {
+        let mut title = Page::new(finding.alloc(), false);
+        put_count(&mut title, name, one.arity, given);
+        finding.title = title;
+    }
+    finding.show_name(one.place, name, one.role.brought_in(), " here");
+}
+
+/// Says how many arguments a name takes, and how many it has.
+fn put_count(title: &mut Page, name: &str, arity: usize, given: usize) {
+    title.put(&["'", name, "' takes "]);
+    put_arguments(title, arity);
+    title.put_text(", and has ");
+    title.put_number(given as u128);
+    title.put_text(" here");
+}
+
+/// Adds `1 argument`, or how many there are.
+pub(crate) fn put_arguments(page: &mut Page, count: usize) {
+    page.put_number(count as u128);
+    page.put_text(if count == 1 {
+        " argument"
+    } else {
+        " arguments"
+    });
+}
+
+fn hint_given(finding: &mut Finding, given: usize) {
+    let mut help = Page::new(finding.alloc(), false);
+    help.put_text("hint: it has ");
+    put_arguments(&mut help, given);
+    help.put_text(" here\n");
+    finding.help = help;
+}
+
+/// The arguments of the name at a token, as they are written.
+fn arguments_text<'a>(spot: &Spot<'a>) -> &'a str {
+    let mut deep: usize = 0;
+    let mut start: usize = 0;
+    for token in spot.tokens.get(spot.at..).unwrap_or(&[]) {
+        if opens_bracket(token.kind) {
+            start = if deep == 0 { token.end } else { start };
+            deep = deep.saturating_add(1);
+        } else if closes_bracket(token.kind) {
+            deep = deep.saturating_sub(1);
+            if deep == 0 {
+                let text = spot.text.get(start..token.start).unwrap_or(&[]);
+                return str::from_utf8(text).unwrap_or("").trim();
+            }
+        }
+    }
+    ""
+}
+
+/// How many arguments the name at a token has.
+pub(crate) fn given_arguments(spot: &Spot<'_>) -> usize {
+    if spot.ahead(1) != Some(Kind::LeftParen) {
+        return 0;
+    }
+    let mut deep: usize = 0;
+    let mut count: usize = 1;
+    for token in spot.tokens.get(spot.at.saturating_add(1)..).unwrap_or(&[]) {
+        if opens_bracket(token.kind) {
+            deep = deep.saturating_add(1);
+        } else if closes_bracket(token.kind) {
+            deep = deep.saturating_sub(1);
+            if deep == 0 {
+                return count;
+            }
+        } else if deep == 1 && token.kind == Kind::Comma {
+            count = count.saturating_add(1);
+        }
+    }
+    count
+}

@@ -1,0 +1,168 @@
+//! Names of a configuration that are refused.
+
+use crate::arguments::put_arguments;
+use crate::configuration::find_misspelt;
+use crate::finding::Finding;
+use crate::names::meant;
+use crate::spot::Spot;
+use crate::unknown::hint_module;
+use std::alloc::{AllocError, Global};
+use tla_hints::{STATEMENTS, module_with};
+use tla_lex::Kind;
+use tla_page::page::Page;
+use tla_page::units::{Known, Role, known_name, words_of};
+
+/// Finds what was meant by a name of a configuration that the module doesn't define.
+pub(crate) fn find_unknown(finding: &mut Finding, spot: &Spot<'_>, known: &[Known<'_>]) {
+    let name = spot.word(spot.at);
+    let place = spot.place(spot.at);
+    let alloc = finding.alloc();
+    let Ok(names) = words_of(alloc, known) else {
+        return finding.refuse();
+    };
+    if find_misspelt(finding, spot, &names) {
+        return;
+    }
+    if let Some(module) = module_with(name.as_bytes()) {
+        return hint_module(finding, name, module);
+    }
+    let statement = statement_before(spot);
+    match known_name(known, name) {
+        Some(one) => {
+            finding.say_what(place, name, one.role.noun(), ", and no definition");
+            finding.hint(&[
+                "write a definition in the module, and name that after ",
+                statement,
+            ]);
+        }
+        None => hint_near(finding, spot, known),
+    }
+}
+
+/// The names of these roles.
+fn names_of<'a>(
+    alloc: Global,
+    known: &[Known<'a>],
+    roles: &[Role],
+) -> Result<Vec<&'a str>, AllocError> {
+    let mut names = Vec::new(alloc);
+    for one in known {
+        if roles.contains(&one.role) {
+            names.push(one.name)?;
+        }
+    }
+    Ok(names)
+}
+
+/// The word of the statement in which a token is.
+fn statement_before<'a>(spot: &Spot<'a>) -> &'a str {
+    for count in 0..spot.tokens.len() {
+        let Some(index) = spot.at.checked_sub(count) else {
+            return "the statement";
+        };
+        if STATEMENTS.contains(&spot.word(index)) {
+            return spot.word(index);
+        }
+    }
+    "the statement"
+}
+
+/// Whether a token is the name of an item of CONSTANT, before its sign.
+fn is_item(spot: &Spot<'_>) -> bool {
+    matches!(spot.ahead(1), Some(Kind::Equal | Kind::Substitute))
+}
+
+/// Adds the nearest name that the module has, or what it lacks.
+fn hint_near(finding: &mut Finding, spot: &Spot<'_>, known: &[Known<'_>]) {
+    let name = spot.word(spot.at);
+    let alloc = finding.alloc();
+    let of_items = is_item(spot);
+    let wanted = if of_items {
+        words_of(alloc, known)
+    } else {
+        names_of(alloc, known, &[Role::Operator, Role::Function])
+    };
+    let near = match wanted {
+        Ok(names) => meant(alloc, name, &names),
+        Err(error) => Err(error),
+    };
+    match near {
+        Ok(Some(other)) => finding.hint(&["did you mean '", other, "'?"]),
+        Ok(None) if of_items => finding.hint(&[
+            "the module has no CONSTANT ",
+            name,
+            ": declare it there, or remove the item",
+        ]),
+        Ok(None) => finding.hint(&["define ", name, " in the module, or remove it here"]),
+        Err(_) => finding.refuse(),
+    }
+}
+
+/// Finds what takes arguments that a statement names.
+pub(crate) fn find_arguments(finding: &mut Finding, spot: &Spot<'_>, known: &[Known<'_>]) {
+    let name = spot.word(spot.at);
+    let Some(one) = known_name(known, name) else {
+        return;
+    };
+    let mut title = Page::new(finding.alloc(), false);
+    if is_item(spot) {
+        title.put(&["'", name, "' takes "]);
+        put_arguments(&mut title, one.arity);
+        put_other(&mut title, spot, known);
+        finding.hint(&["c <- Op wants an Op with as many parameters as c; c = value wants none"]);
+    } else {
+        title.put_text(statement_before(spot));
+        title.put(&[" names ", name, ", which takes "]);
+        put_arguments(&mut title, one.arity);
+        finding.hint(&[
+            "define one without parameters, as All == \\A x \\in S : ",
+            name,
+            "(x)",
+        ]);
+    }
+    finding.title = title;
+    finding.show_name(one.place, name, one.role.brought_in(), " here");
+}
+
+/// Adds how many arguments the operator takes that an item puts in place of a name.
+fn put_other(title: &mut Page, spot: &Spot<'_>, known: &[Known<'_>]) {
+    let other = spot.word(spot.at.saturating_add(2));
+    if spot.ahead(1) == Some(Kind::Substitute)
+        && let Some(other) = known_name(known, other)
+    {
+        title.put(&[", and '", other.name, "' "]);
+        title.put_number(other.arity as u128);
+    }
+}
+
+/// Finds which statement of the behaviour is missing, or one too many.
+pub(crate) fn find_behaviour(finding: &mut Finding, spot: Option<&Spot<'_>>, tokens: &Spot<'_>) {
+    if let Some(spot) = spot {
+        finding.say(
+            spot.place(spot.at),
+            &["a second behaviour: ", spot.word(spot.at)],
+        );
+        finding.hint(&["keep INIT and NEXT, or SPECIFICATION, but not both"]);
+        return;
+    }
+    let has_init = has_word(tokens, "INIT");
+    let has_next = has_word(tokens, "NEXT");
+    let missing = match (has_init, has_next) {
+        (true, _) => "NEXT is missing",
+        (false, true) => "INIT is missing",
+        (false, false) => "INIT and NEXT are missing",
+    };
+    finding.title.put_text(missing);
+    finding.hint(&[
+        "write INIT Init and NEXT Next with the names of the module, or SPECIFICATION Spec",
+    ]);
+}
+
+fn has_word(spot: &Spot<'_>, word: &str) -> bool {
+    for index in 0..spot.tokens.len() {
+        if spot.word(index) == word {
+            return true;
+        }
+    }
+    false
+}

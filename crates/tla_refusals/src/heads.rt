@@ -1,0 +1,328 @@
+//! Names that begin a unit where none was meant, and heads of definitions.
+
+use crate::finding::Finding;
+use crate::names::{meant, near_reserved};
+use crate::spot::Spot;
+use std::alloc::{AllocError, Global};
+use tla_hints::{
+    BACKSLASHED, Open, closes_bracket, form_cure, innermost_open, opens_bracket, word_meant,
+};
+use tla_lex::{Kind, Token};
+use tla_parse::parse_module;
+
+/// The number of the first token of a module's units, after its name and a separator.
+const FIRST_UNIT: usize = 2;
+
+/// A name that begins a unit, or a definition of LET, and where the first of these begins.
+#[derive(Clone, Copy)]
+struct Head {
+    from: usize,
+    at: usize,
+}
+
+/// Finds what is missing at the name that begins a unit, or a definition of LET, and after which
+/// the token can't be. Answers whether there is such a name.
+pub(crate) fn find(finding: &mut Finding, spot: &Spot<'_>, open: Option<Open>) -> bool {
+    match open_head(finding.alloc(), spot, open) {
+        Ok(Some(head)) => {
+            say_parameters(finding, spot, head);
+            return true;
+        }
+        Ok(None) => {}
+        Err(_) => finding.refuse(),
+    }
+    match head_of(finding.alloc(), spot) {
+        Ok(Some(head)) => {
+            say(finding, spot, head);
+            true
+        }
+        Ok(None) => false,
+        Err(_) => {
+            finding.refuse();
+            false
+        }
+    }
+}
+
+/// The name that begins a unit, of which the parameters are open.
+fn open_head(
+    alloc: Global,
+    spot: &Spot<'_>,
+    open: Option<Open>,
+) -> Result<Option<Head>, AllocError> {
+    let index = open.and_then(|open| spot.index_at(open.token.place));
+    let Some(at) = index.and_then(|index| index.checked_sub(1)) else {
+        return Ok(None);
+    };
+    let from = FIRST_UNIT;
+    if from <= at && spot.is(at, Kind::Name) && are_units(alloc, spot, from, at)? {
+        Ok(Some(Head { from, at }))
+    } else {
+        Ok(None)
+    }
+}
+
+/// Says what is wrong in the parameters of a definition.
+fn say_parameters(finding: &mut Finding, spot: &Spot<'_>, head: Head) {
+    let name = spot.word(head.at);
+    let place = spot.place(head.at);
+    if defines_later(spot, place.line) {
+        finding.say(
+            spot.place(spot.at),
+            &["a parameter of '", name, "' is a name"],
+        );
+        finding.hint(&[
+            "write ",
+            name,
+            "(a, b) == .., or ",
+            name,
+            "[x \\in S] == .. for a function",
+        ]);
+    } else if spot.begins_line(head.at) {
+        finding.say(place, &["'==' is missing after '", name, "'"]);
+        finding.hint(&["a definition is written ", name, " == .."]);
+    } else {
+        say_operator(finding, spot, head.at, None);
+    }
+}
+
+/// The name that begins a unit and, with its parameters, is before this token.
+fn head_of(alloc: Global, spot: &Spot<'_>) -> Result<Option<Head>, AllocError> {
+    let (Some(from), Some(at)) = (region(alloc, spot)?, name_before(spot)) else {
+        return Ok(None);
+    };
+    if from <= at && are_units(alloc, spot, from, at)? {
+        Ok(Some(Head { from, at }))
+    } else {
+        Ok(None)
+    }
+}
+
+/// Where the units begin, or the definitions of the LET that is open; none where something else is
+/// open.
+fn region(alloc: Global, spot: &Spot<'_>) -> Result<Option<usize>, AllocError> {
+    let Some(open) = innermost_open(alloc, spot.tokens, spot.place(spot.at))? else {
+        return Ok(Some(FIRST_UNIT));
+    };
+    if open.token.kind != Kind::Let {
+        return Ok(None);
+    }
+    match spot.index_at(open.token.place) {
+        Some(index) => Ok(index.checked_add(1)),
+        None => Ok(None),
+    }
+}
+
+/// The name that, with its parameters, is right before this token: `x`, `Op(a, b)` or `f[x \in S]`.
+fn name_before(spot: &Spot<'_>) -> Option<usize> {
+    let last = spot.at.checked_sub(1)?;
+    match spot.kind(last)? {
+        Kind::Name => Some(last),
+        Kind::RightParen | Kind::RightBracket => {
+            let name = opening_of(spot, last)?.checked_sub(1)?;
+            spot.is(name, Kind::Name).then_some(name)
+        }
+        _ => None,
+    }
+}
+
+/// The number of the bracket that the one of this number closes.
+fn opening_of(spot: &Spot<'_>, closing: usize) -> Option<usize> {
+    let mut deep: usize = 0;
+    for count in 0..spot.tokens.len() {
+        let index = closing.checked_sub(count)?;
+        let kind = spot.kind(index)?;
+        if closes_bracket(kind) {
+            deep = deep.saturating_add(1);
+        } else if opens_bracket(kind) {
+            deep = deep.saturating_sub(1);
+            if deep == 0 {
+                return Some(index);
+            }
+        }
+    }
+    None
+}
+
+/// Whether the tokens from one number up to another are whole units. The only error is out of
+/// memory.
+fn are_units(alloc: Global, spot: &Spot<'_>, from: usize, to: usize) -> Result<bool, AllocError> {
+    let mut tokens: Vec<Token> = Vec::new(alloc);
+    tokens.extend_from_slice(spot.tokens.get(..FIRST_UNIT).unwrap_or(&[]))?;
+    tokens.extend_from_slice(spot.tokens.get(from..to).unwrap_or(&[]))?;
+    if let Some(closing) = spot.tokens.last() {
+        tokens.push(*closing)?;
+    }
+    Ok(parse_module(alloc, spot.text, &tokens).is_ok())
+}
+
+/// Says what is missing.
+fn say(finding: &mut Finding, spot: &Spot<'_>, head: Head) {
+    let name = spot.word(head.at);
+    let place = spot.place(head.at);
+    if let Some(cure) = form_cure(name) {
+        finding.say(place, &["'", name, "' is left out of the language"]);
+        finding.hint(&[cure]);
+    } else if is_listed(spot, head) {
+        say_comma(finding, spot, head);
+    } else if is_definition(spot, head) {
+        say_definition(finding, spot, head);
+    } else if let Some(meant) = word_meant(name) {
+        finding.say(place, &["'", name, "' is no operator"]);
+        finding.hint(&["write ", meant]);
+    } else if !say_backslash(finding, spot, head.at) {
+        say_operator(finding, spot, head.at, None);
+    }
+}
+
+/// Whether a definition was meant: a name begins its line, no further to the right than the first
+/// unit or definition does, or `=` follows it in a LET.
+fn is_definition(spot: &Spot<'_>, head: Head) -> bool {
+    let first = spot.place(head.from).column;
+    let is_own_line = spot.begins_line(head.at) && spot.place(head.at).column <= first;
+    is_own_line || (head.from > FIRST_UNIT && spot.is(spot.at, Kind::Equal))
+}
+
+/// Says that the operator before a name, with its backslash, is unknown.
+pub(crate) fn say_backslash(finding: &mut Finding, spot: &Spot<'_>, at: usize) -> bool {
+    let word = at.saturating_sub(1);
+    let sign = at.saturating_sub(2);
+    if !spot.is(sign, Kind::Difference) || !spot.touches_before(word) {
+        return false;
+    }
+    let name = spot.word(word);
+    let near = match meant(finding.alloc(), name, &BACKSLASHED) {
+        Ok(near) => near,
+        Err(_) => {
+            finding.refuse();
+            None
+        }
+    };
+    match (word_meant(name), near) {
+        (Some(meant), _) => finding.hint(&["write ", meant]),
+        (None, Some(near)) => finding.hint(&["did you mean \\", near, "?"]),
+        (None, None) => return false,
+    }
+    finding.say(spot.place(sign), &["'\\", name, "' is no operator"]);
+    true
+}
+
+/// Whether a name goes on with the list of an EXTENDS, VARIABLE or CONSTANT.
+fn is_listed(spot: &Spot<'_>, head: Head) -> bool {
+    if spot.is(spot.at, Kind::Equal) || spot.is(spot.at, Kind::Colon) {
+        return false;
+    }
+    let goes_on = !spot.begins_line(head.at) || spot.begins_line(spot.at);
+    goes_on && begins_list(spot, head.at)
+}
+
+/// Whether only names, commas and blanks of parameters are between a token and the EXTENDS,
+/// VARIABLE or CONSTANT before it.
+pub(crate) fn begins_list(spot: &Spot<'_>, at: usize) -> bool {
+    for count in 1..spot.tokens.len() {
+        let Some(kind) = at.checked_sub(count).and_then(|index| spot.kind(index)) else {
+            return false;
+        };
+        match kind {
+            Kind::Name | Kind::Comma | Kind::LeftParen | Kind::RightParen | Kind::Underscore => {}
+            _ => return matches!(kind, Kind::Extends | Kind::Variable | Kind::Constant),
+        }
+    }
+    false
+}
+
+fn say_comma(finding: &mut Finding, spot: &Spot<'_>, head: Head) {
+    let before = spot.word(head.at.saturating_sub(1));
+    let name = spot.word(head.at);
+    finding.say(
+        spot.place(head.at),
+        &["a comma is missing between '", before, "' and '", name, "'"],
+    );
+    finding.hint(&["write ", before, ", ", name]);
+}
+
+/// Says that a definition has no `==`.
+fn say_definition(finding: &mut Finding, spot: &Spot<'_>, head: Head) {
+    let name = head_text(spot, head);
+    let place = spot.place(head.at);
+    if spot.is(spot.at, Kind::Equal) {
+        finding.say(spot.place(spot.at), &["'=' where a definition has '=='"]);
+        finding.hint(&["write ", name, " == ..: = compares two values"]);
+    } else if defines_later(spot, place.line) {
+        finding.say(
+            place,
+            &["the definition of an operator between its operands"],
+        );
+        finding.hint(&["write Op(a, b) == .., and Op(a, b) where it is used"]);
+    } else if !say_reserved(finding, spot, head.at) {
+        finding.say(place, &["'==' is missing after '", name, "'"]);
+        finding.hint(&["a definition is written ", name, " == .."]);
+    }
+}
+
+/// Says that a name begins no unit, where it is near to a reserved word.
+fn say_reserved(finding: &mut Finding, spot: &Spot<'_>, at: usize) -> bool {
+    let name = spot.word(at);
+    let Some(word) = reserved_near(finding, name) else {
+        return false;
+    };
+    finding.say(spot.place(at), &["'", name, "' begins no unit"]);
+    finding.hint(&["did you mean ", word, "?"]);
+    true
+}
+
+/// A name with its parameters, as it is written.
+fn head_text<'a>(spot: &Spot<'a>, head: Head) -> &'a str {
+    let (Some(first), Some(next)) = (spot.token(head.at), spot.token(spot.at)) else {
+        return "";
+    };
+    let text = spot.text.get(first.start..next.start).unwrap_or(&[]);
+    str::from_utf8(text).unwrap_or("").trim()
+}
+
+/// Whether `==` follows this token in a line.
+fn defines_later(spot: &Spot<'_>, line: u64) -> bool {
+    let rest = spot.tokens.get(spot.at..).unwrap_or(&[]);
+    rest.iter()
+        .take_while(|token| token.place.line == line)
+        .any(|token| token.kind == Kind::Define)
+}
+
+/// Says that an operator is missing before a token, or what is open.
+pub(crate) fn say_operator(finding: &mut Finding, spot: &Spot<'_>, at: usize, open: Option<Open>) {
+    let before = spot.word(at.saturating_sub(1));
+    let name = spot.word(at);
+    finding.place = spot.place(at);
+    finding.title.put_text("an operator");
+    if let Some(open) = open {
+        finding.title.put(&[" or '", open.wanted, "'"]);
+    }
+    finding
+        .title
+        .put(&[" is missing between '", before, "' and '", name, "'"]);
+    if let Some(meant) = word_meant(before) {
+        hint_for(finding, meant, before);
+    } else if let Some(word) = reserved_near(finding, before) {
+        finding.ask(word, before);
+    } else if spot.begins_line(at) {
+        finding.hint(&["between two conditions write /\\ or \\/"]);
+    } else if open.is_none() {
+        finding.hint(&["write the operator that belongs between them"]);
+    }
+}
+
+fn hint_for(finding: &mut Finding, meant: &str, name: &str) {
+    finding.help.put(&["hint: write ", meant]);
+    finding.help.put(&[" for ", name, "\n"]);
+}
+
+/// The reserved word that is near to a name.
+fn reserved_near(finding: &mut Finding, name: &str) -> Option<&'static str> {
+    match near_reserved(finding.alloc(), name) {
+        Ok(word) => word,
+        Err(_) => {
+            finding.refuse();
+            None
+        }
+    }
+}

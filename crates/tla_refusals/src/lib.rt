@@ -1,0 +1,27 @@
+//! Explanations of refusals: what is wrong at which place, and what to write instead.
+#![tactic(auto)]
+
+mod arguments;
+mod characters;
+mod config_names;
+mod configuration;
+mod finding;
+pub mod given;
+mod heads;
+mod kinds;
+mod left_out;
+mod levels;
+mod lists;
+mod more;
+pub mod names;
+mod precedence;
+mod reach;
+pub mod refusal;
+mod refusal_text;
+mod signs;
+mod specification;
+mod spot;
+mod statements;
+mod twice;
+mod unexpected;
+mod unknown;

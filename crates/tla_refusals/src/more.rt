@@ -1,0 +1,146 @@
+//! Names that are unknown beside the first.
+
+use crate::arguments::given_arguments;
+use crate::names::is_among;
+use crate::spot::Spot;
+use crate::statements::{config_of, formulas_named};
+use std::alloc::{AllocError, Global};
+use tla_config::{DefsCode, Statement};
+use tla_hints::module_with;
+use tla_lex::Place;
+use tla_names::variables;
+use tla_page::units::{Known, Role, known_name, known_names};
+use tla_tree::{Declaration, Unit, Word, Written};
+
+/// How many names are looked for beside the first.
+const MOST_NAMES: usize = 9;
+
+/// Where names are that are unknown in a module, each once, if the one at the first place were
+/// known. The only error is out of memory.
+pub(crate) fn unknown_places(
+    alloc: Global,
+    spot: &Spot<'_>,
+    units: Vec<Unit>,
+) -> Result<Vec<Place>, AllocError> {
+    let mut places = Vec::new(alloc);
+    let mut left = units;
+    let mut last = *spot;
+    for _ in 0..MOST_NAMES {
+        left = with_known(alloc, left, &last)?;
+        let Some(place) = unknown_place(alloc, &left) else {
+            break;
+        };
+        let Some(next) = Spot::of(spot.text, spot.tokens, place) else {
+            break;
+        };
+        places.push(place)?;
+        last = next;
+    }
+    drop(left);
+    Ok(places)
+}
+
+/// Where the names are that statements of a configuration give to no definition of these units,
+/// each once, but for the name at the first place. The only error is out of memory.
+pub(crate) fn unknown_statements(
+    alloc: Global,
+    spot: &Spot<'_>,
+    units: &[Unit],
+) -> Result<Vec<Place>, AllocError> {
+    let Some(config) = config_of(alloc, spot.text) else {
+        return Ok(Vec::new(alloc));
+    };
+    let places = unknown_among(alloc, spot, units, config.statements());
+    drop(config);
+    places
+}
+
+/// Where the names are that these statements give to no definition of these units.
+fn unknown_among(
+    alloc: Global,
+    spot: &Spot<'_>,
+    units: &[Unit],
+    statements: &[Statement],
+) -> Result<Vec<Place>, AllocError> {
+    let mut places = Vec::new(alloc);
+    let mut met = Vec::new(alloc);
+    let first = spot.word(spot.at);
+    let known = known_names(alloc, units)?;
+    for one in formulas_named(alloc, statements)? {
+        let is_met = one.name == first || is_among(&met, one.name);
+        if !is_met && !is_definition(&known, one.name) {
+            met.push(one.name)?;
+            places.push(one.place)?;
+        }
+    }
+    Ok(places)
+}
+
+/// Whether a name is that of a definition.
+fn is_definition(known: &[Known<'_>], name: &str) -> bool {
+    match known_name(known, name) {
+        Some(one) => !matches!(one.role, Role::Variable | Role::Constant),
+        None => false,
+    }
+}
+
+/// Where the first unknown name of units is, if that is what is refused first.
+fn unknown_place(alloc: Global, units: &[Unit]) -> Option<Place> {
+    let error = variables(alloc, units).err()?;
+    if error.code == DefsCode::UnknownName {
+        error.place
+    } else {
+        None
+    }
+}
+
+/// These units, in which the name at a token is known: its module is extended, or it is declared,
+/// and defined no more.
+fn with_known(alloc: Global, units: Vec<Unit>, spot: &Spot<'_>) -> Result<Vec<Unit>, AllocError> {
+    let name = spot.word(spot.at);
+    let mut all = Vec::new(alloc);
+    match module_with(name.as_bytes()) {
+        Some(module) => all.push(extending(alloc, spot, module)?)?,
+        None => all.push(declaring(alloc, spot)?)?,
+    }
+    for unit in units {
+        if brings_in(alloc, &unit, name)? {
+            drop(unit);
+        } else {
+            all.push(unit)?;
+        }
+    }
+    Ok(all)
+}
+
+/// Whether a unit brings a name in.
+fn brings_in(alloc: Global, unit: &Unit, name: &str) -> Result<bool, AllocError> {
+    let known: Vec<Known<'_>> = known_names(alloc, std::slice::from_ref(unit))?;
+    Ok(known.iter().any(|one| one.name == name))
+}
+
+/// A unit that extends a module.
+fn extending(alloc: Global, spot: &Spot<'_>, module: &str) -> Result<Unit, AllocError> {
+    let place = spot.place(spot.at);
+    let mut names = Vec::new(alloc);
+    names.push(written(alloc, place, module)?)?;
+    Ok(Unit::Extends(place, names))
+}
+
+/// A unit that declares the name at a token, with as many arguments as it has there.
+fn declaring(alloc: Global, spot: &Spot<'_>) -> Result<Unit, AllocError> {
+    let place = spot.place(spot.at);
+    let mut declarations = Vec::new(alloc);
+    declarations.push(Declaration {
+        name: written(alloc, place, spot.word(spot.at))?,
+        arity: given_arguments(spot),
+    })?;
+    Ok(Unit::Constants(place, declarations))
+}
+
+fn written(alloc: Global, place: Place, name: &str) -> Result<Written, AllocError> {
+    Ok(Written {
+        place,
+        word: Word::new(name.as_bytes().to_vec(alloc)?),
+    })
+}

@@ -1,0 +1,133 @@
+//! Signs that are written otherwise in this language.
+
+use crate::finding::Finding;
+use crate::kinds::ends_operand;
+use crate::spot::Spot;
+use tla_hints::Open;
+use tla_lex::Kind;
+
+/// What is wrong, and what to write.
+type Cure = (&'static str, &'static str);
+
+/// Finds a sign that is written otherwise.
+pub(crate) fn find(finding: &mut Finding, spot: &Spot<'_>, open: Option<Open>) -> bool {
+    let by_token = cure_of(spot).or(cure_after(spot));
+    let cure = match open {
+        Some(open) => by_token.or(cure_inside(spot, open)),
+        None => by_token,
+    };
+    if let Some((title, hint)) = cure {
+        finding.say(spot.place(spot.at), &[title]);
+        finding.hint(&[hint]);
+    }
+    cure.is_some()
+}
+
+/// What to write in place of a token, by itself and the one after it.
+fn cure_of(spot: &Spot<'_>) -> Option<Cure> {
+    let next = spot.at.saturating_add(1);
+    let touches = spot.touches_before(next);
+    match spot.kind(spot.at)? {
+        Kind::Colon if touches && spot.is(next, Kind::Equal) => Some((
+            "':=' is no operator",
+            "write x' = e for the next value of x, and Op == e for a definition",
+        )),
+        Kind::Colon if touches && spot.is(next, Kind::Colon) => Some((
+            "labels are left out of the language",
+            "remove the label and its ::",
+        )),
+        Kind::Define => Some((
+            "'==' inside an expression",
+            "write = to compare two values: == gives a name its definition",
+        )),
+        Kind::Prime if is_quoted(spot) => Some((
+            "a text in single quotes",
+            "write \"..\": ' after a variable is its next value",
+        )),
+        Kind::Plus | Kind::Minus if is_between_parens(spot) => Some((
+            "an operator of Bags, which is not read",
+            "a (+) b is [x \\in DOMAIN a \\cup DOMAIN b |-> Count(a, x) + Count(b, x)], with Count(f, x) == IF x \\in DOMAIN f THEN f[x] ELSE 0",
+        )),
+        Kind::Extends => Some((
+            "EXTENDS is the first unit of a module, once",
+            "name all modules in it: EXTENDS Integers, Sequences",
+        )),
+        Kind::At => Some((
+            "'@' outside of EXCEPT",
+            "@ is the old value in [f EXCEPT ![x] = @ + 1]",
+        )),
+        _ => None,
+    }
+}
+
+/// What to write in place of a token, by those before it.
+fn cure_after(spot: &Spot<'_>) -> Option<Cure> {
+    let is_number = matches!(spot.kind(spot.at)?, Kind::Number(_));
+    let after_number = matches!(spot.back(2), Some(Kind::Number(_)));
+    match spot.back(1) {
+        None => Some(("the module has no name", "write ---- MODULE Name ----")),
+        Some(Kind::Except) => Some((
+            "EXCEPT wants a '!'",
+            "write [f EXCEPT ![x] = e], or [r EXCEPT !.a = e]",
+        )),
+        Some(Kind::Dot) if is_number && after_number => Some((
+            "a number with a point",
+            "numbers are whole: count in smaller units",
+        )),
+        Some(Kind::Dot) if is_number => Some((
+            "a number for a field",
+            "write t[1] for the first item of a tuple t",
+        )),
+        Some(Kind::Number(_) | Kind::Text) if spot.is(spot.at, Kind::MapsTo) => Some((
+            "a field of a record is a name",
+            "write [a |-> e] without quotes; for other arguments (1 :> e) of TLC",
+        )),
+        _ => None,
+    }
+}
+
+/// What to write in place of a token inside what is open: `->` or `:` for `|->`, or a comma between
+/// definitions of LET.
+fn cure_inside(spot: &Spot<'_>, open: Open) -> Option<Cure> {
+    let opening = open.token;
+    let kind = spot.kind(spot.at)?;
+    match opening.kind {
+        Kind::Let if kind == Kind::Comma => Some((
+            "a comma after a definition of LET",
+            "leave the comma out: LET a == 1  b == 2 IN e",
+        )),
+        Kind::LeftBracket if kind == Kind::Colon => Some((
+            "':' where a function or a record has '|->'",
+            "write [x \\in S |-> e], or [a |-> e, b |-> f]; [a : S, b : T] is a set of records",
+        )),
+        Kind::LeftBracket if kind == Kind::Arrow || is_after_arrow(spot, open) => Some((
+            "'->' where a function or a record has '|->'",
+            "write [x \\in S |-> e], or [a |-> e, b |-> f]; [S -> T] is a set of functions",
+        )),
+        Kind::ForAll | Kind::Exists if kind == Kind::Colon => Some((
+            "a name without a set",
+            "give each name a set: \\A x \\in S, y \\in T : p",
+        )),
+        _ => None,
+    }
+}
+
+/// Whether a comma follows an arrow in the bracket that is open.
+fn is_after_arrow(spot: &Spot<'_>, open: Open) -> bool {
+    let before = spot.tokens.get(..spot.at).unwrap_or(&[]);
+    let mut inside = before.iter().filter(|token| token.start > open.token.start);
+    spot.is(spot.at, Kind::Comma) && inside.any(|token| token.kind == Kind::Arrow)
+}
+
+/// Whether single quotes begin here, where an expression may begin, and end in the same line.
+fn is_quoted(spot: &Spot<'_>) -> bool {
+    let line = spot.place(spot.at).line;
+    let rest = spot.tokens.get(spot.at.saturating_add(1)..).unwrap_or(&[]);
+    let mut same = rest.iter().take_while(|token| token.place.line == line);
+    !spot.back(1).is_some_and(ends_operand) && same.any(|token| token.kind == Kind::Prime)
+}
+
+/// Whether a token is all that two parentheses have.
+fn is_between_parens(spot: &Spot<'_>) -> bool {
+    spot.back(1) == Some(Kind::LeftParen) && spot.ahead(1) == Some(Kind::RightParen)
+}

@@ -1,0 +1,133 @@
+//! Tokens that can't be where they are.
+
+use crate::finding::Finding;
+use crate::heads::say_operator;
+use crate::kinds::{begins_operand, begins_unit, closes, ends_operand, may_begin_operand};
+use crate::spot::Spot;
+use crate::{heads, lists, signs};
+use tla_config::Source;
+use tla_hints::{Open, innermost_open, word_meant};
+use tla_lex::{Kind, Place};
+use tla_page::places::word;
+
+/// Finds why a token can't be there.
+pub(crate) fn find(finding: &mut Finding, spot: &Spot<'_>) {
+    let open = open_before(finding, spot);
+    let found = lists::find(finding, spot, open)
+        || signs::find(finding, spot, open)
+        || find_word(finding, spot)
+        || heads::find(finding, spot, open)
+        || find_open(finding, spot, open);
+    if !found {
+        find_sides(finding, spot, open);
+    }
+}
+
+/// Finds what an item of a list lacks, of which a token is left of the bullet.
+pub(crate) fn find_left(finding: &mut Finding, spot: &Spot<'_>) {
+    let Some(open) = open_before(finding, spot) else {
+        return;
+    };
+    if matches!(spot.kind(spot.at), Some(Kind::And | Kind::Or)) {
+        say_open(finding, spot, open);
+    } else {
+        finding.hint(&["move this to the right of the bullet"]);
+        show_open(finding, spot, open);
+    }
+}
+
+/// What is open before the token.
+fn open_before(finding: &mut Finding, spot: &Spot<'_>) -> Option<Open> {
+    match innermost_open(finding.alloc(), spot.tokens, spot.place(spot.at)) {
+        Ok(open) => open,
+        Err(_) => {
+            finding.refuse();
+            None
+        }
+    }
+}
+
+/// Finds a word of another language, or an operator with a backslash that is left out.
+fn find_word(finding: &mut Finding, spot: &Spot<'_>) -> bool {
+    let next = spot.at.saturating_add(1);
+    let (word, sign) = if spot.is(spot.at, Kind::Difference) && spot.touches_before(next) {
+        (spot.word(next), "\\")
+    } else {
+        (spot.word(spot.at), "")
+    };
+    let is_name = spot.is(spot.at, Kind::Name) || !sign.is_empty();
+    match word_meant(word) {
+        Some(meant) if is_name => {
+            finding.say(spot.place(spot.at), &["'", sign, word, "' is no operator"]);
+            finding.hint(&["write ", meant]);
+            true
+        }
+        _ => false,
+    }
+}
+
+/// Finds what is not closed before a token that can't be inside it.
+fn find_open(finding: &mut Finding, spot: &Spot<'_>, open: Option<Open>) -> bool {
+    let Some(kind) = spot.kind(spot.at) else {
+        return false;
+    };
+    let Some(open) = open else {
+        return closes(kind) && say_closed(finding, spot);
+    };
+    let leaves = begins_unit(kind) || closes(kind) || spot.begins_line(spot.at);
+    if leaves {
+        say_open(finding, spot, open);
+    }
+    leaves
+}
+
+/// Says that a token closes nothing.
+fn say_closed(finding: &mut Finding, spot: &Spot<'_>) -> bool {
+    let word = spot.word(spot.at);
+    finding.say(spot.place(spot.at), &["'", word, "' closes nothing"]);
+    finding.hint(&["remove it, or write what it closes"]);
+    true
+}
+
+/// Says that something is open, and shows where.
+fn say_open(finding: &mut Finding, spot: &Spot<'_>, open: Open) {
+    finding.say(
+        spot.place(spot.at),
+        &["'", open.wanted, "' is missing before this"],
+    );
+    show_open(finding, spot, open);
+}
+
+/// Shows what is open, and what it wants.
+fn show_open(finding: &mut Finding, spot: &Spot<'_>, open: Open) {
+    let token = open.token;
+    show_wanted(finding, token.place, word(spot.text, &token), open.wanted);
+}
+
+fn show_wanted(finding: &mut Finding, place: Place, word: &str, wanted: &str) {
+    let texts = ["'", word, "' is open here, and wants '", wanted, "'"];
+    finding.show_beside(Source::Module, place, &texts);
+}
+
+/// Finds what is missing between a token and the one before.
+fn find_sides(finding: &mut Finding, spot: &Spot<'_>, open: Option<Open>) {
+    let (Some(kind), Some(before)) = (spot.kind(spot.at), spot.back(1)) else {
+        return;
+    };
+    let word = spot.word(spot.at.saturating_sub(1));
+    if ends_operand(before) && begins_operand(kind) {
+        if heads::say_backslash(finding, spot, spot.at) {
+            return;
+        }
+        say_operator(finding, spot, spot.at, open);
+        if let Some(open) = open {
+            show_open(finding, spot, open);
+        }
+    } else if !ends_operand(before) && !may_begin_operand(kind) {
+        finding.say(
+            spot.place(spot.at),
+            &["an expression is missing before '", spot.word(spot.at), "'"],
+        );
+        finding.hint(&["write one after '", word, "'"]);
+    }
+}

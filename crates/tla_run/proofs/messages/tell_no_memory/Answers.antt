@@ -1,0 +1,5 @@
+use Rattle.tla_run.proofs.RunLemmas.{gets_put}
+use Rattle.tla_run.proofs.messages.tell_no_memory.Goals as goal
+
+pub returns : goal.returns
+returns g c = gets_put _ _ _ _ c.put.ensures

@@ -1,0 +1,7 @@
+use Rattle.std.proofs.Common.{◌≡◌, map, take}
+use Rattle.std.specs.Prelude.{string_bytes}
+use Rattle.clap.specs.Walk.{texts}
+use Rattle.tla_run.proofs.words.as_texts.Given as goal
+
+abbrev pub invariant-loop-word : goal.invariant-loop-word
+invariant-loop-word l = texts l.list.items ≡ map string_bytes (take l.word-index l.words)

@@ -1,0 +1,210 @@
+//! Evaluation of parts under bound names, as far as a number of evaluations goes.
+
+use crate::chosen::{Chosen, Path};
+use std::alloc::Global;
+use tla_core::{Core, Fault, FaultCode, Opening, Place, memory};
+use tla_eval::{Partial, eval, member, opened, set_members};
+use tla_reading::{part_of, read};
+use tla_value::{State, Value};
+
+/// The present state, the values of the bound names, and how many evaluations are left.
+///
+/// The only error of its calls is that memory ran out. None is the answer where the evaluation
+/// faults, or where none is left.
+#[derive(Drop)]
+pub(crate) struct Walk<'a> {
+    alloc: Global,
+    now: Option<&'a State>,
+    path: Path,
+    budget: u64,
+}
+
+impl<'a> Walk<'a> {
+    pub(crate) fn new(alloc: Global, now: Option<&'a State>, budget: u64) -> Walk<'a> {
+        Walk {
+            alloc,
+            now,
+            path: Path::new(alloc),
+            budget,
+        }
+    }
+
+    pub(crate) fn alloc(&self) -> Global {
+        self.alloc
+    }
+
+    /// How many evaluations are left.
+    pub(crate) fn budget(&self) -> u64 {
+        self.budget
+    }
+
+    /// How many names are bound.
+    pub(crate) fn len(&self) -> usize {
+        self.path.len()
+    }
+
+    /// Unbinds all names but the first ones.
+    pub(crate) fn truncate(&mut self, count: usize) {
+        self.path.truncate(count);
+    }
+
+    /// Binds a name of the form at a place.
+    pub(crate) fn bind(&mut self, place: Place, value: Value) -> Result<(), Fault> {
+        self.path.push(place, value)?;
+        Ok(())
+    }
+
+    /// Binds a name of the form at a place to a copy of a value.
+    pub(crate) fn bind_copy(&mut self, place: Place, value: &Value) -> Result<(), Fault> {
+        let copy = self.copy(value)?;
+        self.bind(place, copy)
+    }
+
+    /// Binds a copy of the old value under EXCEPT.
+    pub(crate) fn bind_old(&mut self, value: &Value) -> Result<(), Fault> {
+        let copy = self.copy(value)?;
+        self.path.push_unnamed(copy)?;
+        Ok(())
+    }
+
+    /// A copy of a value.
+    pub(crate) fn copy(&self, value: &Value) -> Result<Value, Fault> {
+        match value.copy(self.alloc) {
+            Ok(copy) => Ok(copy),
+            Err(_) => Err(memory()),
+        }
+    }
+
+    /// Binds the items of elements; false where one hasn't as many as its pattern has names.
+    pub(crate) fn open(&mut self, place: Place, openings: &[Opening]) -> Result<bool, Fault> {
+        let items = match opened(self.alloc, place, openings, self.path.values()) {
+            Ok(items) => items,
+            Err(fault) if fault.code == FaultCode::Memory => return Err(fault),
+            Err(_) => return Ok(false),
+        };
+        for opening in openings {
+            self.path.hide(opening.name);
+        }
+        for item in items {
+            self.path.push(place, item)?;
+        }
+        Ok(true)
+    }
+
+    /// The bound names that stand in the text, the outermost first.
+    pub(crate) fn chosen(&self) -> Result<Vec<Chosen>, Fault> {
+        self.path.chosen(self.alloc)
+    }
+
+    /// The value of an expression.
+    pub(crate) fn value(&mut self, core: &Core, next: &Partial) -> Result<Option<Value>, Fault> {
+        if !self.spend() {
+            return Ok(None);
+        }
+        unless_faulty(eval(self.alloc, core, self.path.values(), self.now, next))
+    }
+
+    /// The truth value of an expression.
+    pub(crate) fn truth(&mut self, core: &Core, next: &Partial) -> Result<Option<bool>, Fault> {
+        match self.value(core, next)? {
+            Some(Value::Truth(holds)) => Ok(Some(holds)),
+            _ => Ok(None),
+        }
+    }
+
+    /// Whether a value is a member of a set.
+    pub(crate) fn has(
+        &mut self,
+        value: &Value,
+        set: &Core,
+        next: &Partial,
+    ) -> Result<Option<bool>, Fault> {
+        if !self.spend() {
+            return Ok(None);
+        }
+        let bound = self.path.values();
+        unless_faulty(member(self.alloc, value, set, bound, self.now, next))
+    }
+
+    /// The elements of a set.
+    pub(crate) fn elements(
+        &mut self,
+        set: &Core,
+        next: &Partial,
+    ) -> Result<Option<Vec<Value>>, Fault> {
+        if !self.spend() {
+            return Ok(None);
+        }
+        let bound = self.path.values();
+        unless_faulty(set_members(self.alloc, set.place(), set, bound, self.now, next))
+    }
+
+    /// The states that a part of an action leads to.
+    pub(crate) fn reached(
+        &mut self,
+        part: &Core,
+        from: &Partial,
+    ) -> Result<Option<Vec<Partial>>, Fault> {
+        if !self.spend() {
+            return Ok(None);
+        }
+        let from = from.copy(self.alloc)?;
+        let part = part_of(self.alloc, part)?;
+        unless_faulty(read(self.alloc, &part, self.path.values(), self.now, from))
+    }
+
+    /// The fault of an expression.
+    pub(crate) fn fault(&mut self, core: &Core, next: &Partial) -> Result<Option<Fault>, Fault> {
+        if !self.spend() {
+            return Ok(None);
+        }
+        match eval(self.alloc, core, self.path.values(), self.now, next) {
+            Ok(_) => Ok(None),
+            Err(fault) => unless_memory(fault),
+        }
+    }
+
+    /// The fault of reading a part of an action.
+    pub(crate) fn reading_fault(
+        &mut self,
+        part: &Core,
+        from: &Partial,
+    ) -> Result<Option<Fault>, Fault> {
+        if !self.spend() {
+            return Ok(None);
+        }
+        let from = from.copy(self.alloc)?;
+        let part = part_of(self.alloc, part)?;
+        match read(self.alloc, &part, self.path.values(), self.now, from) {
+            Ok(_) => Ok(None),
+            Err(fault) => unless_memory(fault),
+        }
+    }
+
+    /// Counts an evaluation; false where none is left.
+    fn spend(&mut self) -> bool {
+        if self.budget == 0 {
+            return false;
+        }
+        self.budget -= 1;
+        true
+    }
+}
+
+/// What an evaluation answers; none where it faults.
+fn unless_faulty<T: Drop>(answer: Result<T, Fault>) -> Result<Option<T>, Fault> {
+    match answer {
+        Ok(value) => Ok(Some(value)),
+        Err(fault) if fault.code == FaultCode::Memory => Err(fault),
+        Err(_) => Ok(None),
+    }
+}
+
+/// A fault, unless memory ran out.
+fn unless_memory(fault: Fault) -> Result<Option<Fault>, Fault> {
+    if fault.code == FaultCode::Memory {
+        Err(fault)
+    } else {
+        Ok(Some(fault))
+    }
+}

@@ -1,0 +1,144 @@
+//! The names that a quantifier binds.
+
+use crate::expressions::binder_at;
+use crate::models::Telling;
+use tla_hints::{closes_bracket, opens_bracket};
+use tla_lex::{Kind, Place, Token};
+use tla_page::page::Page;
+use tla_page::places::word;
+use tla_steps::Chosen;
+use tla_tree::{Binder, Expr, Pattern, Written};
+
+/// Adds the values of bound names: `with i = 1, j = 4`.
+pub fn put_choices(page: &mut Page, telling: &Telling<'_>, chosen: &[Chosen]) {
+    for (index, choice) in chosen.iter().enumerate() {
+        page.put_text(if index == 0 { "with " } else { ", " });
+        let name = name_of(telling, choice).unwrap_or("it");
+        page.put(&[name, " = "]);
+        page.put_value(&choice.value);
+    }
+}
+
+/// Whether an expression is one of the names that were chosen.
+pub fn is_choice(telling: &Telling<'_>, chosen: &[Chosen], expr: &Expr) -> bool {
+    let Expr::Name(name) = expr else {
+        return false;
+    };
+    chosen.iter().any(|choice| {
+        name_of(telling, choice).is_some_and(|other| other.as_bytes() == name.word.as_bytes())
+    })
+}
+
+/// The name of a value that was chosen.
+fn name_of<'a>(telling: &Telling<'a>, choice: &Chosen) -> Option<&'a str> {
+    let written = match binder_at(telling.units, choice.place)? {
+        Expr::Quantified(_, _, binders, _) => nth_in_turn(binders, choice.name),
+        Expr::Choose(_, pattern, _, _) | Expr::Filter(_, pattern, _, _) => {
+            pattern.names().get(choice.name)
+        }
+        Expr::Function(_, binders, _) | Expr::Image(_, _, binders) => {
+            nth_of_elements(binders, choice.name)
+        }
+        _ => None,
+    };
+    str::from_utf8(written?.word.as_bytes()).ok()
+}
+
+/// The nth name of binders, where a pattern's names are bound with it.
+fn nth_in_turn(binders: &[Binder], nth: usize) -> Option<&Written> {
+    let mut left = nth;
+    for binder in binders {
+        let names = binder.pattern.names();
+        if let Some(name) = names.get(left) {
+            return Some(name);
+        }
+        left = left.saturating_sub(names.len());
+    }
+    None
+}
+
+/// The nth name of binders, where the names of patterns are bound behind all others.
+fn nth_of_elements(binders: &[Binder], nth: usize) -> Option<&Written> {
+    let mut left = nth;
+    for patterns in [false, true] {
+        for binder in binders {
+            if is_tuple(&binder.pattern) != patterns {
+                continue;
+            }
+            let names = binder.pattern.names();
+            if let Some(name) = names.get(left) {
+                return Some(name);
+            }
+            left = left.saturating_sub(names.len());
+        }
+    }
+    None
+}
+
+fn is_tuple(pattern: &Pattern) -> bool {
+    matches!(pattern, Pattern::Tuple(_))
+}
+
+/// The name that the quantifier at a place binds as its nth, from 0. Each name of a pattern `<<x, y>>` counts as one.
+pub fn bound_name<'a>(
+    text: &'a [u8],
+    tokens: &[Token],
+    place: Place,
+    nth: usize,
+) -> Option<&'a str> {
+    let from = tokens.iter().position(|token| token.place == place)?;
+    let mut depth = 0usize;
+    let mut in_pattern = false;
+    let mut left = nth;
+    for three in tokens.get(from..)?.windows(3) {
+        let [before, token, behind] = three else {
+            return None;
+        };
+        depth = depth_behind(depth, before.kind);
+        if depth == 0 {
+            if before.kind == Kind::Colon {
+                return None;
+            }
+            in_pattern = begins_pattern(before.kind, token.kind);
+        }
+        let is_plain = depth == 0 && stands_alone(before.kind, behind.kind);
+        if token.kind == Kind::Name && (in_pattern || is_plain) {
+            if left == 0 {
+                return Some(word(text, token));
+            }
+            left -= 1;
+        }
+    }
+    None
+}
+
+/// How deep in brackets a token leads.
+fn depth_behind(depth: usize, kind: Kind) -> usize {
+    if opens_bracket(kind) {
+        depth.saturating_add(1)
+    } else if closes_bracket(kind) {
+        depth.saturating_sub(1)
+    } else {
+        depth
+    }
+}
+
+/// Whether a pattern begins at a token.
+fn begins_pattern(before: Kind, kind: Kind) -> bool {
+    begins_entry(before) && kind == Kind::LeftTuple
+}
+
+/// Whether a name between these is bound by itself.
+fn stands_alone(before: Kind, behind: Kind) -> bool {
+    begins_entry(before) && ends_name(behind)
+}
+
+/// Whether a name that is bound, or a pattern, may stand behind a token.
+fn begins_entry(before: Kind) -> bool {
+    before == Kind::Exists || before == Kind::ForAll || before == Kind::Comma
+}
+
+/// Whether a token stands behind a name that is bound.
+fn ends_name(behind: Kind) -> bool {
+    behind == Kind::Comma || behind == Kind::Member
+}

@@ -1,0 +1,16 @@
+//! Explanations of traces: which part of Next made each step, what it changed, and how often each
+//! part made one.
+#![tactic(auto)]
+
+pub mod binders;
+mod changes;
+pub mod coverage;
+mod differences;
+pub mod expressions;
+pub mod models;
+pub mod named;
+mod parts;
+pub mod reachable;
+mod sequences;
+pub mod signs;
+pub mod trace;

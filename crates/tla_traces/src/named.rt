@@ -1,0 +1,45 @@
+//! The model that the two texts name, with what it was read from.
+
+use crate::models::{Telling, model_of};
+use std::alloc::Global;
+use tla_lex::{Token, tokens};
+use tla_model::Model;
+use tla_page::places::Sources;
+use tla_parse::parse_module;
+use tla_tree::Module;
+
+/// A model, and the tokens and the tree of its module.
+#[derive(Drop)]
+pub struct Named {
+    tokens: Vec<Token>,
+    module: Module,
+    model: Model,
+}
+
+impl Named {
+    /// What the two texts name; nothing where they are refused or memory ran out.
+    pub fn read(alloc: Global, sources: &Sources<'_>) -> Option<Named> {
+        let tokens = tokens(alloc, sources.module).ok()?;
+        let module = parse_module(alloc, sources.module, &tokens).ok()?;
+        let model = model_of(alloc, &module, sources.configuration)?;
+        Some(Named {
+            tokens,
+            module,
+            model,
+        })
+    }
+
+    pub fn model(&self) -> &Model {
+        &self.model
+    }
+
+    /// What explanations are written with.
+    pub fn telling<'a>(&'a self, sources: &'a Sources<'a>) -> Telling<'a> {
+        Telling {
+            sources,
+            tokens: &self.tokens,
+            units: &self.module.units,
+            model: &self.model,
+        }
+    }
+}
