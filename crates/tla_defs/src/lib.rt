@@ -18,4 +18,4 @@ mod temporal;
 
 pub use builder::build;
 pub use tla_config::{Config, DefsCode, DefsError, Source, parse_config};
-pub use tla_model::Model;
+pub use tla_model::{Model, StatePredicate};

@@ -10,3 +10,4 @@ mod patterns;
 pub use evaluation::{eval, member, set_members};
 pub use partial::Partial;
 pub use patterns::opened;
+pub use tla_core::{Core, Fault, FaultCode, Place};

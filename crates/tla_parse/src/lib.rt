@@ -7,3 +7,8 @@ mod units;
 
 pub use error::{ParseCode, ParseError};
 pub use parse::parse_module;
+pub use tla_expressions::laws;
+pub use tla_tree::{
+    Arm, Binder, Bullet, Constant, Declaration, Definition, Expr, Fairness, Field, Infix, Key,
+    Module, Pattern, Prefix, Quantifier, Step, Unit, Update, Word, Written,
+};
