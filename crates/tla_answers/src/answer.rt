@@ -1,7 +1,7 @@
 //! Answers of a search.
 
 use crate::why::{tell_blocked, tell_reasons};
-use crate::{faults, notes};
+use crate::{faults, missed, notes};
 use tla_config::Source;
 use tla_core::Place;
 use tla_lex::{Token, tokens};
@@ -83,6 +83,7 @@ fn tell_by_model(
         Answer::NoError { counts } => notes::tell(page, &telling, counts),
         _ => {
             tell_wrong(page, &telling, answered);
+            missed::tell_of_trace(page, &telling, answered.answer.states());
             tell_trace(page, &telling, answered);
         }
     }

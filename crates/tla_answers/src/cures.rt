@@ -1,34 +1,119 @@
 //! What to write in place of an expression that faults.
 
-use crate::extents::{first_token, last_token, text_between};
+use crate::kinds::{Wanted, wanted_of};
 use crate::operands::Scene;
-use crate::why::{put_expression, variable_name, written};
+use crate::why::{put_expression, written};
 use std::alloc::{AllocError, Global};
 use tla_core::{Binary, Core, Unary};
-use tla_lex::Kind;
 use tla_page::page::Page;
+use tla_page::units::{Role, known_name, known_names, text_of};
 use tla_refusals::names::meant;
 use tla_steps::Operand;
-use tla_traces::expressions::{expression_at, expression_of};
+use tla_traces::expressions::expression_at;
 use tla_traces::models::Telling;
-use tla_traces::signs::sign_of;
-use tla_tree::Expr;
-use tla_value::{Arguments, Value};
+use tla_tree::{Expr, Field, Unit};
+use tla_value::{Arguments, FunValue, Value};
 
 /// Hints what was probably meant where an operand is of the wrong kind.
 pub(crate) fn hint_kind<'a>(page: &mut Page, telling: &Telling<'a>, scene: &Scene<'a, '_>) {
-    let operands = scene.culprit.operands.as_slice();
-    match scene.node {
-        Core::Member(_, _, set) | Core::NotMember(_, _, set) => hint_member(page, telling, set),
+    let Some((operand, wanted)) = wrong_operand(scene) else {
+        return;
+    };
+    if let Value::Model(name) = &operand.value
+        && !matches!(operand.core, Core::Bound(_, _))
+    {
+        return hint_model_value(page, telling, name.as_str(), wanted);
+    }
+    let meant = operator_meant(scene.node, scene.culprit.operands.as_slice());
+    if !meant.is_empty() {
+        return page.hint(&["did you mean ", meant, " ?"]);
+    }
+    let is_told = match scene.node {
+        Core::Member(_, _, set) | Core::NotMember(_, _, set) => {
+            hint_member(page, telling, set, operand)
+        }
         Core::Cup(_, _, _) | Core::Cap(_, _, _) | Core::Minus(_, _, _) => {
-            hint_braces(page, telling, scene);
+            hint_braces(page, telling, scene, operand);
+            true
         }
-        _ => {
-            let meant = operator_meant(scene.node, operands);
-            if !meant.is_empty() {
-                page.hint(&["did you mean ", meant, " ?"]);
-            }
+        _ => false,
+    };
+    if !is_told && wanted == Wanted::Set {
+        hint_items(page, telling, scene, operand);
+    }
+}
+
+/// The first operand that isn't of the kind that is wanted.
+pub(crate) fn wrong_operand<'c>(scene: &Scene<'_, 'c>) -> Option<(&'c Operand<'c>, Wanted)> {
+    for operand in scene.culprit.operands.iter() {
+        if let Some(wanted) = wanted_of(scene.node, operand.number)
+            && !wanted.admits(&operand.value)
+        {
+            return Some((operand, wanted));
         }
+    }
+    None
+}
+
+/// Hints at the configuration, where a model value stands in place of a number or a set.
+fn hint_model_value(page: &mut Page, telling: &Telling<'_>, name: &str, wanted: Wanted) {
+    let sources = telling.sources;
+    let configuration = sources.names.configuration;
+    match is_definition(page.alloc(), telling.units, name) {
+        Ok(true) => {
+            page.put(&[
+                "hint: = makes ",
+                name,
+                " a model value: write <- ",
+                name,
+                " in ",
+            ]);
+            page.put(&[configuration, " for the definition\n"]);
+        }
+        Ok(false) => {
+            page.put(&[
+                "hint: ",
+                name,
+                " is a model value, equal to itself alone: write ",
+            ]);
+            page.put(&[wanted.text(), " in its place in "]);
+            page.put(&[configuration, "\n"]);
+        }
+        Err(_) => page.refuse(),
+    }
+}
+
+/// Whether a name is one that a module defines.
+fn is_definition(alloc: Global, units: &[Unit], name: &str) -> Result<bool, AllocError> {
+    let known = known_names(alloc, units)?;
+    Ok(match known_name(&known, name) {
+        Some(known) => known.role == Role::Operator,
+        None => false,
+    })
+}
+
+/// Hints at the items of a function that stands in place of a set.
+fn hint_items<'a>(
+    page: &mut Page,
+    telling: &Telling<'a>,
+    scene: &Scene<'a, '_>,
+    operand: &Operand<'_>,
+) {
+    if !matches!(operand.value, Value::Fun(_)) {
+        return;
+    }
+    if let Some(Expr::Name(name)) = written(telling, scene.expr, operand) {
+        let name = text_of(name);
+        page.hint(&[
+            "the values of ",
+            name,
+            " are {",
+            name,
+            "[i] : i \\in DOMAIN ",
+            name,
+            "}, its arguments DOMAIN ",
+            name,
+        ]);
     }
 }
 
@@ -45,39 +130,97 @@ fn operator_meant(node: &Core, operands: &[Operand<'_>]) -> &'static str {
         Core::Binary(_, Binary::Subtract, _, _) if sets => "\\",
         Core::Binary(_, Binary::Add, _, _) if sets => "\\cup",
         Core::Binary(_, Binary::Add, _, _) if functions => "\\o or Append",
+        Core::Cup(_, _, _) if functions => function_meant(operands),
         Core::Binary(_, Binary::Multiply, _, _) if sets => "\\X",
         Core::Binary(_, Binary::LessThan | Binary::AtMost, _, _) if sets => "\\subseteq",
         Core::Binary(_, Binary::Concat, _, _) if sets => "\\cup",
         Core::Binary(_, Binary::Append, _, _) if sets => "\\cup",
+        Core::Implies(_, _, _) if are_numbers(operands) => ">=",
+        Core::Records(_, _) => "|-> in place of :",
         Core::Unary(_, Unary::Len, _) if sets => "Cardinality",
         Core::Unary(_, Unary::Cardinality, _) if functions => "Len",
         _ => "",
     }
 }
 
-/// Hints what was meant where a record or a function stands in place of a set of functions.
-fn hint_member(page: &mut Page, telling: &Telling<'_>, set: &Core) {
-    if expression_at(telling.units, set.place(), "[ |-> ]").is_some() {
-        page.hint(&[
-            "did you mean -> in place of |-> ? [S -> T] is the set of functions from S to T",
-        ]);
-    } else if expression_at(telling.units, set.place(), "[ \\in |-> ]").is_some() {
-        page.hint(&["did you mean = in place of \\in ?"]);
+fn are_numbers(operands: &[Operand<'_>]) -> bool {
+    operands
+        .iter()
+        .all(|operand| matches!(operand.value, Value::Int(_)))
+}
+
+/// What joins functions, where `\cup` has one at the left; no text where it adds to a set.
+fn function_meant(operands: &[Operand<'_>]) -> &'static str {
+    let Some(left) = operands.first() else {
+        return "";
+    };
+    match &left.value {
+        Value::Fun(function) if function.as_sequence().is_some() => "\\o or Append",
+        Value::Fun(_) => "@@",
+        _ => "",
     }
 }
 
+/// Hints what was meant where a record or a function stands in place of a set of functions or of
+/// records; false where it is something else.
+fn hint_member(page: &mut Page, telling: &Telling<'_>, set: &Core, operand: &Operand<'_>) -> bool {
+    match expression_at(telling.units, set.place(), "[ |-> ]") {
+        Some(Expr::Record(_, fields)) => {
+            hint_record(page, telling.units, fields);
+            return true;
+        }
+        Some(_) | None => {}
+    }
+    if expression_at(telling.units, set.place(), "[ \\in |-> ]").is_none() {
+        return false;
+    }
+    match &operand.value {
+        Value::Fun(function) if has_sets(function) => page.hint(&[
+            "did you mean -> ? [S -> T] is the set of functions from S to T",
+        ]),
+        _ => page.hint(&["did you mean = in place of \\in ?"]),
+    }
+    true
+}
+
+/// Hints `->` where the only field has the name of a set, and else `:`.
+fn hint_record(page: &mut Page, units: &[Unit], fields: &[Field]) {
+    match is_known(page.alloc(), units, fields) {
+        Ok(true) => page.hint(&[
+            "did you mean -> in place of |-> ? [S -> T] is the set of functions from S to T",
+        ]),
+        Ok(false) => page.hint(&[
+            "did you mean : in place of |-> ? [a : S, b : T] is a set of records",
+        ]),
+        Err(_) => page.refuse(),
+    }
+}
+
+/// Whether there is one field alone, and its name is one of the module.
+fn is_known(alloc: Global, units: &[Unit], fields: &[Field]) -> Result<bool, AllocError> {
+    let known = known_names(alloc, units)?;
+    Ok(match fields {
+        [field] => known_name(&known, text_of(&field.name)).is_some(),
+        _ => false,
+    })
+}
+
+/// Whether the first value of a function is a set.
+fn has_sets(function: &FunValue) -> bool {
+    matches!(function.values().first(), Some(Value::Set(_)))
+}
+
 /// Hints braces round an element.
-fn hint_braces<'a>(page: &mut Page, telling: &Telling<'a>, scene: &Scene<'a, '_>) {
-    for operand in scene.culprit.operands.iter() {
-        if matches!(operand.value, Value::Set(_)) {
-            continue;
-        }
-        if let Some(expr) = written(telling, scene.expr, operand) {
-            page.put_text("hint: did you mean {");
-            put_expression(page, telling, expr);
-            page.put_text("} ?\n");
-        }
-        return;
+fn hint_braces<'a>(
+    page: &mut Page,
+    telling: &Telling<'a>,
+    scene: &Scene<'a, '_>,
+    operand: &Operand<'_>,
+) {
+    if let Some(expr) = written(telling, scene.expr, operand) {
+        page.put_text("hint: did you mean {");
+        put_expression(page, telling, expr);
+        page.put_text("} ?\n");
     }
 }
 
@@ -104,7 +247,7 @@ fn hint_near(page: &mut Page, name: &str, keys: &[Value]) {
 }
 
 /// The string of a list that is nearest to a name.
-fn near_key<'v>(
+pub(crate) fn near_key<'v>(
     alloc: Global,
     name: &str,
     keys: &'v [Value],
@@ -116,109 +259,4 @@ fn near_key<'v>(
         }
     }
     meant(alloc, name, &names)
-}
-
-/// Hints what to write where a next value is read that isn't set.
-pub(crate) fn hint_next<'a>(page: &mut Page, telling: &Telling<'a>, scene: &Scene<'a, '_>) {
-    let nodes = scene.culprit.nodes.as_slice();
-    if let Some(equality) = part_equality(nodes) {
-        return hint_except(page, telling, scene, equality);
-    }
-    if nodes
-        .iter()
-        .any(|node| matches!(node, Core::Implies(_, _, _)))
-    {
-        page.hint(&[
-            "=> gives no steps and sets no variable: ",
-            "write IF .. THEN .. ELSE, or /\\ after the condition",
-        ]);
-    }
-}
-
-/// The equality whose left side is a part of the next value at the end of these nodes, as `x'[1] =
-/// 3`.
-fn part_equality<'c>(nodes: &[&'c Core]) -> Option<&'c Core> {
-    let mut below = nodes.len().checked_sub(1)?;
-    for _ in 0..nodes.len() {
-        let above = below.checked_sub(1)?;
-        let node: &'c Core = *nodes.get(above)?;
-        let part: &'c Core = *nodes.get(below)?;
-        match node {
-            Core::Apply(_, first, _) | Core::Field(_, _, first) if same_node(first, part) => {
-                below = above;
-            }
-            Core::Equal(_, left, _) if same_node(left, part) && !is_next(part) => {
-                return Some(node);
-            }
-            _ => return None,
-        }
-    }
-    None
-}
-
-/// Whether two nodes on one way down are the same one.
-fn same_node(first: &Core, part: &Core) -> bool {
-    first.place() == part.place() && sign_of(first) == sign_of(part)
-}
-
-fn is_next(core: &Core) -> bool {
-    matches!(core, Core::Next(_, _))
-}
-
-/// Hints the EXCEPT that sets a part of a function.
-fn hint_except<'a>(page: &mut Page, telling: &Telling<'a>, scene: &Scene<'a, '_>, equality: &Core) {
-    let Core::Next(_, variable) = scene.node else {
-        return;
-    };
-    let name = variable_name(telling, *variable);
-    let Some(Expr::Binary(_, _, _, left, right)) = expression_of(telling.units, equality) else {
-        return;
-    };
-    match path_of(page.alloc(), telling, left) {
-        Ok(Some(path)) => {
-            page.put(&["hint: write ", name, "' = [", name, " EXCEPT !"]);
-            page.put_bytes(&path);
-            page.put_text(" = ");
-            put_expression(page, telling, right);
-            page.put_text("]\n");
-        }
-        Ok(None) => page.hint(&[
-            "give ",
-            name,
-            " its whole value, as ",
-            name,
-            " = [i \\in S |-> e]",
-        ]),
-        Err(_) => page.refuse(),
-    }
-}
-
-/// The path of a part, as EXCEPT has it: `[1].a` of `x'[1].a` and of `x[1].a'`; none where there is
-/// no prime.
-fn path_of(
-    alloc: Global,
-    telling: &Telling<'_>,
-    left: &Expr,
-) -> Result<Option<Vec<u8>>, AllocError> {
-    let tokens = telling.tokens;
-    let (Some(first), Some(last)) = (first_token(tokens, left), last_token(tokens, left)) else {
-        return Ok(None);
-    };
-    let second = first.saturating_add(1);
-    let module = telling.sources.module;
-    if tokens
-        .get(second)
-        .is_some_and(|token| token.kind == Kind::Prime)
-    {
-        let path = text_between(alloc, module, tokens, second.saturating_add(1), last)?;
-        return Ok(Some(path));
-    }
-    if tokens
-        .get(last)
-        .is_some_and(|token| token.kind == Kind::Prime)
-    {
-        let path = text_between(alloc, module, tokens, second, last.saturating_sub(1))?;
-        return Ok(Some(path));
-    }
-    Ok(None)
 }

@@ -8,6 +8,7 @@ use tla_lex::{Kind, Token};
 use tla_page::definitions::definition_at;
 use tla_page::page::Page;
 use tla_page::places::{token_place, word};
+use tla_page::units::put_assumption;
 use tla_page::values::put_state;
 use tla_refusals::given;
 use tla_report::Answered;
@@ -43,9 +44,8 @@ fn tell_at_place(
 ) {
     begin_at(page, telling.sources, fault.place);
     page.put(&[code_title(fault.code), " (", fault.code.name(), "), in "]);
-    put_part_name(page, answered, part);
+    put_part_name(page, telling, answered, part);
     end_at(page, telling.sources, fault.place);
-    page.put_rule(fault.code.name());
     tell_operands(page, telling, fault, part, answered.answer.states().last());
     if let Some(place) = fault.place {
         tell_definitions(page, telling, place);
@@ -53,12 +53,14 @@ fn tell_at_place(
 }
 
 /// Adds the name of the part in which the fault was met.
-pub(crate) fn put_part_name(page: &mut Page, answered: &Answered, part: Part) {
+pub(crate) fn put_part_name(
+    page: &mut Page,
+    telling: &Telling<'_>,
+    answered: &Answered,
+    part: Part,
+) {
     match part {
-        Part::Assumption(number) => {
-            page.put_text("assumption ");
-            page.put_number(u128::from(number));
-        }
+        Part::Assumption(number) => put_assumption(page, telling.units, number),
         Part::Initial => page.put_text("the initial predicate"),
         Part::NextAction => page.put_text("the next-state action"),
         Part::Invariant(index) => {

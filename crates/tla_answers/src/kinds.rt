@@ -127,6 +127,18 @@ pub(crate) fn is_record(function: &FunValue) -> bool {
     }
 }
 
+/// Adds the fields of a record.
+pub(crate) fn put_fields(page: &mut Page, function: &FunValue) {
+    let Arguments::Listed(keys) = function.arguments() else {
+        return;
+    };
+    for (index, key) in keys.iter().enumerate() {
+        if let Value::Text(name) = key {
+            page.put(&[if index > 0 { ", " } else { "" }, name.as_str()]);
+        }
+    }
+}
+
 /// Adds the domain of a function.
 pub(crate) fn put_domain(page: &mut Page, function: &FunValue) {
     match function.arguments() {

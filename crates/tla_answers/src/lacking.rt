@@ -2,12 +2,14 @@
 
 use crate::answer::{begin_at, end_at};
 use crate::faults::{name_at, put_named, put_part_name};
+use crate::why::put_expression;
 use tla_core::{Core, FaultCode, Place};
 use tla_page::page::Page;
 use tla_report::Answered;
 use tla_search::Part;
-use tla_steps::{Taken, lacking_part, lacking_parts};
+use tla_steps::{LackingPart, lacking_part, lacking_parts};
 use tla_traces::binders::put_choices;
+use tla_traces::expressions::expression_of;
 use tla_traces::models::Telling;
 use tla_traces::trace::put_part;
 use tla_value::State;
@@ -27,7 +29,7 @@ pub(crate) fn tell(
     let state = answered.answer.states().last();
     let found = found_part(page, telling, action, variable, state);
     let place = match &found {
-        Some(part) => Some(part.place),
+        Some(found) => Some(found.part.place()),
         None => Some(action.place()),
     };
     let names = answered.variables.as_slice();
@@ -38,9 +40,11 @@ pub(crate) fn tell(
         FaultCode::Lacking.name(),
         "), in ",
     ]);
-    put_part_name(page, answered, part);
+    put_part_name(page, telling, answered, part);
     end_at(page, telling.sources, place);
-    page.put_rule(FaultCode::Lacking.name());
+    if found.is_none() {
+        page.put_rule(FaultCode::Lacking.name());
+    }
     let lack = Lack {
         action,
         variable,
@@ -68,13 +72,13 @@ fn action_of<'a>(telling: &Telling<'a>, part: Part) -> &'a Core {
 }
 
 /// The first part that leaves the variable without a value.
-fn found_part(
+fn found_part<'a>(
     page: &mut Page,
     telling: &Telling<'_>,
-    action: &Core,
+    action: &'a Core,
     variable: usize,
     state: Option<&State>,
-) -> Option<Taken> {
+) -> Option<LackingPart<'a>> {
     let variables = telling.model.variables().len();
     match lacking_part(page.alloc(), action, variable, variables, state, BUDGET) {
         Ok(found) => found,
@@ -86,14 +90,22 @@ fn found_part(
 }
 
 /// Tells the part that was found, and the others that may leave the variable without a value.
-fn tell_parts(page: &mut Page, telling: &Telling<'_>, lack: &Lack<'_>, found: Option<&Taken>) {
-    if let Some(part) = found {
-        put_lack(page, telling, lack, part.place);
-        if !part.chosen.is_empty() {
+fn tell_parts(
+    page: &mut Page,
+    telling: &Telling<'_>,
+    lack: &Lack<'_>,
+    found: Option<&LackingPart<'_>>,
+) {
+    if let Some(found) = found {
+        put_lack(page, telling, lack, found.part.place());
+        if !found.chosen.is_empty() {
             page.put_text(" ");
-            put_choices(page, telling, &part.chosen);
+            put_choices(page, telling, &found.chosen);
         }
         put_cure(page, lack);
+        if !lack.is_initial {
+            hint_prime(page, telling, lack, found.part);
+        }
     }
     match lacking_parts(page.alloc(), lack.action, lack.variable) {
         Ok(places) => tell_others(page, telling, lack, found, &places),
@@ -105,11 +117,11 @@ fn tell_others(
     page: &mut Page,
     telling: &Telling<'_>,
     lack: &Lack<'_>,
-    found: Option<&Taken>,
+    found: Option<&LackingPart<'_>>,
     places: &[Place],
 ) {
     for place in places {
-        if found.is_none_or(|part| part.place != *place) {
+        if found.is_none_or(|found| found.part.place() != *place) {
             put_lack(page, telling, lack, *place);
             put_cure(page, lack);
         }
@@ -127,4 +139,38 @@ fn put_cure(page: &mut Page, lack: &Lack<'_>) {
     } else {
         page.put(&[": write UNCHANGED ", lack.name, "\n"]);
     }
+}
+
+/// Hints at a prime where a conjunct behind the first one that sets a variable compares the one that
+/// has no value.
+fn hint_prime(page: &mut Page, telling: &Telling<'_>, lack: &Lack<'_>, part: &Core) {
+    let Core::Conjunction(_, parts) = part else {
+        return;
+    };
+    let mut sets = false;
+    for part in parts {
+        if sets && compares(part, lack.variable) {
+            return put_prime_hint(page, telling, lack.name, part);
+        }
+        sets = sets || part.is_primed();
+    }
+}
+
+/// Whether a conjunct compares the present value of a variable.
+fn compares(part: &Core, variable: usize) -> bool {
+    match part {
+        Core::Equal(_, left, _) | Core::Member(_, left, _) => {
+            matches!(left.as_ref(), Core::Now(_, other) if *other == variable)
+        }
+        _ => false,
+    }
+}
+
+fn put_prime_hint(page: &mut Page, telling: &Telling<'_>, name: &str, part: &Core) {
+    page.put_text("hint: ");
+    match expression_of(telling.units, part) {
+        Some(expr) => put_expression(page, telling, expr),
+        None => page.put_text("a conjunct"),
+    }
+    page.put(&[" is about the present value: did you mean ", name, "' ?\n"]);
 }

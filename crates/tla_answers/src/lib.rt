@@ -8,6 +8,8 @@ mod extents;
 mod faults;
 mod kinds;
 mod lacking;
+mod missed;
 mod notes;
 mod operands;
+mod unset;
 mod why;

@@ -1,5 +1,6 @@
 //! What is worth a note where no error was found.
 
+use crate::missed;
 use crate::why::{tell_blocked, tell_reasons};
 use tla_config::{Statement, parse_config};
 use tla_lex::{Kind, Token};
@@ -27,6 +28,7 @@ pub(crate) fn tell(page: &mut Page, telling: &Telling<'_>, counts: &Counts) {
     if counts.levels == 1 && counts.states <= MOST_STATES {
         note_constraints(page, telling);
     }
+    missed::tell_of_search(page, telling);
     note_fairness(page, telling);
 }
 

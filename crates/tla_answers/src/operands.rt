@@ -1,8 +1,9 @@
 //! What the operands were where an expression faults.
 
-use crate::cures::{hint_field, hint_kind, hint_next};
+use crate::cures::{hint_field, hint_kind, wrong_operand};
 use crate::extents::text_of;
-use crate::kinds::{is_record, put_domain, put_kind, wanted_of};
+use crate::kinds::{Wanted, is_record, put_domain, put_fields, put_kind};
+use crate::unset::hint_next;
 use crate::why::{put_expression, put_operands, written};
 use tla_core::{Binary, Core, Fault, FaultCode};
 use tla_page::page::Page;
@@ -13,7 +14,7 @@ use tla_traces::expressions::expression_of;
 use tla_traces::models::Telling;
 use tla_traces::signs::sign_of;
 use tla_tree::Expr;
-use tla_value::{Arguments, FunValue, State, Value};
+use tla_value::{State, Value};
 
 /// How many expressions are evaluated to find the node of a fault.
 const BUDGET: u64 = 300_000;
@@ -24,6 +25,7 @@ pub(crate) struct Scene<'a, 'c> {
     pub(crate) node: &'c Core,
     pub(crate) expr: Option<&'a Expr>,
     pub(crate) culprit: &'c Culprit<'c>,
+    pub(crate) is_initial: bool,
 }
 
 /// Tells what the operands were where a formula faults, and the values of the names that are bound
@@ -49,8 +51,8 @@ pub(crate) fn tell_operands(
         },
     };
     match found {
-        Ok(Some(culprit)) => tell_culprit(page, telling, fault.code, &culprit),
-        Ok(None) => {}
+        Ok(Some(culprit)) => tell_culprit(page, telling, fault.code, &culprit, part),
+        Ok(None) => page.put_rule(fault.code.name()),
         Err(_) => page.refuse(),
     }
 }
@@ -72,17 +74,27 @@ fn predicate_of<'a>(telling: &Telling<'a>, part: Part) -> Option<&'a Core> {
     }
 }
 
-fn tell_culprit(page: &mut Page, telling: &Telling<'_>, code: FaultCode, culprit: &Culprit<'_>) {
+fn tell_culprit(
+    page: &mut Page,
+    telling: &Telling<'_>,
+    code: FaultCode,
+    culprit: &Culprit<'_>,
+    part: Part,
+) {
     let Some(&node) = culprit.nodes.last() else {
-        return;
+        return page.put_rule(code.name());
     };
     let scene = Scene {
         node,
         expr: expression_of(telling.units, node),
         culprit,
+        is_initial: matches!(part, Part::Initial),
     };
+    if !has_own_text(code, &scene) {
+        page.put_rule(code.name());
+    }
     tell_cause(page, telling, code, &scene);
-    if !culprit.chosen.is_empty() {
+    if !culprit.chosen.is_empty() && misfit(&scene).is_none() {
         put_choices(page, telling, &culprit.chosen);
         page.put_text("\n");
     }
@@ -91,6 +103,19 @@ fn tell_culprit(page: &mut Page, telling: &Telling<'_>, code: FaultCode, culprit
         FaultCode::NotSet => hint_next(page, telling, &scene),
         FaultCode::NoField => hint_field(page, &scene),
         _ => {}
+    }
+}
+
+/// Whether what is told of the node says all that the rule of the code says.
+fn has_own_text(code: FaultCode, scene: &Scene<'_, '_>) -> bool {
+    match code {
+        FaultCode::WrongKind => {
+            wrong_operand(scene).is_some()
+                || misfit(scene).is_some()
+                || scene.culprit.value.is_some()
+        }
+        FaultCode::NotSet => matches!(scene.node, Core::Next(_, _)),
+        _ => false,
     }
 }
 
@@ -119,21 +144,42 @@ fn tell_cause<'a>(page: &mut Page, telling: &Telling<'a>, code: FaultCode, scene
     }
 }
 
-/// Tells each operand that isn't of the kind that is wanted.
+/// Tells the first operand that isn't of the kind that is wanted, the element that doesn't fit its
+/// pattern, or the value that is no truth value.
 fn tell_wrong_kind<'a>(page: &mut Page, telling: &Telling<'a>, scene: &Scene<'a, '_>) {
-    for operand in scene.culprit.operands.iter() {
-        let Some(wanted) = wanted_of(scene.node, operand.number) else {
-            continue;
-        };
-        if !wanted.admits(&operand.value) {
-            put_position(page, scene, operand.number);
-            put_name_of(page, telling, scene, operand);
-            page.put_text(" is ");
-            put_kind(page, &operand.value);
-            page.put(&["; ", wanted.text(), " is wanted\n"]);
-            return;
-        }
+    if let Some((operand, wanted)) = wrong_operand(scene) {
+        put_position(page, scene, operand.number);
+        put_name_of(page, telling, scene, operand);
+        put_wanted(page, &operand.value, wanted);
+    } else if let Some((element, items)) = misfit(scene) {
+        page.put_text("the element is ");
+        put_kind(page, element);
+        page.put_text("; a sequence of ");
+        page.put_number(items as u128);
+        page.put_text(" items is wanted, for its pattern\n");
+    } else if let (Some(value), Some(expr)) = (&scene.culprit.value, scene.expr) {
+        put_expression(page, telling, expr);
+        put_wanted(page, value, Wanted::Truth);
     }
+}
+
+/// Ends what is told of a value that isn't of the kind that is wanted.
+fn put_wanted(page: &mut Page, value: &Value, wanted: Wanted) {
+    page.put_text(" is ");
+    put_kind(page, value);
+    page.put(&["; ", wanted.text(), " is wanted\n"]);
+}
+
+/// The element that doesn't fit its pattern, and how many names that has.
+fn misfit<'c>(scene: &Scene<'_, 'c>) -> Option<(&'c Value, usize)> {
+    let Core::Opened(_, openings, _) = scene.node else {
+        return None;
+    };
+    let [opening] = openings.as_slice() else {
+        return None;
+    };
+    let chosen = scene.culprit.chosen.last()?;
+    Some((&chosen.value, opening.items))
 }
 
 /// Adds the text of an operand after a comma, unless it is its value.
@@ -246,17 +292,6 @@ fn tell_fields<'a>(
     page.put_text("\n");
 }
 
-fn put_fields(page: &mut Page, function: &FunValue) {
-    let Arguments::Listed(keys) = function.arguments() else {
-        return;
-    };
-    for (index, key) in keys.iter().enumerate() {
-        if let Value::Text(name) = key {
-            page.put(&[if index > 0 { ", " } else { "" }, name.as_str()]);
-        }
-    }
-}
-
 /// Tells the set from which nothing could be chosen.
 fn tell_no_choice<'a>(
     page: &mut Page,
@@ -296,20 +331,29 @@ fn put_values<'a>(page: &mut Page, telling: &Telling<'a>, scene: &Scene<'a, '_>)
     );
 }
 
-/// Tells the text of Assert.
+/// Tells the condition and the text of Assert.
 fn tell_assert<'a>(page: &mut Page, telling: &Telling<'a>, scene: &Scene<'a, '_>) {
-    for operand in scene.culprit.operands.iter() {
-        if operand.number == 0 {
-            if let Some(expr) = written(telling, scene.expr, operand) {
-                put_expression(page, telling, expr);
-                page.put_text(" is FALSE\n");
-            }
-        } else {
-            page.put_text("Assert says ");
-            page.put_value(&operand.value);
-            page.put_text("\n");
-        }
+    let operands = scene.culprit.operands.as_slice();
+    if let Some(condition) = operand_at(operands, 0)
+        && let Some(expr) = written(telling, scene.expr, condition)
+    {
+        put_expression(page, telling, expr);
+        page.put_text(" is FALSE");
+        let count = operands.iter().filter(|operand| operand.number < 2).count();
+        let sides = operands.get(count..).unwrap_or(&[]);
+        put_operands(page, telling, None, sides, &scene.culprit.chosen);
+        page.put_text("\n");
     }
+    if let Some(text) = operand_at(operands, 1) {
+        page.put_text("Assert says ");
+        page.put_value(&text.value);
+        page.put_text("\n");
+    }
+}
+
+/// The operand with a number.
+fn operand_at<'o, 'c>(operands: &'o [Operand<'c>], number: usize) -> Option<&'o Operand<'c>> {
+    operands.iter().find(|operand| operand.number == number)
 }
 
 /// Tells which variable has no value yet.

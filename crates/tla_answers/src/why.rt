@@ -5,7 +5,9 @@ use crate::extents::{first_token, text_between, text_of};
 use tla_core::Core;
 use tla_lex::Kind;
 use tla_page::page::Page;
-use tla_steps::{Blocked, Chosen, Operand, Reason, Stray, Verdict, blocked_parts, reasons_against};
+use tla_steps::{
+    Blocked, Chosen, Operand, Reason, Stray, Verdict, blocked_parts, may_set, reasons_against,
+};
 use tla_traces::binders::{is_choice, put_choices};
 use tla_traces::expressions::{expression_of, operand_of};
 use tla_traces::models::Telling;
@@ -15,6 +17,9 @@ use tla_value::State;
 
 /// How many expressions are evaluated to find why something is FALSE.
 const BUDGET: u64 = 300_000;
+
+/// From which number on the operands of a reason are sets that its first operands count.
+const COUNTED: usize = 2;
 
 /// How many parts are shown that are FALSE.
 const MOST_REASONS: usize = 8;
@@ -191,9 +196,27 @@ pub(crate) fn written<'a>(
     whole: Option<&'a Expr>,
     operand: &Operand<'_>,
 ) -> Option<&'a Expr> {
-    match whole.and_then(|whole| operand_of(whole, operand.number)) {
+    let written = match operand.number.checked_sub(COUNTED) {
+        Some(number) => whole.and_then(|whole| counted_in(whole, number)),
+        None => None,
+    };
+    let written = match written {
+        Some(expr) => Some(expr),
+        None => whole.and_then(|whole| operand_of(whole, operand.number)),
+    };
+    match written {
         Some(expr) => Some(expr),
         None => expression_of(telling.units, operand.core),
+    }
+}
+
+/// The set that an operand with a number counts, if it is a call of Cardinality.
+fn counted_in(whole: &Expr, number: usize) -> Option<&Expr> {
+    match operand_of(whole, number)? {
+        Expr::Call(name, arguments) if name.word.as_bytes() == b"Cardinality".as_slice() => {
+            arguments.first()
+        }
+        _ => None,
     }
 }
 
@@ -216,6 +239,11 @@ pub(crate) fn put_operands<'a>(
 ) {
     let mut before = "; ";
     for operand in operands {
+        if let (None, Core::Next(_, variable)) = (whole, operand.core) {
+            put_next(page, telling, *variable, operand, before);
+            before = ", ";
+            continue;
+        }
         let Some(expr) = written(telling, whole, operand) else {
             continue;
         };
@@ -223,6 +251,18 @@ pub(crate) fn put_operands<'a>(
             before = ", ";
         }
     }
+}
+
+/// Adds the next value of a variable, where the text doesn't write it.
+fn put_next(
+    page: &mut Page,
+    telling: &Telling<'_>,
+    variable: usize,
+    operand: &Operand<'_>,
+    before: &str,
+) {
+    page.put(&[before, variable_name(telling, variable), "' is "]);
+    page.put_value(&operand.value);
 }
 
 /// Adds an operand with its value; false where its text is its value.
@@ -273,7 +313,7 @@ pub(crate) fn tell_blocked(
 fn put_blocked(page: &mut Page, telling: &Telling<'_>, start: &str, blocked: &Blocked<'_>) {
     for reason in blocked.reasons.iter() {
         page.put_text(start);
-        put_part(page, telling, blocked.place);
+        put_part(page, telling, blocked.part.place());
         if !reason.chosen.is_empty() {
             page.put_text(" ");
             put_choices(page, telling, &reason.chosen);
@@ -289,12 +329,12 @@ fn put_blocked(page: &mut Page, telling: &Telling<'_>, start: &str, blocked: &Bl
     }
     if blocked.reasons.is_empty() {
         page.put_text(start);
-        put_part(page, telling, blocked.place);
+        put_part(page, telling, blocked.part.place());
         page.put_text(": no step, and no conjunct was found to be FALSE\n");
     }
     if blocked.more > 0 {
         page.put_text(start);
-        put_part(page, telling, blocked.place);
+        put_part(page, telling, blocked.part.place());
         page.put_text(": and ");
         page.put_number(blocked.more as u128);
         page.put_text(" more choices\n");
@@ -305,13 +345,41 @@ fn put_blocked(page: &mut Page, telling: &Telling<'_>, start: &str, blocked: &Bl
 fn hint_prime(page: &mut Page, telling: &Telling<'_>, parts: &[Blocked<'_>]) {
     for blocked in parts {
         for reason in blocked.reasons.iter() {
+            let line = reason.part.place().line;
             if let Some(variable) = compared_with_itself(reason.part) {
-                let name = variable_name(telling, variable);
-                let line = reason.part.place().line;
-                return put_prime_hint(page, name, line);
+                return put_prime_hint(page, variable_name(telling, variable), line);
+            }
+            if let Some(variable) = compared_only(reason.part, blocked.part) {
+                return put_unset_hint(page, variable_name(telling, variable), line);
             }
         }
     }
+}
+
+/// The variable that a conjunct compares in a part of Next that sets other variables, and not this
+/// one.
+fn compared_only(conjunct: &Core, part: &Core) -> Option<usize> {
+    match conjunct {
+        Core::Equal(_, left, _) | Core::Member(_, left, _) => match left.as_ref() {
+            Core::Now(_, variable) if part.is_primed() && !may_set(part, *variable) => {
+                Some(*variable)
+            }
+            _ => None,
+        },
+        _ => None,
+    }
+}
+
+fn put_unset_hint(page: &mut Page, name: &str, line: u64) {
+    page.put_text("hint: line ");
+    page.put_number(u128::from(line));
+    page.put(&[
+        " asks for the present value of ",
+        name,
+        ", and nothing there sets it: did you mean ",
+        name,
+        "' ?\n",
+    ]);
 }
 
 fn put_prime_hint(page: &mut Page, name: &str, line: u64) {

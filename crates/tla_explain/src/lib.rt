@@ -50,11 +50,23 @@ pub fn explain<'a, W: Write>(
 
 fn tell(page: &mut Page, sources: &Sources<'_>, checked: &Checked) {
     match checked {
-        Checked::Refused(refused) => tla_refusals::refusal::tell(page, sources, refused),
+        Checked::Refused(refused) => {
+            tla_refusals::refusal::tell(page, sources, refused);
+            hint_order(page, &sources.names);
+        }
         Checked::Answered(answered) => tla_answers::answer::tell(page, sources, answered),
         Checked::NoMemory => page.put_text("out of memory: allow more, or check a smaller model\n"),
         Checked::NoWorker => {
             page.put_text("a worker could not be started: ask for fewer, by --workers\n");
         },
+    }
+}
+
+/// Hints at the order of the two files, where their names have each other's endings.
+fn hint_order(page: &mut Page, names: &FileNames<'_>) {
+    if names.module.ends_with(".cfg") || names.configuration.ends_with(".tla") {
+        page.hint(&[
+            "name the module first and then the configuration: tlacheck Lock.tla Lock.cfg",
+        ]);
     }
 }

@@ -48,7 +48,7 @@ fn wanted_after(kind: Kind) -> Option<&'static str> {
 }
 
 /// Whether a token closes what waits for this.
-fn is_closed_by(wanted: &str, kind: Kind) -> bool {
+pub fn is_closed_by(wanted: &str, kind: Kind) -> bool {
     match kind {
         Kind::RightParen => wanted == ")",
         Kind::RightBracket | Kind::RightBracketSubscript => wanted == "]",

@@ -3,7 +3,7 @@
 use crate::table::{Entry, entry_of};
 
 /// Characters of Unicode, each as it is written in ASCII.
-static SYMBOLS: [Entry; 44] = [
+static SYMBOLS: [Entry; 45] = [
     ("∧", "/\\"),
     ("∨", "\\/"),
     ("¬", "~"),
@@ -44,16 +44,52 @@ static SYMBOLS: [Entry; 44] = [
     ("—", "-"),
     ("−", "-"),
     ("…", ".."),
+    ("‥", ".."),
     ("ℕ", "Nat"),
     ("ℤ", "Int"),
     ("∅", "{}"),
     ("\u{a0}", "a blank"),
 ];
 
-/// Characters of ASCII that begin no token.
-static SIGNS: [Entry; 8] = [
+/// More characters of Unicode, each as it is written in ASCII.
+static MORE_SYMBOLS: [Entry; 25] = [
+    ("⊂", "\\subseteq"),
+    ("⇐", "=>, with the sides turned round"),
+    ("⟹", "=>"),
+    ("⟺", "<=>"),
+    ("↔", "<=>"),
+    ("⟶", "->"),
+    ("⟼", "|->"),
+    ("≔", "=="),
+    ("⩽", "<="),
+    ("⩾", ">="),
+    ("⋃", "UNION"),
+    ("⋅", "*"),
+    ("·", "*"),
+    ("∗", "*"),
+    ("«", "<<"),
+    ("»", ">>"),
+    ("„", "\""),
+    ("‚", "'"),
+    ("ℝ", "Int, since numbers are whole,"),
+    ("𝔹", "BOOLEAN"),
+    ("∄", "~ \\E"),
+    ("⊕", "an operator with a name, as Plus(a, b),"),
+    ("\u{2003}", "a blank"),
+    ("\u{202f}", "a blank"),
+    ("\u{200b}", "nothing"),
+];
+
+/// Characters of ASCII that begin no token. The longer of two comes first.
+static SIGNS: [Entry; 11] = [
+    ("//", "a comment begins with \\*"),
+    ("/*", "a comment begins with \\*, or is written (* .. *)"),
+    ("||", "write \\/ for or"),
     ("&", "write /\\ for and"),
-    ("|", "write \\/ for or"),
+    (
+        "|",
+        "write \\/ for or, : before the condition of a set {x \\in S : p}, and [] between the arms of CASE",
+    ),
     (";", "remove it: nothing ends a definition or a statement"),
     ("/", "write a \\div b, which divides whole numbers"),
     ("?", "write IF p THEN a ELSE b"),
@@ -63,7 +99,7 @@ static SIGNS: [Entry; 8] = [
 ];
 
 /// Words of other languages, and operators that are left out.
-static WORDS: [Entry; 31] = [
+static WORDS: [Entry; 40] = [
     ("and", "/\\"),
     ("or", "\\/"),
     ("not", "~"),
@@ -95,11 +131,43 @@ static WORDS: [Entry; 31] = [
     ("mapsto", "|->"),
     ("setof", "{e : x \\in S}"),
     ("elseif", "ELSE IF"),
+    ("elsif", "ELSE IF"),
+    ("elif", "ELSE IF"),
+    ("ELSEIF", "ELSE IF"),
+    ("ELSIF", "ELSE IF"),
+    ("AND", "/\\"),
+    ("OR", "\\/"),
+    ("NOT", "~"),
+    ("powerset", "SUBSET"),
+    ("POWERSET", "SUBSET"),
 ];
 
-/// The characters of Unicode that are known, each as it is written in ASCII.
-pub fn symbols() -> &'static [(&'static str, &'static str)] {
-    &SYMBOLS
+/// Words of LaTeX, without the backslash.
+static LATEX: [Entry; 16] = [
+    ("nin", "\\notin"),
+    ("iff", "<=>"),
+    ("to", "->"),
+    ("Rightarrow", "=>"),
+    ("Leftrightarrow", "<=>"),
+    ("leadsto", "~>"),
+    ("Box", "[]"),
+    ("Diamond", "<>"),
+    ("square", "[]"),
+    ("langle", "<<"),
+    ("rangle", ">>"),
+    ("bigcup", "UNION S, or a \\cup b"),
+    ("ldots", ".."),
+    ("dots", ".."),
+    ("triangleq", "=="),
+    (
+        "sqsubseteq",
+        "\\A x \\in DOMAIN a : x \\in DOMAIN b /\\ a[x] <= b[x], where a and b are bags",
+    ),
+];
+
+/// The characters of Unicode that are known, each as it is written in ASCII, in two tables.
+pub fn symbols() -> [&'static [(&'static str, &'static str)]; 2] {
+    [&SYMBOLS, &MORE_SYMBOLS]
 }
 
 /// A character of ASCII that begins no token, the first of a text, and what to write in its place.
@@ -112,7 +180,12 @@ pub fn sign_cure(text: &str) -> Option<(&'static str, &'static str)> {
     None
 }
 
-/// How this language writes a word of another language, or an operator without its backslash.
+/// How this language writes a word of another language.
 pub fn word_meant(word: &str) -> Option<&'static str> {
     entry_of(&WORDS, word)
+}
+
+/// How this language writes an operator that LaTeX or another language has, without its backslash.
+pub fn command_meant(word: &str) -> Option<&'static str> {
+    entry_of(&WORDS, word).or(entry_of(&LATEX, word))
 }

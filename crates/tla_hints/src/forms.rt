@@ -34,7 +34,10 @@ static FORMS: [Entry; 14] = [
         "MODULE",
         "a file has one module: copy the definitions of the inner one into it",
     ),
-    ("--", "a line between units has four dashes or more"),
+    (
+        "--",
+        "a comment begins with \\*; a line between units has four dashes or more",
+    ),
     ("-+->", "remove the formula: only safety is checked"),
     ("\\AA", "remove the formula: only safety is checked"),
     ("\\EE", "remove the formula: only safety is checked"),
@@ -64,8 +67,23 @@ static PROOFS: [Entry; 13] = [
     ("NEW", "remove the claim: there are no proofs"),
 ];
 
+const COMMUNITY: &str =
+    "remove it: where one of its operators is used, the hint says what to write";
+
+/// Modules of the community that can't be extended.
+static COMMUNITY_MODULES: [Entry; 8] = [
+    ("SequencesExt", COMMUNITY),
+    ("FiniteSetsExt", COMMUNITY),
+    ("Functions", COMMUNITY),
+    ("Folds", COMMUNITY),
+    ("BagsExt", COMMUNITY),
+    ("Relation", COMMUNITY),
+    ("Graphs", COMMUNITY),
+    ("Combinatorics", COMMUNITY),
+];
+
 /// Modules that can't be extended.
-static MODULES: [Entry; 8] = [
+static MODULES: [Entry; 9] = [
     (
         "Bags",
         "a bag is a function to numbers: SetToBag(S) is [x \\in S |-> 1]; copy the other definitions that are used",
@@ -73,6 +91,7 @@ static MODULES: [Entry; 8] = [
     ("Reals", "write Integers: numbers are whole"),
     ("TLAPS", "remove it: there are no proofs"),
     ("TLCExt", "remove it, and what is used of it"),
+    ("Toolbox", "remove it, and what is used of it"),
     (
         "RealTime",
         "a variable can count the time, by an action of its own",
@@ -89,5 +108,5 @@ pub fn form_cure(word: &str) -> Option<&'static str> {
 
 /// What to write in place of a module that can't be extended.
 pub fn module_cure(name: &str) -> Option<&'static str> {
-    entry_of(&MODULES, name)
+    entry_of(&MODULES, name).or(entry_of(&COMMUNITY_MODULES, name))
 }

@@ -17,13 +17,13 @@ mod statements;
 mod table;
 mod words;
 
-pub use brackets::{Open, closes_bracket, innermost_open, opens_bracket};
-pub use characters::{sign_cure, symbols, word_meant};
+pub use brackets::{Open, closes_bracket, innermost_open, is_closed_by, opens_bracket};
+pub use characters::{command_meant, sign_cure, symbols, word_meant};
 pub use columns::{blanks, front};
 pub use forms::{form_cure, module_cure};
-pub use library::library_cure;
+pub use library::{library_cure, plain_cure};
 pub use lines::line_of;
-pub use modules::module_with;
+pub use modules::{library_arity, library_form, module_with};
 pub use names::{Near, is_swapped, nearest};
 pub use places::is_before;
 pub use reserved::{BACKSLASHED, LIBRARY, MODULES, RESERVED};

@@ -3,7 +3,7 @@
 use crate::table::{Entry, entry_of};
 
 /// Of the module TLC and its like.
-static TLC: [Entry; 14] = [
+static TLC: [Entry; 12] = [
     (
         "Print",
         "leave it out: a trace shows the values, and Assert(p, text) stops where p is FALSE",
@@ -12,7 +12,6 @@ static TLC: [Entry; 14] = [
         "PrintT",
         "leave it out: a trace shows the values, and Assert(p, text) stops where p is FALSE",
     ),
-    ("JavaTime", "leave it out: no value may depend on the time"),
     (
         "TLCGet",
         "leave it out: a CONSTRAINT bounds the search, and --max-states the number of states",
@@ -35,7 +34,6 @@ static TLC: [Entry; 14] = [
         "SortSeq",
         "write CHOOSE q \\in [1..Len(s) -> S] : p, where p says that q is in order",
     ),
-    ("Any", "leave the condition out"),
     (
         "TLCModelValue",
         "declare a CONSTANT, and give it a value in the configuration",
@@ -101,11 +99,70 @@ static SEQUENCES: [Entry; 17] = [
     ),
 ];
 
+/// More of modules of sequences and functions.
+static MORE_SEQUENCES: [Entry; 16] = [
+    (
+        "Remove",
+        "define Remove(s, e) == LET K == {i \\in 1..Len(s) : s[i] # e} IN [n \\in 1..Cardinality(K) |-> s[CHOOSE i \\in K : Cardinality({j \\in K : j <= i}) = n]]",
+    ),
+    (
+        "IsSuffix",
+        "define IsSuffix(s, t) == Len(s) <= Len(t) /\\ SubSeq(t, Len(t) - Len(s) + 1, Len(t)) = s",
+    ),
+    (
+        "SeqOf",
+        "define SeqOf(S, n) == UNION {[1..m -> S] : m \\in 0..n}",
+    ),
+    (
+        "BoundedSeq",
+        "define BoundedSeq(S, n) == UNION {[1..m -> S] : m \\in 0..n}",
+    ),
+    (
+        "SetToSeqs",
+        "define SetToSeqs(S) == {q \\in [1..Cardinality(S) -> S] : {q[i] : i \\in DOMAIN q} = S}",
+    ),
+    (
+        "SelectInSeq",
+        "write IF \\E i \\in 1..Len(s) : Test(s[i]) THEN CHOOSE i \\in 1..Len(s) : Test(s[i]) ELSE 0",
+    ),
+    (
+        "Zip",
+        "define Zip(s, t) == [i \\in DOMAIN s |-> <<s[i], t[i]>>], for sequences of one length",
+    ),
+    (
+        "Bijection",
+        "define Bijection(S, T) == {f \\in [S -> T] : {f[a] : a \\in S} = T /\\ \\A a, b \\in S : f[a] = f[b] => a = b}",
+    ),
+    (
+        "Surjection",
+        "define Surjection(S, T) == {f \\in [S -> T] : {f[a] : a \\in S} = T}",
+    ),
+    (
+        "IsBijection",
+        "define IsBijection(f, S, T) == DOMAIN f = S /\\ {f[a] : a \\in S} = T /\\ \\A a, b \\in S : f[a] = f[b] => a = b",
+    ),
+    (
+        "AntiFunction",
+        "define AntiFunction(f) == [t \\in {f[x] : x \\in DOMAIN f} |-> CHOOSE x \\in DOMAIN f : f[x] = t]",
+    ),
+    (
+        "RestrictDomain",
+        "write [x \\in {y \\in DOMAIN f : Test(y)} |-> f[x]]",
+    ),
+    (
+        "RestrictValues",
+        "write [x \\in {y \\in DOMAIN f : Test(f[y])} |-> f[x]]",
+    ),
+    ("Abs", "define Abs(n) == IF n < 0 THEN -n ELSE n"),
+    ("length", "write Len"),
+    ("Length", "write Len"),
+];
+
 const SUM: &str =
     "a sum counts pairs: Cardinality({<<x, i>> \\in S \\X (1..Most) : i <= f[x]}) is the sum of f over S, where no value is above Most";
 
 /// Of modules that go over the elements of a set.
-static FOLDS: [Entry; 16] = [
+static FOLDS: [Entry; 20] = [
     ("FoldSet", SUM),
     ("FoldFunction", SUM),
     ("FoldFunctionOnSet", SUM),
@@ -131,12 +188,21 @@ static FOLDS: [Entry; 16] = [
     ),
     ("ChooseUnique", "write CHOOSE x \\in S : Test(x)"),
     ("FlattenSet", "write UNION S"),
+    ("ReduceSet", SUM),
+    ("ReduceSeq", SUM),
+    (
+        "Maximum",
+        "define Maximum(S) == CHOOSE m \\in S : \\A x \\in S : x <= m",
+    ),
+    (
+        "Minimum",
+        "define Minimum(S) == CHOOSE m \\in S : \\A x \\in S : m <= x",
+    ),
 ];
 
-/// Of the modules Bags and Reals.
-static BAGS: [Entry; 12] = [
+/// Of the module Bags.
+static BAGS: [Entry; 9] = [
     ("SetToBag", "define SetToBag(S) == [x \\in S |-> 1]"),
-    ("EmptyBag", "define EmptyBag == << >>"),
     ("BagToSet", "define BagToSet(B) == DOMAIN B"),
     ("BagIn", "define BagIn(x, B) == x \\in DOMAIN B"),
     (
@@ -163,17 +229,70 @@ static BAGS: [Entry; 12] = [
         "BagOfAll",
         "write the function that is meant, from each element to its count",
     ),
+];
+
+/// Names without arguments: of modules that aren't read, and sets as other languages call them.
+static PLAIN: [Entry; 12] = [
+    ("JavaTime", "leave it out: no value may depend on the time"),
+    ("Any", "leave the condition out"),
+    ("EmptyBag", "define EmptyBag == << >>"),
     ("Real", "write Int: numbers are whole"),
     (
         "Infinity",
         "write a number that is greater than all that are met",
     ),
+    ("Natural", "write Nat"),
+    ("Naturals", "write Nat"),
+    ("Integer", "write Int"),
+    ("Integers", "write Int"),
+    ("Bool", "write BOOLEAN"),
+    ("Boolean", "write BOOLEAN"),
+    ("String", "write STRING"),
 ];
 
-/// What to write in place of an operator of a module that isn't read.
+/// Names for no value.
+static NOTHING: [Entry; 7] = [
+    (
+        "None",
+        "declare CONSTANT None, and write CONSTANT None = None in the configuration",
+    ),
+    (
+        "NONE",
+        "declare CONSTANT NONE, and write CONSTANT NONE = NONE in the configuration",
+    ),
+    (
+        "Null",
+        "declare CONSTANT Null, and write CONSTANT Null = Null in the configuration",
+    ),
+    (
+        "NULL",
+        "declare CONSTANT NULL, and write CONSTANT NULL = NULL in the configuration",
+    ),
+    (
+        "null",
+        "declare CONSTANT null, and write CONSTANT null = null in the configuration",
+    ),
+    (
+        "Nil",
+        "declare CONSTANT Nil, and write CONSTANT Nil = Nil in the configuration",
+    ),
+    (
+        "nil",
+        "declare CONSTANT nil, and write CONSTANT nil = nil in the configuration",
+    ),
+];
+
+/// What to write in place of a name without arguments, of a module that isn't read or of another
+/// language.
+pub fn plain_cure(name: &str) -> Option<&'static str> {
+    entry_of(&PLAIN, name).or(entry_of(&NOTHING, name))
+}
+
+/// What to write in place of an operator with arguments, of a module that isn't read.
 pub fn library_cure(name: &str) -> Option<&'static str> {
     entry_of(&TLC, name)
         .or(entry_of(&SEQUENCES, name))
+        .or(entry_of(&MORE_SEQUENCES, name))
         .or(entry_of(&FOLDS, name))
         .or(entry_of(&BAGS, name))
 }

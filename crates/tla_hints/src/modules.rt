@@ -1,5 +1,20 @@
 //! The operators of the modules that can be extended.
 
+use crate::table::{Entry, entry_of};
+
+/// The operators with arguments, as they are written.
+static FORMS: [Entry; 9] = [
+    ("Seq", "Seq(S)"),
+    ("Len", "Len(s)"),
+    ("Head", "Head(s)"),
+    ("Tail", "Tail(s)"),
+    ("Append", "Append(s, e)"),
+    ("SubSeq", "SubSeq(s, m, n)"),
+    ("IsFiniteSet", "IsFiniteSet(S)"),
+    ("Cardinality", "Cardinality(S)"),
+    ("Assert", "Assert(p, \"text\")"),
+];
+
 /// The module to extend for an operator, or none where no module has it.
 pub fn module_with(name: &[u8]) -> Option<&'static str> {
     let integers: [&[u8]; 16] = [
@@ -22,4 +37,20 @@ pub fn module_with(name: &[u8]) -> Option<&'static str> {
     } else {
         None
     }
+}
+
+/// How many arguments an operator with a name takes, of the modules that can be extended.
+pub fn library_arity(name: &str) -> Option<usize> {
+    match name.as_bytes() {
+        b"Nat" | b"Int" => Some(0),
+        b"Seq" | b"Len" | b"Head" | b"Tail" | b"IsFiniteSet" | b"Cardinality" => Some(1),
+        b"Append" | b"Assert" => Some(2),
+        b"SubSeq" => Some(3),
+        _ => None,
+    }
+}
+
+/// How an operator with arguments is written, of the modules that can be extended.
+pub fn library_form(name: &str) -> Option<&'static str> {
+    entry_of(&FORMS, name)
 }

@@ -2,7 +2,6 @@
 
 use std::fs;
 use std::io::Read;
-use std::rt::Files;
 
 /// Where Linux says how much memory a process has in use.
 const STATUS: &str = "/proc/self/status";
@@ -24,18 +23,21 @@ impl Memory for NoMemory {
 }
 
 /// The memory of this process, where it runs on Linux.
+///
+/// It has the process's own runtime: of a runtime that is only known to have files, it isn't known
+/// that another thread may use them.
 #[derive(Drop)]
-pub struct ProcessMemory<'a, R> {
-    rt: &'a R,
+pub struct ProcessMemory<'a> {
+    rt: &'a HostRuntime,
 }
 
-impl<'a, R: Files> ProcessMemory<'a, R> {
-    pub fn new(rt: &'a R) -> ProcessMemory<'a, R> {
+impl<'a> ProcessMemory<'a> {
+    pub fn new(rt: &'a HostRuntime) -> ProcessMemory<'a> {
         ProcessMemory { rt }
     }
 }
 
-impl<R: Files> Memory for ProcessMemory<'_, R> {
+impl Memory for ProcessMemory<'_> {
     fn in_use(&self) -> Option<u64> {
         let mut file = fs::open(self.rt, STATUS).ok()?;
         let mut text = [0u8; 4096];

@@ -35,7 +35,7 @@ const MOST_SKIPPED: u64 = 1_023;
 #[derive(Drop)]
 pub struct Progress<'a, R, M> {
     rt: &'a R,
-    memory: M,
+    memory: &'a M,
     began: Option<Instant>,
     /// How many states a piece has at most.
     cut: u64,
@@ -63,7 +63,7 @@ impl<'a, R: Clock + Eprint, M: Memory> Progress<'a, R, M> {
     /// nothing where `began` is none.
     pub fn new(
         rt: &'a R,
-        memory: M,
+        memory: &'a M,
         began: Option<Instant>,
         cut: u64,
         greatest: &'a GreatestLevel,

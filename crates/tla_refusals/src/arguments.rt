@@ -2,7 +2,8 @@
 
 use crate::finding::Finding;
 use crate::spot::Spot;
-use tla_hints::{closes_bracket, opens_bracket};
+use crate::unknown::is_head;
+use tla_hints::{closes_bracket, library_arity, library_form, opens_bracket};
 use tla_lex::Kind;
 use tla_page::page::Page;
 use tla_page::units::{Known, Role, known_name};
@@ -13,26 +14,75 @@ pub(crate) fn find(finding: &mut Finding, spot: &Spot<'_>, known: &[Known<'_>]) 
     let place = spot.place(spot.at);
     let given = given_arguments(spot);
     let Some(one) = known_name(known, name) else {
-        return hint_given(finding, given);
+        return find_other(finding, spot, given);
     };
     if one.arity == 0 && given > 0 {
         finding.say_what(place, name, one.role.noun(), ", and takes no arguments");
         if one.role != Role::Assumption {
-            let arguments = arguments_text(spot);
-            finding.hint(&[
-                "write ",
-                name,
-                "[",
-                arguments,
-                "] for the value of a function",
-            ]);
+            hint_function(finding, spot);
         }
     } else {
-        let mut title = Page::new(finding.alloc(), false);
-        put_count(&mut title, name, one.arity, given);
-        finding.title = title;
+        say_count(finding, spot, one.arity, given);
     }
     finding.show_name(one.place, name, one.role.brought_in(), " here");
+}
+
+/// Finds what a name takes that no unit brings in: an operator of a module, or of LET, or a name
+/// that is bound.
+fn find_other(finding: &mut Finding, spot: &Spot<'_>, given: usize) {
+    let name = spot.word(spot.at);
+    if let Some(arity) = library_arity(name) {
+        say_count(finding, spot, arity, given);
+        if let Some(form) = library_form(name) {
+            finding.hint(&["write ", form]);
+        }
+    } else if given > 0 && !is_defined_before(spot, name) {
+        finding.say(
+            spot.place(spot.at),
+            &["'", name, "' is a value, and takes no arguments"],
+        );
+        hint_function(finding, spot);
+    } else {
+        hint_given(finding, given);
+    }
+}
+
+/// Whether a name is defined with parameters before a token.
+fn is_defined_before(spot: &Spot<'_>, name: &str) -> bool {
+    let before = spot.tokens.get(..spot.at).unwrap_or(&[]);
+    for (index, token) in before.iter().enumerate() {
+        let is_name = token.kind == Kind::Name && spot.word(index) == name;
+        if is_name && is_head(spot, index) {
+            return true;
+        }
+    }
+    false
+}
+
+fn hint_function(finding: &mut Finding, spot: &Spot<'_>) {
+    finding.hint(&[
+        "write ",
+        spot.word(spot.at),
+        "[",
+        arguments_text(spot),
+        "] for the value of a function",
+    ]);
+}
+
+fn say_count(finding: &mut Finding, spot: &Spot<'_>, arity: usize, given: usize) {
+    let name = spot.word(spot.at);
+    let mut title = Page::new(finding.alloc(), false);
+    put_count(&mut title, name, arity, given);
+    finding.title = title;
+    if given == 0 && spot.ahead(1) == Some(Kind::LeftBracket) {
+        finding.hint(&[
+            "write ",
+            name,
+            "(",
+            arguments_text(spot),
+            "): [..] is for functions",
+        ]);
+    }
 }
 
 /// Says how many arguments a name takes, and how many it has.

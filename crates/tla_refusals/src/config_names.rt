@@ -26,16 +26,31 @@ pub(crate) fn find_unknown(finding: &mut Finding, spot: &Spot<'_>, known: &[Know
     if let Some(module) = module_with(name.as_bytes()) {
         return hint_module(finding, name, module);
     }
-    let statement = statement_before(spot);
     match known_name(known, name) {
         Some(one) => {
-            finding.say_what(place, name, one.role.noun(), ", and no definition");
-            finding.hint(&[
-                "write a definition in the module, and name that after ",
-                statement,
-            ]);
+            say_role(finding, spot, &one);
+            finding.show_name(one.place, name, one.role.brought_in(), " here");
         }
         None => hint_near(finding, spot, known),
+    }
+}
+
+/// Says that a name is of no use at its place, by its role.
+fn say_role(finding: &mut Finding, spot: &Spot<'_>, one: &Known<'_>) {
+    let place = spot.place(spot.at);
+    if is_item(spot) {
+        finding.say_what(place, one.name, one.role.noun(), ", and no constant");
+        finding.hint(&[
+            "only a CONSTANT or a definition gets a value here: remove the item, or declare ",
+            one.name,
+            " as a CONSTANT",
+        ]);
+    } else {
+        finding.say_what(place, one.name, one.role.noun(), ", and no definition");
+        finding.hint(&[
+            "write a definition in the module, and name that after ",
+            statement_before(spot),
+        ]);
     }
 }
 
@@ -55,16 +70,26 @@ fn names_of<'a>(
 }
 
 /// The word of the statement in which a token is.
-fn statement_before<'a>(spot: &Spot<'a>) -> &'a str {
+pub(crate) fn statement_before<'a>(spot: &Spot<'a>) -> &'a str {
+    let word = spot.word(statement_index(spot));
+    if STATEMENTS.contains(&word) {
+        word
+    } else {
+        "the statement"
+    }
+}
+
+/// The number of the word of the statement in which a token is, or of the first token.
+pub(crate) fn statement_index(spot: &Spot<'_>) -> usize {
     for count in 0..spot.tokens.len() {
         let Some(index) = spot.at.checked_sub(count) else {
-            return "the statement";
+            return 0;
         };
         if STATEMENTS.contains(&spot.word(index)) {
-            return spot.word(index);
+            return index;
         }
     }
-    "the statement"
+    0
 }
 
 /// Whether a token is the name of an item of CONSTANT, before its sign.
@@ -138,12 +163,7 @@ fn put_other(title: &mut Page, spot: &Spot<'_>, known: &[Known<'_>]) {
 /// Finds which statement of the behaviour is missing, or one too many.
 pub(crate) fn find_behaviour(finding: &mut Finding, spot: Option<&Spot<'_>>, tokens: &Spot<'_>) {
     if let Some(spot) = spot {
-        finding.say(
-            spot.place(spot.at),
-            &["a second behaviour: ", spot.word(spot.at)],
-        );
-        finding.hint(&["keep INIT and NEXT, or SPECIFICATION, but not both"]);
-        return;
+        return say_second(finding, spot);
     }
     let has_init = has_word(tokens, "INIT");
     let has_next = has_word(tokens, "NEXT");
@@ -155,6 +175,54 @@ pub(crate) fn find_behaviour(finding: &mut Finding, spot: Option<&Spot<'_>>, tok
     finding.title.put_text(missing);
     finding.hint(&[
         "write INIT Init and NEXT Next with the names of the module, or SPECIFICATION Spec",
+    ]);
+}
+
+/// Says that a statement of the behaviour is one too many.
+fn say_second(finding: &mut Finding, spot: &Spot<'_>) {
+    let word = spot.word(spot.at);
+    let before = Spot {
+        tokens: spot.tokens.get(..spot.at).unwrap_or(&[]),
+        ..*spot
+    };
+    if has_word(&before, word) {
+        finding.say(spot.place(spot.at), &["a second ", word]);
+        finding.hint(&["keep one of the two"]);
+    } else {
+        finding.say(spot.place(spot.at), &["a second behaviour: ", word]);
+        finding.hint(&["keep INIT and NEXT, or SPECIFICATION, but not both"]);
+    }
+}
+
+/// Finds the definition by which an item leads back to its own name.
+pub(crate) fn find_circle(finding: &mut Finding, spot: &Spot<'_>, known: &[Known<'_>]) {
+    let name = spot.word(spot.at);
+    let other = spot.word(spot.at.saturating_add(2));
+    finding.say(
+        spot.place(spot.at),
+        &["'", name, "' means ", other, ", which leads back to ", name],
+    );
+    finding.hint(&[
+        "define ",
+        other,
+        " without ",
+        name,
+        ", and without names that lead to it",
+    ]);
+    if let Some(one) = known_name(known, other) {
+        finding.show_name(one.place, other, one.role.brought_in(), " here");
+    }
+}
+
+/// Says that a value is beyond the limits.
+pub(crate) fn find_large(finding: &mut Finding, spot: &Spot<'_>) {
+    let name = spot.word(spot.at);
+    finding.say(
+        spot.place(spot.at),
+        &["the value of ", name, " is too large"],
+    );
+    finding.hint(&[
+        "a number is from -9223372036854775808 to 9223372036854775807; a set has at most 1,000,000 elements, and is nested at most 64 deep",
     ]);
 }
 

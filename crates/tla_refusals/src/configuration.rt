@@ -1,21 +1,39 @@
 //! Refusals of a configuration's text.
 
-use crate::characters;
+use crate::config_names::{statement_before, statement_index};
 use crate::finding::Finding;
 use crate::names::{is_among, meant_within};
 use crate::spot::Spot;
-use tla_hints::{LEFT_OUT, STATEMENTS, line_of, statement_cure};
+use crate::{characters, items};
+use tla_hints::{LEFT_OUT, STATEMENTS, statement_cure};
 use tla_lex::{Kind, Place};
 
 /// How many edits may lead from a word in capital letters that begins a line to a statement.
 const MOST_EDITS: usize = 2;
+
+/// The statements that name formulas.
+const FORMULAS: [&str; 7] = [
+    "INIT",
+    "NEXT",
+    "SPECIFICATION",
+    "INVARIANT",
+    "INVARIANTS",
+    "CONSTRAINT",
+    "CONSTRAINTS",
+];
 
 /// The shortest word to which a nearest statement is looked for.
 const SHORTEST_WORD: usize = 3;
 
 /// Finds what can't be there in the text of a configuration. `names` are those of the module.
 pub(crate) fn find(finding: &mut Finding, spot: &Spot<'_>, names: &[&str]) {
-    if find_misspelt(finding, spot, names) || find_item(finding, spot) {
+    let is_found = find_unfinished(finding, spot)
+        || find_misspelt(finding, spot, names)
+        || find_sign(finding, spot)
+        || items::find(finding, spot)
+        || find_formula(finding, spot)
+        || find_comment(finding, spot);
+    if is_found {
         return;
     }
     let place = spot.place(spot.at);
@@ -30,15 +48,121 @@ pub(crate) fn find(finding: &mut Finding, spot: &Spot<'_>, names: &[&str]) {
     } else if word == "CHECK_DEADLOCK" {
         finding.say(place, &["CHECK_DEADLOCK a second time"]);
         finding.hint(&["remove one of them"]);
-    } else if spot.is(spot.at, Kind::NotEqual) {
-        finding.say(place, &["'", word, "' begins no comment"]);
-        finding.hint(&["a comment begins with \\*"]);
     } else {
         finding.say(place, &["'", word, "' begins no statement"]);
         finding.hint(&[
             "the statements are INIT, NEXT, SPECIFICATION, INVARIANT, CONSTRAINT, CONSTANT and CHECK_DEADLOCK",
         ]);
     }
+}
+
+/// Finds a sign between the word of a statement and its names.
+fn find_sign(finding: &mut Finding, spot: &Spot<'_>) -> bool {
+    let before = spot.word(spot.at.saturating_sub(1));
+    let is_sign = matches!(
+        spot.kind(spot.at),
+        Some(Kind::Equal | Kind::Define | Kind::Colon | Kind::Substitute)
+    );
+    if !is_sign || !is_statement(before) {
+        return false;
+    }
+    let sign = spot.word(spot.at);
+    let rest = spot.rest_of_line(spot.at.saturating_add(1));
+    finding.say(
+        spot.place(spot.at),
+        &["'", sign, "' after the word of a statement"],
+    );
+    finding.hint(&["write ", before, " ", rest, ", without '", sign, "'"]);
+    true
+}
+
+/// Finds a formula, or a second name, where a statement takes the name of a definition.
+fn find_formula(finding: &mut Finding, spot: &Spot<'_>) -> bool {
+    let Some(word) = formula_word(spot) else {
+        return false;
+    };
+    let place = spot.place(spot.at);
+    if spot.is(spot.at, Kind::Name) {
+        finding.say(place, &["a second name after ", word]);
+        finding.hint(&[word, " takes one name: define one formula of the two"]);
+    } else if spot.is(spot.at, Kind::Comma) {
+        finding.say(place, &["a comma after the name of ", word]);
+        finding.hint(&["remove it: ", word, " takes one name"]);
+    } else {
+        finding.say(place, &[word, " takes a name, and no formula"]);
+        hint_formula(finding, spot, word);
+    }
+    true
+}
+
+/// Says how a statement is given a formula.
+fn hint_formula(finding: &mut Finding, spot: &Spot<'_>, word: &str) {
+    let name = if word == "INIT" {
+        "Init"
+    } else if word == "NEXT" {
+        "Next"
+    } else if word == "SPECIFICATION" {
+        "Spec"
+    } else {
+        "Ok"
+    };
+    let formula = spot.rest_of_line(statement_index(spot).saturating_add(1));
+    say_formula(finding, word, name, formula);
+}
+
+fn say_formula(finding: &mut Finding, word: &str, name: &str, formula: &str) {
+    let define = [
+        "define ",
+        name,
+        " == ",
+        formula,
+        " in the module, and write ",
+    ];
+    finding.hint_of(&define, &[word, " ", name, " here"]);
+}
+
+/// Finds what the item lacks before a statement: a bracket that closes it, or its value.
+fn find_unfinished(finding: &mut Finding, spot: &Spot<'_>) -> bool {
+    if !is_statement(spot.word(spot.at)) {
+        return false;
+    }
+    if matches!(spot.back(1), Some(Kind::Equal | Kind::Substitute)) {
+        let sign = spot.word(spot.at.saturating_sub(1));
+        finding.say(
+            spot.place(spot.at),
+            &["a value is missing before '", spot.word(spot.at), "'"],
+        );
+        finding.hint(&["write one after '", sign, "'"]);
+        return true;
+    }
+    items::find_open(finding, spot, spot.place(spot.at))
+}
+
+/// The word of the statement with a formula of which the line has a name before a token.
+fn formula_word<'a>(spot: &Spot<'a>) -> Option<&'a str> {
+    let word = statement_before(spot);
+    let is_formula = FORMULAS.contains(&word);
+    let is_behind_name = matches!(spot.back(1), Some(Kind::Name | Kind::Prime));
+    let goes_on = is_behind_name && !spot.begins_line(spot.at);
+    (is_formula && goes_on).then_some(word)
+}
+
+/// Finds a comment as other languages write it, or a module in place of a configuration.
+fn find_comment(finding: &mut Finding, spot: &Spot<'_>) -> bool {
+    let place = spot.place(spot.at);
+    let word = spot.word(spot.at);
+    if spot.is(spot.at, Kind::Separator) {
+        finding.say(place, &["this begins a module, and no configuration"]);
+        finding.hint(&["name the module first, and the configuration second"]);
+        return true;
+    }
+    let is_comment = word == "--" || word == "%" || word == "*";
+    if !is_comment && !spot.is(spot.at, Kind::NotEqual) {
+        return false;
+    }
+    finding.say(place, &["'", word, "' begins no comment"]);
+    finding.hint(&["a comment begins with \\*"]);
+    true
 }
 
 /// Finds what is missing where a configuration ends, or the character at which it can't be read.
@@ -51,6 +175,9 @@ pub(crate) fn find_end(finding: &mut Finding, spot: &Spot<'_>, place: Place, nam
         return;
     }
     if characters::find_unread(finding, spot.text, place) {
+        return;
+    }
+    if items::find_end(finding, &last, place) {
         return;
     }
     let word = last.word(last.at);
@@ -131,8 +258,23 @@ fn statement_near(finding: &mut Finding, word: &str, most: usize) -> Option<&'st
             return Some(*statement);
         }
     }
+    if most > 0
+        && let Some(statement) = begun_by(word)
+    {
+        return Some(statement);
+    }
     let most = most.min(word.len() / 2);
     near_in(finding, word, &STATEMENTS, most).or(near_in(finding, word, &LEFT_OUT, most))
+}
+
+/// The first statement that begins with a word.
+fn begun_by(word: &str) -> Option<&'static str> {
+    for statement in STATEMENTS.iter().chain(LEFT_OUT.iter()) {
+        if statement.starts_with(word) {
+            return Some(*statement);
+        }
+    }
+    None
 }
 
 fn near_in(
@@ -148,108 +290,4 @@ fn near_in(
             None
         }
     }
-}
-
-/// Finds what to write for an item of CONSTANT that is no value.
-fn find_item(finding: &mut Finding, spot: &Spot<'_>) -> bool {
-    let Some(sign) = sign_before(spot) else {
-        return false;
-    };
-    let Some(name) = sign.checked_sub(1) else {
-        return false;
-    };
-    let name = spot.word(name);
-    let value = rest_of_line(spot, sign);
-    if is_plain(spot, sign) {
-        let title = match spot.kind(sign) {
-            Some(Kind::Substitute) => "'<-' wants the name of a definition",
-            _ => "an item gives its value by '='",
-        };
-        finding.say(spot.place(spot.at), &[title]);
-        finding.hint(&["write ", name, " = ", value]);
-    } else {
-        finding.say(
-            spot.place(spot.at),
-            &["the value of ", name, " is an expression"],
-        );
-        let define = [
-            "define ",
-            name,
-            "Value == ",
-            value,
-            " in the module, and write ",
-        ];
-        finding.hint_of(&define, &[name, " <- ", name, "Value here"]);
-    }
-    true
-}
-
-/// The sign between the name and the value of the item in the line of a token: `=`, `==`, `:` of
-/// `:=`, or `<-`.
-fn sign_before(spot: &Spot<'_>) -> Option<usize> {
-    let line = spot.place(spot.at).line;
-    for count in 0..spot.tokens.len() {
-        let index = spot.at.checked_sub(count)?;
-        if spot.place(index).line != line {
-            return None;
-        }
-        let kind = spot.kind(index)?;
-        let is_sign = matches!(
-            kind,
-            Kind::Equal | Kind::Define | Kind::Substitute | Kind::Colon
-        );
-        if is_sign && spot.kind(index.checked_sub(1)?) == Some(Kind::Name) {
-            return Some(index);
-        }
-    }
-    None
-}
-
-/// What a line has after the sign of an item, without blanks round it.
-fn rest_of_line<'a>(spot: &Spot<'a>, sign: usize) -> &'a str {
-    let Some(token) = spot.token(sign) else {
-        return "";
-    };
-    let next = sign.saturating_add(1);
-    let is_assigned = token.kind == Kind::Colon && spot.is(next, Kind::Equal);
-    let from = if is_assigned {
-        spot.token(next)
-    } else {
-        Some(token)
-    };
-    let end = match from {
-        Some(last) => last.end,
-        None => token.end,
-    };
-    let rest = spot.text.get(end..).unwrap_or(&[]);
-    let line = line_of(rest, 1).unwrap_or(rest);
-    str::from_utf8(line).unwrap_or("").trim()
-}
-
-/// Whether an item is a value with another sign than `=`: a number, a string or a truth value
-/// alone, or a set.
-fn is_plain(spot: &Spot<'_>, sign: usize) -> bool {
-    if spot.is(sign, Kind::Equal) {
-        return false;
-    }
-    let mut first = sign.saturating_add(1);
-    if spot.is(sign, Kind::Colon) && spot.is(first, Kind::Equal) {
-        first = first.saturating_add(1);
-    }
-    let line = spot.place(sign).line;
-    let rest = spot.tokens.get(first..).unwrap_or(&[]);
-    let mut same = rest.iter().take_while(|token| token.place.line == line);
-    same.all(|token| {
-        matches!(
-            token.kind,
-            Kind::Digits
-                | Kind::Text
-                | Kind::True
-                | Kind::False
-                | Kind::LeftBrace
-                | Kind::RightBrace
-                | Kind::Comma
-                | Kind::Name
-        )
-    })
 }

@@ -1,6 +1,6 @@
 //! Formulas to which the configuration gives a value.
 
-use crate::statements::{Named, config_of, formulas_named, value_place};
+use crate::statements::{Named, config_of, formulas_named, is_truth_value, value_place};
 use std::alloc::AllocError;
 use tla_config::{Config, Source, Statement};
 use tla_lex::Place;
@@ -8,11 +8,13 @@ use tla_page::page::Page;
 use tla_page::places::{Sources, core_place, put_at};
 use tla_search::Part;
 
-/// A name of a statement, and the item of CONSTANT that gives it a value.
+/// A name of a statement, the item of CONSTANT that gives it a value, and whether that is a truth
+/// value.
 #[derive(Clone, Copy)]
 struct Given<'a> {
     named: Named<'a>,
     item: Place,
+    is_truth: bool,
 }
 
 /// Explains a fault of a formula that is a value of the configuration. Answers whether it is one.
@@ -61,18 +63,27 @@ fn given_by<'a>(
         return Ok(None);
     };
     match value_place(statements, named.name) {
-        Some(item) => Ok(Some(Given { named, item })),
+        Some(item) => Ok(Some(Given {
+            named,
+            item,
+            is_truth: is_truth_value(statements, named.name),
+        })),
         None => Ok(None),
     }
 }
 
-/// Says that a formula is a value which is no truth value, and where it gets it.
+/// Says that a formula is a value which is no truth value, or sets no variable, and where it gets it.
 fn tell_given(page: &mut Page, sources: &Sources<'_>, given: &Given<'_>) {
     let named = given.named;
     let place = core_place(named.place);
     page.put_place(sources, Source::Configuration, place);
     page.put_text(named.statement);
-    page.put(&[" names ", named.name, ", which is no truth value (E1)\n"]);
+    let what = if given.is_truth {
+        ", which sets no variable (E15)\n"
+    } else {
+        ", which is no truth value (E1)\n"
+    };
+    page.put(&[" names ", named.name, what]);
     page.show(sources, Source::Configuration, place);
     page.put(&["hint: CONSTANT gives ", named.name, " a value at "]);
     put_at(page, sources, Source::Configuration, given.item);

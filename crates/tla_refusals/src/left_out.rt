@@ -1,6 +1,7 @@
 //! Forms that are left out of the language.
 
 use crate::finding::Finding;
+use crate::names::meant;
 use crate::spot::Spot;
 use tla_hints::{MODULES, form_cure, module_cure};
 use tla_lex::Kind;
@@ -81,14 +82,13 @@ fn find_module(finding: &mut Finding, spot: &Spot<'_>, name: &str) {
     if let Some(cure) = module_cure(name) {
         return finding.hint(&[cure]);
     }
-    for module in &MODULES {
-        if module.eq_ignore_ascii_case(name) {
-            return finding.hint(&["did you mean ", module, "?"]);
-        }
+    match meant(finding.alloc(), name, &MODULES) {
+        Ok(Some(module)) => finding.hint(&["did you mean ", module, "?"]),
+        Ok(None) => finding.hint(&[
+            "copy the definitions of ",
+            name,
+            " that are used into this module: one file is read",
+        ]),
+        Err(_) => finding.refuse(),
     }
-    finding.hint(&[
-        "copy the definitions of ",
-        name,
-        " that are used into this module: one file is read",
-    ]);
 }

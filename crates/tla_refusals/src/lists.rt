@@ -1,7 +1,7 @@
 //! Commas and lists.
 
 use crate::finding::Finding;
-use crate::heads::{begins_list, say_operator};
+use crate::heads::{begins_list, begins_unit_line, name_before, say_comma, say_operator};
 use crate::kinds::ends_operand;
 use crate::spot::Spot;
 use tla_hints::Open;
@@ -10,7 +10,7 @@ use tla_lex::Kind;
 /// Finds what is wrong with a list of names, a comma, or a bracket that was taken for an argument.
 pub(crate) fn find(finding: &mut Finding, spot: &Spot<'_>, open: Option<Open>) -> bool {
     match spot.kind(spot.at) {
-        Some(Kind::Define) => find_name(finding, spot),
+        Some(Kind::Define) => find_name(finding, spot) || find_unfinished(finding, spot),
         Some(Kind::Comma) if open.is_none() => find_comma(finding, spot),
         Some(Kind::MapsTo) => find_applied(finding, spot, open),
         _ => false,
@@ -38,8 +38,40 @@ fn find_name(finding: &mut Finding, spot: &Spot<'_>) -> bool {
     true
 }
 
+/// Finds a definition without a name, or one before which an expression isn't finished.
+fn find_unfinished(finding: &mut Finding, spot: &Spot<'_>) -> bool {
+    if spot.begins_line(spot.at) {
+        finding.say(spot.place(spot.at), &["a name is missing before '=='"]);
+        finding.hint(&["a definition is written Name == .."]);
+        return true;
+    }
+    let Some(head) = name_before(spot) else {
+        return false;
+    };
+    let Some(before) = head.checked_sub(1) else {
+        return false;
+    };
+    let is_finished = spot.kind(before).is_none_or(ends_operand);
+    if is_finished || !begins_unit_line(spot, head) {
+        return false;
+    }
+    finding.say(
+        spot.place(head),
+        &["an expression is missing before '", spot.word(head), "'"],
+    );
+    finding.hint(&["write one after '", spot.word(before), "'"]);
+    if spot.is(before, Kind::Box) {
+        finding.hint(&["the empty sequence is << >>, and the empty set {}"]);
+    }
+    true
+}
+
 /// Finds a comma outside of brackets.
 fn find_comma(finding: &mut Finding, spot: &Spot<'_>) -> bool {
+    if spot.back(2) == Some(Kind::Name) && begins_list(spot, spot.at) {
+        say_comma(finding, spot, spot.at.saturating_sub(1));
+        return true;
+    }
     finding.say(spot.place(spot.at), &["a comma outside of brackets"]);
     let before = spot.tokens.get(..spot.at).unwrap_or(&[]);
     let line = spot.place(spot.at).line;

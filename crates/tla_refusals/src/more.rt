@@ -3,13 +3,14 @@
 use crate::arguments::given_arguments;
 use crate::names::is_among;
 use crate::spot::Spot;
-use crate::statements::{config_of, formulas_named};
+use crate::statements::{config_of, formulas_named, item_name, items_of};
 use std::alloc::{AllocError, Global};
 use tla_config::{DefsCode, Statement};
 use tla_hints::module_with;
 use tla_lex::Place;
 use tla_names::variables;
-use tla_page::units::{Known, Role, known_name, known_names};
+use tla_page::page::Page;
+use tla_page::units::{Known, Role, known_name, known_names, text_of};
 use tla_tree::{Declaration, Unit, Word, Written};
 
 /// How many names are looked for beside the first.
@@ -62,18 +63,87 @@ fn unknown_among(
     units: &[Unit],
     statements: &[Statement],
 ) -> Result<Vec<Place>, AllocError> {
-    let mut places = Vec::new(alloc);
-    let mut met = Vec::new(alloc);
     let first = spot.word(spot.at);
     let known = known_names(alloc, units)?;
+    let mut places = unknown_items(alloc, first, &known, statements)?;
+    for one in unknown_formulas(alloc, first, &known, statements)? {
+        places.push(one)?;
+    }
+    Ok(places)
+}
+
+/// Where the items are of names that the module doesn't have, each once.
+fn unknown_items(
+    alloc: Global,
+    first: &str,
+    known: &[Known<'_>],
+    statements: &[Statement],
+) -> Result<Vec<Place>, AllocError> {
+    let mut places = Vec::new(alloc);
+    let mut met = Vec::new(alloc);
+    for item in items_of(alloc, statements)? {
+        let written = item_name(item);
+        let name = text_of(written);
+        let is_met = name == first || is_among(&met, name);
+        let is_known = known_name(known, name).is_some() || module_with(name.as_bytes()).is_some();
+        if !is_met && !is_known {
+            met.push(name)?;
+            places.push(written.place)?;
+        }
+    }
+    Ok(places)
+}
+
+/// Where the names are that statements give to no definition, each once.
+fn unknown_formulas(
+    alloc: Global,
+    first: &str,
+    known: &[Known<'_>],
+    statements: &[Statement],
+) -> Result<Vec<Place>, AllocError> {
+    let mut places = Vec::new(alloc);
+    let mut met = Vec::new(alloc);
     for one in formulas_named(alloc, statements)? {
         let is_met = one.name == first || is_among(&met, one.name);
-        if !is_met && !is_definition(&known, one.name) {
+        if !is_met && !is_definition(known, one.name) {
             met.push(one.name)?;
             places.push(one.place)?;
         }
     }
     Ok(places)
+}
+
+/// The other constants without a value, with commas between them; no text where there are none.
+/// The only error is out of memory.
+pub(crate) fn other_constants(
+    alloc: Global,
+    known: &[Known<'_>],
+    configuration: &[u8],
+    first: &str,
+) -> Result<Page, AllocError> {
+    let mut list = Page::new(alloc, false);
+    let Some(config) = config_of(alloc, configuration) else {
+        return Ok(list);
+    };
+    for one in known {
+        let is_other = one.role == Role::Constant && one.name != first;
+        if is_other && !has_item(alloc, config.statements(), one.name)? {
+            list.put_text(if list.is_empty() { "" } else { ", " });
+            list.put_text(one.name);
+        }
+    }
+    drop(config);
+    Ok(list)
+}
+
+/// Whether an item gives a name a value.
+fn has_item(alloc: Global, statements: &[Statement], name: &str) -> Result<bool, AllocError> {
+    for item in items_of(alloc, statements)? {
+        if text_of(item_name(item)) == name {
+            return Ok(true);
+        }
+    }
+    Ok(false)
 }
 
 /// Whether a name is that of a definition.

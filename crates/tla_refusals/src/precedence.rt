@@ -21,6 +21,9 @@ pub(crate) fn find(finding: &mut Finding, spot: &Spot<'_>) {
     let Some(range) = infix_range(spot.kind(spot.at)) else {
         return;
     };
+    if is_proof_step(spot) {
+        return say_proof(finding, spot);
+    }
     let mut deep: usize = 0;
     for count in 1..spot.tokens.len() {
         let Some(index) = spot.at.checked_sub(count) else {
@@ -39,6 +42,22 @@ pub(crate) fn find(finding: &mut Finding, spot: &Spot<'_>) {
             return say(finding, spot, index, range);
         }
     }
+}
+
+/// Whether a token is the `>` of the number of a proof's step, as in `<1>2`.
+fn is_proof_step(spot: &Spot<'_>) -> bool {
+    let begins = match spot.at.checked_sub(2) {
+        Some(index) => spot.begins_line(index),
+        None => false,
+    };
+    let is_number = matches!(spot.back(1), Some(Kind::Number(_)));
+    begins && is_number && spot.is(spot.at, Kind::Greater) && spot.back(2) == Some(Kind::Less)
+}
+
+fn say_proof(finding: &mut Finding, spot: &Spot<'_>) {
+    let first = spot.place(spot.at.saturating_sub(2));
+    finding.say(first, &["a step of a proof"]);
+    finding.hint(&["remove the proof; THEOREM itself may stay"]);
 }
 
 /// Whether an operator before this token can't be on its left.

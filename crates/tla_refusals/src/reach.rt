@@ -1,17 +1,21 @@
 //! Which definitions use which.
 
+use crate::statements::replaced;
 use std::alloc::{AllocError, Global};
+use tla_config::Statement;
 use tla_hints::is_before;
 use tla_lex::{Kind, Token};
 use tla_page::places::word;
 use tla_page::units::{Known, Role, known_name};
 
-/// A module's tokens, and the names that its units bring in.
+/// A module's tokens, the names that its units bring in, and the statements of the configuration,
+/// which may replace names.
 #[derive(Clone, Copy)]
 pub(crate) struct Definitions<'a> {
     pub(crate) text: &'a [u8],
     pub(crate) tokens: &'a [Token],
     pub(crate) known: &'a [Known<'a>],
+    pub(crate) statements: &'a [Statement],
 }
 
 impl<'a> Definitions<'a> {
@@ -62,12 +66,22 @@ impl<'a> Definitions<'a> {
     /// Adds the definitions that one uses and that were not met before.
     fn add_used(&self, met: &mut Vec<&'a str>, name: &str) -> Result<(), AllocError> {
         for token in self.tokens_of(name) {
-            let used = word(self.text, token);
+            let used = replaced(self.statements, word(self.text, token));
             if token.kind == Kind::Name && self.is_defined(used) && !met.contains(&used) {
                 met.push(used)?;
             }
         }
         Ok(())
+    }
+
+    /// Whether a definition leads to another. The only error is out of memory.
+    pub(crate) fn leads_to(
+        &self,
+        alloc: Global,
+        name: &'a str,
+        other: &str,
+    ) -> Result<bool, AllocError> {
+        Ok(self.reached(alloc, name)?.contains(&other))
     }
 
     pub(crate) fn is_defined(&self, name: &str) -> bool {

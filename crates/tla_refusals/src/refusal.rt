@@ -1,20 +1,20 @@
 //! Refusals.
 
-use crate::config_names::{find_arguments, find_behaviour, find_unknown};
+use crate::config_names::{find_arguments, find_behaviour, find_circle, find_large, find_unknown};
 use crate::finding::{Finding, put_beside, put_page};
-use crate::more::{unknown_places, unknown_statements};
+use crate::more::{other_constants, unknown_places, unknown_statements};
 use crate::reach::Definitions;
 use crate::refusal_text::title_of;
 use crate::spot::Spot;
-use crate::statements::config_of;
+use crate::statements::{config_of, replaced};
 use crate::{
     arguments, characters, configuration, left_out, levels, precedence, specification, twice,
     unexpected, unknown,
 };
 use std::alloc::{AllocError, Global};
-use tla_config::Source;
+use tla_config::{Source, Statement};
 use tla_hints::statement_cure;
-use tla_lex::{Place, Token};
+use tla_lex::{Kind, Place, Token};
 use tla_page::page::Page;
 use tla_page::places::{Sources, core_place, source_text, token_place, tokens_of};
 use tla_page::units::{Known, known_names, words_of};
@@ -41,26 +41,21 @@ pub fn tell(page: &mut Page, sources: &Sources<'_>, refusal: &Refusal) {
     };
     let text = source_text(sources, refused.source);
     let tokens = tokens_of(page.alloc(), text, refused.source);
-    let is_plain = put_found(page, sources, &tokens, refused);
-    if is_plain && refused.code == RefusalCode::UnknownName {
+    let finding = found(page.alloc(), sources, &tokens, refused);
+    put(page, sources, refused, &finding);
+    if finding.title.is_empty() && refused.code == RefusalCode::UnknownName {
         put_others(page, sources, &tokens, refused);
     }
 }
 
-/// Adds what is found about a refusal. Answers whether it is no more than its code says.
-fn put_found(
-    page: &mut Page,
-    sources: &Sources<'_>,
-    tokens: &[Token],
-    refused: Refused<'_>,
-) -> bool {
-    let mut finding = Finding::at(page.alloc(), refused.place);
+/// What is found about a refusal.
+fn found(alloc: Global, sources: &Sources<'_>, tokens: &[Token], refused: Refused<'_>) -> Finding {
+    let mut finding = Finding::at(alloc, refused.place);
     match refused.source {
         Source::Module => find_in_module(&mut finding, sources, tokens, refused),
         Source::Configuration => find_in_configuration(&mut finding, sources, tokens, refused),
     }
-    put(page, sources, refused, &finding);
-    finding.title.is_empty()
+    finding
 }
 
 /// Adds the other names that are unknown, each once.
@@ -91,7 +86,7 @@ fn unknown_by_statements(
     places
 }
 
-/// Adds what is found about the unknown names at places.
+/// Adds what is found about the unknown names at places, each place once.
 fn put_each(
     page: &mut Page,
     sources: &Sources<'_>,
@@ -99,16 +94,32 @@ fn put_each(
     places: &[Place],
     refused: Refused<'_>,
 ) {
+    let mut last = refused.place;
     for place in places {
-        if let Some(other) = Spot::of(spot.text, spot.tokens, *place) {
-            let one = Refused {
-                place: *place,
-                name: other.word(other.at),
-                ..refused
-            };
-            let _ = put_found(page, sources, spot.tokens, one);
+        if let Some(one) = refused_at(spot, *place, refused.source, refused.code) {
+            let finding = found(page.alloc(), sources, spot.tokens, one);
+            if finding.place != last {
+                put(page, sources, one, &finding);
+            }
+            last = finding.place;
         }
     }
+}
+
+/// The same refusal of the name at another place.
+fn refused_at<'a>(
+    spot: &Spot<'a>,
+    place: Place,
+    source: Source,
+    code: RefusalCode,
+) -> Option<Refused<'a>> {
+    let other = Spot::of(spot.text, spot.tokens, place)?;
+    Some(Refused {
+        source,
+        code,
+        place,
+        name: other.word(other.at),
+    })
 }
 
 /// The name that a refusal carries, or no text.
@@ -161,8 +172,8 @@ fn find_in_module(
         RefusalCode::LeftOfJunction => unexpected::find_left(finding, &spot),
         RefusalCode::PrecedenceConflict => precedence::find(finding, &spot),
         RefusalCode::FormLeftOut => left_out::find(finding, &spot, refused.name),
-        RefusalCode::ConstantWithoutValue => hint_value(finding, refused.name),
-        RefusalCode::UnknownName
+        RefusalCode::ConstantWithoutValue
+        | RefusalCode::UnknownName
         | RefusalCode::DefinedTwice
         | RefusalCode::ArgumentCount
         | RefusalCode::Level => find_by_units(finding, sources, &spot, refused),
@@ -197,26 +208,49 @@ fn find_known(
 ) {
     match refused.code {
         RefusalCode::UnknownName => unknown::find(finding, spot, units, known),
+        RefusalCode::ConstantWithoutValue => {
+            hint_value(finding, spot);
+            hint_others(finding, sources, spot, known);
+        }
         RefusalCode::ArgumentCount => arguments::find(finding, spot, known),
         RefusalCode::DefinedTwice => twice::find(finding, spot, units, known),
         _ => {
             let Some(config) = config_of(finding.alloc(), sources.configuration) else {
                 return;
             };
-            let definitions = Definitions {
-                text: spot.text,
-                tokens: spot.tokens,
-                known,
-            };
-            let statements = config.statements();
-            levels::find(finding, sources, spot, units, &definitions, statements);
+            find_level(finding, sources, spot, units, known, config.statements());
             drop(config);
         }
     }
 }
 
-/// Says how a constant gets a value.
-fn hint_value(finding: &mut Finding, name: &str) {
+fn find_level(
+    finding: &mut Finding,
+    sources: &Sources<'_>,
+    spot: &Spot<'_>,
+    units: &[Unit],
+    known: &[Known<'_>],
+    statements: &[Statement],
+) {
+    let definitions = Definitions {
+        text: spot.text,
+        tokens: spot.tokens,
+        known,
+        statements,
+    };
+    levels::find(finding, sources, spot, units, &definitions, statements);
+}
+
+/// Says how a constant gets a value, or one with parameters its meaning.
+fn hint_value(finding: &mut Finding, spot: &Spot<'_>) {
+    let name = spot.word(spot.at);
+    if spot.ahead(1) == Some(Kind::LeftParen) {
+        return finding.hint(&[
+            "define Op with as many parameters in the module, and write CONSTANT ",
+            name,
+            " <- Op in the configuration",
+        ]);
+    }
     let texts = [
         "give it one in the configuration: CONSTANT ",
         name,
@@ -231,6 +265,21 @@ fn hint_value(finding: &mut Finding, name: &str) {
             " makes it a model value, equal to itself alone",
         ],
     );
+}
+
+/// Names the other constants without a value.
+fn hint_others(finding: &mut Finding, sources: &Sources<'_>, spot: &Spot<'_>, known: &[Known<'_>]) {
+    let name = spot.word(spot.at);
+    match other_constants(finding.alloc(), known, sources.configuration, name) {
+        Ok(list) => {
+            if !list.is_empty() {
+                finding.help.put_text("hint: without a value, too: ");
+                put_page(&mut finding.help, &list);
+                finding.help.put_text("\n");
+            }
+        }
+        Err(_) => finding.refuse(),
+    }
 }
 
 /// Finds what is wrong in a configuration.
@@ -294,6 +343,8 @@ fn find_at(
         RefusalCode::ArgumentCount => find_arguments(finding, spot, known),
         RefusalCode::DefinedTwice => twice::find_item(finding, spot),
         RefusalCode::BehaviourCount => find_behaviour(finding, Some(spot), spot),
+        RefusalCode::CircularReplacement => find_circle(finding, spot, known),
+        RefusalCode::ExpansionTooLarge => find_large(finding, spot),
         RefusalCode::SpecificationForm => find_specification(finding, sources, spot, known),
         _ => {}
     }
@@ -324,12 +375,27 @@ fn find_specification(
     spot: &Spot<'_>,
     known: &[Known<'_>],
 ) {
+    let Some(config) = config_of(finding.alloc(), sources.configuration) else {
+        return;
+    };
+    let name = spot.word(spot.at.saturating_add(1));
+    find_form(finding, sources, known, config.statements(), name);
+    drop(config);
+}
+
+fn find_form(
+    finding: &mut Finding,
+    sources: &Sources<'_>,
+    known: &[Known<'_>],
+    statements: &[Statement],
+    name: &str,
+) {
     let tokens = tokens_of(finding.alloc(), sources.module, Source::Module);
     let definitions = Definitions {
         text: sources.module,
         tokens: &tokens,
         known,
+        statements,
     };
-    let name = spot.word(spot.at.saturating_add(1));
-    specification::find(finding, &definitions, name);
+    specification::find(finding, &definitions, replaced(statements, name));
 }

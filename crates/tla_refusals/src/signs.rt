@@ -1,6 +1,7 @@
 //! Signs that are written otherwise in this language.
 
 use crate::finding::Finding;
+use crate::heads::begins_unit_line;
 use crate::kinds::ends_operand;
 use crate::spot::Spot;
 use tla_hints::Open;
@@ -44,9 +45,13 @@ fn cure_of(spot: &Spot<'_>) -> Option<Cure> {
             "a text in single quotes",
             "write \"..\": ' after a variable is its next value",
         )),
-        Kind::Plus | Kind::Minus if is_between_parens(spot) => Some((
-            "an operator of Bags, which is not read",
-            "a (+) b is [x \\in DOMAIN a \\cup DOMAIN b |-> Count(a, x) + Count(b, x)], with Count(f, x) == IF x \\in DOMAIN f THEN f[x] ELSE 0",
+        Kind::Prime if !spot.back(1).is_some_and(ends_operand) => Some((
+            "an apostrophe with nothing on its left",
+            "write x' for the next value of x, and \"..\" for a text",
+        )),
+        Kind::Equal if spot.back(2) == Some(Kind::Local) => Some((
+            "'=' where a definition has '=='",
+            "write LOCAL Op == e: = compares two values",
         )),
         Kind::Extends => Some((
             "EXTENDS is the first unit of a module, once",
@@ -78,9 +83,13 @@ fn cure_after(spot: &Spot<'_>) -> Option<Cure> {
             "a number for a field",
             "write t[1] for the first item of a tuple t",
         )),
-        Some(Kind::Number(_) | Kind::Text) if spot.is(spot.at, Kind::MapsTo) => Some((
+        Some(Kind::Text) if spot.is(spot.at, Kind::MapsTo) => Some((
             "a field of a record is a name",
-            "write [a |-> e] without quotes; for other arguments (1 :> e) of TLC",
+            "write [a |-> e] without quotes; for other texts (\"a-b\" :> e) of TLC",
+        )),
+        Some(Kind::Number(_)) if spot.is(spot.at, Kind::MapsTo) => Some((
+            "a field of a record is a name",
+            "write [x \\in S |-> e] for a function, (1 :> e) of TLC for one argument, [S -> T] for the set of functions",
         )),
         _ => None,
     }
@@ -100,10 +109,13 @@ fn cure_inside(spot: &Spot<'_>, open: Open) -> Option<Cure> {
             "':' where a function or a record has '|->'",
             "write [x \\in S |-> e], or [a |-> e, b |-> f]; [a : S, b : T] is a set of records",
         )),
-        Kind::LeftBracket if kind == Kind::Arrow || is_after_arrow(spot, open) => Some((
+        Kind::LeftBracket if kind == Kind::Arrow || is_after(spot, open, Kind::Arrow) => Some((
             "'->' where a function or a record has '|->'",
             "write [x \\in S |-> e], or [a |-> e, b |-> f]; [S -> T] is a set of functions",
         )),
+        Kind::LeftBracket if kind == Kind::Comma || kind == Kind::RightBracket => {
+            Some(cure_in_brackets(spot, open))
+        }
         Kind::ForAll | Kind::Exists if kind == Kind::Colon => Some((
             "a name without a set",
             "give each name a set: \\A x \\in S, y \\in T : p",
@@ -112,11 +124,61 @@ fn cure_inside(spot: &Spot<'_>, open: Open) -> Option<Cure> {
     }
 }
 
-/// Whether a comma follows an arrow in the bracket that is open.
-fn is_after_arrow(spot: &Spot<'_>, open: Open) -> bool {
+/// What to write in brackets where a comma comes, or the end, and nothing was begun yet.
+fn cure_in_brackets(spot: &Spot<'_>, open: Open) -> Cure {
+    if follows_head(spot, open) {
+        (
+            "a name without a set",
+            "write f[x \\in S] == e for a function, or Op(x) == e",
+        )
+    } else if follows_box(spot, open) {
+        (
+            "a subscript is missing after this",
+            "write [][Next]_vars, with vars == <<x, y>> for all variables",
+        )
+    } else if is_after(spot, open, Kind::Equal) {
+        ("'=' where a record has '|->'", "write [a |-> e, b |-> f]")
+    } else if is_after(spot, open, Kind::Implies) {
+        ("'=>' where a function has '|->'", "write [x \\in S |-> e]")
+    } else if spot.is(spot.at, Kind::Comma) {
+        (
+            "a comma in brackets",
+            "a tuple is written <<a, b>>, a record [a |-> e, b |-> f]",
+        )
+    } else {
+        (
+            "something is missing in these brackets",
+            "write [x \\in S |-> e], [a |-> e], [a : S], [S -> T], [f EXCEPT ![x] = e] or [Next]_vars; a tuple is written <<a, b>>",
+        )
+    }
+}
+
+/// Whether a name that begins a unit is before the bracket that is open.
+fn follows_head(spot: &Spot<'_>, open: Open) -> bool {
+    let index = spot.index_at(open.token.place);
+    let before = index.and_then(|index| index.checked_sub(1));
+    match before {
+        Some(name) => spot.is(name, Kind::Name) && begins_unit_line(spot, name),
+        None => false,
+    }
+}
+
+/// Whether `[]` touches the bracket that is open.
+fn follows_box(spot: &Spot<'_>, open: Open) -> bool {
+    for token in spot.tokens {
+        if token.end == open.token.start {
+            return token.kind == Kind::Box;
+        }
+    }
+    false
+}
+
+/// Whether a comma, or the end, follows a sign in the bracket that is open.
+fn is_after(spot: &Spot<'_>, open: Open, sign: Kind) -> bool {
     let before = spot.tokens.get(..spot.at).unwrap_or(&[]);
     let mut inside = before.iter().filter(|token| token.start > open.token.start);
-    spot.is(spot.at, Kind::Comma) && inside.any(|token| token.kind == Kind::Arrow)
+    let is_end = matches!(spot.kind(spot.at), Some(Kind::Comma | Kind::RightBracket));
+    is_end && inside.any(|token| token.kind == sign)
 }
 
 /// Whether single quotes begin here, where an expression may begin, and end in the same line.
@@ -125,9 +187,4 @@ fn is_quoted(spot: &Spot<'_>) -> bool {
     let rest = spot.tokens.get(spot.at.saturating_add(1)..).unwrap_or(&[]);
     let mut same = rest.iter().take_while(|token| token.place.line == line);
     !spot.back(1).is_some_and(ends_operand) && same.any(|token| token.kind == Kind::Prime)
-}
-
-/// Whether a token is all that two parentheses have.
-fn is_between_parens(spot: &Spot<'_>) -> bool {
-    spot.back(1) == Some(Kind::LeftParen) && spot.ahead(1) == Some(Kind::RightParen)
 }

@@ -5,7 +5,7 @@ use crate::reach::Definitions;
 use std::alloc::{AllocError, Global};
 use tla_config::Source;
 use tla_hints::{closes_bracket, opens_bracket};
-use tla_lex::{Kind, Token};
+use tla_lex::{Kind, Place, Token};
 use tla_page::page::Page;
 use tla_page::places::word;
 use tla_page::units::Role;
@@ -110,24 +110,49 @@ fn find_no_step(finding: &mut Finding, definitions: &Definitions<'_>, name: &str
         ", which has no part [][Next]_vars",
     ]);
     let tokens = definitions.tokens_of(name);
-    match tokens
+    let has_brackets = tokens
         .iter()
-        .find(|token| token.kind == Kind::RightBracketSubscript)
-    {
-        Some(_) => finding.hint(&["write [] before [Next]_vars: it holds at every step"]),
-        None => finding.hint(&[
+        .any(|token| token.kind == Kind::RightBracketSubscript);
+    if has_brackets {
+        finding.hint(&["write [] before [Next]_vars: it holds at every step"]);
+    } else if let Some(other) = specification_among(definitions) {
+        finding.hint(&["did you mean SPECIFICATION ", other, "?"]);
+    } else if primed_alone(tokens).is_some() {
+        finding.hint(&["it is an action: write NEXT ", name, ", and INIT Init"]);
+    } else if name == "Init" {
+        finding.hint(&["write Spec == Init /\\ [][Next]_vars, and name that, or INIT and NEXT"]);
+    } else {
+        finding.hint(&[
             "write ",
             name,
             " == Init /\\ [][Next]_vars, or INIT and NEXT",
-        ]),
+        ]);
     }
-    if let Some(first) = tokens.first() {
-        finding.show_beside(
-            Source::Module,
-            first.place,
-            &["'", name, "' is defined here"],
-        );
+    show_defined(finding, name, tokens);
+}
+
+/// The first definition that has a part `[][A]_v` itself.
+fn specification_among<'a>(definitions: &Definitions<'a>) -> Option<&'a str> {
+    for one in definitions.known {
+        let tokens = definitions.tokens_of(one.name);
+        if one.role == Role::Operator && has_step(tokens) {
+            return Some(one.name);
+        }
     }
+    None
+}
+
+/// Whether `[][` is among tokens.
+fn has_step(tokens: &[Token]) -> bool {
+    for pair in tokens.windows(2) {
+        if let [token, next] = pair
+            && token.kind == Kind::Box
+            && next.kind == Kind::LeftBracket
+        {
+            return true;
+        }
+    }
+    false
 }
 
 /// Says which variables the subscript lacks, or which conjunct isn't of the form.
@@ -215,6 +240,34 @@ fn find_conjunct(finding: &mut Finding, definitions: &Definitions<'_>, name: &st
         }
     }
     finding.hint(&["it is a conjunction of Init, without primes, one [][Next]_vars, and fairness"]);
+    if let Some(place) = primed_alone(tokens) {
+        let texts = ["a next value outside of [][Next]_vars"];
+        finding.show_beside(Source::Module, place, &texts);
+    } else if tokens.get(2).is_some_and(|token| token.kind == Kind::Box) {
+        finding.hint(&["write Init /\\ before [][Next]_vars"]);
+        show_defined(finding, name, tokens);
+    } else {
+        show_defined(finding, name, tokens);
+    }
+}
+
+/// Where the first prime or UNCHANGED is that no bracket has in it.
+fn primed_alone(tokens: &[Token]) -> Option<Place> {
+    let mut deep: usize = 0;
+    for token in tokens {
+        if opens_bracket(token.kind) {
+            deep = deep.saturating_add(1);
+        } else if closes_bracket(token.kind) {
+            deep = deep.saturating_sub(1);
+        } else if deep == 0 && matches!(token.kind, Kind::Prime | Kind::Unchanged) {
+            return Some(token.place);
+        }
+    }
+    None
+}
+
+/// Shows where a definition is, of which these are the tokens.
+fn show_defined(finding: &mut Finding, name: &str, tokens: &[Token]) {
     if let Some(first) = tokens.first() {
         finding.show_beside(
             Source::Module,

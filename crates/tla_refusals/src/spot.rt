@@ -78,6 +78,21 @@ impl<'a> Spot<'a> {
         }
     }
 
+    /// What a line has from the token of a number on, without what is behind its last token.
+    pub(crate) fn rest_of_line(&self, first: usize) -> &'a str {
+        let rest = self.tokens.get(first..).unwrap_or(&[]);
+        let Some(begin) = rest.first() else {
+            return "";
+        };
+        let line = begin.place.line;
+        let mut end = begin.end;
+        for token in rest.iter().take_while(|token| token.place.line == line) {
+            end = token.end;
+        }
+        let text = self.text.get(begin.start..end).unwrap_or(&[]);
+        str::from_utf8(text).unwrap_or("")
+    }
+
     /// Whether a token is the first of its line.
     pub(crate) fn begins_line(&self, index: usize) -> bool {
         match self.before(index) {

@@ -5,6 +5,7 @@ use tla_config::{Config, Item, Statement, parse_config};
 use tla_lex::Place;
 use tla_page::units::text_of;
 use tla_tree::Written;
+use tla_value::Value;
 
 /// A name of a statement: the statement's word, and where the name is.
 #[derive(Clone, Copy)]
@@ -99,6 +100,56 @@ fn value_among(items: &[Item], name: &str) -> Option<Place> {
         }
     }
     None
+}
+
+/// Whether an item of CONSTANT gives a name a truth value.
+pub(crate) fn is_truth_value(statements: &[Statement], name: &str) -> bool {
+    for statement in statements {
+        if let Statement::Constants(_, items) = statement
+            && is_truth_among(items, name)
+        {
+            return true;
+        }
+    }
+    false
+}
+
+fn is_truth_among(items: &[Item], name: &str) -> bool {
+    for item in items {
+        if let Item::Value(written, value) = item
+            && text_of(written) == name
+        {
+            return matches!(value, Value::Truth(_));
+        }
+    }
+    false
+}
+
+/// The items of CONSTANT of a configuration, in the order of the text. The only error is out of
+/// memory.
+pub(crate) fn items_of(alloc: Global, statements: &[Statement]) -> Result<Vec<&Item>, AllocError> {
+    let mut all = Vec::new(alloc);
+    for statement in statements {
+        if let Statement::Constants(_, items) = statement {
+            push_items(&mut all, items)?;
+        }
+    }
+    Ok(all)
+}
+
+fn push_items<'a>(all: &mut Vec<&'a Item>, items: &'a [Item]) -> Result<(), AllocError> {
+    for item in items {
+        all.push(item)?;
+    }
+    Ok(())
+}
+
+/// The name of an item.
+pub(crate) fn item_name(item: &Item) -> &Written {
+    match item {
+        Item::Value(name, _) => name,
+        Item::Replaces(name, _) => name,
+    }
 }
 
 /// What a name means by the items `c <- Op` of a configuration.

@@ -3,7 +3,7 @@
 use crate::finding::Finding;
 use crate::spot::Spot;
 use tla_config::Source;
-use tla_hints::is_before;
+use tla_hints::{is_before, module_with};
 use tla_lex::{Kind, Place};
 use tla_page::definitions::definition_at;
 use tla_page::units::{Known, known_name};
@@ -20,9 +20,23 @@ pub(crate) fn find(finding: &mut Finding, spot: &Spot<'_>, units: &[Unit], known
     }
     finding.say(place, &["'", name, "' has a meaning already"]);
     finding.hint(&["take another name: no name hides another"]);
-    if let Some(first) = first_of(spot, units, known) {
-        finding.show_beside(Source::Module, first, &["the first '", name, "' is here"]);
+    match first_of(spot, units, known) {
+        Some(first) => {
+            finding.show_beside(Source::Module, first, &["the first '", name, "' is here"]);
+        }
+        None => hint_library(finding, name),
     }
+}
+
+/// Says of which module a name is, if it is of one that is extended.
+fn hint_library(finding: &mut Finding, name: &str) {
+    if let Some(module) = module_with(name.as_bytes()) {
+        say_module(finding, name, module);
+    }
+}
+
+fn say_module(finding: &mut Finding, name: &str, module: &str) {
+    finding.hint(&["'", name, "' is an operator of ", module]);
 }
 
 /// Whether a token is a field of a record, or of a set of records.

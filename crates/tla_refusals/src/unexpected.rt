@@ -4,16 +4,20 @@ use crate::finding::Finding;
 use crate::heads::say_operator;
 use crate::kinds::{begins_operand, begins_unit, closes, ends_operand, may_begin_operand};
 use crate::spot::Spot;
-use crate::{heads, lists, signs};
+use crate::unknown::is_head;
+use crate::{cases, excepts, heads, lists, pairs, signs};
 use tla_config::Source;
-use tla_hints::{Open, innermost_open, word_meant};
+use tla_hints::{Open, command_meant, innermost_open, is_closed_by, word_meant};
 use tla_lex::{Kind, Place};
 use tla_page::places::word;
 
 /// Finds why a token can't be there.
 pub(crate) fn find(finding: &mut Finding, spot: &Spot<'_>) {
     let open = open_before(finding, spot);
-    let found = lists::find(finding, spot, open)
+    let found = cases::find(finding, spot)
+        || lists::find(finding, spot, open)
+        || excepts::find(finding, spot, open)
+        || pairs::find(finding, spot, open)
         || signs::find(finding, spot, open)
         || find_word(finding, spot)
         || heads::find(finding, spot, open)
@@ -25,14 +29,32 @@ pub(crate) fn find(finding: &mut Finding, spot: &Spot<'_>) {
 
 /// Finds what an item of a list lacks, of which a token is left of the bullet.
 pub(crate) fn find_left(finding: &mut Finding, spot: &Spot<'_>) {
-    let Some(open) = open_before(finding, spot) else {
-        return;
-    };
-    if matches!(spot.kind(spot.at), Some(Kind::And | Kind::Or)) {
-        say_open(finding, spot, open);
+    let open = open_before(finding, spot);
+    let is_bullet = matches!(spot.kind(spot.at), Some(Kind::And | Kind::Or));
+    if is_bullet || is_head(spot, spot.at) {
+        find_bullet(finding, spot, open);
     } else {
         finding.hint(&["move this to the right of the bullet"]);
-        show_open(finding, spot, open);
+        if let Some(open) = open {
+            show_open(finding, spot, open);
+        }
+    }
+}
+
+/// Finds what the item before a bullet, or before a definition, lacks.
+fn find_bullet(finding: &mut Finding, spot: &Spot<'_>, open: Option<Open>) {
+    let is_finished = spot.back(1).is_some_and(ends_operand);
+    match open {
+        Some(open) => say_open(finding, spot, open),
+        None if is_finished => finding.hint(&["move this to the right of the bullet"]),
+        None => {
+            let before = spot.word(spot.at.saturating_sub(1));
+            finding.say(
+                spot.place(spot.at),
+                &["an expression is missing before '", spot.word(spot.at), "'"],
+            );
+            finding.hint(&["write one after '", before, "'"]);
+        }
     }
 }
 
@@ -56,7 +78,17 @@ fn find_word(finding: &mut Finding, spot: &Spot<'_>) -> bool {
         (spot.word(spot.at), "")
     };
     let is_name = spot.is(spot.at, Kind::Name) || !sign.is_empty();
-    match word_meant(word) {
+    let meant = if sign.is_empty() {
+        word_meant(word)
+    } else {
+        command_meant(word)
+    };
+    match meant {
+        Some(_) if is_name && word == "in" && sign.is_empty() => {
+            let is_in_let = heads::is_in_let(finding, spot);
+            heads::say_member(finding, spot, spot.at, is_in_let);
+            true
+        }
         Some(meant) if is_name => {
             finding.say(spot.place(spot.at), &["'", sign, word, "' is no operator"]);
             finding.hint(&["write ", meant]);
@@ -75,6 +107,7 @@ fn find_open(finding: &mut Finding, spot: &Spot<'_>, open: Option<Open>) -> bool
         return closes(kind) && say_closed(finding, spot);
     };
     let leaves = begins_unit(kind) || closes(kind) || spot.begins_line(spot.at);
+    let leaves = leaves && !is_closed_by(open.wanted, kind);
     if leaves {
         say_open(finding, spot, open);
     }
@@ -104,7 +137,7 @@ fn show_open(finding: &mut Finding, spot: &Spot<'_>, open: Open) {
     show_wanted(finding, token.place, word(spot.text, &token), open.wanted);
 }
 
-fn show_wanted(finding: &mut Finding, place: Place, word: &str, wanted: &str) {
+pub(crate) fn show_wanted(finding: &mut Finding, place: Place, word: &str, wanted: &str) {
     let texts = ["'", word, "' is open here, and wants '", wanted, "'"];
     finding.show_beside(Source::Module, place, &texts);
 }
@@ -129,5 +162,25 @@ fn find_sides(finding: &mut Finding, spot: &Spot<'_>, open: Option<Open>) {
             &["an expression is missing before '", spot.word(spot.at), "'"],
         );
         finding.hint(&["write one after '", word, "'"]);
+    } else if heads::begins_unit_line(spot, spot.at) && !begins_unit(kind) {
+        say_no_unit(finding, spot);
+    } else if heads::begins_list(spot, spot.at) {
+        finding.say(
+            spot.place(spot.at),
+            &["'", spot.word(spot.at), "' in a list of names"],
+        );
+        finding.hint(&["a name has letters, digits and _; a comment begins with \\*"]);
+    }
+}
+
+/// Says that a sign begins no unit.
+fn say_no_unit(finding: &mut Finding, spot: &Spot<'_>) {
+    let place = spot.place(spot.at);
+    if heads::defines_later(spot, place.line) {
+        finding.say(place, &["the definition of an operator before its operand"]);
+        finding.hint(&["write Op(a) == .., and Op(a) where it is used"]);
+    } else {
+        finding.say(place, &["'", spot.word(spot.at), "' begins no unit"]);
+        finding.hint(&["a definition is written Name == ..; a comment begins with \\*"]);
     }
 }

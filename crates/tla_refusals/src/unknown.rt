@@ -2,11 +2,13 @@
 
 use crate::finding::Finding;
 use crate::names::meant;
+use crate::reach::Definitions;
 use crate::spot::Spot;
 use std::alloc::{AllocError, Global};
+use tla_config::Source;
 use tla_hints::{
-    LIBRARY, closes_bracket, innermost_open, is_before, library_cure, module_with, opens_bracket,
-    word_meant,
+    LIBRARY, closes_bracket, command_meant, innermost_open, is_before, library_cure, module_with,
+    opens_bracket, plain_cure, word_meant,
 };
 use tla_lex::{Kind, Place, Token};
 use tla_page::definitions::definition_at;
@@ -16,7 +18,10 @@ use tla_tree::Unit;
 /// Finds what was meant by an unknown name.
 pub(crate) fn find(finding: &mut Finding, spot: &Spot<'_>, units: &[Unit], known: &[Known<'_>]) {
     let name = spot.word(spot.at);
-    if find_defined(finding, spot, units, known) || find_in_modules(finding, name) {
+    let is_found = find_defined(finding, spot, units, known)
+        || find_backslashed(finding, spot)
+        || find_in_modules(finding, spot);
+    if is_found {
         return;
     }
     if is_bound_for_arrow(spot) {
@@ -25,11 +30,54 @@ pub(crate) fn find(finding: &mut Finding, spot: &Spot<'_>, units: &[Unit], known
             name,
             " \\in S |-> e]: [S -> T] is a set of functions",
         ]);
-    } else if let Some(meant) = word_meant(name) {
+    } else if let Some(meant) = meant_here(spot) {
         finding.hint(&["write ", meant]);
     } else {
         hint_near(finding, spot, units, known);
     }
+}
+
+/// What a word of another language, of fairness or of CASE is in this one.
+fn meant_here(spot: &Spot<'_>) -> Option<&'static str> {
+    let name = spot.word(spot.at);
+    let is_called = spot.ahead(1) == Some(Kind::LeftParen);
+    let is_arm = spot.back(1) == Some(Kind::Box) && spot.ahead(1) == Some(Kind::Arrow);
+    if is_called && name == "WF" {
+        Some("WF_vars(A)")
+    } else if is_called && name == "SF" {
+        Some("SF_vars(A)")
+    } else if is_arm && is_default(name) {
+        Some("OTHER")
+    } else {
+        word_meant(name)
+    }
+}
+
+/// Whether a name is what other languages write for OTHER.
+fn is_default(name: &str) -> bool {
+    name.eq_ignore_ascii_case("OTHER")
+        || name.eq_ignore_ascii_case("OTHERWISE")
+        || name.eq_ignore_ascii_case("DEFAULT")
+}
+
+/// Finds what was meant by a name with a backslash.
+fn find_backslashed(finding: &mut Finding, spot: &Spot<'_>) -> bool {
+    if spot.back(1) != Some(Kind::Difference) || !spot.touches_before(spot.at) {
+        return false;
+    }
+    let name = spot.word(spot.at);
+    let cure = if name == "not" && spot.ahead(1) == Some(Kind::Member) {
+        Some("\\notin")
+    } else {
+        command_meant(name)
+    };
+    let Some(cure) = cure else {
+        return false;
+    };
+    let sign = spot.place(spot.at.saturating_sub(1));
+    finding.say(sign, &["'\\", name, "' is no operator"]);
+    finding.hint(&["write ", cure]);
+    true
 }
 
 /// Finds where a name is defined that is unknown here.
@@ -45,17 +93,97 @@ fn find_defined(
         hint_recursion(finding, name);
         return true;
     }
-    let Some(later) = known_name(known, name) else {
-        return false;
-    };
-    finding.hint(&["move the definition of ", name, " above its use"]);
+    match known_name(known, name) {
+        Some(later) => {
+            say_later(finding, spot, units, known, &later);
+            true
+        }
+        None => find_later_in_let(finding, spot, units),
+    }
+}
+
+/// Says that a name is brought in below its use.
+fn say_later(
+    finding: &mut Finding,
+    spot: &Spot<'_>,
+    units: &[Unit],
+    known: &[Known<'_>],
+    later: &Known<'_>,
+) {
+    let name = spot.word(spot.at);
+    let own = definition_at(units, spot.place(spot.at));
+    if leads_back(finding, spot, known, name, own) {
+        say_circle(finding, name, own);
+    } else if matches!(later.role, Role::Variable | Role::Constant) {
+        finding.hint(&["move the declaration of ", name, " above its use"]);
+    } else {
+        finding.hint(&["move the definition of ", name, " above its use"]);
+    }
     finding.show_name(
         later.place,
         name,
         later.role.brought_in(),
         " here, below its use",
     );
+}
+
+fn say_circle(finding: &mut Finding, name: &str, own: &str) {
+    finding.hint(&[
+        "recursion is left out: ",
+        name,
+        " leads back to ",
+        own,
+        ". Write a definition for each depth, or let a variable carry the result from step to step",
+    ]);
+}
+
+/// Whether a definition leads to another.
+fn leads_back(
+    finding: &mut Finding,
+    spot: &Spot<'_>,
+    known: &[Known<'_>],
+    name: &str,
+    own: &str,
+) -> bool {
+    let definitions = Definitions {
+        text: spot.text,
+        tokens: spot.tokens,
+        known,
+        statements: &[],
+    };
+    match definitions.leads_to(finding.alloc(), name, own) {
+        Ok(leads) => leads,
+        Err(_) => {
+            finding.refuse();
+            false
+        }
+    }
+}
+
+/// Finds where a name is defined further down in the same LET.
+fn find_later_in_let(finding: &mut Finding, spot: &Spot<'_>, units: &[Unit]) -> bool {
+    let name = spot.word(spot.at);
+    let own = definition_at(units, spot.place(spot.at));
+    let Some(place) = defined_later(spot, units, name, own) else {
+        return false;
+    };
+    finding.hint(&["move the definition of ", name, " above its use"]);
+    let texts = ["'", name, "' is defined here, below its use"];
+    finding.show_beside(Source::Module, place, &texts);
     true
+}
+
+/// Where a name is defined behind a token, in the same definition.
+fn defined_later(spot: &Spot<'_>, units: &[Unit], name: &str, own: &str) -> Option<Place> {
+    let first = spot.at.saturating_add(1);
+    for (index, token) in spot.tokens.iter().enumerate().skip(first) {
+        let is_name = token.kind == Kind::Name && spot.word(index) == name;
+        if is_name && is_head(spot, index) {
+            let is_here = definition_at(units, token.place) == own;
+            return is_here.then_some(token.place);
+        }
+    }
+    None
 }
 
 fn hint_recursion(finding: &mut Finding, name: &str) {
@@ -102,7 +230,7 @@ fn innermost_let(alloc: Global, spot: &Spot<'_>) -> Result<Option<Token>, AllocE
 }
 
 /// Whether a name is defined here: `x ==`, `Op(..) ==` or `f[..] ==`.
-fn is_head(spot: &Spot<'_>, index: usize) -> bool {
+pub(crate) fn is_head(spot: &Spot<'_>, index: usize) -> bool {
     let mut deep: usize = 0;
     let rest = spot.tokens.get(index.saturating_add(1)..).unwrap_or(&[]);
     for token in rest {
@@ -120,15 +248,23 @@ fn is_head(spot: &Spot<'_>, index: usize) -> bool {
 }
 
 /// Finds the module that has a name, or what to write where that can't be extended.
-fn find_in_modules(finding: &mut Finding, name: &str) -> bool {
+fn find_in_modules(finding: &mut Finding, spot: &Spot<'_>) -> bool {
+    let name = spot.word(spot.at);
     if let Some(module) = module_with(name.as_bytes()) {
         hint_module(finding, name, module);
-        true
-    } else if let Some(cure) = library_cure(name) {
-        finding.hint(&[cure]);
-        true
+        return true;
+    }
+    let cure = if spot.ahead(1) == Some(Kind::LeftParen) {
+        library_cure(name)
     } else {
-        false
+        plain_cure(name)
+    };
+    match cure {
+        Some(cure) => {
+            finding.hint(&[cure]);
+            true
+        }
+        None => false,
     }
 }
 
@@ -178,6 +314,9 @@ fn hint_near(finding: &mut Finding, spot: &Spot<'_>, units: &[Unit], known: &[Kn
             name,
             " above its use, or declare it as a CONSTANT or a VARIABLE",
         ]);
+        if spot.back(1) == Some(Kind::LeftBracket) && spot.ahead(1) == Some(Kind::Arrow) {
+            finding.hint(&["a record is written [", name, " |-> e]"]);
+        }
     }
 }
 

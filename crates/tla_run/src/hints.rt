@@ -50,15 +50,54 @@ pub fn hint_at_lacking_word<H: Host, E: Write>(
     }
 }
 
-/// The hint at NAME.cfg, where a word is NAME.tla and that file can be opened.
+/// The hint at NAME.cfg, where a word behind the program's name is NAME.tla, or NAME alone, and both
+/// files can be opened.
 fn configuration<H: Host>(alloc: Global, host: &H, words: &[&str]) -> Option<String> {
+    for word in words.iter().skip(1) {
+        let name = word.strip_suffix(".tla").unwrap_or(word);
+        if let Some(hint) = both_files(alloc, host, name) {
+            return Some(hint);
+        }
+    }
+    None
+}
+
+/// The hint at NAME.tla and NAME.cfg, if both can be opened.
+fn both_files<H: Host>(alloc: Global, host: &H, name: &str) -> Option<String> {
+    let module = format!(in alloc; "{name}.tla").ok()?;
+    host.open(module.as_str()).ok()?;
+    let config = format!(in alloc; "{name}.cfg").ok()?;
+    host.open(config.as_str()).ok()?;
+    format!(in alloc; "hint: name the configuration too: tlacheck {module} {config}\n").ok()
+}
+
+/// Options of TLC, and what is written in their place.
+static TLC_OPTIONS: [(&'static str, &'static str); 3] = [
+    ("-workers", "hint: TLC's -workers is --workers here\n"),
+    (
+        "-config",
+        "hint: TLC's -config is left out here: the second file is the configuration\n",
+    ),
+    (
+        "-deadlock",
+        "hint: TLC's -deadlock is CHECK_DEADLOCK FALSE in the configuration here\n",
+    ),
+];
+
+/// Hints at what is written in place of TLC's options.
+pub fn hint_at_tlc_options<E: Write>(words: &[&str], err: &mut E) {
     for word in words {
-        if let Some(name) = word.strip_suffix(".tla") {
-            let config = format!(in alloc; "{name}.cfg").ok()?;
-            host.open(config.as_str()).ok()?;
-            return format!(in alloc;
-                "hint: name the configuration too: tlacheck {word} {config}\n"
-            ).ok();
+        if let Some(hint) = tlc_hint(word) {
+            let _ = put(err, 0, hint.as_bytes());
+        }
+    }
+}
+
+/// The hint at what is written in place of an option of TLC.
+fn tlc_hint(word: &str) -> Option<&'static str> {
+    for (option, hint) in &TLC_OPTIONS {
+        if *option == word {
+            return Some(*hint);
         }
     }
     None

@@ -14,4 +14,5 @@ pub use host::{Host, Inputs};
 pub use process::run_process;
 pub use running::run;
 pub use tla_check::{Checked, Gate, Line, LineFault, NoGate};
+pub use tla_progress::{Memory, NoMemory, ProcessMemory};
 pub use unread::Unread;

@@ -8,7 +8,7 @@ ghost use Rattle.tla_run.specs.Runs.{GetsUpTo, Says, cannot_read, cannot_write, 
 ghost use Rattle.tla_run.specs.Unread.{cause_text};
 
 use crate::files::Uncreated;
-use crate::hints::{hint_at_lacking_word, hint_at_near_file};
+use crate::hints::{hint_at_lacking_word, hint_at_near_file, hint_at_tlc_options};
 use crate::host::Host;
 use crate::unread::UnreadFile;
 use clap::error::ErrorKind;
@@ -34,8 +34,8 @@ pub fn complain<H: Host, E: Write>(
         Some(text) => say(is_quiet, text, no_line.help(), err),
         None => {
             let _ = write!(err, "{}", no_line.fault);
-            if !is_quiet && lacks_word(&no_line.fault) {
-                hint_at_lacking_word(alloc, host, words, err);
+            if !is_quiet {
+                hint_at_words(alloc, host, &no_line.fault, words, err);
             }
         }
     }
@@ -53,11 +53,21 @@ fn say<E: Write>(is_quiet: bool, line: &str, help: &str, err: &mut E)
     }
 }
 
-/// Whether a word that has to be there is missing.
-fn lacks_word(fault: &LineFault) -> bool {
-    match fault {
-        LineFault::Refused(error) => matches!(error.kind(), ErrorKind::MissingRequiredArgument),
-        LineFault::Number | LineFault::Memory => false,
+/// Hints at what is wrong with words that `clap` refuses.
+fn hint_at_words<H: Host, E: Write>(
+    alloc: Global,
+    host: &H,
+    fault: &LineFault,
+    words: &[&str],
+    err: &mut E,
+) {
+    let LineFault::Refused(error) = fault else {
+        return;
+    };
+    match error.kind() {
+        ErrorKind::MissingRequiredArgument => hint_at_lacking_word(alloc, host, words, err),
+        ErrorKind::UnknownArgument => hint_at_tlc_options(words, err),
+        _ => {}
     }
 }
 

@@ -13,22 +13,24 @@ use std::time::{Clock, Instant};
 use std::{env, fs, io};
 use tla_check::{Checked, Gate, GatePlace, Line, LineFault};
 use tla_explain::{FileNames, Style, explain, write_document, write_graph};
-use tla_progress::{GreatestLevel, NoMemory, Progress, Took};
+use tla_progress::{GreatestLevel, Memory, Progress, Took};
 
 /// Runs the program on the process's own words and files, with these writers for its standard output
-/// and its standard error, and answers the status with which it ends.
+/// and its standard error, and answers the status with which it ends. Progress lines show the memory.
 #[tactic(auto, using(crate::proofs::RunLemmas::runs_some, crate::proofs::RunLemmas::runs_none))]
 pub fn run_process<
     O: Write,
     E: Write,
     R: AllocGlobal + Clock + Env + Eprint + Files + Threads + Wait + Sync,
->(rt: &R, out: &mut O, err: &mut E) -> u8
+    M: Memory + Sync,
+>(rt: &R, memory: &M, out: &mut O, err: &mut E) -> u8
     ensures { IsSomeRun (record { old = O.contents out.old; new = O.contents out.new })
         (record { old = E.contents err.old; new = E.contents err.new }) result }
 {
     let greatest = GreatestLevel::new();
     let process = Process {
         rt,
+        memory,
         greatest: &greatest,
     };
     match words(rt) {
@@ -39,21 +41,22 @@ pub fn run_process<
 
 /// What the process has for a run.
 #[derive(Drop)]
-struct Process<'a, R> {
+struct Process<'a, R, M> {
     rt: &'a R,
+    memory: &'a M,
     /// Which level of its search is the greatest.
     greatest: &'a GreatestLevel,
 }
 
 /// The gate of a search that isn't quiet. It is the first to read the clock.
 #[derive(Drop)]
-struct Watch<'a, R> {
+struct Watch<'a, R, M> {
     /// When the search began, if there is a clock.
     began: Option<Instant>,
-    progress: Progress<'a, R, NoMemory>,
+    progress: Progress<'a, R, M>,
 }
 
-impl<R: Clock + Eprint + Sync> Gate for Watch<'_, R> {
+impl<R: Clock + Eprint + Sync, M: Memory + Sync> Gate for Watch<'_, R, M> {
     fn enter(&self, place: &GatePlace) {
         self.progress.enter(place);
     }
@@ -63,12 +66,13 @@ impl<R: Clock + Eprint + Sync> Gate for Watch<'_, R> {
     }
 }
 
-impl<'a, R: AllocGlobal + Clock + Eprint + Files + Sync> Host for Process<'a, R> {
+impl<'a, R: AllocGlobal + Clock + Eprint + Files + Sync, M: Memory + Sync> Host
+    for Process<'a, R, M> {
     type File = R::File;
 
     type NewFile = R::File;
 
-    type Gate = Watch<'a, R>;
+    type Gate = Watch<'a, R, M>;
 
     fn open(&self, name: &str) -> io::Result<R::File> {
         let file = fs::open(self.rt, name)?;
@@ -82,12 +86,12 @@ impl<'a, R: AllocGlobal + Clock + Eprint + Files + Sync> Host for Process<'a, R>
         fs::create(self.rt, name)
     }
 
-    fn gate(&self, line: &Line<'_>) -> Watch<'a, R> {
+    fn gate(&self, line: &Line<'_>) -> Watch<'a, R, M> {
         let began = Instant::now(self.rt).ok();
         let cut = line.options.cut();
         Watch {
             began,
-            progress: Progress::new(self.rt, NoMemory, began, cut, self.greatest),
+            progress: Progress::new(self.rt, self.memory, began, cut, self.greatest),
         }
     }
 
@@ -96,7 +100,7 @@ impl<'a, R: AllocGlobal + Clock + Eprint + Files + Sync> Host for Process<'a, R>
         err: &mut E,
         inputs: &Inputs<'_>,
         checked: &Checked,
-        gate: &Watch<'a, R>,
+        gate: &Watch<'a, R, M>,
     ) {
         let took = self.took(inputs.line, checked, gate.began);
         let style = Style {
@@ -147,7 +151,7 @@ fn names<'a>(line: &Line<'a>) -> FileNames<'a> {
     }
 }
 
-impl<R: Clock> Process<'_, R> {
+impl<R: Clock, M> Process<'_, R, M> {
     /// What a long run went through, and how long it took.
     fn took(&self, line: &Line<'_>, checked: &Checked, began: Option<Instant>) -> Option<Took> {
         let Checked::Answered(answered) = checked else {

@@ -14,7 +14,7 @@ const MOST_CHOICES: usize = 3;
 /// A part of an action that makes no step.
 #[derive(Drop)]
 pub struct Blocked<'a> {
-    pub place: Place,
+    pub part: &'a Core,
     /// Why it makes none, for its first choices.
     pub reasons: Vec<Reason<'a>>,
     /// How many choices were looked at.
@@ -123,17 +123,17 @@ fn add_blocked<'a>(
     blocks: &mut Blocks<'a>,
 ) -> Result<(), Fault> {
     let place = part.place();
-    if blocks.found.iter().all(|b| b.place != place) {
+    if blocks.found.iter().all(|b| b.part.place() != place) {
         let reasons = Vec::new(walk.alloc());
         blocks.found.push(Blocked {
-            place,
+            part,
             reasons,
             choices: 0,
             more: 0,
         })?;
     }
     for blocked in blocks.found.iter_mut() {
-        if blocked.place == place {
+        if blocked.part.place() == place {
             return add_choice(part, &blocks.unset, walk, blocked);
         }
     }
@@ -244,7 +244,7 @@ fn stop_in_turn<'a>(
 }
 
 /// The states that a part leads to from any of these.
-fn reached_from_all(
+pub(crate) fn reached_from_all(
     part: &Core,
     states: &[Partial],
     walk: &mut Walk<'_>,

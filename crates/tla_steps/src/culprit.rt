@@ -2,7 +2,7 @@
 //! operands were.
 
 use crate::chosen::Chosen;
-use crate::reason::{Operand, add_operand};
+use crate::reason::{Operand, add_operand, shown_operands};
 use crate::walk::Walk;
 use std::alloc::Global;
 use std::mem;
@@ -19,6 +19,8 @@ pub struct Culprit<'a> {
     pub chosen: Vec<Chosen>,
     /// Its operands that have a value.
     pub operands: Vec<Operand<'a>>,
+    /// Its own value, if it has one, which is then no truth value where one is wanted.
+    pub value: Option<Value>,
 }
 
 /// What is looked for, and the way to where the search is.
@@ -392,7 +394,7 @@ fn bind_old_at(
 }
 
 /// What a function has at an argument.
-fn value_at<'v>(value: &'v Value, argument: &Value) -> Option<&'v Value> {
+pub(crate) fn value_at<'v>(value: &'v Value, argument: &Value) -> Option<&'v Value> {
     match value {
         Value::Fun(function) => function.apply(argument),
         _ => None,
@@ -411,10 +413,12 @@ pub(crate) fn accuse<'a>(
     let alloc = hunt.walk.alloc();
     let mut operands = Vec::new(alloc);
     add_operands(core, next, hunt, &mut operands)?;
+    let value = hunt.walk.value(core, next)?;
     let culprit = Culprit {
         nodes: mem::replace(&mut hunt.nodes, Vec::new(alloc)),
         chosen: hunt.walk.chosen()?,
         operands,
+        value,
     };
     hunt.culprit = Some(culprit);
     Ok(())
@@ -444,6 +448,13 @@ fn add_operands<'a>(
             add_all(sets, next, hunt, operands)
         }
         Core::Records(_, fields) => add_fields(fields, next, hunt, operands),
+        Core::Assert(_, condition, text) => {
+            add_operand(0, Some(condition), next, &mut hunt.walk, operands)?;
+            add_operand(1, Some(text), next, &mut hunt.walk, operands)?;
+            let (left, right) = shown_operands(condition);
+            add_operand(2, left, next, &mut hunt.walk, operands)?;
+            add_operand(3, right, next, &mut hunt.walk, operands)
+        }
         Core::SubSeq(_, sequence, low, high) => {
             add_operand(0, Some(sequence), next, &mut hunt.walk, operands)?;
             add_operand(1, Some(low), next, &mut hunt.walk, operands)?;
@@ -499,7 +510,6 @@ fn two_operands(core: &Core) -> (Option<&Core>, Option<&Core>) {
         | Core::Apply(_, left, right)
         | Core::Equal(_, left, right)
         | Core::Implies(_, left, right)
-        | Core::Assert(_, left, right)
         | Core::Functions(_, left, right)
         | Core::Member(_, left, right)
         | Core::NotMember(_, left, right)

@@ -1,6 +1,7 @@
 //! The parts that leave a variable without a next value.
 
-use crate::chosen::Taken;
+use crate::blocked::reached_from_all;
+use crate::chosen::Chosen;
 use crate::walk::Walk;
 use std::alloc::{AllocError, Global};
 use tla_core::{Core, Fault, Opening, Place};
@@ -22,15 +23,34 @@ pub fn lacking_parts(
 
 #[cycle(gathered)]
 fn gather(part: &Core, variable: usize, places: &mut Vec<Place>) -> Result<(), AllocError> {
+    if sets_always(part, variable) {
+        return Ok(());
+    }
     match part {
         Core::Disjunction(_, parts) => gather_all(parts, variable, places),
         Core::ForSome(_, _, body) | Core::Opened(_, _, body) => gather(body, variable, places),
-        _ if sets(part, variable) => Ok(()),
-        _ => {
-            places.push(part.place())?;
-            Ok(())
+        Core::Conjunction(place, parts) => match setting(parts, variable) {
+            Some(index) => gather_at(parts, index, variable, places),
+            None => add(*place, places),
+        },
+        Core::If(_, _, yes, no) => {
+            gather(yes, variable, places)?;
+            gather(no, variable, places)
         }
+        Core::Cases(_, arms, None) => gather_arms(arms, variable, places),
+        Core::Cases(_, arms, Some(other)) => {
+            gather_arms(arms, variable, places)?;
+            gather(other, variable, places)
+        }
+        _ => add(part.place(), places),
     }
+}
+
+fn add(place: Place, places: &mut Vec<Place>) -> Result<(), AllocError> {
+    if !places.contains(&place) {
+        places.push(place)?;
+    }
+    Ok(())
 }
 
 #[cycle(gathered)]
@@ -41,19 +61,51 @@ fn gather_all(parts: &[Core], variable: usize, places: &mut Vec<Place>) -> Resul
     Ok(())
 }
 
+#[cycle(gathered)]
+fn gather_at(
+    parts: &[Core],
+    index: usize,
+    variable: usize,
+    places: &mut Vec<Place>,
+) -> Result<(), AllocError> {
+    match parts.get(index) {
+        Some(part) => gather(part, variable, places),
+        None => Ok(()),
+    }
+}
+
+#[cycle(gathered)]
+fn gather_arms(
+    arms: &[(Core, Core)],
+    variable: usize,
+    places: &mut Vec<Place>,
+) -> Result<(), AllocError> {
+    for arm in arms {
+        gather(&arm.1, variable, places)?;
+    }
+    Ok(())
+}
+
+/// The number of the first conjunct that may set a variable.
+fn setting(parts: &[Core], variable: usize) -> Option<usize> {
+    parts.iter().position(|part| may_set(part, variable))
+}
+
 /// Whether each way through a part sets the variable.
 #[cycle(sets)]
-fn sets(part: &Core, variable: usize) -> bool {
+fn sets_always(part: &Core, variable: usize) -> bool {
     match part {
         Core::Equal(_, left, _) | Core::Member(_, left, _) => is_next(left, variable),
         Core::Conjunction(_, parts) => some_sets(parts, variable),
         Core::Disjunction(_, parts) => all_set(parts, variable),
         Core::ForAll(_, _, body) | Core::ForSome(_, _, body) | Core::Opened(_, _, body) => {
-            sets(body, variable)
+            sets_always(body, variable)
         }
-        Core::If(_, _, yes, no) => sets(yes, variable) && sets(no, variable),
+        Core::If(_, _, yes, no) => sets_always(yes, variable) && sets_always(no, variable),
         Core::Cases(_, arms, None) => arms_set(arms, variable),
-        Core::Cases(_, arms, Some(other)) => arms_set(arms, variable) && sets(other, variable),
+        Core::Cases(_, arms, Some(other)) => {
+            arms_set(arms, variable) && sets_always(other, variable)
+        }
         _ => false,
     }
 }
@@ -61,7 +113,7 @@ fn sets(part: &Core, variable: usize) -> bool {
 #[cycle(sets)]
 fn some_sets(parts: &[Core], variable: usize) -> bool {
     for part in parts {
-        if sets(part, variable) {
+        if sets_always(part, variable) {
             return true;
         }
     }
@@ -71,7 +123,7 @@ fn some_sets(parts: &[Core], variable: usize) -> bool {
 #[cycle(sets)]
 fn all_set(parts: &[Core], variable: usize) -> bool {
     for part in parts {
-        if !sets(part, variable) {
+        if !sets_always(part, variable) {
             return false;
         }
     }
@@ -81,82 +133,256 @@ fn all_set(parts: &[Core], variable: usize) -> bool {
 #[cycle(sets)]
 fn arms_set(arms: &[(Core, Core)], variable: usize) -> bool {
     for arm in arms {
-        if !sets(&arm.1, variable) {
+        if !sets_always(&arm.1, variable) {
             return false;
         }
     }
     true
 }
 
+/// Whether a way through a part sets the variable.
+#[cycle(may_set)]
+pub fn may_set(part: &Core, variable: usize) -> bool {
+    match part {
+        Core::Equal(_, left, _) | Core::Member(_, left, _) => is_next(left, variable),
+        Core::Conjunction(_, parts) | Core::Disjunction(_, parts) => one_may_set(parts, variable),
+        Core::ForAll(_, _, body) | Core::ForSome(_, _, body) | Core::Opened(_, _, body) => {
+            may_set(body, variable)
+        }
+        Core::If(_, _, yes, no) => may_set(yes, variable) || may_set(no, variable),
+        Core::Cases(_, arms, None) => arm_may_set(arms, variable),
+        Core::Cases(_, arms, Some(other)) => {
+            arm_may_set(arms, variable) || may_set(other, variable)
+        }
+        _ => false,
+    }
+}
+
+#[cycle(may_set)]
+fn one_may_set(parts: &[Core], variable: usize) -> bool {
+    for part in parts {
+        if may_set(part, variable) {
+            return true;
+        }
+    }
+    false
+}
+
+#[cycle(may_set)]
+fn arm_may_set(arms: &[(Core, Core)], variable: usize) -> bool {
+    for arm in arms {
+        if may_set(&arm.1, variable) {
+            return true;
+        }
+    }
+    false
+}
+
 fn is_next(core: &Core, variable: usize) -> bool {
     matches!(core, Core::Next(_, set) if *set == variable)
 }
 
+/// A part that leaves a variable without a next value, and the values that the `\E` above it chose,
+/// the outermost first.
+#[derive(Drop)]
+pub struct LackingPart<'a> {
+    pub part: &'a Core,
+    pub chosen: Vec<Chosen>,
+}
+
 /// A variable, and the first part that is found to leave it without a next value.
 #[derive(Drop)]
-struct Lack {
+struct Lack<'a> {
     variable: usize,
-    unset: Partial,
-    found: Option<Taken>,
+    found: Option<LackingPart<'a>>,
 }
 
 /// The first part of an action that leads to a state in which a variable has no next value, as far
 /// as `budget` evaluations show it. The only error is that memory ran out.
-pub fn lacking_part(
+pub fn lacking_part<'a>(
     alloc: Global,
-    action: &Core,
+    action: &'a Core,
     variable: usize,
     variables: usize,
     now: Option<&State>,
     budget: u64,
-) -> Result<Option<Taken>, Fault> {
+) -> Result<Option<LackingPart<'a>>, Fault> {
     let mut walk = Walk::new(alloc, now, budget);
     let mut lack = Lack {
         variable,
-        unset: Partial::unset(alloc, variables)?,
         found: None,
     };
-    find_lack(action, &mut walk, &mut lack)?;
+    let unset = Partial::unset(alloc, variables)?;
+    find_lack(action, &unset, &mut walk, &mut lack)?;
     Ok(lack.found)
 }
 
 /// Goes through the parts under disjunctions and `\E`.
 #[cycle(lack)]
-fn find_lack(part: &Core, walk: &mut Walk<'_>, lack: &mut Lack) -> Result<(), Fault> {
+fn find_lack<'a>(
+    part: &'a Core,
+    from: &Partial,
+    walk: &mut Walk<'_>,
+    lack: &mut Lack<'a>,
+) -> Result<(), Fault> {
     if lack.found.is_some() {
         return Ok(());
     }
     match part {
-        Core::Disjunction(_, parts) => find_in_disjuncts(parts, walk, lack),
-        Core::ForSome(place, set, body) => find_by_element(body, set, *place, walk, lack),
-        Core::Opened(place, openings, body) => find_by_items(body, openings, *place, walk, lack),
-        _ => keep_if_lacking(part, walk, lack),
+        Core::Disjunction(_, parts) => find_in_disjuncts(parts, from, walk, lack),
+        Core::ForSome(place, set, body) => find_by_element(body, set, *place, from, walk, lack),
+        Core::Opened(place, openings, body) => {
+            find_by_items(body, openings, *place, from, walk, lack)
+        }
+        _ => find_in_part(part, from, walk, lack),
+    }
+}
+
+/// Finds the innermost part of a part that leads to a state in which the variable has no next value.
+#[cycle(lack)]
+fn find_in_part<'a>(
+    part: &'a Core,
+    from: &Partial,
+    walk: &mut Walk<'_>,
+    lack: &mut Lack<'a>,
+) -> Result<(), Fault> {
+    if !leads_to_lack(part, from, lack.variable, walk)? {
+        return Ok(());
+    }
+    find_below(part, from, walk, lack)?;
+    if lack.found.is_none() {
+        lack.found = Some(LackingPart {
+            part,
+            chosen: walk.chosen()?,
+        });
+    }
+    Ok(())
+}
+
+/// Whether a part leads to a state in which a variable has no next value.
+fn leads_to_lack(
+    part: &Core,
+    from: &Partial,
+    variable: usize,
+    walk: &mut Walk<'_>,
+) -> Result<bool, Fault> {
+    match walk.reached(part, from)? {
+        Some(states) => Ok(states.iter().any(|state| is_unset(state, variable))),
+        None => Ok(false),
+    }
+}
+
+/// Goes down into the conjunct that sets the variable, or into the branch that is taken.
+#[cycle(lack)]
+fn find_below<'a>(
+    part: &'a Core,
+    from: &Partial,
+    walk: &mut Walk<'_>,
+    lack: &mut Lack<'a>,
+) -> Result<(), Fault> {
+    match part {
+        Core::Conjunction(_, parts) => find_in_conjuncts(parts, from, walk, lack),
+        Core::If(_, condition, yes, no) => match walk.truth(condition, from)? {
+            Some(true) => find_lack(yes, from, walk, lack),
+            Some(false) => find_lack(no, from, walk, lack),
+            None => Ok(()),
+        },
+        Core::Cases(_, arms, None) => {
+            find_in_arm(arms, from, walk, lack)?;
+            Ok(())
+        }
+        Core::Cases(_, arms, Some(other)) => {
+            if !find_in_arm(arms, from, walk, lack)? {
+                find_lack(other, from, walk, lack)?;
+            }
+            Ok(())
+        }
+        _ => Ok(()),
     }
 }
 
 #[cycle(lack)]
-fn find_in_disjuncts(parts: &[Core], walk: &mut Walk<'_>, lack: &mut Lack) -> Result<(), Fault> {
+fn find_in_disjuncts<'a>(
+    parts: &'a [Core],
+    from: &Partial,
+    walk: &mut Walk<'_>,
+    lack: &mut Lack<'a>,
+) -> Result<(), Fault> {
     for part in parts {
-        find_lack(part, walk, lack)?;
+        find_lack(part, from, walk, lack)?;
+    }
+    Ok(())
+}
+
+/// Goes down into the first conjunct that may set the variable, from the states that those before
+/// it lead to.
+#[cycle(lack)]
+fn find_in_conjuncts<'a>(
+    parts: &'a [Core],
+    from: &Partial,
+    walk: &mut Walk<'_>,
+    lack: &mut Lack<'a>,
+) -> Result<(), Fault> {
+    let variable = lack.variable;
+    let mut states = vec![in walk.alloc(); from.copy(walk.alloc())?]?;
+    for part in parts {
+        if may_set(part, variable) {
+            return find_from_each(part, &states, walk, lack);
+        }
+        match reached_from_all(part, &states, walk)? {
+            Some(reached) => states = reached,
+            None => return Ok(()),
+        }
     }
     Ok(())
 }
 
 #[cycle(lack)]
-fn find_by_element(
-    body: &Core,
+fn find_from_each<'a>(
+    part: &'a Core,
+    states: &[Partial],
+    walk: &mut Walk<'_>,
+    lack: &mut Lack<'a>,
+) -> Result<(), Fault> {
+    for state in states {
+        find_lack(part, state, walk, lack)?;
+    }
+    Ok(())
+}
+
+/// Goes down into the arm that is taken; false where no condition is TRUE.
+#[cycle(lack)]
+fn find_in_arm<'a>(
+    arms: &'a [(Core, Core)],
+    from: &Partial,
+    walk: &mut Walk<'_>,
+    lack: &mut Lack<'a>,
+) -> Result<bool, Fault> {
+    for (condition, value) in arms {
+        if walk.truth(condition, from)? == Some(true) {
+            find_lack(value, from, walk, lack)?;
+            return Ok(true);
+        }
+    }
+    Ok(false)
+}
+
+#[cycle(lack)]
+fn find_by_element<'a>(
+    body: &'a Core,
     set: &Core,
     place: Place,
+    from: &Partial,
     walk: &mut Walk<'_>,
-    lack: &mut Lack,
+    lack: &mut Lack<'a>,
 ) -> Result<(), Fault> {
-    let Some(elements) = walk.elements(set, &lack.unset)? else {
+    let Some(elements) = walk.elements(set, from)? else {
         return Ok(());
     };
     let count = walk.len();
     for element in elements {
         walk.bind(place, element)?;
-        let outcome = find_lack(body, walk, lack);
+        let outcome = find_lack(body, from, walk, lack);
         walk.truncate(count);
         outcome?;
     }
@@ -164,32 +390,19 @@ fn find_by_element(
 }
 
 #[cycle(lack)]
-fn find_by_items(
-    body: &Core,
+fn find_by_items<'a>(
+    body: &'a Core,
     openings: &[Opening],
     place: Place,
+    from: &Partial,
     walk: &mut Walk<'_>,
-    lack: &mut Lack,
+    lack: &mut Lack<'a>,
 ) -> Result<(), Fault> {
     let count = walk.len();
     if !walk.open(place, openings)? {
         return Ok(());
     }
-    let outcome = find_lack(body, walk, lack);
+    let outcome = find_lack(body, from, walk, lack);
     walk.truncate(count);
     outcome
-}
-
-fn keep_if_lacking(part: &Core, walk: &mut Walk<'_>, lack: &mut Lack) -> Result<(), Fault> {
-    let Some(states) = walk.reached(part, &lack.unset)? else {
-        return Ok(());
-    };
-    if states.iter().any(|state| is_unset(state, lack.variable)) {
-        lack.found = Some(Taken {
-            place: part.place(),
-            within: None,
-            chosen: walk.chosen()?,
-        });
-    }
-    Ok(())
 }

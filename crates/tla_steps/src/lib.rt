@@ -1,6 +1,6 @@
 //! The parts of an action and of a state predicate: which of them a step makes true, which leave a
 //! variable without a next value, which decide that the whole is FALSE, which stop an action, and
-//! which fault.
+//! which fault; and which updates of EXCEPT change nothing.
 //!
 //! A part of an action is what its disjunctions and its `\E` lead to, as TLC names its actions.
 //! Where one conjunct alone leads on to such parts, they are the parts.
@@ -12,6 +12,7 @@ mod chosen;
 mod culprit;
 mod initial;
 mod lacking;
+mod missed;
 mod reading;
 mod reason;
 mod stray;
@@ -23,7 +24,8 @@ pub use blocked::{Blocked, blocked_parts};
 pub use chosen::{Chosen, Taken};
 pub use culprit::{Culprit, culprit_in};
 pub use initial::{initial_states, is_false_in_all};
-pub use lacking::{lacking_part, lacking_parts};
+pub use lacking::{LackingPart, lacking_part, lacking_parts, may_set};
+pub use missed::{Missed, add_missed, has_update};
 pub use reading::culprit_of_reading;
 pub use reason::{Operand, Reason, Verdict, reasons_against};
 pub use stray::Stray;

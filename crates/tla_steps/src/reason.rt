@@ -8,6 +8,9 @@ use tla_core::{Core, Fault, Opening, Place, Unary};
 use tla_eval::Partial;
 use tla_value::{State, Value};
 
+/// At how many elements it is shown why a `\E` is FALSE.
+const MOST_ELEMENTS: usize = 3;
+
 /// What is found of a part that decides.
 #[derive(Clone, Copy, Debug, PartialEq, Eq)]
 pub enum Verdict {
@@ -101,6 +104,7 @@ fn find_in_parts<'a>(
         Core::ForSome(place, set, body) if holds => {
             find_by_element(body, set, *place, true, next, walk, found)
         }
+        Core::ForSome(_, set, body) => find_by_each(body, set, part, next, walk, found),
         Core::Opened(place, openings, body) => {
             find_by_items(body, openings, *place, holds, next, walk, found)
         }
@@ -227,6 +231,35 @@ fn find_by_element<'a>(
     Ok(false)
 }
 
+/// Finds why the body is FALSE at the first elements, behind the whole.
+#[cycle(reasons)]
+fn find_by_each<'a>(
+    body: &'a Core,
+    set: &Core,
+    whole: &'a Core,
+    next: &Partial,
+    walk: &mut Walk<'_>,
+    found: &mut Vec<Reason<'a>>,
+) -> Result<bool, Fault> {
+    let Some(elements) = walk.elements(set, next)? else {
+        return Ok(false);
+    };
+    let verdict = if elements.is_empty() {
+        Verdict::NoElement
+    } else {
+        Verdict::False
+    };
+    found.push(reason_at(whole, verdict, next, walk)?)?;
+    let count = walk.len();
+    for element in elements.into_iter().take(MOST_ELEMENTS) {
+        walk.bind(whole.place(), element)?;
+        let outcome = find_if_is(body, false, next, walk, found);
+        walk.truncate(count);
+        outcome?;
+    }
+    Ok(true)
+}
+
 /// Finds why the body has this truth value under the items of elements.
 #[cycle(reasons)]
 fn find_by_items<'a>(
@@ -258,6 +291,8 @@ pub(crate) fn reason_at<'a>(
     let (left, right) = shown_operands(part);
     add_operand(0, left, next, walk, &mut operands)?;
     add_operand(1, right, next, walk, &mut operands)?;
+    add_operand(2, counted_set(left), next, walk, &mut operands)?;
+    add_operand(3, counted_set(right), next, walk, &mut operands)?;
     let stray = if verdict == Verdict::False {
         stray_in(part, next, walk)?
     } else {
@@ -292,8 +327,19 @@ pub(crate) fn add_operand<'a>(
     Ok(())
 }
 
+/// The set that an operand counts, unless it is a variable, which the state shows.
+fn counted_set(operand: Option<&Core>) -> Option<&Core> {
+    match operand {
+        Some(Core::Unary(_, Unary::Cardinality, set)) => match set.as_ref() {
+            Core::Now(_, _) => None,
+            other => Some(other),
+        },
+        _ => None,
+    }
+}
+
 /// The operands of which a reader wants to see the values.
-fn shown_operands(part: &Core) -> (Option<&Core>, Option<&Core>) {
+pub(crate) fn shown_operands(part: &Core) -> (Option<&Core>, Option<&Core>) {
     match part {
         Core::Equal(_, left, right) | Core::Binary(_, _, left, right) => {
             (Some(left.as_ref()), Some(right.as_ref()))

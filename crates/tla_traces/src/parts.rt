@@ -17,7 +17,7 @@ pub(crate) fn parts_of<'a>(
     };
     let path = &difference.path;
     match (old, new) {
-        (Value::Set(old), Value::Set(new)) => set_parts(alloc, path, old, new),
+        (Value::Set(old), Value::Set(new)) => Ok(Some(set_parts(alloc, path, old, new)?)),
         (Value::Fun(old), Value::Fun(new)) if are_sequences(old, new) => {
             sequence_parts(alloc, path, old.values(), new.values())
         }
@@ -30,16 +30,15 @@ fn are_sequences(old: &FunValue, new: &FunValue) -> bool {
     old.as_sequence().is_some() && new.as_sequence().is_some()
 }
 
-/// What a set lost, and then what it gained. None where no member is kept.
+/// What a set lost, and then what it gained.
 fn set_parts<'a>(
     alloc: Global,
     path: &Path<'a>,
     old: &'a SetValue,
     new: &'a SetValue,
-) -> Result<Option<Vec<Difference<'a>>>, AllocError> {
+) -> Result<Vec<Difference<'a>>, AllocError> {
     let mut before = Entries::of_set(old);
     let mut after = Entries::of_set(new);
-    let mut kept = old.is_empty() || new.is_empty();
     let mut parts = Vec::new(alloc);
     let mut gained = Vec::new(alloc);
     for _ in 0..old.len().saturating_add(new.len()) {
@@ -54,14 +53,13 @@ fn set_parts<'a>(
                 after.advance();
             }
             Next::Both(_, _, _) => {
-                kept = true;
                 before.advance();
                 after.advance();
             }
         }
     }
     push_each(&mut parts, gained)?;
-    Ok(if kept { Some(parts) } else { None })
+    Ok(parts)
 }
 
 fn push_each<'a>(

@@ -3,8 +3,9 @@
 
 use std::io;
 use std::process::ExitCode;
-use tla_run::run_process;
+use tla_run::{ProcessMemory, run_process};
 
 fn main(rt: HostRuntime) -> ExitCode {
-    ExitCode::from(run_process(&rt, &mut io::writer(&rt), &mut rt.stderr()))
+    let memory = ProcessMemory::new(&rt);
+    ExitCode::from(run_process(&rt, &memory, &mut io::writer(&rt), &mut rt.stderr()))
 }

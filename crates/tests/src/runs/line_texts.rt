@@ -15,6 +15,7 @@ Usage: tlacheck [OPTIONS] <MODULE> <CONFIG>
 
 For more information, try '--help'.
 hint: --cut takes a number from 1 to 65536
+hint: name the configuration too: tlacheck M.tla M.cfg
 ";
 
 pub const MISSING_BESIDE: &str = "error: the following required arguments were not provided:
@@ -33,6 +34,16 @@ pub const UNKNOWN_OPTION: &str = "error: unexpected argument '--depth' found
 Usage: tlacheck [OPTIONS] <MODULE> <CONFIG>
 
 For more information, try '--help'.
+";
+
+pub const OPTION_OF_TLC: &str = "error: unexpected argument '-w' found
+
+  tip: to pass '-w' as a value, use '-- -w'
+
+Usage: tlacheck [OPTIONS] <MODULE> <CONFIG>
+
+For more information, try '--help'.
+hint: TLC's -workers is --workers here
 ";
 
 pub const HELP: &str = "Checks a TLA+ module under a configuration

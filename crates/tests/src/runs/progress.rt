@@ -39,7 +39,7 @@ impl Eprint for Seconds {
 
 /// A search of this many levels, each of three pieces. It leaves a piece at each second from the first one on.
 fn search_levels(rt: &Seconds, began: Option<Instant>, levels: u64, greatest: &GreatestLevel) {
-    let gate = Progress::new(rt, NoMemory, began, 10, greatest);
+    let gate = Progress::new(rt, &NoMemory, began, 10, greatest);
     for number in 0..levels.saturating_mul(3) {
         let place = GatePlace {
             level: number / 3,

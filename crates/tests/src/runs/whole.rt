@@ -2,7 +2,7 @@
 //! out by hand.
 
 use crate::runs::line_texts::{
-    HELP, MISSING, MISSING_AND_BAD_CUT, MISSING_BESIDE, UNKNOWN_OPTION, VERSION,
+    HELP, MISSING, MISSING_AND_BAD_CUT, MISSING_BESIDE, OPTION_OF_TLC, UNKNOWN_OPTION, VERSION,
 };
 use crate::writer::{End, Narrow};
 use std::alloc::{AllocError, Global};
@@ -398,7 +398,7 @@ static UNREAD: [Row; 13] = [
     },
 ];
 
-static NO_LINE: [Row; 15] = [
+static NO_LINE: [Row; 16] = [
     Row {
         words: &["tlacheck", "M.tla"],
         said: MISSING_BESIDE,
@@ -421,7 +421,7 @@ static NO_LINE: [Row; 15] = [
     },
     Row {
         words: &["tlacheck", "M", "--cut", "2"],
-        said: MISSING,
+        said: MISSING_BESIDE,
         ..SILENT
     },
     Row {
@@ -437,6 +437,11 @@ static NO_LINE: [Row; 15] = [
     Row {
         words: &["tlacheck", "M.tla", "M.cfg", "--depth"],
         said: UNKNOWN_OPTION,
+        ..SILENT
+    },
+    Row {
+        words: &["tlacheck", "M.tla", "M.cfg", "-workers", "4"],
+        said: OPTION_OF_TLC,
         ..SILENT
     },
     Row {

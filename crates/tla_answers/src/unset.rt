@@ -1,0 +1,210 @@
+//! What to write where a next value is read that isn't set.
+
+use crate::extents::{first_token, last_token, text_between};
+use crate::operands::Scene;
+use crate::why::{put_expression, variable_name};
+use std::alloc::{AllocError, Global};
+use tla_core::{Binary, Core, Unary};
+use tla_lex::Kind;
+use tla_page::page::Page;
+use tla_traces::expressions::expression_of;
+use tla_traces::models::Telling;
+use tla_traces::signs::sign_of;
+use tla_tree::Expr;
+
+/// Hints what to write where a next value is read that isn't set.
+pub(crate) fn hint_next<'a>(page: &mut Page, telling: &Telling<'a>, scene: &Scene<'a, '_>) {
+    let Core::Next(_, variable) = scene.node else {
+        return;
+    };
+    let name = variable_name(telling, *variable);
+    let nodes = scene.culprit.nodes.as_slice();
+    if let Some(equality) = part_equality(nodes) {
+        hint_part(page, telling, nodes, equality, name);
+    } else if nodes
+        .iter()
+        .any(|node| matches!(node, Core::Implies(_, _, _)))
+    {
+        page.hint(&[
+            "=> gives no steps and sets no variable: ",
+            "write IF .. THEN .. ELSE, or /\\ after the condition",
+        ]);
+    } else if scene.is_initial {
+        page.hint(&["put ", name, " = .. or ", name, " \\in .. before it"]);
+    } else {
+        hint_primed(page, telling, scene, *variable, name);
+    }
+}
+
+/// Hints what to write in an action, by the form in which the next value stands.
+fn hint_primed<'a>(
+    page: &mut Page,
+    telling: &Telling<'a>,
+    scene: &Scene<'a, '_>,
+    variable: usize,
+    name: &str,
+) {
+    let nodes = scene.culprit.nodes.as_slice();
+    if is_own_value(nodes, variable) {
+        page.hint(&[
+            "did you mean ",
+            name,
+            " without the prime, right of ",
+            name,
+            "' = ?",
+        ]);
+    } else if nodes
+        .iter()
+        .any(|node| matches!(node, Core::Unary(_, Unary::Not, _)))
+    {
+        page.hint(&["~ sets no variable: put ", name, "' \\in .. before it"]);
+    } else if !hint_side(page, telling, nodes, name) {
+        page.hint(&["put ", name, "' = .. or ", name, "' \\in .. before it"]);
+    }
+}
+
+/// Whether the next value stands in what it is to be.
+fn is_own_value(nodes: &[&Core], variable: usize) -> bool {
+    for below in 1..nodes.len() {
+        if gives_value_at(nodes, below, variable) == Some(true) {
+            return true;
+        }
+    }
+    false
+}
+
+/// Whether a node on the way down is what the next value of a variable is to be.
+fn gives_value_at<'c>(nodes: &[&'c Core], below: usize, variable: usize) -> Option<bool> {
+    let above = below.checked_sub(1)?;
+    let whole: &'c Core = *nodes.get(above)?;
+    let part: &'c Core = *nodes.get(below)?;
+    Some(gives_value(whole, part, variable))
+}
+
+/// Whether a node is an equality of a next value and a part of it.
+fn gives_value(whole: &Core, part: &Core, variable: usize) -> bool {
+    match whole {
+        Core::Equal(_, left, right) => {
+            matches!(left.as_ref(), Core::Next(_, other) if *other == variable)
+                && same_node(right, part)
+        }
+        _ => false,
+    }
+}
+
+/// Hints how to write an equality, an inclusion or an equivalence of which the next value is a side;
+/// false where it is none.
+fn hint_side(page: &mut Page, telling: &Telling<'_>, nodes: &[&Core], name: &str) -> bool {
+    let [.., whole, side] = nodes else {
+        return false;
+    };
+    let whole: &Core = *whole;
+    let (start, other, end) = match whole {
+        Core::Equal(_, left, right) if same_node(right, side) => (" = ", left, ""),
+        Core::Subset(_, left, set) if same_node(left, side) => (" \\in SUBSET (", set, ")"),
+        Core::Binary(_, Binary::Iff, left, right) if same_node(left, side) => {
+            (" = (", right, ")")
+        }
+        _ => return false,
+    };
+    let Some(expr) = expression_of(telling.units, other) else {
+        return false;
+    };
+    page.put(&["hint: write ", name, "'", start]);
+    put_expression(page, telling, expr);
+    page.put(&[end, "\n"]);
+    true
+}
+
+/// The equality whose left side is a part of the next value at the end of these nodes, as `x'[1] =
+/// 3`.
+fn part_equality<'c>(nodes: &[&'c Core]) -> Option<&'c Core> {
+    let mut below = nodes.len().checked_sub(1)?;
+    for _ in 0..nodes.len() {
+        let above = below.checked_sub(1)?;
+        let node: &'c Core = *nodes.get(above)?;
+        let part: &'c Core = *nodes.get(below)?;
+        match node {
+            Core::Apply(_, first, _) | Core::Field(_, _, first) if same_node(first, part) => {
+                below = above;
+            }
+            Core::Equal(_, left, _) if same_node(left, part) && !is_next(part) => {
+                return Some(node);
+            }
+            _ => return None,
+        }
+    }
+    None
+}
+
+/// Whether two nodes on one way down are the same one.
+fn same_node(first: &Core, part: &Core) -> bool {
+    first.place() == part.place() && sign_of(first) == sign_of(part)
+}
+
+fn is_next(core: &Core) -> bool {
+    matches!(core, Core::Next(_, _))
+}
+
+/// Hints how to set a part of a function.
+fn hint_part(page: &mut Page, telling: &Telling<'_>, nodes: &[&Core], equality: &Core, name: &str) {
+    let Some(Expr::Binary(_, _, _, left, right)) = expression_of(telling.units, equality) else {
+        return;
+    };
+    match path_of(page.alloc(), telling, left) {
+        Ok(Some(_)) if is_for_all(nodes) => {
+            page.hint(&["set all of it at once: ", name, "' = [i \\in S |-> e]"]);
+        }
+        Ok(Some(path)) => {
+            page.put(&["hint: write ", name, "' = [", name, " EXCEPT !"]);
+            page.put_bytes(&path);
+            page.put_text(" = ");
+            put_expression(page, telling, right);
+            page.put_text("]\n");
+        }
+        Ok(None) => page.hint(&[
+            "give ",
+            name,
+            " its whole value, as ",
+            name,
+            " = [i \\in S |-> e]",
+        ]),
+        Err(_) => page.refuse(),
+    }
+}
+
+fn is_for_all(nodes: &[&Core]) -> bool {
+    nodes
+        .iter()
+        .any(|node| matches!(node, Core::ForAll(_, _, _)))
+}
+
+/// The path of a part, as EXCEPT has it: `[1].a` of `x'[1].a` and of `x[1].a'`; none where there is
+/// no prime.
+fn path_of(
+    alloc: Global,
+    telling: &Telling<'_>,
+    left: &Expr,
+) -> Result<Option<Vec<u8>>, AllocError> {
+    let tokens = telling.tokens;
+    let (Some(first), Some(last)) = (first_token(tokens, left), last_token(tokens, left)) else {
+        return Ok(None);
+    };
+    let second = first.saturating_add(1);
+    let module = telling.sources.module;
+    if tokens
+        .get(second)
+        .is_some_and(|token| token.kind == Kind::Prime)
+    {
+        let path = text_between(alloc, module, tokens, second.saturating_add(1), last)?;
+        return Ok(Some(path));
+    }
+    if tokens
+        .get(last)
+        .is_some_and(|token| token.kind == Kind::Prime)
+    {
+        let path = text_between(alloc, module, tokens, second, last.saturating_sub(1))?;
+        return Ok(Some(path));
+    }
+    Ok(None)
+}
