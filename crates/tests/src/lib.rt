@@ -7,6 +7,8 @@
 #[cfg(test)]
 mod hashing;
 #[cfg(test)]
+mod quick;
+#[cfg(test)]
 mod runs;
 #[cfg(test)]
 mod specifications;

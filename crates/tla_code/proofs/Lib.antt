@@ -1,0 +1,5 @@
+pub mod Pointwise
+pub mod Alike
+pub mod RaisedValue
+pub mod Twice
+pub mod Listed

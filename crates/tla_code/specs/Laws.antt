@@ -1,0 +1,18 @@
+-- The laws by which one evaluation serves several copies of an expression. (This project's own choice: what sharing needs of values and membership.)
+use Rattle.std.specs.Prelude.{◌≡◌, ℕ, ◌+◌, ◌≤◌, ◌++◌, length}
+use Rattle.tla_value.specs.Tree.{Tree}
+use Rattle.tla_core.specs.Expr.{Expr}
+use Rattle.tla_core.specs.Meaning.{Bound, Present, Next}
+use Rattle.tla_core.specs.Value.{val, mem}
+use Rattle.tla_code.specs.Raise.{raise}
+
+-- The expression is evaluated where `outer` are bound, its copy where `inner` are bound too, and `own` are the names that it has bound itself.
+abbrev pub RaiseKeepsValue : Type 0
+RaiseKeepsValue = (e : Expr) (outer inner own : Bound) (s : Present) (t : Next) → val (raise (length outer) (length inner) e) ((outer ++ inner) ++ own) s t ≡ val e (outer ++ own) s t
+
+abbrev pub RaiseKeepsMembers : Type 0
+RaiseKeepsMembers = (v : Tree) (e : Expr) (outer inner own : Bound) (s : Present) (t : Next) → mem v (raise (length outer) (length inner) e) ((outer ++ inner) ++ own) s t ≡ mem v e (outer ++ own) s t
+
+-- A copy of a copy is one copy, where the second's new names stand among the first's, or right before or after them.
+abbrev pub RaiseTwiceIsRaiseOnce : Type 0
+RaiseTwiceIsRaiseOnce = (e : Expr) (from by f more : ℕ) → from ≤ f → f ≤ from + by → raise from (by + more) e ≡ raise f more (raise from by e)

@@ -1,0 +1,15 @@
+//! Laws of expressions that are evaluated once for several copies, over their definitions alone.
+
+ghost use Rattle.tla_code.specs.Laws.{RaiseKeepsValue, RaiseKeepsMembers, RaiseTwiceIsRaiseOnce};
+
+/// A copy of an expression under more names has the value and the members that the expression has
+/// without these names.
+pub fn copies()
+    ensures value { RaiseKeepsValue }
+    ensures members { RaiseKeepsMembers }
+{}
+
+/// A copy of a copy is one copy.
+pub fn copies_of_copies()
+    ensures { RaiseTwiceIsRaiseOnce }
+{}

@@ -1,0 +1,9 @@
+//! Expressions arranged for evaluation: what has a name, or occurs several times, can be a definition that is used.
+#![tactic(auto)]
+
+mod arranged;
+mod code;
+pub mod laws;
+
+pub use arranged::code_of;
+pub use code::{BinderForm, Code, FieldForm, ListForm, MapForm, OneForm, ThreeForm, TwoForm};

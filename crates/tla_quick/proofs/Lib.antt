@@ -1,0 +1,5 @@
+mod Found
+mod Tried
+mod Used
+mod Forms
+mod FieldNames

@@ -1,0 +1,2 @@
+pub mod SameMeaning
+pub mod Private

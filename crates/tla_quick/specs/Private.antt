@@ -1,0 +1,5 @@
+-- What serves quick evaluation: no public contract cites these.
+pub mod Frames
+pub mod Environment
+pub mod Answers
+pub mod Names

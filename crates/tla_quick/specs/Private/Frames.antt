@@ -1,0 +1,72 @@
+-- What the code keeps of what is around an expression: the values of the bound names, and the definitions.
+use Rattle.std.specs.Prelude.{◌≡◌, ℕ, [], ◌∷◌, ◌++◌, List, length, map, Option, Some, None, Ok, option_map, slice_get}
+use Rattle.std.specs.Coded.{Coded-set}
+use Rattle.std.proofs.Props.{props}
+use Rattle.std.proofs.Common.{Bor}
+use Rattle.tla_value.specs.Tree.{Tree}
+use Rattle.tla_value.specs.TreeOf.{tree_of}
+use Rattle.tla_value.specs.Stored.{coded_tree}
+use Rattle.tla_value.specs.declared.value.Value.{Value}
+use Rattle.tla_core.specs.contracts.fault.Fault as fault
+use Rattle.tla_core.specs.declared.fault.Fault.{Fault}
+use Rattle.tla_core.specs.Fault.{Outcome}
+use Rattle.tla_core.specs.Expr.{Expr}
+use Rattle.tla_core.specs.Meaning.{Bound, Present, Next}
+use Rattle.tla_core.specs.Value.{val}
+use Rattle.tla_code.specs.CodeExpr.{Scope, expr_in}
+use Rattle.tla_code.specs.declared.code.Code.{Code}
+use Rattle.tla_quick.specs.declared.frame.Frame.{Frame}
+use Rattle.tla_quick.specs.declared.frame.Frame.TheVariants.{Outer, One', Many', Defined'}
+
+-- the values of the bound names, the outermost first
+abbrev pub bound_of : Frame → Bound
+bound_of (Outer values) = map tree_of values.now
+bound_of (One' _ outer _ value) = bound_of outer ++ tree_of value.now ∷ []
+bound_of (Many' _ outer _ values) = bound_of outer ++ map tree_of values.now
+bound_of (Defined' _ outer _ _ _ _) = bound_of outer
+
+-- the definitions, the outermost first
+abbrev pub scope_of : Frame → Scope
+scope_of (Outer _) = []
+scope_of (One' _ outer _ _) = scope_of outer
+scope_of (Many' _ outer _ _) = scope_of outer
+scope_of (Defined' _ outer _ names d _) = scope_of outer ++ (names, expr_in (scope_of outer) d.now) ∷ []
+
+-- the value of a definition, where it is known
+abbrev pub IsKnown : Option (Bor Value) → Outcome Tree → Type 0
+IsKnown None o = Unit {0}
+IsKnown (Some v) o = o ≡ Ok (tree_of v.now)
+
+-- the numbers count what is around each frame, and each value that is known is the definition's, with the names around it
+abbrev pub Knows : Frame → Present → Next → Type 0
+Knows (Outer _) s t = Unit {0}
+Knows (One' _ outer names _) s t = (names ≡ length (bound_of outer)) × Knows outer s t
+Knows (Many' _ outer names _) s t = (names ≡ length (bound_of outer)) × Knows outer s t
+Knows (Defined' _ outer number names d v) s t = (number ≡ length (scope_of outer)) × (names ≡ length (bound_of outer)) × IsKnown v (val (expr_in (scope_of outer) d.now) (bound_of outer) s t) × Knows outer s t
+
+-- there is one proof of it at most
+Fault-set : IsSet Fault
+Fault-set = Coded-set (fault.the_row).coded
+
+Tree-set : IsSet Tree
+Tree-set = Coded-set coded_tree
+
+IsKnown-prop : (v : Option (Bor Value)) (o : Outcome Tree) → IsProp (IsKnown v o)
+IsKnown-prop None o = hlevel props
+IsKnown-prop (Some v) o = hlevel (props, Fault-set, Tree-set)
+
+pub Knows-prop : (f : Frame) (s : Present) (t : Next) → IsProp (Knows f s t)
+Knows-prop (Outer _) s t = hlevel props
+Knows-prop (One' _ outer names _) s t = hlevel (props, Knows-prop outer s t)
+Knows-prop (Many' _ outer names _) s t = hlevel (props, Knows-prop outer s t)
+Knows-prop (Defined' _ outer number names d v) s t = hlevel (props, IsKnown-prop v (val (expr_in (scope_of outer) d.now) (bound_of outer) s t), Knows-prop outer s t)
+
+-- a definition of this number is around, under so many names, and has this value
+pub record IsDefinition (frame : Frame) (s : Present) (t : Next) (number names : ℕ) (v : Tree) : Type 0 where
+  pub expr : Expr
+  pub outer : Bound
+  pub inner : Bound
+  pub there : slice_get (scope_of frame) number ≡ Some (names, expr)
+  pub split : bound_of frame ≡ outer ++ inner
+  pub count : names ≡ length outer
+  pub value : val expr outer s t ≡ Ok v

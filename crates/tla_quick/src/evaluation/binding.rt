@@ -1,0 +1,225 @@
+//! Forms that bind one name.
+ghost use Rattle.std.specs.Prelude.{◌++◌, ◌∷◌, [], map, slice_get};
+ghost use Rattle.tla_value.specs.Tree.{truth};
+ghost use Rattle.tla_value.specs.TreeOf.{tree_of};
+ghost use Rattle.tla_core.specs.Lists.{all_hold, some_hold, first_passing, passing};
+ghost use Rattle.tla_core.specs.Meaning.{asks};
+ghost use Rattle.tla_core.specs.Value.{means};
+ghost use Rattle.tla_code.specs.Forms.{binder_expr};
+ghost use Rattle.tla_eval.specs.Private.Parts.{tested};
+ghost use Rattle.tla_operators.specs.Evaluated.{tree_of_evaluated};
+ghost use Rattle.tla_sets.specs.Elements.{elements_of};
+ghost use Rattle.tla_quick.specs.Private.Answers.{Answers};
+ghost use Rattle.tla_quick.specs.Private.Environment.{bound_in, present_in, next_in, code_in, value_in, value_with};
+
+use crate::environment::Environment;
+use crate::evaluation::{elements, truth, value};
+use crate::frame::Frame;
+use crate::made::{chosen, count_more, keep, owned, set_of};
+use crate::stop::Stop;
+use std::alloc::Global;
+use tla_code::{BinderForm, Code};
+use tla_core::Place;
+use tla_operators::evaluated::Evaluated;
+use tla_sets::elements::{Elements, element_at};
+use tla_value::Value;
+
+/// Whether a body is TRUE of each element of a set, or of some.
+#[cycle(evaluate)]
+pub(super) fn truth_of_binder<'m: 'a, 'a>(
+    alloc: Global,
+    place: &'a Place,
+    form: BinderForm,
+    set: &'a Code<'m>,
+    body: &'a Code<'m>,
+    env: Environment<'m, 'a>,
+) -> Result<bool, Stop>
+    ensures { Answers truth result (value_in env.entry (binder_expr form place.now (code_in env.entry set.now) (code_in env.entry body.now))) }
+{
+    let found = elements(alloc, place, set, env)?;
+    match form {
+        BinderForm::ForAll => Ok(each_holds(alloc, place, body, &found, env)?),
+        BinderForm::ForSome => Ok(some_holds(alloc, place, body, &found, env)?),
+        _ => Err(Stop::Unknown),
+    }
+}
+
+/// The value of a form that binds one name.
+#[cycle(evaluate)]
+pub(super) fn value_of_binder<'m: 'a, 'a>(
+    alloc: Global,
+    place: &'a Place,
+    form: BinderForm,
+    set: &'a Code<'m>,
+    body: &'a Code<'m>,
+    env: Environment<'m, 'a>,
+) -> Result<Evaluated<'a>, Stop>
+    ensures { Answers tree_of_evaluated result (value_in env.entry (binder_expr form place.now (code_in env.entry set.now) (code_in env.entry body.now))) }
+{
+    match form {
+        BinderForm::ForAll | BinderForm::ForSome => Ok(Evaluated::truth(truth_of_binder(
+            alloc, place, form, set, body, env,
+        )?)),
+        BinderForm::Choose => {
+            let found = elements(alloc, place, set, env)?;
+            Ok(Evaluated::Owned(first_passing(alloc, place, body, &found, env)?))
+        }
+        BinderForm::Filter => {
+            let found = elements(alloc, place, set, env)?;
+            Ok(Evaluated::Owned(set_of(place, passing(alloc, place, body, &found, env)?)?))
+        }
+    }
+}
+
+/// Whether a body is TRUE with one more bound value.
+#[cycle(evaluate)]
+pub(super) fn truth_with<'m: 'a, 'a>(
+    alloc: Global,
+    body: &'a Code<'m>,
+    value: &'a Value,
+    env: Environment<'m, 'a>,
+) -> Result<bool, Stop>
+    ensures { Answers truth result (value_with env.entry (tree_of value.now ∷ []) (code_in env.entry body.now)) }
+{
+    let frame = Frame::One(env.frame, env.names, value);
+    let inner = Environment {
+        frame: &frame,
+        now: env.now,
+        next: env.next,
+        names: count_more(env.names, 1)?,
+        definitions: env.definitions,
+    };
+    truth(alloc, body, inner)
+}
+
+/// The value of a body with one more bound value.
+#[cycle(evaluate)]
+pub(super) fn value_with<'m: 'a, 'a>(
+    alloc: Global,
+    body: &'a Code<'m>,
+    bound: &'a Value,
+    env: Environment<'m, 'a>,
+) -> Result<Value, Stop>
+    ensures { Answers tree_of result (value_with env.entry (tree_of bound.now ∷ []) (code_in env.entry body.now)) }
+{
+    let frame = Frame::One(env.frame, env.names, bound);
+    let inner = Environment {
+        frame: &frame,
+        now: env.now,
+        next: env.next,
+        names: count_more(env.names, 1)?,
+        definitions: env.definitions,
+    };
+    owned(alloc, value(alloc, body, inner)?)
+}
+
+/// Whether a body is TRUE of the element with a number; none where there are fewer elements.
+#[cycle(evaluate)]
+fn holds_at<'e, 'm: 'a, 'a>(
+    alloc: Global,
+    place: &'a Place,
+    body: &'a Code<'m>,
+    elements: &'e Elements<'e>,
+    number: usize,
+    env: Environment<'m, 'a>,
+) -> Result<Option<bool>, Stop>
+    ensures { Answers (λ o. o) result (tested (λ v. asks place.now (means (code_in env.entry body.now)) (bound_in env.entry ++ v ∷ []) (present_in env.entry) (next_in env.entry)) (slice_get (elements_of elements.now) number)) }
+{
+    match element_at(elements, number) {
+        Some(element) => Ok(Some(truth_with(alloc, body, element.value(), env)?)),
+        None => Ok(None),
+    }
+}
+
+/// Whether a body is TRUE of each of these elements, up to the first of which it is not.
+#[cycle(evaluate)]
+fn each_holds<'e, 'm: 'a, 'a>(
+    alloc: Global,
+    place: &'a Place,
+    body: &'a Code<'m>,
+    elements: &'e Elements<'e>,
+    env: Environment<'m, 'a>,
+) -> Result<bool, Stop>
+    ensures { Answers (λ b. b) result (all_hold (λ v. asks place.now (means (code_in env.entry body.now)) (bound_in env.entry ++ v ∷ []) (present_in env.entry) (next_in env.entry)) (elements_of elements.now)) }
+{
+    for number in 0..usize::MAX {
+        match holds_at(alloc, place, body, elements, number, env)? {
+            Some(holds) => {
+                if !holds {
+                    return Ok(false);
+                }
+            }
+            None => return Ok(true),
+        }
+    }
+    Err(Stop::Unknown)
+}
+
+/// Whether a body is TRUE of some of these elements, up to the first of which it is.
+#[cycle(evaluate)]
+fn some_holds<'e, 'm: 'a, 'a>(
+    alloc: Global,
+    place: &'a Place,
+    body: &'a Code<'m>,
+    elements: &'e Elements<'e>,
+    env: Environment<'m, 'a>,
+) -> Result<bool, Stop>
+    ensures { Answers (λ b. b) result (some_hold (λ v. asks place.now (means (code_in env.entry body.now)) (bound_in env.entry ++ v ∷ []) (present_in env.entry) (next_in env.entry)) (elements_of elements.now)) }
+{
+    for number in 0..usize::MAX {
+        match holds_at(alloc, place, body, elements, number, env)? {
+            Some(holds) => {
+                if holds {
+                    return Ok(true);
+                }
+            }
+            None => return Ok(false),
+        }
+    }
+    Err(Stop::Unknown)
+}
+
+/// The first of these elements of which a body is TRUE.
+#[cycle(evaluate)]
+fn first_passing<'e, 'm: 'a, 'a>(
+    alloc: Global,
+    place: &'a Place,
+    body: &'a Code<'m>,
+    elements: &'e Elements<'e>,
+    env: Environment<'m, 'a>,
+) -> Result<Value, Stop>
+    ensures { Answers tree_of result (first_passing place.now (λ v. asks place.now (means (code_in env.entry body.now)) (bound_in env.entry ++ v ∷ []) (present_in env.entry) (next_in env.entry)) (elements_of elements.now)) }
+{
+    for number in 0..usize::MAX {
+        match holds_at(alloc, place, body, elements, number, env)? {
+            Some(holds) => {
+                if holds {
+                    return chosen(alloc, place, elements, number);
+                }
+            }
+            None => return Err(Stop::Unknown),
+        }
+    }
+    Err(Stop::Unknown)
+}
+
+/// Copies of those of these elements of which a body is TRUE.
+#[cycle(evaluate)]
+fn passing<'e, 'm: 'a, 'a>(
+    alloc: Global,
+    place: &'a Place,
+    body: &'a Code<'m>,
+    elements: &'e Elements<'e>,
+    env: Environment<'m, 'a>,
+) -> Result<Vec<Value>, Stop>
+    ensures { Answers (λ v. map tree_of v.items) result (passing (λ v. asks place.now (means (code_in env.entry body.now)) (bound_in env.entry ++ v ∷ []) (present_in env.entry) (next_in env.entry)) (elements_of elements.now)) }
+{
+    let mut kept = Vec::new(alloc);
+    for number in 0..usize::MAX {
+        match holds_at(alloc, place, body, elements, number, env)? {
+            Some(holds) => keep(alloc, &mut kept, elements, number, holds)?,
+            None => return Ok(kept),
+        }
+    }
+    Err(Stop::Unknown)
+}

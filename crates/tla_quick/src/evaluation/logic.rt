@@ -1,0 +1,173 @@
+//! Truth values of forms.
+ghost use Rattle.std.specs.Prelude.{map};
+ghost use Rattle.tla_value.specs.Tree.{truth};
+ghost use Rattle.tla_value.specs.TreeOf.{tree_of};
+ghost use Rattle.tla_core.specs.declared.fault.Place.{Place as AnyPlace};
+ghost use Rattle.tla_core.specs.Lists.{all_hold};
+ghost use Rattle.tla_core.specs.Expr.{conjunction, disjunction};
+ghost use Rattle.tla_code.specs.Forms.{one_expr, two_expr, three_expr, list_expr};
+ghost use Rattle.tla_code.specs.Private.Listed.{exprs_of_codes};
+ghost use Rattle.tla_quick.specs.Private.Answers.{Answers};
+ghost use Rattle.tla_quick.specs.Private.Environment.{code_in, value_in, has_in, scope_in};
+
+use crate::environment::Environment;
+use crate::evaluation::{has, truth, value};
+use crate::made::{compared, known_members};
+use crate::stop::Stop;
+use std::alloc::Global;
+use tla_code::{Code, ListForm, OneForm, ThreeForm, TwoForm};
+use tla_core::{Place, Unary};
+use tla_value::Value;
+
+/// `~`
+#[cycle(evaluate)]
+pub(super) fn truth_of_one<'m: 'a, 'a>(
+    alloc: Global,
+    form: OneForm<'m>,
+    operand: &'a Code<'m>,
+    env: Environment<'m, 'a>,
+) -> Result<bool, Stop>
+    ensures { (p : AnyPlace) → Answers truth result (value_in env.entry (one_expr form.entry p (code_in env.entry operand.now))) }
+{
+    match form {
+        OneForm::Operator(operator) => match operator {
+            Unary::Not => Ok(!truth(alloc, operand, env)?),
+            _ => Err(Stop::Unknown),
+        },
+        _ => Err(Stop::Unknown),
+    }
+}
+
+/// Whether a form with two operands is TRUE.
+#[cycle(evaluate)]
+pub(super) fn truth_of_two<'m: 'a, 'a>(
+    alloc: Global,
+    place: &'a Place,
+    form: TwoForm,
+    left: &'a Code<'m>,
+    right: &'a Code<'m>,
+    env: Environment<'m, 'a>,
+) -> Result<bool, Stop>
+    ensures { Answers truth result (value_in env.entry (two_expr form place.now (code_in env.entry left.now) (code_in env.entry right.now))) }
+{
+    match form {
+        TwoForm::Implies => {
+            if truth(alloc, left, env)? {
+                Ok(truth(alloc, right, env)?)
+            } else {
+                Ok(true)
+            }
+        }
+        TwoForm::Member => {
+            let element = value(alloc, left, env)?;
+            Ok(has(alloc, right, element.value(), env)?)
+        }
+        TwoForm::NotMember => {
+            let element = value(alloc, left, env)?;
+            Ok(!has(alloc, right, element.value(), env)?)
+        }
+        TwoForm::Subset => {
+            let set = value(alloc, left, env)?;
+            let members = known_members(set.value())?;
+            Ok(has_all(alloc, right, members, env)?)
+        }
+        _ => {
+            let left = value(alloc, left, env)?;
+            let right = value(alloc, right, env)?;
+            compared(place, form, left.value(), right.value())
+        }
+    }
+}
+
+/// IF between truth values.
+#[cycle(evaluate)]
+pub(super) fn truth_of_three<'m: 'a, 'a>(
+    alloc: Global,
+    form: ThreeForm,
+    first: &'a Code<'m>,
+    second: &'a Code<'m>,
+    third: &'a Code<'m>,
+    env: Environment<'m, 'a>,
+) -> Result<bool, Stop>
+    ensures { (p : AnyPlace) → Answers truth result (value_in env.entry (three_expr form p (code_in env.entry first.now) (code_in env.entry second.now) (code_in env.entry third.now))) }
+{
+    match form {
+        ThreeForm::If => {
+            if truth(alloc, first, env)? {
+                truth(alloc, second, env)
+            } else {
+                truth(alloc, third, env)
+            }
+        }
+        ThreeForm::SubSeq => Err(Stop::Unknown),
+    }
+}
+
+/// Whether a form with a list of operands is TRUE.
+#[cycle(evaluate)]
+pub(super) fn truth_of_list<'m: 'a, 'a>(
+    alloc: Global,
+    form: ListForm,
+    parts: &'a [Code<'m>],
+    env: Environment<'m, 'a>,
+) -> Result<bool, Stop>
+    ensures { (p : AnyPlace) → Answers truth result (value_in env.entry (list_expr form p (exprs_of_codes (scope_in env.entry) parts.now))) }
+{
+    match form {
+        ListForm::Conjunction => all_are_true(alloc, parts, env),
+        ListForm::Disjunction => some_is_true(alloc, parts, env),
+        _ => Err(Stop::Unknown),
+    }
+}
+
+/// Whether all parts are TRUE, up to the first that is not.
+#[cycle(evaluate)]
+fn all_are_true<'m: 'a, 'a>(
+    alloc: Global,
+    parts: &'a [Code<'m>],
+    env: Environment<'m, 'a>,
+) -> Result<bool, Stop>
+    ensures { (p : AnyPlace) → Answers truth result (value_in env.entry (conjunction p (exprs_of_codes (scope_in env.entry) parts.now))) }
+{
+    for part in parts {
+        if !truth(alloc, part, env)? {
+            return Ok(false);
+        }
+    }
+    Ok(true)
+}
+
+/// Whether some part is TRUE, up to the first that is.
+#[cycle(evaluate)]
+fn some_is_true<'m: 'a, 'a>(
+    alloc: Global,
+    parts: &'a [Code<'m>],
+    env: Environment<'m, 'a>,
+) -> Result<bool, Stop>
+    ensures { (p : AnyPlace) → Answers truth result (value_in env.entry (disjunction p (exprs_of_codes (scope_in env.entry) parts.now))) }
+{
+    for part in parts {
+        if truth(alloc, part, env)? {
+            return Ok(true);
+        }
+    }
+    Ok(false)
+}
+
+/// Whether a code has each of these values, up to the first that it has not.
+#[cycle(evaluate)]
+pub(super) fn has_all<'m: 'a, 'a>(
+    alloc: Global,
+    code: &'a Code<'m>,
+    values: &'a [Value],
+    env: Environment<'m, 'a>,
+) -> Result<bool, Stop>
+    ensures { Answers (λ b. b) result (all_hold (λ v. has_in env.entry v (code_in env.entry code.now)) (map tree_of values.now)) }
+{
+    for value in values {
+        if !has(alloc, code, value, env)? {
+            return Ok(false);
+        }
+    }
+    Ok(true)
+}

@@ -1,0 +1,87 @@
+//! What is around an expression: the values of the bound names, and the definitions.
+ghost use Rattle.std.specs.Prelude.{◌≡◌, Ok, Some, IfSome, slice_get};
+ghost use Rattle.tla_value.specs.Tree.{Tree};
+ghost use Rattle.tla_value.specs.TreeOf.{tree_of};
+ghost use Rattle.tla_core.specs.Fault.{Outcome};
+ghost use Rattle.tla_core.specs.Meaning.{Present, Next};
+ghost use Rattle.tla_quick.specs.Private.Frames.{bound_of, scope_of, IsKnown, Knows, IsDefinition};
+
+use tla_code::Code;
+use tla_value::Value;
+
+/// The values of the bound names: those of the caller, and then those of each form that binds. Between
+/// them, the definitions. `One` and `Many` have the number of names that are bound outside.
+#[derive(Clone, Copy)]
+pub(crate) enum Frame<'m, 'a> {
+    Outer(&'a [Value]),
+    One(&'a Frame<'m, 'a>, usize, &'a Value),
+    Many(&'a Frame<'m, 'a>, usize, &'a [Value]),
+    /// The number of a definition, how many names are bound outside it, and its value where it is known.
+    Defined(&'a Frame<'m, 'a>, usize, usize, &'a Code<'m>, Option<&'a Value>),
+}
+
+/// The value of a bound name.
+pub(crate) fn bound_name<'m: 'a, 'a>(frame: &'a Frame<'m, 'a>, index: usize) -> Option<&'a Value>
+    ensures { (s : Present) (t : Next) → Knows frame.entry.now s t → IfSome result (λ v. slice_get (bound_of frame.entry.now) index ≡ Some (tree_of v.now)) }
+{
+    match frame {
+        Frame::Outer(values) => values.get(index),
+        Frame::One(outer, names, value) => {
+            if index == *names {
+                Some(value)
+            } else {
+                bound_name(outer, index)
+            }
+        }
+        Frame::Many(outer, names, values) => {
+            if index < *names {
+                bound_name(outer, index)
+            } else {
+                values.get(index - *names)
+            }
+        }
+        Frame::Defined(outer, _, _, _, _) => bound_name(outer, index),
+    }
+}
+
+/// A definition that is around: how many names are bound outside it, and its value where it is known.
+#[derive(Clone, Copy)]
+pub(crate) struct Found<'a> {
+    pub(crate) names: usize,
+    pub(crate) value: Option<&'a Value>,
+}
+
+/// The definition with a number.
+pub(crate) fn definition<'m: 'a, 'a>(frame: &'a Frame<'m, 'a>, number: usize) -> Option<Found<'a>>
+    ensures { (s : Present) (t : Next) → Knows frame.entry.now s t → IfSome result (λ f. IfSome f.value (λ v. IsDefinition frame.entry.now s t number f.names (tree_of v.now))) }
+{
+    match frame {
+        Frame::Outer(_) => None,
+        Frame::One(outer, _, _) => definition(outer, number),
+        Frame::Many(outer, _, _) => definition(outer, number),
+        Frame::Defined(outer, found, names, _, value) => {
+            if number == *found {
+                Some(Found {
+                    names: *names,
+                    value: *value,
+                })
+            } else {
+                definition(outer, number)
+            }
+        }
+    }
+}
+
+/// That nothing is known of a value.
+pub(crate) fn nothing_known<'a>() -> Option<&'a Value>
+    ensures { (o : Outcome Tree) → IsKnown result o }
+{
+    None
+}
+
+/// That a value is known.
+pub(crate) fn just_known<'a>(value: &'a Value) -> Option<&'a Value>
+    ensures { (o : Outcome Tree) → o ≡ Ok (tree_of value.now) → IsKnown result o }
+{
+    Some(value)
+}

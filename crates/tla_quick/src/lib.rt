@@ -1,0 +1,15 @@
+//! Evaluates expressions quickly, or gives up: where it answers, the value is that of the definition.
+#![tactic(auto)]
+
+mod domains;
+mod environment;
+mod evaluation;
+mod expression;
+mod frame;
+mod leaves;
+mod made;
+mod names;
+mod patterns;
+mod stop;
+
+pub use expression::Expression;

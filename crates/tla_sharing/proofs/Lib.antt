@@ -1,0 +1,4 @@
+pub mod Loops
+pub mod Raised
+pub mod Copied
+pub mod Lengthened

@@ -1,0 +1,291 @@
+//! The pass that makes definitions.
+ghost use Rattle.std.specs.Prelude.{◌≡◌, ◌+◌, IfOk, IfSome, [], ◌∷◌, ◌++◌};
+ghost use Rattle.std.specs.List.{AllZip};
+ghost use Rattle.tla_code.specs.CodeExpr.{code_expr};
+ghost use Rattle.tla_sharing.specs.Private.Copies.{Agrees, FieldAgrees, UpdateAgrees};
+
+use crate::choice::{Search, chosen};
+use crate::declined::Declined;
+use crate::measures::{is_small, items_of, needs, uses};
+use crate::replaced::{Target, replaced};
+use std::alloc::Global;
+use tla_code::Code;
+use tla_value::Text;
+
+/// At most so many definitions are around one another.
+const MOST_AROUND: usize = 64;
+
+/// More calls follow one another in no expression of the greatest depth.
+const MOST_CALLS: usize = 100_000;
+
+/// Where a pass is: under how many names, with how many names outside each definition around it, and how many more calls may
+/// follow one another.
+#[derive(Clone, Copy)]
+struct Spot<'o> {
+    names: usize,
+    outside: &'o [usize],
+    calls: usize,
+}
+
+/// The same place under more names, one call further.
+fn under<'o>(spot: Spot<'o>, more: usize) -> Result<Spot<'o>, Declined>
+    ensures { IfOk result (λ s. (s.outside.now ≡ spot.entry.outside.now) × (s.calls + 1 ≡ spot.entry.calls)) }
+{
+    let Some(names) = spot.names.checked_add(more) else {
+        return Err(Declined);
+    };
+    if spot.calls == 0 {
+        return Err(Declined);
+    }
+    Ok(Spot {
+        names,
+        outside: spot.outside,
+        calls: spot.calls - 1,
+    })
+}
+
+/// The numbers of names outside, with one more.
+fn one_more(alloc: Global, outside: &[usize], names: usize) -> Result<Vec<usize>, Declined>
+    ensures { IfOk result (λ v. v.items ≡ outside.now ++ names ∷ []) }
+{
+    let mut longer = outside.to_vec(alloc)?;
+    longer.push(names)?;
+    Ok(longer)
+}
+
+/// The expression with definitions for parts that occur several times, or that don't depend on names that are bound around
+/// them. It stands under so many names. None where it is left as it is: memory ran out, say.
+pub fn shared<'m>(alloc: Global, code: &Code<'m>, names: usize) -> Option<Code<'m>>
+    ensures { IfSome result (λ c. code_expr c ≡ code_expr code.now) }
+{
+    let outside: Vec<usize> = Vec::new(alloc);
+    let spot = Spot {
+        names,
+        outside: outside.as_slice(),
+        calls: MOST_CALLS,
+    };
+    match shared_body(alloc, code, spot) {
+        Ok(code) => Some(code),
+        Err(Declined) => None,
+    }
+}
+
+/// What is worth a definition around an expression.
+fn definition_of<'m>(alloc: Global, code: &Code<'m>, spot: Spot<'_>) -> Option<Code<'m>> {
+    if spot.outside.len() >= MOST_AROUND {
+        return None;
+    }
+    let search = Search {
+        whole: code,
+        names: spot.names,
+        outside: spot.outside,
+        is_small: is_small(code),
+    };
+    chosen(alloc, code, 0, search)
+}
+
+/// A body, with definitions around it.
+#[cycle(share)]
+fn shared_body<'m>(alloc: Global, code: &Code<'m>, spot: Spot<'_>) -> Result<Code<'m>, Declined>
+    ensures { IfOk result (λ c. Agrees spot.entry.outside.now code.now c) }
+{
+    let next = under(spot, 0)?;
+    match definition_of(alloc, code, spot) {
+        Some(definition) => defined(alloc, code, &definition, next),
+        None => shared_parts(alloc, code, next),
+    }
+}
+
+/// A body with one definition more around it, if it uses that.
+#[cycle(share)]
+fn defined<'m>(
+    alloc: Global,
+    code: &Code<'m>,
+    definition: &Code<'m>,
+    spot: Spot<'_>,
+) -> Result<Code<'m>, Declined>
+    ensures { IfOk result (λ c. Agrees spot.entry.outside.now code.now c) }
+{
+    let next = under(spot, 0)?;
+    let target = Target {
+        definition,
+        names: next.names,
+        outside: next.outside,
+    };
+    let body = replaced(alloc, code, 0, target)?;
+    if !uses(&body, next.outside.len()) {
+        return shared_parts(alloc, code, next);
+    }
+    let is_needed = needs(&body, next.outside.len());
+    let definition = boxed_body(alloc, definition, 0, next)?;
+    let inner = boxed_inside(alloc, &body, next)?;
+    Ok(Code::Let(next.names, is_needed, definition, inner))
+}
+
+/// A body inside one definition more, in a box.
+#[cycle(share)]
+fn boxed_inside<'m>(
+    alloc: Global,
+    body: &Code<'m>,
+    spot: Spot<'_>,
+) -> Result<Box<Code<'m>>, Declined>
+    ensures { IfOk result (λ c. Agrees (spot.entry.outside.now ++ spot.entry.names ∷ []) body.now c.value) }
+{
+    let next = under(spot, 0)?;
+    let outside = one_more(alloc, spot.outside, spot.names)?;
+    let inner = Spot {
+        names: spot.names,
+        outside: outside.as_slice(),
+        calls: next.calls,
+    };
+    let code = shared_body(alloc, body, inner)?;
+    Ok(Box::new(alloc, code)?)
+}
+
+/// An expression whose parts get definitions.
+#[cycle(share)]
+fn shared_parts<'m>(alloc: Global, code: &Code<'m>, spot: Spot<'_>) -> Result<Code<'m>, Declined>
+    ensures { IfOk result (λ c. Agrees spot.entry.outside.now code.now c) }
+{
+    let next = under(spot, 0)?;
+    match code {
+        Code::Plain(core) => Ok(Code::Plain(core)),
+        Code::Bound(place, index) => Ok(Code::Bound(*place, *index)),
+        Code::Use(place, number, since) => Ok(Code::Use(*place, *number, *since)),
+        Code::One(place, form, a) => {
+            let a = boxed(alloc, a, next)?;
+            Ok(Code::One(*place, *form, a))
+        }
+        Code::Two(place, form, a, b) => {
+            let a = boxed(alloc, a, next)?;
+            let b = boxed(alloc, b, next)?;
+            Ok(Code::Two(*place, *form, a, b))
+        }
+        Code::Three(place, form, a, b, c) => {
+            let a = boxed(alloc, a, next)?;
+            let b = boxed(alloc, b, next)?;
+            let c = boxed(alloc, c, next)?;
+            Ok(Code::Three(*place, *form, a, b, c))
+        }
+        Code::Binder(place, form, set, body) => {
+            let set = boxed(alloc, set, next)?;
+            let body = boxed_body(alloc, body, 1, next)?;
+            Ok(Code::Binder(*place, *form, set, body))
+        }
+        _ => shared_lists(alloc, code, next),
+    }
+}
+
+/// Forms with a list of parts.
+#[cycle(share)]
+fn shared_lists<'m>(alloc: Global, code: &Code<'m>, spot: Spot<'_>) -> Result<Code<'m>, Declined>
+    ensures { IfOk result (λ c. Agrees spot.entry.outside.now code.now c) }
+{
+    let next = under(spot, 0)?;
+    match code {
+        Code::List(place, form, parts) => {
+            let parts = each_shared(alloc, parts, next)?;
+            Ok(Code::List(*place, *form, parts))
+        }
+        Code::Fields(place, form, fields) => {
+            let fields = fields_shared(alloc, fields, next)?;
+            Ok(Code::Fields(*place, *form, fields))
+        }
+        Code::Map(place, form, sets, body) => {
+            let body = boxed_body(alloc, body, sets.len(), next)?;
+            let sets = each_shared(alloc, sets, next)?;
+            Ok(Code::Map(*place, *form, sets, body))
+        }
+        Code::Except(place, base, updates) => {
+            let base = boxed(alloc, base, next)?;
+            let updates = updates_shared(alloc, updates, next)?;
+            Ok(Code::Except(*place, base, updates))
+        }
+        Code::Opened(place, openings, body) => {
+            let Some(more) = items_of(openings) else {
+                return Err(Declined);
+            };
+            let body = boxed_body(alloc, body, more, next)?;
+            let openings = openings.to_vec(alloc)?;
+            Ok(Code::Opened(*place, openings, body))
+        }
+        _ => Err(Declined),
+    }
+}
+
+/// An operand, in a box.
+#[cycle(share)]
+fn boxed<'m>(alloc: Global, code: &Code<'m>, spot: Spot<'_>) -> Result<Box<Code<'m>>, Declined>
+    ensures { IfOk result (λ c. Agrees spot.entry.outside.now code.now c.value) }
+{
+    let next = under(spot, 0)?;
+    let code = shared_parts(alloc, code, next)?;
+    Ok(Box::new(alloc, code)?)
+}
+
+/// A body under more names, in a box.
+#[cycle(share)]
+fn boxed_body<'m>(
+    alloc: Global,
+    code: &Code<'m>,
+    more: usize,
+    spot: Spot<'_>,
+) -> Result<Box<Code<'m>>, Declined>
+    ensures { IfOk result (λ c. Agrees spot.entry.outside.now code.now c.value) }
+{
+    let inner = under(spot, more)?;
+    let code = shared_body(alloc, code, inner)?;
+    Ok(Box::new(alloc, code)?)
+}
+
+#[cycle(share)]
+fn each_shared<'m>(
+    alloc: Global,
+    codes: &[Code<'m>],
+    spot: Spot<'_>,
+) -> Result<Vec<Code<'m>>, Declined>
+    ensures { IfOk result (λ cs. AllZip (Agrees spot.entry.outside.now) codes.now cs.items) }
+{
+    let next = under(spot, 0)?;
+    let mut made = Vec::new(alloc);
+    for code in codes {
+        made.push(shared_parts(alloc, code, next)?)?;
+    }
+    Ok(made)
+}
+
+#[cycle(share)]
+fn fields_shared<'m>(
+    alloc: Global,
+    fields: &[(&'m Text, Code<'m>)],
+    spot: Spot<'_>,
+) -> Result<Vec<(&'m Text, Code<'m>)>, Declined>
+    ensures { IfOk result (λ cs. AllZip (FieldAgrees spot.entry.outside.now) fields.now cs.items) }
+{
+    let next = under(spot, 0)?;
+    let mut made = Vec::new(alloc);
+    for field in fields {
+        let code = shared_parts(alloc, &field.1, next)?;
+        made.push((field.0, code))?;
+    }
+    Ok(made)
+}
+
+#[cycle(share)]
+fn updates_shared<'m>(
+    alloc: Global,
+    updates: &[(Vec<Code<'m>>, Code<'m>)],
+    spot: Spot<'_>,
+) -> Result<Vec<(Vec<Code<'m>>, Code<'m>)>, Declined>
+    ensures { IfOk result (λ cs. AllZip (UpdateAgrees spot.entry.outside.now) updates.now cs.items) }
+{
+    let next = under(spot, 0)?;
+    let inner = under(spot, 1)?;
+    let mut made = Vec::new(alloc);
+    for update in updates {
+        let keys = each_shared(alloc, update.0.as_slice(), next)?;
+        let value = shared_body(alloc, &update.1, inner)?;
+        made.push((keys, value))?;
+    }
+    Ok(made)
+}
