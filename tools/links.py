@@ -3,7 +3,8 @@
 
     tools/links.py
 
-A quoted definition is a code block that begins with ```antt FILE: its lines must occur in that file, one after the other.
+A quoted definition or contract is a code block that begins with ```antt FILE or ```rust FILE: its lines must occur in that
+file, one after the other.
 The status is 1 if something is missing.
 """
 import argparse
@@ -17,7 +18,7 @@ from programs import TOP
 
 LINK = re.compile(r"\[[^\]\n]*\]\(([^)\s]+)\)")
 HEADING = re.compile(r"^#+ (.*)$", re.M)
-QUOTED = re.compile(r"^```antt (\S+)\n(.*?)^```", re.M | re.S)
+QUOTED = re.compile(r"^```(?:antt|rust) (\S+)\n(.*?)^```", re.M | re.S)
 BLOCK = re.compile(r"^```.*?^```\n|^    .*\n", re.M | re.S)
 NAMED = re.compile(r"`((?:crates|tools|docs|examples|\.ci)/[\w./-]+)`")
 
