@@ -25,7 +25,7 @@ pub struct Greatest {
 }
 
 impl GreatestLevel {
-    /// No level was gone through.
+    /// No level was searched.
     pub fn new() -> GreatestLevel {
         GreatestLevel {
             level: AtomicU64::new(0),

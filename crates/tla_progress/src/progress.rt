@@ -48,7 +48,7 @@ pub struct Progress<'a, R, M> {
     read: AtomicU64,
     /// When the last line was written, in milliseconds from the beginning.
     written: AtomicU64,
-    /// How often a state had been gone through then.
+    /// How many states had been examined then, in all passes.
     passed: AtomicU64,
     /// When the clock was looked at last, in milliseconds from the beginning.
     looked: AtomicU64,
@@ -158,8 +158,8 @@ impl<'a, R: Clock + Eprint, M: Memory> Progress<'a, R, M> {
         }
     }
 
-    /// How many states a second were gone through since the last line, where states were gone
-    /// through so often up to now: each for its invariants and for its steps.
+    /// How many states a second were examined since the last line, if `passed` were examined up to now. Each counts for
+    /// its invariants and for its steps.
     fn rate(&self, passed: u64, now: u64) -> u64 {
         let before = self.passed.swap(passed, Ordering::SeqCst);
         let since = self.written.swap(now, Ordering::SeqCst);

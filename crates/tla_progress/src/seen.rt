@@ -11,7 +11,7 @@ const MEGABYTE: u64 = 1_024;
 pub struct Seen {
     /// The seconds since the run began.
     pub seconds: u64,
-    /// The number of levels, with the one that is gone through.
+    /// The number of levels, with the one that is being searched.
     pub levels: u64,
     /// What is done with the level.
     pub pass: Pass,
@@ -19,7 +19,7 @@ pub struct Seen {
     pub states: u64,
     /// The states of the level whose steps are still to be read, at most. None in other passes.
     pub left: Option<u64>,
-    /// How many states a second were gone through since the line before.
+    /// How many states a second were examined since the line before.
     pub per_second: u64,
     /// The memory in use, in kilobytes, if it is known.
     pub memory: Option<u64>,
