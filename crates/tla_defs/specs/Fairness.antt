@@ -24,7 +24,7 @@ abbrev pub is_for_all : Quantifier → Bool
 is_for_all quantifier.ForAll = true
 is_for_all quantifier.Exists = false
 
--- one of these names, where no quantifier round it binds it: else it stands for no definition
+-- one of these names, where no quantifier around it binds it: else it stands for no definition
 abbrev pub name_in : (Name → Bool) → Scope → Name → Bool
 name_in φ σ x = not (is_some (arity σ x)) && φ x
 

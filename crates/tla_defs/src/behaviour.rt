@@ -18,7 +18,7 @@ pub(crate) enum Behaviour<'a> {
     Specified(Place, &'a Written),
 }
 
-/// SPECIFICATION, behind which these statements stand; or the place of one of them that names a behaviour too.
+/// SPECIFICATION, if none of the statements after it names a behaviour, too; else the place of the first that does.
 fn alone<'a>(
     place: Place,
     name: &'a Written,

@@ -55,7 +55,7 @@ fn looks_for_deadlock(statements: &[Statement]) -> bool
     true
 }
 
-/// Names more. The only error is want of memory.
+/// Adds names. The only error is that memory ran out.
 fn push_names<'a>(all: &mut Vec<&'a Written>, names: &'a [Written]) -> Result<(), DefsError>
     ensures ok { OnOk result (mentions all.new.items ≡ mentions all.old.items ++ names.entry.now) }
     ensures err { IfErr result (λ e. e.code ≡ Memory) }
@@ -68,7 +68,7 @@ fn push_names<'a>(all: &mut Vec<&'a Written>, names: &'a [Written]) -> Result<()
     Ok(())
 }
 
-/// The names of the invariants, in the order of the configuration. The only error is want of memory.
+/// The names of the invariants, in the order of the configuration. The only error is that memory ran out.
 fn invariants_named<'a>(
     alloc: Global,
     statements: &'a [Statement],
@@ -87,7 +87,7 @@ fn invariants_named<'a>(
     Ok(names)
 }
 
-/// The names of the constraints, in the order of the configuration. The only error is want of memory.
+/// The names of the constraints, in the order of the configuration. The only error is that memory ran out.
 fn constraints_named<'a>(
     alloc: Global,
     statements: &'a [Statement],
@@ -131,7 +131,7 @@ fn named_predicate(
     Ok(StatePredicate { name: word, core })
 }
 
-/// One invariant or constraint more. Contracts see what it adds to the lists that may still follow.
+/// Adds one invariant or constraint. Contracts see what it adds to the lists that may still follow.
 fn push_predicate(
     alloc: Global,
     places: &Places<'_, '_>,
@@ -266,7 +266,7 @@ fn model<'a>(
     ))
 }
 
-/// The model; a refusal for want of memory may say anything else.
+/// The model, or a refusal. If memory ran out, nothing is known.
 fn model_or_refusal(alloc: Global, units: &[Unit], config: &Config) -> Result<Model, DefsError>
     ensures found { IfOk result (λ m. model.IsModel (map unit_view units.now) config.now.statements (model_of m)) }
     ensures refused { IfErr result (λ e. e.code ≢ Memory → refused.IsRefusal (map unit_view units.now) config.now e) }
@@ -289,12 +289,11 @@ fn model_or_refusal(alloc: Global, units: &[Unit], config: &Config) -> Result<Mo
     model(alloc, units, &variables, &items, behaviour, statements)
 }
 
-/// The model that a module and a configuration name, or the first step that refuses them: the names of the module, the
-/// items of CONSTANT, a constant without a value, the behaviour, the names of the configuration, an item that leads back to
-/// its name, the form of SPECIFICATION, the assumptions, Init, Next, the invariants and the constraints. (Which of the steps behind the
-/// items refuses, no clause says.)
-/// It recurses as deep as the module's trees are nested, which is at most 200 from `parse_module`, and over a formula's
-/// expansion to depth 300.
+/// The model that a module and a configuration denote, or the first step that refuses them: the names of the module,
+/// the items of CONSTANT, a constant without a value, the behaviour, the names of the configuration, an item that leads
+/// back to its name, the form of SPECIFICATION, the assumptions, Init, Next, the invariants and the constraints. (No
+/// clause says which of the steps after the items refuses.) It recurses as deep as the module's trees are nested, which
+/// is at most 200 from `parse_module`, and over a formula's expansion to depth 300.
 pub fn build(alloc: Global, module: &Module, config: &Config) -> Result<Model, DefsError>
     ensures found { IfOk result (λ m. model.IsModel (map unit_view «module».now.units.items) config.now.statements (model_of m)) }
     // No other model is named.

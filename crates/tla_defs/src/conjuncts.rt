@@ -19,14 +19,14 @@ use tla_config::{DefsError, Source};
 use tla_lex::Place;
 use tla_tree::{Bullet, Expr, Infix, Word, push};
 
-/// A formula, in which names stand for their definitions so many definitions deep.
+/// A formula. Names in it are replaced by their definitions, up to `names` definitions deep.
 #[derive(Clone, Copy)]
 pub(crate) struct Formula<'a> {
     pub(crate) tree: &'a Expr,
     pub(crate) names: usize,
 }
 
-/// Formulas more, of which the first one comes last. The only error is want of memory.
+/// Adds formulas, of which the first comes last. The only error is that memory ran out.
 fn push_each<'a>(
     formulas: &mut Vec<Formula<'a>>,
     trees: &'a [Expr],
@@ -83,7 +83,7 @@ fn is_conjunction(tree: &Expr) -> bool
     }
 }
 
-/// What names stand for, and which of them stand for fairness and for temporal formulas.
+/// The definitions of names, and which of them are fairness or temporal formulas.
 #[derive(Clone, Copy)]
 pub(crate) struct Classes<'t, 'a> {
     pub(crate) fairness: Definitions<'t, 'a>,
@@ -105,7 +105,7 @@ impl<'t, 'a> Classes<'t, 'a> {
         }
     }
 
-    /// The formula that a name is replaced by, where names are so many definitions deep.
+    /// The formula that replaces a name, if names are replaced `names` definitions deep.
     fn formula(&self, name: &[u8], names: usize) -> Option<Formula<'a>>
         ensures { option_map (conjuncts_from (replaced_in self.now)) result ≡ spec.conjuncts_of names (replaced_in self.now) name.now }
     {
@@ -122,15 +122,15 @@ impl<'t, 'a> Classes<'t, 'a> {
     }
 }
 
-/// Formulas to go on with, the first one last, and what was found before them.
+/// Formulas that are still to be visited, the first one last, and the conjuncts that were found before them.
 #[derive(Drop)]
 struct Walk<'a> {
     left: Vec<Formula<'a>>,
     parts: Parts<'a>,
 }
 
-/// A formula's parts to go on with, or the formula itself where it is a conjunct. A name that stands for fairness is passed
-/// over, so that what it stands for is not looked at again. The only error is want of memory.
+/// Adds a formula's parts to the formulas to visit, or the formula itself to the conjuncts. A name of a fairness
+/// formula is skipped, so that its definition isn't visited again. The only error is that memory ran out.
 fn go_on<'a>(
     alloc: Global,
     classes: &Classes<'_, 'a>,
@@ -168,9 +168,9 @@ fn go_on<'a>(
     }
 }
 
-/// The conjuncts of a formula by what they are, where SPECIFICATION stands at this place. An error is want of memory, two
-/// steps, or an initial predicate of more conjuncts than an expression within the limits has nodes: the walk ends there,
-/// however many there are.
+/// The conjuncts of the formula of SPECIFICATION, which is at this place, by what they are. It fails if memory ran out,
+/// or if there are two steps or an initial predicate with more conjuncts than an expression within the limits has
+/// nodes. Then it ends at once, however many there are.
 pub(crate) fn parts_of<'a>(
     alloc: Global,
     classes: &Classes<'_, 'a>,

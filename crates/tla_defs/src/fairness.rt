@@ -32,7 +32,7 @@ fn is_for_all(quantifier: Quantifier) -> bool
     matches!(quantifier, Quantifier::ForAll)
 }
 
-/// Whether a formula is fairness, where these names are bound round it. The only error is want of memory.
+/// Whether a formula is fairness, where these names are bound around it. The only error is that memory ran out.
 #[cycle(fair)]
 fn fair_tree<'a>(
     definitions: &Definitions<'_, 'a>,
@@ -75,7 +75,7 @@ fn fair_tree<'a>(
     }
 }
 
-/// Whether a formula is fairness under names more.
+/// Whether a formula is fairness, under more names.
 #[cycle(fair)]
 #[tactic(auto, using(crate::proofs::Fairs::cut_back))]
 fn fair_under<'a>(
@@ -116,7 +116,7 @@ fn each_fair<'a>(
     Ok(true)
 }
 
-/// Whether a formula is fairness. The only error is want of memory.
+/// Whether a formula is fairness. The only error is that memory ran out.
 pub(crate) fn is_fair<'a>(
     alloc: Global,
     definitions: &Definitions<'_, 'a>,

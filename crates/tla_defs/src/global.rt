@@ -29,7 +29,7 @@ struct Counted<'a> {
     variables: usize,
 }
 
-/// With a variable more.
+/// Adds a variable.
 fn with_variable<'a>(counted: Counted<'a>, name: &'a Word) -> Result<Counted<'a>, DefsError>
     ensures ok { IfOk result (λ c. scope_of c.scopes ≡ global.with_variable counted.entry.variables name.now (scope_of counted.entry.scopes)) }
     ensures next { IfOk result (λ c. c.variables ≡ counted.entry.variables + 1) }
@@ -45,7 +45,7 @@ fn with_variable<'a>(counted: Counted<'a>, name: &'a Word) -> Result<Counted<'a>
     }
 }
 
-/// With variables more.
+/// Adds variables.
 fn with_variables<'a>(counted: Counted<'a>, names: &'a [Written]) -> Result<Counted<'a>, DefsError>
     ensures ok { IfOk result (λ c. scope_of c.scopes ≡ global.variables_in counted.entry.variables names.now (scope_of counted.entry.scopes)) }
     ensures next { IfOk result (λ c. c.variables ≡ counted.entry.variables + length names.now) }
@@ -60,7 +60,7 @@ fn with_variables<'a>(counted: Counted<'a>, names: &'a [Written]) -> Result<Coun
     Ok(all)
 }
 
-/// With a name more that stands for an expression.
+/// Adds a name that means an expression.
 fn with_operator<'a>(
     counted: Counted<'a>,
     name: &'a Word,
@@ -77,7 +77,7 @@ fn with_operator<'a>(
     }
 }
 
-/// With a definition more.
+/// Adds a definition.
 fn with_definition<'a>(
     counted: Counted<'a>,
     definition: &'a Definition,
@@ -93,7 +93,7 @@ fn with_definition<'a>(
     }
 }
 
-/// With a name more that stands for an expression, where it isn't replaced.
+/// Adds a name that means an expression, unless it is replaced.
 fn with_operator_unless<'a>(
     counted: Counted<'a>,
     replaced: &Names<'_>,
@@ -110,7 +110,7 @@ fn with_operator_unless<'a>(
     with_operator(counted, name, body)
 }
 
-/// With a definition more, where its name isn't replaced.
+/// Adds a definition, unless its name is replaced.
 fn with_definition_unless<'a>(
     counted: Counted<'a>,
     replaced: &Names<'_>,
@@ -126,7 +126,7 @@ fn with_definition_unless<'a>(
     with_definition(counted, definition)
 }
 
-/// With the names of a unit more, where they aren't replaced.
+/// Adds the names of a unit, unless they are replaced.
 fn with_unit<'a>(
     counted: Counted<'a>,
     replaced: &Names<'_>,
@@ -151,7 +151,7 @@ fn with_unit<'a>(
     }
 }
 
-/// With the name of an item more.
+/// Adds the name of an item.
 fn with_item<'a>(scopes: Scopes<'a>, item: &'a Item) -> Result<Scopes<'a>, DefsError>
     ensures ok { IfOk result (λ s. scope_of s ≡ given_names.with_item (outer_of scopes.entry) (item_view item.now) (scope_of scopes.entry)) }
     ensures outer { IfOk result (λ s. outer_of s ≡ outer_of scopes.entry) }
@@ -167,7 +167,7 @@ fn with_item<'a>(scopes: Scopes<'a>, item: &'a Item) -> Result<Scopes<'a>, DefsE
     }
 }
 
-/// With the names of items more.
+/// Adds the names of items.
 fn with_items<'a>(scopes: Scopes<'a>, given: &Items<'a>) -> Result<Scopes<'a>, DefsError>
     ensures ok { IfOk result (λ s. scope_of s ≡ given_names.with_items (outer_of scopes.entry) given.now (scope_of scopes.entry)) }
     ensures err { IfErr result (λ e. e.code ≡ Memory) }
@@ -181,7 +181,7 @@ fn with_items<'a>(scopes: Scopes<'a>, given: &Items<'a>) -> Result<Scopes<'a>, D
     Ok(all)
 }
 
-/// The scope behind units, where these names are replaced.
+/// The scope after some units, in which these names are replaced.
 fn with_units<'a>(
     counted: Counted<'a>,
     replaced: &Names<'_>,
@@ -199,7 +199,7 @@ fn with_units<'a>(
     Ok(all.scopes)
 }
 
-/// What the names mean, where operators that replace names mean what they did so far.
+/// One pass over the units: what the names mean if the operators that replace names mean what they meant before.
 fn meant<'a>(
     alloc: Global,
     scopes: Scopes<'a>,
@@ -218,8 +218,8 @@ fn meant<'a>(
     Ok(Box::new(alloc, with_units(counted, replaced, units)?)?)
 }
 
-/// What the names mean, once more for each item with an operator. The passes behind one that leaves no operator open say
-/// nothing new, and aren't made.
+/// What the names mean after one more pass for each item with an operator. Once no operator is open, further passes
+/// would change nothing, so they aren't made.
 fn raised<'a>(
     alloc: Global,
     scopes: Box<Scopes<'a>>,
@@ -248,7 +248,7 @@ fn raised<'a>(
     Ok(all)
 }
 
-/// The scope of a module where the configuration has these items, in a box. The only error is want of memory.
+/// The scope of a module with these items, in a box. The only error is that memory ran out.
 pub(crate) fn global_scope<'a>(
     alloc: Global,
     units: &'a [Unit],

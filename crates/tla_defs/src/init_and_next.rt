@@ -35,7 +35,7 @@ pub(crate) enum InitAndNext<'a> {
     Specified(Specified<'a>),
 }
 
-/// What a behaviour over so many variables means.
+/// The meaning of a behaviour over this many variables.
 pub(crate) fn meaning<'a>(
     alloc: Global,
     units: &'a [Unit],

@@ -11,7 +11,7 @@ pub fn one_model()
     ensures { OnlyModel }
 {}
 
-/// None of the steps that are told exactly refuses a module and a configuration that name a model.
+/// If a module and a configuration denote a model, none of the steps whose refusal is defined exactly refuses them.
 pub fn none_refused()
     ensures { NoneRefused }
 {}

@@ -1,7 +1,7 @@
-//! The model that a module and a configuration name.
+//! The model that a module and a configuration denote.
 //!
-//! What a model is stands in the definitions of this crate, and their laws are proved in `laws`. `build` finds it, or
-//! answers the first step that refuses the two texts.
+//! The definitions of this crate say what a model is, and `laws` has their laws. `build` finds the model, or returns
+//! the first step that refuses the two texts.
 #![tactic(auto)]
 
 mod behaviour;

@@ -63,7 +63,7 @@ impl<'a> Parts<'a> {
         }
     }
 
-    /// One conjunct more. The only error is want of memory.
+    /// Adds one conjunct. The only error is that memory ran out.
     pub(crate) fn add(
         &mut self,
         alloc: Global,
@@ -83,8 +83,8 @@ impl<'a> Parts<'a> {
         Ok(push(&mut self.initial, tree)?)
     }
 
-    /// The refusal of two steps, or of more other conjuncts than an expression within the limits has nodes, where
-    /// SPECIFICATION stands at this place.
+    /// The refusal of two steps, or of more other conjuncts than an expression within the limits has nodes.
+    /// SPECIFICATION is at this place.
     pub(crate) fn too_many(&self, place: Place) -> Option<DefsError>
         ensures told { (e : DefsError) → result ≡ Some e → IsOfMany place (steps_in self.now) (seen self.now.initial.items) e }
         ensures few { result ≡ None → AreFew self.now }

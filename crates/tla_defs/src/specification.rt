@@ -38,7 +38,7 @@ fn not_of_form(place: Place) -> DefsError
     DefsError::at(DefsCode::SpecificationForm, Source::Configuration, place)
 }
 
-/// A subscript that covers so many variables.
+/// A subscript that covers this many variables.
 fn covered<'a>(
     alloc: Global,
     scopes: &Scopes<'a>,
@@ -96,7 +96,7 @@ fn says_at(definitions: &Definitions<'_, '_>, tree: &Expr) -> Place {
     }
 }
 
-/// Whether what a conjunct says was not met before. The only error is want of memory.
+/// Whether this conjunct is the first of its kind. The only error is that memory ran out.
 fn is_new(
     met: &mut IndexSet<PlaceKey>,
     definitions: &Definitions<'_, '_>,
@@ -130,8 +130,8 @@ fn each_of_state_level<'a>(
     Ok(())
 }
 
-/// What SPECIFICATION at this place names, over so many variables: the conjuncts of the initial predicate, which are of
-/// state level or too large, and the action.
+/// What SPECIFICATION at this place names, over this many variables: the conjuncts of the initial predicate, which are
+/// of state level or too large, and the action.
 pub(crate) fn specification<'a>(
     alloc: Global,
     units: &'a [Unit],

@@ -1,4 +1,4 @@
-//! The definitions that names stand for, and which of them are of a class of formulas.
+//! The definitions of names, and which of them are of a class of formulas.
 
 ghost use Rattle.std.specs.Prelude.{◌≡◌, ◌≤◌, ◌<◌, ◌+◌, ◌∷◌, ℕ, List, Option, Some, None, true, false, map, length, option_map, OnOk, IfOk, IfErr};
 ghost use Rattle.std.specs.Str.{bytes_eq};
@@ -45,7 +45,7 @@ pub(crate) struct Table<'a> {
     definitions: IndexMap<&'a [u8], Body<'a>>,
 }
 
-/// What names stand for: definitions, by the items of a configuration.
+/// The definitions of names, if the configuration has these items.
 #[derive(Clone, Copy)]
 pub(crate) struct Definitions<'t, 'a> {
     pub(crate) table: &'t Table<'a>,
@@ -83,7 +83,7 @@ fn defined<'a>(unit: &'a Unit) -> Option<(&'a [u8], &'a Expr)>
 }
 
 impl<'a> Table<'a> {
-    /// With a definition, unless its name is known already. The only error is want of memory.
+    /// Adds a definition, unless its name is known already. The only error is that memory ran out.
     fn add(&mut self, name: &'a [u8], tree: &'a Expr) -> Result<(), DefsError>
         ensures bodies { OnOk result ((x : Name) (o : Option Tree) → or_else (spec.body_at self.new.definitions.entries x) o ≡ or_else (spec.body_at self.old.definitions.entries x) (body_if (bytes_eq x name.entry.now) (tree_at tree.entry) o)) }
         ensures found { OnOk result ((x : Name) → spec.found_at self.new.definitions.entries x ≡ spec.found_at self.old.definitions.entries x) }
@@ -101,7 +101,7 @@ impl<'a> Table<'a> {
         Ok(())
     }
 
-    /// With the definition of a unit. The only error is want of memory.
+    /// Adds the definition of a unit. The only error is that memory ran out.
     fn add_unit(&mut self, unit: &'a Unit) -> Result<(), DefsError>
         ensures bodies { OnOk result ((x : Name) (us : List UnitTree) → or_else (spec.body_at self.new.definitions.entries x) (body_in us x) ≡ or_else (spec.body_at self.old.definitions.entries x) (body_in (unit_view unit.entry.now ∷ us) x)) }
         ensures found { OnOk result ((x : Name) → spec.found_at self.new.definitions.entries x ≡ spec.found_at self.old.definitions.entries x) }
@@ -114,7 +114,7 @@ impl<'a> Table<'a> {
         }
     }
 
-    /// The definitions of a module, none of which is known to be of the class. The only error is want of memory.
+    /// The definitions of a module, none of which is known to be of the class. The only error is that memory ran out.
     fn of_units(alloc: Global, units: &'a [Unit]) -> Result<Table<'a>, DefsError>
         ensures bodies { IfOk result (λ t. (x : Name) → spec.body_at t.definitions.entries x ≡ body_in (map unit_view units.entry.now) x) }
         ensures found { IfOk result (λ t. (x : Name) → spec.found_at t.definitions.entries x ≡ false) }
@@ -142,7 +142,8 @@ impl<'a> Table<'a> {
         }
     }
 
-    /// Whether the definition of this number is found to be of the class only now. The only error is want of memory.
+    /// Marks the definition with a number, if it is of the class. Returns whether that is new. The only error is that
+    /// memory ran out.
     fn find(
         &mut self,
         alloc: Global,
@@ -175,7 +176,7 @@ impl<'a> Table<'a> {
         Ok(true)
     }
 
-    /// Whether a definition is found to be of the class only now. The only error is want of memory.
+    /// Marks each definition that is of the class. Returns whether some are new. The only error is that memory ran out.
     fn find_each(
         &mut self,
         alloc: Global,
@@ -197,8 +198,8 @@ impl<'a> Table<'a> {
         Ok(changed)
     }
 
-    /// The definitions of a module, of which those are known to be of a class that are, where the configuration has these
-    /// items. The only error is want of memory.
+    /// The definitions of a module, in which those of a class are marked, if the configuration has these items. The
+    /// only error is that memory ran out.
     pub(crate) fn of(
         alloc: Global,
         units: &'a [Unit],
@@ -218,7 +219,7 @@ impl<'a> Table<'a> {
     }
 }
 
-/// Whether a formula is of a class. The only error is want of memory.
+/// Whether a formula is of a class. The only error is that memory ran out.
 fn is_of<'a>(
     alloc: Global,
     class: Class,
@@ -235,7 +236,7 @@ fn is_of<'a>(
 }
 
 impl<'t, 'a> Definitions<'t, 'a> {
-    /// What a name stands for.
+    /// The definition of a name.
     pub(crate) fn body(&self, name: &[u8]) -> Option<&'a Expr>
         ensures { option_map tree_at result ≡ bodies_of self.now name.now }
     {
@@ -248,7 +249,7 @@ impl<'t, 'a> Definitions<'t, 'a> {
         }
     }
 
-    /// Whether a name is known to stand for a formula of the class.
+    /// Whether the definition of a name is marked as one of the class.
     pub(crate) fn is_known(&self, name: &[u8]) -> bool
         ensures { result ≡ found_names self.now name.now }
     {

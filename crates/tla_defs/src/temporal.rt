@@ -26,7 +26,7 @@ fn leads_to(operator: Infix) -> bool
     matches!(operator, Infix::LeadsTo)
 }
 
-/// Whether a formula is temporal, where these names are bound round it. The only error is want of memory.
+/// Whether a formula is temporal, where these names are bound around it. The only error is that memory ran out.
 #[cycle(temporal)]
 fn temporal_tree<'a>(
     definitions: &Definitions<'_, 'a>,
@@ -65,7 +65,7 @@ fn temporal_tree<'a>(
     }
 }
 
-/// Whether a formula is temporal under names more.
+/// Whether a formula is temporal, under more names.
 #[cycle(temporal)]
 #[tactic(auto, using(crate::proofs::Fairs::cut_back))]
 fn temporal_under<'a>(
@@ -106,7 +106,7 @@ fn some_temporal<'a>(
     Ok(false)
 }
 
-/// Whether a formula is temporal. The only error is want of memory.
+/// Whether a formula is temporal. The only error is that memory ran out.
 pub(crate) fn is_temporal<'a>(
     alloc: Global,
     definitions: &Definitions<'_, 'a>,

@@ -81,7 +81,7 @@ abbrev pub meaning_or : Option Builtin → Meaning
 meaning_or None = unknown
 meaning_or (Some b) = builtin_meaning b
 
--- the scope round a module: the operators of the modules that it may extend
+-- the scope around a module: the operators of the modules that it may extend
 abbrev pub standard : Scope
 standard x = meaning_or (library x)
 

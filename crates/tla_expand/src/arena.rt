@@ -15,7 +15,7 @@ use tla_core::Place;
 use tla_tree::{Binder, Expr, Written};
 use tla_value::Value;
 
-/// The argument that an operator gives back, by its number, and under how many primes; and where the last of these stands.
+/// The argument that an operator returns: its number, how many primes are on it, and where the last of these is.
 #[derive(Clone, Copy)]
 pub(crate) struct Projection {
     pub(crate) index: usize,
@@ -31,11 +31,12 @@ pub(crate) enum What<'a> {
     Value(&'a Value),
     /// An argument, in the scope of the use.
     Argument(&'a Expr, usize),
-    /// The parameters and the body of a definition, in the scope where it stands.
+    /// The parameters and the body of a definition, and the scope of the definition.
     Definition(&'a [Written], &'a Expr, usize),
-    /// The place, the binder list and the body of a function that is defined by its name, in the scope where it stands.
+    /// The place, the binder list and the body of a function that is defined by its name, and the scope of the
+    /// definition.
     Function(Place, &'a Vec<Binder>, &'a Expr, usize),
-    /// An operator of so many parameters that gives back one of its arguments.
+    /// An operator with this many parameters that returns one of its arguments.
     Gives(usize, Projection),
     /// An operator of a module under another name.
     Module(Builtin),
@@ -85,7 +86,7 @@ pub(crate) fn find<'a>(entries: &Entries<'_, 'a>, scope: usize, name: &[u8]) -> 
     }
 }
 
-/// Adds an entry, and gives its scope. The only error is want of memory.
+/// Adds an entry, and returns its scope. The only error is that memory ran out.
 pub(crate) fn enter<'a>(entries: &mut Entries<'_, 'a>, entry: Entry<'a>) -> Result<usize, Failure>
     requires linked { AreLinked (listed entries.old) }
     requires below { IsBelow (length (listed entries.old)) entry.what entry.rest }
@@ -100,7 +101,7 @@ pub(crate) fn enter<'a>(entries: &mut Entries<'_, 'a>, entry: Entry<'a>) -> Resu
     Ok(entries.len())
 }
 
-/// The scope in which the parameters stand for the arguments. The only error is want of memory.
+/// The scope in which the parameters mean the arguments. The only error is that memory ran out.
 pub(crate) fn bind<'a>(
     entries: &mut Entries<'_, 'a>,
     parameters: &'a [Written],

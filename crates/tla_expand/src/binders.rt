@@ -64,7 +64,7 @@ fn push_entry<'a>(
     }
 }
 
-/// The elements of one entry, each with its set. The only error is want of memory.
+/// The elements of one entry, each with its set. The only error is that memory ran out.
 pub(crate) fn bind_one<'a>(
     alloc: Global,
     pattern: &'a Pattern,
@@ -78,7 +78,7 @@ pub(crate) fn bind_one<'a>(
     Ok(binds)
 }
 
-/// The elements of a binder list in order, each with its set. The only error is want of memory.
+/// The elements of a binder list in order, each with its set. The only error is that memory ran out.
 pub(crate) fn bind_list<'a>(alloc: Global, groups: &'a [Binder]) -> Result<Vec<Bind<'a>>, Failure>
     ensures ok { IfOk result (λ bs. (σ : Scope) → binds_in bs.items σ ≡ binds_of (binders (map group_view groups.now)) σ) }
     ensures err { IfErr result (λ e. e ≡ Failure.Memory) }

@@ -27,7 +27,7 @@ pub(crate) fn place_of(place: tla_lex::Place) -> Place
     }
 }
 
-/// The text of a name or a string. Its bytes are UTF-8, so that the only error is want of memory.
+/// The text of a name or a string. Its bytes are UTF-8, so the only error is that memory ran out.
 pub(crate) fn text_of(alloc: Global, word: &Word) -> Result<Text, Failure>
     ensures ok { IfOk result (λ t. t ≡ word.now) }
     ensures err { IfErr result (λ e. e ≡ Failure.Memory) }
@@ -41,7 +41,7 @@ pub(crate) fn text_of(alloc: Global, word: &Word) -> Result<Text, Failure>
     }
 }
 
-/// What a word stands for.
+/// The constant that a word means.
 fn constant_core(place: Place, constant: Constant) -> Core
     ensures { expr_of result ≡ nodes.constant_of place constant }
 {
@@ -192,7 +192,7 @@ fn enumerated(alloc: Global, place: Place, parts: Vec<Core>) -> Result<Core, Fai
     Ok(Core::set_of(alloc, place, parts)?)
 }
 
-/// A tuple of its parts. The only error is want of memory.
+/// A tuple of its parts. The only error is that memory ran out.
 pub(crate) fn tuple(alloc: Global, place: Place, parts: Vec<Core>) -> Result<Core, Failure>
     ensures ok { IfOk result (λ c. expr_of c ≡ expr.tuple place (exprs (map expr_of parts.items))) }
     ensures err { IfErr result (λ e. e ≡ Failure.Memory) }
@@ -206,7 +206,7 @@ fn product(place: Place, parts: Vec<Core>) -> Core
     Core::Product(place, parts)
 }
 
-/// A node of a list of parts. The only error is want of memory.
+/// A node of a list of parts. The only error is that memory ran out.
 pub(crate) fn many_core(
     alloc: Global,
     place: Place,
@@ -255,7 +255,7 @@ pub(crate) fn binding_core(
     }
 }
 
-/// A body under elements that are opened, if any. The only error is want of memory.
+/// A body under elements that are opened, if any. The only error is that memory ran out.
 pub(crate) fn opened_core(
     alloc: Global,
     place: Place,
@@ -278,7 +278,7 @@ fn opened(place: Place, openings: Vec<Opening>, body: Box<Core>) -> Core
     Core::Opened(place, openings, body)
 }
 
-/// A set of sequences of so many items. The only error is want of memory.
+/// A set whose elements must be sequences of `count` items. The only error is that memory ran out.
 pub(crate) fn tried_core(
     alloc: Global,
     place: Place,
@@ -292,7 +292,7 @@ pub(crate) fn tried_core(
     Ok(Core::Tried(place, count, set))
 }
 
-/// A product of a first operand and others. The only error is want of memory.
+/// A product of a first operand and others. The only error is that memory ran out.
 pub(crate) fn product_core(
     place: Place,
     first: Box<Core>,
@@ -312,7 +312,7 @@ pub(crate) fn cases_core(place: Place, arms: Vec<(Core, Core)>) -> Core
     Core::Cases(place, arms, None)
 }
 
-/// CASE with OTHER. The only error is want of memory.
+/// CASE with OTHER. The only error is that memory ran out.
 pub(crate) fn cases_or_core(
     alloc: Global,
     place: Place,
@@ -332,7 +332,7 @@ fn cases_or(place: Place, arms: Vec<(Core, Core)>, last: Box<Core>) -> Core
     Core::Cases(place, arms, Some(last))
 }
 
-/// A node of sets and a body. The only error is want of memory.
+/// A node of sets and a body. The only error is that memory ran out.
 pub(crate) fn gather_core(
     alloc: Global,
     place: Place,
@@ -362,7 +362,7 @@ fn function(place: Place, sets: Vec<Core>, body: Box<Core>) -> Core
     Core::Function(place, sets, body)
 }
 
-/// A node of fields. The only error is want of memory.
+/// A node of fields. The only error is that memory ran out.
 pub(crate) fn fielded_core(
     alloc: Global,
     place: Place,

@@ -1,4 +1,4 @@
-//! The expansion of a conjunction whose parts stand apart.
+//! The expansion of a conjunction whose parts are in a list.
 
 ghost use Rattle.std.specs.Prelude.{◌≡◌, ◌≢◌, ◌≤◌, length, map, Some, None, IfOk, IfErr};
 ghost use Rattle.std.specs.Borrow.{Bor};
@@ -28,7 +28,7 @@ use tla_core::Core;
 use tla_lex::Place;
 use tla_tree::{Expr, push};
 
-/// Expressions of one scope that stand apart, with at most 199,999 nodes, of which at most 299 on a path.
+/// Expressions of one scope, in a list, with at most 199,999 nodes, and at most 299 on a path.
 fn each_apart<'a>(
     alloc: Global,
     entries: &mut Entries<'_, 'a>,
@@ -59,8 +59,7 @@ fn each_apart<'a>(
     Ok(Many { parts, left })
 }
 
-/// The expansion of a conjunction in a scope, under so many primes, with at most 200,000 nodes, of which at most 300 on
-/// a path.
+/// The expansion of a conjunction in a scope, with these primes, with at most 200,000 nodes, and at most 300 on a path.
 pub(crate) fn conjunction<'a>(
     alloc: Global,
     entries: &mut Entries<'_, 'a>,

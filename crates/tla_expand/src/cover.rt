@@ -1,5 +1,5 @@
-//! Whether an expression stands for a nested tuple that covers the variables. It is found part by part, without the tuple,
-//! however large that is; what a name stands for is gone through once.
+//! Whether an expression is a nested tuple that covers the variables. It is examined part by part, without making the
+//! tuple, which may be large. A name's meaning is examined once.
 
 ghost use Rattle.std.specs.Prelude.{◌≡◌, ◌≤◌, ◌++◌, ◌∷◌, [], length, true, false, nat_eq, Option, IfOk, OnOk, IfErr, IfSome, IfNone, Some};
 ghost use Rattle.indexmap.specs.IndexSet.{insert_key};
@@ -24,23 +24,23 @@ use indexmap::IndexSet;
 use std::alloc::Global;
 use tla_tree::{Expr, push};
 
-/// A visit that is left to do.
+/// A visit that remains to be done.
 #[derive(Clone, Copy)]
 pub(crate) enum Visit<'a> {
-    /// To look at an expression in a scope, with so many primes on it.
+    /// To visit an expression in a scope, with these primes on it.
     Part(&'a Expr, usize, Primes),
-    /// To note that an entry was gone through, with so many primes on it.
+    /// To record that an entry was visited, with these primes on it.
     End(Gone),
 }
 
-/// An entry, with so many primes on it.
+/// An entry, with these primes on it.
 #[derive(Clone, Copy, PartialEq, Eq, Hash)]
 pub(crate) struct Gone {
     pub(crate) entry: usize,
     pub(crate) primes: Primes,
 }
 
-/// What a form is of a nested tuple of variables.
+/// What a form is as part of a nested tuple of variables.
 #[derive(Clone, Copy)]
 pub(crate) enum Piece<'a> {
     Variable(usize),
@@ -48,8 +48,8 @@ pub(crate) enum Piece<'a> {
     Other,
 }
 
-/// A walk over the parts of a nested tuple: what is left, the next one last; the entries that were gone through, and the
-/// variables that were met.
+/// A walk over the parts of a nested tuple: the visits that remain, the next one last; the entries that were visited,
+/// and the variables that were found.
 #[derive(Drop)]
 pub(crate) struct Walk<'s, 'a> {
     pub(crate) entries: Entries<'s, 'a>,
@@ -58,7 +58,7 @@ pub(crate) struct Walk<'s, 'a> {
     pub(crate) met: IndexSet<usize>,
 }
 
-/// The entry that a name stands for.
+/// The entry that a name means.
 fn named(entries: &Entries<'_, '_>, tree: &Expr, scope: usize) -> Option<usize>
     requires linked { AreLinked (listed entries.now) }
     requires within { scope ≤ length (listed entries.now) }
@@ -84,7 +84,7 @@ fn piece_of<'a>(head: Head<'a>) -> Piece<'a>
     }
 }
 
-/// Parts of a tuple more. The only error is want of memory.
+/// Adds the parts of a tuple. The only error is that memory ran out.
 fn push_parts<'a>(
     left: &mut Vec<Visit<'a>>,
     items: &'a [Expr],
@@ -100,7 +100,7 @@ fn push_parts<'a>(
     Ok(())
 }
 
-/// Notes a variable. The only error is want of memory.
+/// Records a variable. The only error is that memory ran out.
 fn meet(met: &mut IndexSet<usize>, variable: usize) -> Result<(), Failure>
     ensures ok { OnOk result (met.new.keys ≡ insert_key nat_eq met.old.keys variable) }
     ensures err { IfErr result (λ f. f ≡ Failure.Memory) }
@@ -109,7 +109,7 @@ fn meet(met: &mut IndexSet<usize>, variable: usize) -> Result<(), Failure>
     Ok(())
 }
 
-/// Notes an entry that was gone through. The only error is want of memory.
+/// Records that an entry was visited. The only error is that memory ran out.
 fn go_by(gone: &mut IndexSet<Gone>, entry: Gone) -> Result<(), Failure>
     ensures ok { OnOk result (IsAdded gone.old.keys entry gone.new.keys) }
     ensures err { IfErr result (λ f. f ≡ Failure.Memory) }
@@ -118,14 +118,14 @@ fn go_by(gone: &mut IndexSet<Gone>, entry: Gone) -> Result<(), Failure>
     Ok(())
 }
 
-/// Whether an entry was gone through.
+/// Whether an entry was visited.
 fn was_gone(gone: &IndexSet<Gone>, entry: Gone) -> bool
     ensures { result ≡ true → IsAmong entry gone.now.keys }
 {
     gone.contains(&entry)
 }
 
-/// Goes on with a form; whether it is a variable or a tuple. The only error is want of memory.
+/// Continues with a form. Returns whether it is a variable or a tuple. The only error is that memory ran out.
 fn go_into<'a>(walk: &mut Walk<'_, 'a>, head: Head<'a>) -> Result<bool, Failure>
     requires within { head.scope ≤ length (listed walk.old.entries) }
     ensures goes { IfOk result (λ b. (whole : Option expr.Expr) → IsWalkTo whole (listed walk.old.entries) walk.old.left.items walk.old.gone.keys walk.old.met.keys (head_gives (listed walk.old.entries) head.entry 0) → GoesOn whole (listed walk.new.entries) walk.new.left.items walk.new.gone.keys walk.new.met.keys b) }
@@ -144,7 +144,7 @@ fn go_into<'a>(walk: &mut Walk<'_, 'a>, head: Head<'a>) -> Result<bool, Failure>
     }
 }
 
-/// Goes on with a reduction; whether it may come to a part. The only error is want of memory.
+/// Continues with a reduction. Returns whether it may lead to a part. The only error is that memory ran out.
 fn go_along<'a>(walk: &mut Walk<'_, 'a>, reduction: Reduction<'a>) -> Result<bool, Failure>
     requires within { IsWithin (listed walk.old.entries) reduction }
     ensures goes { IfOk result (λ b. (whole : Option expr.Expr) → IsWalkTo whole (listed walk.old.entries) walk.old.left.items walk.old.gone.keys walk.old.met.keys (reduction_gives (listed walk.old.entries) reduction.entry 0) → GoesOn whole (listed walk.new.entries) walk.new.left.items walk.new.gone.keys walk.new.met.keys b) }
@@ -159,7 +159,7 @@ fn go_along<'a>(walk: &mut Walk<'_, 'a>, reduction: Reduction<'a>) -> Result<boo
     }
 }
 
-/// Reduces an expression once; whether it may be a part. The only error is want of memory.
+/// Reduces an expression once. Returns whether it may be a part. The only error is that memory ran out.
 fn go_from<'a>(
     walk: &mut Walk<'_, 'a>,
     tree: &'a Expr,
@@ -179,7 +179,7 @@ fn go_from<'a>(
     }
 }
 
-/// Looks at a name of an entry; whether it may be a part. The only error is want of memory.
+/// Visits a name of an entry. Returns whether it may be a part. The only error is that memory ran out.
 fn look_at_name<'a>(
     walk: &mut Walk<'_, 'a>,
     tree: &'a Expr,
@@ -201,7 +201,7 @@ fn look_at_name<'a>(
     go_from(walk, tree, scope, primes)
 }
 
-/// Looks at an expression; whether it may be a part. The only error is want of memory.
+/// Visits an expression. Returns whether it may be a part. The only error is that memory ran out.
 fn look_at<'a>(
     walk: &mut Walk<'_, 'a>,
     tree: &'a Expr,
@@ -219,7 +219,8 @@ fn look_at<'a>(
     }
 }
 
-/// Goes on with what is left, which was taken away; whether all may be parts. The only error is want of memory.
+/// Does a visit that was removed from the list. Returns whether all may still be parts. The only error is that memory
+/// ran out.
 fn go_on<'a>(walk: &mut Walk<'_, 'a>, left: Visit<'a>) -> Result<bool, Failure>
     requires linked { AreLinked (listed walk.old.entries) }
     requires inside { IsInside (listed walk.old.entries) left }
@@ -235,7 +236,7 @@ fn go_on<'a>(walk: &mut Walk<'_, 'a>, left: Visit<'a>) -> Result<bool, Failure>
     }
 }
 
-/// Whether each of the first so many variables is among these.
+/// Whether each of the first `variables` variables is among these.
 fn has_each(met: &IndexSet<usize>, variables: usize) -> bool
     ensures yes { result ≡ true → HasEach met.now.keys variables }
     ensures no { result ≡ false → HasEach met.now.keys variables → ⊥ }
@@ -250,8 +251,8 @@ fn has_each(met: &IndexSet<usize>, variables: usize) -> bool
     true
 }
 
-/// Goes through an expression in a scope, where nothing was looked at so far; whether it stands for a variable or a nested tuple
-/// of variables that covers the first so many. The only error is want of memory.
+/// Visits an expression in a scope, before any other. Returns whether it is a variable or a nested tuple of variables
+/// that covers the first `variables`. The only error is that memory ran out.
 fn go_through<'a>(
     walk: &mut Walk<'_, 'a>,
     tree: &'a Expr,
@@ -280,8 +281,8 @@ fn go_through<'a>(
     Err(Failure::Memory)
 }
 
-/// Whether an expression in a scope stands for a variable or a nested tuple of variables that covers the first so many. The
-/// only error is want of memory.
+/// Whether an expression in a scope is a variable or a nested tuple of variables that covers the first `variables`. The
+/// only error is that memory ran out.
 pub(crate) fn covers<'a>(
     alloc: Global,
     entries: Entries<'_, 'a>,

@@ -9,8 +9,9 @@ use crate::failure::Failure;
 use crate::index::{jumps_from, name_hash};
 use std::alloc::Global;
 
-/// An entry with a hash of its name. Where the entry is of another name than the one that is sought, the search jumps to the
-/// scope that stands here for the first bit in which the hashes differ, or last for equal ones.
+/// An entry with the hash of its name. If the entry has another name than the one that is looked up, the search
+/// continues in one of the scopes in `jumps`: the one for the first bit in which the hashes differ, or the last one if
+/// they are equal.
 #[derive(Clone, Copy)]
 pub(crate) struct Node<'a> {
     pub(crate) entry: Entry<'a>,
@@ -18,7 +19,7 @@ pub(crate) struct Node<'a> {
     pub(crate) jumps: [usize; 17],
 }
 
-/// Entries, of which the first ones are lent by another list.
+/// Entries, of which the first ones are borrowed from another list.
 #[derive(Drop)]
 pub(crate) struct Entries<'s, 'a> {
     known: &'s [Node<'a>],
@@ -42,7 +43,7 @@ impl<'s, 'a> Entries<'s, 'a> {
         }
     }
 
-    /// The same entries, lent.
+    /// The same entries, all of them borrowed.
     pub(crate) fn lent<'t>(&'t self, alloc: Global) -> Entries<'t, 'a>
         requires { lent_count self.now ≡ 0 }
         ensures { listed result ≡ listed self.now }
@@ -74,7 +75,7 @@ impl<'s, 'a> Entries<'s, 'a> {
         }
     }
 
-    /// An entry more. The only error is want of memory.
+    /// Adds an entry. The only error is that memory ran out.
     pub(crate) fn push(&mut self, entry: Entry<'a>) -> Result<(), Failure>
         requires { entry.rest ≤ length (listed self.old) }
         ensures ok { OnOk result (listed self.new ≡ listed self.old ++ entry.entry ∷ []) }
@@ -87,7 +88,7 @@ impl<'s, 'a> Entries<'s, 'a> {
         Ok(())
     }
 
-    /// Gives back the entries behind so many.
+    /// Keeps the first `end` entries.
     pub(crate) fn truncate(&mut self, end: usize)
         ensures items { listed self.new ≡ take end (listed self.old) }
     {

@@ -54,20 +54,21 @@ pub(crate) const PATH_BELOW: usize = MAX_PATH - 1;
 /// The most nodes below the outermost node.
 pub(crate) const NODES_BELOW: usize = MAX_NODES - 1;
 
-/// Where an expression stands, and how large its expansion may be.
+/// The context of an expression, and how large its expansion may be.
 #[derive(Clone, Copy)]
 pub(crate) struct Setting {
     /// The scope of its names.
     pub(crate) scope: usize,
     /// The primes on it.
     pub(crate) primes: Primes,
-    /// How many names are bound round it.
+    /// How many names are bound around it.
     pub(crate) bound: usize,
     /// How many nodes there may be on a path.
     pub(crate) room: usize,
     /// How many nodes there may be.
     pub(crate) left: usize,
-    /// The primes on the whole, where its operands are looked at as they stand, so that what is met first is told.
+    /// Some if operands are also examined without more primes, to report the first refusal: the primes on the whole
+    /// expression.
     pub(crate) sought: Option<Primes>,
 }
 
@@ -111,7 +112,7 @@ fn leaf_of<'a>(
     Ok(Expanded { core, left })
 }
 
-/// A variable, under so many primes.
+/// A variable, under these primes.
 #[inline(never)]
 fn variable_of(place: Place, index: usize, primes: Primes, left: usize) -> Result<Expanded, Failure>
     ensures { (room : ℕ) → Gives (room + 1) (left + 1) result (primed_now primes place index) }
@@ -440,7 +441,7 @@ fn cases_or_node<'a>(
     })
 }
 
-/// A product. Its operands stand in one list.
+/// A product. Its operands are in one list.
 #[cycle(expand)]
 #[inline(never)]
 fn product_node<'a>(
@@ -493,7 +494,7 @@ fn fields_node<'a>(
     })
 }
 
-/// Two expressions of one scope, the first of them under so many primes.
+/// Two expressions of one scope, the first of them under these primes.
 #[cycle(expand)]
 fn two_parts<'a>(
     alloc: Global,

@@ -7,8 +7,8 @@ use tla_core::Place;
 /// Why an expression has no expansion within the limits.
 #[derive(Clone, Copy, Debug)]
 pub enum Failure {
-    /// It has none at all: an unknown name, another number of arguments, a prime on a variable next, an operator of
-    /// time, or a form that has none yet; and where that stands.
+    /// It has none at all: an unknown name, another number of arguments, a prime on a variable's next value, a temporal
+    /// operator, or a form that has none yet; and where that is.
     NoExpansion(Place),
     /// None with so few nodes, or so few of them on a path; or a number in it is above 64 bits.
     TooLarge,

@@ -1,6 +1,6 @@
-//! Definitions that give back one of their arguments, through parentheses, primes, LET and uses of others that do so. Such
-//! a definition costs its uses nothing, however often others of the kind stand in its body. A name of a LET may also come to
-//! an argument of parameters round the LET.
+//! Definitions that return one of their arguments, through parentheses, primes, LET and uses of other such definitions.
+//! A use of such a definition costs nothing, however many others its body uses. A name of a LET may also lead to an
+//! argument of parameters around the LET.
 
 ghost use Rattle.std.specs.Prelude.{◌≡◌, ◌≤◌, length, ℕ, None, IfSome, IfNone, drop};
 ghost use Rattle.tla_core.specs.declared.fault.Place.{Place};
@@ -22,7 +22,8 @@ use crate::shortened::last_of;
 use tla_core::Place;
 use tla_tree::{Definition, Expr, Written};
 
-/// An argument of a layer of parameters round a part of a body. The layer's number is how many names and layers are round it.
+/// An argument of a layer of parameters around a part of a body. The layer's number is how many names and layers are
+/// around it.
 #[derive(Clone, Copy)]
 pub(crate) struct Reached {
     pub(crate) layer: usize,
@@ -32,24 +33,24 @@ pub(crate) struct Reached {
 /// What is known of a name.
 #[derive(Clone, Copy)]
 pub(crate) enum Summary {
-    /// An operator of so many parameters that gives back one of its arguments.
+    /// An operator with this many parameters that returns one of its arguments.
     Gives(usize, Projection),
-    /// One that comes to an argument of parameters round it, whatever its own stand for.
+    /// An operator that leads to an argument of parameters around it, whatever its own arguments are.
     Reaches(usize, Reached),
     Other,
 }
 
-/// The names round a part of a body, from the innermost to those round the definition.
+/// The names around a part of a body, from the innermost to those around the definition.
 #[derive(Clone, Copy)]
 pub(crate) enum Known<'a> {
     Outside,
-    /// A layer of parameters, and what is round it.
+    /// A layer of parameters, and what is around it.
     Parameters(&'a [Written], &'a Known<'a>),
     /// A name of a LET, and those before it.
     Named(&'a [u8], Summary, &'a Known<'a>),
 }
 
-/// A part of a body, with the names round it and primes on it, and where the last of these stands.
+/// A part of a body, with the names around it, the primes on it, and the place of the last of these.
 #[derive(Clone, Copy)]
 pub(crate) struct BodyPart<'a> {
     pub(crate) known: &'a Known<'a>,
@@ -58,7 +59,7 @@ pub(crate) struct BodyPart<'a> {
     pub(crate) primed: Option<Place>,
 }
 
-/// What a part of a body comes to.
+/// The result of one reduction of a part of a body.
 #[derive(Clone, Copy)]
 pub(crate) enum Turn<'a> {
     Goes(BodyPart<'a>),
@@ -81,7 +82,7 @@ pub(crate) fn with_more(primes: Primes, more: Primes) -> Primes
     }
 }
 
-/// The argument that a use comes to, where it has as many as its operator has parameters.
+/// The argument that a use returns, if it has as many as its operator has parameters.
 pub(crate) fn given_argument<'a>(
     arguments: &'a [Expr],
     count: usize,
@@ -99,7 +100,7 @@ pub(crate) fn given_argument<'a>(
     None
 }
 
-/// The place of the last prime, where more were met.
+/// The place of the last prime, if more were found.
 pub(crate) fn later(before: Option<Place>, met: Option<Place>) -> Option<Place> {
     match met {
         Some(place) => Some(place),
@@ -122,7 +123,7 @@ fn depth_of(known: &Known<'_>) -> Option<usize>
     None
 }
 
-/// A parameter by its number, in a layer that these names are round.
+/// A parameter by its number, in the layer that is just outside these names.
 fn argument(round: &Known<'_>, index: usize) -> Summary
     ensures { (f : Layers) → Means f result (parameter (argument_at index (f (depth round.now)))) }
 {
@@ -205,7 +206,7 @@ fn under(part: BodyPart<'_>, given: Projection) -> Projection
     }
 }
 
-/// What the use of a name comes to.
+/// Reduces the use of a name.
 fn used<'a>(
     entries: &Entries<'_, '_>,
     scope: usize,
@@ -243,7 +244,7 @@ fn used<'a>(
     }
 }
 
-/// What a part of a body comes to by one step.
+/// Reduces a part of a body by one step.
 fn one_turn<'a>(entries: &Entries<'_, '_>, scope: usize, part: BodyPart<'a>) -> Turn<'a>
     requires linked { AreLinked (listed entries.now) }
     requires within { scope ≤ length (listed entries.now) }
@@ -266,7 +267,7 @@ fn one_turn<'a>(entries: &Entries<'_, '_>, scope: usize, part: BodyPart<'a>) -> 
     }
 }
 
-/// What a part of a body comes to: an argument, or where it goes no further.
+/// Reduces a part of a body as far as possible: to an argument, or to a part that can't be reduced.
 fn last<'a>(entries: &Entries<'_, '_>, scope: usize, start: BodyPart<'a>) -> Turn<'a>
     requires linked { AreLinked (listed entries.now) }
     requires within { scope ≤ length (listed entries.now) }
@@ -293,7 +294,7 @@ fn name_of<'a>(definition: &'a Definition) -> &'a [u8]
     }
 }
 
-/// What a part of a body comes to, inside a LET of these definitions from one on.
+/// Reduces a part of a body inside a LET of these definitions, from one on.
 #[cycle(gives)]
 fn given_in(
     entries: &Entries<'_, '_>,
@@ -340,7 +341,7 @@ fn given_in(
     }
 }
 
-/// What an operator of so many parameters is that comes to an argument of its own, or of a layer round it.
+/// The summary of an operator with this many parameters that leads to an argument of its own, or of a layer around it.
 fn operator_summary(known: &Known<'_>, count: usize, reached: Reached) -> Summary
     ensures means { (f : Layers) → Means f result (with_count count (λ args. reached_in reached (with_layer (depth known.now) args f))) }
     ensures round { IsRound (depth known.now) result }
@@ -379,7 +380,7 @@ fn definition_summary(
     }
 }
 
-/// What an operator comes to.
+/// The argument that an operator leads to.
 #[cycle(gives)]
 fn given_by(
     entries: &Entries<'_, '_>,

@@ -1,5 +1,5 @@
-//! How names are found in scopes: by the first bits of a hash in which they differ. The scopes behind an entry are a trie of
-//! its bits, which shares all but one way with the scope before it.
+//! How names are found in scopes: by the first bits of a hash in which they differ. The scopes before an entry are a
+//! trie of its bits, which shares all but one path with the scope before it.
 
 ghost use Rattle.std.specs.Prelude.{◌≡◌, ◌≤◌, ◌<◌, ℕ, length, get_or};
 ghost use Rattle.tla_expand.specs.Places as names;
@@ -36,14 +36,15 @@ pub(crate) fn slot(first: usize, second: usize) -> usize
     16
 }
 
-/// Where names of a bit are found that is the first in which a hash differs from theirs, and where those of later bits are.
+/// For a hash and one of its bits: the scope in which names are found whose hash first differs from it in this bit, and
+/// the scope for those that first differ in a later bit.
 #[derive(Clone, Copy)]
 struct Jump {
     to: usize,
     next: usize,
 }
 
-/// The jump for a bit from a scope, in which names of no earlier bit are sought.
+/// The jump for a bit, from a scope in which only names are looked up that differ in no earlier bit.
 fn jump_at(entries: &Entries<'_, '_>, hash: usize, at: usize, bit: usize) -> Jump
     requires { at ≤ length (listed entries.now) }
     ensures to_within { result.to ≤ length (listed entries.now) }

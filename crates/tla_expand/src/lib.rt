@@ -1,6 +1,6 @@
 //! What an expression means under a scope, and its expansion within limits.
 //!
-//! An expansion has no names of definitions any more, and primes stand on variables alone. What it is stands in the
+//! Adds an expansion has no names of definitions any, and primes stand on variables alone. What it is stands in the
 //! definitions of this crate (*Specifying Systems*, chapters 15 to 17).
 #![tactic(auto)]
 

@@ -22,8 +22,8 @@ use tla_core::Core;
 use tla_model::{MAX_NODES, MAX_PATH};
 use tla_tree::Written;
 
-/// The expansion of a name without arguments in a scope, under so many primes, with at most 200,000 nodes, of which at
-/// most 300 on a path.
+/// The expansion of a name without arguments in a scope, with these primes, with at most 200,000 nodes, and at most 300
+/// on a path.
 pub(crate) fn named_expansion<'a>(
     alloc: Global,
     entries: &mut Entries<'_, 'a>,

@@ -67,7 +67,7 @@ pub(crate) enum ListNode {
     Product,
 }
 
-/// A node of a set and of a body that has one bound name more.
+/// A node of a set and of a body with one more bound name.
 #[derive(Clone, Copy)]
 pub(crate) enum Binding {
     ForAll,
@@ -151,7 +151,7 @@ pub(crate) enum Form<'a> {
 }
 
 impl<'a> Form<'a> {
-    /// Where it stands.
+    /// Its place.
     pub(crate) fn place(&self) -> Place {
         match self {
             Form::Leaf(place, _)
@@ -173,7 +173,8 @@ impl<'a> Form<'a> {
     }
 }
 
-/// What an expression is: a form with its parts, one that has no expansion, or one that stands for another expression.
+/// The top of an expression: a form with its parts, an expression without an expansion, or one that means another
+/// expression.
 #[derive(Clone, Copy)]
 pub(crate) enum OwnForm<'a> {
     Form(Form<'a>),

@@ -8,7 +8,7 @@ use crate::nodes::{BinaryNode, Builtin, TernaryNode, UnaryNode};
 use tla_core::{Binary, Kind, Unary};
 use tla_tree::{Infix, Prefix};
 
-/// The node of one part that a prefix operator stands for.
+/// The node of one part that a prefix operator becomes.
 pub(crate) fn prefix_for<'a>(operator: Prefix) -> Option<UnaryNode<'a>>
     ensures { result ≡ operators.prefix_for operator }
 {
@@ -22,7 +22,7 @@ pub(crate) fn prefix_for<'a>(operator: Prefix) -> Option<UnaryNode<'a>>
     }
 }
 
-/// The node of two parts that an infix operator stands for.
+/// The node of two parts that an infix operator becomes.
 pub(crate) fn infix_for(operator: Infix) -> Option<BinaryNode>
     ensures { result ≡ operators.infix_for operator }
 {

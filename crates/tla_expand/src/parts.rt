@@ -1,4 +1,4 @@
-//! Boxes and lists of parts, whatever they are: the only error is want of memory.
+//! Boxes and lists of parts of any type. The only error is that memory ran out.
 
 ghost use Rattle.std.specs.Prelude.{◌≡◌, ◌∷◌, [], IfOk, IfErr};
 
@@ -13,7 +13,7 @@ pub(crate) fn boxed<T: Drop>(alloc: Global, item: T) -> Result<Box<T>, Failure>
     Ok(Box::new(alloc, item)?)
 }
 
-/// A box, and what stands beside it.
+/// A value in a box, beside another value.
 pub(crate) fn box_beside<T: Drop, U: Drop>(
     alloc: Global,
     item: T,

@@ -1,4 +1,4 @@
-//! How many primes stand on an expression.
+//! How many primes are on an expression.
 
 ghost use Rattle.std.specs.Prelude.{◌≡◌};
 ghost use Rattle.tla_expand.specs.Primes as primes_of;

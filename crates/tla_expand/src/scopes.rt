@@ -53,7 +53,7 @@ fn still_refused(found: Result<Core, Failure>) -> Failure
 }
 
 /// The names that are known so far, each with its meaning. Those of the modules' own operators, as `Len`, always are.
-/// Round them stands the scope that was made before, if any.
+/// Around them is the scope that was made before, if any.
 #[derive(Drop)]
 pub struct Scopes<'a> {
     entries: Entries<'a, 'a>,
@@ -68,7 +68,7 @@ pub struct Scopes<'a> {
 impl<'a> Scopes<'a> {
     ghost use Rattle.tla_expand.specs.Names.{scope_of, outer_of};
 
-    /// The scope round a module, and no names before it.
+    /// The scope around a module, and no names before it.
     pub fn new(alloc: Global) -> Scopes<'a>
         ensures current { scope_of result ≡ standard }
         ensures outer { outer_of result ≡ standard }
@@ -80,7 +80,7 @@ impl<'a> Scopes<'a> {
         }
     }
 
-    /// The scope round a module once more; what was known so far is before it.
+    /// The scope around a module for the next pass. What was known so far is before it.
     pub fn anew(self) -> Scopes<'a>
         ensures current { scope_of result ≡ standard }
         ensures outer { outer_of result ≡ scope_of self.entry }
@@ -92,7 +92,7 @@ impl<'a> Scopes<'a> {
         }
     }
 
-    /// With an entry more. The only error is want of memory.
+    /// With one more entry. The only error is that memory ran out.
     fn with_entry(self, entry: Entry<'a>) -> Result<Scopes<'a>, Failure>
         requires { IsBelow (length (listed self.entries)) entry.what entry.rest }
         ensures ok { IfOk result (λ s. scope_of s ≡ entry_scope (scope_at (listed self.entry.entries)) entry.entry) }
@@ -109,7 +109,7 @@ impl<'a> Scopes<'a> {
         })
     }
 
-    /// With a variable and its number. The only error is want of memory.
+    /// With a variable and its number. The only error is that memory ran out.
     pub fn with_variable(self, name: &'a Word, number: usize) -> Result<Scopes<'a>, Failure>
         ensures ok { IfOk result (λ s. scope_of s ≡ with_name name.now (variable number) (scope_of self.entry)) }
         ensures outer { IfOk result (λ s. outer_of s ≡ outer_of self.entry) }
@@ -123,7 +123,7 @@ impl<'a> Scopes<'a> {
         })
     }
 
-    /// With a constant and its value. The only error is want of memory.
+    /// With a constant and its value. The only error is that memory ran out.
     pub fn with_value(self, name: &'a Word, value: &'a Value) -> Result<Scopes<'a>, Failure>
         ensures ok { IfOk result (λ s. scope_of s ≡ with_name name.now (value_name value.now) (scope_of self.entry)) }
         ensures outer { IfOk result (λ s. outer_of s ≡ outer_of self.entry) }
@@ -137,7 +137,7 @@ impl<'a> Scopes<'a> {
         })
     }
 
-    /// With a name that means what another one meant before. The only error is want of memory.
+    /// With a name that means what another one meant before. The only error is that memory ran out.
     pub fn with_replacement(self, name: &'a Word, operator: &Word) -> Result<Scopes<'a>, Failure>
         ensures ok { IfOk result (λ s. scope_of s ≡ with_name name.now (outer_of self.entry operator.now) (scope_of self.entry)) }
         ensures outer { IfOk result (λ s. outer_of s ≡ outer_of self.entry) }
@@ -158,7 +158,7 @@ impl<'a> Scopes<'a> {
         })
     }
 
-    /// With a definition without parameters. The only error is want of memory.
+    /// With a definition without parameters. The only error is that memory ran out.
     pub fn with_operator(self, name: &'a Word, body: &'a Expr) -> Result<Scopes<'a>, Failure>
         ensures ok { IfOk result (λ s. scope_of s ≡ with_name name.now (operator [] (expand (view body.now)) (scope_of self.entry)) (scope_of self.entry)) }
         ensures outer { IfOk result (λ s. outer_of s ≡ outer_of self.entry) }
@@ -172,7 +172,7 @@ impl<'a> Scopes<'a> {
         })
     }
 
-    /// With a definition. The only error is want of memory.
+    /// With a definition. The only error is that memory ran out.
     pub fn with_definition(self, definition: &'a Definition) -> Result<Scopes<'a>, Failure>
         ensures ok { IfOk result (λ s. scope_of s ≡ definition_in (definition_view definition.now) (scope_of self.entry)) }
         ensures outer { IfOk result (λ s. outer_of s ≡ outer_of self.entry) }
@@ -183,7 +183,7 @@ impl<'a> Scopes<'a> {
         self.with_entry(entry)
     }
 
-    /// The expansion of an expression, or what refuses it: what is met first, where operands are looked at as they stand.
+    /// The expansion of an expression, or the first refusal, if operands are also examined without more primes.
     fn find_expansion(
         &self,
         alloc: Global,
@@ -200,9 +200,9 @@ impl<'a> Scopes<'a> {
         expansion(alloc, &mut entries, tree, self.current, primes, sought)
     }
 
-    /// The expansion of an expression under these names, with at most 200,000 nodes, of which at most 300 on a path; or what
-    /// is met first that refuses it, in the order of the expansion: a variable with a prime too many, a limit, or want of
-    /// memory. `Primes::Once` takes each variable as the variable next.
+    /// The expansion of an expression under these names, with at most 200,000 nodes, and at most 300 on a path; or the
+    /// first refusal in the order of the expansion: one prime too many on a variable, a limit, or that memory ran out.
+    /// `Primes::Once` takes each variable as the variable's next value.
     pub fn expansion(&self, alloc: Global, tree: &'a Expr, primes: Primes) -> Result<Core, Failure>
         ensures found { IfOk result (λ c. with_primes primes (expand (view tree.now) (scope_of self.now) 0) ≡ Some (expr_of c)) }
         ensures limits { IfOk result (λ c. IsWithinLimits (expr_of c)) }
@@ -220,7 +220,7 @@ impl<'a> Scopes<'a> {
         }
     }
 
-    /// The expansion of a name, or what refuses it: what is met first, where operands are looked at as they stand.
+    /// The expansion of a name, or the first refusal, if operands are also examined without more primes.
     fn find_meaning(
         &self,
         alloc: Global,
@@ -237,7 +237,7 @@ impl<'a> Scopes<'a> {
         named_expansion(alloc, &mut entries, name, self.current, primes, sought)
     }
 
-    /// The expansion of a name without arguments, within the same limits; or what is met first that refuses it.
+    /// The expansion of a name without arguments, within the same limits; or the first refusal.
     pub fn meaning(&self, alloc: Global, name: &Written, primes: Primes) -> Result<Core, Failure>
         ensures found { IfOk result (λ c. with_primes primes (expand (Name name.now) (scope_of self.now) 0) ≡ Some (expr_of c)) }
         ensures limits { IfOk result (λ c. IsWithinLimits (expr_of c)) }
@@ -255,7 +255,7 @@ impl<'a> Scopes<'a> {
         }
     }
 
-    /// The expansion of a conjunction, or what refuses it: what is met first, where operands are looked at as they stand.
+    /// The expansion of a conjunction, or the first refusal, if operands are also examined without more primes.
     fn find_conjunction(
         &self,
         alloc: Global,
@@ -281,8 +281,7 @@ impl<'a> Scopes<'a> {
         )
     }
 
-    /// The expansion of the conjunction of these expressions, at a place, within the same limits; or what is met first that
-    /// refuses it.
+    /// The expansion of the conjunction of these expressions, at a place, within the same limits; or the first refusal.
     pub fn conjunction(
         &self,
         alloc: Global,
@@ -306,8 +305,8 @@ impl<'a> Scopes<'a> {
         }
     }
 
-    /// Whether an expression stands for a variable or a nested tuple of variables that covers the first so many. The tuple
-    /// isn't made, so no limit is set to it. The only error is want of memory.
+    /// Whether an expression is a variable or a nested tuple of variables that covers the first `variables`. The tuple
+    /// isn't made, so there is no limit to it. The only error is that memory ran out.
     pub fn covers(&self, alloc: Global, tree: &'a Expr, variables: usize) -> Result<bool, Failure>
         ensures yes { IfOk result (λ b. b ≡ true → (e : expr.Expr) × (expand (view tree.now) (scope_of self.now) 0 ≡ Some e) × (cover.covers variables e ≡ true)) }
         ensures no { IfOk result (λ b. b ≡ false → (e : expr.Expr) → expand (view tree.now) (scope_of self.now) 0 ≡ Some e → cover.covers variables e ≡ false) }

@@ -1,5 +1,5 @@
-//! Bodies of definitions, each brought to the part of it that it comes to. Thus a definition that gives back its
-//! argument costs its uses nothing, however often others that do so stand in its body.
+//! Bodies of definitions, each reduced to the part that has its meaning. So a use of a definition that returns its
+//! argument costs nothing, however many others its body uses.
 
 ghost use Rattle.std.specs.Prelude.{◌≡◌, ◌≤◌, ◌<◌, length, ℕ, List, Some, IfSome, IfNone};
 ghost use Rattle.tla_core.specs.declared.fault.Place.{Place};
@@ -32,7 +32,7 @@ pub(crate) fn last_of(parameters: &[Written], name: &[u8]) -> Option<usize>
     None
 }
 
-/// The argument that a use of a name comes to, where its definition gives it back without primes.
+/// The argument that a use of a name means, if its definition returns it without primes.
 fn chosen<'a>(
     entries: &Entries<'_, 'a>,
     scope: usize,
@@ -53,7 +53,7 @@ fn chosen<'a>(
     }
 }
 
-/// The part that a body comes to by one step, whatever its parameters stand for.
+/// The part that has the meaning of a body, by one step, whatever its parameters mean.
 fn part_of<'a>(
     entries: &Entries<'_, 'a>,
     scope: usize,
@@ -77,7 +77,7 @@ fn part_of<'a>(
     }
 }
 
-/// A part of a body that means the same for all arguments. It is sought for so many steps, more than a body is deep.
+/// A part of a body that has its meaning for all arguments. It is looked for in more steps than a body is deep.
 pub(crate) fn shortened<'a>(
     entries: &Entries<'_, 'a>,
     scope: usize,

@@ -1,4 +1,4 @@
-//! From an expression to the form that it stands for.
+//! From an expression to the form that it means.
 
 ghost use Rattle.std.specs.Prelude.{◌≡◌, ◌≤◌, length, ℕ, List, map, IfOk, OnOk, IfErr};
 ghost use Rattle.tla_tree.specs.View.{view, definition_view};
@@ -24,8 +24,8 @@ use crate::shortened::shortened;
 use tla_core::Place;
 use tla_tree::{Definition, Expr, Written};
 
-/// A form, with the scope of its parts and so many primes on it; and where the last of them stands that was met on the
-/// way to it.
+/// A form, with the scope of its parts and the primes on it; and the place of the last prime that was found on the way
+/// to it.
 #[derive(Clone, Copy)]
 pub(crate) struct Head<'a> {
     pub(crate) form: Form<'a>,
@@ -163,7 +163,7 @@ pub(crate) fn use_of<'a>(
     use_alone(place, entry.what, arguments, scope, primes)
 }
 
-/// The scope inside a LET. The only error is want of memory.
+/// The scope inside a LET. The only error is that memory ran out.
 fn define<'a>(
     entries: &mut Entries<'_, 'a>,
     definitions: &'a [Definition],
@@ -206,7 +206,7 @@ fn operator_of<'a>(
     }
 }
 
-/// The entry of a definition behind a scope.
+/// The entry of a definition, with the scope before it.
 pub(crate) fn entry_of<'a>(
     entries: &Entries<'_, 'a>,
     definition: &'a Definition,
@@ -235,7 +235,7 @@ pub(crate) fn entry_of<'a>(
     }
 }
 
-/// The next reduction, towards its form, of an expression that stands for another one.
+/// The next reduction, towards its form, of an expression that means another one.
 fn go<'a>(
     entries: &mut Entries<'_, 'a>,
     tree: &'a Expr,
@@ -307,7 +307,8 @@ fn larger(first: usize, second: usize) -> usize
     if first < second { second } else { first }
 }
 
-/// Gives back the entries behind a scope, and behind so many: what a call leaves behind that comes to one of its arguments.
+/// Removes the entries that a call added, if it leads to one of its arguments: all entries after both this scope and
+/// the first `kept`.
 fn give_back<'a>(entries: &mut Entries<'_, 'a>, kept: usize, scope: usize)
     requires linked { AreLinked (listed entries.old) }
     requires kept { kept ≤ length (listed entries.old) }
@@ -321,7 +322,7 @@ fn give_back<'a>(entries: &mut Entries<'_, 'a>, kept: usize, scope: usize)
     entries.truncate(end);
 }
 
-/// Where the last prime stands, with that of an argument that a use gives back.
+/// The place of the last prime, counting those on an argument that a use returns.
 fn last_given(
     entries: &Entries<'_, '_>,
     scope: usize,
@@ -340,7 +341,7 @@ fn last_given(
     }
 }
 
-/// Where the last prime stands, with those that are passed from an expression, behind which there are so many.
+/// The place of the last prime, counting those of an expression. `primes` are all primes so far.
 fn last_prime(
     entries: &Entries<'_, '_>,
     scope: usize,
@@ -382,7 +383,7 @@ pub(crate) fn find_head<'a>(
     head_behind(entries, start, scope, primes, mark)
 }
 
-/// The form of an expression, where there are so many entries.
+/// The form of an expression. There are `mark` entries.
 fn head_behind<'a>(
     entries: &mut Entries<'_, 'a>,
     start: &'a Expr,

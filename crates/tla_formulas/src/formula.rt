@@ -1,4 +1,4 @@
-//! The formulas that names of a configuration stand for.
+//! The formulas of names in a configuration.
 
 ghost use Rattle.std.specs.Prelude.{◌≡◌, ◌≢◌, Option, Some, None, IfOk, IfErr};
 ghost use Rattle.tla_config.specs.declared.error.DefsCode.TheVariants.{Memory};
@@ -24,7 +24,7 @@ use tla_expand::{Failure, Primes, Scopes};
 use tla_lex::Place;
 use tla_tree::{Expr, Written};
 
-/// A place of an expression, as a refusal tells it.
+/// A place of an expression, as a refusal has it.
 fn place_of(place: tla_core::Place) -> Place {
     Place {
         line: place.line,

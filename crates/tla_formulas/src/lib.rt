@@ -1,4 +1,5 @@
-//! The formulas of a model: what names of a configuration stand for, each of its level, or why it is refused.
+//! The formulas of a model: the definition of each name in a configuration, checked for its level, or why it is
+//! refused.
 #![tactic(auto)]
 
 mod formula;

@@ -1,10 +1,10 @@
-//! Where the formulas begin that names of a configuration stand for.
+//! Where the formulas of names in a configuration begin.
 
 use tla_items::Items;
 use tla_lex::Place;
 use tla_tree::{Definition, Unit, Written};
 
-/// The units of a module, and the items by which names stand for others.
+/// The units of a module, and the items that replace names.
 #[derive(Clone, Copy)]
 pub struct Places<'t, 'a> {
     units: &'a [Unit],
@@ -42,7 +42,7 @@ impl<'t, 'a> Places<'t, 'a> {
         Places { units, items }
     }
 
-    /// Where the formula that a name of the configuration stands for begins.
+    /// Where the formula of a name in the configuration begins.
     pub fn begins(&self, name: &Written) -> Place {
         let Some(meant) = self.items.stands_for(name.word.as_bytes()) else {
             return name.place;

@@ -18,7 +18,7 @@ use tla_config::{DefsCode, DefsError, Source};
 use tla_names::{Mention, Names, refusal_of};
 use tla_tree::{Unit, Word};
 
-/// The names that a name leads to at once, more. The only error is want of memory.
+/// Adds the names that a name leads to directly. The only error is that memory ran out.
 fn push_next<'a>(
     references: &References<'a>,
     names: &mut Waiting<'a>,
@@ -33,14 +33,14 @@ fn push_next<'a>(
     }
 }
 
-/// Names to go on from, and names from which was gone on.
+/// The names that were visited, and those that are still to be visited.
 #[derive(Drop)]
 struct Walk<'a> {
     passed: NameSet<'a>,
     waiting: Waiting<'a>,
 }
 
-/// Goes on from a name. The only error is want of memory.
+/// Visits a name. The only error is that memory ran out.
 fn go_on<'a>(
     references: &References<'a>,
     walk: &mut Walk<'a>,
@@ -55,7 +55,7 @@ fn go_on<'a>(
     push_next(references, &mut walk.waiting, name)
 }
 
-/// The names that a name leads to. The only error is want of memory.
+/// The names that a name leads to. The only error is that memory ran out.
 fn reached<'a>(
     alloc: Global,
     references: &References<'a>,
@@ -80,7 +80,7 @@ fn reached<'a>(
     Err(DefsError::no_memory(Source::Module))
 }
 
-/// Whether a name leads to itself. The only error is want of memory.
+/// Whether a name leads to itself. The only error is that memory ran out.
 fn is_circular<'a>(
     alloc: Global,
     references: &References<'a>,
@@ -118,8 +118,8 @@ fn leads_among<'a>(references: &References<'a>, name: &'a Word, names: &NameSet<
     }
 }
 
-/// Settles a name, or first goes on to those that it leads to. False where it was gone on from already and they aren't
-/// settled: it leads to itself. The only error is want of memory.
+/// Settles a name, or first visits those that it leads to. False if it was visited before and isn't settled: it leads
+/// to itself. The only error is that memory ran out.
 fn settle_next<'a>(
     references: &References<'a>,
     settled: &mut NameSet<'a>,
@@ -145,7 +145,8 @@ fn settle_next<'a>(
     Ok(true)
 }
 
-/// Settles a name and those that it leads to, each once, unless one of them leads to itself. The only error is want of memory.
+/// Settles a name and those that it leads to, each once, unless one of them leads to itself. (A settled name doesn't
+/// lead to itself.) The only error is that memory ran out.
 fn settle<'a>(
     alloc: Global,
     references: &References<'a>,
@@ -172,7 +173,7 @@ fn settle<'a>(
     Ok(())
 }
 
-/// Whether a name leads to itself, where the settled ones don't. The only error is want of memory.
+/// Whether a name leads to itself. The settled ones don't. The only error is that memory ran out.
 fn leads_back<'a>(
     alloc: Global,
     references: &References<'a>,

@@ -50,7 +50,7 @@ impl<'a> Model for Items<'a> {
 }
 
 impl<'a> Items<'a> {
-    /// One item more. The only error is want of memory.
+    /// Adds one item. The only error is that memory ran out.
     fn push(&mut self, item: &'a Item) -> Result<(), DefsError>
         ensures ok { OnOk result (self.new ≡ self.old ++ item_view item.entry.now ∷ []) }
         ensures err { IfErr result (λ e. e.code ≡ Memory) }
@@ -69,7 +69,7 @@ impl<'a> Items<'a> {
         }
     }
 
-    /// The items of a statement more. The only error is want of memory.
+    /// Adds the items of a statement. The only error is that memory ran out.
     fn push_all(&mut self, items: &'a [Item]) -> Result<(), DefsError>
         ensures ok { OnOk result (self.new ≡ self.old ++ map item_view items.entry.now) }
         ensures err { IfErr result (λ e. e.code ≡ Memory) }
@@ -82,7 +82,7 @@ impl<'a> Items<'a> {
         Ok(())
     }
 
-    /// The items of one statement more. The only error is want of memory.
+    /// Adds the items of one statement. The only error is that memory ran out.
     fn push_of(&mut self, statement: &'a Statement) -> Result<(), DefsError>
         ensures ok { OnOk result (self.new ≡ self.old ++ config.constant_items (statement_view statement.entry.now)) }
         ensures err { IfErr result (λ e. e.code ≡ Memory) }
@@ -98,7 +98,7 @@ impl<'a> Items<'a> {
         }
     }
 
-    /// The items of a configuration. The only error is want of memory.
+    /// The items of a configuration. The only error is that memory ran out.
     pub fn of(alloc: Global, statements: &'a [Statement]) -> Result<Items<'a>, DefsError>
         ensures ok { IfOk result (λ is. is ≡ config.items_of (map statement_view statements.entry.now)) }
         ensures err { IfErr result (λ e. e.code ≡ Memory) }
@@ -149,7 +149,7 @@ impl<'a> Items<'a> {
         Some(word)
     }
 
-    /// The names that have an item. The only error is want of memory.
+    /// The names that have an item. The only error is that memory ran out.
     pub fn names(&self, alloc: Global) -> Result<Names<'a>, DefsError>
         ensures ok { IfOk result (λ xs. xs ≡ spec.replaced_names self.now) }
         ensures err { IfErr result (λ e. e.code ≡ Memory) }
@@ -195,7 +195,7 @@ fn push_definition<'a>(scope: &mut Scope<'a>, definition: &'a Definition) -> Res
     }
 }
 
-/// What a unit defines more.
+/// Adds the names that a unit defines.
 pub(crate) fn push_defined<'a>(scope: &mut Scope<'a>, unit: &'a Unit) -> Result<(), DefsError>
     ensures ok { OnOk result (scope.new ≡ scope.old ++ spec.defined (unit_view unit.entry.now)) }
     ensures err { IfErr result (λ e. e.code ≡ Memory) }
@@ -216,7 +216,7 @@ pub(crate) fn push_defined<'a>(scope: &mut Scope<'a>, unit: &'a Unit) -> Result<
     }
 }
 
-/// The definitions of a module. The only error is want of memory.
+/// The definitions of a module. The only error is that memory ran out.
 pub fn definitions_of<'a>(alloc: Global, units: &'a [Unit]) -> Result<Scope<'a>, DefsError>
     ensures ok { IfOk result (λ s. s ≡ spec.definitions_of (map unit_view units.entry.now)) }
     ensures err { IfErr result (λ e. e.code ≡ Memory) }
@@ -230,7 +230,7 @@ pub fn definitions_of<'a>(alloc: Global, units: &'a [Unit]) -> Result<Scope<'a>,
     Ok(scope)
 }
 
-/// What a unit brings in, more.
+/// Adds the names that a unit declares or defines.
 pub(crate) fn push_brought<'a>(scope: &mut Scope<'a>, unit: &'a Unit) -> Result<(), DefsError>
     ensures ok { OnOk result (scope.new ≡ scope.old ++ references.brings (unit_view unit.entry.now)) }
     ensures err { IfErr result (λ e. e.code ≡ Memory) }
@@ -243,7 +243,7 @@ pub(crate) fn push_brought<'a>(scope: &mut Scope<'a>, unit: &'a Unit) -> Result<
     }
 }
 
-/// What may have an item in a unit, more.
+/// Adds the names of a unit that may have an item.
 fn push_replaceable<'a>(scope: &mut Scope<'a>, unit: &'a Unit) -> Result<(), DefsError>
     ensures ok { OnOk result (scope.new ≡ scope.old ++ spec.replaceable (unit_view unit.entry.now)) }
     ensures err { IfErr result (λ e. e.code ≡ Memory) }
@@ -254,7 +254,7 @@ fn push_replaceable<'a>(scope: &mut Scope<'a>, unit: &'a Unit) -> Result<(), Def
     }
 }
 
-/// What may stand for another name in a unit, more.
+/// Adds the names of a unit that may replace another name.
 fn push_nameable<'a>(scope: &mut Scope<'a>, unit: &'a Unit) -> Result<(), DefsError>
     ensures ok { OnOk result (scope.new ≡ scope.old ++ spec.nameable (unit_view unit.entry.now)) }
     ensures err { IfErr result (λ e. e.code ≡ Memory) }
@@ -265,7 +265,8 @@ fn push_nameable<'a>(scope: &mut Scope<'a>, unit: &'a Unit) -> Result<(), DefsEr
     }
 }
 
-/// What may stand for another name: constants, definitions and operators of modules. The only error is want of memory.
+/// The names that may replace another one: constants, definitions and operators of modules. The only error is that
+/// memory ran out.
 fn nameable_of<'a>(alloc: Global, units: &'a [Unit]) -> Result<Scope<'a>, DefsError>
     ensures ok { IfOk result (λ s. s ≡ spec.nameable_of (map unit_view units.entry.now)) }
     ensures err { IfErr result (λ e. e.code ≡ Memory) }
@@ -279,7 +280,7 @@ fn nameable_of<'a>(alloc: Global, units: &'a [Unit]) -> Result<Scope<'a>, DefsEr
     Ok(scope)
 }
 
-/// What may have an item: constants and definitions. The only error is want of memory.
+/// The names that may have an item: constants and definitions. The only error is that memory ran out.
 fn replaceable_of<'a>(alloc: Global, units: &'a [Unit]) -> Result<Scope<'a>, DefsError>
     ensures ok { IfOk result (λ s. s ≡ spec.replaceable_of (map unit_view units.entry.now)) }
     ensures err { IfErr result (λ e. e.code ≡ Memory) }
@@ -300,7 +301,7 @@ fn refused(alloc: Global, code: DefsCode, name: &Written) -> DefsError
     refusal_of(alloc, code, Source::Configuration, Mention::of(name))
 }
 
-/// The name of an item with a value, behind items for other names.
+/// Checks the name of an item with a value. The items before it are for these names.
 fn value_named(
     alloc: Global,
     values: &Scope<'_>,
@@ -321,7 +322,7 @@ fn value_named(
     Ok(())
 }
 
-/// The names of an item with an operator, behind items for other names.
+/// Checks the names of an item with an operator. The items before it are for these names.
 fn replacement_named(
     alloc: Global,
     operators: &Scope<'_>,
@@ -346,7 +347,7 @@ fn replacement_named(
     Ok(())
 }
 
-/// The names of an item, behind items for other names.
+/// Checks the names of an item. The items before it are for these names.
 fn item_named(
     alloc: Global,
     values: &Scope<'_>,

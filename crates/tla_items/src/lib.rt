@@ -1,7 +1,7 @@
-//! The items of CONSTANT: what they name, what they stand for, and where they lead.
+//! The items of CONSTANT: which names they are for, what these mean, and where they lead.
 //!
-//! An item is for a name that may have one, and none leads back to its name (Specifying Systems, chapter 14). Each question
-//! here answers the first item, in the order of the text, that is refused, with its code and place.
+//! An item is for a name that may have one, and none leads back to its name (Specifying Systems, chapter 14). Each
+//! check returns the first item, in the order of the text, that is refused, with its code and place.
 #![tactic(auto)]
 
 mod cycle;

@@ -34,7 +34,7 @@ impl<'a> NameSet<'a> {
         }
     }
 
-    /// With a name; whether it is new. The only error is want of memory.
+    /// Adds a name, and returns whether it is new. The only error is that memory ran out.
     pub(crate) fn insert(&mut self, name: &'a [u8]) -> Result<bool, DefsError>
         ensures new { IfOk result (λ b. b ≡ true → self.new ≡ self.old ++ name.entry.now ∷ []) }
         ensures same { IfOk result (λ b. b ≡ false → self.new ≡ self.old) }

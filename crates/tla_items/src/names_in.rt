@@ -10,7 +10,7 @@ use tla_config::DefsError;
 use tla_names::Names;
 use tla_tree::{Arm, Binder, Definition, Expr, Field, Key, Update};
 
-/// The names of an expression more. The only error is want of memory.
+/// Adds the names of an expression. The only error is that memory ran out.
 #[cycle(names_in)]
 pub(crate) fn expression<'a>(names: &mut Names<'a>, tree: &'a Expr) -> Result<(), DefsError>
     ensures ok { OnOk result (names.new ≡ names.old ++ references.names_in (view tree.entry.now)) }
@@ -62,7 +62,7 @@ pub(crate) fn expression<'a>(names: &mut Names<'a>, tree: &'a Expr) -> Result<()
     }
 }
 
-/// The names of an expression and of others more.
+/// Adds the names of an expression and of others.
 #[cycle(names_in)]
 fn first_and<'a>(
     names: &mut Names<'a>,
@@ -76,7 +76,7 @@ fn first_and<'a>(
     each(names, others)
 }
 
-/// The names of a binder list's sets and of a body more.
+/// Adds the names of a binder list's sets and of a body.
 #[cycle(names_in)]
 fn bound<'a>(names: &mut Names<'a>, groups: &'a [Binder], body: &'a Expr) -> Result<(), DefsError>
     ensures ok { OnOk result (names.new ≡ names.old ++ (references.names_sets (binders (map group_view groups.entry.now)) ++ references.names_in (view body.entry.now))) }
@@ -86,7 +86,7 @@ fn bound<'a>(names: &mut Names<'a>, groups: &'a [Binder], body: &'a Expr) -> Res
     expression(names, body)
 }
 
-/// The names of definitions and of a body more.
+/// Adds the names of definitions and of a body.
 #[cycle(names_in)]
 fn within<'a>(
     names: &mut Names<'a>,
@@ -100,7 +100,7 @@ fn within<'a>(
     expression(names, body)
 }
 
-/// The names of a function and of its updates more.
+/// Adds the names of a function and of its updates.
 #[cycle(names_in)]
 fn except<'a>(
     names: &mut Names<'a>,
@@ -114,7 +114,7 @@ fn except<'a>(
     each_update(names, items)
 }
 
-/// The names of expressions more.
+/// Adds the names of expressions.
 #[cycle(names_in)]
 fn each<'a>(names: &mut Names<'a>, items: &'a [Expr]) -> Result<(), DefsError>
     ensures ok { OnOk result (names.new ≡ names.old ++ references.names_each (trees (map view items.entry.now))) }
@@ -128,7 +128,7 @@ fn each<'a>(names: &mut Names<'a>, items: &'a [Expr]) -> Result<(), DefsError>
     Ok(())
 }
 
-/// The names of the sets of a binder list more.
+/// Adds the names of the sets of a binder list.
 #[cycle(names_in)]
 fn each_set<'a>(names: &mut Names<'a>, items: &'a [Binder]) -> Result<(), DefsError>
     ensures ok { OnOk result (names.new ≡ names.old ++ references.names_sets (binders (map group_view items.entry.now))) }
@@ -142,7 +142,7 @@ fn each_set<'a>(names: &mut Names<'a>, items: &'a [Binder]) -> Result<(), DefsEr
     Ok(())
 }
 
-/// The names of arms more.
+/// Adds the names of arms.
 #[cycle(names_in)]
 fn each_arm<'a>(names: &mut Names<'a>, items: &'a [Arm]) -> Result<(), DefsError>
     ensures ok { OnOk result (names.new ≡ names.old ++ references.names_arms (arms (map choice_view items.entry.now))) }
@@ -157,7 +157,7 @@ fn each_arm<'a>(names: &mut Names<'a>, items: &'a [Arm]) -> Result<(), DefsError
     Ok(())
 }
 
-/// The names of fields' values more.
+/// Adds the names of fields' values.
 #[cycle(names_in)]
 fn each_field<'a>(names: &mut Names<'a>, items: &'a [Field]) -> Result<(), DefsError>
     ensures ok { OnOk result (names.new ≡ names.old ++ references.names_fields (fields (map field_view items.entry.now))) }
@@ -171,7 +171,7 @@ fn each_field<'a>(names: &mut Names<'a>, items: &'a [Field]) -> Result<(), DefsE
     Ok(())
 }
 
-/// The names of updates more.
+/// Adds the names of updates.
 #[cycle(names_in)]
 fn each_update<'a>(names: &mut Names<'a>, items: &'a [Update]) -> Result<(), DefsError>
     ensures ok { OnOk result (names.new ≡ names.old ++ references.names_updates (updates (map update_view items.entry.now))) }
@@ -186,7 +186,7 @@ fn each_update<'a>(names: &mut Names<'a>, items: &'a [Update]) -> Result<(), Def
     Ok(())
 }
 
-/// The names of a step of a path more.
+/// Adds the names of a step of a path.
 #[cycle(names_in)]
 fn one_key<'a>(names: &mut Names<'a>, key: &'a Key) -> Result<(), DefsError>
     ensures ok { OnOk result (names.new ≡ names.old ++ references.names_key (key_view key.entry.now)) }
@@ -198,7 +198,7 @@ fn one_key<'a>(names: &mut Names<'a>, key: &'a Key) -> Result<(), DefsError>
     }
 }
 
-/// The names of a path more.
+/// Adds the names of a path.
 #[cycle(names_in)]
 fn path<'a>(names: &mut Names<'a>, items: &'a [Key]) -> Result<(), DefsError>
     ensures ok { OnOk result (names.new ≡ names.old ++ references.names_keys (keys (map key_view items.entry.now))) }
@@ -212,7 +212,7 @@ fn path<'a>(names: &mut Names<'a>, items: &'a [Key]) -> Result<(), DefsError>
     Ok(())
 }
 
-/// The names of a definition's body more.
+/// Adds the names of a definition's body.
 #[cycle(names_in)]
 pub(crate) fn definition<'a>(
     names: &mut Names<'a>,
@@ -227,7 +227,7 @@ pub(crate) fn definition<'a>(
     }
 }
 
-/// The names of definitions' bodies more.
+/// Adds the names of definitions' bodies.
 #[cycle(names_in)]
 fn each_definition<'a>(names: &mut Names<'a>, items: &'a [Definition]) -> Result<(), DefsError>
     ensures ok { OnOk result (names.new ≡ names.old ++ references.names_definitions (definitions (map definition_view items.entry.now))) }

@@ -26,7 +26,7 @@ fn meets(names: &Names<'_>, others: &Names<'_>) -> bool
     others.contains(b"@".as_slice())
 }
 
-/// With the name of a definition, where one of the names in it is one of these. The only error is want of memory.
+/// Adds the name of a definition, if one of the names in it is one of these. The only error is that memory ran out.
 fn touch<'a>(touched: &mut Names<'a>, name: &'a Word, names: &Names<'_>) -> Result<(), DefsError>
     ensures ok { OnOk result (touched.new ≡ spec.with_touched touched.old name.entry.now names.now) }
     ensures err { IfErr result (λ e. e.code ≡ Memory) }
@@ -37,7 +37,8 @@ fn touch<'a>(touched: &mut Names<'a>, name: &'a Word, names: &Names<'_>) -> Resu
     Ok(())
 }
 
-/// With what a unit defines, where one of the names in it is one of these. The only error is want of memory.
+/// Adds the names that a unit defines, if one of the names in it is one of these. The only error is that memory ran
+/// out.
 fn touch_unit<'a>(alloc: Global, touched: &mut Names<'a>, unit: &'a Unit) -> Result<(), DefsError>
     ensures ok { OnOk result (touched.new ≡ spec.unit_touched touched.old (unit_view unit.entry.now)) }
     ensures err { IfErr result (λ e. e.code ≡ Memory) }
@@ -61,7 +62,7 @@ fn touch_unit<'a>(alloc: Global, touched: &mut Names<'a>, unit: &'a Unit) -> Res
     }
 }
 
-/// These names, and the definitions that lead to them. The only error is want of memory.
+/// These names, and the definitions that lead to them. The only error is that memory ran out.
 fn touched<'a>(alloc: Global, from: Names<'a>, units: &'a [Unit]) -> Result<Names<'a>, DefsError>
     ensures ok { IfOk result (λ xs. xs ≡ spec.touched from.entry (map unit_view units.entry.now)) }
     ensures err { IfErr result (λ e. e.code ≡ Memory) }
@@ -75,7 +76,7 @@ fn touched<'a>(alloc: Global, from: Names<'a>, units: &'a [Unit]) -> Result<Name
     Ok(names)
 }
 
-/// The names with an item `c <- Op`. The only error is want of memory.
+/// The names with an item `c <- Op`. The only error is that memory ran out.
 pub fn with_operators<'a>(alloc: Global, items: &Items<'a>) -> Result<Names<'a>, DefsError>
     ensures ok { IfOk result (λ xs. xs ≡ spec.with_operators items.now) }
     ensures err { IfErr result (λ e. e.code ≡ Memory) }
@@ -91,7 +92,7 @@ pub fn with_operators<'a>(alloc: Global, items: &Items<'a>) -> Result<Names<'a>,
     Ok(names)
 }
 
-/// The names with an item `c <- Op` where Op is one of these. The only error is want of memory.
+/// The names with an item `c <- Op`, if Op is one of these. The only error is that memory ran out.
 fn with_operators_of<'a>(
     alloc: Global,
     operators: &Names<'_>,
@@ -113,8 +114,8 @@ fn with_operators_of<'a>(
     Ok(names)
 }
 
-/// The names that are still open behind a pass in which these were: those whose operator leads to one of these. The only
-/// error is want of memory.
+/// The names that are still open after a pass in which these were: those whose operator leads to one of these. The only
+/// error is that memory ran out.
 pub fn still_open<'a>(
     alloc: Global,
     before: Names<'a>,

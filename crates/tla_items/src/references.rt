@@ -41,7 +41,7 @@ impl<'a> References<'a> {
         }
     }
 
-    /// With a name and those that it leads to, unless that is known already. The only error is want of memory.
+    /// Adds a name and those that it leads to, unless they are known already. The only error is that memory ran out.
     fn add(&mut self, name: &'a [u8], next: Names<'a>) -> Result<(), DefsError>
         ensures ok { OnOk result ((rest : List spec.Reference) (x : List ℕ) → spec.next_names (self.new ++ rest) x ≡ spec.next_names (self.old ++ (name.entry.now, next.entry) ∷ rest) x) }
         ensures err { IfErr result (λ e. e.code ≡ Memory) }
@@ -61,7 +61,7 @@ impl<'a> References<'a> {
         self.next.get(&name)
     }
 
-    /// With an item. The only error is want of memory.
+    /// Adds an item. The only error is that memory ran out.
     fn add_item(&mut self, alloc: Global, item: &'a Item) -> Result<(), DefsError>
         ensures ok { OnOk result ((rest : List spec.Reference) (x : List ℕ) → spec.next_names (self.new ++ rest) x ≡ spec.next_names (self.old ++ spec.item_reference (item_view item.entry.now) ∷ rest) x) }
         ensures err { IfErr result (λ e. e.code ≡ Memory) }
@@ -76,7 +76,7 @@ impl<'a> References<'a> {
         }
     }
 
-    /// With the definition of a unit, where these names are known before it. The only error is want of memory.
+    /// Adds the definition of a unit, before which these names are known. The only error is that memory ran out.
     fn add_unit(
         &mut self,
         alloc: Global,
@@ -104,7 +104,7 @@ impl<'a> References<'a> {
         }
     }
 
-    /// With items. The only error is want of memory.
+    /// Adds items. The only error is that memory ran out.
     fn add_items(&mut self, alloc: Global, items: &Items<'a>) -> Result<(), DefsError>
         ensures ok { OnOk result ((rest : List spec.Reference) (x : List ℕ) → spec.next_names (self.new ++ rest) x ≡ spec.next_names (self.old ++ (map spec.item_reference items.now ++ rest)) x) }
         ensures err { IfErr result (λ e. e.code ≡ Memory) }
@@ -117,7 +117,7 @@ impl<'a> References<'a> {
         Ok(())
     }
 
-    /// With the definitions of a module. The only error is want of memory.
+    /// Adds the definitions of a module. The only error is that memory ran out.
     fn add_units(&mut self, alloc: Global, units: &'a [Unit]) -> Result<(), DefsError>
         ensures ok { OnOk result ((x : List ℕ) → spec.next_names self.new x ≡ spec.next_names (self.old ++ spec.units_references [] (map unit_view units.entry.now)) x) }
         ensures err { IfErr result (λ e. e.code ≡ Memory) }
@@ -132,7 +132,7 @@ impl<'a> References<'a> {
         Ok(())
     }
 
-    /// Which name leads to which in a module, where the configuration has these items. The only error is want of memory.
+    /// Which name leads to which in a module with these items. The only error is that memory ran out.
     pub(crate) fn of(
         alloc: Global,
         units: &'a [Unit],

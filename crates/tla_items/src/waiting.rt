@@ -34,7 +34,7 @@ impl<'a> Waiting<'a> {
         }
     }
 
-    /// One name more. The only error is want of memory.
+    /// Adds one name. The only error is that memory ran out.
     pub(crate) fn push(&mut self, word: &'a Word) -> Result<(), DefsError>
         ensures ok { OnOk result (self.new ≡ self.old ++ word.entry.now ∷ []) }
         ensures err { IfErr result (λ e. e.code ≡ Memory) }
@@ -43,7 +43,7 @@ impl<'a> Waiting<'a> {
         Ok(())
     }
 
-    /// Names more. The only error is want of memory.
+    /// Adds names. The only error is that memory ran out.
     pub(crate) fn push_names(&mut self, names: &Names<'a>) -> Result<(), DefsError>
         ensures ok { OnOk result (self.new ≡ self.old ++ names.now) }
         ensures err { IfErr result (λ e. e.code ≡ Memory) }

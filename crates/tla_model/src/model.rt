@@ -8,8 +8,7 @@ use crate::state_predicate::StatePredicate;
 use tla_core::Core;
 use tla_value::Text;
 
-/// A model of which every expression can be evaluated: its names and variables exist, and at most 300 nodes stand on
-/// a path.
+/// A model of which every expression can be evaluated: its names and variables exist, and a path has at most 300 nodes.
 #[derive(Drop)]
 pub struct Model {
     variables: Vec<Text>,

@@ -14,7 +14,7 @@ use std::alloc::Global;
 use tla_config::{DefsError, Source};
 use tla_tree::{Declaration, Unit};
 
-/// Constants more, none of which is in scope.
+/// Adds constants, none of which may be in scope.
 pub(crate) fn declare<'a>(
     alloc: Global,
     scope: &mut Scope<'a>,

@@ -42,7 +42,7 @@ impl<'a> Names<'a> {
         }
     }
 
-    /// One name more. The only error is want of memory.
+    /// Adds a name. The only error is that memory ran out.
     pub fn push(&mut self, word: &'a Word) -> Result<(), DefsError>
         ensures ok { OnOk result (self.new ≡ self.old ++ word.entry.now ∷ []) }
         ensures err { IfErr result (λ e. e.code ≡ Memory) }
@@ -57,7 +57,7 @@ impl<'a> Names<'a> {
         }
     }
 
-    /// The texts of the names, in order. The only error is want of memory.
+    /// The texts of the names, in order. The only error is that memory ran out.
     pub fn texts(&self, alloc: Global) -> Result<Vec<Text>, DefsError>
         ensures ok { IfOk result (λ ts. ts.items ≡ self.now) }
         ensures err { IfErr result (λ e. e.code ≡ Memory) }

@@ -10,7 +10,7 @@ use std::alloc::Global;
 use tla_config::{DefsCode, DefsError, Source};
 use tla_value::Text;
 
-/// The text of a name. Names are ASCII, so that the only error is want of memory.
+/// The text of a name. Names are ASCII, so the only error is that memory ran out.
 pub fn text_of(alloc: Global, name: &[u8]) -> Result<Text, DefsError>
     ensures ok { IfOk result (λ t. t ≡ name.now) }
     ensures err { IfErr result (λ e. e.code ≡ Memory) }
@@ -24,7 +24,7 @@ pub fn text_of(alloc: Global, name: &[u8]) -> Result<Text, DefsError>
     }
 }
 
-/// A refusal of a name, or want of memory.
+/// A refusal of a name, or the error that memory ran out.
 pub fn refusal_of(alloc: Global, code: DefsCode, source: Source, mention: Mention<'_>) -> DefsError
     ensures { result.code ≢ Memory → result ≡ refusal_of code source (written_of mention.entry) }
 {

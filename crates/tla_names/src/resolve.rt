@@ -69,7 +69,7 @@ fn prefix_word(operator: Prefix) -> &'static [u8]
     }
 }
 
-/// The use of a name with so many arguments.
+/// Checks the use of a name with `count` arguments.
 fn used(alloc: Global, scope: &Scope<'_>, name: &Written, count: usize) -> Result<(), DefsError>
     ensures { Says Source.Module result (known.used scope.now name.now count) }
 {
@@ -110,7 +110,7 @@ pub(crate) fn new_name(alloc: Global, scope: &Scope<'_>, name: &Written) -> Resu
     Ok(())
 }
 
-/// New names more, none of which is in scope.
+/// Adds new names, none of which may be in scope.
 fn bring<'a>(
     alloc: Global,
     scope: &Scope<'_>,
@@ -149,7 +149,7 @@ pub(crate) fn new_names(
     bring(alloc, scope, &mut new, names)
 }
 
-/// A name behind others.
+/// Checks that a name is none of those before it.
 fn once(alloc: Global, before: &Names<'_>, name: &Written) -> Result<(), DefsError>
     ensures { Says Source.Module result (known.again before.now name.now) }
 {
@@ -268,7 +268,7 @@ fn index<'a>(
     each(alloc, modules, scope, arguments)
 }
 
-/// A body behind one entry, whose set sees none of its names.
+/// Checks a body after one entry of a binder list, whose set sees none of its names.
 #[cycle(known)]
 #[tactic(auto, using(crate::proofs::Stacks::cut_back))]
 fn chosen<'a>(
@@ -312,7 +312,7 @@ fn element<'a>(
     Ok(())
 }
 
-/// A binder list behind its element.
+/// Checks a binder list that follows its element, as in `{e : x \in S}`.
 #[cycle(known)]
 #[tactic(auto, using(crate::proofs::Stacks::cut_back))]
 fn bound_before<'a>(
@@ -346,7 +346,7 @@ fn image<'a>(
     bound_before(alloc, modules, scope, groups)
 }
 
-/// Fields of which each name stands once.
+/// Checks fields, each name of which may occur once.
 #[cycle(known)]
 fn each_field<'a>(
     alloc: Global,
@@ -454,7 +454,7 @@ fn path<'a>(
     Ok(())
 }
 
-/// A body behind a binder list.
+/// Checks a body after a binder list.
 #[cycle(known)]
 #[tactic(auto, using(crate::proofs::Stacks::cut_back))]
 fn bound<'a>(
@@ -474,7 +474,7 @@ fn bound<'a>(
     Ok(())
 }
 
-/// A body behind definitions.
+/// Checks a body after definitions.
 #[cycle(known)]
 #[tactic(auto, using(crate::proofs::Stacks::cut_back))]
 fn within<'a>(
@@ -549,7 +549,7 @@ fn each_arm<'a>(
     Ok(())
 }
 
-/// The names of a binder list more. Its sets see none of them.
+/// Adds the names of a binder list. Its sets see none of them.
 #[cycle(known)]
 fn bind<'a>(
     alloc: Global,
@@ -615,7 +615,7 @@ pub(crate) fn definition<'a>(
     }
 }
 
-/// Definitions more, each of which sees those before it.
+/// Adds definitions, each of which sees those before it.
 #[cycle(known)]
 fn define<'a>(
     alloc: Global,

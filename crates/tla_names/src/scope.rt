@@ -55,7 +55,7 @@ impl<'a> Scope<'a> {
         }
     }
 
-    /// One name more. The only error is want of memory.
+    /// Adds a name. The only error is that memory ran out.
     pub fn push(&mut self, name: &'a [u8], arity: usize) -> Result<(), DefsError>
         ensures ok { OnOk result (self.new ≡ self.old ++ (name.entry.now, arity) ∷ []) }
         ensures err { IfErr result (λ e. e.code ≡ Memory) }
@@ -76,7 +76,7 @@ impl<'a> Scope<'a> {
         }
     }
 
-    /// Two names more. The only error is want of memory.
+    /// Adds two names. The only error is that memory ran out.
     fn push_two(
         &mut self,
         first: (&'a [u8], usize),
@@ -89,7 +89,7 @@ impl<'a> Scope<'a> {
         self.push(second.0, second.1)
     }
 
-    /// Names more, without parameters. The only error is want of memory.
+    /// Adds names, without parameters. The only error is that memory ran out.
     pub fn push_all(&mut self, names: &'a [Written]) -> Result<(), DefsError>
         ensures ok { OnOk result (self.new ≡ self.old ++ plain (words names.entry.now)) }
         ensures err { IfErr result (λ e. e.code ≡ Memory) }
@@ -102,7 +102,7 @@ impl<'a> Scope<'a> {
         Ok(())
     }
 
-    /// The names of a binder list more. The only error is want of memory.
+    /// Adds the names of a binder list. The only error is that memory ran out.
     pub fn push_bound(&mut self, groups: &'a [Binder]) -> Result<(), DefsError>
         ensures ok { OnOk result (self.new ≡ self.old ++ plain (bound_names (binders (map group_view groups.entry.now)))) }
         ensures err { IfErr result (λ e. e.code ≡ Memory) }
@@ -115,7 +115,7 @@ impl<'a> Scope<'a> {
         Ok(())
     }
 
-    /// Names more, without parameters. The only error is want of memory.
+    /// Adds names, without parameters. The only error is that memory ran out.
     pub fn push_names(&mut self, names: &Names<'a>) -> Result<(), DefsError>
         ensures ok { OnOk result (self.new ≡ self.old ++ plain names.now) }
         ensures err { IfErr result (λ e. e.code ≡ Memory) }
@@ -128,7 +128,7 @@ impl<'a> Scope<'a> {
         Ok(())
     }
 
-    /// Constants more. The only error is want of memory.
+    /// Adds constants. The only error is that memory ran out.
     pub fn push_declared(&mut self, declarations: &'a [Declaration]) -> Result<(), DefsError>
         ensures ok { OnOk result (self.new ≡ self.old ++ constants (map declared declarations.entry.now)) }
         ensures err { IfErr result (λ e. e.code ≡ Memory) }
@@ -183,7 +183,7 @@ impl<'a> Scope<'a> {
         }
     }
 
-    /// The names of a module more. The only error is want of memory.
+    /// Adds the names of a module. The only error is that memory ran out.
     fn extend(&mut self, name: &[u8]) -> Result<(), DefsError>
         ensures ok { OnOk result (self.new ≡ self.old ++ module_names name.now) }
         ensures err { IfErr result (λ e. e.code ≡ Memory) }
@@ -208,7 +208,7 @@ impl<'a> Scope<'a> {
         }
     }
 
-    /// The names of modules more. The only error is want of memory.
+    /// Adds the names of modules. The only error is that memory ran out.
     pub fn extend_all(&mut self, modules: &[Written]) -> Result<(), DefsError>
         ensures ok { OnOk result (self.new ≡ self.old ++ extended (words modules.now)) }
         ensures err { IfErr result (λ e. e.code ≡ Memory) }

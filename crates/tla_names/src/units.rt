@@ -24,7 +24,7 @@ struct Brought<'a> {
     variables: Names<'a>,
 }
 
-/// Names more.
+/// Adds names.
 fn push_all<'a>(names: &mut Names<'a>, written: &'a [Written]) -> Result<(), DefsError>
     ensures ok { OnOk result (names.new ≡ names.old ++ words written.now) }
     ensures err { IfErr result (λ e. e.code ≡ Memory) }

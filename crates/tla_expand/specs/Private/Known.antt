@@ -1,4 +1,4 @@
--- What is known of the names round a part of a body. Private contracts alone cite this.
+-- What is known of the names around a part of a body. Private contracts alone cite this.
 use Rattle.std.specs.Prelude.{◌≡◌, ◌<◌, ◌+◌, ℕ, eqb, List, [], map, length, Option, Some, None, if◌then◌else◌}
 use Rattle.tla_tree.specs.declared.tree.Definition as defining
 use Rattle.tla_tree.specs.declared.tree.Expr as syntax
@@ -26,7 +26,7 @@ depth Outside = 0
 depth (Parameters' ws _ rest) = depth rest + 1
 depth (Named' x w _ rest) = depth rest + 1
 
--- what the parameters of each layer stand for, by how many names and layers are round it
+-- what the parameters of each layer stand for, by how many names and layers are around it
 abbrev pub Layers : Type 0
 Layers = ℕ → List Argument
 
@@ -46,7 +46,7 @@ Means f (Gives n g) m = m ≡ given n g
 Means f (Reaches n r) m = m ≡ with_count n (λ args. reached_in r f)
 Means f Other m = Unit {0}
 
--- it speaks of layers that are round a name alone
+-- it speaks of layers that are around a name alone
 abbrev pub IsRound : ℕ → Summary → Type 0
 IsRound k (Reaches n r) = r.layer < k
 IsRound k _ = Unit {0}

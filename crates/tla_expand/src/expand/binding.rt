@@ -135,7 +135,7 @@ fn nested<'a>(
     })
 }
 
-/// The nodes behind an element, or the body.
+/// The nodes of what follows an element: the next elements, and the body.
 #[cycle(expand)]
 fn under_element<'a>(
     alloc: Global,
@@ -158,7 +158,7 @@ fn under_element<'a>(
     }
 }
 
-/// The nodes behind an element with a name, or the body.
+/// The nodes of what follows an element with a name.
 #[cycle(expand)]
 fn under_name<'a>(
     alloc: Global,
@@ -192,7 +192,7 @@ fn under_name<'a>(
     Ok(inner)
 }
 
-/// The nodes behind an element with names for its items, or the body.
+/// The nodes of what follows an element with names for its items.
 #[cycle(expand)]
 fn under_tuple<'a>(
     alloc: Global,
@@ -349,7 +349,8 @@ fn sets_of<'a>(
     Ok(Many { parts, left })
 }
 
-/// One element that is opened: the bound name of this number, and the names for its items. The only error is want of memory.
+/// One element that is opened: the bound name of this number, and the names for its items. The only error is that
+/// memory ran out.
 fn opening_of(alloc: Global, names: &[Written], bound: usize) -> Result<Vec<Opening>, Failure>
     ensures ok { IfOk result (λ os. os.items ≡ bounds.opening bound names.now ∷ []) }
     ensures err { IfErr result (λ e. e ≡ Failure.Memory) }
@@ -363,7 +364,7 @@ fn opening_of(alloc: Global, names: &[Written], bound: usize) -> Result<Vec<Open
     Ok(openings)
 }
 
-/// Adds this element, if it is opened. The only error is want of memory.
+/// Adds this element, if it is opened. The only error is that memory ran out.
 fn push_opening(openings: &mut Vec<Opening>, names: Names<'_>, bound: usize) -> Result<(), Failure>
     ensures ok { OnOk result (openings.new.items ≡ openings.old.items ++ opened_at (names_of names.entry) bound) }
     ensures err { IfErr result (λ e. e ≡ Failure.Memory) }
@@ -380,7 +381,7 @@ fn push_opening(openings: &mut Vec<Opening>, names: Names<'_>, bound: usize) -> 
     }
 }
 
-/// The elements that are opened, of those with numbers from `bound` on. The only error is want of memory.
+/// The elements that are opened, of those with numbers from `bound` on. The only error is that memory ran out.
 fn openings_of(alloc: Global, binds: &[Bind<'_>], bound: usize) -> Result<Vec<Opening>, Failure>
     requires { bound + length binds.now ≤ most_named }
     ensures ok { IfOk result (λ os. (σ : Scope) → os.items ≡ bounds.openings (binds_in binds.now σ) bound) }
@@ -409,7 +410,7 @@ fn count_items(openings: &[Opening], left: usize) -> Result<usize, Failure>
     Ok(count)
 }
 
-/// The scope with names that are numbered from this number on. The only error is want of memory.
+/// The scope with names that are numbered from this number on. The only error is that memory ran out.
 fn name_each<'a>(
     entries: &mut Entries<'_, 'a>,
     names: &'a [Written],
@@ -437,7 +438,7 @@ fn name_each<'a>(
     Ok(at)
 }
 
-/// The scope with all names: those of elements, and then those of items. The only error is want of memory.
+/// The scope with all names: those of elements, and then those of items. The only error is that memory ran out.
 fn name_all<'a>(
     entries: &mut Entries<'_, 'a>,
     binds: &[Bind<'a>],
@@ -457,7 +458,7 @@ fn name_all<'a>(
     name_items(entries, binds, bound + binds.len(), scope)
 }
 
-/// The scope with the name of an element, if it has one. The only error is want of memory.
+/// The scope with the name of an element, if it has one. The only error is that memory ran out.
 fn name_element<'a>(
     entries: &mut Entries<'_, 'a>,
     names: Names<'a>,
@@ -485,7 +486,7 @@ fn name_element<'a>(
     }
 }
 
-/// The scope with the names of elements. The only error is want of memory.
+/// The scope with the names of elements. The only error is that memory ran out.
 fn name_elements<'a>(
     entries: &mut Entries<'_, 'a>,
     binds: &[Bind<'a>],
@@ -519,7 +520,7 @@ fn names_for_items<'a>(names: Names<'a>) -> &'a [Written]
     }
 }
 
-/// The scope with the names of items. The only error is want of memory.
+/// The scope with the names of items. The only error is that memory ran out.
 fn name_items<'a>(
     entries: &mut Entries<'_, 'a>,
     binds: &[Bind<'a>],

@@ -1,5 +1,5 @@
-//! What is met first that refuses an expression. It is told of the whole only after its parts: an operand is looked at as
-//! it stands before it is with a prime on it, under UNCHANGED or as a subscript.
+//! The first thing that makes an expression have no expansion. The parts are examined before the whole: an operand is
+//! examined without a prime before it is examined with one, under UNCHANGED or as a subscript.
 
 ghost use Rattle.std.specs.Prelude.{◌≡◌, ◌≤◌, ◌<◌, ◌+◌, length, Some, OnOk, IfErr};
 ghost use Rattle.tla_core.specs.declared.fault.Place as fault;
@@ -24,7 +24,7 @@ use std::alloc::Global;
 use tla_core::Place;
 use tla_tree::Expr;
 
-/// Whether operands under these primes are looked at as they stand.
+/// Whether operands under these primes are also examined without more.
 fn is_sought(sought: Option<Primes>, primes: Primes) -> bool {
     match sought {
         Some(level) => level == primes,
@@ -32,7 +32,7 @@ fn is_sought(sought: Option<Primes>, primes: Primes) -> bool {
     }
 }
 
-/// Where UNCHANGED of a form is told: in an action at the form, in a state at the place of its own.
+/// Where a refusal of UNCHANGED of a form is reported: in an action at the form, in a state at its own place.
 pub(super) fn told_at(sought: Option<Primes>, form: Form<'_>, place: Place) -> Place {
     match sought {
         Some(Primes::Never) => form.place(),
@@ -40,7 +40,7 @@ pub(super) fn told_at(sought: Option<Primes>, form: Form<'_>, place: Place) -> P
     }
 }
 
-/// Where primes on a form are told: in an action at the form, in a state at the last of them.
+/// Where a refusal of primes on a form is reported: in an action at the form, in a state at the last of them.
 fn primed_at(head: Head<'_>, outer: Primes) -> Place {
     match outer {
         Primes::Never => head.form.place(),
@@ -51,7 +51,7 @@ fn primed_at(head: Head<'_>, outer: Primes) -> Place {
     }
 }
 
-/// Looks at a form as it stands.
+/// Examines a form without more primes.
 #[cycle(expand)]
 fn look_at_form<'a>(
     alloc: Global,
@@ -70,7 +70,7 @@ fn look_at_form<'a>(
     Ok(())
 }
 
-/// Looks at expressions of one scope as they stand.
+/// Examines expressions of one scope without more primes.
 #[cycle(expand)]
 fn look_at_each<'a>(
     alloc: Global,
@@ -90,7 +90,7 @@ fn look_at_each<'a>(
     }
 }
 
-/// Looks at the parts of a tuple, first as they stand under outer primes, and then behind those that were met on the way to
+/// Examines the parts of a tuple, first under the outer primes alone, and then with those that were found on the way to
 /// it.
 #[cycle(expand)]
 fn look_at_tuple<'a>(
@@ -124,7 +124,7 @@ fn look_at_tuple<'a>(
     }
 }
 
-/// Looks at an expression as it stands, where operands are looked at.
+/// Examines an expression without more primes, if operands are examined so.
 #[cycle(expand)]
 fn look_at<'a>(
     alloc: Global,
@@ -146,8 +146,8 @@ fn look_at<'a>(
     Ok(())
 }
 
-/// Looks at what stands under UNCHANGED as it stands, where operands are looked at. A tuple is no node of what UNCHANGED
-/// makes of it, so only its parts are.
+/// Examines the operand of UNCHANGED without more primes, if operands are examined so. A tuple is no node of the
+/// expansion of UNCHANGED, so only its parts are examined.
 #[cycle(expand)]
 fn look_at_operand<'a>(
     alloc: Global,
@@ -184,7 +184,7 @@ fn look_at_operand<'a>(
     }
 }
 
-/// The node of a form behind primes that were met on the way to it, and under outer ones.
+/// The node of a form, with the primes that were found on the way to it, and under outer ones.
 #[cycle(expand)]
 pub(super) fn node_behind<'a>(
     alloc: Global,
@@ -237,7 +237,7 @@ pub(super) fn unchanged_node<'a>(
     kept(alloc, entries, place, tree, Setting { primes, ..at })
 }
 
-/// An expression with so many primes, and it with those of the setting. A refusal is told at this place.
+/// An expression twice: with these primes, and with those of the setting. A refusal is reported at this place.
 #[cycle(expand)]
 pub(super) fn kept_parts<'a>(
     alloc: Global,
@@ -278,7 +278,7 @@ pub(super) fn kept_subscript<'a>(
     unchanged_node(alloc, entries, place, tree, inside)
 }
 
-/// Where a subscript that changes is told: in an action at its form, in a state at this place.
+/// Where a refusal of a changed subscript is reported: in an action at its form, in a state at this place.
 fn changed_at<'a>(
     entries: &mut Entries<'_, 'a>,
     tree: &'a Expr,

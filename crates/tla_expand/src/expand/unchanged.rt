@@ -23,7 +23,7 @@ use std::alloc::Global;
 use tla_core::{Binary, Place};
 use tla_tree::{Expr, push};
 
-/// How UNCHANGED is read under so many primes.
+/// The primes with which UNCHANGED is read under these primes.
 pub(super) fn settled(primes: Primes) -> Primes
     ensures { result ≡ settled_primes primes }
 {
@@ -43,7 +43,7 @@ pub(super) fn tuple_items<'a>(form: Form<'a>) -> Option<&'a Vec<Expr>>
     }
 }
 
-/// UNCHANGED of an expression under so many primes. Its node is above the limits that are set for its parts.
+/// UNCHANGED of an expression under these primes. The limits of the setting are those of its parts.
 #[cycle(expand)]
 pub(super) fn kept<'a>(
     alloc: Global,
@@ -163,7 +163,7 @@ pub(super) fn changed<'a>(
     })
 }
 
-/// `[A]_v`, where v stands at this place.
+/// `[A]_v`, where v is at this place.
 #[cycle(expand)]
 #[inline(never)]
 pub(super) fn square_node<'a>(
@@ -192,7 +192,7 @@ pub(super) fn square_node<'a>(
     })
 }
 
-/// `<<A>>_v`, where v stands at this place.
+/// `<<A>>_v`, where v is at this place.
 #[cycle(expand)]
 #[inline(never)]
 pub(super) fn angle_node<'a>(

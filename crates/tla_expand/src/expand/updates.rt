@@ -50,7 +50,7 @@ pub(super) fn except_node<'a>(
     })
 }
 
-/// The updates of an EXCEPT that stands at this place.
+/// The updates of an EXCEPT that is at this place.
 #[cycle(expand)]
 fn changes<'a>(
     alloc: Global,
