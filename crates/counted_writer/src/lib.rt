@@ -1,5 +1,5 @@
-//! Writing that counts: bytes go out by a loop over `write` that tries nothing again, and the
-//! count of what went out is kept, also after a failure.
+//! Writing that counts: bytes are written by a loop over `write` that never tries again, and the number of written
+//! bytes is known, also after a failure.
 #![tactic(auto)]
 
 ghost use Rattle.counted_writer.specs.Puts.{Puts};
@@ -10,14 +10,14 @@ use std::io::Write;
 /// A write failed or took no byte.
 #[derive(Clone, Copy, Debug, PartialEq, Eq)]
 pub struct ShortWrite {
-    /// The count of bytes until then; `u64::MAX` stands for that many or more.
+    /// How many bytes were written until then; `u64::MAX` means that many or more.
     pub written: u64,
 }
 
-/// Writes all the bytes, in as many writes as that takes, and answers the count after them.
+/// Writes all the bytes, in as many writes as that takes, and returns the number of bytes written so far.
 ///
-/// `written` is the count so far; it stays at `u64::MAX`. The first write that fails, for
-/// whatever reason, or that takes no byte, ends the call. Takes no memory.
+/// `written` is the number before; it stays at `u64::MAX`. The first write that fails, for whatever reason, or that
+/// takes no byte, ends the call. Takes no memory.
 pub fn put<W: Write>(out: &mut W, mut written: u64, bytes: &[u8]) -> Result<u64, ShortWrite>
     ensures { Puts (W.contents out.old) (W.contents out.new) written bytes.now result }
 {

@@ -31,8 +31,8 @@ use tla_search::{Gate, Options, SearchError, search};
 use tla_tree::Word;
 use tla_value::{Text, ValueError};
 
-/// What a module and a configuration come to: the answer to the search of the model that they name, or the first refusal
-/// of tokens, module, configuration and model, in this order. It is the same for every number of workers, every cut, every
+/// Checks a module and a configuration: the answer to the search of the model that they denote, or the first refusal of
+/// tokens, module, configuration and model, in this order. It is the same for every number of workers, every cut, every
 /// gate and every order of the workers' steps.
 pub fn check<G: Gate, R: Threads + Wait + Sync>(
     rt: &R,

@@ -42,7 +42,7 @@ impl Config {
         self.statements.as_slice()
     }
 
-    /// The place behind the last character of the text.
+    /// The place after the last character of the text.
     pub fn end(&self) -> Place
         ensures { result ≡ self.now.end }
     {

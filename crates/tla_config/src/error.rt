@@ -6,7 +6,7 @@ use std::alloc::{AllocError, AllocFailed};
 use tla_lex::Place;
 use tla_value::Text;
 
-/// The text in which a fault stands.
+/// The text that has a fault.
 #[derive(Clone, Copy, Debug, PartialEq, Eq)]
 pub enum Source {
     Module,
@@ -38,11 +38,11 @@ pub enum DefsCode {
     StatementLeftOut,
     /// C11: an expansion or a value beyond the limits.
     ExpansionTooLarge,
-    /// Want of memory, of which a report tells no code.
+    /// Memory ran out. A report has no code for it.
     Memory,
 }
 
-/// A refusal: where, but for want of memory, and the name that it prints, if any.
+/// A refusal: its place, unless memory ran out, and the name that it prints, if any.
 #[derive(Drop)]
 pub struct DefsError {
     pub code: DefsCode,

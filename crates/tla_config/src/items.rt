@@ -14,14 +14,14 @@ use tla_lex::{Kind, Token};
 use tla_tree::push;
 use tla_value::MAX_NESTING;
 
-/// An item, and the number of the token behind it.
+/// An item, and the number of the token after it.
 #[derive(Drop)]
 pub struct ParsedItem {
     pub item: Item,
     pub end: usize,
 }
 
-/// Items, and the number of the token behind the last.
+/// Items, and the number of the token after the last.
 #[derive(Drop)]
 pub struct ParsedItems {
     pub items: Vec<Item>,
@@ -56,7 +56,7 @@ fn item(alloc: Global, text: &[u8], tokens: &[Token], at: usize) -> Result<Parse
     })
 }
 
-/// One item or more, with a comma between two of them or without.
+/// One or more items, with or without commas between them.
 pub fn items(
     alloc: Global,
     text: &[u8],

@@ -9,14 +9,14 @@ use std::alloc::Global;
 use tla_lex::{Kind, Token};
 use tla_tree::{Written, push};
 
-/// Names, and the number of the token behind the last.
+/// Names, and the number of the token after the last.
 #[derive(Drop)]
 pub struct ParsedNames {
     pub names: Vec<Written>,
     pub end: usize,
 }
 
-/// The name that stands here.
+/// The name at this token.
 pub fn name(alloc: Global, text: &[u8], tokens: &[Token], at: usize) -> Result<Written, Refusal>
     ensures gives { spec.GivesName text.now tokens.now at result }
     ensures because { IfErr result (λ e. spec.Because e spec.Nowhere spec.Nowhere spec.Anything) }
@@ -28,7 +28,7 @@ pub fn name(alloc: Global, text: &[u8], tokens: &[Token], at: usize) -> Result<W
     }
 }
 
-/// Where the next name of a list stands, if the list goes on behind this token.
+/// Where the next name of a list is, if the list continues after this token.
 pub fn next_name(text: &[u8], tokens: &[Token], at: usize) -> Option<usize>
     ensures goes_on { spec.GoesOn text.now tokens.now at result }
     ensures order { IfSome result (λ next. at ≤ next) }
@@ -42,7 +42,7 @@ pub fn next_name(text: &[u8], tokens: &[Token], at: usize) -> Option<usize>
     }
 }
 
-/// One name or more, with a comma between two of them or without.
+/// One or more names, with or without commas between them.
 pub fn names(
     alloc: Global,
     text: &[u8],

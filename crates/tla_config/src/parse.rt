@@ -57,7 +57,7 @@ fn place_of_stop(stop: Stop) -> Place {
     }
 }
 
-/// The refusal of what is left out, at a place and by its word.
+/// The refusal of a statement that is left out, at a place and with its word.
 fn left_out_at(alloc: Global, place: Place, word: &str) -> DefsError
     ensures source { result.source ≡ Source.Configuration }
     ensures located { IsLocated result.code result.place result.name }
@@ -74,7 +74,7 @@ fn left_out_at(alloc: Global, place: Place, word: &str) -> DefsError
     }
 }
 
-/// The refusal of what is left out, whose word or bracket is this token.
+/// The refusal of a statement that is left out, whose word or bracket is this token.
 fn left_out(alloc: Global, text: &[u8], tokens: &[Token], at: usize) -> DefsError
     requires begins { Begins text.now tokens.now }
     requires here { LeftOutAt text.now tokens.now at }

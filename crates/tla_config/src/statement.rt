@@ -19,11 +19,11 @@ pub enum Statement {
     Specification(Place, Written),
     Init(Place, Written),
     Next(Place, Written),
-    /// `INVARIANT` or `INVARIANTS` with one name or more.
+    /// `INVARIANT` or `INVARIANTS` with one or more names.
     Invariants(Place, Vec<Written>),
-    /// `CONSTRAINT` or `CONSTRAINTS` with one name or more.
+    /// `CONSTRAINT` or `CONSTRAINTS` with one or more names.
     Constraints(Place, Vec<Written>),
-    /// `CONSTANT` or `CONSTANTS` with one item or more.
+    /// `CONSTANT` or `CONSTANTS` with one or more items.
     Constants(Place, Vec<Item>),
     CheckDeadlock(Place, bool),
 }
@@ -33,14 +33,14 @@ impl Statement {
     ghost use Rattle.tla_config.specs.Configuration.{is_check_deadlock};
     ghost use Rattle.tla_config.specs.View.{statement_view};
 
-    /// Whether it may stand behind statements with or without CHECK_DEADLOCK.
+    /// Whether it may follow statements with or without CHECK_DEADLOCK.
     pub(crate) fn may_follow(&self, checks: bool) -> bool
         ensures { result ≡ not (checks && is_check_deadlock (statement_view self.now)) }
     {
         !(checks && matches!(self, Statement::CheckDeadlock(_, _)))
     }
 
-    /// Whether CHECK_DEADLOCK stands among such statements and this one.
+    /// Whether CHECK_DEADLOCK is among such statements and this one.
     pub(crate) fn checks_too(&self, checks: bool) -> bool
         ensures { result ≡ (checks || is_check_deadlock (statement_view self.now)) }
     {

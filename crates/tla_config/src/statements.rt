@@ -14,7 +14,7 @@ use std::alloc::Global;
 use tla_lex::Token;
 use tla_tree::push;
 
-/// A statement, and the number of the token behind it.
+/// A statement, and the number of the token after it.
 #[derive(Drop)]
 pub struct ParsedStatement {
     pub statement: Statement,

@@ -42,7 +42,7 @@ pub fn keyword_at(text: &[u8], tokens: &[Token], at: usize) -> Option<(Keyword, 
     }
 }
 
-/// Whether the token of this number is of this kind, of those that stand between the parts of statements.
+/// Whether the token with this number is of this kind, which has to be one that separates the parts of statements.
 pub fn is_kind(kind: Kind, tokens: &[Token], at: usize) -> bool
     ensures value { result ≡ spec.kind_at kind (slice_get tokens.now at) }
     ensures within { IsTrue result → at < length tokens.now }

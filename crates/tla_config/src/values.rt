@@ -24,7 +24,7 @@ use tla_lex::{Kind, Token, string_text};
 use tla_tree::{push, slice_of};
 use tla_value::{SetValue, Text, Value, ValueError};
 
-/// A value, and the number of the token behind it.
+/// A value, and the number of the token after it.
 #[derive(Drop)]
 pub struct ParsedValue {
     pub value: Value,
@@ -62,7 +62,7 @@ fn positive(digits: &[u8]) -> Option<i64>
     }
 }
 
-/// The number of these digits behind a minus sign, where it is one of 64 bits.
+/// The number of these digits after a minus sign, if it is within 64 bits.
 fn negative(digits: &[u8]) -> Option<i64>
     ensures value { IfSome result (λ z. z ≡ number true digits.now) }
     ensures fits { IfSome result (λ z. FitsSigned w64 z) }
@@ -75,7 +75,7 @@ fn negative(digits: &[u8]) -> Option<i64>
     }
 }
 
-/// The bytes of a string, which is given with its quotes.
+/// The bytes of a string, which has its quotes.
 fn bytes_of(alloc: Global, literal: &[u8]) -> Result<Vec<u8>, Refusal>
     ensures ok { IfOk result (λ v. v.items ≡ string_text literal.now) }
     ensures err { IfErr result (λ e. e ≡ Refusal.NoMemory) }
@@ -192,7 +192,7 @@ fn set(values: Vec<Value>, item: usize) -> Result<Value, Refusal>
     }
 }
 
-/// The number behind this minus sign, in the item of this number.
+/// The number after this minus sign, in the item with this number.
 fn negated(text: &[u8], tokens: &[Token], item: usize, at: usize) -> Result<ParsedValue, Refusal>
     requires { kind_at Kind.Minus (slice_get tokens.now at) ≡ true }
     ensures gives { (room : ℕ) → spec.GivesValue text.now tokens.now room at result }

@@ -20,7 +20,7 @@ use tla_lex::{Kind, Place, Token};
 use tla_tree::{Brackets, Expr, Fairness, Step, Written, push_inner};
 
 impl<R: ExpressionReader> Grammar<R> {
-    /// The expressions behind the first, and the closing bracket.
+    /// The expressions after the first, and the closing bracket.
     #[tactic(auto, unfolding(crate::specs::ReadingBrackets::others))]
     fn others(
         &self,
@@ -88,7 +88,7 @@ impl<R: ExpressionReader> Grammar<R> {
         }
     }
 
-    /// The action that began at a token of this number, with the subscript behind its closing bracket.
+    /// The action that began at the token with this number, with the subscript after its closing bracket.
     #[tactic(auto, unfolding(crate::specs::ReadingBrackets::action))]
     fn action(
         &self,
@@ -187,7 +187,7 @@ impl<R: ExpressionReader> Grammar<R> {
         )
     }
 
-    /// `{e : x, y \in S}`, behind e.
+    /// `{e : x, y \in S}`, after e.
     #[tactic(auto, unfolding(crate::specs::ReadingBrackets::image))]
     fn image(
         &self,
@@ -216,7 +216,7 @@ impl<R: ExpressionReader> Grammar<R> {
         )
     }
 
-    /// A set, behind its first expression.
+    /// A set, after its first expression.
     #[tactic(auto, unfolding(crate::specs::ReadingBrackets::set_of))]
     fn set_of(
         &self,
@@ -355,7 +355,7 @@ impl<R: ExpressionReader> Grammar<R> {
         )
     }
 
-    /// `[S -> T]`, behind S.
+    /// `[S -> T]`, after S.
     #[tactic(auto, unfolding(crate::specs::ReadingBrackets::function_set))]
     fn function_set(
         &self,
@@ -384,7 +384,7 @@ impl<R: ExpressionReader> Grammar<R> {
         )
     }
 
-    /// A form in brackets that begins with an expression, behind that.
+    /// A form in brackets that begins with an expression, after that.
     #[tactic(auto, unfolding(crate::specs::ReadingBrackets::behind_first))]
     fn behind_first(
         &self,

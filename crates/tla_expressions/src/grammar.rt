@@ -43,7 +43,7 @@ impl<R: ExpressionReader> Grammar<R> {
             .read(self.alloc, text, tokens, self.depth, context, floor, at)
     }
 
-    /// `f[e, ..]`, behind the tree, which begins at a token of this number.
+    /// `f[e, ..]`, after the tree of f, which begins at the token with this number.
     #[tactic(auto, unfolding(crate::specs::Reading::indexed))]
     fn indexed(
         &self,
@@ -74,7 +74,7 @@ impl<R: ExpressionReader> Grammar<R> {
         )
     }
 
-    /// One more postfix form behind the tree, which begins at a token of this number.
+    /// One more postfix form after the tree, which begins at the token with this number.
     fn behind(
         &self,
         text: &[u8],
@@ -251,7 +251,7 @@ impl<R: ExpressionReader> Grammar<R> {
         }
     }
 
-    /// A form of one token, and the postfix forms behind it.
+    /// A form of one token, and the postfix forms after it.
     fn atom(
         &self,
         text: &[u8],
@@ -390,7 +390,7 @@ impl<R: ExpressionReader> Grammar<R> {
     }
 }
 
-/// An expression of so many levels at most, in a context, whose top is above a floor.
+/// An expression of at most `depth` levels, in a context, whose top is above a floor.
 #[tactic(auto, unfolding(crate::specs::Reading::expr))]
 pub fn expr(
     alloc: Global,

@@ -24,7 +24,8 @@ use tla_lex::{Kind, Place, Token};
 use tla_tree::{Brackets, Bullet, Expr, Written, push, push_inner};
 
 impl<R: ExpressionReader> Grammar<R> {
-    /// Expressions with commas or bullets between them, one or more, behind those of a front that ends where the next begins.
+    /// One or more expressions, with commas or bullets between them, after those that were parsed. These end where the
+    /// next begins.
     #[tactic(auto, using(crate::proofs::Steps::depths_snoc))]
     pub fn exprs_behind(
         &self,
@@ -55,7 +56,7 @@ impl<R: ExpressionReader> Grammar<R> {
         Err(refused(tokens, context.column, at))
     }
 
-    /// Expressions with commas or bullets between them, one or more.
+    /// One or more expressions, with commas or bullets between them.
     pub fn exprs(
         &self,
         text: &[u8],
@@ -75,7 +76,7 @@ impl<R: ExpressionReader> Grammar<R> {
         self.exprs_behind(text, tokens, context, between, front)
     }
 
-    /// Expressions with commas between them, one or more, and the closing bracket.
+    /// One or more expressions with commas between them, and the closing bracket.
     #[tactic(auto, unfolding(crate::specs::ReadingLists::some))]
     pub fn some(
         &self,
@@ -182,7 +183,7 @@ impl<R: ExpressionReader> Grammar<R> {
         node(self.alloc, Expr::Paren(at, e.tree), e.end + 1, e.depth + 1)
     }
 
-    /// The set of an entry, behind its names. The form at `form` may be left out for its binders.
+    /// The set of an entry, after its names. The form at `form` may be left out for its binders.
     #[tactic(auto, unfolding(crate::specs::ReadingLists::set_behind))]
     fn set_behind(
         &self,

@@ -69,7 +69,7 @@ pub struct ParsedPattern {
     pub end: usize,
 }
 
-/// A tuple of names, behind `<<`.
+/// A tuple of names, after `<<`.
 #[tactic(auto, unfolding(crate::specs::ReadingLists::tuple_of_names))]
 fn tuple_of_names(
     alloc: Global,

@@ -15,7 +15,8 @@ use tla_tree::{Arm, Binder, Brackets, Bullet, Definition, Expr, Pattern, Quantif
 
 /// A tree, the number of the token after it, and its depth.
 ///
-/// It stands in a box, which a rule lets go in one step where it stops early; of a tree in place each proof would go through all parts.
+/// It is in a box, which a rule that stops early drops in one step. If the tree itself were here, each proof would go
+/// through all its parts.
 #[derive(Drop)]
 pub struct Parsed {
     pub tree: Box<Expr>,
@@ -55,7 +56,8 @@ fn boxed(alloc: Global, tree: Expr) -> Result<Box<Expr>, Refusal>
     Box::new(alloc, tree).ok().ok_or(Refusal::NoMemory)
 }
 
-/// The tree, which has this depth, in a box, with the number of the token after it. The only error is want of memory.
+/// The tree, which has this depth, in a box, with the number of the token after it. The only error is that memory ran
+/// out.
 pub fn node(alloc: Global, tree: Expr, end: usize, depth: usize) -> Result<Parsed, Refusal>
     requires { depth ≡ edges.depth (view tree) }
     ensures gives { (text : List ℕ) (tokens : List Token) (most : ℕ) → depth ≤ most → Gives text tokens most result (Ok (view tree, end)) }

@@ -17,7 +17,7 @@ use tla_lex::{Kind, Token};
 use tla_tree::{Infix, push_inner};
 
 impl<R: ExpressionReader> Grammar<R> {
-    /// An operand behind the first.
+    /// An operand after the first.
     #[tactic(auto, unfolding(crate::specs::Reading::factor))]
     fn factor(
         &self,
@@ -40,7 +40,7 @@ impl<R: ExpressionReader> Grammar<R> {
         Ok(e)
     }
 
-    /// The operands behind the first.
+    /// The operands after the first.
     #[tactic(auto, using(crate::proofs::Steps::depths_snoc))]
     fn factors(
         &self,
@@ -68,7 +68,7 @@ impl<R: ExpressionReader> Grammar<R> {
         Err(refused(tokens, context.column, at))
     }
 
-    /// The product of the tree, which begins at a token of this number, and the operands behind it.
+    /// The product of the tree, which begins at the token with this number, and the operands after it.
     #[tactic(auto, unfolding(crate::specs::Reading::product))]
     pub fn product(
         &self,

@@ -10,9 +10,9 @@ use std::alloc::Global;
 use tla_grammar::{Context, Refusal};
 use tla_lex::Token;
 
-/// What reads an expression of so many levels at most, in a context, whose top is above a floor.
+/// Parses an expression of at most `depth` levels, in a context, whose top is above a floor.
 pub trait ExpressionReader {
-    // that expressions of so many levels may be read
+    // expressions of this many levels may be parsed
     ghost reads_to: { Self → ℕ → Type 0 };
 
     fn read(

@@ -25,7 +25,7 @@ use tla_lex::{Kind, Place, Token};
 use tla_tree::{Field, Key, Update, Written, push};
 
 impl<R: ExpressionReader> Grammar<R> {
-    /// A field, with this mark behind its name.
+    /// A field, with this token after its name.
     #[tactic(auto, unfolding(crate::specs::ReadingBrackets::entry))]
     fn entry(
         &self,
@@ -56,7 +56,7 @@ impl<R: ExpressionReader> Grammar<R> {
         })
     }
 
-    /// Fields, with this mark behind each name.
+    /// Fields, with this token after each name.
     #[tactic(auto, using(crate::proofs::StepsRecords::fields_depth_snoc))]
     fn entries(
         &self,
@@ -262,7 +262,7 @@ impl<R: ExpressionReader> Grammar<R> {
         Err(refused(tokens, context.column, at))
     }
 
-    /// `[f EXCEPT !p = e, ..]`, behind f.
+    /// `[f EXCEPT !p = e, ..]`, after f.
     #[tactic(auto, unfolding(crate::specs::ReadingBrackets::except))]
     pub fn except(
         &self,

@@ -16,7 +16,7 @@ Refuses ts (refusal.LeftOut at) = BeginsLeftOut ts at
 Refuses ts (refusal.UnknownModule at) = ⊥
 Refuses ts refusal.NoMemory = Unit {0}
 
--- a refusal says how the reading ends; want of memory says nothing
+-- a refusal says how the reading ends; that memory ran out says nothing
 abbrev pub Fails : {A : Type 0} → List ℕ → List Token → Refusal → Outcome A → Type 0
 Fails text ts (refusal.Unexpected at) read = read ≡ Err Refused
 Fails text ts (refusal.Precedence at) read = read ≡ Err Refused

@@ -1,4 +1,4 @@
-//! What comes behind an opening bracket and an entry of a binder that begins there.
+//! What follows an opening bracket, and an entry of a binder that begins there.
 
 ghost use Rattle.std.specs.Prelude.{◌≡◌, ◌≤◌, ◌<◌, ◌+◌, ◌^◌, drop, length, IfSome};
 ghost use Rattle.tla_grammar.specs.Ahead as spec;
@@ -22,7 +22,7 @@ pub enum Role {
     Separates,
 }
 
-/// What a bracket opens, by the tokens behind it.
+/// What a bracket opens, by the tokens after it.
 #[derive(Clone, Copy)]
 pub enum Opened {
     /// `a |->`
@@ -53,7 +53,8 @@ pub fn role_of(kind: Kind) -> Role
     }
 }
 
-/// How many brackets are open behind a token in this role, and how many colons still belong to quantifiers; none where it ends a part of the open bracket.
+/// How many brackets are open after a token in this role, and how many colons still belong to quantifiers; None if it
+/// ends a part of the open bracket.
 fn behind(deep: usize, bound: usize, role: Role) -> Option<(usize, usize)>
     requires deep { deep < 2 ^ 62 }
     requires bound { bound < 2 ^ 62 }
@@ -115,7 +116,7 @@ fn ending(tokens: &[Token], from: usize) -> Option<Token>
     None
 }
 
-/// The token behind names with commas between them and `>>`.
+/// The token after names with commas between them and `>>`.
 #[tactic(auto, using(crate::proofs::TupleEnds::tuple_more, crate::proofs::TupleEnds::tuple_last, crate::proofs::TupleEnds::tuple_open, crate::proofs::TupleEnds::tuple_none, crate::proofs::TupleEnds::tuple_full))]
 fn tuple_end(tokens: &[Token], column: u128, from: usize) -> Option<usize>
     requires { from ≤ length tokens.now }
@@ -138,7 +139,7 @@ fn tuple_end(tokens: &[Token], column: u128, from: usize) -> Option<usize>
     None
 }
 
-/// The token behind one name, or behind a tuple of names.
+/// The token after one name, or after a tuple of names.
 fn single_end(tokens: &[Token], column: u128, at: usize) -> Option<usize>
     requires { at ≤ length tokens.now }
     ensures { result ≡ spec.single_end tokens.now column at }
@@ -153,7 +154,7 @@ fn single_end(tokens: &[Token], column: u128, at: usize) -> Option<usize>
     }
 }
 
-/// Where `\in` stands behind one name or a tuple of names.
+/// The `\in` after one name or a tuple of names.
 pub fn binds(tokens: &[Token], column: u128, at: usize) -> Option<usize>
     requires { at ≤ length tokens.now }
     ensures value { result ≡ spec.binds tokens.now column at }
@@ -167,7 +168,7 @@ pub fn binds(tokens: &[Token], column: u128, at: usize) -> Option<usize>
     }
 }
 
-/// Whether an entry of one element stands before a colon.
+/// Whether an entry of one element is followed by a colon.
 pub fn filters(tokens: &[Token], column: u128, at: usize) -> bool
     requires { at ≤ length tokens.now }
     ensures { result ≡ spec.filters tokens.now column at }
@@ -178,7 +179,7 @@ pub fn filters(tokens: &[Token], column: u128, at: usize) -> bool
     }
 }
 
-/// Whether an entry of one element stands before `|->` or a comma.
+/// Whether an entry of one element is followed by `|->` or a comma.
 pub fn maps(tokens: &[Token], column: u128, at: usize) -> bool
     requires { at ≤ length tokens.now }
     ensures { result ≡ spec.maps tokens.now column at }

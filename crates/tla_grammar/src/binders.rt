@@ -14,7 +14,7 @@ fn is_quantifier(kind: Kind) -> bool
     matches!(kind, Kind::ForAll | Kind::Exists)
 }
 
-/// Whether a quantifier stands here over names without a set, all right of the column.
+/// Whether there is a quantifier over names without a set here, all right of the column.
 fn is_unbounded(tokens: &[Token], column: u128, from: usize) -> bool
     ensures { IsTrue result → left_out.IsUnbounded tokens.now from }
 {
@@ -40,7 +40,7 @@ fn is_unbounded(tokens: &[Token], column: u128, from: usize) -> bool
     false
 }
 
-/// Whether CHOOSE stands here over one name without a set, all right of the column.
+/// Whether there is a CHOOSE over one name without a set here, all right of the column.
 fn is_unbounded_choice(tokens: &[Token], column: u128, from: usize) -> bool
     ensures { IsTrue result → left_out.IsUnboundedChoice tokens.now from }
 {
@@ -50,7 +50,7 @@ fn is_unbounded_choice(tokens: &[Token], column: u128, from: usize) -> bool
         && is_kind(Kind::Colon, seen(tokens, column, from + 2))
 }
 
-/// Whether CHOOSE stands here over a tuple of names without a set, all right of the column.
+/// Whether there is a CHOOSE over a tuple of names without a set here, all right of the column.
 fn is_unbounded_tuple(tokens: &[Token], column: u128, from: usize) -> bool
     ensures { IsTrue result → left_out.IsUnboundedTuple tokens.now from }
 {

@@ -105,7 +105,7 @@ fn yields(first: Infix, second: Infix) -> bool
     high(second) < low(first) || (0 < left_group(first) && left_group(first) == left_group(second))
 }
 
-/// The operator that a token of this kind writes behind an operand.
+/// The infix operator of a token of this kind.
 pub fn infix_of(kind: Kind) -> Option<Infix>
     ensures { result ≡ operators.infix_of kind }
 {

@@ -8,9 +8,9 @@ use std::alloc::AllocError;
 pub enum Refusal {
     /// The token has no place here.
     Unexpected(usize),
-    /// The operator and one beside it may not stand together without brackets.
+    /// The operator may not be beside another one without parentheses.
     Precedence(usize),
-    /// The token stands at or left of its junction list's column, and the item must go on.
+    /// The token is at or left of its junction list's column, but the item isn't complete.
     Column(usize),
     /// The form that begins here is nested too deep.
     Nesting(usize),

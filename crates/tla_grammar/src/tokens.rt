@@ -17,7 +17,7 @@ use std::alloc::Global;
 use tla_lex::{Kind, Token, same_kind, string_text};
 use tla_tree::{Brackets, Bullet, Infix, Word, slice_of};
 
-/// What stands between the items of a list.
+/// What separates the items of a list.
 #[derive(Clone, Copy)]
 pub enum Between {
     Comma,
@@ -54,7 +54,7 @@ pub fn closing(brackets: Brackets) -> Kind
     }
 }
 
-/// The token of this number, where it stands right of the column.
+/// The token with this number, if it is right of the column.
 pub fn seen(tokens: &[Token], column: u128, at: usize) -> Option<Token>
     ensures value { result ≡ spec.seen tokens.now column at }
     ensures within { OnSome result (at < length tokens.now) }
@@ -71,7 +71,7 @@ pub fn seen(tokens: &[Token], column: u128, at: usize) -> Option<Token>
     }
 }
 
-/// Whether it is a token of this kind, of the kinds that stand between parts.
+/// Whether it is a token of this kind, which has to be one that separates parts.
 pub fn is_kind(kind: Kind, token: Option<Token>) -> bool
     ensures { result ≡ kinds.kind_at kind token }
 {
@@ -92,7 +92,7 @@ fn is_bullet(bullet: Bullet, found: Option<Bullet>) -> bool
     }
 }
 
-/// Whether this bullet stands here, in the column.
+/// Whether this bullet is here, in the column.
 pub fn is_bullet_at(tokens: &[Token], column: u128, bullet: Bullet, at: usize) -> bool
     ensures value { result ≡ spec.is_bullet_at column bullet (slice_get tokens.now at) }
     ensures within { IsTrue result → at < length tokens.now }
@@ -103,7 +103,7 @@ pub fn is_bullet_at(tokens: &[Token], column: u128, bullet: Bullet, at: usize) -
     }
 }
 
-/// Where the next item of a list begins, behind this token.
+/// Where the next item of a list begins, after this token.
 pub fn following(tokens: &[Token], column: u128, between: Between, at: usize) -> Option<usize>
     ensures value { result ≡ marks.following tokens.now column between at }
     ensures within { IfSome result (λ next. next ≤ length tokens.now) }
@@ -231,7 +231,7 @@ pub fn text_of(alloc: Global, text: &[u8], token: Token) -> Result<Word, Refusal
     Ok(Word::new(string_text(alloc, literal)?))
 }
 
-/// Whether a token of this kind begins a form that is left out, wherever it stands.
+/// Whether a token of this kind always begins a form that is left out.
 fn is_left_out(kind: Kind) -> bool
     ensures { result ≡ left_out.is_left_out kind }
 {
@@ -254,7 +254,7 @@ fn is_left_out(kind: Kind) -> bool
     }
 }
 
-/// How many brackets are open before a token of this kind, where so many are behind it. None where there is no such number.
+/// How many brackets are open before a token of this kind, if `count` are open after it. None if that can't be.
 fn open_before(kind: Kind, count: usize) -> Option<usize>
     requires { count < 2 ^ 63 }
     ensures some { IfSome result (λ n. (m : ℕ) → (left_out.open_behind kind m ≡ Some count) ↔ (m ≡ n)) }
@@ -268,7 +268,7 @@ fn open_before(kind: Kind, count: usize) -> Option<usize>
     }
 }
 
-/// Whether this token is EXCEPT, and no bracket is open behind it.
+/// Whether this token is EXCEPT, and no bracket is open after it.
 fn is_except_itself(token: Token, count: usize) -> bool
     ensures { IsTrue result ↔ ((token.kind ≡ Kind.Except) × (count ≡ 0)) }
 {
@@ -278,7 +278,7 @@ fn is_except_itself(token: Token, count: usize) -> bool
     }
 }
 
-/// Whether EXCEPT stands before the token, and every bracket that was opened since, and no other one, is closed.
+/// Whether EXCEPT comes before the token, and every bracket that was opened since, and no other one, is closed.
 fn is_under_except(tokens: &[Token], at: usize) -> bool
     requires { at ≤ length tokens.now }
     ensures { IsTrue result ↔ left_out.IsUnderExcept tokens.now at 0 }
@@ -318,7 +318,7 @@ fn begins_update(tokens: &[Token], at: usize) -> bool
     }
 }
 
-/// Whether `!` stands here where no update begins.
+/// Whether there is a `!` here that doesn't begin an update.
 fn is_selector(tokens: &[Token], at: usize) -> bool
     ensures { IsTrue result → left_out.IsSelector tokens.now at }
 {
@@ -357,7 +357,7 @@ pub fn refused_update(tokens: &[Token], column: u128, at: usize) -> Refusal
     }
 }
 
-/// Whether an infix operator stands here.
+/// Whether there is an infix operator here.
 fn is_infix(tokens: &[Token], at: usize) -> bool
     ensures { IsTrue result → left_out.IsInfix tokens.now at }
 {
@@ -367,7 +367,7 @@ fn is_infix(tokens: &[Token], at: usize) -> bool
     }
 }
 
-/// Whether an operator stands here as a parameter, right of the column.
+/// Whether there is an operator as a parameter here, right of the column.
 fn is_operator_parameter(tokens: &[Token], column: u128, at: usize) -> bool
     ensures { IsTrue result → left_out.IsOperatorParameter tokens.now at }
 {
@@ -388,7 +388,7 @@ fn is_operator_parameter(tokens: &[Token], column: u128, at: usize) -> bool
     }
 }
 
-/// Whether a definition stands here whose parameters, all right of the column, have an operator among them.
+/// Whether there is a definition here whose parameters, all right of the column, have an operator among them.
 fn has_operator_parameter(tokens: &[Token], column: u128, from: usize) -> bool
     ensures { IsTrue result → left_out.HasOperatorParameter tokens.now from }
 {

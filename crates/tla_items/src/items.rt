@@ -230,7 +230,7 @@ pub fn definitions_of<'a>(alloc: Global, units: &'a [Unit]) -> Result<Scope<'a>,
     Ok(scope)
 }
 
-/// Adds the names that a unit declares or defines.
+/// Adds the names that a unit brings into scope: by EXTENDS, a declaration or a definition.
 pub(crate) fn push_brought<'a>(scope: &mut Scope<'a>, unit: &'a Unit) -> Result<(), DefsError>
     ensures ok { OnOk result (scope.new ≡ scope.old ++ references.brings (unit_view unit.entry.now)) }
     ensures err { IfErr result (λ e. e.code ≡ Memory) }

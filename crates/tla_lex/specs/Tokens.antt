@@ -48,6 +48,6 @@ pub data IsFirstFault (text : Bytes) (e : LexError) : Type 0 where
   no_closing_line : (from : ℕ) (ts : List Token) (end : Place) → IsUtf8 text → header_end text ≡ Some from → closing text from ≡ None
       → Reads Module text from ts (End end) → e ≡ record { code = NoClosingLine; place = Some end } → IsFirstFault text e
 
--- want of memory, which has no place
+-- the error that memory ran out, which has no place
 abbrev pub no_memory : LexError
 no_memory = record { code = NoMemory; place = None }

@@ -9,7 +9,7 @@ ghost use Rattle.tla_lex.specs.Private.RegionSize.{region_depth};
 use crate::bytes::{first, is_equal_sign};
 use crate::gap::{Mode, turn};
 
-/// In code or a comment, in a string, or behind a backslash in a string.
+/// In code or a comment, in a string, or after a backslash in a string.
 #[derive(Clone, Copy)]
 pub enum Region {
     Code(Mode),
@@ -80,7 +80,7 @@ pub fn closing(text: &[u8], from: usize) -> Option<usize>
     None
 }
 
-/// How many `=` stand at the front of a text.
+/// How many `=` a text begins with.
 pub fn equal_signs_len(text: &[u8]) -> usize
     ensures value { result ≡ prefix_len bytes.is_equal_sign text.now }
     ensures within { result ≤ length text.now }

@@ -22,11 +22,11 @@ pub enum LexCode {
     NoHeader,
     /// L7: a module without a closing line.
     NoClosingLine,
-    /// Want of memory, of which a report tells no code.
+    /// Memory ran out. A report has no code for it.
     NoMemory,
 }
 
-/// A fault of a text, and where it stands: nowhere for want of memory.
+/// A fault of a text, and its place. There is none if memory ran out.
 #[derive(Clone, Copy, Debug, PartialEq, Eq)]
 pub struct LexError {
     pub code: LexCode,

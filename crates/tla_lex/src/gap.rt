@@ -6,7 +6,8 @@ ghost use Rattle.tla_lex.specs.Private.GapSize as size;
 
 use crate::bytes::{first, is_blank};
 
-/// In a comment to the end of the line, so many comments deep, or at the second byte of a mark that leads there.
+/// In code, in a comment to the end of the line, in nested comments of this depth, or at the second byte of a mark that
+/// leads there.
 #[derive(Clone, Copy)]
 pub enum Mode {
     Line,
@@ -14,7 +15,7 @@ pub enum Mode {
     Second(usize),
 }
 
-/// How long a gap is, or where in it the comment stands that stays open.
+/// How long a gap is, or where in it a comment begins that stays open.
 #[derive(Clone, Copy)]
 pub enum Gap {
     End(usize),

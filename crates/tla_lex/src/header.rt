@@ -37,7 +37,7 @@ fn module_len(text: &[u8]) -> Option<usize>
     }
 }
 
-/// Where the first header of a text ends, behind its MODULE.
+/// Where the first header of a text ends, after its MODULE.
 #[tactic(auto, unfolding(crate::specs::Module::header_from))]
 pub fn header_end(text: &[u8]) -> Option<usize>
     ensures value { result ≡ spec.header_end text.now }

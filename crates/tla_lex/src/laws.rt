@@ -40,7 +40,7 @@ pub fn header_is_found()
     ensures { HeaderIsFound }
 {}
 
-/// What comes next in a text is what stands behind its blanks and comments.
+/// What comes next in a text is what follows its blanks and comments.
 pub fn front_is_found()
     ensures { FrontIsFound }
 {}

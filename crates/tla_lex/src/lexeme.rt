@@ -20,7 +20,7 @@ pub enum Source {
     Configuration,
 }
 
-/// A token's kind and length, or a fault's code and how far behind the front it stands.
+/// A token's kind and length, or a fault's code and how far it is from the front.
 #[derive(Clone, Copy)]
 pub enum Lexeme {
     Found(Kind, usize),

@@ -20,7 +20,7 @@ pub enum Stop {
     Fault(LexError),
 }
 
-/// What comes next behind blanks and comments.
+/// What comes next after blanks and comments.
 #[derive(Clone, Copy)]
 pub enum Front {
     Begins(Token),
@@ -40,7 +40,7 @@ fn fault(code: LexCode, place: Place) -> Front
     Front::Stops(Stop::Fault(LexError::at(code, place)))
 }
 
-/// What stands at a byte where no gap is.
+/// What begins at a byte that isn't in a gap.
 #[tactic(auto, using(crate::proofs::Slices::rest_slice))]
 fn begun(source: Source, text: &[u8], here: usize, place: Place) -> Front
     requires within { here < length text.now }
@@ -59,7 +59,7 @@ fn begun(source: Source, text: &[u8], here: usize, place: Place) -> Front
     }
 }
 
-/// What comes next from a byte on, behind blanks and comments.
+/// What comes next from a byte on, after blanks and comments.
 #[tactic(auto, unfolding(crate::specs::Reads::front), using(crate::proofs::Slices::rest_slice))]
 fn front_at(source: Source, text: &[u8], at: usize, place: Place) -> Front
     requires within { at ≤ length text.now }

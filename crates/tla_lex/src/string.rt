@@ -10,7 +10,7 @@ use crate::lexeme::Lexeme;
 use crate::token::Kind;
 use std::alloc::{AllocError, Global};
 
-/// What a byte behind a backslash stands for.
+/// The byte that a byte after a backslash means.
 fn escape(b: u8) -> Option<u8>
     ensures { result ≡ spec.escape b }
 {
@@ -86,7 +86,7 @@ pub fn string(text: &[u8]) -> Lexeme
     }
 }
 
-/// The text of a string, which is given with its quotes, with its escapes read.
+/// The text of a string, which has its quotes, with its escapes replaced.
 #[tactic(auto, unfolding(crate::specs::Strings::unescaped))]
 pub fn string_text(alloc: Global, literal: &[u8]) -> Result<Vec<u8>, AllocError>
     requires { 0 < length literal.now }

@@ -134,7 +134,7 @@ fn letters(text: &[u8]) -> usize
     text.iter().take_while(|b| is_letter(**b)).count()
 }
 
-/// The first byte and the letters behind it.
+/// The length of the first byte and the letters after it.
 fn letters_len(text: &[u8]) -> usize
     requires { 0 < length text.now }
     ensures value { result ≡ spec.letters_len text.now }

@@ -209,8 +209,8 @@ pub enum Kind {
     Omitted,
 }
 
-/// Whether two kinds are the same, of those that stand between the parts of forms, units and statements. Of any other kind it
-/// is false, also where both are that kind.
+/// Whether two kinds are the same, for kinds that separate the parts of forms, units and statements. For any other kind
+/// it is false, even if both are that kind.
 pub fn same_kind(wanted: Kind, kind: Kind) -> bool
     ensures { result ≡ kinds.same_kind wanted kind }
 {

@@ -22,7 +22,7 @@ module _ (text : List ℕ) (ts : List Token) where
   abbrev pub IsLeftOut : Option Place → Option (List ℕ) → Type 0
   IsLeftOut p x = (at : ℕ) × (t : Token) × (slice_get ts at ≡ Some t) × (p ≡ Some t.place) × (x ≡ Some (word_of text t)) × (BeginsLeftOut ts at ⊎ IsUnknownModule ts text at)
 
-  -- what each refusal says of the text; want of memory says nothing
+  -- what each refusal says of the text; that memory ran out says nothing
   abbrev pub Justified : ParseCode → Option Place → Option (List ℕ) → Type 0
   Justified code.Unexpected p x = NoneSpells
   Justified code.Precedence p x = NoneSpells
@@ -31,7 +31,7 @@ module _ (text : List ℕ) (ts : List Token) where
   Justified code.LeftOut p x = IsLeftOut p x × NoneSpells
   Justified code.NoMemory p x = Unit {0}
 
--- there is a place but for want of memory, and a name with a form left out alone
+-- there is a place unless memory ran out, and a name only for a form that is left out
 abbrev pub IsLocated : ParseCode → Option Place → Option (List ℕ) → Type 0
 IsLocated code.LeftOut (Some p) (Some x) = Unit {0}
 IsLocated code.NoMemory None None = Unit {0}

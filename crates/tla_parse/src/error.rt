@@ -10,7 +10,7 @@ use tla_tree::Word;
 pub enum ParseCode {
     /// P1: a token that has no place there.
     Unexpected,
-    /// P2: two operators that may not stand together without brackets.
+    /// P2: two operators that may not be beside each other without parentheses.
     Precedence,
     /// P3: a token at or left of its junction list's column, where the item must go on.
     Column,
@@ -18,11 +18,12 @@ pub enum ParseCode {
     Nesting,
     /// P5: a form that is left out of the language.
     LeftOut,
-    /// Want of memory, of which a report tells no code.
+    /// Memory ran out. A report has no code for it.
     NoMemory,
 }
 
-/// Why a module has no tree: where, but for want of memory, and for a form left out its word or symbol as written, or the module's name.
+/// Why a module has no tree, and where, unless memory ran out. For a form that is left out, it has its word or symbol,
+/// or the module's name.
 #[derive(Drop)]
 pub struct ParseError {
     pub code: ParseCode,

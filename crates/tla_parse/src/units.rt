@@ -27,7 +27,7 @@ const OUTERMOST: Context = Context {
     updating: false,
 };
 
-/// Whether EXTENDS may stand behind the unit.
+/// Whether EXTENDS may follow the unit.
 fn stays_first(unit: &Unit, first: bool) -> bool
     ensures { result ≡ (first && units.is_separator (unit_view unit.now)) }
 {
@@ -77,7 +77,7 @@ pub struct ParsedUnits {
     pub end: usize,
 }
 
-/// The names of known modules with commas between them, behind EXTENDS.
+/// The names of known modules with commas between them, after EXTENDS.
 #[tactic(auto, using(crate::proofs::UnitsSteps::modules_more, crate::proofs::UnitsSteps::modules_last, crate::proofs::UnitsSteps::modules_full))]
 fn extended(
     alloc: Global,

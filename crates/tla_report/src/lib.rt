@@ -1,4 +1,4 @@
-//! The report of a check: what a check answers, the bytes that tell it, and the status with which the program ends.
+//! The report of a check: the answer of a check, the bytes of its report, and the exit status.
 #![tactic(auto)]
 
 mod checked;

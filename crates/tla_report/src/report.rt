@@ -20,7 +20,7 @@ use tla_value::{State, Text, Value};
 /// A write failed or took no byte.
 #[derive(Clone, Copy, Debug, PartialEq, Eq)]
 pub struct WriteFault {
-    /// How many bytes of the report went out; `u64::MAX` stands for that many or more.
+    /// How many bytes of the report were written; `u64::MAX` means that many or more.
     pub written: u64,
 }
 
@@ -133,7 +133,7 @@ fn put_site<W: Write>(
     }
 }
 
-// Writes the rest of the line, which says where the fault was met.
+// Writes the rest of the line, which names the formula that faulted.
 fn put_part<W: Write>(
     part: Part,
     answered: &Answered,

@@ -21,8 +21,7 @@ pub struct ActionPart {
     pub within: Option<Place>,
 }
 
-/// The parts of an action, each once, in the order in which they are read. The only error is want
-/// of memory.
+/// The parts of an action, each once, in the order in which they are read. The only error is that memory ran out.
 pub fn action_parts(alloc: Global, action: Action<'_>) -> Result<Vec<ActionPart>, AllocError> {
     let mut parts = Vec::new(alloc);
     gather(action.core, None, action.starts, &mut parts)?;

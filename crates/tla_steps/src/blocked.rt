@@ -116,7 +116,7 @@ fn find_by_items<'a>(
     outcome
 }
 
-/// Adds why a part makes no step, for a choice more.
+/// Adds why a part makes no step, with one more choice.
 fn add_blocked<'a>(
     part: &'a Core,
     walk: &mut Walk<'_>,

@@ -40,7 +40,7 @@ impl Path {
         }
     }
 
-    /// One choice more. The only error is that memory ran out.
+    /// Adds one choice. The only error is that memory ran out.
     pub(crate) fn push(&mut self, place: Place, value: Value) -> Result<(), AllocError> {
         self.places.push(Some(place))?;
         self.values.push(value)?;
@@ -54,7 +54,7 @@ impl Path {
         Ok(())
     }
 
-    /// An element that stands for its items has no name in the text.
+    /// An element that is replaced by its items has no name in the text.
     pub(crate) fn hide(&mut self, name: usize) {
         if let Some(place) = self.places.get_mut(name) {
             *place = None;

@@ -13,9 +13,9 @@ use tla_value::{State, Text, Value};
 /// The node of a fault.
 #[derive(Drop)]
 pub struct Culprit<'a> {
-    /// The nodes on the way to it, from the whole on. The last one is the node itself.
+    /// The nodes on the way to it, from the top. The last one is the node itself.
     pub nodes: Vec<&'a Core>,
-    /// The values of the names that are bound round it, the outermost first.
+    /// The values of the names that are bound around it, the outermost first.
     pub chosen: Vec<Chosen>,
     /// Its operands that have a value.
     pub operands: Vec<Operand<'a>>,

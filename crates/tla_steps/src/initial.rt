@@ -6,8 +6,8 @@ use tla_core::{Core, Fault};
 use tla_eval::Partial;
 use tla_value::{State, Value};
 
-/// The states of an initial predicate, each as often as it is read; none where it faults. The only
-/// error is that memory ran out.
+/// The states of an initial predicate, each as often as it is read; none if it faults. The only error is that memory
+/// ran out.
 pub fn initial_states(alloc: Global, init: &Core, variables: usize) -> Result<Vec<State>, Fault> {
     let mut walk = Walk::new(alloc, None, 1);
     let unset = Partial::unset(alloc, variables)?;

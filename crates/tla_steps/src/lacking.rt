@@ -9,8 +9,8 @@ use tla_eval::Partial;
 use tla_reading::is_unset;
 use tla_value::State;
 
-/// Where the parts of an action stand that may leave a variable without a next value, in the order
-/// of the text. The only error is that memory ran out.
+/// The places of the parts of an action that may leave a variable without a next value, in the order of the text. The
+/// only error is that memory ran out.
 pub fn lacking_parts(
     alloc: Global,
     action: &Core,

@@ -1,9 +1,9 @@
-//! The parts of an action and of a state predicate: which of them a step makes true, which leave a
-//! variable without a next value, which decide that the whole is FALSE, which stop an action, and
-//! which fault; and which updates of EXCEPT change nothing.
+//! The parts of an action and of a state predicate: which of them a step makes TRUE, which leave a variable without a
+//! next value, which decide that the whole is FALSE, which stop an action, and which fault; and which updates of EXCEPT
+//! change nothing.
 //!
-//! A part of an action is what its disjunctions and its `\E` lead to, as TLC names its actions.
-//! Where one conjunct alone leads on to such parts, they are the parts.
+//! A part of an action is what its disjunctions and its `\E` lead to, as TLC names its actions. If only one conjunct
+//! leads to such parts, they are the parts.
 #![tactic(auto)]
 
 mod action;

@@ -34,7 +34,7 @@ pub struct Operand<'a> {
 pub struct Reason<'a> {
     pub part: &'a Core,
     pub verdict: Verdict,
-    /// The values of the names that are bound round it, the outermost first.
+    /// The values of the names that are bound around it, the outermost first.
     pub chosen: Vec<Chosen>,
     /// The sides of a comparison, or the set from which is chosen.
     pub operands: Vec<Operand<'a>>,
@@ -231,7 +231,7 @@ fn find_by_element<'a>(
     Ok(false)
 }
 
-/// Finds why the body is FALSE at the first elements, behind the whole.
+/// Finds why the body is FALSE at the first elements, after the reason of the whole.
 #[cycle(reasons)]
 fn find_by_each<'a>(
     body: &'a Core,

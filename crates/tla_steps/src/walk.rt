@@ -91,7 +91,7 @@ impl<'a> Walk<'a> {
         Ok(true)
     }
 
-    /// The bound names that stand in the text, the outermost first.
+    /// The bound names that occur in the text, the outermost first.
     pub(crate) fn chosen(&self) -> Result<Vec<Chosen>, Fault> {
         self.path.chosen(self.alloc)
     }

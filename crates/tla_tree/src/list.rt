@@ -4,7 +4,7 @@ ghost use Rattle.std.specs.Prelude.{◌≡◌, ◌++◌, ◌∷◌, [], OnOk};
 
 use std::alloc::AllocError;
 
-/// Adds an item behind the others.
+/// Appends an item.
 pub fn push<T: Drop>(items: &mut Vec<T>, item: T) -> Result<(), AllocError>
     ensures ok { OnOk result (items.new.items ≡ items.old.items ++ item ∷ []) }
 {
@@ -12,7 +12,7 @@ pub fn push<T: Drop>(items: &mut Vec<T>, item: T) -> Result<(), AllocError>
     Ok(())
 }
 
-/// Adds what stands in the box behind the others.
+/// Appends the content of a box.
 pub fn push_inner<T: Drop>(items: &mut Vec<T>, item: Box<T>) -> Result<(), AllocError>
     ensures ok { OnOk result (items.new.items ≡ items.old.items ++ item.value ∷ []) }
 {

@@ -107,7 +107,7 @@ pub enum Constant {
     String,
 }
 
-/// The brackets round a list of expressions.
+/// The brackets around a list of expressions.
 #[derive(Clone, Copy, Debug)]
 pub enum Brackets {
     /// `{` and `}`
@@ -132,7 +132,7 @@ pub enum Fairness {
     Strong,
 }
 
-/// What an entry of a binder has before `\in`, of one name or more.
+/// What an entry of a binder has before `\in`: one or more names.
 #[derive(Drop)]
 pub enum Pattern {
     /// `x, y`: each name is an element.
@@ -185,13 +185,13 @@ pub struct Field {
 #[cycle(tree)]
 #[derive(Drop)]
 pub enum Key {
-    /// `[e, ..]`, with one argument or more.
+    /// `[e, ..]`, with one or more arguments.
     Index(Vec<Expr>),
     /// `.a`
     Field(Written),
 }
 
-/// An update of EXCEPT: `!p = e`, with a path of one step or more.
+/// An update of EXCEPT: `!p = e`, with a path of one or more steps.
 #[cycle(tree)]
 #[derive(Drop)]
 pub struct Update {
@@ -203,7 +203,7 @@ pub struct Update {
 #[cycle(tree)]
 #[derive(Drop)]
 pub enum Definition {
-    /// `Op == e`, or `Op(p, ..) == e` with one parameter or more.
+    /// `Op == e`, or `Op(p, ..) == e` with one or more parameters.
     Operator(Written, Vec<Written>, Expr),
     /// `f[x \in S, ..] == e`
     Function(Written, Vec<Binder>, Expr),
@@ -225,17 +225,17 @@ pub enum Expr {
     Paren(Place, Box<Expr>),
     /// `{e, ..}` or `<<e, ..>>`
     Listing(Place, Brackets, Vec<Expr>),
-    /// `Op(e, ..)`, with one argument or more.
+    /// `Op(e, ..)`, with one or more arguments.
     Call(Written, Vec<Expr>),
     /// `e'`
     Prime(Place, Box<Expr>),
-    /// `f[e, ..]`, with one argument or more.
+    /// `f[e, ..]`, with one or more arguments.
     Index(Place, Box<Expr>, Vec<Expr>),
     /// `r.a`
     Field(Place, Box<Expr>, Written),
     /// A prefix operator and its operand.
     Unary(Place, Prefix, Box<Expr>),
-    /// An infix operator, as it is written and where, between its operands.
+    /// An infix operator between its operands, with its text and its place.
     Binary(Place, Infix, Written, Box<Expr>, Box<Expr>),
     /// `\A x, y \in S, z \in T : p`
     Quantified(Place, Quantifier, Vec<Binder>, Box<Expr>),
@@ -243,11 +243,11 @@ pub enum Expr {
     Choose(Place, Pattern, Box<Expr>, Box<Expr>),
     /// `IF p THEN a ELSE b`
     If(Place, Box<Expr>, Box<Expr>, Box<Expr>),
-    /// `CASE p -> a [] .. [] OTHER -> b`, with one arm or more, and OTHER or none.
+    /// `CASE p -> a [] .. [] OTHER -> b`, with one or more arms, with or without OTHER.
     Case(Place, Vec<Arm>, Option<Box<Expr>>),
     /// `LET` one definition or more `IN e`
     Let(Place, Vec<Definition>, Box<Expr>),
-    /// A junction list, of one item or more.
+    /// A junction list of one or more items.
     Junction(Place, Bullet, Vec<Expr>),
     /// `{x \in S : p}`, with one name, or a tuple of names.
     Filter(Place, Pattern, Box<Expr>, Box<Expr>),
@@ -257,17 +257,17 @@ pub enum Expr {
     Function(Place, Vec<Binder>, Box<Expr>),
     /// `[S -> T]`
     FunctionSet(Place, Box<Expr>, Box<Expr>),
-    /// `[a |-> e, ..]`, with one field or more.
+    /// `[a |-> e, ..]`, with one or more fields.
     Record(Place, Vec<Field>),
-    /// `[a : S, ..]`, with one field or more.
+    /// `[a : S, ..]`, with one or more fields.
     RecordSet(Place, Vec<Field>),
-    /// `[f EXCEPT !p = e, ..]`, with one update or more.
+    /// `[f EXCEPT !p = e, ..]`, with one or more updates.
     Except(Place, Box<Expr>, Vec<Update>),
     /// `[A]_v` or `<<A>>_v`: the action, and the subscript.
     Action(Place, Step, Box<Expr>, Box<Expr>),
     /// `WF_v(A)` or `SF_v(A)`: the subscript, and the action.
     Fair(Place, Fairness, Box<Expr>, Box<Expr>),
-    /// `a \X b \X ..`: the first operand, and the others, one or more.
+    /// `a \X b \X ..`: the first operand, and one or more others.
     Product(Place, Box<Expr>, Vec<Expr>),
 }
 

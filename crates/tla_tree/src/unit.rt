@@ -24,7 +24,7 @@ pub enum Unit {
     Theorem(Place, Option<Written>, Expr),
 }
 
-/// A constant: `c`, or `F(_, ..)` with so many arguments.
+/// A constant: `c`, or `F(_, ..)` with `arity` arguments.
 #[derive(Drop)]
 pub struct Declaration {
     pub name: Written,

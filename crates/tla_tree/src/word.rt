@@ -42,7 +42,7 @@ impl Word {
     }
 }
 
-/// A word, and where it stands.
+/// A word, and its place.
 #[derive(Drop)]
 pub struct Written {
     pub place: Place,
@@ -50,7 +50,7 @@ pub struct Written {
 }
 
 impl Written {
-    /// The token as it is written, and where. The error is want of memory.
+    /// The text of the token, and its place. The only error is that memory ran out.
     pub fn of_token(alloc: Global, text: &[u8], token: Token) -> Result<Written, AllocError>
         ensures ok { IfOk result (λ w. w ≡ words.written text.now token) }
     {

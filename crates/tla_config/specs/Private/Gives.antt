@@ -43,7 +43,7 @@ module _ (text : Bytes) (ts : List Token) where
   GoesOn at None = Ends at
   GoesOn at (Some next) = (Has text ts k.Comma at × (next ≡ at + 1)) ⊎ (((w : Written) × IsName text ts w at) × (next ≡ at))
 
-  -- a refusal says that something is not there; want of memory says nothing
+  -- a refusal says that something is not there; that memory ran out says nothing
   abbrev pub Fails : Refusal → Type 0 → Type 0
   Fails (refusal.Unexpected at) p = p
   Fails (refusal.LeftOut at) p = p
