@@ -19,7 +19,7 @@ pub record Puts (old new : Option (List ℕ)) (before : ℕ) (bytes : List ℕ) 
   pub added : Appends old new (take taken bytes)
   pub counted : count_of result ≡ count_after before taken
 
--- exactly the first `written` of the bytes were added, and not all, where u64::MAX stands for that many or more
+-- exactly the first `written` of the bytes were added, and not all, where u64::MAX means that many or more
 pub record AddsFirst (old new : Option (List ℕ)) (bytes : List ℕ) (written : ℕ) : Type 0 where
   pub taken : ℕ
   pub short : taken < length bytes

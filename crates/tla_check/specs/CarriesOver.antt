@@ -1,4 +1,4 @@
--- How a refusal of a stage is told: under the same code and name, at the same place. (This project's own choice.)
+-- How a refusal of a stage is reported: under the same code and name, at the same place. (This project's own choice.)
 use Rattle.std.specs.Prelude.{◌≡◌, ℕ, List, Option, Some, None, option_map, is_some, IsSome, ⊤}
 use Rattle.tla_lex.specs.declared.error.LexCode.{LexCode}
 use Rattle.tla_lex.specs.declared.error.LexCode.TheVariants as lex
@@ -16,7 +16,7 @@ use Rattle.tla_report.specs.Codes.{is_named_code}
 use Rattle.tla_report.specs.declared.checked.Checked.{Checked}
 use Rattle.tla_report.specs.declared.checked.Checked.TheVariants.{Answered, Refused, NoMemory, NoWorker}
 
--- want of memory is no refusal
+-- that memory ran out is no refusal
 abbrev pub lex_code : LexCode → Option RefusalCode
 lex_code lex.NotUtf8 = Some refusal.NotUtf8
 lex_code lex.Unknown = Some refusal.UnknownCharacter
@@ -49,7 +49,7 @@ defs_code defs.StatementLeftOut = Some refusal.StatementLeftOut
 defs_code defs.ExpansionTooLarge = Some refusal.ExpansionTooLarge
 defs_code defs.Memory = None
 
--- a refusal that is told has a place, and a name exactly where the report prints one
+-- a refusal that is reported has a place, and a name exactly if the report prints one
 abbrev pub IsTold : Option RefusalCode → Option text.Place → Option (List ℕ) → Type 0
 IsTold None place name = ⊤
 IsTold (Some code) place name = IsSome place × (is_some name ≡ is_named_code code)
@@ -64,7 +64,7 @@ pub record CarriesOver (of : Source) (under : Option RefusalCode) (at : Option t
   pub place : option_map place_of at ≡ Some r.place
   pub name : r.name ≡ word
 
--- a stage's refusal ends the check; want of memory is answered only where the stage answered it
+-- a stage's refusal ends the check; the answer that memory ran out is given only if the stage gave it
 abbrev pub EndsBy : Source → Option RefusalCode → Option text.Place → Option (List ℕ) → Checked → Type 0
 EndsBy source code place name (Answered a) = ⊥
 EndsBy source code place name (Refused r) = CarriesOver source code place name r

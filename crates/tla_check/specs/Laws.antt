@@ -35,9 +35,9 @@ abbrev pub IsFirst : Checked → Type 0
 IsFirst (Refused r) = IsTrue (is_first_code r.code)
 IsFirst _ = ⊥
 
--- Two outcomes of one module and one configuration end with one status. Their reports are the same bytes where the texts
--- name a model, where the module has no tokens, and where the one of them is a refusal for a name, an item of CONSTANT or the
--- behaviour. (Of other refusals the definitions leave free which of several reasons is told, or where.)
+-- Two outcomes of one module and one configuration end with one status. Their reports are the same bytes if the texts
+-- denote a model, if the module has no tokens, and if one of them is a refusal for a name, an item of CONSTANT or the
+-- behaviour. (For other refusals, the definitions leave open which of several reasons is reported, or where.)
 pub record AreAlike (text config : List ℕ) (a b : Checked) : Type 0 where
   pub status : status_of a ≡ status_of b
   pub named : (m : ModelTree) → NameModel text config m → report a ≡ report b

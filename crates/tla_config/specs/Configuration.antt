@@ -50,7 +50,7 @@ module _ (text : Bytes) (ts : List Token) where
   Names (w ∷ []) from to = IsName w from × (to ≡ from + 1)
   Names (w ∷ v ∷ ws) from to = IsName w from × (at : ℕ) × ((at ≡ from + 1) ⊎ (Has k.Comma (from + 1) × (at ≡ from + 2))) × Names (v ∷ ws) at to
 
-  -- a value of one token, or a number behind `-`
+  -- a value of one token, or a number after `-`
   abbrev pub IsAtom : Tree → ℕ → ℕ → Type 0
   IsAtom v from to = ((t : Token) × (slice_get ts from ≡ Some t) × (atom_of text t ≡ Some v) × (to ≡ from + 1))
       ⊎ (Has k.Minus from × (t : Token) × (slice_get ts (from + 1) ≡ Some t) × (t.kind ≡ k.Digits) × (v ≡ int (number true (word_of text t))) × (to ≡ from + 2))
@@ -61,7 +61,7 @@ module _ (text : Bytes) (ts : List Token) where
     SpellsLiteral (braces no_literals) from to = Has k.LeftBrace from × Has k.RightBrace (from + 1) × (to ≡ from + 2)
     SpellsLiteral (braces (more_literals l ls)) from to = Has k.LeftBrace from × (mid : ℕ) × SpellsLiteral l (from + 1) mid × SpellsMembers ls mid to
 
-    -- the members behind the first, each behind a comma, and the brace that closes the set
+    -- the members after the first, each after a comma, and the brace that closes the set
     pub SpellsMembers : Literals → ℕ → ℕ → Type 0
     SpellsMembers no_literals from to = Has k.RightBrace from × (to ≡ from + 1)
     SpellsMembers (more_literals l ls) from to = Has k.Comma from × (mid : ℕ) × SpellsLiteral l (from + 1) mid × SpellsMembers ls mid to

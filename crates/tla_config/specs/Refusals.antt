@@ -26,7 +26,7 @@ left_out_words =
     ∷ codes "ALIAS" ∷ codes "POSTCONDITION" ∷ []
 
 module _ (text : Bytes) (ts : List Token) where
-  -- such a word stands here
+  -- such a word is here
   abbrev pub IsLeftOutWord : ℕ → Type 0
   IsLeftOutWord at = (t : Token) × (slice_get ts at ≡ Some t) × (t.kind ≡ k.Name) × IsTrue (is_among (word_of text t) left_out_words)
 
@@ -38,18 +38,18 @@ module _ (text : Bytes) (ts : List Token) where
   abbrev pub IsTooLargeItem : ℕ → Type 0
   IsTooLargeItem at = ((c : Written) × IsName text ts c at) × Has text ts k.Equal (at + 1) × IsBeyond text ts MAX_NESTING (at + 2)
 
-  -- items stand between two tokens, each with a comma behind it or none
+  -- items between two tokens, each with or without a comma after it
   abbrev pub ItemsUpTo : List Item → ℕ → ℕ → Type 0
   ItemsUpTo [] from to = from ≡ to
   ItemsUpTo (i ∷ is) from to = (mid : ℕ) × SpellsItem text ts i from mid × (at : ℕ) × ((at ≡ mid) ⊎ (Has text ts k.Comma mid × (at ≡ mid + 1))) × ItemsUpTo is at to
 
-  -- statements stand before this token, CHECK_DEADLOCK once at most among them
+  -- statements come before this token, CHECK_DEADLOCK at most once among them
   pub record FollowsStatements (at : ℕ) : Type 0 where
     pub statements : List Statement
     pub spelled : StatementsUpTo text ts statements 0 at
     pub once : length (filter is_check_deadlock statements) ≤ 1
 
-  -- statements stand before this token, then CONSTANT and items
+  -- statements come before this token, then CONSTANT and items
   pub record FollowsItems (at : ℕ) : Type 0 where
     pub begin : ℕ
     pub statements : FollowsStatements begin
@@ -66,7 +66,7 @@ pub record Begins (text : Bytes) (ts : List Token) : Type 0 where
 abbrev pub StandsAt : List Token → ℕ → Place → Type 0
 StandsAt ts at p = (t : Token) × (slice_get ts at ≡ Some t) × (t.place ≡ p)
 
--- behind statements the text has the word of a statement that is left out
+-- after statements the text has the word of a statement that is left out
 pub record HasLeftOutWord (text : Bytes) (p : Place) (word : Name) : Type 0 where
   pub tokens : List Token
   pub begins : Begins text tokens
@@ -76,7 +76,7 @@ pub record HasLeftOutWord (text : Bytes) (p : Place) (word : Name) : Type 0 wher
   pub place : is.0.place ≡ p
   pub name : word_of text is.0 ≡ word
 
--- behind statements, CONSTANT and items it has `c <- [`, with the bracket at this place
+-- after statements, CONSTANT and items it has `c <- [`, with the bracket at this place
 pub record HasLeftOutItem (text : Bytes) (p : Place) : Type 0 where
   pub tokens : List Token
   pub begins : Begins text tokens
@@ -85,7 +85,7 @@ pub record HasLeftOutItem (text : Bytes) (p : Place) : Type 0 where
   pub is : IsLeftOutItem text tokens at
   pub place : StandsAt tokens (at + 2) p
 
--- behind them it has an item with a value beyond the limits, at this place
+-- after them it has an item with a value beyond the limits, at this place
 pub record HasTooLargeItem (text : Bytes) (p : Place) : Type 0 where
   pub tokens : List Token
   pub begins : Begins text tokens
@@ -94,7 +94,7 @@ pub record HasTooLargeItem (text : Bytes) (p : Place) : Type 0 where
   pub is : IsTooLargeItem text tokens at
   pub place : StandsAt tokens at p
 
--- behind statements nothing is left out, and no value of an item is beyond the limits
+-- after statements nothing is left out, and no value of an item is beyond the limits
 pub record HasNeither (text : Bytes) : Type 0 where
   pub no_word : (p : Place) (word : Name) → HasLeftOutWord text p word → ⊥
   pub no_item : (p : Place) → HasLeftOutItem text p → ⊥
@@ -110,16 +110,16 @@ has_name code.CircularReplacement = true
 has_name code.StatementLeftOut = true
 has_name _ = false
 
--- A place stands with each code but that of memory, and a name with those that print one.
+-- Each code but that of memory has a place, and each code that prints a name has one.
 abbrev pub IsLocated : DefsCode → Option Place → Option Name → Type 0
 IsLocated code.Memory None None = Unit {0}
 IsLocated code.Memory _ _ = ⊥
 IsLocated c None name = ⊥
 IsLocated c (Some p) name = is_some name ≡ has_name c
 
--- Of a configuration's text that is refused. C10 is given where a statement or an item that is left out begins behind
--- statements, and names its word or `[`; C11 where an item so placed has a value beyond the limits; C1 only where behind
--- statements there is neither. Where C1 stands is not said here.
+-- What a refusal says of a configuration's text. C10: after statements, a statement or an item begins that is left out;
+-- it has its word or `[`. C11: such an item has a value beyond the limits. C1: after statements there is neither. The
+-- place of C1 is not defined here.
 abbrev pub Explains : Bytes → DefsCode → Option Place → Option Name → Type 0
 Explains text code.ConfigurationText p name = HasNeither text
 Explains text code.ExpansionTooLarge (Some p) name = HasTooLargeItem text p

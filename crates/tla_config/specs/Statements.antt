@@ -40,6 +40,6 @@ leaves_deadlock _ = false
 abbrev pub items_of : List Statement → List Item
 items_of cs = flat_map constant_items cs
 
--- deadlock is looked for unless CHECK_DEADLOCK FALSE stands
+-- deadlock is looked for unless there is a CHECK_DEADLOCK FALSE
 abbrev pub checks_deadlock : List Statement → Bool
 checks_deadlock cs = not (list_any leaves_deadlock cs)

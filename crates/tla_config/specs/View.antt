@@ -1,4 +1,4 @@
--- What a configuration in memory stands for.
+-- The mathematical value of a configuration in memory.
 use Rattle.std.specs.Prelude.{List, map}
 use Rattle.tla_lex.specs.declared.token.Place.{Place}
 use Rattle.tla_value.specs.TreeOf.{tree_of}

@@ -1,4 +1,4 @@
--- What the names of definitions without parameters stand for (book, chapters 14 and 17).
+-- The definitions of names without parameters (book, chapters 14 and 17).
 use Rattle.std.specs.Prelude.{ℕ, zero, suc, Bool, true, false, ◌&&◌, List, [], ◌∷◌, Option, Some, None, nat_eq, length}
 use Rattle.std.specs.Str.{bytes_eq}
 use Rattle.tla_tree.specs.Tree.{Tree, DefinesOperator}
@@ -8,7 +8,7 @@ use Rattle.tla_config.specs.Statements.{Item}
 use Rattle.tla_expand.specs.Maybe.{◌>>=◌}
 use Rattle.tla_items.specs.Items.{stands_for}
 
--- what names stand for
+-- the definitions of names
 abbrev pub Bodies : Type 0
 Bodies = Name → Option Tree
 
@@ -29,7 +29,7 @@ body_in (u ∷ us) x = body_in us x
 abbrev pub body_of : List UnitTree → List Item → Bodies
 body_of us is x = stands_for is x >>= λ y. body_in us y
 
--- a property of formulas, which asks of names whether they stand for formulas with it
+-- a property of formulas, given which names have definitions with it
 abbrev pub Property : Type 0
 Property = (Name → Bool) → Tree → Bool
 
@@ -37,7 +37,7 @@ abbrev pub body_has : Property → (Name → Bool) → Option Tree → Bool
 body_has f φ None = false
 body_has f φ (Some e) = f φ e
 
--- the names that stand for formulas with a property, so many definitions deep
+-- the names whose definitions have a property, found by looking n definitions deep
 abbrev pub names_with : Property → ℕ → Bodies → Name → Bool
 names_with f zero b x = false
 names_with f (suc n) b x = body_has f (names_with f n b) (b x)

@@ -24,7 +24,7 @@ abbrev pub is_for_all : Quantifier → Bool
 is_for_all quantifier.ForAll = true
 is_for_all quantifier.Exists = false
 
--- one of these names, where no quantifier around it binds it: else it stands for no definition
+-- one of these names, if no quantifier around it binds it: else it has no definition
 abbrev pub name_in : (Name → Bool) → Scope → Name → Bool
 name_in φ σ x = not (is_some (arity σ x)) && φ x
 
@@ -46,7 +46,7 @@ abbrev mutual
 abbrev pub fairness : Property
 fairness φ e = fair_in φ [] e
 
--- the names that stand for fairness, so many definitions deep
+-- the names whose definitions are fairness, found by looking n definitions deep
 abbrev pub fair_of : ℕ → Bodies → Name → Bool
 fair_of = names_with fairness
 

@@ -23,7 +23,7 @@ constant_unit = Constants (place 3 12) ((word 3 21 (codes "N"), 0) ∷ [])
 abbrev pub given_tree : Tree
 given_tree = Binary (place 5 9) op.Equal (word 5 12 (codes "=")) (Prime (place 5 9) (x_at 5 9)) (name_at 5 14 (codes "N"))
 
--- the value stands where the constant is used
+-- the place of the value is where the constant is used
 abbrev pub given_step : Expr
 given_step = equal (place_of (place 5 9)) (next (place_of (place 5 9)) 0) (constant_at 5 14 3)
 
@@ -34,7 +34,7 @@ given_item = s.Value (word 3 10 (codes "N")) (value.int (pos 3))
 abbrev pub WithValue : Type 0
 WithValue = IsModel (behind constant_unit given_tree) (statements (s.Constants (place 3 1) (given_item ∷ []) ∷ [])) (model 0 given_step [] true)
 
--- CONSTANT N <- Three, where Three == 3 is defined behind the use of N: its number stands where it is written
+-- CONSTANT N <- Three, where Three == 3 is defined after the use of N: the place of its number is where it is written
 abbrev pub replaced_units : List UnitTree
 replaced_units = behind constant_unit given_tree ++ Operator (word 6 1 (codes "Three")) (number_at 6 10 3) ∷ []
 

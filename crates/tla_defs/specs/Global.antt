@@ -28,7 +28,7 @@ abbrev pub unless : Bool → Scope → Scope → Scope
 unless true τ σ = σ
 unless false τ σ = τ
 
--- units behind so many variables, where these names are replaced
+-- units after n variables, in which these names are replaced
 abbrev pub units_in : List Name → ℕ → List UnitTree → Scope → Scope
 units_in xs i [] σ = σ
 units_in xs i (Variables at ws ∷ us) σ = units_in xs (i + length ws) us (variables_in i ws σ)
@@ -42,7 +42,8 @@ units_in xs i (u ∷ us) σ = units_in xs i us σ
 abbrev pub meant : List UnitTree → List Item → Scope → Scope
 meant us is ρ = units_in (replaced_names is) 0 us (with_items ρ is standard)
 
--- An operator that replaces a name may be defined behind its uses, so that each such item gives all names their meaning once more.
+-- An operator that replaces a name may be defined after its uses, so for each such item there is one more pass in which
+-- all names get their meaning.
 abbrev pub raised : List UnitTree → List Item → List Item → Scope → Scope
 raised us is [] ρ = ρ
 raised us is (Value w v ∷ js) ρ = raised us is js ρ

@@ -25,7 +25,7 @@ name_at line column x = Name (word line column x)
 abbrev pub plus_one : UnitTree
 plus_one = Defines (DefinesOperator (word 3 12 (codes "F")) (word 3 14 (codes "y") ∷ []) (Binary (place 3 20) op.Plus (word 3 22 (codes "+")) (name_at 3 20 (codes "y")) (number_at 3 24 1)))
 
--- x' = F(x): the sum stands where the definition has it, and x where it is used
+-- x' = F(x): the place of the sum is in the definition, and that of x in its use
 abbrev pub use_tree : Tree
 use_tree = Binary (place 5 9) op.Equal (word 5 12 (codes "=")) (Prime (place 5 9) (x_at 5 9)) (Call (word 5 14 (codes "F")) (more (x_at 5 16) none))
 

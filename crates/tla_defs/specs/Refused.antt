@@ -44,7 +44,8 @@ alone p v (Constraints at ws ∷ cs) = alone p v cs
 alone p v (CheckDeadlock at check ∷ cs) = alone p v cs
 alone p v (Constants at is ∷ cs) = alone p v cs
 
--- What names the behaviour, behind an INIT and a NEXT or not; or the place of a statement that is one too many, or of the end where one is missing.
+-- What names the behaviour, after an INIT and a NEXT or without; or the place of a statement that is one too many, or
+-- of the end if one is missing.
 abbrev pub behaviour : List Statement → Place → Option Written → Option Written → Result Behaviour Place
 behaviour [] end None n = Err end
 behaviour [] end (Some i) None = Err end
@@ -96,7 +97,7 @@ pub record IsTooLarge (e : DefsError) : Type 0 where
   pub place : is_some e.place ≡ true
   pub name : e.name ≡ None
 
--- The formula that a name stands for has more conjuncts of an initial predicate than an expression within the limits has nodes.
+-- The formula of a name has more conjuncts of an initial predicate than an expression within the limits has nodes.
 pub record HasTooMany (us : List UnitTree) (is : List Item) (w : Written) : Type 0 where
   pub body : Tree
   pub is_body : body_of us is w.word ≡ Some body
@@ -106,16 +107,16 @@ pub record HasTooMany (us : List UnitTree) (is : List Item) (w : Written) : Type
 abbrev pub NoForm : List UnitTree → List Item → Scope → ℕ → Written → Type 0
 NoForm us is σ n w = (i a : Tree) → IsSpecification us is σ n w i a → with_primes Once (expand i σ 0) ≡ None
 
--- SPECIFICATION stands alone, and the formula that it names is not of the form, or has too many conjuncts for it
+-- SPECIFICATION is alone, and the formula that it names is not of the form, or has too many conjuncts for it
 abbrev pub IsFormRefused : List UnitTree → List Item → Result Behaviour Place → DefsError → Type 0
 IsFormRefused us is (Ok (Specified p w)) e = ((refusal_at c.SpecificationForm source.Configuration p ≡ e) × NoForm us is (global us is) (length (variables_of us)) w) ⊎ (IsTooLarge e × HasTooMany us is w)
 IsFormRefused us is _ e = ⊥
 
--- behind all other steps: the form of the specification, or a formula
+-- after all other steps: the form of the specification, or a formula
 abbrev pub IsLast : List UnitTree → List Statement → Result Behaviour Place → DefsError → Type 0
 IsLast us cs b e = IsFormRefused us (items_of cs) b e ⊎ IsOfSome us cs e
 
--- behind the steps that look at names: an item that leads back to its name, or the last steps
+-- after the steps that check names: an item that leads back to its name, or the last steps
 abbrev pub refusal_is : List UnitTree → List Statement → Option DefsError → Result Behaviour Place → DefsError → Type 0
 refusal_is us cs (Some r) b e = r ≡ e
 refusal_is us cs None b e = IsOfCycle (references us (items_of cs)) (items_of cs) e ⊎ (AreStraight (references us (items_of cs)) (items_of cs) × IsLast us cs b e)

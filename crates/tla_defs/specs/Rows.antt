@@ -101,7 +101,7 @@ abbrev pub bounded_step : Expr
 bounded_step = conjunction (place_of (place 5 9)) (more_exprs (binary (place_of (place 5 9)) e.LessThan (now_at 5 9) (constant_at 5 13 2))
     (more_exprs (equal (place_of (place 5 18)) (next (place_of (place 5 18)) 0) (binary (place_of (place 5 23)) e.Add (now_at 5 23) (constant_at 5 27 1))) no_exprs))
 
--- where deadlock is looked for, and where CHECK_DEADLOCK FALSE stands
+-- a model in which deadlock is looked for, and one with CHECK_DEADLOCK FALSE
 abbrev pub BoundedSteps : Type 0
 BoundedSteps = IsModel (frame 0 bounded_tree []) (statements []) (model 0 bounded_step [] true)
 

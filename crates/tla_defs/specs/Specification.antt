@@ -32,7 +32,7 @@ abbrev mutual
   conjuncts_each ρ none = []
   conjuncts_each ρ (more e es) = conjuncts_in ρ e ++ conjuncts_each ρ es
 
--- names stand for their conjuncts, so many definitions deep
+-- the conjuncts of names, found by looking n definitions deep
 abbrev pub conjuncts_of : ℕ → Bodies → Name → Option (List Tree)
 conjuncts_of zero b x = None
 conjuncts_of (suc n) b x = b x >>= λ e. Some (conjuncts_in (conjuncts_of n b) e)
@@ -84,8 +84,8 @@ conjunction_of [] = None
 conjunction_of (e ∷ []) = Some e
 conjunction_of (e ∷ d ∷ es) = Some (t.Junction (place e) bullet.And (trees (e ∷ d ∷ es)))
 
--- The formula that a name stands for has one conjunct [][A]_v, where v covers the variables. Its other conjuncts are fairness, or make up the initial predicate,
--- which has one at least. No definition leads deeper than there are units.
+-- The formula of a name has one conjunct [][A]_v, where v covers the variables. Its other conjuncts are fairness, or
+-- make up the initial predicate, which has at least one. No definition leads deeper than there are units.
 pub record IsSpecification (us : List UnitTree) (is : List Item) (σ : Scope) (variables : ℕ) (w : Written) (initial action : Tree) : Type 0 where
   pub body : Tree
   pub is_body : body_of us is w.word ≡ Some body

@@ -6,7 +6,7 @@ use Rattle.tla_expand.specs.Covers.{covers}
 use Rattle.tla_expand.specs.Meanings.{Scope}
 use Rattle.tla_expand.specs.Expand.{expand}
 
--- a formula that expands to what covers so many variables, however large that is: the limits are those of formulas
+-- a formula whose expansion covers n variables, however large it is: the limits are those of formulas
 pub record IsCover (σ : Scope) (variables : ℕ) (subscript : Tree) : Type 0 where
   pub names : Expr
   pub expanded : expand subscript σ 0 ≡ Some names

@@ -20,7 +20,8 @@ abbrev pub leads_to : Infix → Bool
 leads_to op.LeadsTo = true
 leads_to _ = false
 
--- [], <>, ~> or fairness stands in it under prefix and infix operators, in lists or under quantifiers; where one stands elsewhere, the formula is no part of the form in any case
+-- [], <>, ~> or fairness is in it, under prefix and infix operators, in lists or under quantifiers; if it is elsewhere,
+-- the formula is no part of the form in any case
 abbrev mutual
   pub temporal_in : (Name → Bool) → Scope → Tree → Bool
   temporal_in τ σ (t.Fair p f v a) = true
@@ -39,6 +40,6 @@ abbrev mutual
 abbrev pub temporal : Property
 temporal τ e = temporal_in τ [] e
 
--- the names that stand for temporal formulas, so many definitions deep
+-- the names whose definitions are temporal formulas, found by looking n definitions deep
 abbrev pub temporal_of : ℕ → Bodies → Name → Bool
 temporal_of = names_with temporal

@@ -12,7 +12,7 @@ with_more k Never = k
 with_more k Once = one_more k
 with_more k Twice = one_more (one_more k)
 
--- whether there are so many arguments
+-- whether there are n arguments
 abbrev pub has_count : ℕ → List Argument → Bool
 has_count zero [] = true
 has_count zero (a ∷ args) = false
@@ -27,6 +27,6 @@ argument_at (suc i) (a ∷ args) = argument_at i args
 abbrev pub argument_of : Projection → List Argument → Argument
 argument_of g args d = with_primes g.primes (argument_at g.index args d)
 
--- an operator of so many parameters
+-- an operator of n parameters
 abbrev pub given : ℕ → Projection → Meaning
 given n g p args d = if has_count n args then argument_of g args d else None

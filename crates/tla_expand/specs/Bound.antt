@@ -32,7 +32,7 @@ abbrev pub bind_entry : Pattern → Argument → List Bind → List Bind
 bind_entry (Each ws) s rest = bind_each ws s rest
 bind_entry (Tuple ws) s rest = (tupled ws, s) ∷ rest
 
--- what stands for the last one of a list, and what for the others: `bs` are those behind one
+-- one value for the last one of a list, and another for the others: `bs` are those after one
 abbrev pub last_or : {A B : Type 0} → List A → B → B → B
 last_or [] x y = x
 last_or (b ∷ bs) x y = y

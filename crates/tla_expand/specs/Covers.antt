@@ -23,7 +23,7 @@ abbrev mutual
   have_name i no_exprs = false
   have_name i (more_exprs e es) = if has_name i e then true else have_name i es
 
--- each of the first so many variables is there
+-- each of the first n variables is there
 abbrev pub has_all : ℕ → Expr → Bool
 has_all zero e = true
 has_all (suc n) e = has_name n e && has_all n e

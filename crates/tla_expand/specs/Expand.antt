@@ -1,4 +1,5 @@
--- Expansion (book, chapters 15 to 17): what an expression says of the variables, now and next, where each name stands for what it means.
+-- Expansion (book, chapters 15 to 17): what an expression says of the variables, now and next, with each name replaced
+-- by its meaning.
 use Rattle.std.specs.Prelude.{ℕ, ◌+◌, List, [], ◌∷◌, Option, Some, None}
 use Rattle.tla_value.specs.Tree as value
 use Rattle.tla_core.specs.declared.fault.Place.{Place}

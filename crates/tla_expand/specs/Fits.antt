@@ -1,4 +1,4 @@
--- What expansions name exists: under so many bound names, over so many variables.
+-- What expansions name exists: under this many bound names, over this many variables.
 use Rattle.std.specs.Prelude.{◌≡◌, ◌≤◌, ℕ, Bool, true, List, [], ◌∷◌, Some}
 use Rattle.tla_core.specs.declared.fault.Place.{Place}
 use Rattle.tla_core.specs.Expr.{Expr}
@@ -8,7 +8,7 @@ use Rattle.tla_expand.specs.declared.primes.Primes.TheVariants.{Never, Once, Twi
 use Rattle.tla_expand.specs.Places as names
 use Rattle.tla_expand.specs.Meanings.{Argument, Meaning, Scope}
 
--- under so many bound names, or more
+-- under n bound names, or more
 abbrev pub FitsArgument : ℕ → ℕ → Argument → Type 0
 FitsArgument v b a = (d : ℕ) → b ≤ d → (e : Expr) → a d ≡ Some e → fits e d v true ≡ true
 
@@ -23,7 +23,8 @@ FitsMeaning v b m = (p : Place) (args : List Argument) (d : ℕ) → b ≤ d →
 abbrev pub FitsScope : ℕ → ℕ → Scope → Type 0
 FitsScope v b σ = (x : names.Name) → FitsMeaning v b (σ x)
 
--- How many variables an expansion may name, and whether present values may stand in it, before and after so many primes: under one prime no present value is left, under two no variable.
+-- How many variables an expansion may name, and whether present values may be in it, before and after these primes:
+-- under one prime no present value is left, under two no variable.
 abbrev pub Stays : Primes → ℕ → ℕ → Bool → Type 0
 Stays Never v n s = (n ≡ v) × (s ≡ true)
 Stays Once v n s = n ≡ v

@@ -22,7 +22,7 @@ abbrev pub updates_of : List (List Expr × Expr) → Updates
 updates_of [] = no_updates
 updates_of (u ∷ us) = more_updates (exprs u.0) u.1 (updates_of us)
 
--- a field, and an update, as they stand in memory
+-- the mathematical value of a field, and of an update, in memory
 abbrev pub named_part : List ℕ × Core → List ℕ × Expr
 named_part f = (f.0, expr_of f.1)
 

@@ -1,4 +1,5 @@
--- What names mean (book, chapter 17): functions of their use, so that a parameter stands for its argument, and no name of an argument is captured.
+-- What names mean (book, chapter 17): functions of their use, so that a parameter means its argument, and no name of an
+-- argument is captured.
 use Rattle.std.specs.Prelude.{ℕ, List, [], ◌∷◌, Option, Some, None, if◌then◌else◌}
 use Rattle.std.specs.Str.{bytes_eq}
 use Rattle.tla_value.specs.TreeOf.{tree_of}
@@ -14,11 +15,12 @@ use Rattle.tla_expand.specs.Places as names
 use Rattle.tla_expand.specs.Nodes.{two, three}
 use Rattle.tla_expand.specs.Library.{library}
 
--- An argument: its expression, under so many bound names. The names that it uses keep their numbers, and those that it binds come after.
+-- An argument: its expression, given how many names are bound. The names that it uses keep their numbers, and those
+-- that it binds come after.
 abbrev pub Argument : Type 0
 Argument = ℕ → Option Expr
 
--- What a name means: the expression of its use, at a place, with these arguments, under so many bound names.
+-- What a name means: the expression of its use, at a place, with these arguments, given how many names are bound.
 abbrev pub Meaning : Type 0
 Meaning = Place → List Argument → ℕ → Option Expr
 
@@ -85,13 +87,13 @@ meaning_or (Some b) = builtin_meaning b
 abbrev pub standard : Scope
 standard x = meaning_or (library x)
 
--- the parameters stand for the arguments
+-- the parameters mean the arguments
 abbrev pub with_parameters : List Written → List Argument → Scope → Option Scope
 with_parameters [] [] σ = Some σ
 with_parameters [] (a ∷ args) σ = None
 with_parameters (w ∷ ws) [] σ = None
 with_parameters (w ∷ ws) (a ∷ args) σ = with_parameters ws args (with_name w.word (parameter a) σ)
 
--- a definition: the use of an operator is its body, in which the parameters stand for the arguments
+-- a definition: the use of an operator is its body, in which the parameters mean the arguments
 abbrev pub operator : List Written → (Scope → Argument) → Scope → Meaning
 operator ws body σ p args d = with_parameters ws args σ >>= λ τ. body τ d

@@ -26,7 +26,7 @@ use Rattle.tla_expand.specs.declared.nodes.Gather.TheVariants as gather_
 use Rattle.tla_expand.specs.declared.nodes.Fielded.{Fielded}
 use Rattle.tla_expand.specs.declared.nodes.Fielded.TheVariants as fielded_
 
--- what a word stands for
+-- what a word means
 abbrev pub constant_of : Place → Constant → Expr
 constant_of p True = constant p (value.truth true)
 constant_of p False = constant p (value.truth false)

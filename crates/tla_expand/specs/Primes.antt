@@ -21,13 +21,14 @@ are_fewer Once Once = false
 are_fewer Once Twice = true
 are_fewer Twice k = false
 
--- with how many primes e is read in UNCHANGED e under so many: with two under one, which only an e without variables has an expansion for
+-- With which primes e is read in UNCHANGED e under these primes: under one, with two, for which only an e without
+-- variables has an expansion.
 abbrev pub settled_primes : Primes → Primes
 settled_primes Never = Never
 settled_primes Once = Twice
 settled_primes Twice = Twice
 
--- a variable now, and one next, with so many primes
+-- a variable's present value, and its next one, with these primes
 abbrev pub primed_now : Primes → Place → ℕ → Option Expr
 primed_now Never p i = Some (now p i)
 primed_now Once p i = Some (next p i)
@@ -38,7 +39,7 @@ primed_next Never p i = Some (next p i)
 primed_next Once p i = None
 primed_next Twice p i = None
 
--- An expression with so many primes. On a variable next stands no prime.
+-- An expression with these primes. The next value of a variable can't have a prime.
 abbrev mutual
   pub primes : Primes → Expr → Option Expr
   primes k (constant p v) = Some (constant p v)
@@ -98,6 +99,6 @@ abbrev mutual
   primes_updates k no_updates = Some no_updates
   primes_updates k (more_updates path e us) = primes_each k path >>= λ x. primes k e >>= λ y. primes_updates k us >>= λ xs. Some (more_updates x y xs)
 
--- an expansion with so many primes
+-- an expansion with these primes
 abbrev pub with_primes : Primes → Option Expr → Option Expr
 with_primes k o = o >>= primes k

@@ -35,13 +35,13 @@ module _ (text : List ℕ) (ts : List Token) where
     unfoldable pub indexed : ℕ → Context → Tree → ℕ → Outcome Tree
     indexed most s t at = some text ts inner s k.RightBracket (at + 1) >>= λ es end. room (nat_le (depth (Index (place t) t es)) most) (Ok (Index (place t) t es, end))
 
-    -- one more postfix form behind the tree
+    -- one more postfix form after the tree
     abbrev pub behind : ℕ → Context → Tree → Postfix → ℕ → Outcome Tree
     behind most s t form.Prime at = room (nat_le (depth (Prime (place t) t)) most) (Ok (Prime (place t) t, at + 1))
     behind most s t form.Index at = indexed most s t at
     behind most s t form.Field at = at_op (name_at (seen ts s.column (at + 1))) (Err Refused) (λ w. room (nat_le (depth (Field (place t) t (written text w))) most) (Ok (Field (place t) t (written text w), at + 2)))
 
-    -- the postfix forms behind a closed form, of which so many may come
+    -- the postfix forms after a closed form, at most this many
     unfoldable pub postfix : ℕ → ℕ → Context → Tree → ℕ → Outcome Tree
     postfix zero most s t at = at_op (postfix_at (seen ts s.column at)) (Ok (t, at)) (λ u. Err Nested)
     postfix (suc n) most s t at = at_op (postfix_at (seen ts s.column at)) (Ok (t, at)) (λ u. behind most s t u at >>= postfix n most s)
@@ -49,14 +49,14 @@ module _ (text : List ℕ) (ts : List Token) where
     abbrev pub postfixes : ℕ → Context → Tree → ℕ → Outcome Tree
     postfixes most s t at = postfix most most s t at
 
-    -- an operand of a product behind the first
+    -- an operand of a product after the first
     unfoldable pub factor : Context → ℕ → Outcome Tree
     factor s at = inner s (high i.Product) at >>= λ e after. need (not (kind_at k.Product (seen ts s.column after)) || edge_allows e i.Product) (Ok (e, after))
 
     abbrev pub factors : ℕ → List Tree → Context → ℕ → Outcome (List Tree)
     factors n front s at = sequence (factor s) (following ts s.column between.Product) n front at
 
-    -- the product of the tree and the operands behind it
+    -- the product of the tree and the operands after it
     unfoldable pub product : ℕ → Context → Tree → ℕ → Outcome Tree
     product most s t at = need (edge_allows t i.Product) (factors (length ts) [] s (at + 1) >>= λ es after.
         room (nat_le (depth (Product (place t) t (trees es))) most) (Ok (Product (place t) t (trees es), after)))
@@ -66,7 +66,7 @@ module _ (text : List ℕ) (ts : List Token) where
     turn most s t op at = if is_product op then product most s t at else need (edge_allows t op) (at_op (seen ts s.column at) (Err Refused) (λ sign. inner s (high op) (at + 1) >>= λ r after.
         room (nat_le (depth (Binary (place t) op (written text sign) t r)) most) (Ok (Binary (place t) op (written text sign) t r, after))))
 
-    -- under the operators that follow, of which so many may come
+    -- under the operators that follow, at most this many
     unfoldable pub climb : ℕ → ℕ → Context → ℕ → Tree → ℕ → Outcome Tree
     climb zero most s floor t at = at_op (above floor (infix_at (seen ts s.column at))) (Ok (t, at)) (λ op. Err Nested)
     climb (suc n) most s floor t at = at_op (above floor (infix_at (seen ts s.column at))) (Ok (t, at)) (λ op.
@@ -98,12 +98,12 @@ module _ (text : List ℕ) (ts : List Token) where
         then need (kind_at k.Other (seen ts s.column (after + 1))) (need (kind_at k.Arrow (seen ts s.column (after + 2))) (inner s 0 (after + 3) >>= λ e end. Ok (Case p (arms cs) (other e), end)))
         else Ok (Case p (arms cs) no_other, after)
 
-    -- Op(p, ..) == e, behind the bracket
+    -- Op(p, ..) == e, after the bracket
     unfoldable pub operator : Context → Token → ℕ → Outcome Definition
     operator s t at = names text ts (length ts) [] s.column at >>= λ ws after. need (kind_at k.RightParen (seen ts s.column after))
         (need (kind_at k.Define (seen ts s.column (after + 1))) (inner s 0 (after + 2) >>= λ e end. Ok (DefinesOperator (written text t) ws e, end)))
 
-    -- f[x \in S, ..] == e, behind the bracket
+    -- f[x \in S, ..] == e, after the bracket
     unfoldable pub function : Context → Token → ℕ → Outcome Definition
     function s t at = groups text ts inner (length ts) [] s at >>= λ gs after. need (kind_at k.RightBracket (seen ts s.column after))
         (need (kind_at k.Define (seen ts s.column (after + 1))) (inner s 0 (after + 2) >>= λ e end. Ok (DefinesFunction (written text t) (binders gs) e, end)))
@@ -140,7 +140,7 @@ module _ (text : List ℕ) (ts : List Token) where
     unfoldable pub named : Context → Token → ℕ → Outcome Tree
     named s t at = if kind_at k.LeftParen (seen ts s.column (at + 1)) then call text ts inner s t at else Ok (Name (written text t), at + 1)
 
-    -- a form that its first token's kind tells
+    -- a form, by the kind of its first token
     abbrev pub operand_by : ℕ → Context → Token → ℕ → Kind → Outcome Tree
     operand_by most s t at k.Name = named s t at >>= postfixes most s
     operand_by most s t at (k.Number n) = postfixes most s (Number t.place n) (at + 1)
@@ -164,7 +164,7 @@ module _ (text : List ℕ) (ts : List Token) where
     unfoldable pub level : ℕ → Context → ℕ → ℕ → Outcome Tree
     level n s floor at = operand (n + 1) s at >>= climb n (n + 1) s floor
 
-  -- an expression of so many levels at most, in a context, whose top is above a floor
+  -- an expression of at most this many levels, in a context, whose top is above a floor
   unfoldable pub expr : ℕ → Context → ℕ → ℕ → Outcome Tree
   expr zero s floor at = Err Nested
   expr (suc n) s floor at = level (expr n) n s floor at

@@ -25,7 +25,7 @@ use Rattle.tla_grammar.specs.Outcome.{Refused, Outcome, ◌>>=◌, need, room, a
 
 module _ (text : List ℕ) (ts : List Token) where
   module _ (inner : Context → ℕ → ℕ → Outcome Tree) where
-    -- the expressions behind the first, and the closing bracket
+    -- the expressions after the first, and the closing bracket
     unfoldable pub others : Context → Kind → Tree → ℕ → Outcome Trees
     others s close e at = at_op (following ts s.column between.Comma at) (Ok (e ∷ [], at)) (λ next. exprs text ts inner (length ts) (e ∷ []) s between.Comma next) >>= λ es after.
         need (kind_at close (seen ts s.column after)) (Ok (trees es, after + 1))
@@ -59,7 +59,7 @@ module _ (text : List ℕ) (ts : List Token) where
     unfoldable pub image : Context → Place → Tree → ℕ → Outcome Tree
     image s p e at = groups text ts inner (length ts) [] s (at + 1) >>= λ gs after. need (kind_at k.RightBrace (seen ts s.column after)) (Ok (Image p e (binders gs), after + 1))
 
-    -- behind the first expression
+    -- after the first expression
     unfoldable pub set_of : Context → Place → ℕ → Tree → ℕ → Outcome Tree
     set_of s p at e after = if kind_at k.Colon (seen ts s.column after) then need (is_none (binds ts s.column (at + 1))) (image s p e after)
         else (others s k.RightBrace e after >>= λ es end. Ok (Listing p b.Set es, end))
@@ -118,7 +118,7 @@ module _ (text : List ℕ) (ts : List Token) where
 
     -- ---- brackets
 
-    -- behind the first expression
+    -- after the first expression
     unfoldable pub behind_first : ℕ → Context → Place → Tree → ℕ → Outcome Tree
     behind_first most s p e at = if kind_at k.Arrow (seen ts s.column at) then function_set s p e at
         else if kind_at k.Except (seen ts s.column at) then except s p e at

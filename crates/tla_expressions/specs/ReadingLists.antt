@@ -23,7 +23,7 @@ module _ (text : List ℕ) (ts : List Token) where
   names (suc n) front column at = at_op (name_at (seen ts column at)) (Err Refused) (λ t.
       if kind_at k.Comma (seen ts column (at + 1)) then names n (front ++ written text t ∷ []) column (at + 2) else Ok (front ++ written text t ∷ [], at + 1))
 
-  -- a tuple of names, behind `<<`
+  -- a tuple of names, after `<<`
   unfoldable pub tuple_of_names : ℕ → ℕ → Outcome Pattern
   tuple_of_names column at = names (length ts) [] column at >>= λ ws after. need (kind_at k.RightTuple (seen ts column after)) (Ok (Tuple ws, after + 1))
 
@@ -51,7 +51,7 @@ module _ (text : List ℕ) (ts : List Token) where
     unfoldable pub call : Context → Token → ℕ → Outcome Tree
     call s t at = some s k.RightParen (at + 2) >>= λ es end. Ok (Call (written text t) es, end)
 
-    -- the set of an entry, behind its names
+    -- the set of an entry, after its names
     unfoldable pub set_behind : Context → Pattern → ℕ → Outcome Group
     set_behind s w at = need (kind_at k.Member (seen ts s.column at)) (inner s 0 (at + 1) >>= λ e end. Ok ((w, e), end))
 

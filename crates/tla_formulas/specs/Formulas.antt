@@ -1,4 +1,5 @@
--- The formulas of a model: what a name of the configuration stands for, and the levels of expressions (book, chapter 17).
+-- The formulas of a model: the formula of a name of the configuration, and the levels of expressions (book, chapter
+-- 17).
 use Rattle.std.specs.Prelude.{◌≡◌, true, is_some, Option, Some}
 use Rattle.tla_core.specs.Expr.{Expr}
 use Rattle.tla_tree.specs.declared.word.Written.{Written}
@@ -14,11 +15,11 @@ use Rattle.tla_model.specs.Size.{IsWithinLimits}
 abbrev pub meaning_in : Scope → Written → Option Expr
 meaning_in σ w = expand (t.Name w) σ 0
 
--- of state level: a prime can stand on it, since no variable in it has one
+-- of state level: a prime can be on it, since no variable in it has one
 abbrev pub IsStateLevel : Expr → Type 0
 IsStateLevel e = is_some (primes Once e) ≡ true
 
--- of constant level: no variable stands in it, so that primes leave it as it is
+-- of constant level: no variable is in it, so primes don't change it
 abbrev pub IsConstantLevel : Expr → Type 0
 IsConstantLevel e = primes Twice e ≡ Some e
 

@@ -15,7 +15,7 @@ IsCause c.Level o k = with_primes k o ≡ None
 IsCause c.ExpansionTooLarge o k = (x : Expr) → o ≡ Some x → IsWithinLimits x → ⊥
 IsCause _ o k = ⊥
 
--- what is told of such a formula: some place of the module (where, is not said here)
+-- what a refusal of such a formula says: some place of the module (which one is not defined here)
 pub record IsOfFormula (o : Option Expr) (k : Primes) (e : DefsError) : Type 0 where
   pub cause : IsCause e.code o k
   pub source : e.source ≡ source.Module

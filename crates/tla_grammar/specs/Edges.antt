@@ -1,4 +1,4 @@
--- Which trees may stand beside which operators, and how deep a tree is.
+-- Which trees may be beside which operators, and how deep a tree is.
 use Rattle.std.specs.Prelude.{ℕ, ◌+◌, max, Bool, true, false, ◌&&◌, ◌||◌, nat_lt, nat_eq}
 use Rattle.tla_tree.specs.declared.tree.Infix.{Infix}
 use Rattle.tla_tree.specs.declared.tree.Infix.TheVariants as i
@@ -34,7 +34,7 @@ top_above floor (Binary _ op _ _ _) = nat_lt floor (low op)
 top_above floor (Product _ _ _) = nat_lt floor (low i.Product)
 top_above floor _ = true
 
--- what a postfix form may stand behind
+-- what a postfix form may follow
 abbrev pub is_closed : Tree → Bool
 is_closed (Binary _ _ _ _ _) = false
 is_closed (Unary _ _ _) = false

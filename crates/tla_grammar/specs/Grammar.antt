@@ -17,7 +17,7 @@ use Rattle.tla_grammar.specs.Tokens.{Has, Is, Writes, Names, seen, is_bullet_at,
 use Rattle.tla_grammar.specs.Entries.{Entry, BeginsEntry, is_single}
 use Rattle.tla_tree.specs.Tree.{Filter, Image, Function, FunctionSet, Record, RecordSet, Except, Action, Fair, Product, Fields, Key, Keys, Updates, no_fields, field, AtIndex, AtField, no_keys, key, no_updates, update, Tree, Trees, Binders, Arms, Other, Definition, Definitions, none, more, unbound, bound, no_arms, arm, no_other, other, DefinesOperator, DefinesFunction, undefined, defined, Case, Let, Name, Number, Text, Word, At, Paren, Listing, Call, Prime, Index, Field, Unary, Binary, Quantified, Choose, If, Junction}
 
--- the context of an item: every token stands right of the list's column
+-- the context of an item: every token is right of the list's column
 abbrev pub within : Context → ℕ → Context
 within s column = record s { column = column }
 
@@ -85,12 +85,13 @@ module _ (text : List ℕ) (ts : List Token) where
         × IsTrue (not (is_bullet_at p.column b (slice_get ts to)) && may_follow p.column (slice_get ts to))
     Spells s (Product p e es) from to = (mid : ℕ) × Spells s e from mid × Factors s es mid to × IsTrue (edge_allows e i.Product) × IsTrue (is_some es) × (p ≡ place e)
 
-    -- Each item of a list has the bullet before it, in the list's column, and stands right of that column.
+    -- Each item of a list has the bullet before it, in the list's column, and is right of that column.
     pub Items : Context → Bullet → Trees → ℕ → ℕ → Type 0
     Items s b none from to = to ≡ from
     Items s b (more e es) from to = (mid : ℕ) × IsTrue (is_bullet_at s.column b (slice_get ts from)) × Spells s e (from + 1) mid × Items s b es mid to
 
-    -- The operands of a product behind the first: each may stand right of `\X`, and each but the last left of it. (What may stand left may stand right.)
+    -- The operands of a product after the first: each may be right of `\X`, and each but the last left of it. (What may
+    -- be left may be right.)
     pub Factors : Context → Trees → ℕ → ℕ → Type 0
     Factors s none from to = to ≡ from
     Factors s (more e es) from to = (mid : ℕ) × Has ts s.column k.Product from × Spells s e (from + 1) mid × IsTrue (top_above (high i.Product) e) × IsTrue (not (is_some es) || edge_allows e i.Product) × Factors s es mid to
@@ -100,7 +101,7 @@ module _ (text : List ℕ) (ts : List Token) where
     Listed s close none from to = Has ts s.column close from × (to ≡ from + 1)
     Listed s close (more e es) from to = (mid : ℕ) × Spells s e from mid × Others s close es mid to
 
-    -- those behind the first, each with a comma before it
+    -- those after the first, each with a comma before it
     pub Others : Context → Kind → Trees → ℕ → ℕ → Type 0
     Others s close none from to = Has ts s.column close from × (to ≡ from + 1)
     Others s close (more e es) from to = (mid : ℕ) × Has ts s.column k.Comma from × Spells s e (from + 1) mid × Others s close es mid to

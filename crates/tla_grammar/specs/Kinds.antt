@@ -17,7 +17,7 @@ abbrev pub kind_at : Kind → Option Token → Bool
 kind_at kind None = false
 kind_at kind (Some t) = same_kind kind t.kind
 
--- the tokens round an action with a subscript
+-- the tokens around an action with a subscript
 abbrev pub step_opening : Step → Kind
 step_opening step.Box = k.LeftBracket
 step_opening step.Angle = k.LeftTuple

@@ -16,7 +16,7 @@ is_quantifier k.ForAll = true
 is_quantifier k.Exists = true
 is_quantifier _ = false
 
--- refused wherever they stand
+-- refused wherever they are
 abbrev pub is_left_out : Kind → Bool
 is_left_out k.Enabled = true
 is_left_out k.Instance = true
@@ -38,7 +38,7 @@ abbrev pub one_less : ℕ → Option ℕ
 one_less zero = None
 one_less (suc n) = Some n
 
--- how many brackets are open behind a token, of so many before it: None where it closes another one
+-- how many brackets are open after a token, given how many are open before it: None if it closes one that isn't open
 abbrev pub behind_role : Role → ℕ → Option ℕ
 behind_role role.Opens n = Some (suc n)
 behind_role role.Closes n = one_less n
@@ -52,13 +52,13 @@ module _ (ts : List Token) where
   abbrev pub IsWordLeftOut : ℕ → Type 0
   IsWordLeftOut at = (t : Token) × (slice_get ts at ≡ Some t) × IsTrue (is_left_out t.kind)
 
-  -- before the token of this number stands an EXCEPT, behind which so many brackets were opened that are open still, and none
-  -- was closed that was open at it
+  -- before the token with this number there is an EXCEPT; since then this many brackets were opened that are still
+  -- open, and none was closed that was open at it
   abbrev pub IsUnderExcept : ℕ → ℕ → Type 0
   IsUnderExcept zero n = ⊥
   IsUnderExcept (suc at) n = (KindAt ts at k.Except × (n ≡ 0)) ⊎ ((m : ℕ) × IsUnderExcept at m × (t : Token) × (slice_get ts at ≡ Some t) × (open_behind t.kind m ≡ Some n))
 
-  -- an update of EXCEPT begins here: directly behind it, or behind a comma between updates
+  -- an update of EXCEPT begins here: directly after it, or after a comma between updates
   abbrev pub BeginsUpdate : ℕ → Type 0
   BeginsUpdate zero = ⊥
   BeginsUpdate (suc before) = KindAt ts before k.Except ⊎ (KindAt ts before k.Comma × IsUnderExcept before 0)
@@ -96,16 +96,16 @@ module _ (ts : List Token) where
   abbrev pub HasOperatorParameter : ℕ → Type 0
   HasOperatorParameter at = (n : ℕ) × (last : ℕ) × KindAt ts at k.Name × KindAt ts (at + 1) k.LeftParen × Commas ts n (at + 2) last × IsOperatorParameter last
 
-  -- no unit but separators stands before the token: a module's name and a separator come before its units
+  -- only separators come before the token: a module's name and a separator come before its units
   abbrev pub OnlySeparators : ℕ → Type 0
   OnlySeparators to = (at : ℕ) → 2 ≤ at → at < to → KindAt ts at k.Separator
 
-  -- the token behind a first EXTENDS and so many names with a comma each
+  -- the token after a first EXTENDS and n names with a comma each
   abbrev pub IsExtended : ℕ → ℕ → Type 0
   IsExtended zero at = (before : ℕ) × KindAt ts before k.Extends × OnlySeparators before × (at ≡ before + 1)
   IsExtended (suc n) at = (before : ℕ) × IsExtended n before × KindAt ts before k.Name × KindAt ts (before + 1) k.Comma × (at ≡ before + 2)
 
-  -- a second header: MODULE behind a line of dashes
+  -- a second header: MODULE after a line of dashes
   abbrev pub IsSecondHeader : ℕ → Type 0
   IsSecondHeader at = (before : ℕ) × KindAt ts before k.Separator × KindAt ts (before + 1) k.Module × (at ≡ before + 1)
 

@@ -1,4 +1,4 @@
--- The marks between the parts of forms: names, what stands between the items of a list, and what begins a postfix form.
+-- The marks between the parts of forms: names, what separates the items of a list, and what begins a postfix form.
 use Rattle.std.specs.Prelude.{ℕ, ◌+◌, not, ◌&&◌, ◌||◌, if◌then◌else◌, List, Option, Some, None, slice_get}
 use Rattle.tla_lex.specs.SameKind.{same_kind}
 use Rattle.tla_lex.specs.declared.token.Token.{Token}
@@ -16,7 +16,7 @@ abbrev pub name_at : Option Token → Option Token
 name_at None = None
 name_at (Some t) = if same_kind k.Name t.kind then Some t else None
 
--- where the next item of a list begins, behind this token
+-- where the next item of a list begins, after this token
 abbrev pub following : List Token → ℕ → Between → ℕ → Option ℕ
 following ts column between.Comma at = if kind_at k.Comma (seen ts column at) then Some (at + 1) else None
 following ts column (between.Bullet b) at = if is_bullet_at column b (slice_get ts at) then Some (at + 1) else None

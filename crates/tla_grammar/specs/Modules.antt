@@ -1,4 +1,4 @@
--- The modules that may stand under EXTENDS.
+-- The modules that may follow EXTENDS.
 use Rattle.std.specs.Prelude.{ℕ, List, Bool, ◌||◌, codes}
 use Rattle.std.specs.Str.{bytes_eq}
 

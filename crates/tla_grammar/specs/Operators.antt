@@ -90,7 +90,7 @@ abbrev pub is_product : Infix → Bool
 is_product i.Product = true
 is_product _ = false
 
--- what a token writes behind an operand
+-- the infix operator of a token
 abbrev pub infix_of : Kind → Option Infix
 infix_of k.Implies = Some i.Implies
 infix_of k.Equivalent = Some i.Equivalent

@@ -1,4 +1,5 @@
--- How a reading ends: with what was read and the number of the token behind it, or with a fault. It has the shape of the code.
+-- How a reading ends: with what was read and the number of the token after it, or with a fault. It has the shape of the
+-- code.
 use Rattle.std.specs.Prelude.{ℕ, zero, suc, Bool, if◌then◌else◌, List, [], ◌∷◌, ◌++◌, Option, Some, None, Result, Ok, Err}
 
 pub data Fault : Type 0 where
@@ -23,7 +24,8 @@ abbrev pub at_op : {A X : Type 0} → Option X → Outcome A → (X → Outcome 
 at_op None x f = x
 at_op (Some op) x f = f op
 
--- the items of a list, of which so many may come, behind those read so far: `item` reads one, and `next` says where the following one begins, where there is one
+-- the items of a list, at most this many, after those read so far: `item` reads one, and `next` says where the
+-- following one begins, if there is one
 unfoldable pub sequence : {A : Type 0} → (ℕ → Outcome A) → (ℕ → Option ℕ) → ℕ → List A → ℕ → Outcome (List A)
 sequence item next zero front at = Err Refused
 sequence item next (suc n) front at = item at >>= λ x after. at_op (next after) (Ok (front ++ x ∷ [], after)) (sequence item next n (front ++ x ∷ []))

@@ -6,7 +6,7 @@ use Rattle.tla_grammar.specs.declared.refusal.Refusal.TheVariants as refusal
 use Rattle.tla_grammar.specs.LeftOut.{BeginsLeftOut, IsUnknownModule}
 use Rattle.tla_grammar.specs.Outcome.{Outcome, Refused, Nested}
 
--- a refusal of a token where it stands: a form left out is one of those
+-- a refusal of a token at its place; a form that is left out is one of those
 abbrev pub Refuses : List Token → Refusal → Type 0
 Refuses ts (refusal.Unexpected at) = Unit {0}
 Refuses ts (refusal.Precedence at) = Unit {0}

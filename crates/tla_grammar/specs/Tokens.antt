@@ -14,7 +14,7 @@ abbrev pub right_of : ℕ → Option Token → Option Token
 right_of column None = None
 right_of column (Some t) = if nat_lt column t.place.column then Some t else None
 
--- the token of this number, where it stands right of the column
+-- the token with this number, if it is right of the column
 abbrev pub seen : List Token → ℕ → ℕ → Option Token
 seen ts column at = right_of column (slice_get ts at)
 
@@ -71,7 +71,7 @@ module _ (ts : List Token) where
   abbrev pub KindAt : ℕ → Kind → Type 0
   KindAt at kind = (t : Token) × (slice_get ts at ≡ Some t) × (t.kind ≡ kind)
 
-  -- so many names from the first number up to the second, each with a comma behind it
+  -- n names from the first number up to the second, each with a comma after it
   abbrev pub Commas : ℕ → ℕ → ℕ → Type 0
   Commas zero from at = at ≡ from
   Commas (suc n) from at = (before : ℕ) × Commas n from before × KindAt before k.Name × KindAt (before + 1) k.Comma × (at ≡ before + 2)

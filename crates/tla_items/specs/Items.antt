@@ -29,7 +29,7 @@ led_by ρ x None = Some x
 led_by ρ x (Some (Value w v)) = None
 led_by ρ x (Some (Replaces w op)) = ρ op.word
 
--- the name that a name leads to by so many items at most, one after the other; none where one of them is a value
+-- the name that a name leads to by at most n items, one after the other; none if one of them is a value
 abbrev pub led : List Item → ℕ → Name → Option Name
 led is zero x = Some x
 led is (suc n) x = led_by (led is n) x (item_for is x)
@@ -61,7 +61,7 @@ replaceable_of us = flat_map replaceable us
 abbrev pub unknown : Scope → Written → Option Misuse
 unknown σ w = if is_some (arity σ w.word) then None else Some (Unknown w)
 
--- what may stand for another name, and may have an item `c <- Op`: operators of modules too
+-- what may replace another name, and may have an item `c <- Op`: operators of modules, too
 abbrev pub nameable : UnitTree → Scope
 nameable (Extends at ws) = extended (words ws)
 nameable u = replaceable u
@@ -73,7 +73,8 @@ abbrev pub differ : Written → Option ℕ → Option ℕ → Option Misuse
 differ w (Some m) (Some n) = if nat_eq m n then None else Some (Arguments w)
 differ w _ _ = None
 
--- An item behind items for other names: its name is known, has no item yet, and takes no argument or as many as the operator. Values are for the names of δ, operators for those of μ.
+-- The misuse of an item that comes after items for these names: its name has to be known, to have no item yet, and to
+-- take no argument or as many as the operator. Values are for the names of δ, operators for those of μ.
 abbrev pub item_misused : Scope → Scope → List Name → Item → Option Misuse
 item_misused δ μ before (Value w v) = or_else (unknown δ w) (or_else (again before w) (used δ w 0))
 item_misused δ μ before (Replaces w op) = or_else (unknown μ w) (or_else (again before w) (or_else (unknown μ op) (differ w (arity μ w.word) (arity μ op.word))))

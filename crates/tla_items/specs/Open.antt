@@ -43,6 +43,6 @@ with_operators_of ys [] = []
 with_operators_of ys (Value w v ∷ is) = with_operators_of ys is
 with_operators_of ys (Replaces w op ∷ is) = if is_among op.word ys then w.word ∷ with_operators_of ys is else with_operators_of ys is
 
--- The names that are still open behind a pass in which these were: those whose operator leads to one of these.
+-- The names that are still open after a pass in which these were: those whose operator leads to one of these.
 abbrev pub still_open : List UnitTree → List Item → List Name → List Name
 still_open us is xs = with_operators_of (touched xs us) is

@@ -23,7 +23,7 @@ pub data IsCode : Bytes → Bytes → Type 0 where
   junction : (b c : ℕ) (w rest : Bytes) → IsTrue (is_junction b c) → IsCode w rest → IsCode (b ∷ c ∷ w) rest
   other : (b : ℕ) (w rest : Bytes) → begins_whole (b ∷ (w ++ rest)) ≡ false → IsCode w rest → IsCode (b ∷ w) rest
 
--- Four `=` stand at byte `to`, outside comments and strings, as these are from byte `from` on.
+-- At byte `to` there is `====`, outside comments and strings as these are from byte `from` on.
 pub record ClosesAt (text : Bytes) (from to : ℕ) : Type 0 where
   pub code : Bytes
   pub rest : Bytes

@@ -15,7 +15,8 @@ opens b next = b == 40 && next == 42
 abbrev pub closes : ℕ → ℕ → Bool
 closes b next = b == 42 && next == 41
 
--- What stands in a comment behind its `(*`, up to and with its own `*)`: whole comments of this kind, and bytes at which neither `(*` nor `*)` begins. So these two marks alone count, and `\*` doesn't.
+-- What follows the `(*` of a comment, up to and including its own `*)`: whole comments of this kind, and bytes at which
+-- neither `(*` nor `*)` begins. So only these two marks count, and `\*` doesn't.
 pub data EndsComment : Bytes → Type 0 where
   closed : EndsComment (codes "*)")
   nested : (inner rest : Bytes) → EndsComment inner → EndsComment rest → EndsComment (codes "(*" ++ (inner ++ rest))
@@ -45,17 +46,17 @@ abbrev pub begins_gap : Bytes → Bool
 begins_gap [] = false
 begins_gap (b ∷ rest) = is_blank b || opens_line b (first rest) || opens b (first rest)
 
--- `(*` is at the front, and no comment ends behind it
+-- `(*` is at the front, and no comment ends after it
 abbrev pub StaysOpen : Bytes → Type 0
 StaysOpen text = (behind : Bytes) × (text ≡ codes "(*" ++ behind) × ((w rest : Bytes) → behind ≡ w ++ rest → EndsComment w → ⊥)
 
--- The first n bytes of a text are blanks and comments, and no further one begins behind them.
+-- The first n bytes of a text are blanks and comments, and no further one begins after them.
 pub record IsLeadingGap (text : Bytes) (n : ℕ) : Type 0 where
   pub within : n ≤ length text
   pub gap : IsGap (take n text) (drop n text)
   pub longest : begins_gap (drop n text) ≡ false
 
--- Behind n bytes of blanks and comments stands a comment that stays open.
+-- After n bytes of blanks and comments there is a comment that stays open.
 pub record IsOpenComment (text : Bytes) (n : ℕ) : Type 0 where
   pub within : n ≤ length text
   pub gap : IsGap (take n text) (drop n text)

@@ -6,7 +6,7 @@ use Rattle.tla_lex.specs.declared.lexeme.Source.TheVariants.{Module, Configurati
 use Rattle.tla_lex.specs.declared.token.Kind.{Kind}
 use Rattle.tla_lex.specs.declared.token.Kind.TheVariants as kinds
 
--- each digit counts as many tens of tens as digits stand behind it
+-- each digit counts 10 to the power of the number of digits after it
 abbrev pub decimal : Bytes → ℕ
 decimal [] = 0
 decimal (b ∷ rest) = (b - 48) * 10 ^ length rest + decimal rest

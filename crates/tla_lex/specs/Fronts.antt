@@ -10,7 +10,8 @@ use Rattle.tla_lex.specs.declared.scan.Front.{Front}
 use Rattle.tla_lex.specs.declared.scan.Front.TheVariants.{Stops}
 use Rattle.tla_lex.specs.declared.scan.Stop.TheVariants.{End, Fault}
 
--- From a byte on this comes next: behind the blanks and comments there the end of the text, or the longest token or a fault; or a comment that stays open.
+-- What comes next from a byte on: after blanks and comments, the end of the text, or the longest token, or a fault; or
+-- a comment that stays open.
 pub data Comes (source : Source) (text : Bytes) (at : ℕ) : Front → Type 0 where
   ends : (n : ℕ) → IsLeadingGap (drop at text) n → at + n ≡ length text → Comes source text at (Stops (End (place_at text (at + n))))
   begins : (n : ℕ) → IsLeadingGap (drop at text) n → at + n ≢ length text → Comes source text at (begun_at source text (at + n))

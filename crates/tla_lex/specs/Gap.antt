@@ -7,7 +7,8 @@ use Rattle.tla_lex.specs.declared.gap.Mode.TheVariants.{Line, Depth, Second}
 use Rattle.tla_lex.specs.declared.gap.Gap.{Gap}
 use Rattle.tla_lex.specs.declared.gap.Gap.TheVariants.{End, Open}
 
--- Where a byte leads, which `next` follows: in a comment to the end of the line, so many comments deep, or at the second byte of a mark that leads there. `None` where a token begins.
+-- Where a byte leads, which `next` follows: in a comment to the end of the line, in nested comments of a depth, or at
+-- the second byte of a mark that leads there. `None` if a token begins.
 abbrev pub turn : Mode → ℕ → ℕ → Option Mode
 turn Line b next = if is_line_feed b then Some (Depth 0) else Some Line
 turn (Second n) b next = Some (Depth n)
@@ -42,6 +43,6 @@ skip mode opening at [] = if is_open mode then Open opening else End at
 skip mode opening at (b ∷ rest) =
     on_turn (turn mode b (first rest)) (End at) (λ to. skip to (if is_outside mode then at else opening) (at + 1) rest)
 
--- how long the blanks and comments at the front of a text are, or where the comment stands that stays open
+-- how long the blanks and comments at the front of a text are, or where a comment begins that stays open
 abbrev pub gap : Bytes → Gap
 gap text = skip (Depth 0) 0 0 text

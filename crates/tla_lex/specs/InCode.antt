@@ -33,7 +33,7 @@ StayInCode text at (t ∷ ts) =
 abbrev pub TokensInCode : Type 0
 TokensInCode = (source : Source) (text : Bytes) (at : ℕ) (ts : List Token) (stop : Stop) → Reads source text at ts stop → StayInCode text at ts
 
--- behind n bytes `====` stands outside comments and strings
+-- after n bytes there is `====`, outside comments and strings
 abbrev pub ClosesBehind : Region → Bytes → ℕ → Type 0
 ClosesBehind region text n = (region_behind region n text ≡ code) × IsTrue (starts_with nat_eq (drop n text) (codes "===="))
 

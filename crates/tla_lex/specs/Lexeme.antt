@@ -10,7 +10,8 @@ use Rattle.tla_lex.specs.declared.lexeme.Lexeme.TheVariants.{Found}
 use Rattle.tla_lex.specs.declared.lexeme.Source.{Source}
 use Rattle.tla_lex.specs.declared.token.Kind.TheVariants as kind
 
--- Its kind and length, or the code of a fault and how far behind the front it stands. A run of four or more dashes is one token.
+-- Its kind and length, or the code of a fault and how far it is from the front. A run of four or more dashes is one
+-- token.
 unfoldable pub lexeme : Source → Bytes → Lexeme
 lexeme source text =
     let run = prefix_len is_word text in

@@ -13,19 +13,19 @@ use Rattle.tla_lex.specs.declared.token.Kind.{Kind}
 use Rattle.tla_lex.specs.declared.token.Kind.TheVariants as kinds
 use Rattle.tla_lex.specs.declared.token.Token.{Token}
 
--- the spelling stands in the table with this kind
+-- the spelling is in the table with this kind
 abbrev pub IsListed : Bytes → Kind → Spellings → Type 0
 IsListed w kind [] = ⊥
 IsListed w kind (e ∷ es) = ((e.0 ≡ w) × (e.1 ≡ kind)) ⊎ IsListed w kind es
 
--- what stands before the subscript of a fairness condition, which is read anew
+-- what comes before the subscript of a fairness condition; the subscript is a token of its own
 abbrev pub fairness_marks : Spellings
 fairness_marks = (codes "WF_", kinds.WeakFairness) ∷ (codes "SF_", kinds.StrongFairness) ∷ []
 
 abbrev pub begins_fairness : Bytes → Bool
 begins_fairness w = starts_with nat_eq w (codes "WF_") || starts_with nat_eq w (codes "SF_")
 
--- These bytes, behind which the byte `next` stands, are one token of this kind.
+-- These bytes, followed by the byte `next`, are one token of this kind.
 pub data IsToken (source : Source) (w : Bytes) (next : ℕ) (kind : Kind) : Type 0 where
   -- a name or a reserved word
   name : IsTrue (list_all is_word w) → IsTrue (list_any is_letter w) → begins_fairness w ≡ false → kind ≡ name_kind (lookup reserved_words w) → IsToken source w next kind
@@ -42,7 +42,7 @@ pub data IsToken (source : Source) (w : Bytes) (next : ℕ) (kind : Kind) : Type
 abbrev pub BeginsWith : Source → Bytes → Kind → ℕ → Type 0
 BeginsWith source text kind n = IsToken source (take n text) (first (drop n text)) kind
 
--- the token is one at its place, and no longer one stands there
+-- it is a token at its place, and there is no longer one
 pub record IsLongest (source : Source) (text : Bytes) (t : Token) : Type 0 where
   pub begins : BeginsWith source (drop t.start text) t.kind (t.end - t.start)
   pub none_longer : (m : ℕ) (kind : Kind) → t.end - t.start < m → m ≤ length (drop t.start text) → BeginsWith source (drop t.start text) kind m → ⊥

@@ -20,7 +20,8 @@ abbrev pub on_module : Option ℕ → ℕ → Option ℕ → Option ℕ
 on_module None at other = other
 on_module (Some n) at other = Some (at + n)
 
--- The end of the header in a text from byte `at` on, with so many dashes right before: four or more dashes, spaces or tabs, MODULE.
+-- The end of the header in a text from byte `at` on, with n dashes right before: four or more dashes, spaces or tabs,
+-- MODULE.
 unfoldable pub header_from : ℕ → ℕ → Bytes → Option ℕ
 header_from dashes at [] = None
 header_from dashes at (b ∷ rest) =
@@ -42,7 +43,7 @@ abbrev pub on_turn : Option Mode → Region → Region
 on_turn None other = other
 on_turn (Some mode) other = Code mode
 
--- where a byte leads, which `next` follows: in code or a comment, in a string, or behind a backslash in a string
+-- where a byte leads, which `next` follows: in code or a comment, in a string, or after a backslash in a string
 abbrev pub region_after : Region → ℕ → ℕ → Region
 region_after (Code mode) b next = on_turn (turn mode b next) (region_of_code b next)
 region_after Text b next = if is_line_feed b || is_quote b then Code (Depth 0) else if is_backslash b then Escape else Text
@@ -59,7 +60,7 @@ closing_from region at (b ∷ rest) =
     if is_code region && starts_with nat_eq (b ∷ rest) (codes "====") then Some at
     else closing_from (region_after region b (first rest)) (at + 1) rest
 
--- where the closing line begins, behind a header that ends at this byte
+-- where the closing line begins, after a header that ends at this byte
 abbrev pub closing : Bytes → ℕ → Option ℕ
 closing text from = closing_from (Code (Depth 0)) from (drop from text)
 

@@ -3,7 +3,7 @@ use Rattle.std.specs.Prelude.{ℕ, ◌+◌, ◌*◌, ◌-◌, ◌/◌, Bool, ◌
 use Rattle.tla_lex.specs.declared.token.Place.{Place}
 use Rattle.tla_lex.specs.Bytes.{Bytes, is_line_feed}
 
--- a byte inside a character, behind its first
+-- a byte inside a character, after its first
 abbrev pub is_inner : ℕ → Bool
 is_inner b = nat_le 128 b && nat_lt b 192
 

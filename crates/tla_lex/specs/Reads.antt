@@ -38,7 +38,7 @@ behind source text at (gaps.End n) =
     if at + n == length text then Stops (End (place_at text (at + n)))
     else begun_at source text (at + n)
 
--- what comes next in a text from a byte on, behind blanks and comments: a token, the end or a fault
+-- what comes next in a text from a byte on, after blanks and comments: a token, the end or a fault
 unfoldable pub front : Source → Bytes → ℕ → Front
 front source text at = behind source text at (gap (drop at text))
 

@@ -1,4 +1,5 @@
--- Whether two kinds are the same, of those that stand between the parts of forms, units and statements; false of all others.
+-- Whether two kinds are the same, for kinds that separate the parts of forms, units and statements; false for all
+-- others.
 use Rattle.std.specs.Prelude.{Bool, true, false}
 use Rattle.tla_lex.specs.declared.token.Kind.{Kind}
 use Rattle.tla_lex.specs.declared.token.Kind.TheVariants as k

@@ -31,7 +31,7 @@ ClosingIsFound = (text : Bytes) (from : ℕ) → ((to : ℕ) → (closing text f
 abbrev pub HeaderIsFound : Type 0
 HeaderIsFound = (text : Bytes) → ((end : ℕ) → (header_end text ≡ Some end) ↔ IsHeader text end) × ((header_end text ≡ None) ↔ NoHeader text)
 
--- What comes next, as the lists of tokens have it, is what comes behind blanks and comments.
+-- What comes next, as the lists of tokens have it, is what comes after blanks and comments.
 abbrev pub FrontIsFound : Type 0
 FrontIsFound = (source : Source) (text : Bytes) (at : ℕ) (f : Front) → (front source text at ≡ f) ↔ Comes source text at f
 

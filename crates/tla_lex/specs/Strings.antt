@@ -6,7 +6,7 @@ use Rattle.tla_lex.specs.declared.lexeme.Lexeme.{Lexeme}
 use Rattle.tla_lex.specs.declared.lexeme.Lexeme.TheVariants.{Found, Fault}
 use Rattle.tla_lex.specs.declared.token.Kind.TheVariants as kind
 
--- what a byte behind a backslash stands for
+-- what a byte after a backslash means
 abbrev pub escape : ℕ → Option ℕ
 escape b =
     if is_quote b || is_backslash b then Some b
@@ -16,7 +16,8 @@ escape b =
     else if b == 114 then Some 13
     else None
 
--- Where a string ends, past its closing quote, from byte `at` on; `escaped` says that a backslash stands before. `None` where the line ends first.
+-- Where a string ends, past its closing quote, from byte `at` on; `escaped` says that there is a backslash before.
+-- `None` if the line ends first.
 unfoldable pub end_from : Bool → ℕ → Bytes → Option ℕ
 end_from escaped at [] = None
 end_from escaped at (b ∷ rest) =
@@ -47,7 +48,7 @@ on_end text (Some n) = closed n (unknown_escape false 1 (drop 1 (take n text)))
 unfoldable pub string : Bytes → Lexeme
 string text = on_end text (end_from false 1 (drop 1 text))
 
--- the text behind an opening quote, up to the closing one, with its escapes read
+-- the text after an opening quote, up to the closing one, with its escapes read
 unfoldable pub unescaped : Bool → Bytes → Bytes
 unescaped escaped [] = []
 unescaped true (b ∷ rest) = unwrap_or (escape b) b ∷ unescaped false rest

@@ -50,7 +50,7 @@ abbrev pub longest : Bytes → Lexeme → Spellings → Lexeme
 longest text best [] = best
 longest text best (e ∷ es) = longest text (pick text best e) es
 
--- the first byte and the whole run of letters behind it
+-- the first byte and the whole run of letters after it
 abbrev pub letters_len : Bytes → ℕ
 letters_len text = prefix_len is_letter (drop 1 text) + 1
 

@@ -38,7 +38,7 @@ abbrev pub name_kind : Option Kind → Kind
 name_kind None = kind.Name
 name_kind (Some reserved) = reserved
 
--- what digits say, behind a number
+-- the number that digits mean, after a number
 abbrev pub value : ℕ → Bytes → ℕ
 value n [] = n
 value n (b ∷ bs) = value (n * 10 + (b - 48)) bs
@@ -56,7 +56,8 @@ abbrev pub number : Source → Bytes → Lexeme
 number Module w = on_small (small (value 0 w)) (length w)
 number Configuration w = Found kind.Digits (length w)
 
--- A whole run of letters, digits and `_`: behind `WF_` and `SF_` the rest is read anew, a name has a letter, a number has digits alone.
+-- A whole run of letters, digits and `_`: after `WF_` and `SF_` the rest is a token of its own; a name has a letter, a
+-- number has only digits.
 unfoldable pub word : Source → Bytes → Lexeme
 word source w =
     if starts_with nat_eq w (codes "WF_") then Found kind.WeakFairness 3

@@ -7,7 +7,8 @@ use Rattle.tla_model.specs.ModelTree.{ModelTree}
 use Rattle.tla_model.specs.Size.{depth}
 use Rattle.tla_model.specs.declared.limits.TheConstants.{MAX_PATH}
 
--- Over so many variables the names of the expression exist, with a present value only where there is a present state, and at most MAX_PATH nodes stand on a path.
+-- Over this many variables, the names of the expression exist, it has a present value only if there is a present state,
+-- and at most MAX_PATH nodes are on a path.
 pub record IsUsable (variables : ℕ) (present : Bool) (e : Expr) : Type 0 where
   pub named : IsTrue (fits e 0 variables present)
   pub shallow : depth e ≤ MAX_PATH

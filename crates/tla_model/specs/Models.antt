@@ -4,7 +4,7 @@ use Rattle.tla_model.specs.ModelOf.{tree_of_parts}
 use Rattle.tla_model.specs.IsSound.{IsSound}
 use Rattle.tla_model.specs.declared.model.Model.{Model}
 
--- the model that a model in memory stands for
+-- the mathematical value of a model in memory
 abbrev pub model_of : Model → ModelTree
 model_of m = tree_of_parts m.variables.items m.assumptions.items m.init.value m.next.value m.invariants.items m.constraints.items m.check_deadlock
 

@@ -15,7 +15,7 @@ pub data Misuse : Type 0 where
   Unknown : Written → Misuse
   Arguments : Written → Misuse
 
--- a name with so many arguments, where it takes some number of them or is not known
+-- a name with n arguments, if it takes some number of them or is not known
 abbrev pub applied : Written → ℕ → Option ℕ → Option Misuse
 applied w n None = Some (Unknown w)
 applied w n (Some m) = if nat_eq n m then None else Some (Arguments w)
@@ -31,7 +31,7 @@ brought σ new (w ∷ ws) = if is_some (arity σ w.word) || is_among w.word new 
 abbrev pub new_name : Scope → Written → Option Misuse
 new_name σ w = if is_some (arity σ w.word) then Some (Twice w) else None
 
--- a name behind these
+-- a name after these
 abbrev pub again : List Name → Written → Option Misuse
 again before w = if is_among w.word before then Some (Twice w) else None
 
@@ -66,7 +66,7 @@ abbrev mutual
   misused ms σ (t.Let at ds e) = or_else (misused_definitions ms σ ds) (misused ms (σ ++ signatures ds) e)
   misused ms σ (t.Junction at b es) = misused_each ms σ es
   misused ms σ (t.Filter at w s e) = or_else (brought σ [] (names_of w)) (or_else (misused ms σ s) (misused ms (σ ++ plain (words (names_of w))) e))
-  -- the element stands before the names that it uses
+  -- the element comes before the names that it uses
   misused ms σ (t.Image at e bs) = or_else (misused ms (σ ++ plain (bound_names bs)) e) (misused_sets ms σ [] bs)
   misused ms σ (t.Function at bs e) = or_else (misused_sets ms σ [] bs) (misused ms (σ ++ plain (bound_names bs)) e)
   misused ms σ (t.FunctionSet at s e) = or_else (misused ms σ s) (misused ms σ e)
@@ -81,7 +81,7 @@ abbrev mutual
   misused_each ms σ none = None
   misused_each ms σ (more e es) = or_else (misused ms σ e) (misused_each ms σ es)
 
-  -- a binder list, behind these names of it: its sets see none of its names
+  -- a binder list, after these names of it: its sets see none of its names
   pub misused_sets : List Name → Scope → List Name → Binders → Option Misuse
   misused_sets ms σ new unbound = None
   misused_sets ms σ new (bound w s bs) = or_else (brought σ new (names_of w)) (or_else (misused ms σ s) (misused_sets ms σ (new ++ words (names_of w)) bs))
@@ -94,7 +94,7 @@ abbrev mutual
   misused_other ms σ no_other = None
   misused_other ms σ (other e) = misused ms σ e
 
-  -- fields behind others of these names: each name once
+  -- fields, after others with these names: each name once
   pub misused_fields : List Name → Scope → List Name → Fields → Option Misuse
   misused_fields ms σ before no_fields = None
   misused_fields ms σ before (field w e fs) = or_else (again before w) (or_else (misused ms σ e) (misused_fields ms σ (before ++ w.word ∷ []) fs))

@@ -16,7 +16,7 @@ declared _ = []
 abbrev pub variables_of : List UnitTree → List Name
 variables_of us = flat_map declared us
 
--- the first misuse in these units, behind others that extend modules and bring in names
+-- the first misuse in these units, after others that extend modules and bring in names
 abbrev pub misuse_from : List Name → Scope → List UnitTree → Option Misuse
 misuse_from ms σ [] = None
 misuse_from ms σ (Separator at ∷ us) = misuse_from ms σ us

@@ -1,4 +1,4 @@
--- Refusals of names, and where they stand (this project's own choice).
+-- Refusals of names, and where they are (this project's own choice).
 use Rattle.std.specs.Prelude.{◌≡◌, ◌≢◌, Option, Some, None, Result, Ok, Err}
 use Rattle.tla_lex.specs.declared.token.Place.{Place}
 use Rattle.tla_tree.specs.declared.word.Written.{Written}

@@ -44,7 +44,7 @@ abbrev pub outermost : Context
 outermost = record { column = 0; updating = false }
 
 module _ (text : List ℕ) (ts : List Token) where
-  -- so many underscores, each with a comma before it
+  -- n underscores, each with a comma before it
   abbrev pub Blanks : ℕ → ℕ → ℕ → Type 0
   Blanks zero from to = to ≡ from
   Blanks (suc n) from to = Has ts 0 k.Comma from × Has ts 0 k.Underscore (from + 1) × Blanks n (from + 2) to
@@ -78,7 +78,7 @@ module _ (text : List ℕ) (ts : List Token) where
   SpellsUnit (Assume p w e) from to = Is ts 0 k.Assume p from × Claims w e (from + 1) to
   SpellsUnit (Theorem p w e) from to = Is ts 0 k.Theorem p from × Claims w e (from + 1) to
 
-  -- EXTENDS stands before all units but separators, at most once: `first` says that it may still stand
+  -- EXTENDS comes before all units but separators, at most once: `first` says that it may still come
   abbrev pub Units : Bool → List UnitTree → ℕ → ℕ → Type 0
   Units first [] from to = to ≡ from
   Units first (u ∷ us) from to = (mid : ℕ) × SpellsUnit u from mid × IsTrue (first || not (is_extends u)) × Units (first && is_separator u) us mid to

@@ -125,7 +125,7 @@ abbrev pub trees : List Tree → Trees
 trees [] = none
 trees (t ∷ ts) = more t (trees ts)
 
--- an entry of a binder: what stands before `\in`, and the set
+-- an entry of a binder: what comes before `\in`, and the set
 abbrev pub Group : Type 0
 Group = Pattern × Tree
 

@@ -1,4 +1,4 @@
--- What the units in memory stand for.
+-- The mathematical value of units in memory.
 use Rattle.std.specs.Prelude.{map}
 use Rattle.tla_tree.specs.declared.unit.Unit.{Unit}
 use Rattle.tla_tree.specs.declared.unit.Unit.TheVariants.{Separator, Extends, Variables, Operator, Defines, Local, Constants, Assume, Theorem}

@@ -1,4 +1,4 @@
--- What a tree in memory stands for.
+-- The mathematical value of a tree in memory.
 use Rattle.std.specs.Prelude.{◌≡◌, map, refl}
 use Rattle.std.proofs.Common.{ap, ◌∙◌, sym, Vec, Global}
 use Rattle.tla_tree.specs.declared.tree.Binder.{Binder}

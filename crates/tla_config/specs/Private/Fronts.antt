@@ -1,4 +1,4 @@
--- What stands at a token, as the reader of a configuration asks for it. Private contracts alone cite this.
+-- What the parser of a configuration asks about a token. Only private contracts cite this.
 use Rattle.std.specs.Prelude.{Bool, true, false, Option, Some, None}
 use Rattle.tla_lex.specs.SameKind.{same_kind}
 use Rattle.tla_lex.specs.Bytes.{Bytes}

@@ -13,7 +13,7 @@ use Rattle.tla_config.specs.Refusals.{Begins, IsLeftOutWord, IsLeftOutItem, IsTo
 use Rattle.tla_config.specs.Statements.{Item, Statement}
 use Rattle.tla_config.specs.View.{statement_view}
 
--- why a reader of tokens refuses: at the token of a refusal something is left out, or too large, or else what is told of a token out of place
+-- why a parser refuses: at the token of a refusal something is left out, or too large, or else the token isn't allowed
 abbrev pub Because : Refusal → (ℕ → Type 0) → (ℕ → Type 0) → Type 0 → Type 0
 Because (refusal.Unexpected at) left large plain = plain
 Because (refusal.LeftOut at) left large plain = left at
@@ -28,7 +28,7 @@ pub record Neither (left large : ℕ → Type 0) : Type 0 where
   pub no_left : (at : ℕ) → left at → ⊥
   pub no_large : (at : ℕ) → large at → ⊥
 
--- nothing is told
+-- nothing is said
 abbrev pub Anything : Type 0
 Anything = Unit {0}
 
@@ -38,7 +38,7 @@ module _ (text : Bytes) (ts : List Token) where
     pub no_comma : Has text ts k.Comma at → ⊥
     pub no_name : (w : Written) → IsName text ts w at → ⊥
 
-  -- where the next name of a list has to stand behind this token, if the list goes on
+  -- where the next name of a list has to be, after this token, if the list continues
   abbrev pub GoesOn : ℕ → Option ℕ → Type 0
   GoesOn at None = Ends at
   GoesOn at (Some next) = (Has text ts k.Comma at × (next ≡ at + 1)) ⊎ (((w : Written) × IsName text ts w at) × (next ≡ at))
@@ -54,7 +54,7 @@ module _ (text : Bytes) (ts : List Token) where
   GivesName at (Ok w) = IsName text ts w at
   GivesName at (Err r) = Fails r ((w : Written) → IsName text ts w at → ⊥)
 
-  -- names that stand there, and no others that end where a list does not go on
+  -- the names there, and no others that end where a list doesn't continue
   pub record AreNames (ws : List Written) (from to : ℕ) : Type 0 where
     pub spelled : Names text ts ws from to
     pub only : (vs : List Written) (end : ℕ) → Names text ts vs from end → Ends end → (vs ≡ ws) × (end ≡ to)
@@ -86,7 +86,7 @@ module _ (text : Bytes) (ts : List Token) where
   abbrev pub NoStatements : Type 0
   NoStatements = (cs : List Statement) → SpellsStatements text ts cs 0 → length (filter is_check_deadlock cs) ≤ 1 → ⊥
 
-  -- in the item that begins at a token a replacement is left out, whose bracket stands at another; or the item is too large
+  -- in the item that begins at a token a replacement is left out, whose bracket is at another; or the item is too large
   abbrev pub LeftOutHere : ℕ → ℕ → Type 0
   LeftOutHere item at = IsLeftOutItem text ts item × (at ≡ item + 2)
 
@@ -97,14 +97,14 @@ module _ (text : Bytes) (ts : List Token) where
   abbrev pub ClearItem : ℕ → Type 0
   ClearItem at = Neither (LeftOutHere at) (TooLargeHere at)
 
-  -- behind items a replacement is left out, whose bracket stands at a token; or an item is too large
+  -- after items a replacement is left out, whose bracket is at a token; or an item is too large
   abbrev pub LeftOutBehind : ℕ → ℕ → Type 0
   LeftOutBehind from at = (item : ℕ) × ((is : List Item) × ItemsUpTo text ts is from item) × IsLeftOutItem text ts item × (at ≡ item + 2)
 
   abbrev pub TooLargeBehind : ℕ → ℕ → Type 0
   TooLargeBehind from at = ((is : List Item) × ItemsUpTo text ts is from at) × IsTooLargeItem text ts at
 
-  -- neither is behind items from a token on
+  -- neither is after items from a token on
   abbrev pub ClearItems : ℕ → Type 0
   ClearItems from = Neither (LeftOutBehind from) (TooLargeBehind from)
 
@@ -119,14 +119,14 @@ module _ (text : Bytes) (ts : List Token) where
   abbrev pub ClearStatement : ℕ → Type 0
   ClearStatement begin = Neither (LeftOutIn begin) (TooLargeIn begin)
 
-  -- behind statements
+  -- after statements
   abbrev pub LeftOutAt : ℕ → Type 0
   LeftOutAt at = (begin : ℕ) × FollowsStatements text ts begin × LeftOutIn begin at
 
   abbrev pub TooLargeAt : ℕ → Type 0
   TooLargeAt at = (begin : ℕ) × FollowsStatements text ts begin × TooLargeIn begin at
 
-  -- neither is behind statements
+  -- neither is after statements
   abbrev pub Clear : Type 0
   Clear = Neither LeftOutAt TooLargeAt
 

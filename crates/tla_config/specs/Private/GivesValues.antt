@@ -59,7 +59,7 @@ module _ (text : Bytes) (ts : List Token) where
   GivesItem from (Ok x) = SpellsItem text ts (item_view x.item) from x.end
   GivesItem from (Err r) = Fails text ts r (NoItem from)
 
-  -- items that stand there, and no others that end where a list does not go on
+  -- the items there, and no others that end where a list doesn't continue
   pub record AreItems (is : List Item) (from to : ℕ) : Type 0 where
     pub spelled : Items text ts is from to
     pub only : (js : List Item) (end : ℕ) → Items text ts js from end → Ends text ts end → (js ≡ is) × (end ≡ to)

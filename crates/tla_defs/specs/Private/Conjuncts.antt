@@ -1,4 +1,4 @@
--- What lists of formulas in memory stand for. Private contracts alone cite this.
+-- The mathematical value of lists of formulas in memory. Only private contracts cite this.
 use Rattle.std.specs.Prelude.{◌≡◌, Bool, true, not, ◌&&◌, is_some, List, [], ◌++◌, Some, filter, reverse}
 use Rattle.std.specs.List.{flat_map}
 use Rattle.tla_tree.specs.Tree.{Tree}
@@ -17,7 +17,7 @@ use Rattle.tla_defs.specs.Private.Table.{bodies_by, found_by}
 abbrev pub bodies_of : Definitions → Bodies
 bodies_of d = bodies_by d.table.now.definitions.entries d.items.now
 
--- the names that are known to stand for formulas of the class
+-- the names whose definitions are known to be of the class
 abbrev pub found_names : Definitions → Name → Bool
 found_names d = found_by d.table.now.definitions.entries d.items.now
 
@@ -35,7 +35,7 @@ conjuncts_from b f = conjuncts f.names b (tree_at f.tree)
 abbrev pub conjuncts_left : Bodies → List Formula → List Tree
 conjuncts_left b fs = flat_map (conjuncts_from b) (reverse fs)
 
--- neither [][A]_v nor fairness, where these names stand for fairness
+-- neither [][A]_v nor fairness, if the definitions of these names are fairness
 abbrev pub is_initial_by : (Name → Bool) → Tree → Bool
 is_initial_by φ e = not (is_some (always e)) && not (fair_in φ [] e)
 

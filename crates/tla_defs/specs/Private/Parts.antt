@@ -23,6 +23,6 @@ steps_in p = map step_of p.steps.items
 abbrev pub AreFew : Parts → Type 0
 AreFew p = (length p.steps.items < 2) × (length p.initial.items ≤ MAX_NODES)
 
--- told of two steps, or of more conjuncts than an expression within the limits has nodes
+-- the refusal of two steps, or of more conjuncts than an expression within the limits has nodes
 abbrev pub IsOfMany : Place → List Step → List Tree → DefsError → Type 0
 IsOfMany p ss es e = ((refusal_at c.SpecificationForm source.Configuration p ≡ e) × (2 ≤ length ss)) ⊎ (IsTooLarge e × (MAX_NODES < length es))

@@ -51,7 +51,7 @@ abbrev pub NoneMeant : List UnitTree → List Item → Scope → ℕ → Behavio
 NoneMeant us is σ n (Named i a) = ⊥
 NoneMeant us is σ n (Specified p w) = NoForm us is σ n w
 
--- a refusal at SPECIFICATION, if it stands
+-- a refusal at SPECIFICATION, if there is one
 abbrev pub form_refused : Behaviour → Option DefsError
 form_refused (Specified p w) = Some (refusal_at c.SpecificationForm source.Configuration p)
 form_refused (Named i a) = None

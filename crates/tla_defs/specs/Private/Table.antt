@@ -31,7 +31,7 @@ body_at es x = option_map (λ (b : Body). tree_at b.tree) (definition_at es x)
 abbrev pub found_at : List Row → Name → Bool
 found_at es x = unwrap_or (option_map (λ (b : Body). b.is_found) (definition_at es x)) false
 
--- what names stand for where these are the items, and whether that is known to be of the class
+-- the definitions of names with these items, and whether each is known to be of the class
 abbrev pub bodies_by : List Row → List Item → Bodies
 bodies_by es is x = stands_for is x >>= λ y. body_at es y
 
@@ -66,7 +66,7 @@ pub record SameDefinitions (f : Property) (before after : List Row) (is : List I
 abbrev pub named : Bor Name × Bor Expr → Bor Name × Tree
 named d = (d.0, tree_at d.1)
 
--- what a name stands for by a definition, and else by others
+-- the definition of a name, if this is it, and else by others
 abbrev pub body_or : Option (Bor Name × Tree) → Name → Option Tree → Option Tree
 body_or None x o = o
 body_or (Some d) x o = body_if (bytes_eq x d.0.now) d.1 o

@@ -46,7 +46,8 @@ use Rattle.tla_expand.specs.Private.Binders.{names_of}
 use Rattle.tla_expand.specs.Private.Forms.{form_in}
 use Rattle.tla_expand.specs.Scopes.{scope_at}
 
--- How many names may be bound round an expression and how many nodes may be left for it, both together: each name that is bound takes a node.
+-- How many names may be bound around an expression and how many nodes may be left for it, both together: each name that
+-- is bound takes a node.
 abbrev pub most_named : ℕ
 most_named = MAX_NODES
 
@@ -87,7 +88,7 @@ MakesLeaf (Err TooLarge) o = o ≡ None
 MakesLeaf (Err Memory) o = Unit {0}
 MakesLeaf (Err (NoExpansion p)) o = ⊥
 
--- Why there is nothing of so many nodes and such a depth. Memory may be refused at any time.
+-- Why there is no expansion of at most this many nodes and this depth. Memory may run out at any time.
 abbrev pub FailsBy : {A : Type 0} → (A → ℕ) → (A → ℕ) → ℕ → ℕ → Failure → Option A → Type 0
 FailsBy size deep room left (NoExpansion p) o = o ≡ None
 FailsBy {A = A} size deep room left TooLarge o = (x : A) → o ≡ Some x → size x ≤ left → deep x ≤ room → ⊥
@@ -96,7 +97,7 @@ FailsBy size deep room left Memory o = Unit {0}
 abbrev pub Fails : ℕ → ℕ → Failure → Option Expr → Type 0
 Fails room left f o = FailsBy nodes depth room left f o
 
--- What was made of parts, with so many nodes left.
+-- What was made of parts, with this many nodes left.
 abbrev pub Makes : {A : Type 0} → (A → ℕ) → (A → ℕ) → ℕ → ℕ → ℕ → A → Option A → Type 0
 Makes size deep room left rest x o = (o ≡ Some x) × (rest + size x ≡ left) × (deep x ≤ room)
 
@@ -167,7 +168,7 @@ abbrev pub GivesChanges : ℕ → ℕ → Result Changes Failure → Option (Lis
 GivesChanges room left (Ok x) o = Makes (total update_nodes) (highest update_depth) room left x.left (map changed_part x.updates.items) o
 GivesChanges room left (Err f) o = FailsBy (total update_nodes) (highest update_depth) room left f o
 
--- the parts of forms, under so many primes, in a scope and under so many bound names
+-- the parts of forms, under these primes, in a scope and given how many names are bound
 abbrev pub part_in : Primes → Scope → ℕ → s.Expr → Option Expr
 part_in k σ d t = with_primes k (expand (view t) σ d)
 

@@ -16,7 +16,7 @@ hash_from h (b ∷ bs) = hash_from (mixed h b) bs
 unfoldable pub hash_of : Name → ℕ
 hash_of x = hash_from 0 x
 
--- the first of so many bits in which two numbers differ, or how many there are
+-- the first of n bits in which two numbers differ, or n
 unfoldable pub apart : ℕ → ℕ → ℕ → ℕ
 apart zero g h = 0
 apart (suc n) g h = cond (eqb (g % 2) (h % 2)) (apart n (g / 2) (h / 2) + 1) 0
@@ -44,11 +44,11 @@ found_behind ρs (e ∷ es) = found_behind (ρs ++ entry_found ρs e ∷ []) es
 unfoldable pub found_at : List Entry → ℕ → Found
 found_at es s = found_of (found_behind (nowhere ∷ []) es) s
 
--- the scope in which a name is sought behind a node of another one
+-- the scope in which a name is looked up after a node with another name
 abbrev pub jump_for : Node → Name → ℕ
 jump_for n x = get_or n.jumps (slot_of n.hash (hash_of x)) 0
 
--- A node whose scope has this number. What is found behind it is found where it jumps.
+-- A node whose scope has this number. A name that isn't the node's own is found from where it jumps.
 pub record IsNode (at : ℕ → Found) (scope : ℕ) (n : Node) : Type 0 where
   pub rest : n.entry.rest < scope
   pub hash : n.hash ≡ hash_of n.entry.name.now

@@ -26,7 +26,7 @@ depth Outside = 0
 depth (Parameters' ws _ rest) = depth rest + 1
 depth (Named' x w _ rest) = depth rest + 1
 
--- what the parameters of each layer stand for, by how many names and layers are around it
+-- what the parameters of each layer mean, by how many names and layers are around it
 abbrev pub Layers : Type 0
 Layers = ℕ → List Argument
 
@@ -36,7 +36,7 @@ with_layer k args f i = if eqb i k then args else f i
 abbrev pub reached_in : Reached → Layers → Argument
 reached_in r f = argument_of r.given (f r.layer)
 
--- an operator of so many parameters
+-- an operator of n parameters
 abbrev pub with_count : ℕ → (List Argument → Argument) → Meaning
 with_count n a p args d = if has_count n args then a args d else None
 
@@ -51,7 +51,7 @@ abbrev pub IsRound : ℕ → Summary → Type 0
 IsRound k (Reaches n r) = r.layer < k
 IsRound k _ = Unit {0}
 
--- a scope in which these names are known, behind ρ, where the parameters stand for these arguments
+-- a scope in which these names are known, after ρ, where the parameters mean these arguments
 abbrev pub Holds : Scope → Known → Layers → Scope → Type 0
 Holds ρ Outside f τ = τ ≡ ρ
 Holds ρ (Parameters' ws _ rest) f τ = (σ : Scope) × Holds ρ rest f σ × (with_parameters ws.now (f (depth rest)) σ ≡ Some τ)
@@ -70,11 +70,11 @@ IsGiven ρ known x w = (f : Layers) (τ : Scope) → Holds ρ known f τ → Mea
 abbrev pub IsUse : t.Tree → Written → List syntax.Expr → Type 0
 IsUse tree w es = (τ : Scope) (d : ℕ) → expand tree τ d ≡ τ w.word (place_of w.place) (arguments_in es τ) d
 
--- a part of a body comes to another one
+-- a part of a body is reduced to another one
 abbrev pub ComesTo : Scope → BodyPart → BodyPart → Type 0
 ComesTo ρ a b = (f : Layers) (τ : Scope) → Holds ρ a.known.now f τ → Holds ρ b.known.now f τ × ((d : ℕ) → with_primes a.primes (expand (view a.tree.now) τ d) ≡ with_primes b.primes (expand (view b.tree.now) τ d))
 
--- a part of a body, inside a LET of these definitions, comes to an argument
+-- a part of a body, inside a LET of these definitions, is reduced to an argument
 abbrev pub GivesBack : Scope → BodyPart → List defining.Definition → Reached → Type 0
 GivesBack ρ a defs r = (f : Layers) (τ : Scope) → Holds ρ a.known.now f τ → (d : ℕ) → with_primes a.primes (expand (view a.tree.now) (definitions_in (t.definitions (map definition_view defs)) τ) d) ≡ reached_in r f d
 
@@ -92,6 +92,6 @@ defined_name (DefinesFunction w bs a) = w.word
 abbrev pub IsSummary : Scope → Known → t.Definition → Summary → Type 0
 IsSummary ρ known def w = IsRound (depth known) w × ((f : Layers) (τ : Scope) → Holds ρ known f τ → (m : Meaning) × Means f w m × (definition_in def τ ≡ with_name (defined_name def) m τ))
 
--- what an operator comes to, wherever these names are known: its own parameters are the next layer
+-- what an operator is reduced to, wherever these names are known: its own parameters are the next layer
 abbrev pub IsOperator : Scope → Known → List Written → t.Tree → Reached → Type 0
 IsOperator ρ known ws body r = (f : Layers) (τ : Scope) → Holds ρ known f τ → operator ws (expand body) τ ≡ with_count (length ws) (λ args. reached_in r (with_layer (depth known) args f))

@@ -51,11 +51,11 @@ IsNoTuple o = (e : Expr) → o ≡ Some e → is_names e ≡ false
 abbrev pub among : List ℕ → ℕ → Bool
 among is i = list_any (nat_eq i) is
 
--- each of the first so many is among these
+-- each of the first n is among these
 abbrev pub HasEach : List ℕ → ℕ → Type 0
 HasEach is n = (i : ℕ) → i < n → among is i ≡ true
 
--- what a form under so many primes is of a nested tuple of variables
+-- what a form under these primes is as part of a nested tuple of variables
 abbrev pub piece_of_variable : Primes → ℕ → Piece
 piece_of_variable Never i = piece.Variable i
 piece_of_variable Once i = piece.Other
@@ -70,7 +70,7 @@ piece_of k (form.Variable p i) = piece_of_variable k i
 piece_of k (form.Many p f ts) = piece_of_many f ts
 piece_of k fm = piece.Other
 
--- what the name of an entry stands for, wherever it is used
+-- what the name of an entry means, wherever it is used
 abbrev pub IsGone : (ℕ → Bool) → List Entry → Gone → Type 0
 IsGone m es g = (e : Entry) → e ≡ get_or es g.entry e → (p : Place) → IsMet m (with_primes g.primes (meaning_of (scope_at es) e.what p [] 0))
 
@@ -94,11 +94,11 @@ abbrev pub IsInside : List Entry → Visit → Type 0
 IsInside es (Part t s k) = s ≤ length es
 IsInside es (End g) = g.entry < length es
 
--- expressions in a scope with so many primes, as what is left to look at
+-- expressions in a scope with these primes, as visits
 abbrev pub parts_at : List (Bor syntax.Expr) → ℕ → Primes → List Visit
 parts_at bs s k = map (λ (b : Bor syntax.Expr). Part b s k) bs
 
--- these expressions behind what was left
+-- these expressions, after the visits that remained
 abbrev pub ArePushed : List Visit → List syntax.Expr → ℕ → Primes → List Visit → Type 0
 ArePushed old ts s k new = (bs : List (Bor syntax.Expr)) × (pointed bs ≡ ts) × (new ≡ old ++ parts_at bs s k)
 
@@ -120,7 +120,7 @@ IsWalk whole es left gone met = IsWalkBy whole es left gone met (λ m. Unit {0})
 abbrev pub IsWalkTo : Option Expr → List Entry → List Visit → List Gone → List ℕ → Option Expr → Type 0
 IsWalkTo whole es left gone met o = IsWalkBy whole es left gone met (λ m. IsMet m o)
 
--- what a step of a walk comes to: a walk that goes on, or the whole is no nested tuple of variables
+-- the result of a step of a walk: a walk that continues, or the whole is no nested tuple of variables
 abbrev pub GoesOn : Option Expr → List Entry → List Visit → List Gone → List ℕ → Bool → Type 0
 GoesOn whole es left gone met true = IsWalk whole es left gone met
 GoesOn whole es left gone met false = IsNoTuple whole

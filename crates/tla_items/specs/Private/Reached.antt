@@ -15,7 +15,8 @@ module _ (ls : List Reference) where
   abbrev pub Covers : List Name → List Name → Type 0
   Covers xs ys = (y : Name) → is_among y xs ≡ true → AreAmong (next_names ls y) ys
 
-  -- A step on from a name that stood behind those that are waiting: what covered still does, a name that led to all still does, and nothing is lost.
+  -- A visit of a name that was the last of those to be visited: what was covered still is, a name that led to all still
+  -- does, and nothing is lost.
   pub record GoesOn (name : Name) (passed waiting passed_after waiting_after : List Name) : Type 0 where
     pub covers : Covers passed (passed ++ (waiting ++ name ∷ [])) → Covers passed_after (passed_after ++ waiting_after)
     pub led : (x : Name) → AreLed x (passed ++ (waiting ++ name ∷ [])) → AreLed x (passed_after ++ waiting_after)

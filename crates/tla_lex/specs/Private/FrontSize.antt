@@ -7,12 +7,12 @@ use Rattle.tla_lex.specs.declared.scan.Front.TheVariants.{Begins, Stops}
 use Rattle.tla_lex.specs.declared.scan.Stop.{Stop}
 use Rattle.tla_lex.specs.declared.scan.Stop.TheVariants.{End, Fault}
 
--- the end has the place behind the last byte
+-- the end has the place after the last byte
 abbrev pub IsEndPlace : Bytes → Stop → Type 0
 IsEndPlace text (End place) = place ≡ place_at text (length text)
 IsEndPlace text (Fault e) = Unit {0}
 
--- a token is not empty, stands in the text behind this byte, and has its own place
+-- a token is not empty, is in the text after this byte, and has its own place
 abbrev pub IsWithin : Bytes → ℕ → Front → Type 0
 IsWithin text from (Begins t) = (from ≤ t.start) × (t.start < t.end) × (t.end ≤ length text) × (t.place ≡ place_at text t.start)
 IsWithin text from (Stops stop) = (from ≤ length text) × IsEndPlace text stop

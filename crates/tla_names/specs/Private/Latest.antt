@@ -19,7 +19,7 @@ arity_in ks x = arity (map signature_of ks) x
 abbrev pub arity_by : List (Bor Name × Option ℕ) → Name → Option ℕ
 arity_by es x = unwrap_or (lookup (λ (k : Bor Name). bytes_eq x k.now) es) None
 
--- the table tells what is in scope
+-- the table has what is in scope
 pub record IsTable (es : List (Bor Name × Option ℕ)) (ks : List Signature) : Type 0 where
   pub each : (x : Name) → arity_by es x ≡ arity_in ks x
 

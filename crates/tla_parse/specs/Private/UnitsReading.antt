@@ -25,7 +25,7 @@ Claim = Option Written × Tree
 abbrev pub claim_name : List Token → ℕ → Option Token
 claim_name ts at = if kind_at k.Define (seen ts 0 (at + 1)) then name_at (seen ts 0 at) else None
 
--- how many underscores there are behind those read so far, each with a comma before it, and the token behind them
+-- how many underscores there are after those read so far, each with a comma before it, and the token after them
 unfoldable pub blanks : List Token → ℕ → ℕ → ℕ → ℕ × ℕ
 blanks ts zero count at = (count, at)
 blanks ts (suc n) count at = if kind_at k.Comma (seen ts 0 at) && kind_at k.Underscore (seen ts 0 (at + 1)) then blanks ts n (count + 1) (at + 2) else (count, at)
@@ -66,13 +66,13 @@ module _ (text : List ℕ) (ts : List Token) where
   unfoldable pub unit : ℕ → ℕ → Outcome UnitTree
   unit n at = at_op (seen ts 0 at) (Err Refused) (λ t. unit_by n t at t.kind)
 
-  -- the units up to the closing line, EXTENDS among them where it may still stand
+  -- the units up to the closing line; EXTENDS is among them if it may still come
   unfoldable pub units : ℕ → ℕ → List UnitTree → Bool → ℕ → Outcome (List UnitTree)
   units n zero front first at = Err Refused
   units n (suc m) front first at = if kind_at k.Closing (seen ts 0 at) then Ok (front, at)
       else need (first || not (kind_at k.Extends (seen ts 0 at))) (unit n at >>= λ u end. units n m (front ++ u ∷ []) (first && is_separator u) end)
 
-  -- a module whose expressions have so many levels at most
+  -- a module whose expressions have at most this many levels
   unfoldable pub whole : ℕ → Outcome (List UnitTree)
   whole n = need (kind_at k.Name (seen ts 0 0)) (need (kind_at k.Separator (seen ts 0 1))
       (units n (length ts) [] true 2 >>= λ us end. need (nat_eq (length ts) (end + 1)) (Ok (us, end))))
