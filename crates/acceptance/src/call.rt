@@ -37,7 +37,7 @@ pub enum OnModel {
     Build,
     /// Of the places of its action.
     Places,
-    /// Whether the formula fits where so many names are bound.
+    /// Whether the formula fits if this many names are bound.
     FitsNames(usize),
     /// Whether its action fits, with present values or without.
     FitsValues(bool),
@@ -45,7 +45,7 @@ pub enum OnModel {
     Member,
     Initials,
     Successors,
-    /// By so many workers, of so many states at most.
+    /// The number of workers, and the most states.
     Search(u64, u64),
     /// By three workers, of states that all have the hash 0.
     SearchOfOneHash,
@@ -65,7 +65,7 @@ pub enum Answer {
     Nothing,
 }
 
-/// A call that was made: what it was lent to change, before and after, and its answer.
+/// A call that was made: what it could change, before and after, and its answer.
 #[derive(Drop)]
 pub struct Made {
     pub lent: Vec<Value>,
@@ -73,7 +73,7 @@ pub struct Made {
     pub answer: Result<Answer, Refusal>,
 }
 
-/// A call that was lent nothing to change.
+/// A call that could change nothing.
 fn unlent<E>(alloc: Global, answer: Result<Answer, E>) -> Made
 where
     Refusal: From<E>,
@@ -140,14 +140,13 @@ fn parsed_cut(alloc: Global) -> Result<Made, Refusal> {
     Ok(unlent(alloc, answer))
 }
 
-/// Whether an expression fits among so many bound names and variables.
+/// Whether an expression fits with this many bound names and variables.
 fn fitted(alloc: Global, core: &Core, names: usize, variables: usize, now: bool) -> Made {
     let fits = core.fits(names, variables, now);
     unlent(alloc, Ok::<Answer, Refusal>(Answer::Truth(fits)))
 }
 
-/// The place of a node, and those of its parts where it is a list of truths. No fault can stand there, so no report tells
-/// them.
+/// The place of a node, and those of its parts if it is a list of truths. No fault can be there, so no report has them.
 fn places_of(alloc: Global, core: &Core) -> Result<Vec<Place>, AllocError> {
     let mut places = Vec::new(alloc);
     places.push(core.place())?;
@@ -183,7 +182,7 @@ fn sevens(alloc: Global) -> Result<Given, Refusal> {
     })
 }
 
-/// A call that was lent these.
+/// A call that could change these.
 fn lent(given: Given, answer: Result<Answer, Refusal>) -> Made {
     Made {
         lent: given.lent,
@@ -285,8 +284,8 @@ fn make_on<R: AllocGlobal + Threads + Wait + Sync>(
     }
 }
 
-/// Makes a call on the model of a module. The model is let go by `drop`, which is proved once: let go in place, its formulas
-/// would be gone through by this proof.
+/// Makes a call on the model of a module. The model is dropped by `drop`, which is proved once: if it were dropped in
+/// place, this proof would go through its formulas.
 fn make_on_model<R: AllocGlobal + Threads + Wait + Sync>(
     rt: &R,
     formula: Pieces,

@@ -17,9 +17,9 @@ pub enum Wanted {
     Lines,
     /// The report of each module and configuration in `texts`.
     Texts,
-    /// What is written beside the report in this form, with `told`.
+    /// What is written in this form beside the report, in `told`.
     Told(Form),
-    /// The explanation of each module and configuration in `texts`, with `told`.
+    /// The explanation of each module and configuration in `texts`, in `told`.
     ToldTexts,
 }
 

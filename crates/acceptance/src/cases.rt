@@ -60,7 +60,7 @@ fn files_of<R: AllocGlobal + Files>(rt: &R, folder: &str) -> io::Result<CaseFile
     })
 }
 
-/// Whether what is written beside the report in a form is what the file `told` of the case has.
+/// Whether what is written in a form beside the report is what the file `told` of the case has.
 fn explains<R: AllocGlobal + Files + Threads + Wait + Sync>(
     rt: &R,
     case: &Case<'_>,

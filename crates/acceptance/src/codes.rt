@@ -6,7 +6,7 @@ use std::rt::Files;
 use std::{fs, io};
 use tla_explain::{CodeText, code_tables, text_of};
 
-/// Whether a line of the document says what is told of a code.
+/// Whether a line of the document says what the program says of a code.
 fn is_in(alloc: Global, page: &str, text: &CodeText) -> Result<bool, AllocError> {
     let mut line = String::new(alloc);
     line.push_str("- **")?;
@@ -22,7 +22,7 @@ fn is_in(alloc: Global, page: &str, text: &CodeText) -> Result<bool, AllocError>
     Ok(page.lines().any(|other| other == line.as_str()))
 }
 
-/// Whether the code alone finds what is told of it.
+/// Whether the text of a code is found by the code alone.
 fn is_found(text: &CodeText) -> bool {
     match text_of(text.code) {
         Some(found) => found.code == text.code && found.rule == text.rule,

@@ -1,4 +1,4 @@
-//! A hash that tells no states apart.
+//! A hash that is the same for all states.
 
 use std::hash::Hasher;
 

@@ -10,7 +10,7 @@ use tla_model::Model;
 use tla_parse::parse_module;
 use tla_value::{SetValue, Value};
 
-/// How deep sets stand in one another, at most.
+/// How deep sets are nested, at most.
 const NESTING: u64 = 64;
 
 /// These numbers, in a list without room for more.

@@ -126,8 +126,7 @@ fn ends_alike_again<R: Threads + Wait + Sync>(
     }
 }
 
-/// The options that words of the command line name behind the two files, or none where the line is
-/// refused.
+/// The options that the words of the command line after the two files name, or None if the line is refused.
 pub fn options_of(alloc: Global, words: &[&str]) -> io::Result<Option<Options>> {
     let mut all = vec![in alloc; "tlacheck", "MODULE", "CONFIG"]?;
     all.extend_from_slice(words)?;
@@ -199,8 +198,7 @@ pub fn options_are_as_wanted<R: Threads + Wait + Sync>(
     Ok(!lines.is_empty())
 }
 
-/// Whether each line of the report is that of the module cut short after as many bytes as lines
-/// stand before it.
+/// Whether each line of the report is that of the module cut short after as many bytes as lines come before it.
 pub fn prefixes_are_as_wanted<R: Threads + Wait + Sync>(
     rt: &R,
     alloc: Global,
@@ -223,8 +221,7 @@ pub fn prefixes_are_as_wanted<R: Threads + Wait + Sync>(
 /// What ends a module.
 const CLOSING: &[u8] = b"====\n";
 
-/// Whether the reports of the module with each of these lines as its last, one behind the other,
-/// are that of the case.
+/// Whether the reports of the module with each of these lines as its last, one after the other, are that of the case.
 pub fn lines_are_as_wanted<R: Threads + Wait + Sync>(
     rt: &R,
     alloc: Global,
@@ -249,11 +246,11 @@ pub fn lines_are_as_wanted<R: Threads + Wait + Sync>(
     Ok(wanted.is_empty())
 }
 
-/// What stands between two texts of a file `texts`.
+/// What separates two texts of a file `texts`.
 const BETWEEN: u8 = b'\x0c';
 
-/// Whether the reports of each module of these texts with the configuration behind it, one behind
-/// the other, are this one. A module without a configuration is none.
+/// Whether the reports of each module of these texts with the configuration after it, one after the other, are this
+/// one. A module without a configuration is none.
 pub fn texts_are_as_wanted<R: Threads + Wait + Sync>(
     rt: &R,
     alloc: Global,

@@ -2,7 +2,7 @@
 
 use crate::call::{Call, OnModel};
 
-/// Pieces of a text, each with how often it stands there.
+/// Pieces of a text, each with how often it is repeated there.
 pub type Pieces = &'static [(&'static str, u64)];
 
 /// A call, and the formula that the module assumes of b, which is 7, or the definitions of its action.

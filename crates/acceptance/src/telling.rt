@@ -8,7 +8,7 @@ use tla_core::Place;
 use tla_search::Counts;
 use tla_value::{State, Value};
 
-/// Values, each behind a space.
+/// Values, each after a space.
 fn put_values<W: Write>(out: &mut W, values: &[Value]) -> io::Result<()> {
     for value in values {
         out.write_all(b" ")?;
@@ -19,7 +19,7 @@ fn put_values<W: Write>(out: &mut W, values: &[Value]) -> io::Result<()> {
     Ok(())
 }
 
-/// States, each in brackets behind a space.
+/// States, each in brackets after a space.
 fn put_states<W: Write>(out: &mut W, states: &[State]) -> io::Result<()> {
     for state in states {
         out.write_all(b" [")?;
@@ -29,7 +29,7 @@ fn put_states<W: Write>(out: &mut W, states: &[State]) -> io::Result<()> {
     Ok(())
 }
 
-/// Places, each as its line and column behind a space.
+/// Places, each as its line and column after a space.
 fn put_places<W: Write>(out: &mut W, places: &[Place]) -> io::Result<()> {
     for place in places {
         write!(out, " {}.{}", place.line, place.column)?;
@@ -113,7 +113,7 @@ fn put_place<W: Write>(out: &mut W, place: Option<Place>) -> io::Result<()> {
     }
 }
 
-/// Tells what a call was lent, what it answered, and what it left.
+/// Writes what a call was given, what it answered, and what it left.
 fn tell_answer<W: Write>(out: &mut W, made: &Made) -> io::Result<()> {
     tell_values(out, "lent", &made.lent)?;
     out.write_all(b"  answer")?;

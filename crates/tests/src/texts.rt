@@ -4,7 +4,7 @@ use std::alloc::{AllocError, Global};
 use std::test::Fail;
 use tla_lex::*;
 
-/// Words and operators that a module may not use. Each is refused by its own text, so no report tells one kind from another.
+/// Words and operators that a module may not use. Each is refused by its own text, so no report distinguishes them.
 const LEFT_OUT: &[u8] = b"---- MODULE M ----
 ENABLED INSTANCE LAMBDA RECURSIVE WITH PROOF BY OBVIOUS OMITTED \\AA \\EE \\cdot -- -+->
 ====";
@@ -36,8 +36,8 @@ fn reads_what_is_left_out(rt: HostRuntime) -> Result<(), Fail> {
     Ok(())
 }
 
-/// A mark that stands so many times behind a module's first words, and the refusal: many open comments, a long line, a name
-/// of 64 mebibytes, and comments of as many.
+/// A mark that is repeated this many times after a module's first words, and the refusal: many open comments, a long
+/// line, a name of 64 mebibytes, and comments of as many.
 static LONG: [(&str, u32, LexCode, u64, u128); 4] = [
     ("(*", 1_000_000, LexCode::OpenComment, 1, 19),
     (" <<<", 100_000, LexCode::NoClosingLine, 1, 400_019),

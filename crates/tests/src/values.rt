@@ -1,4 +1,4 @@
-//! Calls that no expression reaches, and what no clause says of others. What an expression reaches stands in the data of
+//! Calls that no expression reaches, and what no clause says of others. What an expression reaches is in the data of
 //! `acceptance`.
 
 use std::alloc::Global;
@@ -8,7 +8,7 @@ use std::thread;
 use tla_eval::Partial;
 use tla_value::*;
 
-// The set of a set, and so on, so often, round 1.
+// The number 1 in nested sets, this many.
 fn nested(alloc: Global, braces: u64) -> Result<Value, ValueError> {
     let mut value = Value::Int(1);
     for _ in 0..braces {
@@ -54,7 +54,7 @@ fn refuses_a_member(alloc: Global, largest: i64) -> Result<bool, ValueError> {
     Ok(refused == Err(ValueError::TooMany) && set.get(0) == Some(&Value::Int(1)))
 }
 
-// Whether so many pairs of different numbers are refused.
+// Whether this many pairs of different numbers are refused.
 fn refuses_pairs(alloc: Global, count: i64) -> Result<bool, ValueError> {
     let made = FunValue::from_pairs(numbered_pairs(alloc, count)?);
     Ok(matches!(made, Err(ValueError::TooMany)))
@@ -112,7 +112,7 @@ fn a_refused_growth_changes_nothing(rt: HostRuntime) {
     }
 }
 
-// Pairs of so many numbers, each with itself.
+// Pairs of this many numbers, each with itself.
 fn numbered_pairs(alloc: Global, count: i64) -> Result<Vec<(Value, Value)>, ValueError> {
     let mut pairs = Vec::new(alloc);
     for number in 0..count {

@@ -64,14 +64,14 @@ impl Holds {
         }
     }
 
-    /// Whether each held piece was let go in time, so many held pieces were entered, and so many pieces left.
+    /// Whether each held piece was released in time, this many held pieces were entered, and this many pieces left.
     pub fn has_seen(&self, entered: u64, left: u64) -> bool {
         self.late.load(Ordering::SeqCst) == 0
             && self.held_entered.load(Ordering::SeqCst) == entered
             && self.left.load(Ordering::SeqCst) == left
     }
 
-    /// Whether so many held pieces and so many others were dropped.
+    /// Whether this many held pieces and this many others were dropped.
     pub fn has_dropped(&self, held: u64, others: u64) -> bool {
         self.held_dropped.load(Ordering::SeqCst) == held
             && self.others_dropped.load(Ordering::SeqCst) == others

@@ -1,4 +1,4 @@
-//! A search of a model by a hash that tells no states apart.
+//! A search of a model by a hash that is the same for all states.
 
 use crate::hashing::Zero;
 use crate::specifications::JUGS;

@@ -1,5 +1,5 @@
-//! Reports of whole checks, to writers that end, take few bytes a call or are interrupted once: what went out is a prefix, and
-//! its length is told.
+//! Reports of whole checks, to writers that end, take few bytes a call or are interrupted once: what is written is a
+//! prefix, and its length is reported.
 
 use crate::specifications::{COUNTER, JUGS, Specification, TWO};
 use crate::writer::{ENDS, Narrow};
@@ -7,7 +7,7 @@ use std::alloc::Global;
 use std::process::Abort;
 use tla_check::{Checked, NoGate, Options, WriteFault, check, write_report};
 
-/// Whether a report goes out to such a writer as far as there is room, and its length is told.
+/// Whether a report is written to such a writer as far as there is room, and its length is reported.
 fn is_cut(checked: &Checked, report: &[u8], room: usize, mut out: Narrow) -> bool {
     let result = write_report(checked, &mut out);
     if room < report.len() {

@@ -1,4 +1,4 @@
-//! Texts of values into writers that take few bytes. The texts themselves stand in the data of `acceptance`.
+//! Texts of values into writers that take few bytes. The texts themselves are in the data of `acceptance`.
 
 use crate::writer::{ENDS, End, Narrow};
 use std::alloc::Global;
@@ -17,7 +17,7 @@ fn steps(alloc: Global) -> Result<Value, ValueError> {
     Ok(Value::Fun(FunValue::from_pairs(pairs)?))
 }
 
-// Whether so many bytes of the text go out, and it ends at the first refusal.
+// Whether this many bytes of the text are written, and it ends at the first refusal.
 fn ends_at_the_first(alloc: Global, value: &Value, step: usize, room: usize, end: End) -> bool {
     let mut out = Narrow::new(alloc, step, room, end);
     let result = value.write_text(&mut out);
