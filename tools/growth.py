@@ -31,7 +31,7 @@ def listed(bullet, parts):
 
 
 def clock(most, *lines):
-    """A clock that counts to `most` and begins anew, with further lines before the invariant's."""
+    """A clock that counts to `most` and begins again, with further lines before the invariant's."""
     return module("VARIABLE x", "Init == x = 0", f"Next == x' = (x + 1) % {most}", *lines)
 
 

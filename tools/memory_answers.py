@@ -10,7 +10,7 @@ allocation was refused:
 
 - it lies in the arm of a pattern that names such an error, as `Err(ValueError::Memory) =>`;
 - it lies in an `impl From<AllocError>`, or of `AllocFailed`;
-- it lies in an arm `Err(_) =>`, in the `else` of `let Ok(..) =`, behind `is_err()` or `ok_or(..)`, and the call before
+- it lies in an arm `Err(_) =>`, in the `else` of `let Ok(..) =`, after `is_err()` or `ok_or(..)`, and the call before
   it has no other error: its error type has no other value, or a clause of its contract says so.
 
 EXCEPTIONS names the places that are right for a reason that this command can't see. Each other place is printed. The
@@ -63,7 +63,7 @@ MAKERS = {"memory", "no_memory", "NO_MEMORY"}
 
 @dataclass
 class Block:
-    """A pair of braces: where it begins and ends, and what stands before it."""
+    """A pair of braces: where it begins and ends, and the text before it."""
 
     begin: int
     end: int
@@ -76,7 +76,7 @@ def blank(text):
 
 
 def statement_before(text, end):
-    """What stands before an offset, from the last `;`, `{` or `}`, or the last `,` between arms or arguments."""
+    """The text before an offset, from the last `;`, `{` or `}`, or the last `,` between arms or arguments."""
     depth, cut = 0, None
     for begin in range(end - 1, -1, -1):
         char = text[begin]
@@ -128,7 +128,7 @@ class Source:
         return str(self.path.relative_to(ROOT / "crates"))
 
     def around(self, at):
-        """The blocks round an offset, the innermost first."""
+        """The blocks around an offset, the innermost first."""
         return [b for b in reversed(self.blocks) if b.begin < at < b.end]
 
 
@@ -177,7 +177,7 @@ def is_clause_at(source, at):
 
 
 def type_of(source, at):
-    """The type of the `impl` round an offset."""
+    """The type of the `impl` around an offset."""
     for block in source.around(at):
         match = re.search(r"\bimpl\b(?:<.*?>)?\s+(?:.*\bfor\s+)?([A-Z]\w*)", block.header)
         if match:
@@ -242,7 +242,7 @@ def called(expression):
 
 
 def names_of(before, arguments):
-    """The names of a call, by what stands before its arguments: as `keys_of` has them."""
+    """The names of a call, by the text before its arguments: as `keys_of` has them."""
     match = re.search(r"(\.?[\w:]+?)(?:::<[^()]*>)?$", before)
     path = match.group(1).split("::") if match else [""]
     if path[-1].startswith(".") and ALLOCATOR.match(arguments):
@@ -281,7 +281,7 @@ def is_answer(text, match):
 
 
 def arm_of(source, at):
-    """The pattern of the arm that an answer lies in, or the condition of the block round it."""
+    """The pattern of the arm that an answer is in, or the condition of the block around it."""
     head = statement_before(source.text, at)
     if "=>" in head:
         return head.rsplit("=>", 1)[0]
@@ -291,7 +291,7 @@ def arm_of(source, at):
 
 
 def error_at_hand(source, at, arm):
-    """The expressions whose error an answer stands for, where no pattern names it."""
+    """The expressions whose error an answer passes on, if no pattern names it."""
     for pattern in (r"let\s+Ok\(.*?\)\s*=\s*(.*?)\s*else$", r"\bif\s+(.*)\.is_err\(\)$"):
         match = re.search(pattern, arm, re.S)
         if match:
@@ -317,7 +317,7 @@ def values_of(source, at, expression):
 
 
 def function_of(source, at):
-    """The name of the function or constant round an offset."""
+    """The name of the function or constant around an offset."""
     return next((name for begin, end, name in source.bodies if begin < at < end), "")
 
 
