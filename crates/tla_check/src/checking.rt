@@ -54,7 +54,7 @@ pub fn check<G: Gate, R: Threads + Wait + Sync>(
     }
 }
 
-/// The model that two texts name, or what stops the check.
+/// The model that two texts denote, or what stops the check.
 fn read_model(alloc: Global, module: &[u8], config: &[u8]) -> Result<Model, Checked>
     ensures model { IfOk result (λ m. NameOnly «module».now config.now (model_of m)) }
     ensures stopped { IfErr result (IsStopped «module».now config.now) }
@@ -205,7 +205,7 @@ fn predicate_names(alloc: Global, predicates: &[StatePredicate]) -> Result<Names
     Ok(Names::new(names))
 }
 
-/// Checks two texts, writes the report and answers the status with which the program ends.
+/// Checks two texts, writes the report and returns the exit status.
 ///
 /// The first write that fails or takes no byte ends the report.
 pub fn check_and_report<W: Write, G: Gate, R: Threads + Wait + Sync>(
@@ -217,7 +217,7 @@ pub fn check_and_report<W: Write, G: Gate, R: Threads + Wait + Sync>(
     gate: &G,
     out: &mut W,
 ) -> Result<u8, WriteFault>
-    // What was written is the report of what is right of the two texts, and the status is its status.
+    // What was written is the report of the right answer for the two texts, and the status is its status.
     ensures ok { IfOk result (λ status. (checked : Checked)
         × IsChecked «module».now config.now options.now.limit checked
         × Appends (W.contents out.old) (W.contents out.new) (report checked)

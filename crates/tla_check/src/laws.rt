@@ -1,4 +1,4 @@
-//! Laws of what is right of two texts, and of its report, over the definitions alone.
+//! Laws of the right answer for two texts, and of its report, over the definitions alone.
 ghost use Rattle.std.specs.Prelude.{◌≡◌, ◌↔◌, List, ℕ};
 ghost use Rattle.tla_check.specs.Laws.{ComeOutAlike, ReportsKept, SaysTruly};
 

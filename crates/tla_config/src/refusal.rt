@@ -8,7 +8,7 @@ use std::alloc::AllocError;
 pub enum Refusal {
     /// The token has no place here.
     Unexpected(usize),
-    /// The statement that begins here is left out, or the replacement in another module.
+    /// The statement that begins here is left out of the language, or the replacement in another module.
     LeftOut(usize),
     /// The value of the item that begins here is beyond the limits of values.
     TooLarge(usize),

@@ -7,7 +7,7 @@ use crate::keyword::{Keyword, keyword_of};
 use tla_lex::{Kind, Place, Token, same_kind};
 use tla_tree::slice_of;
 
-/// The token of this number, where it is a name and no word of a statement.
+/// The token with this number, if it is a name and no word of a statement.
 pub fn name_at(text: &[u8], tokens: &[Token], at: usize) -> Option<Token>
     ensures value { result ≡ spec.name_of text.now (slice_get tokens.now at) }
     ensures within { OnSome result (at < length tokens.now) }

@@ -34,7 +34,7 @@ pub struct ParsedValue {
 /// The largest magnitude of a number.
 const LARGEST: u128 = 9223372036854775808;
 
-/// What digits say, where it is at most the largest magnitude.
+/// The number of these digits, if it is at most the largest magnitude.
 fn magnitude(digits: &[u8]) -> Option<u64>
     ensures value { IfSome result (λ n. n ≡ decimal.value 0 digits.now) }
     ensures small { IfSome result (λ n. n ≤ 2 ^ 63) }
@@ -51,7 +51,7 @@ fn magnitude(digits: &[u8]) -> Option<u64>
     Some(n)
 }
 
-/// The number of these digits, where it is one of 64 bits.
+/// The number of these digits, if it is within 64 bits.
 fn positive(digits: &[u8]) -> Option<i64>
     ensures value { IfSome result (λ z. z ≡ number false digits.now) }
     ensures none { IfNone result (FitsSigned w64 (number false digits.now) → ⊥) }
@@ -86,7 +86,7 @@ fn bytes_of(alloc: Global, literal: &[u8]) -> Result<Vec<u8>, Refusal>
     Ok(string_text(alloc, literal)?)
 }
 
-/// The text of these bytes, where they are UTF-8, in the item of this number.
+/// The text of these bytes, if they are UTF-8, in the item with this number.
 fn text_of(alloc: Global, bytes: &[u8], item: usize) -> Result<Text, Refusal>
     ensures bytes { IfOk result (λ t. t ≡ bytes.now) }
     ensures utf8 { IfOk result (λ t. ∥ IsUtf8 bytes.now ∥₁) }
@@ -212,7 +212,7 @@ fn negated(text: &[u8], tokens: &[Token], item: usize, at: usize) -> Result<Pars
     }
 }
 
-/// The value that begins here, in the item of this number, nested so deep at most.
+/// The value that begins here, in the item with this number, nested at most this deep.
 #[cycle(value)]
 pub fn value(
     alloc: Global,
@@ -244,7 +244,7 @@ pub fn value(
     Ok(ParsedValue { value, end: at + 1 })
 }
 
-/// The set that this brace opens, in the item of this number, its members nested so deep at most.
+/// The set that this brace opens, in the item with this number, with members nested at most this deep.
 #[cycle(value)]
 fn members(
     alloc: Global,

@@ -42,7 +42,7 @@ fn alone<'a>(
     Ok(Behaviour::Specified(place, name))
 }
 
-/// The behaviour; or the place of a statement that is one too many, or of the end where one is missing.
+/// The behaviour; or the place of a statement that is one too many, or of the end if one is missing.
 pub(crate) fn named_behaviour(config: &Config) -> Result<Behaviour<'_>, Place>
     ensures { GivesBehaviour result (refused.behaviour config.entry.now.statements config.entry.now.end None None) }
 {

@@ -298,7 +298,7 @@ pub fn build(alloc: Global, module: &Module, config: &Config) -> Result<Model, D
     ensures found { IfOk result (λ m. model.IsModel (map unit_view «module».now.units.items) config.now.statements (model_of m)) }
     // No other model is named.
     ensures only { IfOk result (λ m. (n : ModelTree) → model.IsModel (map unit_view «module».now.units.items) config.now.statements n → n ≡ model_of m) }
-    // A refusal has its cause, up to C7 the first in the order of steps, and then no model is named.
+    // A refusal has its cause, and up to C7 it is the first in the order of steps. Then there is no model.
     ensures refused { IfErr result (λ e. e.code ≢ Memory → refused.IsRefusal (map unit_view «module».now.units.items) config.now e) }
     ensures none { IfErr result (λ e. e.code ≢ Memory → (n : ModelTree) → model.IsModel (map unit_view «module».now.units.items) config.now.statements n → ⊥) }
     ensures located { IfErr result (λ e. IsLocated e.code e.place e.name) }

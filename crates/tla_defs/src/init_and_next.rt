@@ -28,7 +28,7 @@ use tla_items::Items;
 use tla_lex::Place;
 use tla_tree::{Expr, Unit, Written};
 
-/// The names of the initial predicate and the action, or what a specification says of them.
+/// The names of the initial predicate and the action, or the formula of a specification.
 #[derive(Drop)]
 pub(crate) enum InitAndNext<'a> {
     Named(&'a Written, &'a Written),
@@ -57,7 +57,7 @@ pub(crate) fn meaning<'a>(
     }
 }
 
-/// An initial predicate of one conjunct, over the variables next.
+/// An initial predicate of one conjunct, over the next values of variables.
 fn one_conjunct<'a>(alloc: Global, scopes: &Scopes<'a>, tree: &'a Expr) -> Result<Core, DefsError>
     ensures found { IfOk result (λ c. formulas.IsInitial (scope_of scopes.now) (view tree.entry.now) (expr_of c)) }
     ensures formula { IfErr result (λ e. e.code ≢ Memory → formula_refused.IsOfFormula (expand (view tree.entry.now) (scope_of scopes.now) 0) read.Once e) }
@@ -69,7 +69,7 @@ fn one_conjunct<'a>(alloc: Global, scopes: &Scopes<'a>, tree: &'a Expr) -> Resul
     }
 }
 
-/// An initial predicate of several conjuncts, over the variables next.
+/// An initial predicate of several conjuncts, over the next values of variables.
 fn several_conjuncts<'a>(
     alloc: Global,
     scopes: &Scopes<'a>,
@@ -86,7 +86,7 @@ fn several_conjuncts<'a>(
     }
 }
 
-/// The initial predicate of a specification, over the variables next.
+/// The initial predicate of a specification, over the next values of variables.
 fn specified_initial<'a>(
     alloc: Global,
     scopes: &Scopes<'a>,
@@ -122,7 +122,7 @@ fn specified_action<'a>(
     }
 }
 
-/// The initial predicate, over the variables next.
+/// The initial predicate, over the next values of variables.
 pub(crate) fn initial_predicate<'a>(
     alloc: Global,
     places: &Places<'_, 'a>,

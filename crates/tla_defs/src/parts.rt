@@ -23,7 +23,7 @@ pub(crate) struct Boxed<'a> {
     pub(crate) subscript: &'a Expr,
 }
 
-/// The conjuncts of a specification but for its fairness, in order.
+/// The conjuncts of a specification except its fairness, in order.
 #[derive(Drop)]
 pub(crate) struct Parts<'a> {
     pub(crate) steps: Vec<Boxed<'a>>,

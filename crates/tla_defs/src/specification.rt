@@ -78,14 +78,14 @@ fn of_state_level<'a>(
     }
 }
 
-/// Where what a conjunct says begins, by which a set keeps it.
+/// Where the formula of a conjunct begins. A set keeps the conjunct by this.
 #[derive(Clone, Copy, PartialEq, Eq, Hash)]
 struct PlaceKey {
     line: u64,
     column: u128,
 }
 
-/// Where what a conjunct says begins: for a name, its definition.
+/// Where the formula of a conjunct begins: for a name, its definition.
 fn says_at(definitions: &Definitions<'_, '_>, tree: &Expr) -> Place {
     match tree {
         Expr::Name(name) => match definitions.body(name.word.as_bytes()) {
@@ -108,7 +108,7 @@ fn is_new(
     Ok(met.insert(PlaceKey { line, column })?)
 }
 
-/// The conjuncts of an initial predicate. What is said there twice is looked at once.
+/// The conjuncts of an initial predicate. A formula that occurs twice is examined once.
 fn each_of_state_level<'a>(
     alloc: Global,
     scopes: &Scopes<'a>,

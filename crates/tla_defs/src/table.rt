@@ -23,7 +23,7 @@ use tla_config::DefsError;
 use tla_items::Items;
 use tla_tree::{Definition, Expr, Unit};
 
-/// A class of formulas, of which a name is where its definition is.
+/// A class of formulas. A name is in it if its definition is.
 #[derive(Clone, Copy)]
 pub(crate) enum Class {
     /// `WF_v(A)` and `SF_v(A)`, under `/\` and `\A`.
@@ -32,7 +32,7 @@ pub(crate) enum Class {
     Temporal,
 }
 
-/// What a definition without parameters says, and whether it is known to be of the class.
+/// The body of a definition without parameters, and whether it is known to be of the class.
 #[derive(Clone, Copy)]
 pub(crate) struct Body<'a> {
     pub(crate) tree: &'a Expr,
@@ -52,7 +52,7 @@ pub(crate) struct Definitions<'t, 'a> {
     pub(crate) items: &'t Items<'a>,
 }
 
-/// The name and the body of a definition, where it has no parameters.
+/// The name and the body of a definition, if it has no parameters.
 fn named_body<'a>(definition: &'a Definition) -> Option<(&'a [u8], &'a Expr)>
     ensures global { (us : List UnitTree) (x : Name) → spec.body_or (option_map spec.named result) x (body_in us x) ≡ body_in (unit_tree.Defines (definition_view definition.entry.now) ∷ us) x }
     ensures local { (at : _) (us : List UnitTree) (x : Name) → spec.body_or (option_map spec.named result) x (body_in us x) ≡ body_in (unit_tree.Local at (definition_view definition.entry.now) ∷ us) x }
@@ -69,7 +69,7 @@ fn named_body<'a>(definition: &'a Definition) -> Option<(&'a [u8], &'a Expr)>
     }
 }
 
-/// The name and the body of the definition of a unit, where it has no parameters.
+/// The name and the body of the definition of a unit, if it has no parameters.
 fn defined<'a>(unit: &'a Unit) -> Option<(&'a [u8], &'a Expr)>
     ensures { (us : List UnitTree) (x : Name) → spec.body_or (option_map spec.named result) x (body_in us x) ≡ body_in (unit_view unit.entry.now ∷ us) x }
 {

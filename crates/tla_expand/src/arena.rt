@@ -40,11 +40,11 @@ pub(crate) enum What<'a> {
     Gives(usize, Projection),
     /// An operator of a module under another name.
     Module(Builtin),
-    /// Another name of what means nothing.
+    /// Another name for one that means nothing.
     Unknown,
 }
 
-/// A name put before an earlier scope.
+/// A name, and the scope before it.
 #[derive(Clone, Copy)]
 pub(crate) struct Entry<'a> {
     pub(crate) name: &'a [u8],

@@ -73,7 +73,7 @@ pub(crate) struct Setting {
 }
 
 impl Setting {
-    /// The setting of the parts of a node: the node is one on each path and one of all.
+    /// The setting of the parts of a node, which itself is one node, on each path, too.
     #[tactic(auto, using(crate::proofs::Sizes::some_node, crate::proofs::Sizes::some_depth))]
     fn inside(self) -> Result<Setting, Failure>
         ensures scope { IfOk result (λ s. s.scope ≡ self.scope) }
@@ -157,7 +157,7 @@ pub(crate) fn expand<'a>(
     Ok(made)
 }
 
-/// The node of a form. It is above the limits that are set for its parts.
+/// The node of a form. The limits of the setting are those of its parts.
 #[cycle(expand)]
 pub(crate) fn node_of<'a>(
     alloc: Global,

@@ -1,7 +1,7 @@
 //! Expressions that were expanded, and how many nodes there may still be.
 //!
-//! One that stays in hand while another is expanded is in a box, and where one is given up, `drop` is called. The parts of one that
-//! is dropped in place are gone through by each proof.
+//! An expression that is kept while another is expanded is in a box, and is dropped by a call of `drop`. If it were
+//! dropped in place, each proof would go through its parts.
 
 use tla_core::Core;
 use tla_value::Text;

@@ -10,7 +10,7 @@ pub enum Failure {
     /// It has none at all: an unknown name, another number of arguments, a prime on a variable's next value, a temporal
     /// operator, or a form that has none yet; and where that is.
     NoExpansion(Place),
-    /// None with so few nodes, or so few of them on a path; or a number in it is above 64 bits.
+    /// There is none with this few nodes, or this few on a path; or a number in it is above 64 bits.
     TooLarge,
     Memory,
 }

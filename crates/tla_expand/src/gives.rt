@@ -68,10 +68,10 @@ pub(crate) enum Turn<'a> {
     Stops,
 }
 
-/// How many names of LETs and LETs are gone into at once.
+/// How many LETs and names of LETs may be entered at once.
 const DEPTH: usize = 1000;
 
-/// Primes, with more of them.
+/// These primes, and `more` of them.
 pub(crate) fn with_more(primes: Primes, more: Primes) -> Primes
     ensures { result ≡ backs.with_more primes more }
 {
@@ -167,7 +167,7 @@ fn sought(known: &Known<'_>, name: &[u8]) -> Option<Summary>
     }
 }
 
-/// What an operator of a scope gives back.
+/// The argument that an operator of a scope returns.
 fn entered(entries: &Entries<'_, '_>, scope: usize, name: &[u8]) -> Option<(usize, Projection)>
     requires linked { AreLinked (listed entries.now) }
     requires within { scope ≤ length (listed entries.now) }
@@ -404,7 +404,7 @@ fn given_by(
     given_in(entries, scope, part, &[], 0, left)
 }
 
-/// What a definition gives back.
+/// The argument that a definition returns.
 pub(crate) fn gives(
     entries: &Entries<'_, '_>,
     scope: usize,

@@ -7,7 +7,7 @@ pub fn expansions_fit()
     ensures { ExpansionsFit }
 {}
 
-/// Primes leave each name as it was, and of present values and variables what they may.
+/// Primes change no bound name. After one prime there are no present values, after two no variables.
 pub fn primes_fit()
     ensures { PrimesFit }
 {}

@@ -1,7 +1,7 @@
 //! What an expression means under a scope, and its expansion within limits.
 //!
-//! Adds an expansion has no names of definitions any, and primes stand on variables alone. What it is stands in the
-//! definitions of this crate (*Specifying Systems*, chapters 15 to 17).
+//! An expansion has no names of definitions, and only variables have primes. The definitions of this crate say what it
+//! is (*Specifying Systems*, chapters 15 to 17).
 #![tactic(auto)]
 
 mod arena;

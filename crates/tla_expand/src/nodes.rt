@@ -77,7 +77,7 @@ pub(crate) enum Binding {
     Filter,
 }
 
-/// A node of sets, and of a body that has one bound name more for each.
+/// A node of sets, and of a body that has one more bound name for each.
 #[derive(Clone, Copy)]
 pub(crate) enum Gather {
     /// `{e : x \in S}`
@@ -123,7 +123,7 @@ pub(crate) enum Builtin {
     Three(TernaryNode),
 }
 
-/// A form with its parts, at a place. It refers to their boxes and lists as they lie in the tree.
+/// A form with its parts, at a place. It borrows their boxes and lists from the tree.
 #[derive(Clone, Copy)]
 pub(crate) enum Form<'a> {
     Leaf(Place, Leaf<'a>),

@@ -35,8 +35,8 @@ use tla_core::{Core, Place};
 use tla_tree::{Definition, Expr, Word, Written};
 use tla_value::Value;
 
-/// What refuses an expression that was too large under its level, where this was found of it without one: only its level, if
-/// it is within the limits so.
+/// The refusal of an expression that was too large with its level, given what was found without a level: only its level
+/// is the reason if it is within the limits then.
 fn still_refused(found: Result<Core, Failure>) -> Failure
     ensures level { (p : Place) → result ≡ Failure.NoExpansion p → (c : core.Core) × (found ≡ Ok c) }
     ensures large { result ≡ Failure.TooLarge → (f : failure.Failure) × (found ≡ Err f) × (f ≢ Failure.Memory) }
@@ -208,7 +208,7 @@ impl<'a> Scopes<'a> {
         ensures limits { IfOk result (λ c. IsWithinLimits (expr_of c)) }
         ensures gone { IfErr result (λ f. (p : Place) → f ≡ Failure.NoExpansion p → with_primes primes (expand (view tree.now) (scope_of self.now) 0) ≡ None) }
         ensures none { IfErr result (λ f. f ≢ Failure.Memory → (e : expr.Expr) → with_primes primes (expand (view tree.now) (scope_of self.now) 0) ≡ Some e → IsWithinLimits e → ⊥) }
-        // Too large is what has no expansion within the limits, whatever its level.
+        // `TooLarge` means that there is no expansion within the limits, whatever its level.
         ensures large { IfErr result (λ f. f ≡ Failure.TooLarge → (e : expr.Expr) → expand (view tree.now) (scope_of self.now) 0 ≡ Some e → IsWithinLimits e → ⊥) }
     {
         match self.find_expansion(alloc, tree, primes, Some(primes)) {
@@ -243,7 +243,7 @@ impl<'a> Scopes<'a> {
         ensures limits { IfOk result (λ c. IsWithinLimits (expr_of c)) }
         ensures gone { IfErr result (λ f. (p : Place) → f ≡ Failure.NoExpansion p → with_primes primes (expand (Name name.now) (scope_of self.now) 0) ≡ None) }
         ensures none { IfErr result (λ f. f ≢ Failure.Memory → (e : expr.Expr) → with_primes primes (expand (Name name.now) (scope_of self.now) 0) ≡ Some e → IsWithinLimits e → ⊥) }
-        // Too large is what has no expansion within the limits, whatever its level.
+        // `TooLarge` means that there is no expansion within the limits, whatever its level.
         ensures large { IfErr result (λ f. f ≡ Failure.TooLarge → (e : expr.Expr) → expand (Name name.now) (scope_of self.now) 0 ≡ Some e → IsWithinLimits e → ⊥) }
     {
         match self.find_meaning(alloc, name, primes, Some(primes)) {
@@ -293,7 +293,7 @@ impl<'a> Scopes<'a> {
         ensures limits { IfOk result (λ c. IsWithinLimits (expr_of c)) }
         ensures gone { IfErr result (λ f. (p : Place) → f ≡ Failure.NoExpansion p → with_primes primes (expand (Junction place bullet.And (trees_of (map (λ (t : Bor syntax.Expr). view t.now) trees.now))) (scope_of self.now) 0) ≡ None) }
         ensures none { IfErr result (λ f. f ≢ Failure.Memory → (e : expr.Expr) → with_primes primes (expand (Junction place bullet.And (trees_of (map (λ (t : Bor syntax.Expr). view t.now) trees.now))) (scope_of self.now) 0) ≡ Some e → IsWithinLimits e → ⊥) }
-        // Too large is what has no expansion within the limits, whatever its level.
+        // `TooLarge` means that there is no expansion within the limits, whatever its level.
         ensures large { IfErr result (λ f. f ≡ Failure.TooLarge → (e : expr.Expr) → expand (Junction place bullet.And (trees_of (map (λ (t : Bor syntax.Expr). view t.now) trees.now))) (scope_of self.now) 0 ≡ Some e → IsWithinLimits e → ⊥) }
     {
         match self.find_conjunction(alloc, place, trees, primes, Some(primes)) {

@@ -122,7 +122,7 @@ fn use_alone<'a>(
     }))
 }
 
-/// What the use of a name goes on with.
+/// The reduction of the use of a name.
 pub(crate) fn use_of<'a>(
     entries: &mut Entries<'_, 'a>,
     place: Place,

@@ -1,4 +1,5 @@
-//! Expressions, by precedence climbing. The rules take the reader of inner expressions as a parameter, so that each is proved by itself.
+//! Expressions, by precedence climbing. The rules take the parser of inner expressions as a parameter, so that each is
+//! proved by itself.
 
 ghost use Rattle.std.specs.Prelude.{◌≡◌, ◌+◌, ◌-◌, ◌≤◌, ◌<◌, length, [], Some};
 ghost use Rattle.tla_tree.specs.View.{view};

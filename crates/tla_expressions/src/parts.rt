@@ -1,4 +1,4 @@
-//! What the rules of expressions hand on, and nodes made of lists.
+//! The results of the rules of expressions, and nodes made of lists.
 
 ghost use Rattle.std.specs.Prelude.{◌≡◌, ◌≤◌, ℕ, List, Ok, max, IfOk, IfErr, map};
 ghost use Rattle.tla_lex.specs.declared.token.Token.{Token};

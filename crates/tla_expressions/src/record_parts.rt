@@ -1,4 +1,4 @@
-//! What the rules of records and updates hand on, and nodes made of their lists.
+//! The results of the rules of records and updates, and nodes made of their lists.
 
 ghost use Rattle.std.specs.Prelude.{◌≡◌, IfErr, OnOk, map, [], ◌∷◌, ◌++◌};
 ghost use Rattle.tla_tree.specs.View.{view, field_view, key_view, update_view};

@@ -46,7 +46,7 @@ pub fn refusal(failure: Failure, begins: Place) -> DefsError
     }
 }
 
-/// The initial condition of this name, over the variables next.
+/// The initial predicate with this name, over the next values of variables.
 pub fn initial(
     alloc: Global,
     places: &Places<'_, '_>,
@@ -80,7 +80,8 @@ pub fn action(
     }
 }
 
-/// The invariant or the constraint of this name. Of state level is what can be read over the variables next.
+/// The invariant or the constraint with this name. A formula is of state level if it can be read over the next values
+/// of variables.
 pub fn state_predicate(
     alloc: Global,
     places: &Places<'_, '_>,
@@ -96,7 +97,7 @@ pub fn state_predicate(
     action(alloc, places, scopes, name)
 }
 
-/// An assumption. Of constant level is what can be read with two primes.
+/// An assumption. A formula is of constant level if it can be read with two primes.
 pub fn assumption<'a>(alloc: Global, scopes: &Scopes<'a>, tree: &'a Expr) -> Result<Core, DefsError>
     ensures found { IfOk result (λ c. formulas.IsAssumption (scope_of scopes.now) (view tree.entry.now) (expr_of c)) }
     ensures formula { IfErr result (λ e. e.code ≢ Memory → refused.IsOfFormula (expand (view tree.entry.now) (scope_of scopes.now) 0) read.Twice e) }

@@ -37,7 +37,7 @@ fn begins_in(unit: &Unit, name: &[u8]) -> Option<Place> {
 }
 
 impl<'t, 'a> Places<'t, 'a> {
-    /// Where formulas begin in these units, where the configuration has these items.
+    /// Where formulas begin in these units, if the configuration has these items.
     pub fn of(units: &'a [Unit], items: &'t Items<'a>) -> Places<'t, 'a> {
         Places { units, items }
     }

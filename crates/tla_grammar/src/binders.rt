@@ -76,7 +76,7 @@ fn is_unbounded_tuple(tokens: &[Token], column: u128, from: usize) -> bool
     false
 }
 
-/// The refusal of a token in the binders of the form at `form`: the form, where that is left out, else the token.
+/// The refusal of a token in the binders of the form at `form`: the form, if it is left out, else the token.
 #[tactic(auto, unfolding(crate::specs::LeftOut::BeginsLeftOut))]
 pub fn refused_binder(tokens: &[Token], column: u128, form: Option<usize>, at: usize) -> Refusal
     ensures { Refuses tokens.now result }

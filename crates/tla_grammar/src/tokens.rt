@@ -325,7 +325,8 @@ fn is_selector(tokens: &[Token], at: usize) -> bool
     is_kind(Kind::Bang, tokens.get(at).copied()) && !begins_update(tokens, at)
 }
 
-/// The refusal of a token that doesn't go on with what was read: a form left out, else one at or left of its list's column, else an unexpected one.
+/// The refusal of a token that can't follow what was read: a form that is left out, else a token at or left of its
+/// list's column, else an unexpected one.
 #[tactic(auto, unfolding(crate::specs::LeftOut::BeginsLeftOut))]
 pub fn refused(tokens: &[Token], column: u128, at: usize) -> Refusal
     ensures { Refuses tokens.now result }
@@ -346,7 +347,7 @@ pub fn refused(tokens: &[Token], column: u128, at: usize) -> Refusal
     }
 }
 
-/// The refusal of a token where an update of EXCEPT must begin: one at or left of its list's column, where it is `!`.
+/// The refusal of a token at which an update of EXCEPT must begin: if it is `!`, it is at or left of its list's column.
 pub fn refused_update(tokens: &[Token], column: u128, at: usize) -> Refusal
     ensures { Refuses tokens.now result }
 {
@@ -412,7 +413,8 @@ fn has_operator_parameter(tokens: &[Token], column: u128, from: usize) -> bool
     false
 }
 
-/// The refusal of a token in the parameters of the definition at `from`: the definition, where it is left out, else the token.
+/// The refusal of a token in the parameters of the definition at `from`: the definition, if it is left out, else the
+/// token.
 #[tactic(auto, unfolding(crate::specs::LeftOut::BeginsLeftOut))]
 pub fn refused_parameter(tokens: &[Token], column: u128, from: usize, at: usize) -> Refusal
     ensures { Refuses tokens.now result }

@@ -193,7 +193,7 @@ fn leads_back<'a>(
     is_circular(alloc, references, name)
 }
 
-/// Items none of which leads back to its name; or the first that does.
+/// Checks that no item leads back to its name; or returns the first that does.
 fn each_straight<'a>(
     alloc: Global,
     references: &References<'a>,
@@ -215,7 +215,7 @@ fn each_straight<'a>(
     Ok(())
 }
 
-/// Items none of which leads back to its name in this module; or the first that does.
+/// Checks that no item leads back to its name in this module; or returns the first that does.
 pub fn straight<'a>(alloc: Global, units: &'a [Unit], items: &Items<'a>) -> Result<(), DefsError>
     ensures ok { OnOk result (AreStraight (spec.references (map unit_view units.entry.now) items.now) items.now) }
     ensures err { IfErr result (λ e. e.code ≢ Memory → IsOfCycle (spec.references (map unit_view units.entry.now) items.now) items.now e) }

@@ -132,7 +132,7 @@ impl<'a> Items<'a> {
         }
     }
 
-    /// The name that a name means: Op, where it has an item `c <- Op`. None where it has a value.
+    /// The name that a name means: Op, if it has an item `c <- Op`. None if it has a value.
     pub fn stands_for<'n>(&'n self, name: &'n [u8]) -> Option<&'n [u8]>
         ensures { option_map (λ (w : Bor (List ℕ)). w.now) result ≡ spec.stands_for self.entry.now name.entry.now }
     {
@@ -365,7 +365,7 @@ fn item_named(
     }
 }
 
-/// The names of items: values are for the first of these scopes, operators for the second.
+/// Checks the names of items. Values are for names of the first of these scopes, operators for names of the second.
 fn each_named(
     alloc: Global,
     values: &Scope<'_>,
@@ -384,7 +384,7 @@ fn each_named(
     Ok(())
 }
 
-/// The names of items: each is known, has one item, and takes no argument or as many as its operator.
+/// Checks the names of items: each is known, has one item, and takes no argument or as many as its operator.
 fn items_named(alloc: Global, units: &[Unit], items: &Items<'_>) -> Result<(), DefsError>
     ensures { Says Source.Configuration result (spec.items_misused (spec.replaceable_of (map unit_view units.now)) (spec.nameable_of (map unit_view units.now)) [] items.now) }
 {
@@ -393,8 +393,8 @@ fn items_named(alloc: Global, units: &[Unit], items: &Items<'_>) -> Result<(), D
     each_named(alloc, &values, &operators, items)
 }
 
-/// Items for constants and definitions that may have them, so that each constant has a value; or the first misuse of a
-/// name in them, and then the first constant without an item.
+/// Checks that items are for constants and definitions that may have them, and that each constant has a value. Else
+/// returns the first misuse of a name in the items, or else the first constant without an item.
 pub fn valued(alloc: Global, units: &[Unit], items: &Items<'_>) -> Result<(), DefsError>
     ensures given { OnOk result (spec.items_misused (spec.replaceable_of (map unit_view units.now)) (spec.nameable_of (map unit_view units.now)) [] items.now ≡ None) }
     ensures valued { OnOk result (constants.unvalued (spec.replaced_names items.now) (map unit_view units.now) ≡ None) }

@@ -1,4 +1,4 @@
-//! Names with an item `c <- Op` where Op may still get another meaning.
+//! Names with an item `c <- Op`, if Op may still get another meaning.
 
 ghost use Rattle.std.specs.Prelude.{◌≡◌, OnOk, IfOk, IfErr, map};
 ghost use Rattle.tla_config.specs.declared.error.DefsCode.TheVariants.{Memory};

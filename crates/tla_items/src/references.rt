@@ -53,7 +53,7 @@ impl<'a> References<'a> {
         Ok(())
     }
 
-    /// The names that a name leads to at once, where something is known of it.
+    /// The names that a name leads to directly, if it is known.
     pub(crate) fn next(&self, name: &'a [u8]) -> Option<&Names<'a>>
         ensures some { IfSome result (λ ns. ns.now ≡ spec.next_names self.now name.entry.now) }
         ensures none { IfNone result (spec.next_names self.now name.entry.now ≡ []) }

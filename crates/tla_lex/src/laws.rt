@@ -15,7 +15,7 @@ pub fn longest_tokens()
     ensures { LongestTokens }
 {}
 
-/// The search for the closing line and the reading of tokens agree on what lies outside comments and strings.
+/// The search for the closing line and the reading of tokens agree on what is outside comments and strings.
 pub fn tokens_in_code()
     ensures { TokensInCode }
 {}

@@ -27,7 +27,7 @@ pub enum Front {
     Stops(Stop),
 }
 
-/// The tokens of a text up to its end or its first fault, and that.
+/// The tokens of a text up to its end or its first fault, and which of them it is.
 #[derive(Debug, Drop)]
 pub struct Scan {
     pub tokens: Vec<Token>,

@@ -1,4 +1,4 @@
-//! The command line: what the words of a call name, and the texts where they name nothing.
+//! The command line: what the words of a call mean, and the texts if they mean nothing.
 #![tactic(auto)]
 
 mod line;

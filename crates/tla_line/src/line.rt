@@ -57,8 +57,7 @@ pub struct Line<'a> {
     pub dot: Option<&'a str>,
 }
 
-/// Why the words of a call name no line. Its `Display` is the text for the user, with its line
-/// feeds.
+/// Why the words of a call are no command line. Its `Display` is the text for the user, with its line feeds.
 #[derive(Debug, Drop)]
 pub enum LineFault {
     /// `clap` refuses the words, or they ask for help or for the version.
@@ -127,7 +126,7 @@ impl From<AllocError> for LineFault {
     }
 }
 
-/// Why the words of a call name no line, with the option of a bad number.
+/// Why the words of a call are no command line, with the option of a bad number.
 #[derive(Debug, Drop)]
 pub struct NoLine {
     pub fault: LineFault,
@@ -331,7 +330,7 @@ fn required_word<'a>(alloc: Global, name: &'a str, help: &'a str) -> Arg<'a>
         .help(help)
 }
 
-/// The option `--name N`, with the text that it has where the words don't give it.
+/// The option `--name N`, with its default.
 fn number_option<'a>(alloc: Global, name: &'a str, fallback: &'a str, help: &'a str) -> Arg<'a>
     ensures rule { rule_of result ≡ number_option name.entry.now fallback.entry.now }
     ensures argument { IsArgument name.entry.now result }

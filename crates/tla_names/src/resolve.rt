@@ -175,7 +175,7 @@ fn operator(alloc: Global, is_known: bool, place: Place, word: &[u8]) -> Result<
     Err(refusal_of(alloc, DefsCode::UnknownName, Source::Module, mention))
 }
 
-/// An expression of which each name is used as it may be.
+/// Checks that each name of an expression is used correctly.
 #[cycle(known)]
 pub(crate) fn expression<'a>(
     alloc: Global,
@@ -510,7 +510,7 @@ fn case<'a>(
     expression(alloc, modules, scope, other)
 }
 
-/// Expressions of which each name is used as it may be.
+/// Checks that each name of some expressions is used correctly.
 #[cycle(known)]
 fn each<'a>(
     alloc: Global,
@@ -588,7 +588,7 @@ fn function<'a>(
     scope.push(name.word.as_bytes(), 0)
 }
 
-/// A definition of which each name is used as it may be.
+/// Checks that each name of a definition is used correctly.
 #[cycle(known)]
 pub(crate) fn definition<'a>(
     alloc: Global,

@@ -141,7 +141,7 @@ impl<'a> Scope<'a> {
         Ok(())
     }
 
-    /// How many arguments a name takes, where it is in scope: the last one of the name counts.
+    /// How many arguments a name takes, if it is in scope: the last one with the name counts.
     pub fn arity(&self, name: &[u8]) -> Option<usize>
         ensures { result ≡ arity self.now name.now }
     {

@@ -69,7 +69,7 @@ fn bring_unit<'a>(alloc: Global, brought: &mut Brought<'a>, unit: &'a Unit) -> R
     }
 }
 
-/// The variables of a module of which each name is brought in once and used as it may be.
+/// The variables of a module, once it is checked that each name is brought in once and used correctly.
 pub fn variables<'a>(alloc: Global, units: &'a [Unit]) -> Result<Names<'a>, DefsError>
     ensures known { OnOk result (misuses.misuse (map unit_view units.now) ≡ None) }
     ensures variables { IfOk result (λ vs. vs ≡ misuses.variables_of (map unit_view units.now)) }

@@ -12,7 +12,7 @@ pub enum ParseCode {
     Unexpected,
     /// P2: two operators that may not be beside each other without parentheses.
     Precedence,
-    /// P3: a token at or left of its junction list's column, where the item must go on.
+    /// P3: a token at or left of its junction list's column, although the item isn't complete.
     Column,
     /// P4: a form nested more than 200 deep.
     Nesting,

@@ -17,7 +17,7 @@ use tla_grammar::Refusal;
 use tla_lex::{Place, Token};
 use tla_tree::{Module, Written};
 
-/// The place of the token, or of the last one where there are fewer.
+/// The place of the token, or of the last one if there are fewer.
 fn place_of(tokens: &[Token], at: usize) -> Place {
     match tokens.get(at) {
         Some(t) => t.place,
@@ -28,7 +28,7 @@ fn place_of(tokens: &[Token], at: usize) -> Place {
     }
 }
 
-/// The refusal of a form left out, named by its first token.
+/// The refusal of a form that is left out, with its first token as its name.
 fn left_out(alloc: Global, text: &[u8], tokens: &[Token], at: usize) -> ParseError
     requires none { NoneSpells text.now tokens.now }
     requires form { BeginsLeftOut tokens.now at ⊎ IsUnknownModule tokens.now text.now at }
@@ -72,7 +72,8 @@ pub fn parse_module(alloc: Global, text: &[u8], tokens: &[Token]) -> Result<Modu
     ensures shallow { IfOk result (λ m. units_depth (map unit_view m.units.items) ≤ MAX_DEPTH) }
     // No other units spell them.
     ensures only { IfOk result (λ m. (us : List UnitTree) → SpellsModule text.now tokens.now us → us ≡ map unit_view m.units.items) }
-    // Tokens are refused only where no units spell them, or for nesting none within the limit; a form left out is on the list.
+    // Tokens are refused only if they spell no units, or, for P4, none within the limit; a form that is left out is on
+    // the list.
     ensures justified { IfErr result (λ e. Justified text.now tokens.now e.code e.place e.name) }
     ensures located { IfErr result (λ e. IsLocated e.code e.place e.name) }
 {

@@ -55,7 +55,7 @@ pub struct ParsedDeclarations {
     pub end: usize,
 }
 
-/// What is assumed or claimed, under a name or none, and the number of the token after it.
+/// An assumption or a theorem, with or without a name, and the number of the token after it.
 #[derive(Drop)]
 pub struct ParsedClaim {
     pub name: Option<Written>,
@@ -314,7 +314,7 @@ fn unit_at(alloc: Global, text: &[u8], tokens: &[Token], from: usize) -> Result<
     }
 }
 
-/// Whether the token may begin a unit here: EXTENDS only where no other unit but separators came before.
+/// Whether the token may begin a unit here. EXTENDS may if only separators came before.
 fn may_begin(tokens: &[Token], first: bool, at: usize) -> bool
     ensures { result ≡ (first || not (kind_at k.Extends (seen tokens.now 0 at))) }
 {

@@ -100,7 +100,7 @@ pub(super) fn bound_one<'a>(
     nested(alloc, entries, under, *first, rest, at)
 }
 
-/// One node for each name, one in another. It is above the limits that are set for its parts.
+/// One node for each name, one in another. The limits of the setting are those of its parts.
 #[cycle(expand)]
 fn nested<'a>(
     alloc: Global,
@@ -231,7 +231,7 @@ fn under_tuple<'a>(
     })
 }
 
-/// The nodes of the names that are left, or the body.
+/// The nodes of the remaining names, or the body.
 #[cycle(expand)]
 fn within<'a>(
     alloc: Global,
@@ -296,7 +296,7 @@ pub(super) fn gather_node<'a>(
     })
 }
 
-/// The set of an element: one that is opened is tried.
+/// The set of an element. If the element is opened, the set's elements are checked against its pattern.
 #[cycle(expand)]
 fn set_for<'a>(
     alloc: Global,
@@ -395,7 +395,7 @@ fn openings_of(alloc: Global, binds: &[Bind<'_>], bound: usize) -> Result<Vec<Op
     Ok(openings)
 }
 
-/// How many items elements are opened to, where no more nodes than these may come.
+/// How many items the elements are opened to, if these are at most `left` nodes.
 fn count_items(openings: &[Opening], left: usize) -> Result<usize, Failure>
     ensures ok { IfOk result (λ n. (n ≡ items_in openings.now) × (n ≤ left)) }
     ensures err { IfErr result (λ e. (e ≡ Failure.TooLarge) × (left < items_in openings.now)) }

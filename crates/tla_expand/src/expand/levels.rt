@@ -216,7 +216,7 @@ pub(super) fn node_behind<'a>(
     }
 }
 
-/// UNCHANGED of an expression. Its node is above the limits that are set for its parts.
+/// UNCHANGED of an expression. The limits of the setting are those of its parts.
 #[cycle(expand)]
 #[inline(never)]
 pub(super) fn unchanged_node<'a>(
