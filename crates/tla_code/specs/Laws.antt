@@ -5,6 +5,7 @@ use Rattle.tla_core.specs.Expr.{Expr}
 use Rattle.tla_core.specs.Meaning.{Bound, Present, Next}
 use Rattle.tla_core.specs.Value.{val, mem}
 use Rattle.tla_code.specs.Raise.{raise}
+use Rattle.tla_code.specs.NoVariables.{HasNoVariables}
 
 -- The expression is evaluated where `outer` are bound, its copy where `inner` are bound too, and `own` are the names that it has bound itself.
 abbrev pub RaiseKeepsValue : Type 0
@@ -16,3 +17,10 @@ RaiseKeepsMembers = (v : Tree) (e : Expr) (outer inner own : Bound) (s : Present
 -- A copy of a copy is one copy, where the second's new names stand among the first's, or right before or after them.
 abbrev pub RaiseTwiceIsRaiseOnce : Type 0
 RaiseTwiceIsRaiseOnce = (e : Expr) (from by f more : ℕ) → from ≤ f → f ≤ from + by → raise from (by + more) e ≡ raise f more (raise from by e)
+
+-- What mentions no variable is the same in all states.
+abbrev pub SteadyKeepsValue : Type 0
+SteadyKeepsValue = (e : Expr) → HasNoVariables e → (b : Bound) (s s' : Present) (t t' : Next) → val e b s t ≡ val e b s' t'
+
+abbrev pub SteadyKeepsMembers : Type 0
+SteadyKeepsMembers = (v : Tree) (e : Expr) → HasNoVariables e → (b : Bound) (s s' : Present) (t t' : Next) → mem v e b s t ≡ mem v e b s' t'

@@ -1,6 +1,6 @@
 //! Laws of expressions that are evaluated once for several copies, over their definitions alone.
 
-ghost use Rattle.tla_code.specs.Laws.{RaiseKeepsValue, RaiseKeepsMembers, RaiseTwiceIsRaiseOnce};
+ghost use Rattle.tla_code.specs.Laws.{RaiseKeepsValue, RaiseKeepsMembers, RaiseTwiceIsRaiseOnce, SteadyKeepsValue, SteadyKeepsMembers};
 
 /// A copy of an expression under more names has the value and the members that the expression has
 /// without these names.
@@ -12,4 +12,10 @@ pub fn copies()
 /// A copy of a copy is one copy.
 pub fn copies_of_copies()
     ensures { RaiseTwiceIsRaiseOnce }
+{}
+
+/// An expression that mentions no variable has the same value and the same members in all states.
+pub fn steady()
+    ensures value { SteadyKeepsValue }
+    ensures members { SteadyKeepsMembers }
 {}

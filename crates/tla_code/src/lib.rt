@@ -4,6 +4,8 @@
 mod arranged;
 mod code;
 pub mod laws;
+mod steady;
 
 pub use arranged::code_of;
 pub use code::{BinderForm, Code, FieldForm, ListForm, MapForm, OneForm, ThreeForm, TwoForm};
+pub use steady::is_steady;

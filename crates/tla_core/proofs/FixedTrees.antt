@@ -1,12 +1,12 @@
 -- What trees of constants have in common, and the nodes that they stand for.
-use Rattle.std.proofs.Common.{rules, ◌≡◌, ℕ, Bool, true, false, ◌||◌, ◌&&◌, List, [], ◌∷◌, Ok, map, refl, ap, sym, ◌∙◌, Vec, Global}
+use Rattle.std.proofs.Common.{rules, ◌≡◌, ℕ, Bool, true, false, ◌||◌, ◌&&◌, List, Ok, map, refl, ap, sym, ◌∙◌, Vec, Global}
 use Rattle.tla_value.specs.Tree.{Tree}
 use Rattle.tla_value.specs.TreeOf.{tree_of}
 use Rattle.tla_value.specs.Sets.{is_member}
 use Rattle.tla_value.specs.Choices.{parts_of}
 use Rattle.tla_core.specs.declared.fault.Place.{Place}
 use Rattle.tla_core.specs.Fault.{Outcome, ◌>>=◌}
-use Rattle.tla_core.specs.Expr.{Expr, Exprs, Fields, constant, enumerated, tuple, record_of, no_exprs, more_exprs, no_fields, more_fields}
+use Rattle.tla_core.specs.Expr.{Expr, Exprs, Fields, constant, enumerated, tuple, record_of, more_exprs, more_fields}
 use Rattle.tla_core.specs.Fits.{fits, fits_all, fits_fields}
 use Rattle.tla_core.specs.Kinds.{as_set}
 use Rattle.tla_core.specs.Meaning.{Bound, Present, Next, any_primed}
@@ -16,7 +16,7 @@ use Rattle.tla_core.specs.FixedOf.{fixed_of, fixed_exprs, fixed_fields}
 use Rattle.tla_core.specs.LiteralOf.{literal_of}
 use Rattle.tla_core.specs.ExprOf.{expr_of, exprs_of}
 use Rattle.tla_core.specs.ExprOf.{fields_of as core_fields}
-use Rattle.tla_core.specs.Private.Known.{named_core, named_fixed}
+use Rattle.tla_core.specs.Private.Known.{named_core, named_fixed, exprs, fields}
 use Rattle.tla_core.specs.declared.literal.Literal.{Literal}
 use Rattle.tla_core.specs.declared.fixed.Fixed.{Fixed, Row_of-Fixed, end_of-Fixed, more_of-Fixed, items-the_row-Fixed, Row_of-Fixed-Record-1-2, end_of-Fixed-Record-1-2, more_of-Fixed-Record-1-2, items-the_row-Fixed-Record-1-2}
 use Rattle.tla_core.specs.declared.fixed.Fixed.TheVariants.{Constant, Enumerated', Tuple', Record'}
@@ -90,14 +90,6 @@ literal_has core l x v e h b s q =
     ∙ ap (λ (o : Outcome Tree). o >>= λ y. as_set (means (literal_of l)).place y >>= λ xs. Ok (is_member v xs)) (h b s q)
 
 -- ---- nodes of parts
-abbrev exprs : List Expr → Exprs
-exprs [] = no_exprs
-exprs (e ∷ es) = more_exprs e (exprs es)
-
-abbrev fields : List (List ℕ × Expr) → Fields
-fields [] = no_fields
-fields (f ∷ fs) = more_fields f.0 f.1 (fields fs)
-
 fixed_row : (n : Count) (row : Row_of-Fixed n) → fixed_exprs row ≡ exprs (map fixed_of (items-the_row-Fixed n row))
 fixed_row n end_of-Fixed = refl
 fixed_row n (more_of-Fixed e rest) = ap (λ x. more_exprs (fixed_of e) x) (fixed_row _ rest)
@@ -114,13 +106,13 @@ core_field_row : (n : Count) (row : Row_of-Core-Record-1-2 n) → core_fields ro
 core_field_row n end_of-Core-Record-1-2 = refl
 core_field_row n (more_of-Core-Record-1-2 name e rest) = ap (λ x. more_fields name (expr_of e) x) (core_field_row _ rest)
 
-fixed_enumerated : (at : Place) (trees : Vec Fixed Global) → fixed_of (fixed_views.Enumerated at trees) ≡ enumerated at (exprs (map fixed_of trees.items))
+pub fixed_enumerated : (at : Place) (trees : Vec Fixed Global) → fixed_of (fixed_views.Enumerated at trees) ≡ enumerated at (exprs (map fixed_of trees.items))
 fixed_enumerated at trees = search (rules, fixed_views.the_lemmas, fixed_row)
 
-fixed_tuple : (at : Place) (trees : Vec Fixed Global) → fixed_of (fixed_views.Tuple at trees) ≡ tuple at (exprs (map fixed_of trees.items))
+pub fixed_tuple : (at : Place) (trees : Vec Fixed Global) → fixed_of (fixed_views.Tuple at trees) ≡ tuple at (exprs (map fixed_of trees.items))
 fixed_tuple at trees = search (rules, fixed_views.the_lemmas, fixed_row)
 
-fixed_record : (at : Place) (trees : Vec (List ℕ × Fixed) Global) → fixed_of (fixed_views.Record at trees) ≡ record_of at (fields (map named_fixed trees.items))
+pub fixed_record : (at : Place) (trees : Vec (List ℕ × Fixed) Global) → fixed_of (fixed_views.Record at trees) ≡ record_of at (fields (map named_fixed trees.items))
 fixed_record at trees = search (rules, fixed_views.the_lemmas, fixed_field_row)
 
 core_enumerated : (at : Place) (parts : Vec Core Global) → expr_of (views.Enumerated at parts) ≡ enumerated at (exprs (map expr_of parts.items))

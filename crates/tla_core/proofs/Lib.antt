@@ -2,3 +2,4 @@ pub mod Loops
 pub mod Parts
 pub mod FixedTrees
 pub mod KnownParts
+pub mod SameTrees

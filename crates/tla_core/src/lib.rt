@@ -8,6 +8,7 @@ mod literal;
 mod making;
 mod names;
 mod primed;
+mod same;
 
 pub use expression::{Binary, Core, Kind, Opening, Unary};
 pub use fault::{Fault, FaultCode, Place, memory};

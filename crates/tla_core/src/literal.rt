@@ -7,6 +7,7 @@ ghost use Rattle.tla_core.specs.Always.{IsAlways, IsAlways-prop};
 
 use crate::fault::Place;
 use crate::fixed::Fixed;
+use crate::same::same_tree;
 use std::alloc::{AllocError, Global};
 use tla_value::Value;
 
@@ -19,7 +20,7 @@ pub struct Literal {
 }
 
 impl Literal {
-    ghost use Rattle.std.specs.Prelude.{IfOk};
+    ghost use Rattle.std.specs.Prelude.{IfOk, IsTrue};
     ghost use Rattle.tla_core.specs.LiteralOf.{literal_of};
 
     /// An expression with its value. The only error is want of memory.
@@ -43,6 +44,13 @@ impl Literal {
         ensures { result.now ≡ (means (literal_of self.now)).place }
     {
         self.tree.lent_place()
+    }
+
+    /// Whether two literals are the same expression, with the same places.
+    pub fn is_same(&self, other: &Literal) -> bool
+        ensures { IsTrue result → literal_of self.now ≡ literal_of other.now }
+    {
+        same_tree(&self.tree, &other.tree)
     }
 
     /// The expression, without its value.

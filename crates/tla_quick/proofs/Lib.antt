@@ -3,3 +3,4 @@ mod Tried
 mod Used
 mod Forms
 mod FieldNames
+pub mod KeptParts

@@ -1,2 +1,3 @@
 pub mod SameMeaning
+pub mod ExpressionOf
 pub mod Private

@@ -1,4 +1,6 @@
 -- What serves quick evaluation: no public contract cites these.
+pub mod Lasting
+pub mod Kept
 pub mod Frames
 pub mod Environment
 pub mod Answers

@@ -1,39 +1,28 @@
 //! Expressions with their codes.
-ghost use Rattle.std.specs.Prelude.{◌≡◌, IfOk};
 ghost use Rattle.tla_core.specs.ExprOf.{expr_of};
-ghost use Rattle.tla_code.specs.CodeExpr.{code_expr};
+ghost use Rattle.tla_quick.specs.Private.Kept.{prepared_expr};
 ghost use Rattle.tla_quick.specs.SameMeaning.{HasSameValue, HasSameMembers, HasSameValue-prop, HasSameMembers-prop};
 
+use crate::constants::arranged;
 use crate::environment::Environment;
 use crate::evaluation::{elements, has, truth, value};
 use crate::frame::Frame;
 use crate::made::{all_values, owned};
+use crate::prepared::Prepared;
 use crate::stop::Stop;
 use std::alloc::{AllocError, Global};
-use tla_code::{Code, code_of};
+use tla_code::Code;
 use tla_core::{Core, Place};
 use tla_eval::Partial;
-use tla_sharing::shared;
 use tla_value::{State, Value};
 
-/// An expression, with the code by which it is evaluated.
+/// An expression, with the code by which it is evaluated, and the values of closed parts that this uses.
 #[derive(Drop)]
 pub struct Expression<'m> {
     core: &'m Core,
-    code: Code<'m>,
-    ghost same_value: { HasSameValue (code_expr code) (expr_of core.now) } by { HasSameValue-prop (code_expr code) (expr_of core.now) },
-    ghost same_members: { HasSameMembers (code_expr code) (expr_of core.now) } by { HasSameMembers-prop (code_expr code) (expr_of core.now) },
-}
-
-/// The code of an expression under so many bound names, with definitions if some are found.
-fn arranged<'m>(alloc: Global, core: &'m Core, names: usize) -> Result<Code<'m>, AllocError>
-    ensures { IfOk result (λ c. code_expr c ≡ expr_of core.now) }
-{
-    let code = code_of(alloc, core)?;
-    match shared(alloc, &code, names) {
-        Some(code) => Ok(code),
-        None => Ok(code),
-    }
+    prepared: Box<Prepared<'m>>,
+    ghost same_value: { HasSameValue (prepared_expr prepared.value) (expr_of core.now) } by { HasSameValue-prop (prepared_expr prepared.value) (expr_of core.now) },
+    ghost same_members: { HasSameMembers (prepared_expr prepared.value) (expr_of core.now) } by { HasSameMembers-prop (prepared_expr prepared.value) (expr_of core.now) },
 }
 
 impl<'m> Expression<'m> {
@@ -47,8 +36,20 @@ impl<'m> Expression<'m> {
     pub fn new(alloc: Global, core: &'m Core, names: usize) -> Result<Expression<'m>, AllocError>
         ensures { IfOk result (λ e. e.core.now ≡ core.now) }
     {
-        let code = arranged(alloc, core, names)?;
-        Ok(Expression { core, code })
+        let prepared = Box::new(alloc, arranged(alloc, core, names)?)?;
+        Ok(Expression { core, prepared })
+    }
+
+    /// An expression that is evaluated by its definition, as often as it is asked for. It costs nothing to make.
+    pub fn plain(alloc: Global, core: &'m Core) -> Result<Expression<'m>, AllocError>
+        ensures { IfOk result (λ e. e.core.now ≡ core.now) }
+    {
+        let prepared = Prepared {
+            constants: Vec::new(alloc),
+            code: Code::Plain(core),
+        };
+        let prepared = Box::new(alloc, prepared)?;
+        Ok(Expression { core, prepared })
     }
 
     /// The expression as it was given.
@@ -69,15 +70,16 @@ impl<'m> Expression<'m> {
     ) -> Option<Value>
         ensures { IfSome result (λ v. val (expr_of self.now.core.now) (map tree_of bound.now) (option_map (λ s. s.now) now.entry) partial.now ≡ Ok (tree_of v)) }
     {
-        let frame = Frame::Outer(bound);
+        let outer = Frame::Outer(&self.prepared.constants);
+        let frame = Frame::Many(&outer, 0, bound);
         let environment = Environment {
             frame: &frame,
             now,
             next: partial,
             names: bound.len(),
-            definitions: 0,
+            definitions: self.prepared.constants.len(),
         };
-        match value(alloc, &self.code, environment) {
+        match value(alloc, &self.prepared.code, environment) {
             Ok(value) => owned(alloc, value).ok(),
             Err(_) => None,
         }
@@ -94,15 +96,16 @@ impl<'m> Expression<'m> {
     ) -> Option<bool>
         ensures { IfSome result (λ b. asks place (means (expr_of self.now.core.now)) (map tree_of bound.now) (option_map (λ s. s.now) now.entry) partial.now ≡ Ok b) }
     {
-        let frame = Frame::Outer(bound);
+        let outer = Frame::Outer(&self.prepared.constants);
+        let frame = Frame::Many(&outer, 0, bound);
         let environment = Environment {
             frame: &frame,
             now,
             next: partial,
             names: bound.len(),
-            definitions: 0,
+            definitions: self.prepared.constants.len(),
         };
-        truth(alloc, &self.code, environment).ok()
+        truth(alloc, &self.prepared.code, environment).ok()
     }
 
     /// Whether a value is a member of the expression, if it was found.
@@ -116,15 +119,16 @@ impl<'m> Expression<'m> {
     ) -> Option<bool>
         ensures { IfSome result (λ b. mem (tree_of member.now) (expr_of self.now.core.now) (map tree_of bound.now) (option_map (λ s. s.now) now.entry) partial.now ≡ Ok b) }
     {
-        let frame = Frame::Outer(bound);
+        let outer = Frame::Outer(&self.prepared.constants);
+        let frame = Frame::Many(&outer, 0, bound);
         let environment = Environment {
             frame: &frame,
             now,
             next: partial,
             names: bound.len(),
-            definitions: 0,
+            definitions: self.prepared.constants.len(),
         };
-        has(alloc, &self.code, member, environment).ok()
+        has(alloc, &self.prepared.code, member, environment).ok()
     }
 
     /// The members of the set that the expression is, rising, if they were found. The set of a range is
@@ -139,15 +143,16 @@ impl<'m> Expression<'m> {
     ) -> Option<Vec<Value>>
         ensures { IfSome result (λ v. elements place.now (means (expr_of self.now.core.now)) (map tree_of bound.now) (option_map (λ s. s.now) now.entry) partial.now ≡ Ok (map tree_of v.items)) }
     {
-        let frame = Frame::Outer(bound);
+        let outer = Frame::Outer(&self.prepared.constants);
+        let frame = Frame::Many(&outer, 0, bound);
         let environment = Environment {
             frame: &frame,
             now,
             next: partial,
             names: bound.len(),
-            definitions: 0,
+            definitions: self.prepared.constants.len(),
         };
-        match elements(alloc, place, &self.code, environment) {
+        match elements(alloc, place, &self.prepared.code, environment) {
             Ok(found) => all_values(alloc, found).ok(),
             Err(_) => None,
         }

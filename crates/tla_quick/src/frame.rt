@@ -1,19 +1,21 @@
 //! What is around an expression: the values of the bound names, and the definitions.
-ghost use Rattle.std.specs.Prelude.{◌≡◌, Ok, Some, IfSome, slice_get};
+ghost use Rattle.std.specs.Prelude.{◌≡◌, [], Ok, Some, IfSome, slice_get};
 ghost use Rattle.tla_value.specs.Tree.{Tree};
 ghost use Rattle.tla_value.specs.TreeOf.{tree_of};
 ghost use Rattle.tla_core.specs.Fault.{Outcome};
 ghost use Rattle.tla_core.specs.Meaning.{Present, Next};
+ghost use Rattle.tla_quick.specs.Private.Kept.{scope_with};
 ghost use Rattle.tla_quick.specs.Private.Frames.{bound_of, scope_of, IsKnown, Knows, IsDefinition};
 
+use crate::constant::Constant;
 use tla_code::Code;
 use tla_value::Value;
 
-/// The values of the bound names: those of the caller, and then those of each form that binds. Between
-/// them, the definitions. `One` and `Many` have the number of names that are bound outside.
+/// The closed parts, and inside them the values of the bound names: those of the caller, and then those of each form that
+/// binds. Between them, the definitions. `One` and `Many` have the number of names that are bound outside.
 #[derive(Clone, Copy)]
 pub(crate) enum Frame<'m, 'a> {
-    Outer(&'a [Value]),
+    Outer(&'a Vec<Constant<'m>>),
     One(&'a Frame<'m, 'a>, usize, &'a Value),
     Many(&'a Frame<'m, 'a>, usize, &'a [Value]),
     /// The number of a definition, how many names are bound outside it, and its value where it is known.
@@ -25,7 +27,7 @@ pub(crate) fn bound_name<'m: 'a, 'a>(frame: &'a Frame<'m, 'a>, index: usize) -> 
     ensures { (s : Present) (t : Next) → Knows frame.entry.now s t → IfSome result (λ v. slice_get (bound_of frame.entry.now) index ≡ Some (tree_of v.now)) }
 {
     match frame {
-        Frame::Outer(values) => values.get(index),
+        Frame::Outer(_) => None,
         Frame::One(outer, names, value) => {
             if index == *names {
                 Some(value)
@@ -51,12 +53,35 @@ pub(crate) struct Found<'a> {
     pub(crate) value: Option<&'a Value>,
 }
 
+/// The value of the closed part with a number.
+fn kept_value<'m: 'a, 'a>(constants: &'a Vec<Constant<'m>>, number: usize) -> Option<&'a Value>
+    ensures { (frame : Frame) (s : Present) (t : Next) → bound_of frame ≡ [] → scope_of frame ≡ scope_with constants.now.items → IfSome result (λ v. IsDefinition frame s t number 0 (tree_of v.now)) }
+{
+    match constants.get(number) {
+        Some(constant) => Some(&constant.value),
+        None => None,
+    }
+}
+
+/// The closed part with a number, which is a definition under no names.
+fn found_among<'m: 'a, 'a>(constants: &'a Vec<Constant<'m>>, number: usize) -> Option<Found<'a>>
+    ensures { (frame : Frame) (s : Present) (t : Next) → bound_of frame ≡ [] → scope_of frame ≡ scope_with constants.now.items → IfSome result (λ f. IfSome f.value (λ v. IsDefinition frame s t number f.names (tree_of v.now))) }
+{
+    match kept_value(constants, number) {
+        Some(value) => Some(Found {
+            names: 0,
+            value: Some(value),
+        }),
+        None => None,
+    }
+}
+
 /// The definition with a number.
 pub(crate) fn definition<'m: 'a, 'a>(frame: &'a Frame<'m, 'a>, number: usize) -> Option<Found<'a>>
     ensures { (s : Present) (t : Next) → Knows frame.entry.now s t → IfSome result (λ f. IfSome f.value (λ v. IsDefinition frame.entry.now s t number f.names (tree_of v.now))) }
 {
     match frame {
-        Frame::Outer(_) => None,
+        Frame::Outer(constants) => found_among(constants, number),
         Frame::One(outer, _, _) => definition(outer, number),
         Frame::Many(outer, _, _) => definition(outer, number),
         Frame::Defined(outer, found, names, _, value) => {

@@ -105,11 +105,7 @@ fn bound_values<'m: 'a, 'a>(alloc: Global, frame: &'a Frame<'m, 'a>) -> Result<V
     ensures { IfOk result (λ v. map tree_of v.items ≡ bound_of frame.entry.now) }
 {
     match frame {
-        Frame::Outer(values) => {
-            let mut copies = Vec::new(alloc);
-            add_items(alloc, &mut copies, values)?;
-            Ok(copies)
-        }
+        Frame::Outer(_) => Ok(Vec::new(alloc)),
         Frame::One(outer, _, value) => {
             let mut copies = bound_values(alloc, outer)?;
             copies.push(copied(alloc, value)?)?;

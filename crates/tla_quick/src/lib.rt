@@ -1,6 +1,8 @@
 //! Evaluates expressions quickly, or gives up: where it answers, the value is that of the definition.
 #![tactic(auto)]
 
+mod constant;
+mod constants;
 mod domains;
 mod environment;
 mod evaluation;
@@ -10,6 +12,7 @@ mod leaves;
 mod made;
 mod names;
 mod patterns;
+mod prepared;
 mod stop;
 
 pub use expression::Expression;

@@ -8,7 +8,7 @@ use Rattle.tla_core.specs.declared.fault.Place.{Place}
 use Rattle.tla_core.specs.Expr.{Expr, except, more_exprs, more_fields, more_updates}
 use Rattle.tla_code.specs.Forms.{list_expr, field_expr, map_expr}
 use Rattle.tla_code.specs.CodeExpr.{Scope, expr_in}
-use Rattle.tla_sharing.specs.Private.Copies.{HasNames}
+use Rattle.tla_sharing.specs.Outside.{HasNames}
 use Rattle.tla_code.specs.Private.Listed.{exprs_of_codes, fields_of_codes, updates_of_codes}
 use Rattle.tla_code.specs.declared.code.Code.{Code}
 use Rattle.tla_code.specs.declared.code.Code.TheViews as views

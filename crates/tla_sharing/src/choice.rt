@@ -3,10 +3,14 @@
 use crate::copies::is_copy;
 use crate::declined::Declined;
 use crate::lowered::{Gap, lowered};
-use crate::measures::{is_dear, items_of};
+use crate::measures::{items_of, makes_much, size};
+use crate::reading::{
+    Position, Reading, is_candidate, of_arm, of_field, of_first, of_operand, of_part, of_second,
+    of_set, positioned, read_for, under,
+};
 use crate::shift::Shift;
 use std::alloc::Global;
-use tla_code::Code;
+use tla_code::{Code, is_steady};
 use tla_value::Text;
 
 /// Where a definition is looked for: in an expression under `names` names, where `outside` are bound outside each definition
@@ -16,58 +20,136 @@ pub(crate) struct Search<'o, 'm> {
     pub(crate) whole: &'o Code<'m>,
     pub(crate) names: usize,
     pub(crate) outside: &'o [usize],
-    pub(crate) is_small: bool,
+    pub(crate) wanted: Wanted,
 }
 
-/// A part under forms that bind names on which it doesn't depend, or one that occurs twice; as it is outside these forms.
-/// `by` names are bound since. In a large expression copies are only looked for side by side.
+/// What is looked for: a part under forms that bind names on which it doesn't depend, or one that occurs twice. Copies are
+/// looked for in all of the expression, or only side by side. Or a closed part with more nodes than so many.
+#[derive(Clone, Copy)]
+pub(crate) enum Wanted {
+    Copies,
+    CopiesNearby,
+    Closed(usize),
+}
+
+/// A part that is looked for, as it is outside the forms around it.
 #[cycle(choose)]
 pub(crate) fn chosen<'m>(
     alloc: Global,
     code: &Code<'m>,
-    by: usize,
+    spot: Position,
     search: Search<'_, 'm>,
 ) -> Option<Code<'m>> {
-    if (by > 0 || search.is_small) && is_dear(code) {
-        if let Some(definition) = proposed(alloc, code, by, search) {
-            if by > 0 || copies_in(search.whole, 0, &definition, search) > 1 {
+    if is_wanted(code, spot, search) {
+        if let Some(definition) = proposed(alloc, code, spot, search) {
+            if is_worth(&definition, spot, search) {
                 return Some(definition);
             }
         }
     }
+    chosen_inside(alloc, code, spot, search)
+}
+
+/// The same, among the operands.
+#[cycle(choose)]
+fn chosen_inside<'m>(
+    alloc: Global,
+    code: &Code<'m>,
+    spot: Position,
+    search: Search<'_, 'm>,
+) -> Option<Code<'m>> {
     match code {
-        Code::One(_, _, a) => chosen(alloc, a, by, search),
-        Code::Two(_, _, a, b) => chosen_of_two(alloc, a, b, by, search),
-        Code::Three(_, _, a, b, c) => {
-            if let Some(found) = chosen(alloc, a, by, search) {
-                return Some(found);
-            }
-            chosen_of_two(alloc, b, c, by, search)
+        Code::One(_, form, a) => {
+            let reading = of_operand(*form, spot.reading);
+            chosen(alloc, a, read_for(spot, reading), search)
         }
-        Code::List(_, _, parts) => chosen_of_all(alloc, parts, by, search),
-        Code::Fields(_, _, fields) => chosen_of_fields(alloc, fields, by, search),
-        Code::Binder(_, _, set, body) => {
-            if let Some(found) = chosen(alloc, set, by, search) {
-                return Some(found);
-            }
-            chosen_under(alloc, body, by, 1, search)
+        Code::Two(_, form, a, b) => {
+            let first = read_for(spot, of_first(*form, spot.reading));
+            let second = read_for(spot, of_second(*form, spot.reading));
+            chosen_of_two(alloc, a, b, first, second, search)
         }
-        Code::Map(_, _, sets, body) => {
-            if let Some(found) = chosen_of_all(alloc, sets, by, search) {
+        Code::Three(_, form, a, b, c) => {
+            if let Some(found) = chosen(alloc, a, read_for(spot, Reading::Value), search) {
                 return Some(found);
             }
-            chosen_under(alloc, body, by, sets.len(), search)
+            let arm = read_for(spot, of_arm(*form, spot.reading));
+            chosen_of_two(alloc, b, c, arm, arm, search)
         }
-        Code::Except(_, base, updates) => {
-            if let Some(found) = chosen(alloc, base, by, search) {
+        Code::Binder(_, form, set, body) => {
+            let reading = of_set(*form, spot.reading);
+            if let Some(found) = chosen(alloc, set, read_for(spot, reading), search) {
                 return Some(found);
             }
-            chosen_of_updates(alloc, updates, by, search)
+            chosen_under(alloc, body, spot, 1, search)
         }
         Code::Opened(_, openings, body) => {
-            chosen_under(alloc, body, by, items_of(openings)?, search)
+            chosen_under(alloc, body, spot, items_of(openings)?, search)
+        }
+        _ => chosen_in_lists(alloc, code, spot, search),
+    }
+}
+
+/// The same, for forms with a list of operands.
+#[cycle(choose)]
+fn chosen_in_lists<'m>(
+    alloc: Global,
+    code: &Code<'m>,
+    spot: Position,
+    search: Search<'_, 'm>,
+) -> Option<Code<'m>> {
+    match code {
+        Code::List(_, form, parts) => {
+            let reading = of_part(*form, spot.reading);
+            chosen_of_all(alloc, parts, read_for(spot, reading), search)
+        }
+        Code::Fields(_, form, fields) => {
+            let reading = of_field(*form, spot.reading);
+            chosen_of_fields(alloc, fields, read_for(spot, reading), search)
+        }
+        Code::Map(_, _, sets, body) => {
+            let set = read_for(spot, Reading::Value);
+            if let Some(found) = chosen_of_all(alloc, sets, set, search) {
+                return Some(found);
+            }
+            chosen_under(alloc, body, spot, sets.len(), search)
+        }
+        Code::Except(_, base, updates) => {
+            let value = read_for(spot, Reading::Value);
+            if let Some(found) = chosen(alloc, base, value, search) {
+                return Some(found);
+            }
+            chosen_of_updates(alloc, updates, value, search)
         }
         _ => None,
+    }
+}
+
+/// Whether a part may be one that is looked for.
+fn is_wanted(code: &Code<'_>, spot: Position, search: Search<'_, '_>) -> bool {
+    let is_far = match search.wanted {
+        Wanted::Copies => true,
+        Wanted::CopiesNearby => spot.by > 0,
+        Wanted::Closed(least) => makes_much(code) && size(code, least.saturating_add(1)) > least,
+    };
+    is_far && is_candidate(code, spot.reading)
+}
+
+/// Whether the expression that a part is a copy of is one that is looked for.
+fn is_worth<'m>(definition: &Code<'m>, spot: Position, search: Search<'_, 'm>) -> bool {
+    match search.wanted {
+        Wanted::Copies | Wanted::CopiesNearby => {
+            let whole = positioned(0, Reading::Value);
+            spot.by > 0 || copies_in(search.whole, whole, definition, search) > 1
+        }
+        Wanted::Closed(_) => is_steady(definition),
+    }
+}
+
+/// Whether copies are looked for.
+fn wants_copies(wanted: Wanted) -> bool {
+    match wanted {
+        Wanted::Copies | Wanted::CopiesNearby => true,
+        Wanted::Closed(_) => false,
     }
 }
 
@@ -75,12 +157,12 @@ pub(crate) fn chosen<'m>(
 fn proposed<'m>(
     alloc: Global,
     code: &Code<'m>,
-    by: usize,
+    spot: Position,
     search: Search<'_, 'm>,
 ) -> Option<Code<'m>> {
     let gap = Gap {
         from: search.names,
-        by,
+        by: spot.by,
     };
     match lowered(alloc, code, gap) {
         Ok(definition) => Some(definition),
@@ -93,12 +175,12 @@ fn proposed<'m>(
 fn chosen_under<'m>(
     alloc: Global,
     body: &Code<'m>,
-    by: usize,
+    spot: Position,
     more: usize,
     search: Search<'_, 'm>,
 ) -> Option<Code<'m>> {
-    let by = by.checked_add(more)?;
-    chosen(alloc, body, by, search)
+    let by = spot.by.checked_add(more)?;
+    chosen(alloc, body, positioned(by, Reading::Value), search)
 }
 
 /// Of two operands that are copies of one expression, this one.
@@ -107,7 +189,8 @@ fn chosen_of_two<'m>(
     alloc: Global,
     a: &Code<'m>,
     b: &Code<'m>,
-    by: usize,
+    first: Position,
+    second: Position,
     search: Search<'_, 'm>,
 ) -> Option<Code<'m>> {
     let same = Shift {
@@ -115,26 +198,30 @@ fn chosen_of_two<'m>(
         by: 0,
         outside: search.outside,
     };
-    if is_dear(a) && is_copy(a, b, same) {
-        if let Some(found) = proposed(alloc, a, by, search) {
+    if wants_copies(search.wanted)
+        && is_candidate(a, first.reading)
+        && is_candidate(b, second.reading)
+        && is_copy(a, b, same)
+    {
+        if let Some(found) = proposed(alloc, a, first, search) {
             return Some(found);
         }
     }
-    if let Some(found) = chosen(alloc, a, by, search) {
+    if let Some(found) = chosen(alloc, a, first, search) {
         return Some(found);
     }
-    chosen(alloc, b, by, search)
+    chosen(alloc, b, second, search)
 }
 
 #[cycle(choose)]
 fn chosen_of_all<'m>(
     alloc: Global,
     codes: &[Code<'m>],
-    by: usize,
+    spot: Position,
     search: Search<'_, 'm>,
 ) -> Option<Code<'m>> {
     for code in codes {
-        if let Some(found) = chosen(alloc, code, by, search) {
+        if let Some(found) = chosen(alloc, code, spot, search) {
             return Some(found);
         }
     }
@@ -145,11 +232,11 @@ fn chosen_of_all<'m>(
 fn chosen_of_fields<'m>(
     alloc: Global,
     fields: &[(&'m Text, Code<'m>)],
-    by: usize,
+    spot: Position,
     search: Search<'_, 'm>,
 ) -> Option<Code<'m>> {
     for field in fields {
-        if let Some(found) = chosen(alloc, &field.1, by, search) {
+        if let Some(found) = chosen(alloc, &field.1, spot, search) {
             return Some(found);
         }
     }
@@ -160,67 +247,110 @@ fn chosen_of_fields<'m>(
 fn chosen_of_updates<'m>(
     alloc: Global,
     updates: &[(Vec<Code<'m>>, Code<'m>)],
-    by: usize,
+    spot: Position,
     search: Search<'_, 'm>,
 ) -> Option<Code<'m>> {
     for update in updates {
-        if let Some(found) = chosen_of_all(alloc, update.0.as_slice(), by, search) {
+        if let Some(found) = chosen_of_all(alloc, update.0.as_slice(), spot, search) {
             return Some(found);
         }
-        if let Some(found) = chosen_under(alloc, &update.1, by, 1, search) {
+        if let Some(found) = chosen_under(alloc, &update.1, spot, 1, search) {
             return Some(found);
         }
     }
     None
 }
 
-/// How many copies of a definition an expression has.
+/// How many copies of a definition an expression has, where a definition is worth it.
 #[cycle(find)]
 fn copies_in<'m>(
     code: &Code<'m>,
-    by: usize,
+    spot: Position,
     definition: &Code<'m>,
     search: Search<'_, 'm>,
 ) -> usize {
     let shift = Shift {
         from: search.names,
-        by,
+        by: spot.by,
         outside: search.outside,
     };
     if is_copy(definition, code, shift) {
-        return 1;
+        return if is_candidate(code, spot.reading) {
+            1
+        } else {
+            0
+        };
     }
+    copies_inside(code, spot, definition, search)
+}
+
+/// How many its operands have.
+#[cycle(find)]
+fn copies_inside<'m>(
+    code: &Code<'m>,
+    spot: Position,
+    definition: &Code<'m>,
+    search: Search<'_, 'm>,
+) -> usize {
     match code {
-        Code::One(_, _, a) => copies_in(a, by, definition, search),
-        Code::Two(_, _, a, b) => {
-            let first = copies_in(a, by, definition, search);
-            first.saturating_add(copies_in(b, by, definition, search))
+        Code::One(_, form, a) => {
+            let reading = of_operand(*form, spot.reading);
+            copies_in(a, read_for(spot, reading), definition, search)
         }
-        Code::Three(_, _, a, b, c) => {
-            let first = copies_in(a, by, definition, search);
-            let second = copies_in(b, by, definition, search);
-            let third = copies_in(c, by, definition, search);
+        Code::Two(_, form, a, b) => {
+            let first = read_for(spot, of_first(*form, spot.reading));
+            let second = read_for(spot, of_second(*form, spot.reading));
+            let copies = copies_in(a, first, definition, search);
+            copies.saturating_add(copies_in(b, second, definition, search))
+        }
+        Code::Three(_, form, a, b, c) => {
+            let arm = read_for(spot, of_arm(*form, spot.reading));
+            let first = copies_in(a, read_for(spot, Reading::Value), definition, search);
+            let second = copies_in(b, arm, definition, search);
+            let third = copies_in(c, arm, definition, search);
             first.saturating_add(second).saturating_add(third)
         }
-        Code::List(_, _, parts) => copies_in_all(parts, by, definition, search),
-        Code::Fields(_, _, fields) => copies_in_fields(fields, by, definition, search),
-        Code::Binder(_, _, set, body) => {
-            let first = copies_in(set, by, definition, search);
-            first.saturating_add(copies_in(body, by.saturating_add(1), definition, search))
+        Code::Binder(_, form, set, body) => {
+            let reading = of_set(*form, spot.reading);
+            let first = copies_in(set, read_for(spot, reading), definition, search);
+            first.saturating_add(copies_in(body, under(spot, 1), definition, search))
+        }
+        Code::Opened(_, openings, body) => match items_of(openings) {
+            Some(more) => copies_in(body, under(spot, more), definition, search),
+            None => 0,
+        },
+        _ => copies_in_lists(code, spot, definition, search),
+    }
+}
+
+/// The same, for forms with a list of operands.
+#[cycle(find)]
+fn copies_in_lists<'m>(
+    code: &Code<'m>,
+    spot: Position,
+    definition: &Code<'m>,
+    search: Search<'_, 'm>,
+) -> usize {
+    match code {
+        Code::List(_, form, parts) => {
+            let reading = of_part(*form, spot.reading);
+            copies_in_all(parts, read_for(spot, reading), definition, search)
+        }
+        Code::Fields(_, form, fields) => {
+            let reading = of_field(*form, spot.reading);
+            copies_in_fields(fields, read_for(spot, reading), definition, search)
         }
         Code::Map(_, _, sets, body) => {
-            let first = copies_in_all(sets, by, definition, search);
-            let inside = by.saturating_add(sets.len());
+            let set = read_for(spot, Reading::Value);
+            let first = copies_in_all(sets, set, definition, search);
+            let inside = under(spot, sets.len());
             first.saturating_add(copies_in(body, inside, definition, search))
         }
         Code::Except(_, base, updates) => {
-            let first = copies_in(base, by, definition, search);
-            first.saturating_add(copies_in_updates(updates, by, definition, search))
+            let value = read_for(spot, Reading::Value);
+            let first = copies_in(base, value, definition, search);
+            first.saturating_add(copies_in_updates(updates, value, definition, search))
         }
-        Code::Opened(_, openings, body) => match items_of(openings) {
-            Some(more) => copies_in(body, by.saturating_add(more), definition, search),
-            None => 0,
-        },
         _ => 0,
     }
 }
@@ -228,13 +358,13 @@ fn copies_in<'m>(
 #[cycle(find)]
 fn copies_in_all<'m>(
     codes: &[Code<'m>],
-    by: usize,
+    spot: Position,
     definition: &Code<'m>,
     search: Search<'_, 'm>,
 ) -> usize {
     let mut count = 0usize;
     for code in codes {
-        count = count.saturating_add(copies_in(code, by, definition, search));
+        count = count.saturating_add(copies_in(code, spot, definition, search));
     }
     count
 }
@@ -242,13 +372,13 @@ fn copies_in_all<'m>(
 #[cycle(find)]
 fn copies_in_fields<'m>(
     fields: &[(&'m Text, Code<'m>)],
-    by: usize,
+    spot: Position,
     definition: &Code<'m>,
     search: Search<'_, 'm>,
 ) -> usize {
     let mut count = 0usize;
     for field in fields {
-        count = count.saturating_add(copies_in(&field.1, by, definition, search));
+        count = count.saturating_add(copies_in(&field.1, spot, definition, search));
     }
     count
 }
@@ -256,14 +386,14 @@ fn copies_in_fields<'m>(
 #[cycle(find)]
 fn copies_in_updates<'m>(
     updates: &[(Vec<Code<'m>>, Code<'m>)],
-    by: usize,
+    spot: Position,
     definition: &Code<'m>,
     search: Search<'_, 'm>,
 ) -> usize {
     let mut count = 0usize;
     for update in updates {
-        let keys = copies_in_all(update.0.as_slice(), by, definition, search);
-        let value = copies_in(&update.1, by.saturating_add(1), definition, search);
+        let keys = copies_in_all(update.0.as_slice(), spot, definition, search);
+        let value = copies_in(&update.1, under(spot, 1), definition, search);
         count = count.saturating_add(keys).saturating_add(value);
     }
     count

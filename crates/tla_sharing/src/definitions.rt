@@ -1,12 +1,14 @@
 //! The pass that makes definitions.
 ghost use Rattle.std.specs.Prelude.{◌≡◌, ◌+◌, IfOk, IfSome, [], ◌∷◌, ◌++◌};
 ghost use Rattle.std.specs.List.{AllZip};
-ghost use Rattle.tla_code.specs.CodeExpr.{code_expr};
+ghost use Rattle.tla_code.specs.CodeExpr.{Scope, expr_in};
+ghost use Rattle.tla_sharing.specs.Outside.{HasNames};
 ghost use Rattle.tla_sharing.specs.Private.Copies.{Agrees, FieldAgrees, UpdateAgrees};
 
-use crate::choice::{Search, chosen};
+use crate::choice::{Search, Wanted, chosen};
 use crate::declined::Declined;
 use crate::measures::{is_small, items_of, needs, uses};
+use crate::reading::{Reading, positioned};
 use crate::replaced::{Target, replaced};
 use std::alloc::Global;
 use tla_code::Code;
@@ -54,14 +56,19 @@ fn one_more(alloc: Global, outside: &[usize], names: usize) -> Result<Vec<usize>
 }
 
 /// The expression with definitions for parts that occur several times, or that don't depend on names that are bound around
-/// them. It stands under so many names. None where it is left as it is: memory ran out, say.
-pub fn shared<'m>(alloc: Global, code: &Code<'m>, names: usize) -> Option<Code<'m>>
-    ensures { IfSome result (λ c. code_expr c ≡ code_expr code.now) }
+/// them. It stands under so many names, and `outside` has how many are bound outside each definition that is already around it.
+/// None where it is left as it is: memory ran out, say.
+pub fn shared<'m>(
+    alloc: Global,
+    code: &Code<'m>,
+    names: usize,
+    outside: &[usize],
+) -> Option<Code<'m>>
+    ensures { IfSome result (λ c. (scope : Scope) → HasNames scope outside.now → expr_in scope c ≡ expr_in scope code.now) }
 {
-    let outside: Vec<usize> = Vec::new(alloc);
     let spot = Spot {
         names,
-        outside: outside.as_slice(),
+        outside,
         calls: MOST_CALLS,
     };
     match shared_body(alloc, code, spot) {
@@ -79,9 +86,13 @@ fn definition_of<'m>(alloc: Global, code: &Code<'m>, spot: Spot<'_>) -> Option<C
         whole: code,
         names: spot.names,
         outside: spot.outside,
-        is_small: is_small(code),
+        wanted: if is_small(code) {
+            Wanted::Copies
+        } else {
+            Wanted::CopiesNearby
+        },
     };
-    chosen(alloc, code, 0, search)
+    chosen(alloc, code, positioned(0, Reading::Value), search)
 }
 
 /// A body, with definitions around it.

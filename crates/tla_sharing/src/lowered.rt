@@ -37,7 +37,8 @@ fn is_known(core: &Core) -> bool {
         | Core::Now(_, _)
         | Core::Next(_, _)
         | Core::KindSet(_, _)
-        | Core::Booleans(_) => true,
+        | Core::Booleans(_)
+        | Core::Literal(_) => true,
         _ => false,
     }
 }

@@ -30,7 +30,7 @@ pub(crate) fn is_dear(code: &Code<'_>) -> bool {
 }
 
 /// Whether a form makes a set or a function, or visits one.
-fn makes_much(code: &Code<'_>) -> bool {
+pub(crate) fn makes_much(code: &Code<'_>) -> bool {
     match code {
         Code::Binder(_, _, _, _) | Code::Map(_, _, _, _) => true,
         Code::One(_, OneForm::Power, _) => true,
@@ -38,13 +38,14 @@ fn makes_much(code: &Code<'_>) -> bool {
         Code::Two(_, TwoForm::Functions, _, _) => true,
         Code::Two(_, TwoForm::Operator(Binary::Range), _, _) => true,
         Code::List(_, ListForm::Product, _) => true,
+        Code::Fields(_, FieldForm::Records, _) => true,
         _ => false,
     }
 }
 
 /// How many nodes an expression has, up to a number.
 #[cycle(count)]
-fn size(code: &Code<'_>, most: usize) -> usize {
+pub(crate) fn size(code: &Code<'_>, most: usize) -> usize {
     if most == 0 {
         return 0;
     }
@@ -54,9 +55,9 @@ fn size(code: &Code<'_>, most: usize) -> usize {
         Code::Two(_, _, a, b) | Code::Binder(_, _, a, b) => sum(size(a, left), size(b, left)),
         Code::Three(_, _, a, b, c) => sum(sum(size(a, left), size(b, left)), size(c, left)),
         Code::List(_, _, parts) => size_of_all(parts, left),
-        Code::Fields(_, _, fields) => fields.len(),
+        Code::Fields(_, _, fields) => size_of_fields(fields, left),
         Code::Map(_, _, parts, body) => sum(size_of_all(parts, left), size(body, left)),
-        Code::Except(_, base, updates) => sum(size(base, left), updates.len()),
+        Code::Except(_, base, updates) => sum(size(base, left), size_of_updates(updates, left)),
         Code::Opened(_, _, body) => size(body, left),
         _ => 0,
     };
@@ -68,6 +69,25 @@ fn size_of_all(codes: &[Code<'_>], most: usize) -> usize {
     let mut total = 0usize;
     for code in codes {
         total = sum(total, size(code, most));
+    }
+    total
+}
+
+#[cycle(count)]
+fn size_of_fields(fields: &[(&Text, Code<'_>)], most: usize) -> usize {
+    let mut total = 0usize;
+    for field in fields {
+        total = sum(total, size(&field.1, most));
+    }
+    total
+}
+
+#[cycle(count)]
+fn size_of_updates(updates: &[(Vec<Code<'_>>, Code<'_>)], most: usize) -> usize {
+    let mut total = 0usize;
+    for update in updates {
+        let keys = size_of_all(update.0.as_slice(), most);
+        total = sum(total, sum(keys, size(&update.1, most)));
     }
     total
 }

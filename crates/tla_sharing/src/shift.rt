@@ -62,6 +62,7 @@ pub(crate) fn are_same(original: &Core, copy: &Core) -> bool
         (Core::Next(p, i), Core::Next(q, j)) => p == q && i == j,
         (Core::KindSet(p, k), Core::KindSet(q, l)) => p == q && k == l,
         (Core::Booleans(p), Core::Booleans(q)) => p == q,
+        (Core::Literal(l), Core::Literal(m)) => l.is_same(m),
         (_, _) => false,
     }
 }

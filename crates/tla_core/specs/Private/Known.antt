@@ -1,9 +1,9 @@
 -- Parts whose values are known. Private contracts alone cite this.
-use Rattle.std.specs.Prelude.{◌≡◌, ℕ, List}
+use Rattle.std.specs.Prelude.{◌≡◌, ℕ, List, [], ◌∷◌}
 use Rattle.tla_value.specs.Tree.{text}
 use Rattle.tla_value.specs.TreeOf.{tree_of}
 use Rattle.tla_value.specs.declared.value.Value.{Value}
-use Rattle.tla_core.specs.Expr.{Expr}
+use Rattle.tla_core.specs.Expr.{Expr, Exprs, Fields, no_exprs, more_exprs, no_fields, more_fields}
 use Rattle.tla_core.specs.Value.{means}
 use Rattle.tla_core.specs.ExprOf.{expr_of}
 use Rattle.tla_core.specs.FixedOf.{fixed_of}
@@ -24,3 +24,12 @@ named_core f = (f.0, expr_of f.1)
 
 abbrev pub named_fixed : List ℕ × Fixed → List ℕ × Expr
 named_fixed f = (f.0, fixed_of f.1)
+
+-- lists of expressions and of fields, as nodes hold them
+abbrev pub exprs : List Expr → Exprs
+exprs [] = no_exprs
+exprs (e ∷ es) = more_exprs e (exprs es)
+
+abbrev pub fields : List (List ℕ × Expr) → Fields
+fields [] = no_fields
+fields (f ∷ fs) = more_fields f.0 f.1 (fields fs)

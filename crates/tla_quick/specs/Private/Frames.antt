@@ -15,19 +15,20 @@ use Rattle.tla_core.specs.Meaning.{Bound, Present, Next}
 use Rattle.tla_core.specs.Value.{val}
 use Rattle.tla_code.specs.CodeExpr.{Scope, expr_in}
 use Rattle.tla_code.specs.declared.code.Code.{Code}
+use Rattle.tla_quick.specs.Private.Kept.{scope_with}
 use Rattle.tla_quick.specs.declared.frame.Frame.{Frame}
 use Rattle.tla_quick.specs.declared.frame.Frame.TheVariants.{Outer, One', Many', Defined'}
 
 -- the values of the bound names, the outermost first
 abbrev pub bound_of : Frame → Bound
-bound_of (Outer values) = map tree_of values.now
+bound_of (Outer _) = []
 bound_of (One' _ outer _ value) = bound_of outer ++ tree_of value.now ∷ []
 bound_of (Many' _ outer _ values) = bound_of outer ++ map tree_of values.now
 bound_of (Defined' _ outer _ _ _ _) = bound_of outer
 
 -- the definitions, the outermost first
 abbrev pub scope_of : Frame → Scope
-scope_of (Outer _) = []
+scope_of (Outer constants) = scope_with constants.now.items
 scope_of (One' _ outer _ _) = scope_of outer
 scope_of (Many' _ outer _ _) = scope_of outer
 scope_of (Defined' _ outer _ names d _) = scope_of outer ++ (names, expr_in (scope_of outer) d.now) ∷ []

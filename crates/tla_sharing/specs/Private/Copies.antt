@@ -1,18 +1,14 @@
 -- When a code is a copy of another, and when it stands for another in a longer scope.
-use Rattle.std.specs.Prelude.{◌≡◌, ◌≤◌, ◌+◌, ℕ, List, [], ◌∷◌, ◌++◌, map}
+use Rattle.std.specs.Prelude.{◌≡◌, ◌≤◌, ◌+◌, ℕ, List, [], ◌∷◌, ◌++◌}
 use Rattle.std.specs.List.{AllZip}
 use Rattle.std.proofs.Common.{Vec, Bor, Global}
-use Rattle.tla_core.specs.Expr.{Expr}
 use Rattle.tla_code.specs.Raise.{raise, raise_all, raise_fields, raise_updates}
 use Rattle.tla_code.specs.CodeExpr.{Scope, expr_in}
 use Rattle.tla_code.specs.Private.Listed.{exprs_of_codes, fields_of_codes, updates_of_codes}
 use Rattle.tla_code.specs.declared.code.Code.{Code}
+use Rattle.tla_sharing.specs.Outside.{HasNames}
 use Rattle.tla_sharing.specs.declared.shift.Shift.{Shift}
 use Rattle.tla_sharing.specs.declared.replaced.Target.{Target}
-
--- so many names are bound outside the definitions of a scope
-abbrev pub HasNames : Scope → List ℕ → Type 0
-HasNames scope outside = map (λ (d : ℕ × Expr). d.0) scope ≡ outside
 
 -- the second is a copy of the first
 abbrev pub IsCopy : Shift → Code → Code → Type 0

@@ -1,0 +1,165 @@
+//! Closed parts of an expression are evaluated once, without a state.
+ghost use Rattle.std.specs.Prelude.{◌≡◌, [], None, Ok, IfNone, IfOk, IfSome};
+ghost use Rattle.tla_value.specs.TreeOf.{tree_of};
+ghost use Rattle.tla_core.specs.ExprOf.{expr_of};
+ghost use Rattle.tla_core.specs.Value.{val};
+ghost use Rattle.tla_code.specs.CodeExpr.{Scope, code_expr, expr_in};
+ghost use Rattle.tla_code.specs.NoVariables.{IsClosed};
+ghost use Rattle.tla_sharing.specs.Outside.{HasNames};
+ghost use Rattle.tla_quick.specs.Private.Lasting.{IsLasting};
+ghost use Rattle.tla_quick.specs.Private.Kept.{scope_with, prepared_expr};
+
+use crate::constant::Constant;
+use crate::environment::Environment;
+use crate::evaluation::value;
+use crate::frame::Frame;
+use crate::made::owned;
+use crate::prepared::Prepared;
+use std::alloc::{AllocError, Global};
+use tla_code::{Code, code_of};
+use tla_core::Core;
+use tla_eval::Partial;
+use tla_sharing::{constant_in, shared, with_constant};
+use tla_value::Value;
+
+/// At most so many closed parts of an expression are kept.
+const MOST_CONSTANTS: usize = 16;
+
+/// A set or a function with more parts isn't kept.
+const MOST_PARTS: usize = 100_000;
+
+/// The code of an expression under so many bound names, with closed parts and definitions if some are found.
+pub(crate) fn arranged<'m>(
+    alloc: Global,
+    core: &'m Core,
+    names: usize,
+) -> Result<Prepared<'m>, AllocError>
+    ensures { IfOk result (λ p. prepared_expr p ≡ expr_of core.now) }
+{
+    let code = code_of(alloc, core)?;
+    let kept = with_constants(alloc, code, names);
+    Ok(with_definitions(alloc, kept, names))
+}
+
+/// A code with uses of closed parts that were evaluated. One that has no value is left where it stands, with all that come
+/// after it: its fault comes where it is asked for.
+fn with_constants<'m>(alloc: Global, code: Code<'m>, names: usize) -> Prepared<'m>
+    ensures { prepared_expr result ≡ code_expr code.entry }
+{
+    let mut constants: Vec<Constant<'m>> = Vec::new(alloc);
+    let mut rest = code;
+    for _ in 0..MOST_CONSTANTS {
+        match keep_one(alloc, &mut constants, &rest, names) {
+            Some(next) => rest = next,
+            None => {
+                return Prepared {
+                    constants,
+                    code: rest,
+                };
+            }
+        }
+    }
+    Prepared {
+        constants,
+        code: rest,
+    }
+}
+
+/// The code with uses of one closed part more, which is kept.
+fn keep_one<'m>(
+    alloc: Global,
+    constants: &mut Vec<Constant<'m>>,
+    code: &Code<'m>,
+    names: usize,
+) -> Option<Code<'m>>
+    ensures more { IfSome result (λ c. expr_in (scope_with constants.new.items) c ≡ expr_in (scope_with constants.old.items) code.now) }
+    ensures none { IfNone result (constants.new.items ≡ constants.old.items) }
+{
+    let constant = next_constant(alloc, code, names)?;
+    let outside = outside_of(alloc, constants.as_slice())?;
+    let next = with_constant(alloc, code, &constant.code, names, outside.as_slice())?;
+    match constants.push(constant) {
+        Ok(()) => Some(next),
+        Err(_) => None,
+    }
+}
+
+/// A closed part with its value, if there is one that has a value.
+fn next_constant<'m>(alloc: Global, code: &Code<'m>, names: usize) -> Option<Constant<'m>>
+    ensures { IfSome result (λ k. IsClosed k.code) }
+{
+    let found = constant_in(alloc, code, names)?;
+    let value = constant_value(alloc, &found)?;
+    if is_large(&value) {
+        return None;
+    }
+    Some(Constant { code: found, value })
+}
+
+/// Whether a value is too large to be kept for each expression that has it.
+fn is_large(value: &Value) -> bool {
+    match value {
+        Value::Set(set) => set.len() > MOST_PARTS,
+        Value::Fun(function) => function.len() > MOST_PARTS,
+        _ => false,
+    }
+}
+
+/// The value of a closed code.
+fn constant_value<'m>(alloc: Global, code: &Code<'m>) -> Option<Value>
+    requires { IsClosed code.now }
+    ensures { IfSome result (λ v. IsLasting code.now v) }
+{
+    match shared(alloc, code, 0, &[]) {
+        Some(code) => value_alone(alloc, &code),
+        None => value_alone(alloc, code),
+    }
+}
+
+/// The value of a code under no names, without a state.
+fn value_alone<'m>(alloc: Global, code: &Code<'m>) -> Option<Value>
+    ensures { IfSome result (λ v. val (code_expr code.now) [] None [] ≡ Ok (tree_of v)) }
+{
+    let partial = Partial::unset(alloc, 0).ok()?;
+    let constants: Vec<Constant<'m>> = Vec::new(alloc);
+    let frame = Frame::Outer(&constants);
+    let environment = Environment {
+        frame: &frame,
+        now: None,
+        next: &partial,
+        names: 0,
+        definitions: 0,
+    };
+    match value(alloc, code, environment) {
+        Ok(value) => owned(alloc, value).ok(),
+        Err(_) => None,
+    }
+}
+
+/// How many names are bound outside each closed part: none.
+fn outside_of(alloc: Global, constants: &[Constant<'_>]) -> Option<Vec<usize>>
+    ensures { IfSome result (λ v. HasNames (scope_with constants.now) v.items) }
+{
+    vec![in alloc; 0usize; constants.len()].ok()
+}
+
+/// The same code with definitions, if some are found.
+fn with_definitions<'m>(alloc: Global, kept: Prepared<'m>, names: usize) -> Prepared<'m>
+    ensures { prepared_expr result ≡ prepared_expr kept.entry }
+{
+    match defined(alloc, &kept, names) {
+        Some(code) => Prepared {
+            constants: kept.constants,
+            code,
+        },
+        None => kept,
+    }
+}
+
+/// Its code with definitions.
+fn defined<'m>(alloc: Global, kept: &Prepared<'m>, names: usize) -> Option<Code<'m>>
+    ensures { IfSome result (λ c. expr_in (scope_with kept.now.constants.items) c ≡ prepared_expr kept.now) }
+{
+    let outside = outside_of(alloc, kept.constants.as_slice())?;
+    shared(alloc, &kept.code, names, outside.as_slice())
+}
