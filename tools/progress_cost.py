@@ -34,7 +34,7 @@ def instructions(words):
     """The number of instructions of a run, and of its progress lines."""
     line = ["valgrind", "--tool=callgrind", "--callgrind-out-file=/dev/null", *words]
     errors = subprocess.run(line, check=True, capture_output=True, text=True).stderr
-    return int(re.search(r"Collected : (\d+)", errors).group(1)), errors.count("tlacheck: level")
+    return int(re.search(r"Collected : (\d+)", errors).group(1)), len(re.findall(r"tlacheck: \d+ s, level", errors))
 
 
 def main():
