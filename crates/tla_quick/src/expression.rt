@@ -11,7 +11,6 @@ use crate::made::{all_values, owned};
 use crate::prepared::Prepared;
 use crate::stop::Stop;
 use std::alloc::{AllocError, Global};
-use tla_code::Code;
 use tla_core::{Core, Place};
 use tla_eval::Partial;
 use tla_value::{State, Value};
@@ -37,18 +36,6 @@ impl<'m> Expression<'m> {
         ensures { IfOk result (λ e. e.core.now ≡ core.now) }
     {
         let prepared = Box::new(alloc, arranged(alloc, core, names)?)?;
-        Ok(Expression { core, prepared })
-    }
-
-    /// An expression that is evaluated by its definition, as often as it is asked for. It costs nothing to make.
-    pub fn plain(alloc: Global, core: &'m Core) -> Result<Expression<'m>, AllocError>
-        ensures { IfOk result (λ e. e.core.now ≡ core.now) }
-    {
-        let prepared = Prepared {
-            constants: Vec::new(alloc),
-            code: Code::Plain(core),
-        };
-        let prepared = Box::new(alloc, prepared)?;
         Ok(Expression { core, prepared })
     }
 
