@@ -1,10 +1,11 @@
 #!/usr/bin/env python3
-"""Checks the documents: links to files and headings, files named in code quotes, and quoted definitions.
+"""Checks the documents: links to files and headings, files and functions named in code quotes, and quoted definitions.
 
     tools/links.py
 
 A quoted definition or contract is a code block that begins with ```antt FILE or ```rust FILE: its lines must occur in that
-file, one after the other.
+file, one after the other. Of a name such as `tla_check::laws::two_calls_alike`, the last part must be a function, a type or a module of
+that crate. Files such as `tla_core/specs/Value` may be named without the ending of definitions.
 The status is 1 if something is missing.
 """
 import argparse
@@ -21,6 +22,8 @@ HEADING = re.compile(r"^#+ (.*)$", re.M)
 QUOTED = re.compile(r"^```(?:antt|rust) (\S+)\n(.*?)^```", re.M | re.S)
 BLOCK = re.compile(r"^```.*?^```\n|^    .*\n", re.M | re.S)
 NAMED = re.compile(r"`((?:crates|tools|docs|examples|\.ci)/[\w./-]+)`")
+IN_CRATE = re.compile(r"`((?:tla_\w+|tlacheck|acceptance|tests|counted_writer)/[\w./-]+)`")
+ITEM = re.compile(r"`(tla_\w+)::(?:\w+::)*(\w+)`")
 
 
 def anchors(page):
@@ -44,6 +47,14 @@ def wrong_in(page):
     for name in NAMED.findall(plain):
         if not (TOP / name).exists() and "NAME" not in name and "/out/" not in name:
             yield f"no file {name}"
+    for name in IN_CRATE.findall(plain):
+        file = TOP / "crates" / name
+        if not file.exists() and not file.with_suffix(".antt").exists():
+            yield f"no file crates/{name}"
+    for crate, item in ITEM.findall(plain):
+        sources = "".join(it.read_text() for it in sorted((TOP / "crates" / crate / "src").rglob("*.rt")))
+        if not re.search(rf"\b(?:fn|struct|enum|trait|const|mod) {item}\b", sources):
+            yield f"no {item} in {crate}"
     for name, block in QUOTED.findall(text):
         file = TOP / name
         if not file.is_file() or block not in file.read_text():
