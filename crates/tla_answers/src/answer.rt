@@ -1,20 +1,18 @@
 //! Answers of a search.
 
 use crate::why::{tell_blocked, tell_reasons};
-use crate::{faults, missed, notes};
+use crate::{faults, given, missed, notes};
 use tla_config::Source;
 use tla_core::Place;
-use tla_lex::{Token, tokens};
-use tla_model::Model;
 use tla_page::page::Page;
-use tla_page::places::{Sources, core_place, defined_at};
+use tla_page::places::{Sources, core_place};
 use tla_page::units::put_assumption;
-use tla_parse::parse_module;
 use tla_report::Answered;
-use tla_search::Answer;
-use tla_traces::models::{Telling, model_of};
+use tla_search::{Answer, Part};
+use tla_traces::formulas::{Formula, formula_of};
+use tla_traces::models::Telling;
+use tla_traces::named::Named;
 use tla_traces::trace::tell as tell_trace;
-use tla_tree::{Module, Unit};
 
 /// Tells an answer. Where there is no error, only notes are told.
 pub fn tell(page: &mut Page, sources: &Sources<'_>, answered: &Answered) {
@@ -33,52 +31,10 @@ fn tell_limit(page: &mut Page, limit: u64) {
 
 /// Tells an answer by what the two texts name.
 fn tell_found(page: &mut Page, sources: &Sources<'_>, answered: &Answered) {
-    match tokens(page.alloc(), sources.module) {
-        Ok(tokens) => tell_by_tokens(page, sources, &tokens, answered),
-        Err(_) => page.refuse(),
-    }
-}
-
-fn tell_by_tokens(page: &mut Page, sources: &Sources<'_>, tokens: &[Token], answered: &Answered) {
-    match parse_module(page.alloc(), sources.module, tokens) {
-        Ok(module) => {
-            tell_by_module(page, sources, tokens, &module, answered);
-            drop(module);
-        }
-        Err(_) => page.refuse(),
-    }
-}
-
-fn tell_by_module(
-    page: &mut Page,
-    sources: &Sources<'_>,
-    tokens: &[Token],
-    module: &Module,
-    answered: &Answered,
-) {
-    match model_of(page.alloc(), module, sources.configuration) {
-        Some(model) => {
-            tell_by_model(page, sources, tokens, &module.units, &model, answered);
-            drop(model);
-        }
-        None => page.refuse(),
-    }
-}
-
-fn tell_by_model(
-    page: &mut Page,
-    sources: &Sources<'_>,
-    tokens: &[Token],
-    units: &[Unit],
-    model: &Model,
-    answered: &Answered,
-) {
-    let telling = Telling {
-        sources,
-        tokens,
-        units,
-        model,
+    let Some(named) = Named::read(page.alloc(), sources) else {
+        return page.refuse();
     };
+    let telling = named.telling(sources);
     match &answered.answer {
         Answer::NoError { counts } => notes::tell(page, &telling, counts),
         _ => {
@@ -91,18 +47,12 @@ fn tell_by_model(
 
 /// Tells what is wrong.
 fn tell_wrong(page: &mut Page, telling: &Telling<'_>, answered: &Answered) {
-    let count = answered.answer.states().len();
     match &answered.answer {
         Answer::InvariantFalse { invariant, .. } => {
-            tell_false(page, telling, answered.invariants.name(*invariant), count);
-            if let Some(predicate) = telling.model.invariants().get(*invariant) {
-                tell_reasons(
-                    page,
-                    telling,
-                    "",
-                    &predicate.core,
-                    answered.answer.states().last(),
-                );
+            match formula_of(page.alloc(), telling, Part::Invariant(*invariant)) {
+                Ok(Some(formula)) => tell_false(page, telling, answered, *invariant, &formula),
+                Ok(None) => {}
+                Err(_) => page.refuse(),
             }
         }
         Answer::Deadlock { .. } => tell_deadlock(page, telling, answered),
@@ -130,25 +80,56 @@ pub fn end_at(page: &mut Page, sources: &Sources<'_>, place: Option<Place>) {
     }
 }
 
-fn tell_false(page: &mut Page, telling: &Telling<'_>, name: &str, count: usize) {
-    let sources = telling.sources;
-    let place = defined_at(sources.module, telling.tokens, name).map(core_place);
-    begin_at(page, sources, place);
-    page.put(&["invariant '", name, "' is false in state "]);
+/// Tells that an invariant is FALSE, and why.
+fn tell_false(
+    page: &mut Page,
+    telling: &Telling<'_>,
+    answered: &Answered,
+    invariant: usize,
+    formula: &Formula<'_>,
+) {
+    let states = answered.answer.states();
+    let Some(known) = formula.meant else {
+        given::begin(page, telling, formula);
+        put_false(page, formula, states.len());
+        given::end(page, telling, formula);
+        return given::hint(page, telling, formula);
+    };
+    let place = Some(core_place(known.place));
+    begin_at(page, telling.sources, place);
+    put_false(page, formula, states.len());
+    end_at(page, telling.sources, place);
+    if let Some(predicate) = telling.model.invariants().get(invariant) {
+        tell_reasons(page, telling, "", &predicate.core, states.last());
+    }
+    given::hint_meaning(page, telling, formula);
+}
+
+fn put_false(page: &mut Page, formula: &Formula<'_>, count: usize) {
+    page.put(&["invariant '", formula.name, "' is false in state "]);
     page.put_number(count as u128);
-    end_at(page, sources, place);
 }
 
 fn tell_deadlock(page: &mut Page, telling: &Telling<'_>, answered: &Answered) {
     let states = answered.answer.states();
+    if let Some(formula) = given::formula_alone(page, telling, Part::NextAction) {
+        given::begin(page, telling, &formula);
+        put_deadlock(page, states.len());
+        given::end(page, telling, &formula);
+        return given::hint(page, telling, &formula);
+    }
     let next = telling.model.next();
     let place = Some(next.place());
     begin_at(page, telling.sources, place);
-    page.put_text("deadlock: no step leads on from state ");
-    page.put_number(states.len() as u128);
+    put_deadlock(page, states.len());
     end_at(page, telling.sources, place);
     tell_blocked(page, telling, "", next, states.last());
     page.hint(&["CHECK_DEADLOCK FALSE in the configuration, if the specification may end there"]);
+}
+
+fn put_deadlock(page: &mut Page, count: usize) {
+    page.put_text("deadlock: no step leads on from state ");
+    page.put_number(count as u128);
 }
 
 fn tell_assumption(page: &mut Page, telling: &Telling<'_>, number: u64) {

@@ -5,14 +5,17 @@ use crate::operands::Scene;
 use crate::why::{put_expression, written};
 use std::alloc::{AllocError, Global};
 use tla_core::{Binary, Core, Unary};
+use tla_hints::meant;
 use tla_page::page::Page;
 use tla_page::units::{Role, known_name, known_names, text_of};
-use tla_refusals::names::meant;
 use tla_steps::Operand;
 use tla_traces::expressions::expression_at;
 use tla_traces::models::Telling;
 use tla_tree::{Expr, Field, Unit};
 use tla_value::{Arguments, FunValue, Value};
+
+/// Fields that other languages have for the length of a sequence.
+const LENGTHS: [&str; 4] = ["length", "Length", "len", "size"];
 
 /// Hints what was probably meant where an operand is of the wrong kind.
 pub(crate) fn hint_kind<'a>(page: &mut Page, telling: &Telling<'a>, scene: &Scene<'a, '_>) {
@@ -33,7 +36,11 @@ pub(crate) fn hint_kind<'a>(page: &mut Page, telling: &Telling<'a>, scene: &Scen
             hint_member(page, telling, set, operand)
         }
         Core::Cup(_, _, _) | Core::Cap(_, _, _) | Core::Minus(_, _, _) => {
-            hint_braces(page, telling, scene, operand);
+            hint_brackets(page, telling, scene, operand, ("{", "}"));
+            true
+        }
+        Core::Binary(_, Binary::Concat, _, _) => {
+            hint_brackets(page, telling, scene, operand, ("<<", ">>"));
             true
         }
         _ => false,
@@ -210,17 +217,18 @@ fn has_sets(function: &FunValue) -> bool {
     matches!(function.values().first(), Some(Value::Set(_)))
 }
 
-/// Hints braces round an element.
-fn hint_braces<'a>(
+/// Hints brackets round an element.
+fn hint_brackets<'a>(
     page: &mut Page,
     telling: &Telling<'a>,
     scene: &Scene<'a, '_>,
     operand: &Operand<'_>,
+    brackets: (&str, &str),
 ) {
     if let Some(expr) = written(telling, scene.expr, operand) {
-        page.put_text("hint: did you mean {");
+        page.put(&["hint: did you mean ", brackets.0]);
         put_expression(page, telling, expr);
-        page.put_text("} ?\n");
+        page.put(&[brackets.1, " ?\n"]);
     }
 }
 
@@ -235,6 +243,16 @@ pub(crate) fn hint_field(page: &mut Page, scene: &Scene<'_, '_>) {
         {
             hint_near(page, name.as_str(), keys);
         }
+        if is_sequence(&operand.value) && LENGTHS.contains(&name.as_str()) {
+            page.hint(&["write Len(s) for the length of a sequence"]);
+        }
+    }
+}
+
+fn is_sequence(value: &Value) -> bool {
+    match value {
+        Value::Fun(function) => function.as_sequence().is_some(),
+        _ => false,
     }
 }
 

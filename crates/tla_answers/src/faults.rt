@@ -1,8 +1,8 @@
 //! Faults of evaluation.
 
 use crate::answer::{begin_at, end_at};
-use crate::lacking;
 use crate::operands::tell_operands;
+use crate::{given, lacking};
 use tla_core::{Fault, FaultCode, Place};
 use tla_lex::{Kind, Token};
 use tla_page::definitions::definition_at;
@@ -10,7 +10,6 @@ use tla_page::page::Page;
 use tla_page::places::{token_place, word};
 use tla_page::units::put_assumption;
 use tla_page::values::put_state;
-use tla_refusals::given;
 use tla_report::Answered;
 use tla_search::Part;
 use tla_traces::models::Telling;
@@ -24,7 +23,7 @@ pub(crate) fn tell(
     fault: &Fault,
     part: Part,
 ) {
-    if given::tell(page, telling.sources, part) {
+    if given::tell(page, telling, fault, part) {
         return;
     }
     match fault.variable {
@@ -159,6 +158,6 @@ fn tell_values(page: &mut Page, answered: &Answered) {
         page.put_text("met in state ");
         page.put_number(states.len() as u128);
         page.put_text(":\n");
-        put_state(page, &answered.variables, last);
+        put_state(page, answered.variables.as_slice(), last);
     }
 }

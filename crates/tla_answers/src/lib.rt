@@ -6,6 +6,7 @@ mod arguments;
 mod cures;
 mod extents;
 mod faults;
+mod given;
 mod kinds;
 mod lacking;
 mod missed;

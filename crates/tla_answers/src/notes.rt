@@ -1,14 +1,14 @@
 //! What is worth a note where no error was found.
 
-use crate::missed;
 use crate::why::{tell_blocked, tell_reasons};
-use tla_config::{Statement, parse_config};
+use crate::{given, missed};
+use tla_config::Statement;
 use tla_lex::{Kind, Token};
 use tla_model::StatePredicate;
 use tla_page::definitions::definition_at;
 use tla_page::page::Page;
 use tla_page::places::{core_place, word};
-use tla_search::Counts;
+use tla_search::{Counts, Part};
 use tla_steps::{initial_states, is_false_in_all};
 use tla_traces::models::Telling;
 use tla_traces::trace::put_part;
@@ -35,7 +35,10 @@ pub(crate) fn tell(page: &mut Page, telling: &Telling<'_>, counts: &Counts) {
 /// Notes that there is no initial state, and why.
 fn note_no_state(page: &mut Page, telling: &Telling<'_>) {
     page.put_text("note: no state makes the initial predicate TRUE, so nothing was checked\n");
-    tell_blocked(page, telling, "note: ", telling.model.init(), None);
+    match given::formula_alone(page, telling, Part::Initial) {
+        Some(formula) => given::hint(page, telling, &formula),
+        None => tell_blocked(page, telling, "note: ", telling.model.init(), None),
+    }
 }
 
 fn note_no_invariant(page: &mut Page, telling: &Telling<'_>) {
@@ -58,22 +61,26 @@ fn note_constraints(page: &mut Page, telling: &Telling<'_>) {
         Ok(states) => states,
         Err(_) => return page.refuse(),
     };
-    for constraint in model.constraints() {
-        note_constraint(page, telling, constraint, &states);
+    for (index, constraint) in model.constraints().iter().enumerate() {
+        note_constraint(page, telling, (index, constraint), &states);
     }
 }
 
 fn note_constraint(
     page: &mut Page,
     telling: &Telling<'_>,
-    constraint: &StatePredicate,
+    numbered: (usize, &StatePredicate),
     states: &[State],
 ) {
+    let (index, constraint) = numbered;
     match is_false_in_all(page.alloc(), &constraint.core, states) {
         Ok(true) => {
             page.put(&["note: constraint '", constraint.name.as_str()]);
             page.put_text("' is FALSE at every initial state, so no step was taken\n");
-            tell_reasons(page, telling, "note: ", &constraint.core, states.first());
+            match given::formula_alone(page, telling, Part::Constraint(index)) {
+                Some(formula) => given::hint(page, telling, &formula),
+                None => tell_reasons(page, telling, "note: ", &constraint.core, states.first()),
+            }
         }
         Ok(false) => {}
         Err(_) => page.refuse(),
@@ -82,10 +89,7 @@ fn note_constraint(
 
 /// Notes fairness in the formula that SPECIFICATION names.
 fn note_fairness(page: &mut Page, telling: &Telling<'_>) {
-    let Ok(config) = parse_config(page.alloc(), telling.sources.configuration) else {
-        return;
-    };
-    for statement in config.statements() {
+    for statement in telling.statements {
         if let Statement::Specification(_, name) = statement {
             let name = str::from_utf8(name.word.as_bytes()).unwrap_or("");
             note_fairness_of(page, telling, name);

@@ -7,10 +7,12 @@ use std::io;
 use std::io::Write;
 use tla_config::Source;
 use tla_core::{Fault, Place};
-use tla_page::places::{FileNames, source_name_of};
+use tla_page::places::{FileNames, Sources, source_name};
 use tla_page::style::Style;
 use tla_report::{Answered, Checked, Names, Refusal, refusal_code_text, write_report};
-use tla_search::Answer;
+use tla_search::{Answer, Part};
+use tla_traces::formulas::name_alone;
+use tla_traces::named::Named;
 use tla_value::State;
 
 /// Writes the report and its explanation as one JSON object: `status`, `first_line`, `report`,
@@ -47,7 +49,12 @@ pub fn write_document<'a, W: Write>(
         report: text_of(&report),
         explanation: text_of(&explanation),
     };
-    let document = document_of(alloc, names, checked, &texts)?;
+    let sources = Sources {
+        names: *names,
+        module,
+        configuration,
+    };
+    let document = document_of(alloc, &sources, checked, &texts)?;
     writer.write_all(&document.to_vec_pretty(alloc)?)?;
     writer.write_all(b"\n")
 }
@@ -65,14 +72,14 @@ fn text_of(bytes: &[u8]) -> &str {
 
 fn document_of(
     alloc: Global,
-    names: &FileNames<'_>,
+    sources: &Sources<'_>,
     checked: &Checked,
     texts: &Texts<'_>,
 ) -> Result<Value, AllocError> {
     let first_line = texts.report.lines().next().unwrap_or("");
     let status = u64::from(checked.status());
     let code = code_value(alloc, checked)?;
-    let place = place_value(alloc, names, checked)?;
+    let place = place_value(alloc, sources, checked)?;
     let trace = trace_value(alloc, checked)?;
     let counts = counts_value(alloc, checked)?;
     json!(in alloc; {
@@ -87,15 +94,15 @@ fn document_of(
     })
 }
 
-/// The fault of a search, if it found one.
-fn fault_of(checked: &Checked) -> Option<&Fault> {
+/// The fault of a search, if it found one, and the part in which it was met.
+fn fault_of(checked: &Checked) -> Option<(&Fault, Part)> {
     match checked {
         Checked::Answered(
             Answered {
-                answer: Answer::Faulted { fault, .. },
+                answer: Answer::Faulted { fault, part, .. },
                 ..
             },
-        ) => Some(fault),
+        ) => Some((fault, *part)),
         _ => None,
     }
 }
@@ -114,7 +121,7 @@ fn code_value(alloc: Global, checked: &Checked) -> Result<Value, AllocError> {
         return Value::try_from_str(alloc, refusal_code_text(refusal.code));
     }
     match fault_of(checked) {
-        Some(fault) => Value::try_from_str(alloc, fault.code.name()),
+        Some((fault, _)) => Value::try_from_str(alloc, fault.code.name()),
         None => Ok(Value::Null),
     }
 }
@@ -122,16 +129,33 @@ fn code_value(alloc: Global, checked: &Checked) -> Result<Value, AllocError> {
 /// The place of a refusal or a fault, or null.
 fn place_value(
     alloc: Global,
-    names: &FileNames<'_>,
+    sources: &Sources<'_>,
     checked: &Checked,
 ) -> Result<Value, AllocError> {
     if let Some(refusal) = refusal_of(checked) {
-        let file = source_name_of(names, refusal.source);
+        let file = source_name(sources, refusal.source);
         return file_place(alloc, file, refusal.place);
     }
-    match fault_of(checked).and_then(|fault| fault.place) {
-        Some(place) => file_place(alloc, source_name_of(names, Source::Module), place),
+    let Some((fault, part)) = fault_of(checked) else {
+        return Ok(Value::Null);
+    };
+    match fault.place {
+        Some(place) => {
+            let source = source_of(alloc, sources, part)?;
+            file_place(alloc, source_name(sources, source), place)
+        }
         None => Ok(Value::Null),
+    }
+}
+
+/// The file that has the places of the formula of a part.
+fn source_of(alloc: Global, sources: &Sources<'_>, part: Part) -> Result<Source, AllocError> {
+    let Some(named) = Named::read(alloc, sources) else {
+        return Ok(Source::Module);
+    };
+    match name_alone(alloc, &named.telling(sources), part)? {
+        Some(_) => Ok(Source::Configuration),
+        None => Ok(Source::Module),
     }
 }
 

@@ -143,7 +143,8 @@ static WORDS: [Entry; 40] = [
 ];
 
 /// Words of LaTeX, without the backslash.
-static LATEX: [Entry; 16] = [
+static LATEX: [Entry; 17] = [
+    ("cross", "\\X"),
     ("nin", "\\notin"),
     ("iff", "<=>"),
     ("to", "->"),

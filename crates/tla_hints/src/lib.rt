@@ -6,7 +6,9 @@
 mod brackets;
 mod characters;
 mod columns;
+mod community;
 mod forms;
+mod guesses;
 mod library;
 mod lines;
 mod modules;
@@ -21,10 +23,11 @@ pub use brackets::{Open, closes_bracket, innermost_open, is_closed_by, opens_bra
 pub use characters::{command_meant, sign_cure, symbols, word_meant};
 pub use columns::{blanks, front};
 pub use forms::{form_cure, module_cure};
+pub use guesses::{meant, meant_within};
 pub use library::{library_cure, plain_cure};
 pub use lines::line_of;
 pub use modules::{library_arity, library_form, module_with};
-pub use names::{Near, is_swapped, nearest};
+pub use names::{Near, nearest};
 pub use places::is_before;
 pub use reserved::{BACKSLASHED, LIBRARY, MODULES, RESERVED};
 pub use statements::{LEFT_OUT, STATEMENTS, statement_cure};

@@ -1,5 +1,6 @@
 //! Operators of modules that aren't read.
 
+use crate::community::community_cure;
 use crate::table::{Entry, entry_of};
 
 /// Of the module TLC and its like.
@@ -295,4 +296,5 @@ pub fn library_cure(name: &str) -> Option<&'static str> {
         .or(entry_of(&MORE_SEQUENCES, name))
         .or(entry_of(&FOLDS, name))
         .or(entry_of(&BAGS, name))
+        .or(community_cure(name))
 }

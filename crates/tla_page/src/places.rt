@@ -3,7 +3,7 @@
 use crate::page::Page;
 use std::alloc::Global;
 use tla_config::Source;
-use tla_lex::{Kind, Place, Scan, Token, configuration_tokens, tokens};
+use tla_lex::{Place, Scan, Token, configuration_tokens, tokens};
 use tla_tree::slice_of;
 
 /// The names of the two files, as they are told.
@@ -23,14 +23,9 @@ pub struct Sources<'a> {
 
 /// The name of a file.
 pub fn source_name<'a>(sources: &Sources<'a>, source: Source) -> &'a str {
-    source_name_of(&sources.names, source)
-}
-
-/// The name of a file, of the two.
-pub fn source_name_of<'a>(names: &FileNames<'a>, source: Source) -> &'a str {
     match source {
-        Source::Module => names.module,
-        Source::Configuration => names.configuration,
+        Source::Module => sources.names.module,
+        Source::Configuration => sources.names.configuration,
     }
 }
 
@@ -83,26 +78,4 @@ pub fn put_at(page: &mut Page, sources: &Sources<'_>, source: Source, place: Pla
 /// The text of a token.
 pub fn word<'a>(text: &'a [u8], token: &Token) -> &'a str {
     str::from_utf8(slice_of(text, *token)).unwrap_or("")
-}
-
-/// Where a name is defined without parameters, or first stands.
-pub fn defined_at(text: &[u8], tokens: &[Token], name: &str) -> Option<Place> {
-    for pair in tokens.windows(2) {
-        if let [first, second] = pair {
-            if second.kind == Kind::Define && word(text, first) == name {
-                return Some(first.place);
-            }
-        }
-    }
-    first_place(text, tokens, name)
-}
-
-/// Where a name first stands.
-pub fn first_place(text: &[u8], tokens: &[Token], name: &str) -> Option<Place> {
-    for token in tokens {
-        if token.kind == Kind::Name && word(text, token) == name {
-            return Some(token.place);
-        }
-    }
-    None
 }

@@ -2,12 +2,11 @@
 
 use crate::page::Page;
 use tla_hints::word_of;
-use tla_report::Names;
-use tla_value::{State, Value};
+use tla_value::{State, Text, Value};
 
 /// Adds the values of the variables, a line each.
-pub fn put_state(page: &mut Page, variables: &Names, state: &State) {
-    for (name, value) in variables.as_slice().iter().zip(state.values().iter()) {
+pub fn put_state(page: &mut Page, variables: &[Text], state: &State) {
+    for (name, value) in variables.iter().zip(state.values().iter()) {
         put_variable(page, name.as_str(), value);
     }
 }

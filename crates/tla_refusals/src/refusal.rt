@@ -1,25 +1,26 @@
 //! Refusals.
 
-use crate::config_names::{find_arguments, find_behaviour, find_circle, find_large, find_unknown};
-use crate::finding::{Finding, put_beside, put_page};
-use crate::more::{other_constants, unknown_places, unknown_statements};
-use crate::reach::Definitions;
 use crate::refusal_text::title_of;
-use crate::spot::Spot;
-use crate::statements::{config_of, replaced};
-use crate::{
-    arguments, characters, configuration, left_out, levels, precedence, specification, twice,
-    unexpected, unknown,
-};
 use std::alloc::{AllocError, Global};
 use tla_config::{Source, Statement};
+use tla_finding::characters;
+use tla_finding::finding::{Finding, put_beside, put_page};
+use tla_finding::spot::Spot;
 use tla_hints::statement_cure;
 use tla_lex::{Kind, Place, Token};
+use tla_name_errors::config_names::{
+    find_arguments, find_behaviour, find_circle, find_large, find_unknown,
+};
+use tla_name_errors::more::{other_constants, unknown_places, unknown_statements};
+use tla_name_errors::reach::Definitions;
+use tla_name_errors::statements::{config_of, replaced, value_place};
+use tla_name_errors::{arguments, configuration, levels, specification, twice, unknown};
 use tla_page::page::Page;
 use tla_page::places::{Sources, core_place, source_text, token_place, tokens_of};
 use tla_page::units::{Known, known_names, words_of};
 use tla_parse::parse_module;
 use tla_report::{Refusal, RefusalCode, refusal_code_text};
+use tla_syntax_errors::{left_out, precedence, unexpected};
 use tla_tree::Unit;
 
 /// A refusal of a code, with the name that it carries, or no text.
@@ -390,6 +391,10 @@ fn find_form(
     statements: &[Statement],
     name: &str,
 ) {
+    let meant = replaced(statements, name);
+    if let Some(place) = value_place(statements, meant) {
+        return specification::say_value(finding, name, meant, place);
+    }
     let tokens = tokens_of(finding.alloc(), sources.module, Source::Module);
     let definitions = Definitions {
         text: sources.module,
@@ -397,5 +402,8 @@ fn find_form(
         known,
         statements,
     };
-    specification::find(finding, &definitions, replaced(statements, name));
+    specification::find(finding, &definitions, meant);
+    if meant != name {
+        finding.hint_of(&["CONSTANT lets ", name], &[" mean ", meant]);
+    }
 }

@@ -7,6 +7,7 @@ mod changes;
 pub mod coverage;
 mod differences;
 pub mod expressions;
+pub mod formulas;
 pub mod models;
 pub mod named;
 mod parts;

@@ -1,18 +1,21 @@
 //! The model that the two texts name, with what it was read from.
 
-use crate::models::{Telling, model_of};
+use crate::models::Telling;
 use std::alloc::Global;
+use tla_config::{Config, parse_config};
+use tla_defs::build;
 use tla_lex::{Token, tokens};
 use tla_model::Model;
 use tla_page::places::Sources;
 use tla_parse::parse_module;
 use tla_tree::Module;
 
-/// A model, and the tokens and the tree of its module.
+/// A model, the tokens and the tree of its module, and the statements of its configuration.
 #[derive(Drop)]
 pub struct Named {
     tokens: Vec<Token>,
     module: Module,
+    config: Config,
     model: Model,
 }
 
@@ -21,16 +24,14 @@ impl Named {
     pub fn read(alloc: Global, sources: &Sources<'_>) -> Option<Named> {
         let tokens = tokens(alloc, sources.module).ok()?;
         let module = parse_module(alloc, sources.module, &tokens).ok()?;
-        let model = model_of(alloc, &module, sources.configuration)?;
+        let config = parse_config(alloc, sources.configuration).ok()?;
+        let model = build(alloc, &module, &config).ok()?;
         Some(Named {
             tokens,
             module,
+            config,
             model,
         })
-    }
-
-    pub fn model(&self) -> &Model {
-        &self.model
     }
 
     /// What explanations are written with.
@@ -39,6 +40,7 @@ impl Named {
             sources,
             tokens: &self.tokens,
             units: &self.module.units,
+            statements: self.config.statements(),
             model: &self.model,
         }
     }

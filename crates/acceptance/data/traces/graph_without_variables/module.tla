@@ -1,0 +1,5 @@
+---- MODULE Still ----
+Init == TRUE
+Next == FALSE
+Inv == TRUE
+====

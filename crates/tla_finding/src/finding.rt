@@ -1,0 +1,121 @@
+//! What is found out about a refusal.
+
+use std::alloc::Global;
+use tla_config::Source;
+use tla_lex::Place;
+use tla_page::page::Page;
+use tla_page::places::{Sources, core_place};
+
+/// A second place that is shown, and what is there.
+#[derive(Drop)]
+pub struct Beside {
+    pub source: Source,
+    pub place: Place,
+    pub title: Page,
+}
+
+/// Where an explanation points, what it says is wrong there, another place that has to do with it,
+/// and what helps.
+#[derive(Drop)]
+pub struct Finding {
+    pub place: Place,
+    pub title: Page,
+    pub beside: Option<Beside>,
+    pub help: Page,
+}
+
+impl Finding {
+    /// Nothing yet but the place.
+    pub fn at(alloc: Global, place: Place) -> Finding {
+        Finding {
+            place,
+            title: Page::new(alloc, false),
+            beside: None,
+            help: Page::new(alloc, false),
+        }
+    }
+
+    pub fn alloc(&self) -> Global {
+        self.title.alloc()
+    }
+
+    /// Points at a place, and says what is wrong there, in these texts.
+    pub fn say(&mut self, place: Place, texts: &[&str]) {
+        self.place = place;
+        self.title.put(texts);
+    }
+
+    /// Shows another place, with these texts.
+    pub fn show_beside(&mut self, source: Source, place: Place, texts: &[&str]) {
+        let mut title = Page::new(self.alloc(), false);
+        title.put(texts);
+        self.beside = Some(Beside {
+            source,
+            place,
+            title,
+        });
+    }
+
+    /// Adds a hint, of these texts.
+    pub fn hint(&mut self, texts: &[&str]) {
+        self.help.hint(texts);
+    }
+
+    /// Adds a hint, of these texts and those.
+    pub fn hint_of(&mut self, texts: &[&str], others: &[&str]) {
+        self.help.put_text("hint: ");
+        self.help.put(texts);
+        self.help.put(others);
+        self.help.put_text("\n");
+    }
+
+    /// Points at a place, and says what a name is there.
+    pub fn say_what(&mut self, place: Place, name: &str, what: &str, rest: &str) {
+        self.place = place;
+        self.title.put(&["'", name, "' is "]);
+        self.title.put_text(what);
+        self.title.put_text(rest);
+    }
+
+    /// Shows where a name is declared or defined.
+    pub fn show_name(&mut self, place: Place, name: &str, how: &str, rest: &str) {
+        let mut title = Page::new(self.alloc(), false);
+        title.put(&["'", name, "' is "]);
+        title.put_text(how);
+        title.put_text(rest);
+        self.beside = Some(Beside {
+            source: Source::Module,
+            place,
+            title,
+        });
+    }
+
+    /// Asks whether another word was meant for a name.
+    pub fn ask(&mut self, word: &str, name: &str) {
+        self.help.put_text("hint: did you mean ");
+        self.help.put_text(word);
+        self.help.put(&[" for '", name, "'?\n"]);
+    }
+
+    /// Remembers that memory was refused.
+    pub fn refuse(&mut self) {
+        self.help.refuse();
+    }
+}
+
+/// Adds what another page says.
+pub fn put_page(page: &mut Page, other: &Page) {
+    match other.told() {
+        Ok(bytes) => page.put_bytes(bytes),
+        Err(_) => page.refuse(),
+    }
+}
+
+/// Adds the other place of a finding, with its line.
+pub fn put_beside(page: &mut Page, sources: &Sources<'_>, beside: &Beside) {
+    let place = core_place(beside.place);
+    page.put_place(sources, beside.source, place);
+    put_page(page, &beside.title);
+    page.put_text("\n");
+    page.show(sources, beside.source, place);
+}

@@ -1,0 +1,293 @@
+//! Refusals of a configuration's text.
+
+use crate::config_names::{statement_before, statement_index};
+use crate::items;
+use tla_finding::characters;
+use tla_finding::finding::Finding;
+use tla_finding::spot::Spot;
+use tla_hints::{LEFT_OUT, STATEMENTS, meant_within, statement_cure};
+use tla_lex::{Kind, Place};
+
+/// How many edits may lead from a word in capital letters that begins a line to a statement.
+const MOST_EDITS: usize = 2;
+
+/// The statements that name formulas.
+const FORMULAS: [&str; 7] = [
+    "INIT",
+    "NEXT",
+    "SPECIFICATION",
+    "INVARIANT",
+    "INVARIANTS",
+    "CONSTRAINT",
+    "CONSTRAINTS",
+];
+
+/// The shortest word to which a nearest statement is looked for.
+const SHORTEST_WORD: usize = 3;
+
+/// Finds what can't be there in the text of a configuration. `names` are those of the module.
+pub fn find(finding: &mut Finding, spot: &Spot<'_>, names: &[&str]) {
+    let is_found = find_unfinished(finding, spot)
+        || find_misspelt(finding, spot, names)
+        || find_sign(finding, spot)
+        || items::find(finding, spot)
+        || find_formula(finding, spot)
+        || find_comment(finding, spot);
+    if is_found {
+        return;
+    }
+    let place = spot.place(spot.at);
+    let word = spot.word(spot.at);
+    let before = spot.word(spot.at.saturating_sub(1));
+    if before == "CHECK_DEADLOCK" {
+        finding.say(place, &["CHECK_DEADLOCK takes TRUE or FALSE"]);
+        finding.hint(&["write CHECK_DEADLOCK FALSE, in capital letters"]);
+    } else if is_statement(before) {
+        finding.say(place, &["a name is missing after ", before]);
+        finding.hint(&["name a definition of the module, or remove ", before]);
+    } else if word == "CHECK_DEADLOCK" {
+        finding.say(place, &["CHECK_DEADLOCK a second time"]);
+        finding.hint(&["remove one of them"]);
+    } else {
+        finding.say(place, &["'", word, "' begins no statement"]);
+        finding.hint(&[
+            "the statements are INIT, NEXT, SPECIFICATION, INVARIANT, CONSTRAINT, CONSTANT and CHECK_DEADLOCK",
+        ]);
+    }
+}
+
+/// Finds a sign between the word of a statement and its names.
+fn find_sign(finding: &mut Finding, spot: &Spot<'_>) -> bool {
+    let before = spot.word(spot.at.saturating_sub(1));
+    let is_sign = matches!(
+        spot.kind(spot.at),
+        Some(Kind::Equal | Kind::Define | Kind::Colon | Kind::Substitute)
+    );
+    if !is_sign || !is_statement(before) {
+        return false;
+    }
+    let sign = spot.word(spot.at);
+    let rest = spot.rest_of_line(spot.at.saturating_add(1));
+    finding.say(
+        spot.place(spot.at),
+        &["'", sign, "' after the word of a statement"],
+    );
+    finding.hint(&["write ", before, " ", rest, ", without '", sign, "'"]);
+    true
+}
+
+/// Finds a formula, or a second name, where a statement takes the name of a definition.
+fn find_formula(finding: &mut Finding, spot: &Spot<'_>) -> bool {
+    let Some(word) = formula_word(spot) else {
+        return false;
+    };
+    let place = spot.place(spot.at);
+    if spot.is(spot.at, Kind::Name) {
+        finding.say(place, &["a second name after ", word]);
+        finding.hint(&[word, " takes one name: define one formula of the two"]);
+    } else if spot.is(spot.at, Kind::Comma) {
+        finding.say(place, &["a comma after the name of ", word]);
+        finding.hint(&["remove it: ", word, " takes one name"]);
+    } else {
+        finding.say(place, &[word, " takes a name, and no formula"]);
+        hint_formula(finding, spot, word);
+    }
+    true
+}
+
+/// Says how a statement is given a formula.
+fn hint_formula(finding: &mut Finding, spot: &Spot<'_>, word: &str) {
+    let name = if word == "INIT" {
+        "Init"
+    } else if word == "NEXT" {
+        "Next"
+    } else if word == "SPECIFICATION" {
+        "Spec"
+    } else {
+        "Ok"
+    };
+    let formula = spot.rest_of_line(statement_index(spot).saturating_add(1));
+    say_formula(finding, word, name, formula);
+}
+
+fn say_formula(finding: &mut Finding, word: &str, name: &str, formula: &str) {
+    let define = [
+        "define ",
+        name,
+        " == ",
+        formula,
+        " in the module, and write ",
+    ];
+    finding.hint_of(&define, &[word, " ", name, " here"]);
+}
+
+/// Finds what the item lacks before a statement: a bracket that closes it, or its value.
+fn find_unfinished(finding: &mut Finding, spot: &Spot<'_>) -> bool {
+    if !is_statement(spot.word(spot.at)) {
+        return false;
+    }
+    if matches!(spot.back(1), Some(Kind::Equal | Kind::Substitute)) {
+        let sign = spot.word(spot.at.saturating_sub(1));
+        finding.say(
+            spot.place(spot.at),
+            &["a value is missing before '", spot.word(spot.at), "'"],
+        );
+        finding.hint(&["write one after '", sign, "'"]);
+        return true;
+    }
+    items::find_open(finding, spot, spot.place(spot.at))
+}
+
+/// The word of the statement with a formula of which the line has a name before a token.
+fn formula_word<'a>(spot: &Spot<'a>) -> Option<&'a str> {
+    let word = statement_before(spot);
+    let is_formula = FORMULAS.contains(&word);
+    let is_behind_name = matches!(spot.back(1), Some(Kind::Name | Kind::Prime));
+    let goes_on = is_behind_name && !spot.begins_line(spot.at);
+    (is_formula && goes_on).then_some(word)
+}
+
+/// Finds a comment as other languages write it, or a module in place of a configuration.
+fn find_comment(finding: &mut Finding, spot: &Spot<'_>) -> bool {
+    let place = spot.place(spot.at);
+    let word = spot.word(spot.at);
+    if spot.is(spot.at, Kind::Separator) {
+        finding.say(place, &["this begins a module, and no configuration"]);
+        finding.hint(&["name the module first, and the configuration second"]);
+        return true;
+    }
+    let is_comment = word == "--" || word == "%" || word == "*";
+    if !is_comment && !spot.is(spot.at, Kind::NotEqual) {
+        return false;
+    }
+    finding.say(place, &["'", word, "' begins no comment"]);
+    finding.hint(&["a comment begins with \\*"]);
+    true
+}
+
+/// Finds what is missing where a configuration ends, or the character at which it can't be read.
+pub fn find_end(finding: &mut Finding, spot: &Spot<'_>, place: Place, names: &[&str]) {
+    let last = Spot {
+        at: spot.tokens.len().saturating_sub(1),
+        ..*spot
+    };
+    if find_misspelt(finding, &last, names) {
+        return;
+    }
+    if characters::find_unread(finding, spot.text, place) {
+        return;
+    }
+    if items::find_end(finding, &last, place) {
+        return;
+    }
+    let word = last.word(last.at);
+    finding.say(place, &["something is missing after '", word, "'"]);
+    if word == "CHECK_DEADLOCK" {
+        finding.hint(&["write CHECK_DEADLOCK FALSE"]);
+    } else if is_statement(word) {
+        finding.hint(&["name a definition of the module, or remove ", word]);
+    } else {
+        finding.hint(&["write what follows, or remove it"]);
+    }
+}
+
+/// Whether a word begins a statement that is read.
+fn is_statement(word: &str) -> bool {
+    STATEMENTS.contains(&word)
+}
+
+/// Finds the misspelt word of a statement at a token, or among the names before it.
+pub(crate) fn find_misspelt(finding: &mut Finding, spot: &Spot<'_>, names: &[&str]) -> bool {
+    for count in 0..spot.tokens.len() {
+        let Some(index) = spot.at.checked_sub(count) else {
+            return false;
+        };
+        let word = spot.word(index);
+        if count > 0 && is_statement(word) {
+            return false;
+        }
+        let may_begin = count == 0 || spot.begins_line(index) || is_upper(word);
+        let is_name = (&*names).contains(&word) || is_first_name(spot, index);
+        let most = if spot.begins_line(index) && is_upper(word) {
+            MOST_EDITS
+        } else {
+            0
+        };
+        if may_begin && !is_name && say_misspelt(finding, spot, index, most) {
+            return true;
+        }
+    }
+    false
+}
+
+/// Whether a token is the first name after the word of a statement.
+fn is_first_name(spot: &Spot<'_>, index: usize) -> bool {
+    match index.checked_sub(1) {
+        Some(before) => is_statement(spot.word(before)),
+        None => false,
+    }
+}
+
+/// Whether a word has no small letter.
+fn is_upper(word: &str) -> bool {
+    !word.as_bytes().iter().any(|b| b.is_ascii_lowercase())
+}
+
+/// Says which statement was meant by a word, if it is near to one.
+fn say_misspelt(finding: &mut Finding, spot: &Spot<'_>, index: usize, most: usize) -> bool {
+    let word = spot.word(index);
+    let Some(statement) = statement_near(finding, word, most) else {
+        return false;
+    };
+    finding.say(spot.place(index), &["unknown statement '", word, "'"]);
+    finding.hint(&["did you mean ", statement, "?"]);
+    if let Some(cure) = statement_cure(statement) {
+        finding.hint(&[cure]);
+    }
+    true
+}
+
+/// The statement that is near to a word, in letters of either case. Up to `most` edits are allowed,
+/// and more for a long word.
+fn statement_near(finding: &mut Finding, word: &str, most: usize) -> Option<&'static str> {
+    if is_statement(word) || word.len() < SHORTEST_WORD {
+        return None;
+    }
+    for statement in STATEMENTS.iter().chain(LEFT_OUT.iter()) {
+        if statement.eq_ignore_ascii_case(word) {
+            return Some(*statement);
+        }
+    }
+    if most > 0
+        && let Some(statement) = begun_by(word)
+    {
+        return Some(statement);
+    }
+    let most = most.min(word.len() / 2);
+    near_in(finding, word, &STATEMENTS, most).or(near_in(finding, word, &LEFT_OUT, most))
+}
+
+/// The first statement that begins with a word.
+fn begun_by(word: &str) -> Option<&'static str> {
+    for statement in STATEMENTS.iter().chain(LEFT_OUT.iter()) {
+        if statement.starts_with(word) {
+            return Some(*statement);
+        }
+    }
+    None
+}
+
+fn near_in(
+    finding: &mut Finding,
+    word: &str,
+    statements: &[&'static str],
+    most: usize,
+) -> Option<&'static str> {
+    match meant_within(finding.alloc(), word, statements, most) {
+        Ok(near) => near,
+        Err(_) => {
+            finding.refuse();
+            None
+        }
+    }
+}

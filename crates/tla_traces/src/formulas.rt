@@ -1,0 +1,151 @@
+//! The formulas that statements of the configuration name.
+
+use crate::models::Telling;
+use std::alloc::{AllocError, Global};
+use tla_config::{Item, Statement};
+use tla_core::Place;
+use tla_page::places::core_place;
+use tla_page::units::{Known, known_name, known_names, text_of};
+use tla_search::Part;
+use tla_tree::Written;
+
+/// A formula, by the statement that names it.
+#[derive(Clone, Copy)]
+pub struct Formula<'a> {
+    /// The statement's word.
+    pub statement: &'static str,
+    pub name: &'a str,
+    /// Where the statement has the name.
+    pub place: Place,
+    /// The item of CONSTANT for the name, if there is one.
+    pub item: Option<&'a Item>,
+    /// What the name means, by the items too, if the module brings that in. Else the formula is a
+    /// value or an operator of an extended module, and its only place is that of its name in the
+    /// configuration.
+    pub meant: Option<Known<'a>>,
+}
+
+/// The formula of a part, if a statement of the configuration names it. The only error is out of
+/// memory.
+pub fn formula_of<'a>(
+    alloc: Global,
+    telling: &Telling<'a>,
+    part: Part,
+) -> Result<Option<Formula<'a>>, AllocError> {
+    let Some(name) = name_of(telling.statements, part) else {
+        return Ok(None);
+    };
+    Ok(Some(Formula {
+        statement: word_of(part),
+        name: text_of(name),
+        place: core_place(name.place),
+        item: item_of(telling.statements, name),
+        meant: meant_by(alloc, telling, name)?,
+    }))
+}
+
+/// The same, if the module has no text for it.
+pub fn name_alone<'a>(
+    alloc: Global,
+    telling: &Telling<'a>,
+    part: Part,
+) -> Result<Option<Formula<'a>>, AllocError> {
+    match formula_of(alloc, telling, part)? {
+        Some(formula) if formula.meant.is_none() => Ok(Some(formula)),
+        _ => Ok(None),
+    }
+}
+
+/// The word of the statement that names the formula of a part.
+fn word_of(part: Part) -> &'static str {
+    match part {
+        Part::Assumption(_) => "ASSUME",
+        Part::Initial => "INIT",
+        Part::NextAction => "NEXT",
+        Part::Invariant(_) => "INVARIANT",
+        Part::Constraint(_) => "CONSTRAINT",
+    }
+}
+
+/// The name of the formula of a part.
+fn name_of<'a>(statements: &'a [Statement], part: Part) -> Option<&'a Written> {
+    let mut index = match part {
+        Part::Invariant(index) | Part::Constraint(index) => index,
+        Part::Assumption(_) | Part::Initial | Part::NextAction => 0,
+    };
+    for statement in statements {
+        let names = names_for(statement, part);
+        if let Some(name) = names.get(index) {
+            return Some(name);
+        }
+        index = index.saturating_sub(names.len());
+    }
+    None
+}
+
+/// The names that a statement has for formulas of the kind of a part.
+fn names_for<'a>(statement: &'a Statement, part: Part) -> &'a [Written] {
+    match (statement, part) {
+        (Statement::Init(_, name), Part::Initial) => std::slice::from_ref(name),
+        (Statement::Next(_, name), Part::NextAction) => std::slice::from_ref(name),
+        (Statement::Invariants(_, names), Part::Invariant(_)) => names,
+        (Statement::Constraints(_, names), Part::Constraint(_)) => names,
+        _ => &[],
+    }
+}
+
+/// The item of CONSTANT for a name.
+fn item_of<'a>(statements: &'a [Statement], name: &Written) -> Option<&'a Item> {
+    for statement in statements {
+        if let Statement::Constants(_, items) = statement
+            && let Some(item) = item_among(items, name)
+        {
+            return Some(item);
+        }
+    }
+    None
+}
+
+fn item_among<'a>(items: &'a [Item], name: &Written) -> Option<&'a Item> {
+    for item in items {
+        if name_of_item(item).word.as_bytes() == name.word.as_bytes() {
+            return Some(item);
+        }
+    }
+    None
+}
+
+/// The name that an item is for.
+pub fn name_of_item(item: &Item) -> &Written {
+    match item {
+        Item::Value(name, _) => name,
+        Item::Replaces(name, _) => name,
+    }
+}
+
+/// What a name means by the items of the configuration, if the module brings that in.
+fn meant_by<'a>(
+    alloc: Global,
+    telling: &Telling<'a>,
+    name: &'a Written,
+) -> Result<Option<Known<'a>>, AllocError> {
+    let Some(meant) = meaning_of(telling, name) else {
+        return Ok(None);
+    };
+    let known = known_names(alloc, telling.units)?;
+    Ok(known_name(&known, text_of(meant)))
+}
+
+/// The name that a name means by items `c <- Op`; none where it means a value. No item leads back to
+/// its own name, so there are fewer of them in a row than tokens.
+fn meaning_of<'a>(telling: &Telling<'a>, name: &'a Written) -> Option<&'a Written> {
+    let mut meant = name;
+    for _ in telling.tokens {
+        match item_of(telling.statements, meant) {
+            None => return Some(meant),
+            Some(Item::Value(_, _)) => return None,
+            Some(Item::Replaces(_, other)) => meant = other,
+        }
+    }
+    Some(meant)
+}
