@@ -4,8 +4,9 @@ ghost use Rattle.tla_run.specs.Private.Growing.{Grows};
 use crate::host::Host;
 use crate::unread::{Unread, UnreadFile};
 use counted_writer::put;
-use std::alloc::Global;
+use std::alloc::{AllocError, Global};
 use std::io::Write;
+use tla_hints::meant;
 use tla_line::NumberOption;
 
 /// Hints at the file that was probably meant, where there is none of this name.
@@ -22,15 +23,76 @@ pub fn hint_at_near_file<H: Host, E: Write>(
     }
 }
 
-/// The hint at the name with the ending of its kind, if that file can be opened.
+/// The hint at the name with the ending of its kind, or at the nearest name in the same folder, if that
+/// file can be opened.
 fn near_file<H: Host>(alloc: Global, host: &H, file: &UnreadFile<'_>) -> Option<String> {
     if file.cause != Unread::Missing {
         return None;
     }
-    let name = file.name.strip_suffix(".").unwrap_or(file.name);
-    let near = format!(in alloc; "{name}{}", file.ending).ok()?;
-    host.open(near.as_str()).ok()?;
+    let near = match with_ending(alloc, host, file) {
+        Some(near) => near,
+        None => nearest_beside(alloc, host, file)?,
+    };
     format!(in alloc; "hint: did you mean {near}?\n").ok()
+}
+
+/// The name of a file with the ending of its kind, added to it or in place of its own ending.
+fn with_ending<H: Host>(alloc: Global, host: &H, file: &UnreadFile<'_>) -> Option<String> {
+    let (folder, name) = split_name(file.name);
+    for stem in [name, stem_of(name)] {
+        let near = format!(in alloc; "{folder}{stem}{}", file.ending).ok()?;
+        if host.open(near.as_str()).is_ok() {
+            return Some(near);
+        }
+    }
+    None
+}
+
+/// The name nearest to that of a file, among the files of its kind in the same folder.
+fn nearest_beside<H: Host>(alloc: Global, host: &H, file: &UnreadFile<'_>) -> Option<String> {
+    let files = host.files_beside(alloc, file.name).ok()?;
+    let stems = stems_with(alloc, &files, file.ending).ok()?;
+    let (folder, name) = split_name(file.name);
+    let stem = meant(alloc, stem_of(name), &stems).ok()??;
+    let near = format!(in alloc; "{folder}{stem}{}", file.ending).ok()?;
+    host.open(near.as_str()).ok()?;
+    Some(near)
+}
+
+/// The names of files that have this ending, without it, in order.
+fn stems_with<'a>(
+    alloc: Global,
+    files: &'a [String],
+    ending: &str,
+) -> Result<Vec<&'a str>, AllocError> {
+    let mut stems = Vec::new(alloc);
+    for file in files {
+        if let Some(stem) = file.as_str().strip_suffix(ending) {
+            stems.push(stem)?;
+        }
+    }
+    stems.sort()?;
+    Ok(stems)
+}
+
+/// A name of a file up to its last slash, and what follows.
+pub(crate) fn split_name(name: &str) -> (&str, &str) {
+    let start = match name.rfind('/') {
+        Some(slash) => slash.saturating_add(1),
+        None => 0,
+    };
+    (
+        name.get(..start).unwrap_or(""),
+        name.get(start..).unwrap_or(""),
+    )
+}
+
+/// A name without its ending.
+fn stem_of(name: &str) -> &str {
+    match name.rsplit_once('.') {
+        Some((stem, _)) => stem,
+        None => name,
+    }
 }
 
 /// Hints at what is wrong with words that lack one: bad numbers, and a configuration that isn't named.

@@ -1,6 +1,7 @@
 //! What a run has of the process.
 ghost use Rattle.std.specs.Prelude.{◌≡◌, ℕ, List, Option, None, false, IfOk, IfSome, Some};
 
+use std::alloc::Global;
 use std::io;
 use std::io::{Read, Write};
 use tla_check::{Checked, Gate, Line};
@@ -30,6 +31,9 @@ pub trait Host {
     /// Opens the file of this name for reading from its start.
     fn open(&self, name: &str) -> io::Result<Self::File>
         ensures { IfOk result (λ f. IfSome (files self.now name.now) (λ bytes. Self.File.remaining f ≡ Some bytes)) };
+
+    /// The names of files in the folder of the file of this name.
+    fn files_beside(&self, alloc: Global, name: &str) -> io::Result<Vec<String>>;
 
     /// Creates the file of this name, or empties it where it is there.
     fn create(&self, name: &str) -> io::Result<Self::NewFile>;

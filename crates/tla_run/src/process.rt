@@ -2,8 +2,10 @@
 ghost use Rattle.std.specs.Prelude.{◌≡◌};
 ghost use Rattle.tla_run.specs.Runs.{IsSomeRun};
 
+use crate::hints::split_name;
 use crate::host::{Host, Inputs};
 use crate::running::{NO_REPORT, run};
+use std::alloc::Global;
 use std::fs::OpenFile;
 use std::io::{Eprint, ErrorKind, Write};
 use std::rt::{Env, Files};
@@ -14,6 +16,9 @@ use std::{env, fs, io};
 use tla_check::{Checked, Gate, GatePlace, Line, LineFault};
 use tla_explain::{FileNames, Style, explain, write_document, write_graph};
 use tla_progress::{GreatestLevel, Memory, Progress, Took};
+
+/// How many files of a folder are looked at for a near name.
+const MOST_FILES: usize = 10_000;
 
 /// Runs the program on the process's own words and files, with these writers for its standard output
 /// and its standard error, and answers the status with which it ends. Progress lines show the memory.
@@ -80,6 +85,18 @@ impl<'a, R: AllocGlobal + Clock + Eprint + Files + Sync, M: Memory + Sync> Host
             Ok(metadata) if metadata.is_dir() => Err(io::Error::from(ErrorKind::IsADirectory)),
             Ok(_) | Err(_) => Ok(file),
         }
+    }
+
+    fn files_beside(&self, alloc: Global, name: &str) -> io::Result<Vec<String>> {
+        let (folder, _) = split_name(name);
+        let folder = if folder.is_empty() { "." } else { folder };
+        let mut names = Vec::new(alloc);
+        for entry in fs::read_dir(&self.rt, folder)?.take(MOST_FILES) {
+            if let Ok(entry) = entry {
+                names.push(String::from_str(alloc, entry.file_name())?)?;
+            }
+        }
+        Ok(names)
     }
 
     fn create(&self, name: &str) -> io::Result<R::File> {

@@ -80,6 +80,21 @@ impl<'a> Host for Memory<'a> {
         }
     }
 
+    fn files_beside(&self, alloc: Global, name: &str) -> io::Result<Vec<String>> {
+        let folder = if name.starts_with("specs/") {
+            "specs/"
+        } else {
+            ""
+        };
+        let mut names = Vec::new(alloc);
+        for (file, _) in self.files {
+            if let Some(rest) = file.strip_prefix(folder) {
+                names.push(String::from_str(alloc, rest)?)?;
+            }
+        }
+        Ok(names)
+    }
+
     fn create(&self, name: &str) -> io::Result<Kept<'a>> {
         match name {
             "nowhere/out" => Err(io::Error::from(ErrorKind::NotFound)),
@@ -192,7 +207,7 @@ NEXT Next
 PROPERTY Live
 ";
 
-static FILES: [(&str, Source<'static>); 12] = [
+static FILES: [(&str, Source<'static>); 13] = [
     ("M.tla", Source::Text(COUNTER)),
     ("M.cfg", Source::Text(INVARIANT)),
     ("Chain.tla", Source::Text(CHAIN)),
@@ -205,6 +220,7 @@ static FILES: [(&str, Source<'static>); 12] = [
     ("Endless.cfg", Source::Endless),
     ("Lonely.tla", Source::Text(COUNTER)),
     ("Folder.tla", Source::Folder),
+    ("specs/Queue.tla", Source::Text(COUNTER)),
 ];
 
 /// Words, the status of a run on them, and what goes to its two writers and to the files that it creates.
@@ -330,7 +346,7 @@ static REPORTED: [Row; 15] = [
     },
 ];
 
-static UNREAD: [Row; 13] = [
+static UNREAD: [Row; 19] = [
     Row {
         words: &["tlacheck", "N.tla", "N.cfg"],
         said: "tlacheck: cannot read N.tla\ncause: there is no such file\n",
@@ -349,6 +365,36 @@ static UNREAD: [Row; 13] = [
     Row {
         words: &["tlacheck", "M.tla", "M"],
         said: "tlacheck: cannot read M\ncause: there is no such file\nhint: did you mean M.cfg?\n",
+        ..SILENT
+    },
+    Row {
+        words: &["tlacheck", "Chian.tla", "Chain.cfg"],
+        said: "tlacheck: cannot read Chian.tla\ncause: there is no such file\nhint: did you mean Chain.tla?\n",
+        ..SILENT
+    },
+    Row {
+        words: &["tlacheck", "large", "Chain.cfg"],
+        said: "tlacheck: cannot read large\ncause: there is no such file\nhint: did you mean Large.tla?\n",
+        ..SILENT
+    },
+    Row {
+        words: &["tlacheck", "Chain.tla", "Chain.tla.cfg"],
+        said: "tlacheck: cannot read Chain.tla.cfg\ncause: there is no such file\n",
+        ..SILENT
+    },
+    Row {
+        words: &["tlacheck", "Chain.tla", "Chain.cgf"],
+        said: "tlacheck: cannot read Chain.cgf\ncause: there is no such file\nhint: did you mean Chain.cfg?\n",
+        ..SILENT
+    },
+    Row {
+        words: &["tlacheck", "specs/Quene.tla", "Chain.cfg"],
+        said: "tlacheck: cannot read specs/Quene.tla\ncause: there is no such file\nhint: did you mean specs/Queue.tla?\n",
+        ..SILENT
+    },
+    Row {
+        words: &["tlacheck", "Assume.tla", "Chain.cfg", "--quiet"],
+        said: "tlacheck: cannot read Assume.tla\n",
         ..SILENT
     },
     Row {
