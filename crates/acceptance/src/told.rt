@@ -15,6 +15,8 @@ pub enum Form {
     Whole,
     /// An explanation with the steps of each part of Next.
     Counted,
+    /// The explanation where the two files are named in the wrong order.
+    Swapped,
     Graph,
     Document,
 }
@@ -26,6 +28,7 @@ impl Form {
             "told" => Some(Form::Explanation),
             "whole" => Some(Form::Whole),
             "counted" => Some(Form::Counted),
+            "swapped" => Some(Form::Swapped),
             "graph" => Some(Form::Graph),
             "document" => Some(Form::Document),
             _ => None,
@@ -35,6 +38,22 @@ impl Form {
 
 /// Whether what is written of the check of these texts is this.
 pub fn is_told_as_wanted<R: Threads + Wait + Sync>(
+    rt: &R,
+    alloc: Global,
+    module: &[u8],
+    configuration: &[u8],
+    options: &Options,
+    form: Form,
+    wanted: &[u8],
+) -> io::Result<bool> {
+    match form {
+        Form::Swapped => is_told(rt, alloc, configuration, module, options, form, wanted),
+        _ => is_told(rt, alloc, module, configuration, options, form, wanted),
+    }
+}
+
+/// The same of two texts in the order in which they are checked.
+fn is_told<R: Threads + Wait + Sync>(
     rt: &R,
     alloc: Global,
     module: &[u8],
@@ -57,20 +76,31 @@ fn write_form<'a>(
     form: Form,
 ) -> io::Result<()> {
     let alloc = *told.allocator();
-    let names = FileNames {
-        module: "module.tla",
-        configuration: "model.cfg",
-    };
+    let names = names_of(form);
     let style = Style {
         full: matches!(form, Form::Whole),
         coverage: matches!(form, Form::Counted),
     };
     match form {
-        Form::Explanation | Form::Whole | Form::Counted => {
+        Form::Explanation | Form::Whole | Form::Counted | Form::Swapped => {
             explain(alloc, told, &names, module, configuration, checked, style)
         }
         Form::Graph => write_graph(alloc, told, module, configuration, checked),
         Form::Document => write_document(alloc, told, &names, module, configuration, checked),
+    }
+}
+
+/// The names of the two files.
+fn names_of(form: Form) -> FileNames<'static> {
+    match form {
+        Form::Swapped => FileNames {
+            module: "model.cfg",
+            configuration: "module.tla",
+        },
+        _ => FileNames {
+            module: "module.tla",
+            configuration: "model.cfg",
+        },
     }
 }
 

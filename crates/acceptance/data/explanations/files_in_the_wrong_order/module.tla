@@ -1,0 +1,7 @@
+---- MODULE Lock ----
+EXTENDS Integers
+VARIABLE owner
+Init == owner = 0
+Next == owner' = 1 - owner
+Inv == owner < 2
+====
