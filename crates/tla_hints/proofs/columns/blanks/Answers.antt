@@ -1,4 +1,4 @@
-use Rattle.std.proofs.Common.{arith, refl, rules, ◌||◌, ◌==◌}
+use Rattle.std.proofs.Common.{rules, ◌||◌, ◌==◌}
 use Rattle.std.specs.Prelude.{IsTrue}
 use Rattle.std.proofs.lemmas.List.Elements.{All-push}
 use Rattle.tla_hints.proofs.Behind.{behind_tab, behind_character, behind_inner, inner_low, inner_high, inner_between, whole_line}

@@ -1,7 +1,6 @@
-use Rattle.std.proofs.Common.{arith, ◌<◌, ◌+◌, sym, take, below_more, refl}
+use Rattle.std.proofs.Common.{arith, sym, take, below_more, refl}
 use Rattle.std.proofs.lemmas.List.{take_all}
 use Rattle.tla_hints.proofs.Behind.{behind_some, behind_bound, column_behind_more}
-use Rattle.tla_hints.specs.Columns.{column_behind, column_after}
 use Rattle.tla_hints.proofs.columns.front.Goals as goal
 
 pub column_after-at-requires-clause-some : goal.column_after-at-requires-clause-some

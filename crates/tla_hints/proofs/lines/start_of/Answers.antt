@@ -1,6 +1,5 @@
-use Rattle.std.proofs.Common.{arith, inl, inr, refl, ◌≡◌, ◌+◌}
+use Rattle.std.proofs.Common.{arith, inr, refl}
 use Rattle.tla_hints.proofs.Feeds.{feeds_at_feed, feeds_at_other, feed_before}
-use Rattle.tla_hints.specs.Lines.{feeds_before}
 use Rattle.tla_hints.proofs.lines.start_of.Goals as goal
 use Rattle.tla_hints.proofs.lines.start_of.Goals.{then-byte-eq10, else-byte-eq10}
 
