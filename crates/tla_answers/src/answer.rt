@@ -14,7 +14,7 @@ use tla_traces::models::Telling;
 use tla_traces::named::Named;
 use tla_traces::trace::tell as tell_trace;
 
-/// Tells an answer. Where there is no error, only notes are told.
+/// Explains an answer. If there is no error, it writes only notes.
 pub fn tell(page: &mut Page, sources: &Sources<'_>, answered: &Answered) {
     match &answered.answer {
         Answer::Limit { .. } => tell_limit(page, answered.limit),
@@ -64,7 +64,7 @@ fn tell_wrong(page: &mut Page, telling: &Telling<'_>, answered: &Answered) {
     }
 }
 
-/// Begins what is told at a place of the module.
+/// Begins an explanation at a place of the module.
 pub fn begin_at(page: &mut Page, sources: &Sources<'_>, place: Option<Place>) {
     match place {
         Some(place) => page.put_place(sources, Source::Module, place),
@@ -72,7 +72,7 @@ pub fn begin_at(page: &mut Page, sources: &Sources<'_>, place: Option<Place>) {
     }
 }
 
-/// Ends what is told at a place of the module, and shows the place.
+/// Ends an explanation at a place of the module, and shows the place.
 pub fn end_at(page: &mut Page, sources: &Sources<'_>, place: Option<Place>) {
     page.put_text("\n");
     if let Some(place) = place {

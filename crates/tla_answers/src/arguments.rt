@@ -1,4 +1,4 @@
-//! What the parameters of a definition stand for in one of its parts.
+//! The arguments of a definition's parameters in one of its parts.
 
 use crate::extents::text_of;
 use std::alloc::AllocError;
@@ -12,15 +12,15 @@ use tla_traces::models::Telling;
 use tla_traces::signs::{sign_of, written_sign};
 use tla_tree::{Expr, Unit, Written};
 
-/// A parameter, and the argument that it stands for.
+/// A parameter and its argument.
 #[derive(Drop)]
 struct Argument<'a, 'c> {
     name: &'a Written,
     core: &'c Core,
 }
 
-/// Adds the arguments that the parameters in an expression stand for, where they are written
-/// otherwise: `; r is r1`. An operand whose value is shown isn't shown again.
+/// Adds the arguments of the parameters in an expression, if they are written differently: `; r is r1`. An operand
+/// whose value is shown isn't shown again.
 pub(crate) fn put_arguments(
     page: &mut Page,
     telling: &Telling<'_>,
@@ -73,14 +73,14 @@ fn put_argument(page: &mut Page, telling: &Telling<'_>, argument: &Argument<'_, 
     }
 }
 
-/// Whether a name is a parameter of the definition in which it stands.
+/// Whether a name is a parameter of the definition in which it occurs.
 fn is_parameter(units: &[Unit], name: &Written) -> bool {
     parameters_at(units, name.place)
         .iter()
         .any(|parameter| is_same(parameter, name))
 }
 
-/// Gathers the names of an expression that stand for a node which begins elsewhere.
+/// Gathers the names of an expression whose node begins elsewhere.
 #[cycle(arguments)]
 fn gather<'a, 'c>(
     expr: &'a Expr,

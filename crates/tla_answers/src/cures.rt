@@ -62,7 +62,7 @@ pub(crate) fn wrong_operand<'c>(scene: &Scene<'_, 'c>) -> Option<(&'c Operand<'c
     None
 }
 
-/// Hints at the configuration, where a model value stands in place of a number or a set.
+/// Hints at the configuration, if a model value is used as a number or a set.
 fn hint_model_value(page: &mut Page, telling: &Telling<'_>, name: &str, wanted: Wanted) {
     let sources = telling.sources;
     let configuration = sources.names.configuration;
@@ -99,7 +99,7 @@ fn is_definition(alloc: Global, units: &[Unit], name: &str) -> Result<bool, Allo
     })
 }
 
-/// Hints at the items of a function that stands in place of a set.
+/// Hints at the items of a function that is used as a set.
 fn hint_items<'a>(
     page: &mut Page,
     telling: &Telling<'a>,
@@ -168,8 +168,8 @@ fn function_meant(operands: &[Operand<'_>]) -> &'static str {
     }
 }
 
-/// Hints what was meant where a record or a function stands in place of a set of functions or of
-/// records; false where it is something else.
+/// Hints what was meant if a record or a function is used as a set of functions or of records; false if it is something
+/// else.
 fn hint_member(page: &mut Page, telling: &Telling<'_>, set: &Core, operand: &Operand<'_>) -> bool {
     match expression_at(telling.units, set.place(), "[ |-> ]") {
         Some(Expr::Record(_, fields)) => {

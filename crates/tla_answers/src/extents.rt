@@ -66,7 +66,7 @@ fn last_of_arms(tokens: &[Token], arms: &[Arm]) -> Option<usize> {
     last
 }
 
-/// The number behind a token's.
+/// The number after a token's.
 fn after(number: Option<usize>) -> Option<usize> {
     match number {
         Some(number) => number.checked_add(1),

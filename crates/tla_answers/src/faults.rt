@@ -51,7 +51,7 @@ fn tell_at_place(
     }
 }
 
-/// Adds the name of the part in which the fault was met.
+/// Adds the name of the part in which the fault occurred.
 pub(crate) fn put_part_name(
     page: &mut Page,
     telling: &Telling<'_>,
@@ -103,7 +103,7 @@ fn code_title(code: FaultCode) -> &'static str {
     }
 }
 
-/// Tells in which definitions a place stands.
+/// Names the definitions that have a place in them.
 fn tell_definitions(page: &mut Page, telling: &Telling<'_>, place: Place) {
     let units = telling.units;
     let mut name = definition_at(units, token_place(place));
@@ -120,8 +120,7 @@ fn tell_definitions(page: &mut Page, telling: &Telling<'_>, place: Place) {
     page.put_text("\n");
 }
 
-/// Adds the definitions in which a name stands, in the order of the text, but for its own. Answers
-/// the only one of them.
+/// Adds the definitions that use a name, in the order of the text, except its own. Returns the only one of them.
 fn put_users<'a>(page: &mut Page, telling: &Telling<'a>, name: &str) -> Option<&'a str> {
     let mut last = "";
     let mut only = None;
@@ -151,7 +150,7 @@ fn user_at<'a>(telling: &Telling<'a>, token: &Token, name: &str) -> &'a str {
     }
 }
 
-/// Tells the values of the variables where the fault was met.
+/// Adds the values of the variables at which the fault occurred.
 fn tell_values(page: &mut Page, answered: &Answered) {
     let states = answered.answer.states();
     if let Some(last) = states.last() {

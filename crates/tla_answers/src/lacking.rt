@@ -141,8 +141,7 @@ fn put_cure(page: &mut Page, lack: &Lack<'_>) {
     }
 }
 
-/// Hints at a prime where a conjunct behind the first one that sets a variable compares the one that
-/// has no value.
+/// Hints at a prime, if a conjunct after the first one that sets a variable compares the one that has no value.
 fn hint_prime(page: &mut Page, telling: &Telling<'_>, lack: &Lack<'_>, part: &Core) {
     let Core::Conjunction(_, parts) = part else {
         return;

@@ -1,4 +1,4 @@
-//! What is worth a note where no error was found.
+//! The notes after `No error.`
 
 use crate::why::{tell_blocked, tell_reasons};
 use crate::{given, missed};
@@ -109,7 +109,7 @@ fn note_fairness_of(page: &mut Page, telling: &Telling<'_>, specification: &str)
     }
 }
 
-/// Whether a token stands in a definition, or in one that this names.
+/// Whether a token is in a definition, or in one that this definition names.
 fn is_part_of(telling: &Telling<'_>, token: &Token, specification: &str) -> bool {
     let name = definition_at(telling.units, token.place);
     name == specification

@@ -106,7 +106,7 @@ fn tell_culprit(
     }
 }
 
-/// Whether what is told of the node says all that the rule of the code says.
+/// Whether the text about the node says all that the rule of the code says.
 fn has_own_text(code: FaultCode, scene: &Scene<'_, '_>) -> bool {
     match code {
         FaultCode::WrongKind => {
@@ -163,7 +163,7 @@ fn tell_wrong_kind<'a>(page: &mut Page, telling: &Telling<'a>, scene: &Scene<'a,
     }
 }
 
-/// Ends what is told of a value that isn't of the kind that is wanted.
+/// Ends the text about a value that isn't of the wanted kind.
 fn put_wanted(page: &mut Page, value: &Value, wanted: Wanted) {
     page.put_text(" is ");
     put_kind(page, value);

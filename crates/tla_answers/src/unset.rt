@@ -36,7 +36,7 @@ pub(crate) fn hint_next<'a>(page: &mut Page, telling: &Telling<'a>, scene: &Scen
     }
 }
 
-/// Hints what to write in an action, by the form in which the next value stands.
+/// Hints what to write in an action, by the form in which the next value occurs.
 fn hint_primed<'a>(
     page: &mut Page,
     telling: &Telling<'a>,
@@ -63,7 +63,7 @@ fn hint_primed<'a>(
     }
 }
 
-/// Whether the next value stands in what it is to be.
+/// Whether the next value occurs in the expression that sets it.
 fn is_own_value(nodes: &[&Core], variable: usize) -> bool {
     for below in 1..nodes.len() {
         if gives_value_at(nodes, below, variable) == Some(true) {

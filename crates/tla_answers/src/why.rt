@@ -190,7 +190,7 @@ fn is_literal(expr: Option<&Expr>) -> bool {
     }
 }
 
-/// An operand as it is written.
+/// The text of an operand.
 pub(crate) fn written<'a>(
     telling: &Telling<'a>,
     whole: Option<&'a Expr>,

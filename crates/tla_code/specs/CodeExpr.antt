@@ -1,4 +1,5 @@
--- The expression that a code stands for: each use is written out. (This project's own choice: LET definitions of the book, chapter 16, without names.)
+-- The expression of a code: each use is written out. (This project's own choice: LET definitions of the book, chapter
+-- 16, without names.)
 use Rattle.std.specs.Prelude.{ℕ, List, [], ◌∷◌, ◌++◌, Option, Some, None, slice_get}
 use Rattle.tla_core.specs.declared.fault.Place.{Place}
 use Rattle.tla_core.specs.Expr.{Expr, Exprs, Fields, Updates, bound, booleans, except, opened, no_exprs, more_exprs, no_fields, more_fields, no_updates, more_updates}
@@ -8,11 +9,11 @@ use Rattle.tla_code.specs.Forms.{one_expr, two_expr, three_expr, list_expr, fiel
 use Rattle.tla_code.specs.declared.code.Code.{Code, Row_of-Code, end_of-Code, more_of-Code, Row_of-Code-Fields-2-2, end_of-Code-Fields-2-2, more_of-Code-Fields-2-2, Row_of-Code-Except-2-3, end_of-Code-Except-2-3, more_of-Code-Except-2-3}
 use Rattle.tla_code.specs.declared.code.Code.TheVariants.{Plain, Bound, Use, Let', One', Two', Three', List', Fields', Binder', Map', Except', Opened'}
 
--- the definitions around an expression, the outermost first: how many names are bound outside each, and what it stands for
+-- the definitions around an expression, the outermost first: how many names are bound outside each, and its expression
 abbrev pub Scope : Type 0
 Scope = List (ℕ × Expr)
 
--- A use under more names is a copy of the definition. One without a definition stands for BOOLEAN: the code makes none.
+-- A use under more names is a copy of the definition. A use without a definition would be BOOLEAN; no code has one.
 abbrev pub used : Place → ℕ → Option (ℕ × Expr) → Expr
 used at by None = booleans at
 used at by (Some d) = raise d.0 by d.1

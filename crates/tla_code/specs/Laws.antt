@@ -14,7 +14,7 @@ RaiseKeepsValue = (e : Expr) (outer inner own : Bound) (s : Present) (t : Next) 
 abbrev pub RaiseKeepsMembers : Type 0
 RaiseKeepsMembers = (v : Tree) (e : Expr) (outer inner own : Bound) (s : Present) (t : Next) → mem v (raise (length outer) (length inner) e) ((outer ++ inner) ++ own) s t ≡ mem v e (outer ++ own) s t
 
--- A copy of a copy is one copy, where the second's new names stand among the first's, or right before or after them.
+-- A copy of a copy is one copy, if the second's new names are among the first's, or right before or after them.
 abbrev pub RaiseTwiceIsRaiseOnce : Type 0
 RaiseTwiceIsRaiseOnce = (e : Expr) (from by f more : ℕ) → from ≤ f → f ≤ from + by → raise from (by + more) e ≡ raise f more (raise from by e)
 

@@ -13,7 +13,7 @@ pub enum OneForm<'m> {
     Sequences,
     /// `SUBSET S`
     Power,
-    /// A set of sequences of so many items.
+    /// A set whose elements must be sequences of this many items.
     Tried(usize),
 }
 
@@ -91,7 +91,7 @@ pub enum MapForm {
     Function,
 }
 
-/// An expression arranged for evaluation. Definitions are numbered from the outermost one on.
+/// An expression with definitions. Definitions are numbered from the outermost one on.
 #[derive(Drop)]
 pub enum Code<'m> {
     /// An expression in which nothing is shared.

@@ -1,4 +1,4 @@
-//! Expressions arranged for evaluation: what has a name, or occurs several times, can be a definition that is used.
+//! Expressions in which a part that has a name, or occurs several times, can be a definition that other parts use.
 #![tactic(auto)]
 
 mod arranged;

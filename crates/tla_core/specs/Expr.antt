@@ -1,4 +1,5 @@
--- Expressions after expansion: definitions are gone, and primes stand on leaves. Each node has the place of the text that it stands for. (Book, chapters 15 and 16.)
+-- Expressions after expansion: definitions are gone, and only variables have primes. Each node has the place of its
+-- text. (Book, chapters 15 and 16.)
 use Rattle.std.specs.Prelude.{ℕ, List}
 use Rattle.tla_value.specs.Tree.{Tree}
 use Rattle.tla_core.specs.Fault.{Place}

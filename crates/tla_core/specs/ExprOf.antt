@@ -1,4 +1,4 @@
--- The expression that a core stands for: its pointers forgotten, its values as trees.
+-- The expression of a core, without pointers, and with values as trees.
 use Rattle.std.specs.Prelude.{ℕ, ◌+◌, Bool, ◌&&◌, List, [], ◌∷◌, map}
 use Rattle.std.specs.List.{list_all}
 use Rattle.std.proofs.Common.{Vec, Global}

@@ -19,7 +19,7 @@ abbrev pub ◌>>=◌ : {A B : Type 0} → Outcome A → (A → Outcome B) → Ou
 abbrev pub fault : {A : Type 0} → FaultCode → Place → Outcome A
 fault code p = Err (record { code = code; place = Some p; variable = None })
 
--- the fault that is told where memory ran out; it has no place
+-- the fault that means that memory ran out; it has no place
 abbrev pub out_of_memory : Fault
 out_of_memory = record { code = Memory; place = None; variable = None }
 

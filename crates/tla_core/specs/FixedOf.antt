@@ -1,4 +1,4 @@
--- The expression that a tree of constants stands for: its pointers forgotten, its values as trees.
+-- The expression of a tree of constants, without pointers, and with values as trees.
 use Rattle.tla_value.specs.TreeOf.{tree_of}
 use Rattle.tla_core.specs.Expr.{Expr, Exprs, Fields, constant, enumerated, tuple, record_of, no_exprs, more_exprs, no_fields, more_fields}
 use Rattle.tla_core.specs.declared.fixed.Fixed.{Fixed, Row_of-Fixed, end_of-Fixed, more_of-Fixed, Row_of-Fixed-Record-1-2, end_of-Fixed-Record-1-2, more_of-Fixed-Record-1-2}

@@ -1,4 +1,4 @@
--- The expression that a literal stands for: its tree.
+-- The expression of a literal: that of its tree.
 use Rattle.tla_core.specs.Expr.{Expr}
 use Rattle.tla_core.specs.FixedOf.{fixed_of}
 use Rattle.tla_core.specs.declared.literal.Literal.{Literal}

@@ -30,7 +30,7 @@ coded_next = coded_list (coded_option coded_tree)
 
 pub record Meaning : Type 0 where
   pub place : Place
-  -- whether the next value of a variable stands in it
+  -- whether the next value of a variable occurs in it
   pub primed : Bool
   pub value : Bound → Present → Next → Outcome Tree
   pub has : Tree → Bound → Present → Next → Outcome Bool

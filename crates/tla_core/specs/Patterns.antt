@@ -1,4 +1,5 @@
--- Tuple patterns: an element of a set stands for its items, where it is a sequence of the pattern's length. (Book, chapter 16; the faults are this project's own choice.)
+-- Tuple patterns: an element of a set is replaced by its items, if it is a sequence of the pattern's length. (Book,
+-- chapter 16; the faults are this project's own choice.)
 use Rattle.std.specs.Prelude.{ℕ, ◌+◌, false, nat_eq, if◌then◌else◌, List, [], ◌∷◌, ◌++◌, length, get_or, Option, Some, None, Ok}
 use Rattle.tla_value.specs.Tree.{Tree, truth, int, text, model, set, fun, members}
 use Rattle.tla_core.specs.Fault.{Place, WrongKind, Outcome, ◌>>=◌}
@@ -11,7 +12,7 @@ abbrev pub of_length : ℕ → Option (List Tree) → Option (List Tree)
 of_length k None = None
 of_length k (Some vs) = if nat_eq (length vs) k then Some vs else None
 
--- the items of an element that fits a pattern of so many names: any other element is a fault of the form that binds
+-- the items of an element that fits a pattern of n names; any other element is a fault of the form that binds
 abbrev pub fitting : Place → ℕ → Tree → Outcome (List Tree)
 fitting p k v = or_fault WrongKind p (of_length k (items v))
 
@@ -34,7 +35,7 @@ means-opened p os e = by_value p e.primed (λ b s t. do
   xs ← opened_items p os b
   e.value (b ++ xs) s t)
 
--- a set whose elements fit; that a value is no set is for the form to tell
+-- a set whose elements fit. If the value is no set, the form that binds faults.
 abbrev pub tried_set : Place → ℕ → Tree → Outcome Tree
 tried_set p k (set vs) = do
   xss ← each (fitting p k) (members vs)

@@ -54,7 +54,7 @@ field_has ps b s t f = if_some (value_at (text f.0) ps) (λ v. f.1.has v b s t)
 abbrev pub names_of : {A : Type 0} → List (List ℕ × A) → List (List ℕ)
 names_of {A} fs = map (λ (f : List ℕ × A). f.0) fs
 
--- a name that stands twice has no value: total, though a caller's condition excludes it
+-- If a name occurs twice, there is no value. A caller's condition excludes that.
 abbrev pub means-records : Place → List (List ℕ × Meaning) → Meaning
 means-records p fs = record {
   place = p;

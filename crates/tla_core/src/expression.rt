@@ -67,15 +67,15 @@ pub enum Kind {
     Strings,
 }
 
-/// A bound name whose element is a sequence of so many items.
+/// A bound name whose element is opened: it is a sequence of this many items.
 #[derive(Clone, Copy, Debug, PartialEq, Eq)]
 pub struct Opening {
     pub name: usize,
     pub items: usize,
 }
 
-/// An expression in which definitions are expanded and primes are pushed down to the variables.
-/// Each node has the place of the first token of the expression that it stands for.
+/// An expression in which definitions are expanded and primes are pushed down to the variables. Each node has the place
+/// of the expression's first token.
 #[derive(Drop)]
 pub enum Core {
     Constant(Place, Value),
@@ -136,7 +136,7 @@ pub enum Core {
     Power(Place, Box<Core>),
     /// `[S -> T]`
     Functions(Place, Box<Core>, Box<Core>),
-    /// `[a : S, ..]`: a name that stands twice has no set.
+    /// `[a : S, ..]`: if a name occurs twice, there is no such set.
     Records(Place, Vec<(Text, Core)>),
     /// `S \X T ..`
     Product(Place, Vec<Core>),
@@ -150,7 +150,7 @@ pub enum Core {
     Filter(Place, Box<Core>, Box<Core>),
     /// Elements that are opened, and the body, in which their items are the next bound names.
     Opened(Place, Vec<Opening>, Box<Core>),
-    /// A set of sequences of so many items.
+    /// A set whose elements must be sequences of this many items.
     Tried(Place, usize, Box<Core>),
     /// An expression that is made of constants alone, with its value.
     Literal(Literal),
@@ -167,7 +167,7 @@ impl Core {
         *self.lent_place()
     }
 
-    /// The place of the expression, lent.
+    /// The place of the expression, borrowed.
     pub fn lent_place(&self) -> &Place
         ensures { result.now ≡ (means (expr_of self.now)).place }
     {

@@ -17,7 +17,7 @@ impl Fixed {
     ghost use Rattle.tla_core.specs.Value.{means};
     ghost use Rattle.tla_core.specs.FixedOf.{fixed_of};
 
-    /// The place of the expression, lent.
+    /// The place of the expression, borrowed.
     pub(crate) fn lent_place(&self) -> &Place
         ensures { result.now ≡ (means (fixed_of self.now)).place }
     {

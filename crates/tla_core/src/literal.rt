@@ -23,7 +23,7 @@ impl Literal {
     ghost use Rattle.std.specs.Prelude.{IfOk, IsTrue};
     ghost use Rattle.tla_core.specs.LiteralOf.{literal_of};
 
-    /// An expression with its value. The only error is want of memory.
+    /// An expression with its value. The only error is that memory ran out.
     pub(crate) fn new(alloc: Global, tree: Fixed, value: Value) -> Result<Literal, AllocError>
         requires { IsAlways (means (fixed_of tree)) (tree_of value) }
         ensures { IfOk result (λ l. literal_of l ≡ fixed_of tree) }
@@ -39,7 +39,7 @@ impl Literal {
         &self.value
     }
 
-    /// The place of the expression, lent.
+    /// The place of the expression, borrowed.
     pub fn lent_place(&self) -> &Place
         ensures { result.now ≡ (means (literal_of self.now)).place }
     {

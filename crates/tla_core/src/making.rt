@@ -145,7 +145,7 @@ fn fixed_part(core: Core) -> Option<Fixed>
     }
 }
 
-/// The trees of some parts whose values are known, so that the only error is want of memory.
+/// The trees of parts whose values are known. The only error is that memory ran out.
 fn fixed_parts(alloc: Global, parts: Vec<Core>) -> Result<Vec<Fixed>, AllocError>
     ensures { IfOk result (λ v. map fixed_of v.items ≡ map expr_of parts.items) }
 {
@@ -159,7 +159,7 @@ fn fixed_parts(alloc: Global, parts: Vec<Core>) -> Result<Vec<Fixed>, AllocError
     Ok(trees)
 }
 
-/// The trees of some fields whose values are known, so that the only error is want of memory.
+/// The trees of fields whose values are known. The only error is that memory ran out.
 fn fixed_fields(alloc: Global, fields: Vec<(Text, Core)>) -> Result<Vec<(Text, Fixed)>, AllocError>
     ensures { IfOk result (λ v. map named_fixed v.items ≡ map named_core fields.items) }
 {

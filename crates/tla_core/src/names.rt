@@ -20,7 +20,7 @@ impl Core {
     }
 }
 
-/// As many names and so many more; none stands for a number that passes all indices.
+/// A number of names and `more`. None means more names than there are indices.
 fn with_more(names: Option<usize>, more: usize) -> Option<usize>
     ensures { (n : ℕ) → Counts names n → Counts result (n + more) }
 {
@@ -40,7 +40,7 @@ fn has_name(names: Option<usize>, index: usize) -> bool
     }
 }
 
-/// Whether each name that is opened is there.
+/// Whether each name that is opened exists.
 fn are_bound(openings: &[Opening], names: Option<usize>) -> bool
     ensures { (n : ℕ) → Counts names n → result ≡ list_all (λ (o : Opening). nat_lt o.name n) openings.now }
 {
@@ -52,7 +52,7 @@ fn are_bound(openings: &[Opening], names: Option<usize>) -> bool
     true
 }
 
-/// As many names and the items of these.
+/// The number of names with the items of these elements.
 fn with_items(openings: &[Opening], names: Option<usize>) -> Option<usize>
     ensures { (n : ℕ) → Counts names n → Counts result (n + items_in openings.now) }
 {

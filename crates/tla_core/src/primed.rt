@@ -11,7 +11,7 @@ use crate::expression::Core;
 use tla_value::Text;
 
 impl Core {
-    /// Whether the next value of a variable stands in the expression.
+    /// Whether the next value of a variable occurs in the expression.
     pub fn is_primed(&self) -> bool
         ensures { result ≡ (means (expr_of self.now)).primed }
     {
@@ -74,7 +74,7 @@ fn has_next(core: &Core) -> bool
     }
 }
 
-/// Whether the next value of a variable stands in one of these parts.
+/// Whether the next value of a variable occurs in one of these parts.
 #[cycle(primed)]
 fn some_has_next(parts: &[Core]) -> bool
     ensures { result ≡ any_primed (parts_of_cores parts.now) }
@@ -87,7 +87,7 @@ fn some_has_next(parts: &[Core]) -> bool
     false
 }
 
-/// Whether the next value of a variable stands in one of these fields.
+/// Whether the next value of a variable occurs in one of these fields.
 #[cycle(primed)]
 fn fields_have_next(fields: &[(Text, Core)]) -> bool
     ensures { result ≡ any_primed (parts_of (fields_of_cores fields.now)) }
@@ -100,7 +100,7 @@ fn fields_have_next(fields: &[(Text, Core)]) -> bool
     false
 }
 
-/// Whether the next value of a variable stands in one of these arms.
+/// Whether the next value of a variable occurs in one of these arms.
 #[cycle(primed)]
 fn arms_have_next(arms: &[(Core, Core)]) -> bool
     ensures { result ≡ arms_primed (arms_of_cores arms.now) }
@@ -113,7 +113,7 @@ fn arms_have_next(arms: &[(Core, Core)]) -> bool
     false
 }
 
-/// Whether the next value of a variable stands in one of these updates.
+/// Whether the next value of a variable occurs in one of these updates.
 #[cycle(primed)]
 fn updates_have_next(updates: &[(Vec<Core>, Core)]) -> bool
     ensures { result ≡ updates_primed (updates_of_cores updates.now) }

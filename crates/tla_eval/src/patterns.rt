@@ -1,4 +1,4 @@
-//! Elements that stand for their items.
+//! Elements that are replaced by their items.
 ghost use Rattle.std.specs.Prelude.{map};
 ghost use Rattle.tla_value.specs.TreeOf.{tree_of};
 ghost use Rattle.tla_core.specs.Lists.{each};
@@ -14,7 +14,7 @@ use tla_operators::sequences::{add_items, sequence_items};
 use tla_operators::trouble::{Trouble, fault_at};
 use tla_value::Value;
 
-/// The items of an element that is a sequence of so many items. Another element is a fault of the form at the place.
+/// The items of an element that is a sequence of `count` items. Any other element is a fault of the form at the place.
 fn fitting<'p, 'a>(
     place: &'p Place,
     count: usize,
@@ -66,7 +66,7 @@ pub fn opened(
     Ok(open_items(alloc, &place, openings, &frame)?)
 }
 
-/// Tries each of these elements.
+/// Checks each of these elements against a pattern.
 fn try_all<'p>(place: &'p Place, count: usize, elements: &[Value]) -> Result<(), Trouble<'p>>
     ensures { GivesBy (λ u. u) result (nothing_of (each (fitting place.now count) (map tree_of elements.now))) }
 {
@@ -76,7 +76,7 @@ fn try_all<'p>(place: &'p Place, count: usize, elements: &[Value]) -> Result<(),
     Ok(())
 }
 
-/// Tries each element of a value that is a set.
+/// Checks each element of a value that is a set against a pattern.
 pub(crate) fn try_set<'p>(place: &'p Place, count: usize, value: &Value) -> Result<(), Trouble<'p>>
     ensures { GivesBy (λ u. tree_of value.now) result (tried_set place.now count (tree_of value.now)) }
 {

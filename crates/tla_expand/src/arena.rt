@@ -40,7 +40,7 @@ pub(crate) enum What<'a> {
     Gives(usize, Projection),
     /// An operator of a module under another name.
     Module(Builtin),
-    /// Another name for one that means nothing.
+    /// An alias of an unknown name.
     Unknown,
 }
 

@@ -13,6 +13,6 @@ abbrev pub column_from : ℕ → List ℕ → ℕ
 column_from column [] = column
 column_from column (b ∷ bs) = column_from (column_after column b) bs
 
--- the column behind bytes that begin a line and have no line feed
+-- the column after bytes that begin a line and have no line feed
 abbrev pub column_behind : List ℕ → ℕ
 column_behind bytes = column_from 1 bytes

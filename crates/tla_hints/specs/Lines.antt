@@ -1,11 +1,11 @@
--- Lines of a text: what stands between line feeds.
+-- Lines of a text: the texts between line feeds.
 use Rattle.std.specs.Prelude.{ℕ, ◌≡◌, ◌+◌, ◌≤◌, ◌==◌, Bool, not, List, length, take, drop, count_by, ◌⊎◌, slice_index, ◌-◌}
 use Rattle.std.specs.List.{take_while}
 
 abbrev pub is_line_feed : ℕ → Bool
 is_line_feed b = b == 10
 
--- how many line feeds stand before a byte
+-- how many line feeds come before a byte
 abbrev pub feeds_before : List ℕ → ℕ → ℕ
 feeds_before text at = count_by is_line_feed (take at text)
 

@@ -4,7 +4,7 @@ use crate::places::is_before;
 use std::alloc::{AllocError, Global};
 use tla_lex::{Kind, Place, Token};
 
-/// What a token opened, and what it still waits for, as it is written.
+/// What a token opened, and the text of the token that closes it.
 #[derive(Clone, Copy, Debug)]
 pub struct Open {
     pub token: Token,
@@ -62,7 +62,7 @@ pub fn is_closed_by(wanted: &str, kind: Kind) -> bool {
     }
 }
 
-/// Takes up one token more. The only error is out of memory.
+/// Takes one more token. The only error is that memory ran out.
 fn take_up(open: &mut Vec<Open>, token: Token) -> Result<(), AllocError> {
     if let Some(wanted) = wanted_after(token.kind) {
         open.push(Open { token, wanted })?;

@@ -2,7 +2,7 @@
 
 use crate::table::{Entry, entry_of};
 
-/// Characters of Unicode, each as it is written in ASCII.
+/// Characters of Unicode, each with its ASCII form.
 static SYMBOLS: [Entry; 45] = [
     ("∧", "/\\"),
     ("∨", "\\/"),
@@ -51,7 +51,7 @@ static SYMBOLS: [Entry; 45] = [
     ("\u{a0}", "a blank"),
 ];
 
-/// More characters of Unicode, each as it is written in ASCII.
+/// More characters of Unicode, each with its ASCII form.
 static MORE_SYMBOLS: [Entry; 25] = [
     ("⊂", "\\subseteq"),
     ("⇐", "=>, with the sides turned round"),
@@ -166,7 +166,7 @@ static LATEX: [Entry; 17] = [
     ),
 ];
 
-/// The characters of Unicode that are known, each as it is written in ASCII, in two tables.
+/// The characters of Unicode that are known, each with its ASCII form, in two tables.
 pub fn symbols() -> [&'static [(&'static str, &'static str)]; 2] {
     [&SYMBOLS, &MORE_SYMBOLS]
 }

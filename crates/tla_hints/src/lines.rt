@@ -35,7 +35,7 @@ fn start_of(text: &[u8], number: u64) -> Option<usize>
     (left == 0).then_some(start)
 }
 
-/// How many bytes stand before the first line feed.
+/// How many bytes come before the first line feed.
 fn len_of(text: &[u8]) -> usize
     ensures value { result ≡ prefix_len (λ b. not (is_line_feed b)) text.now }
     ensures within { result ≤ length text.now }

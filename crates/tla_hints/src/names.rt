@@ -13,8 +13,8 @@ pub struct Near {
     pub distance: usize,
 }
 
-/// The first of the names of a list to which the fewest edits lead, or none where the list is empty. The only error is
-/// want of memory.
+/// The first of the nearest names of a list, by the number of edits, or None if the list is empty. The only error is
+/// that memory ran out.
 pub fn nearest(alloc: Global, name: &str, known: &[&str]) -> Result<Option<Near>, AllocError>
     ensures one { IfOk result (λ o. MatchOption o (length known.now ≡ 0) (λ near. near.index < length known.now)) }
     ensures distance { IfOk result (λ o. MatchOption o (length known.now ≡ 0) (λ near. (d : Bor (List ℕ)) → near.distance ≡ distance name.now (slice_index_or known.now near.index d).now)) }

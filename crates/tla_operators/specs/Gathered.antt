@@ -10,7 +10,7 @@ use Rattle.tla_core.specs.Fault.{Outcome, ◌>>=◌, out_of_memory}
 use Rattle.tla_core.specs.Kinds.{make_set}
 use Rattle.tla_operators.specs.declared.gathered.Gathered.{Gathered}
 
--- how many different trees stand in a list
+-- how many different trees are in a list
 abbrev pub different : List Tree → ℕ
 different ts = length (set_of ts)
 

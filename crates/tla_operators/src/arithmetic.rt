@@ -86,7 +86,7 @@ fn natural_power(place: &Place, base: i64, exponent: u64) -> Result<Value, Troub
     }
 }
 
-/// A power so high that it lies within 64 bits for -1, 0 and 1 alone.
+/// A power whose exponent is so large that only the powers of -1, 0 and 1 are within 64 bits.
 fn high_power(place: &Place, base: i64, exponent: u64) -> Result<Value, Trouble<'_>>
     requires { 64 ≤ exponent }
     ensures { Gives result (number place.now (int_pow base exponent)) }

@@ -10,7 +10,7 @@ use crate::trouble::Trouble;
 use std::alloc::Global;
 use tla_value::Value;
 
-/// A value that stands in the expression or its environment, or one that was made.
+/// A value that is borrowed from the expression or its environment, or one that was made.
 #[derive(Drop)]
 pub enum Evaluated<'a> {
     Borrowed(&'a Value),

@@ -109,7 +109,7 @@ pub fn apply<'p, 'a>(
     }
 }
 
-/// The value of a function at an argument, lent.
+/// The value of a function at an argument, borrowed.
 #[tactic(auto, using(crate::proofs::Known::as_fun_known))]
 fn value_at<'p, 'a>(
     place: &'p Place,
@@ -146,7 +146,7 @@ pub fn field<'p, 'a>(
     }
 }
 
-/// The value of a record's field, lent.
+/// The value of a record's field, borrowed.
 #[tactic(auto, using(crate::proofs::Known::as_fun_known))]
 fn field_at<'p, 'a>(
     place: &'p Place,

@@ -17,7 +17,8 @@ use tla_value::{MAX_ELEMENTS, SetValue, Value};
 /// How many values are held at least before doubles are dropped.
 const LEAST_ROOM: usize = 1024;
 
-/// The different ones of some values. Of more than a set may have only so many are held that this is certain.
+/// The different ones of some values. If there are more than a set may have, only enough are kept to be certain of
+/// that.
 #[derive(Drop)]
 pub struct Gathered {
     values: Vec<Value>,
@@ -66,7 +67,7 @@ impl Gathered {
         Ok(())
     }
 
-    /// Drops doubles where there is no room left, and makes room for as many more values as are left.
+    /// Drops doubles if there is no room left. Then there is room for twice as many values as remain.
     #[tactic(auto, using(crate::proofs::Different::gathered_so))]
     fn make_room(&mut self)
         ensures { (ts : List Tree) → IsHeld ts (map tree_of self.old.values.items) → self.old.is_full ≡ false → self.old.room ≤ most_held ts → IsGathered ts self.new }

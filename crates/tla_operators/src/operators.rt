@@ -180,7 +180,7 @@ fn iff<'p>(place: &'p Place, left: &Value, right: &Value) -> Result<Value, Troub
     }
 }
 
-/// Whether the set of a kind has a value as a member: it has no value itself, and needs none here.
+/// Whether a value is a member of Nat, Int or STRING. These sets have no value themselves.
 pub fn kind_has<'p>(kind: Kind, value: &Value) -> Result<bool, Trouble<'p>>
     ensures { GivesTruth result (Ok (is_of_kind (kind_of kind) (tree_of value.now))) }
 {

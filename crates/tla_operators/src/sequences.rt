@@ -119,7 +119,7 @@ pub(crate) fn head<'p, 'a>(
     }
 }
 
-/// The first item, lent.
+/// The first item, borrowed.
 pub(crate) fn first_item<'p, 'a>(
     place: &'p Place,
     sequence: &'a Value,

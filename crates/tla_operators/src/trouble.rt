@@ -6,7 +6,7 @@ use std::alloc::{AllocError, AllocFailed};
 use std::marker::Model;
 use tla_core::{Fault, FaultCode, Place};
 
-/// A fault whose place is lent by the expression, so that it takes less room on its way to the caller.
+/// A fault whose place is borrowed from the expression, so that it takes less room on its way to the caller.
 #[derive(Drop)]
 pub struct Trouble<'p> {
     code: FaultCode,
@@ -32,7 +32,7 @@ pub fn fault_at(code: FaultCode, place: &Place) -> Trouble<'_>
     }
 }
 
-/// What is told where memory ran out.
+/// The fault that means that memory ran out.
 pub fn memory<'p>() -> Trouble<'p>
     ensures { result ≡ out_of_memory }
 {

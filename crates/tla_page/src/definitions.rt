@@ -6,7 +6,7 @@ use tla_hints::is_before;
 use tla_lex::Place;
 use tla_tree::{Definition, Unit, Written};
 
-/// The name of the definition in which a place stands; no text where it stands in none.
+/// The name of the definition that has a place in it, or the empty text.
 pub fn definition_at(units: &[Unit], place: Place) -> &str {
     match unit_at(units, place) {
         Some(unit) => start_of(unit).0,
@@ -14,7 +14,7 @@ pub fn definition_at(units: &[Unit], place: Place) -> &str {
     }
 }
 
-/// The parameters of the definition in which a place stands.
+/// The parameters of the definition that has a place in it.
 pub fn parameters_at(units: &[Unit], place: Place) -> &[Written] {
     match unit_at(units, place) {
         Some(
@@ -25,7 +25,7 @@ pub fn parameters_at(units: &[Unit], place: Place) -> &[Written] {
     }
 }
 
-/// The unit in which a place stands.
+/// The unit that has a place in it.
 fn unit_at(units: &[Unit], place: Place) -> Option<&Unit> {
     let mut found = None;
     for unit in units {

@@ -1,4 +1,4 @@
-//! The text that is told.
+//! The text of an explanation.
 
 use crate::codes::text_of;
 use crate::places::{Sources, source_name, source_text};
@@ -15,7 +15,7 @@ const LONGEST_LINE: usize = 500;
 /// How many bytes of a value are shown.
 const LONGEST_VALUE: usize = 160;
 
-/// The text that is told. Once memory was refused nothing more is added.
+/// The text of an explanation. Once memory ran out, nothing more is added.
 #[derive(Drop)]
 pub struct Page {
     bytes: Vec<u8>,
@@ -50,7 +50,7 @@ impl Page {
         self.bytes.is_empty()
     }
 
-    /// What was told. The only error is that memory was refused.
+    /// What was written. The only error is that memory ran out.
     pub fn told(&self) -> Result<&[u8], AllocError> {
         if self.refused {
             Err(AllocError)

@@ -6,7 +6,7 @@ use tla_config::Source;
 use tla_lex::{Place, Scan, Token, configuration_tokens, tokens};
 use tla_tree::slice_of;
 
-/// The names of the two files, as they are told.
+/// The names of the two files, as explanations write them.
 #[derive(Clone, Copy, Debug)]
 pub struct FileNames<'a> {
     pub module: &'a str,
@@ -37,7 +37,7 @@ pub fn source_text<'a>(sources: &Sources<'a>, source: Source) -> &'a [u8] {
     }
 }
 
-/// The tokens of a text; none where it has none.
+/// The tokens of a text, or no tokens if it is refused.
 pub fn tokens_of(alloc: Global, text: &[u8], source: Source) -> Vec<Token> {
     match source {
         Source::Module => match tokens(alloc, text) {

@@ -138,7 +138,7 @@ fn push<'a>(
     Ok(())
 }
 
-/// A name as it is written.
+/// The text of a name.
 pub fn text_of(written: &Written) -> &str {
     str::from_utf8(written.word.as_bytes()).unwrap_or("")
 }
@@ -156,7 +156,7 @@ pub fn put_assumption(page: &mut Page, units: &[Unit], number: u64) {
     }
 }
 
-/// The name of the assumption of a number, from 1; no text where it has none.
+/// The name of the assumption with a number, from 1; the empty text if it has no name.
 fn assumption_name(units: &[Unit], number: u64) -> &str {
     let mut left = number;
     for unit in units {

@@ -17,7 +17,7 @@ fn put_variable(page: &mut Page, name: &str, value: &Value) {
     page.put_text("\n");
 }
 
-/// Adds an argument as it is written after a function: `.field`, or `[argument]`.
+/// Adds an argument after a function, as `.field` or `[argument]`.
 pub fn put_key(page: &mut Page, key: &Value) {
     match key {
         Value::Text(field) if is_word(field.as_str().as_bytes()) => {

@@ -22,7 +22,7 @@ use tla_eval::Partial;
 use tla_sharing::{constant_in, shared, with_constant};
 use tla_value::Value;
 
-/// At most so many closed parts of an expression are kept.
+/// The greatest number of closed parts that are kept for an expression.
 const MOST_CONSTANTS: usize = 16;
 
 /// A set or a function with more parts isn't kept.
@@ -41,8 +41,8 @@ pub(crate) fn arranged<'m>(
     Ok(with_definitions(alloc, kept, names))
 }
 
-/// A code with uses of closed parts that were evaluated. One that has no value is left where it stands, with all that come
-/// after it: its fault comes where it is asked for.
+/// A code in which closed parts are replaced by uses of their values. It stops at the first closed part without a
+/// value, so that its fault is found at its place.
 fn with_constants<'m>(alloc: Global, code: Code<'m>, names: usize) -> Prepared<'m>
     ensures { prepared_expr result ≡ code_expr code.entry }
 {
@@ -143,7 +143,7 @@ fn outside_of(alloc: Global, constants: &[Constant<'_>]) -> Option<Vec<usize>>
     vec![in alloc; 0usize; constants.len()].ok()
 }
 
-/// The same code with definitions, if some are found.
+/// The same expression with a shared code, if sharing finds something.
 fn with_definitions<'m>(alloc: Global, kept: Prepared<'m>, names: usize) -> Prepared<'m>
     ensures { prepared_expr result ≡ prepared_expr kept.entry }
 {
@@ -156,7 +156,7 @@ fn with_definitions<'m>(alloc: Global, kept: Prepared<'m>, names: usize) -> Prep
     }
 }
 
-/// Its code with definitions.
+/// The shared code of an expression, if sharing finds something.
 fn defined<'m>(alloc: Global, kept: &Prepared<'m>, names: usize) -> Option<Code<'m>>
     ensures { IfSome result (λ c. expr_in (scope_with kept.now.constants.items) c ≡ prepared_expr kept.now) }
 {

@@ -30,7 +30,7 @@ pub(crate) fn known_lists<'a>(
     Ok(lists_of(alloc, place, sets)?)
 }
 
-/// The choice with a number of one member of each list; none where there are fewer choices.
+/// Choice `number` of one member from each list; None if there are fewer choices.
 pub(crate) fn known_choice(
     alloc: Global,
     lists: &[&[Value]],
@@ -41,21 +41,21 @@ pub(crate) fn known_choice(
     Ok(choice_at(alloc, lists, number)?)
 }
 
-/// Adds a value.
+/// Adds a value to those that are gathered.
 pub(crate) fn gather(values: &mut Gathered, value: Value) -> Result<(), Stop>
     ensures { OnOk result (Adds (tree_of value ∷ []) values.old values.new) }
 {
     Ok(values.add(value)?)
 }
 
-/// The set of the values that came.
+/// The set of the gathered values.
 pub(crate) fn gathered_set(place: &Place, values: Gathered) -> Result<Value, Stop>
     ensures { (ts : List Tree) → IsGathered ts values → Answers tree_of result (make_set place.now ts) }
 {
     Ok(values.into_set(place)?)
 }
 
-/// What a function on all choices from some values that are sets is defined on.
+/// The domain of a function over all choices from these sets.
 pub(crate) fn known_domain(
     alloc: Global,
     place: &Place,
@@ -70,7 +70,7 @@ pub(crate) fn known_domain(
     }
 }
 
-/// The same for one set.
+/// The domain for one set: its members.
 fn one_domain(alloc: Global, place: &Place, sets: &[Evaluated<'_>]) -> Result<SetValue, Stop>
     requires { length sets.now ≡ 1 }
     ensures { IfOk result (λ ts. (ys : List Tree) → AreForChoices place.now (map tree_of_evaluated sets.now) ys → (length ts ≡ length ys) × (function_rule place.now (map tree_of_evaluated sets.now) ys ≡ make_fun place.now (zip ts ys))) }
@@ -79,7 +79,7 @@ fn one_domain(alloc: Global, place: &Place, sets: &[Evaluated<'_>]) -> Result<Se
     Ok(domain)
 }
 
-/// The same for several sets.
+/// The domain for several sets: the tuples with one member of each.
 fn domain_of_several(alloc: Global, place: &Place, sets: &[Evaluated<'_>]) -> Result<SetValue, Stop>
     requires { length sets.now ≡ 1 → ⊥ }
     ensures { IfOk result (λ ts. (ys : List Tree) → AreForChoices place.now (map tree_of_evaluated sets.now) ys → (length ts ≡ length ys) × (function_rule place.now (map tree_of_evaluated sets.now) ys ≡ make_fun place.now (zip ts ys))) }

@@ -60,7 +60,7 @@ pub(crate) fn value<'m: 'a, 'a>(
     }
 }
 
-/// The same, for other forms.
+/// The value of a code of any other form.
 #[cycle(evaluate)]
 fn value_of_other<'m: 'a, 'a>(
     alloc: Global,
@@ -159,7 +159,7 @@ pub(crate) fn elements<'m: 'a, 'a>(
     }
 }
 
-/// The same, for a form with two operands.
+/// The elements of a set given by a form with two operands.
 #[cycle(evaluate)]
 fn elements_of_two<'m: 'a, 'a>(
     alloc: Global,
@@ -203,7 +203,7 @@ pub(crate) fn compares(form: TwoForm) -> bool {
     }
 }
 
-/// Whether the truth of a code is found without its value.
+/// Whether `truth` handles this form itself; otherwise it calls `value`.
 fn is_logical(code: &Code<'_>) -> bool {
     match code {
         Code::One(_, form, _) => is_not(*form),
@@ -224,7 +224,7 @@ fn is_not(form: OneForm<'_>) -> bool {
     }
 }
 
-/// Whether a code is asked for a member without its value.
+/// Whether membership in this form is decided without its value.
 fn is_asked(code: &Code<'_>) -> bool {
     match code {
         Code::Plain(_) => true,
@@ -239,7 +239,7 @@ fn is_asked(code: &Code<'_>) -> bool {
     }
 }
 
-/// Whether a form with two operands is asked for a member without its value.
+/// Whether membership in this form with two operands is decided without its value.
 fn is_asked_of_two(form: TwoForm) -> bool {
     match form {
         TwoForm::Functions | TwoForm::Cup | TwoForm::Cap | TwoForm::Minus => true,

@@ -31,7 +31,7 @@ impl<'m> Expression<'m> {
     ghost use Rattle.tla_core.specs.Meaning.{asks, elements};
     ghost use Rattle.tla_core.specs.Value.{val, mem, means};
 
-    /// An expression under so many bound names. The only error is that memory ran out.
+    /// An expression under `names` bound names. The only error is that memory ran out.
     pub fn new(alloc: Global, core: &'m Core, names: usize) -> Result<Expression<'m>, AllocError>
         ensures { IfOk result (λ e. e.core.now ≡ core.now) }
     {

@@ -11,14 +11,14 @@ use crate::constant::Constant;
 use tla_code::Code;
 use tla_value::Value;
 
-/// The closed parts, and inside them the values of the bound names: those of the caller, and then those of each form that
-/// binds. Between them, the definitions. `One` and `Many` have the number of names that are bound outside.
+/// The environment, a linked list from the innermost frame out: bound names (`One`, `Many`), let-bindings (`Defined`),
+/// and the closed parts (`Outer`). The `usize` of `One` and `Many` is the number of names that outer frames bind.
 #[derive(Clone, Copy)]
 pub(crate) enum Frame<'m, 'a> {
     Outer(&'a Vec<Constant<'m>>),
     One(&'a Frame<'m, 'a>, usize, &'a Value),
     Many(&'a Frame<'m, 'a>, usize, &'a [Value]),
-    /// The number of a definition, how many names are bound outside it, and its value where it is known.
+    /// The number of a definition, the number of names bound outside it, and its value, if known.
     Defined(&'a Frame<'m, 'a>, usize, usize, &'a Code<'m>, Option<&'a Value>),
 }
 
@@ -46,7 +46,7 @@ pub(crate) fn bound_name<'m: 'a, 'a>(frame: &'a Frame<'m, 'a>, index: usize) -> 
     }
 }
 
-/// A definition that is around: how many names are bound outside it, and its value where it is known.
+/// A definition in scope: the number of names bound outside it, and its value, if known.
 #[derive(Clone, Copy)]
 pub(crate) struct Found<'a> {
     pub(crate) names: usize,
@@ -63,7 +63,7 @@ fn kept_value<'m: 'a, 'a>(constants: &'a Vec<Constant<'m>>, number: usize) -> Op
     }
 }
 
-/// The closed part with a number, which is a definition under no names.
+/// Closed part `number`, as a definition in the empty scope.
 fn found_among<'m: 'a, 'a>(constants: &'a Vec<Constant<'m>>, number: usize) -> Option<Found<'a>>
     ensures { (frame : Frame) (s : Present) (t : Next) → bound_of frame ≡ [] → scope_of frame ≡ scope_with constants.now.items → IfSome result (λ f. IfSome f.value (λ v. IsDefinition frame s t number f.names (tree_of v.now))) }
 {
@@ -97,14 +97,14 @@ pub(crate) fn definition<'m: 'a, 'a>(frame: &'a Frame<'m, 'a>, number: usize) ->
     }
 }
 
-/// That nothing is known of a value.
+/// `None`, with the clause that it claims nothing of a value. It helps proofs.
 pub(crate) fn nothing_known<'a>() -> Option<&'a Value>
     ensures { (o : Outcome Tree) → IsKnown result o }
 {
     None
 }
 
-/// That a value is known.
+/// `Some(value)`, with the clause that this is the value. It helps proofs.
 pub(crate) fn just_known<'a>(value: &'a Value) -> Option<&'a Value>
     ensures { (o : Outcome Tree) → o ≡ Ok (tree_of value.now) → IsKnown result o }
 {

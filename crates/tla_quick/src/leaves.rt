@@ -67,7 +67,7 @@ fn next_value<'a>(next: &'a Partial, variable: usize) -> Result<&'a Value, Stop>
     }
 }
 
-/// The value of a definition, where it is used with the names that it is under and as many more as it says.
+/// The value of definition `number` at a use that is under `by` more names than the definition.
 pub(crate) fn used_value<'m: 'a, 'a>(
     number: usize,
     by: usize,
@@ -81,7 +81,7 @@ pub(crate) fn used_value<'m: 'a, 'a>(
     }
 }
 
-/// The value of a definition that was found, where as many names are bound as outside it and some more.
+/// The value of a definition that was found, if the use is under `by` more names than the definition.
 fn known_value<'a>(
     found: Found<'a>,
     number: usize,

@@ -37,7 +37,7 @@ use tla_sets::asked::{set_has, two_have};
 use tla_sets::elements::{Elements, chosen_at, elements_of_two, into_values, keep_at, members_of};
 use tla_value::{FunValue, SetValue, Value, ValueError};
 
-/// A value of its own, copied where it was lent.
+/// An owned value: a borrowed one is copied.
 pub(crate) fn owned(alloc: Global, value: Evaluated<'_>) -> Result<Value, Stop>
     ensures value { IfOk result (λ v. tree_of_evaluated value.entry ≡ tree_of v) }
     ensures told { (o : Outcome Tree) → o ≡ Ok (tree_of_evaluated value.entry) → Answers tree_of result o }
@@ -55,7 +55,7 @@ pub(crate) fn known_truth(value: &Value) -> Result<bool, Stop>
     }
 }
 
-/// How many names or definitions there are with some more.
+/// The sum of two numbers of names or definitions.
 pub(crate) fn count_more(count: usize, more: usize) -> Result<usize, Stop>
     ensures { IfOk result (λ n. n ≡ count + more) }
 {
@@ -114,7 +114,7 @@ pub(crate) fn made_of_two<'a>(
     }
 }
 
-/// The same, where nothing of the operands is lent.
+/// The value of any other form with two operands: it borrows nothing from them.
 fn made_of_values(
     alloc: Global,
     place: &Place,
@@ -257,7 +257,7 @@ pub(crate) fn made_product(
     Ok(tuples_with(alloc, place, values)?)
 }
 
-/// Whether a value stands in the set of others.
+/// Whether a value is one of these values.
 pub(crate) fn one_of_known(
     alloc: Global,
     place: &Place,
@@ -319,7 +319,7 @@ pub(crate) fn made_record(place: &Place, pairs: Vec<(Value, Value)>) -> Result<V
     Ok(made_fun(place, FunValue::from_pairs(pairs))?)
 }
 
-/// A value that is a function, copied where it was lent.
+/// An owned function: a borrowed one is copied.
 pub(crate) fn known_function(
     alloc: Global,
     place: &Place,

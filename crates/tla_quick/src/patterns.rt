@@ -1,4 +1,4 @@
-//! Elements that stand for their items.
+//! Elements that are replaced by their items.
 ghost use Rattle.std.specs.Prelude.{map};
 ghost use Rattle.tla_value.specs.TreeOf.{tree_of};
 ghost use Rattle.tla_core.specs.declared.fault.Place.{Place};
@@ -10,7 +10,7 @@ use crate::stop::Stop;
 use tla_operators::sequences::sequence_items;
 use tla_value::Value;
 
-/// The items of an element that is a sequence of so many items.
+/// The items of an element that is a sequence of `count` items.
 pub(crate) fn fitting<'a>(count: usize, element: &'a Value) -> Result<&'a [Value], Stop>
     ensures { (p : Place) → Answers (λ vs. map tree_of vs.now) result (fitting p count (tree_of element.now)) }
 {

@@ -3,7 +3,7 @@
 use std::alloc::{AllocError, AllocFailed};
 use tla_operators::trouble::Trouble;
 
-/// Why there is no answer: the value of the definition with a number isn't known, or anything else.
+/// Why there is no answer. `Needed(n)`: definition n must be evaluated first. `Unknown`: give up.
 #[derive(Clone, Copy)]
 pub(crate) enum Stop {
     Unknown,
@@ -34,7 +34,7 @@ impl<'p> From<Trouble<'p>> for Stop {
     }
 }
 
-/// Goes on where an evaluation stopped at the definition with a number.
+/// Ok if the evaluation stopped because it needs `definition`; any other stop is returned.
 pub(crate) fn needs(stop: Stop, definition: usize) -> Result<(), Stop> {
     match stop {
         Stop::Needed(number) => {

@@ -56,7 +56,7 @@ cannot_write name = codes "tlacheck: cannot write " ++ (name ++ codes "\n")
 abbrev pub unwritten_report : List ℕ
 unwritten_report = codes "tlacheck: cannot write the report\n"
 
--- ---- what a line comes to
+-- ---- a run on a line
 
 -- the bytes of files by their names, where they are known
 abbrev pub Files : Type 0
@@ -78,7 +78,7 @@ pub record IsCheckOf (files : Files) (line : Line) (checked : Checked) : Type 0 
 abbrev pub AsksFor : Line → Text → Type 0
 AsksFor line name = (option_map (λ file. file.now) line.json ≡ Some name) ⊎ (option_map (λ file. file.now) line.dot ≡ Some name)
 
--- what a run on a line comes to
+-- what a run on a line writes, and its status
 pub data ComesTo (files : Files) (line : Line) (out err : Writing) (status : ℕ) : Type 0 where
   -- The first writer got the report of what is right of the two files, and the status is its status. Under `--quiet` the
   -- second got nothing.
@@ -95,9 +95,9 @@ pub data ComesTo (files : Files) (line : Line) (out err : Writing) (status : ℕ
   uncreated : (name : Text) → AsksFor line name → GetsNothing out → Says line.quiet err (cannot_write name) [] → status ≡ 21
       → ComesTo files line out err status
 
--- ---- what a run comes to
+-- ---- a run on words
 
--- what a run on these words comes to
+-- what a run on these words writes, and its status
 pub data IsRun (words : List Text) (files : Files) (out err : Writing) (status : ℕ) : Type 0 where
   -- the words mean a line
   on_line : (line : Line) → MeanLine words line → ComesTo files line out err status → IsRun words files out err status

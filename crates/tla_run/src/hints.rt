@@ -112,8 +112,7 @@ pub fn hint_at_lacking_word<H: Host, E: Write>(
     }
 }
 
-/// The hint at NAME.cfg, where a word behind the program's name is NAME.tla, or NAME alone, and both
-/// files can be opened.
+/// The hint at NAME.cfg, if a word after the program's name is NAME.tla, or NAME alone, and both files can be opened.
 fn configuration<H: Host>(alloc: Global, host: &H, words: &[&str]) -> Option<String> {
     for word in words.iter().skip(1) {
         let name = word.strip_suffix(".tla").unwrap_or(word);

@@ -17,7 +17,7 @@ use std::alloc::Global;
 use std::io::Write;
 use tla_line::{LineFault, NoLine, is_quiet};
 
-/// Says why the words name no line, and what helps unless they ask for quiet.
+/// Says why the words are no command line, and, unless they ask for quiet, what helps.
 pub fn complain<H: Host, E: Write>(
     alloc: Global,
     host: &H,

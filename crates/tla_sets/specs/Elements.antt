@@ -32,6 +32,6 @@ has_rule p v o = do
   x ← o
   contains_rule p x v
 
--- whether a value stands in the set of some values
+-- whether a value is in the set of some values
 abbrev pub stands_rule : Place → List Tree → Tree → Outcome Bool
 stands_rule p vs v = has_rule p v (make_set p vs)

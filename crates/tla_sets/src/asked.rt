@@ -138,7 +138,7 @@ fn nesting_of(value: &Evaluated<'_>) -> u64
     value.value().nesting()
 }
 
-/// Whether a value stands among others.
+/// Whether a value is one of others.
 fn stands_in(values: &[Evaluated<'_>], value: &Value) -> bool
     ensures { result ≡ is_member (tree_of value.now) (map tree_of_evaluated values.now) }
 {

@@ -50,7 +50,7 @@ pub fn member_of<'a>(list: &'a [Value], number: usize) -> Option<&'a Value>
     list.get(number)
 }
 
-/// The member of a list at a number, counted round and round.
+/// The member of a list at a number, modulo the list's length.
 fn member_at(list: &[Value], number: usize) -> &Value
     requires { 0 < length list.now }
     ensures { result.now ≡ slice_index_or list.now (number % length list.now) result.now }

@@ -1,4 +1,4 @@
-//! The elements of a set that is only gone over: a range is not made.
+//! The elements of a set that is only visited. A range is not built.
 ghost use Rattle.std.specs.Prelude.{◌≡◌, ◌++◌, Ok, map, cond, option_map, slice_get, IfOk, IfErr, OnOk};
 ghost use Rattle.std.specs.Option.{option_to_list};
 ghost use Rattle.tla_value.specs.Tree.{int, set, trees};
@@ -23,7 +23,7 @@ use tla_operators::sets::members;
 use tla_operators::trouble::{Trouble, fault_at, memory};
 use tla_value::{MAX_ELEMENTS, SetValue, Value};
 
-/// The elements of a set, rising: members that are lent, those of a set that was made, or the numbers from one to another.
+/// The elements of a set, rising: borrowed members, those of a set that was made, or the numbers from one to another.
 #[derive(Drop)]
 pub enum Elements<'a> {
     Lent(&'a [Value]),
@@ -121,7 +121,7 @@ pub fn element_at<'e>(elements: &'e Elements<'e>, number: usize) -> Option<Evalu
     }
 }
 
-/// The value at a place, lent, where there is one.
+/// The value at an index, borrowed, if there is one.
 fn lent_at<'e>(values: &'e [Value], number: usize) -> Option<Evaluated<'e>>
     ensures { option_map tree_of_evaluated result ≡ slice_get (map tree_of values.now) number }
 {
@@ -161,7 +161,7 @@ fn number_at(low: i64, high: i64, number: usize) -> Option<i64>
     }
 }
 
-/// The element with a number, as a value of its own. That there is none is what CHOOSE tells.
+/// The element with a number, as a value of its own. If there is none, that is the fault of CHOOSE.
 pub fn chosen_at<'p, 'e>(
     alloc: Global,
     place: &'p Place,

@@ -75,7 +75,7 @@ fn is_name_of(name: &Text, fields: &[(Text, Core)]) -> bool
     false
 }
 
-/// Whether no name stands twice.
+/// Whether no name occurs twice.
 fn are_different(fields: &[(Text, Core)]) -> bool
     ensures { result ≡ is_each_once (keys_of (fields_of_cores fields.now)) }
 {
@@ -97,7 +97,7 @@ fn is_name(argument: &Value, name: &Text) -> bool
     }
 }
 
-/// Where a name stands among some values, counted from 0.
+/// The position of a name among some values, counted from 0.
 fn name_place(values: &[Value], name: &Text) -> Option<usize>
     ensures some { IfSome result (λ i. slice_get (map tree_of values.now) i ≡ Some (text name.now)) }
     ensures none { IfNone result (is_member (text name.now) (map tree_of values.now) ≡ false) }

@@ -1,4 +1,4 @@
-//! Which part of an expression becomes a definition. Nothing rests on the choice but time.
+//! Which part of an expression becomes a definition. The choice affects only time.
 
 use crate::copies::is_copy;
 use crate::declined::Declined;
@@ -13,8 +13,8 @@ use std::alloc::Global;
 use tla_code::{Code, is_steady};
 use tla_value::Text;
 
-/// Where a definition is looked for: in an expression under `names` names, where `outside` are bound outside each definition
-/// around it.
+/// A search for a part to define, in an expression under `names` bound names. `outside` has, for each definition in
+/// scope, the number of names bound outside it.
 #[derive(Clone, Copy)]
 pub(crate) struct Search<'o, 'm> {
     pub(crate) whole: &'o Code<'m>,
@@ -23,8 +23,8 @@ pub(crate) struct Search<'o, 'm> {
     pub(crate) wanted: Wanted,
 }
 
-/// What is looked for: a part under forms that bind names on which it doesn't depend, or one that occurs twice. Copies are
-/// looked for in all of the expression, or only side by side. Or a closed part with more nodes than so many.
+/// What is searched for. `Copies`: a part that occurs twice, or that can be moved out of a binder, anywhere in the
+/// expression. `CopiesNearby`: only among siblings. `Closed(n)`: a closed part of more than n nodes.
 #[derive(Clone, Copy)]
 pub(crate) enum Wanted {
     Copies,
@@ -50,7 +50,7 @@ pub(crate) fn chosen<'m>(
     chosen_inside(alloc, code, spot, search)
 }
 
-/// The same, among the operands.
+/// The same, searched for in the operands.
 #[cycle(choose)]
 fn chosen_inside<'m>(
     alloc: Global,
@@ -89,7 +89,7 @@ fn chosen_inside<'m>(
     }
 }
 
-/// The same, for forms with a list of operands.
+/// The same, searched for in the operands of a form with a list of them.
 #[cycle(choose)]
 fn chosen_in_lists<'m>(
     alloc: Global,
@@ -261,7 +261,7 @@ fn chosen_of_updates<'m>(
     None
 }
 
-/// How many copies of a definition an expression has, where a definition is worth it.
+/// The number of copies of a definition in an expression, not counting those that are cheap to evaluate.
 #[cycle(find)]
 fn copies_in<'m>(
     code: &Code<'m>,
@@ -284,7 +284,7 @@ fn copies_in<'m>(
     copies_inside(code, spot, definition, search)
 }
 
-/// How many its operands have.
+/// The number of copies in the operands of an expression.
 #[cycle(find)]
 fn copies_inside<'m>(
     code: &Code<'m>,
@@ -323,7 +323,7 @@ fn copies_inside<'m>(
     }
 }
 
-/// The same, for forms with a list of operands.
+/// The number of copies in the operands of a form with a list of them.
 #[cycle(find)]
 fn copies_in_lists<'m>(
     code: &Code<'m>,

@@ -12,11 +12,11 @@ use crate::replaced::{Target, replaced};
 use std::alloc::Global;
 use tla_code::{Code, is_steady};
 
-/// So often a larger closed part is looked for.
+/// The greatest number of attempts to find a larger closed part.
 const MOST_SEARCHES: usize = 64;
 
-/// A closed part of an expression under so many names that makes a set or a function, or visits one: the largest, so that no
-/// other has it as a part. The part is as it is under no names.
+/// The largest closed part of an expression under `names` bound names that makes or visits a set or a function. It is
+/// returned as it would be under no names.
 pub fn constant_in<'m>(alloc: Global, code: &Code<'m>, names: usize) -> Option<Code<'m>>
     ensures { IfSome result (λ c. IsClosed c) }
 {
@@ -40,7 +40,7 @@ fn largest_in<'m>(alloc: Global, code: &Code<'m>, names: usize) -> Option<Code<'
     largest
 }
 
-/// A part with more nodes than so many that may be one.
+/// A closed part of more than `least` nodes, or None.
 fn larger_in<'m>(alloc: Global, code: &Code<'m>, names: usize, least: usize) -> Option<Code<'m>> {
     let search = Search {
         whole: code,
@@ -51,8 +51,9 @@ fn larger_in<'m>(alloc: Global, code: &Code<'m>, names: usize, least: usize) -> 
     chosen(alloc, code, positioned(names, Reading::Value), search)
 }
 
-/// An expression under so many names with uses of a definition that is under none in the place of all copies. `outside` has how
-/// many names are bound outside each definition that is already around it. None where it is left as it is.
+/// An expression under `names` bound names, in which all copies of a definition under no names are replaced by uses.
+/// `outside` has, for each definition in scope, the number of names bound outside it. None: the expression is left
+/// unchanged.
 pub fn with_constant<'m>(
     alloc: Global,
     code: &Code<'m>,

@@ -2,7 +2,7 @@
 
 use std::alloc::{AllocError, AllocFailed};
 
-/// Memory ran out, or the expression is left as it is.
+/// Memory ran out, or the expression stays unchanged.
 pub(crate) struct Declined;
 
 impl From<AllocError> for Declined {

@@ -14,14 +14,14 @@ use std::alloc::Global;
 use tla_code::Code;
 use tla_value::Text;
 
-/// At most so many definitions are around one another.
+/// The greatest number of definitions inside one another.
 const MOST_AROUND: usize = 64;
 
-/// More calls follow one another in no expression of the greatest depth.
+/// A bound on recursion that no expression within the depth limit reaches.
 const MOST_CALLS: usize = 100_000;
 
-/// Where a pass is: under how many names, with how many names outside each definition around it, and how many more calls may
-/// follow one another.
+/// The position of the pass: the number of bound names, the number of names bound outside each definition in scope, and
+/// how many nested calls are left.
 #[derive(Clone, Copy)]
 struct Spot<'o> {
     names: usize,
@@ -29,7 +29,7 @@ struct Spot<'o> {
     calls: usize,
 }
 
-/// The same place under more names, one call further.
+/// The same context under more names, one call deeper.
 fn under<'o>(spot: Spot<'o>, more: usize) -> Result<Spot<'o>, Declined>
     ensures { IfOk result (λ s. (s.outside.now ≡ spot.entry.outside.now) × (s.calls + 1 ≡ spot.entry.calls)) }
 {
@@ -46,7 +46,7 @@ fn under<'o>(spot: Spot<'o>, more: usize) -> Result<Spot<'o>, Declined>
     })
 }
 
-/// The numbers of names outside, with one more.
+/// The list `outside`, with one number of names appended.
 fn one_more(alloc: Global, outside: &[usize], names: usize) -> Result<Vec<usize>, Declined>
     ensures { IfOk result (λ v. v.items ≡ outside.now ++ names ∷ []) }
 {
@@ -55,9 +55,9 @@ fn one_more(alloc: Global, outside: &[usize], names: usize) -> Result<Vec<usize>
     Ok(longer)
 }
 
-/// The expression with definitions for parts that occur several times, or that don't depend on names that are bound around
-/// them. It stands under so many names, and `outside` has how many are bound outside each definition that is already around it.
-/// None where it is left as it is: memory ran out, say.
+/// The expression in which parts that occur several times, or that don't depend on the names bound around them, are
+/// definitions. It is under `names` bound names; `outside` has, for each definition in scope, the number of names bound
+/// outside it. None: the expression is left unchanged, for example because memory ran out.
 pub fn shared<'m>(
     alloc: Global,
     code: &Code<'m>,
@@ -77,7 +77,7 @@ pub fn shared<'m>(
     }
 }
 
-/// What is worth a definition around an expression.
+/// The part of an expression that is worth a definition around it.
 fn definition_of<'m>(alloc: Global, code: &Code<'m>, spot: Spot<'_>) -> Option<Code<'m>> {
     if spot.outside.len() >= MOST_AROUND {
         return None;
@@ -107,7 +107,7 @@ fn shared_body<'m>(alloc: Global, code: &Code<'m>, spot: Spot<'_>) -> Result<Cod
     }
 }
 
-/// A body with one definition more around it, if it uses that.
+/// A body with one more definition around it, if it uses that.
 #[cycle(share)]
 fn defined<'m>(
     alloc: Global,
@@ -133,7 +133,7 @@ fn defined<'m>(
     Ok(Code::Let(next.names, is_needed, definition, inner))
 }
 
-/// A body inside one definition more, in a box.
+/// A body inside another definition, in a box.
 #[cycle(share)]
 fn boxed_inside<'m>(
     alloc: Global,

@@ -6,14 +6,14 @@ use tla_code::Code;
 use tla_core::{Core, Opening};
 use tla_value::Text;
 
-/// The names between `from` and `from + by` are to go.
+/// The names from `from` on, up to `from + by`, are removed.
 #[derive(Clone, Copy)]
 pub(crate) struct Gap {
     pub(crate) from: usize,
     pub(crate) by: usize,
 }
 
-/// A name's number without the gap. A name of the gap has none.
+/// The number of a name once the gap is closed. A name of the gap has none.
 fn lowered_name(index: usize, gap: Gap) -> Result<usize, Declined> {
     if index < gap.from {
         return Ok(index);

@@ -1,4 +1,4 @@
-//! What is worth a definition, and which definitions are surely used. Nothing rests on these but time.
+//! What is worth a definition, and which definitions are surely used. This affects only time.
 
 use tla_code::{BinderForm, Code, FieldForm, ListForm, OneForm, ThreeForm, TwoForm};
 use tla_core::{Binary, Opening, Unary};
@@ -96,7 +96,7 @@ fn sum(one: usize, other: usize) -> usize {
     one.saturating_add(other)
 }
 
-/// Whether the value of an expression surely needs that of the definition with a number, unless it has none.
+/// Whether the value of an expression, if it has one, always needs the value of the definition with this number.
 #[cycle(need)]
 pub(crate) fn needs(code: &Code<'_>, number: usize) -> bool {
     match code {

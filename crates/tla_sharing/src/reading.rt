@@ -1,20 +1,20 @@
-//! What an expression is evaluated for: a set that is only asked for members isn't made. Nothing rests on it but time.
+//! How the value of an expression is used: a set that is only tested for members isn't made. Only time depends on it.
 
 use crate::measures::is_dear;
 use tla_code::{BinderForm, Code, FieldForm, ListForm, OneForm, ThreeForm, TwoForm};
 use tla_core::Binary;
 
-/// What is asked of an expression.
+/// How the value of an expression is used.
 #[derive(Clone, Copy)]
 pub(crate) enum Reading {
     Value,
-    /// Whether it has a member. Some forms are asked for that without their value.
+    /// For membership tests. Some forms decide them without their value.
     Members,
-    /// Its members, one after the other. A range isn't made for them.
+    /// To iterate over its elements. A range isn't made for that.
     Elements,
 }
 
-/// Where a part stands: how many names are bound around it since, and what is asked of it.
+/// The position of a part: the number of names bound between the whole and the part, and how its value is used.
 #[derive(Clone, Copy)]
 pub(crate) struct Position {
     pub(crate) by: usize,
@@ -25,7 +25,7 @@ pub(crate) fn positioned(by: usize, reading: Reading) -> Position {
     Position { by, reading }
 }
 
-/// The same place, for something else.
+/// The same position, with another use of the value.
 pub(crate) fn read_for(spot: Position, reading: Reading) -> Position {
     Position {
         by: spot.by,
@@ -41,7 +41,7 @@ pub(crate) fn under(spot: Position, more: usize) -> Position {
     }
 }
 
-/// Whether an expression is worth a definition where it stands.
+/// Whether an expression, at its position, is worth a definition.
 pub(crate) fn is_candidate(code: &Code<'_>, reading: Reading) -> bool {
     match reading {
         Reading::Value => is_dear(code),
@@ -50,7 +50,7 @@ pub(crate) fn is_candidate(code: &Code<'_>, reading: Reading) -> bool {
     }
 }
 
-/// Whether a form is asked for a member without its value.
+/// Whether membership in this form is decided without its value.
 fn is_asked(code: &Code<'_>) -> bool {
     match code {
         Code::One(_, form, _) => matches!(form, OneForm::Power | OneForm::Sequences),

@@ -1,4 +1,4 @@
-//! Copies of a definition give way to uses of it.
+//! Replaces copies of a definition by uses of it.
 ghost use Rattle.std.specs.Prelude.{IfOk};
 ghost use Rattle.std.specs.List.{AllZip};
 ghost use Rattle.tla_sharing.specs.Private.Copies.{Replaces, FieldReplaces, UpdateReplaces};
@@ -37,7 +37,8 @@ fn place_of(code: &Code<'_>) -> Option<Place> {
     }
 }
 
-/// The expression with each copy of the definition replaced by a use, where `by` names are bound since.
+/// The expression with each copy of the definition replaced by a use. `by` names are bound between the definition and
+/// the expression.
 #[cycle(replace)]
 pub(crate) fn replaced<'t, 'm>(
     alloc: Global,
@@ -61,7 +62,7 @@ pub(crate) fn replaced<'t, 'm>(
     replaced_within(alloc, code, by, target)
 }
 
-/// The same, for an expression that is no copy itself.
+/// The expression, no copy itself, with copies inside it replaced.
 #[cycle(replace)]
 fn replaced_within<'t, 'm>(
     alloc: Global,

@@ -1,4 +1,4 @@
-//! Where a copy stands, seen from its original.
+//! The position of a copy relative to its original.
 ghost use Rattle.std.specs.Prelude.{◌≡◌, IsTrue, ℕ};
 ghost use Rattle.tla_core.specs.ExprOf.{expr_of};
 ghost use Rattle.tla_core.specs.Expr.{Expr};
@@ -10,8 +10,8 @@ ghost use Rattle.tla_sharing.specs.Private.Copies.{IsUse};
 use tla_code::OneForm;
 use tla_core::{Core, Opening};
 
-/// The original is under `from` names, and its copy under `by` names more. `outside` has the number of names that are
-/// bound outside each definition around both.
+/// The original is under `from` names, and its copy under `by` more. `outside` has, for each definition around both,
+/// the number of names that are bound outside it.
 #[derive(Clone, Copy)]
 pub(crate) struct Shift<'o> {
     pub(crate) from: usize,
@@ -81,7 +81,8 @@ pub(crate) fn is_same_form(one: &OneForm<'_>, other: &OneForm<'_>) -> bool
     }
 }
 
-/// Whether a use under `since` names is the copy of one under `names`, where `outside` names are bound around the definition.
+/// Whether a use under `since` names is a copy of a use under `names`, for a definition with `outside` names bound
+/// outside it.
 pub(crate) fn is_use(outside: usize, names: usize, since: usize, from: usize, by: usize) -> bool
     ensures { IsTrue result → IsUse outside names since from by }
 {

@@ -76,7 +76,7 @@ fn gather_at(
     }
 }
 
-/// Adds a part, where it isn't there yet.
+/// Adds a part, unless it is there already.
 fn add(place: Place, within: Option<Place>, parts: &mut Vec<ActionPart>) -> Result<(), AllocError> {
     let part = ActionPart { place, within };
     if !parts.contains(&part) {
@@ -85,9 +85,9 @@ fn add(place: Place, within: Option<Place>, parts: &mut Vec<ActionPart>) -> Resu
     Ok(())
 }
 
-/// Which conjunct of a conjunction leads on to its parts: the only one with next values that is a
-/// disjunction or a `\E`, or has one that leads on. Where there is none of these, it is the only
-/// one with next values, if another definition has it.
+/// Which conjunct of a conjunction has the parts: the only one with next values that is a disjunction or a `\E`, or
+/// that contains such a conjunct. If there is none, it is the only one with next values, if that belongs to another
+/// definition.
 pub(crate) fn leading(place: Place, conjuncts: &[Core], starts: &[Place]) -> Option<usize> {
     match only(conjuncts, true) {
         Found::One(index) => Some(index),

@@ -219,7 +219,7 @@ fn add_reason<'a>(
     Ok(())
 }
 
-/// Finds why the first part that leads on from none of the states before it does so.
+/// Finds the first conjunct that leaves no state, and why.
 #[cycle(stop)]
 fn stop_in_turn<'a>(
     parts: &'a [Core],
@@ -275,7 +275,7 @@ fn stop_in_each<'a>(
     Ok(())
 }
 
-/// Finds why the arm that is taken leads to no state; false where no condition is TRUE.
+/// Finds why the arm that is taken gives no state; false if no condition is TRUE.
 #[cycle(stop)]
 fn stop_in_arm<'a>(
     arms: &'a [(Core, Core)],

@@ -192,8 +192,8 @@ fn find_in_value<'a>(
     }
 }
 
-/// Follows the path of each update into the old value. Behind the first update, only the first step
-/// of a path is followed, since the first one may have changed what comes after it.
+/// Follows the path of each update into the old value. Of all updates but the first, it follows only the first step of
+/// the path, since the first update may have changed what comes after.
 #[cycle(values)]
 fn find_in_updates<'a>(
     updates: &'a [(Vec<Core>, Core)],
@@ -245,7 +245,7 @@ fn follow<'a>(
     Ok(true)
 }
 
-/// Adds an update, where none of its EXCEPT is there yet.
+/// Adds an update, unless one of the same EXCEPT was added already.
 fn add<'a>(
     except: &'a Core,
     function: Value,

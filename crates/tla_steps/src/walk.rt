@@ -9,8 +9,8 @@ use tla_value::{State, Value};
 
 /// The present state, the values of the bound names, and how many evaluations are left.
 ///
-/// The only error of its calls is that memory ran out. None is the answer where the evaluation
-/// faults, or where none is left.
+/// The only error of its calls is that memory ran out. They return None if the evaluation faults, or if no evaluation
+/// is left.
 #[derive(Drop)]
 pub(crate) struct Walk<'a> {
     alloc: Global,
@@ -181,7 +181,7 @@ impl<'a> Walk<'a> {
         }
     }
 
-    /// Counts an evaluation; false where none is left.
+    /// Counts an evaluation; false if none is left.
     fn spend(&mut self) -> bool {
         if self.budget == 0 {
             return false;
@@ -191,7 +191,7 @@ impl<'a> Walk<'a> {
     }
 }
 
-/// What an evaluation answers; none where it faults.
+/// The result of an evaluation; None if it faults.
 fn unless_faulty<T: Drop>(answer: Result<T, Fault>) -> Result<Option<T>, Fault> {
     match answer {
         Ok(value) => Ok(Some(value)),

@@ -57,7 +57,7 @@ fn nth_in_turn(binders: &[Binder], nth: usize) -> Option<&Written> {
     None
 }
 
-/// The nth name of binders, where the names of patterns are bound behind all others.
+/// The nth name of binders. The names of patterns are bound after all others.
 fn nth_of_elements(binders: &[Binder], nth: usize) -> Option<&Written> {
     let mut left = nth;
     for patterns in [false, true] {
@@ -133,12 +133,12 @@ fn stands_alone(before: Kind, behind: Kind) -> bool {
     begins_entry(before) && ends_name(behind)
 }
 
-/// Whether a name that is bound, or a pattern, may stand behind a token.
+/// Whether a bound name, or a pattern, may follow a token.
 fn begins_entry(before: Kind) -> bool {
     before == Kind::Exists || before == Kind::ForAll || before == Kind::Comma
 }
 
-/// Whether a token stands behind a name that is bound.
+/// Whether a token may follow a bound name.
 fn ends_name(behind: Kind) -> bool {
     behind == Kind::Comma || behind == Kind::Member
 }

@@ -31,7 +31,7 @@ pub(crate) enum Spot {
 pub(crate) enum Change<'a> {
     /// It has another value.
     Other(&'a Value, &'a Value),
-    /// The set has one member more.
+    /// The set gained a member.
     Gained(&'a Value),
     /// The set has one member less.
     Lost(&'a Value),

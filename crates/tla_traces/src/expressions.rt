@@ -6,8 +6,7 @@ use tla_lex::Place;
 use tla_page::places::token_place;
 use tla_tree::{Arm, Binder, Definition, Expr, Field, Infix, Key, Unit, Update};
 
-/// What is looked for: an expression with this place and this sign; no text stands for a name, a
-/// number or a string.
+/// What is looked for: an expression with this place and this sign. The empty text means a name, a number or a string.
 #[derive(Clone, Copy)]
 struct Wanted<'a> {
     place: Place,

@@ -6,7 +6,7 @@ use tla_model::Model;
 use tla_page::places::Sources;
 use tla_tree::Unit;
 
-/// What an answer is told with.
+/// What the explanation of an answer needs.
 #[derive(Clone, Copy)]
 pub struct Telling<'a> {
     pub sources: &'a Sources<'a>,

@@ -1,4 +1,4 @@
-//! The operator or form of an expression, as it is written.
+//! The text of an expression's operator or form.
 
 use tla_core::{Binary, Core, Kind, Unary};
 use tla_tree::{Brackets, Bullet, Constant, Expr, Infix, Prefix, Quantifier, Written};

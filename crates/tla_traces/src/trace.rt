@@ -103,7 +103,7 @@ fn put_maker(page: &mut Page, telling: &Telling<'_>, maker: &Taken) {
     }
 }
 
-/// Adds the name of the definition in which a part stands, and its line.
+/// Adds the name of the definition that a part is in, and its line.
 pub fn put_part(page: &mut Page, telling: &Telling<'_>, place: Place) {
     let name = definition_at(telling.units, token_place(place));
     page.put(&[name, " (line "]);

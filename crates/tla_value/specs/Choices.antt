@@ -60,7 +60,7 @@ fields_fit fs _ = false
 abbrev pub records_of : List (List ℕ × List Tree) → List Tree
 records_of fs = filter (fields_fit fs) (functions_of (set_of (keys_of fs)) (flat_map (λ (f : List ℕ × List Tree). f.1) fs))
 
--- whether no tree of a list stands in it twice
+-- whether no tree is in a list twice
 abbrev pub is_each_once : List Tree → Bool
 is_each_once [] = true
 is_each_once (t ∷ ts) = not (is_member t ts) && is_each_once ts

@@ -9,7 +9,7 @@ use Rattle.tla_value.specs.declared.error.ValueError.{ValueError}
 use Rattle.tla_value.specs.declared.set.TheConstants.{MAX_ELEMENTS, MAX_NESTING}
 use Rattle.tla_value.specs.declared.error.ValueError.TheVariants.{TooMany, TooDeep, Memory}
 
--- whether a tree stands in a list
+-- whether a tree is in a list
 abbrev pub is_member : Tree → List Tree → Bool
 is_member t ts = list_any (tree_eq t) ts
 

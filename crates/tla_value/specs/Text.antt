@@ -24,7 +24,7 @@ quoted s = codes "\"" ++ (flat_map escaped s ++ codes "\"")
 abbrev pub joined : List ℕ → List (List ℕ) → List ℕ
 joined separator texts = join_by (λ s. s) separator texts
 
--- a list of texts: what opens it, what stands between two, and what closes it
+-- a list of texts: what opens it, what separates two, and what closes it
 abbrev pub listed : (opening separator closing : List ℕ) → List (List ℕ) → List ℕ
 listed opening separator closing texts = opening ++ (joined separator texts ++ closing)
 

@@ -1,5 +1,6 @@
--- What a tree feeds a hasher: its kind, unless it is a number, and then what it holds. A set and a function feed one word, the hash of their parts:
--- of a function each argument and its value, pair by pair, without the arguments that are the number behind the one before.
+-- What a tree writes to a hasher: its kind, unless it is a number, and then its contents. A set and a function write
+-- one word, the hash of their parts. For a function these are the arguments and their values, pair by pair, without
+-- each argument that is the number after the argument before.
 use Rattle.std.specs.Prelude.{ℕ, ◌++◌, [], fold, Bool, false, pos, ◌+ℤ◌, if◌then◌else◌}
 use Rattle.std.specs.Ordering.{int_eq}
 use Rattle.std.specs.Hash as fed
@@ -11,12 +12,12 @@ use Rattle.tla_value.specs.Tree.{Tree, Trees, Pairs, truth, int, text, model, se
 unfoldable pub word_of : HashWrites → ℕ
 word_of ws = folding.finish (fold folding.write folding.initial ws)
 
--- whether a tree is the number behind another
+-- whether a tree is the number after another
 abbrev pub is_next : Tree → Tree → Bool
 is_next (int x) (int y) = int_eq (x +ℤ pos 1) y
 is_next _ _ = false
 
--- the writes of an argument behind another
+-- the writes of an argument that comes after another
 abbrev pub unless_next : Tree → Tree → HashWrites → HashWrites
 unless_next a b ws = if is_next a b then [] else ws
 
@@ -37,7 +38,7 @@ abbrev mutual
   pairs_writes no_pairs = []
   pairs_writes (more_pairs a v ps) = tree_writes a ++ (tree_writes v ++ writes_behind a ps)
 
-  -- the pairs behind an argument
+  -- the writes of the pairs that come after an argument
   pub writes_behind : Tree → Pairs → HashWrites
   writes_behind a no_pairs = []
   writes_behind a (more_pairs b v ps) = unless_next a b (tree_writes b) ++ (tree_writes v ++ writes_behind b ps)

@@ -1,4 +1,4 @@
-// Copies of values. They share what the values hold, so that each costs one count.
+// Copies of values. They share what the values hold, so a copy only adds 1 to a reference count.
 ghost use Rattle.std.specs.Prelude.{◌≡◌, length, map, zip, IfOk, IfErr};
 ghost use Rattle.std.specs.List.Sorted.{IsStrictlySortedBy};
 ghost use Rattle.tla_value.specs.Tree.{fun, pairs};

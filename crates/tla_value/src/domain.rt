@@ -1,4 +1,4 @@
-// What functions are given on: numbers that follow one another, or the members of a set.
+// The domains of functions: consecutive numbers, or the members of a set.
 ghost use Rattle.std.specs.Prelude.{◌≡◌, ◌+◌, ◌<◌, ◌≤◌, ◌+ℤ◌, pos, max, true, false, length, map, slice_get, Some, IfSome, IfNone, IfOk, IfErr};
 ghost use Rattle.tla_value.specs.Tree.{deepest_pair, int, pairs};
 ghost use Rattle.tla_value.specs.TreeOf.{tree_of};
@@ -14,7 +14,7 @@ use crate::set::{count_up, deepest_of, set_within};
 use crate::value::{Domain, SetValue, Value};
 use std::alloc::Global;
 
-// Whether a value is the number so far above another.
+// Whether a value is the number `first + steps`.
 fn is_number(value: &Value, first: i64, steps: usize) -> bool
     ensures number { result ≡ true → tree_of value.now ≡ int (first +ℤ pos steps) }
     ensures fits { result ≡ true → FitNumbers (steps + 1) first }
@@ -26,7 +26,7 @@ fn is_number(value: &Value, first: i64, steps: usize) -> bool
     number >= first && number.abs_diff(first) == steps as u64
 }
 
-// The first of some values that are the numbers from it on.
+// The first of some values, if they are consecutive numbers.
 fn first_number(arguments: &[Value]) -> Option<i64>
     ensures numbers { IfSome result (λ z. map tree_of arguments.now ≡ counted_up (length arguments.now) z) }
     ensures fit { IfSome result (λ z. (0 < length arguments.now) × FitNumbers (length arguments.now) z) }
@@ -56,7 +56,7 @@ pub(crate) fn first_numbers(values: &Vec<Value>) -> Domain
     }
 }
 
-// Where a value stands among so many numbers from one on.
+// The position of a value among `count` consecutive numbers, of which `first` is the first.
 fn number_place(first: i64, count: usize, value: &Value) -> Option<usize>
     ensures some { IfSome result (λ i. slice_get (counted_up count first) i ≡ Some (tree_of value.now)) }
     ensures none { IfNone result (is_member (tree_of value.now) (counted_up count first) ≡ false) }
@@ -88,8 +88,9 @@ pub(crate) fn deepest_of_pairs(domain: &Domain, values: &[Value]) -> u64
     }
 }
 
-// The same where one value replaced another, by how deep the deepest part was nested before, the value that is gone and the
-// new one. The parts are gone over only where a deepest one may be gone and the new one is less deep.
+// The same after one value replaced another. `before` is how deep the deepest part was nested before; `replaced` and
+// `added` say how deep the old value and the new one are nested. All parts are visited only if the old value may have
+// been the deepest and the new one is less deep.
 pub(crate) fn deepest_after(
     domain: &Domain,
     values: &[Value],
@@ -149,7 +150,7 @@ impl Domain {
         }
     }
 
-    // The set of so many arguments.
+    // The `count` arguments, as a set.
     pub(crate) fn to_set(&self, alloc: Global, count: usize) -> Result<SetValue, ValueError>
         requires list { IsSetList (domain_trees count self.now) }
         requires fits { FitsDomain count self.now }
@@ -162,7 +163,7 @@ impl Domain {
         }
     }
 
-    // Where a value stands among so many arguments.
+    // The position of a value among the `count` arguments.
     pub(crate) fn place(&self, count: usize, value: &Value) -> Option<usize>
         ensures some { IfSome result (λ i. slice_get (domain_trees count self.now) i ≡ Some (tree_of value.now)) }
         ensures none { IfNone result (is_member (tree_of value.now) (domain_trees count self.now) ≡ false) }

@@ -1,4 +1,4 @@
-// Whether values are the same: sets and functions tell by their hashes first that they aren't.
+// Equality of values. Sets and functions with different hashes are unequal, so their parts needn't be compared.
 ghost use Rattle.std.specs.Prelude.{◌≡◌, ◌↔◌, IsTrue, map};
 ghost use Rattle.tla_value.specs.TreeOf.{tree_of};
 ghost use Rattle.tla_value.specs.ValueOrder.{value_eq};
@@ -6,7 +6,7 @@ ghost use Rattle.tla_value.specs.ValueOrder.{value_eq};
 use crate::order::compare;
 use crate::value::Value;
 
-// Whether two values are the same. Numbers are told without a call.
+// Whether two values are equal. Numbers are compared here, since a call would cost more.
 pub(crate) fn equal(a: &Value, b: &Value) -> bool
     ensures { result ≡ value_eq a.now b.now }
 {

@@ -25,7 +25,7 @@ use crate::value::{Arguments, Domain, FunValue, SetValue, Value};
 use std::alloc::Global;
 use std::cmp::Ordering;
 
-// The pairs by argument, those of one argument as they came.
+// Sorts pairs by argument. Those with equal arguments keep their order.
 pub(crate) fn sort_pairs<T>(pairs: &mut Vec<(Value, T)>) -> Result<(), ValueError>
     ensures permutation { IsPermutation pairs.old.items pairs.new.items }
     ensures sorted { OnOk result (IsSortedBy (λ (p q : Value × T). is_lt (value_cmp p.0 q.0)) pairs.new.items) }
@@ -36,7 +36,7 @@ pub(crate) fn sort_pairs<T>(pairs: &mut Vec<(Value, T)>) -> Result<(), ValueErro
     Ok(())
 }
 
-// Of neighbours with one argument, the first.
+// Of neighbours with equal arguments, keeps the first.
 pub(crate) fn drop_repeats<T: Drop>(pairs: &mut Vec<(Value, T)>)
     ensures { pairs.new.items ≡ dedup (λ (p q : Value × T). value_eq p.0 q.0) pairs.old.items }
 {
@@ -71,7 +71,7 @@ fn split(pairs: Vec<(Value, Value)>) -> Result<(Vec<Value>, Vec<Value>), ValueEr
     Ok((arguments, values))
 }
 
-// The function of pairs that rise by argument, nested so deep.
+// The function of pairs that rise by argument. `nesting` is how deep it is nested.
 fn from_parts(pairs: Vec<(Value, Value)>, nesting: u64) -> Result<FunValue, ValueError>
     requires { IsFunValue (map pair_of pairs.items) nesting }
     ensures ok { IfOk result (λ f. f ≡ map pair_of pairs.items) }
@@ -119,7 +119,7 @@ pub(crate) fn are_from_one(items: &[Value]) -> bool
     true
 }
 
-// Whether so many arguments are 1, 2, and so on.
+// Whether the `count` arguments are 1, 2, and so on.
 fn is_sequence(arguments: Arguments<'_>, count: usize) -> bool
     requires { FitArguments count arguments }
     ensures { result ≡ counts_from 1 (map tree_of (argument_values count arguments.entry)) }

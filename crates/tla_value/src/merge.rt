@@ -16,7 +16,7 @@ use crate::value::Value;
 use std::alloc::Global;
 use std::cmp::Ordering;
 
-// Goes on from a place past all that is below a value. Answers whether the value stands there, and the new place.
+// Skips the items below a value, from an index on. Returns whether the next item is the value, and the new index.
 fn reach(items: &[Value], from: usize, value: &Value) -> (bool, usize)
     requires rising { IsStrictlySortedBy tree_cmp (map tree_of items.now) }
     requires within { from ≤ length items.now }
@@ -52,7 +52,7 @@ pub(crate) fn keep_copy(
     Ok(())
 }
 
-// The values that stand in the other list too, or those that don't.
+// The values that are in the other list, too, or those that aren't.
 pub(crate) fn chosen(
     alloc: Global,
     items: &[Value],
@@ -74,7 +74,7 @@ pub(crate) fn chosen(
     Ok(kept)
 }
 
-// Whether each value stands in the other list.
+// Whether each value is in the other list.
 pub(crate) fn all_stand_in(items: &[Value], others: &[Value]) -> bool
     requires rising { IsStrictlySortedBy tree_cmp (map tree_of items.now) }
     requires others { IsStrictlySortedBy tree_cmp (map tree_of others.now) }

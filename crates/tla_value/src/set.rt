@@ -68,7 +68,7 @@ pub(crate) fn sort_values(values: Vec<Value>) -> Vec<Value>
     values
 }
 
-// So many numbers, from `low` on.
+// `count` consecutive numbers, from `low` on.
 pub(crate) fn count_up(alloc: Global, low: i64, count: u64) -> Result<Vec<Value>, ValueError>
     requires fits { FitNumbers count low }
     requires few { count ≤ MAX_ELEMENTS }
@@ -104,7 +104,7 @@ impl SetValue {
         self.place(value).is_ok()
     }
 
-    // Where a value stands, or where it would.
+    // The index of a value, or the index at which it would be.
     pub(crate) fn place(&self, value: &Value) -> Result<usize, usize>
         ensures found { is_ok result ≡ is_member (tree_of value.now) self.now }
         ensures at { IfOk result (λ i. slice_get self.now i ≡ Some (tree_of value.now)) }

@@ -21,7 +21,7 @@ use std::io::Write;
 /// A write failed or took no byte, so the text of a value was not written whole.
 #[derive(Clone, Copy, Debug, PartialEq, Eq)]
 pub struct TextFault {
-    /// The count of bytes that were written; `u64::MAX` stands for that many or more.
+    /// How many bytes were written; `u64::MAX` means that many or more.
     pub written: u64,
 }
 
@@ -109,7 +109,7 @@ fn put_items<W: Write>(items: &[Value], out: &mut W, written: u64) -> Result<u64
     Ok(written)
 }
 
-// Writes the item at an index, behind a comma unless it is the first.
+// Writes the item at an index, after a comma unless it is the first.
 #[cycle(show)]
 fn put_item<W: Write>(
     item: &Value,
@@ -123,7 +123,7 @@ fn put_item<W: Write>(
     put_value(item, out, written)
 }
 
-// Writes the separator that stands before what is at an index.
+// Writes the separator before the item at an index.
 fn put_between<W: Write>(
     index: usize,
     separator: &[u8],
@@ -153,7 +153,7 @@ fn put_function<W: Write>(of: &FunValue, out: &mut W, written: u64) -> Result<u6
     }
 }
 
-// A function on the numbers from one on.
+// A function on consecutive numbers.
 #[cycle(show)]
 fn put_numbers<W: Write>(
     first: i64,
@@ -172,7 +172,7 @@ fn put_numbers<W: Write>(
     }
 }
 
-// A function whose arguments stand in a list.
+// A function whose arguments are a list.
 #[cycle(show)]
 fn put_listed<W: Write>(
     arguments: &[Value],
@@ -267,7 +267,7 @@ fn put_pairs<W: Write>(
     put(out, written, b")")
 }
 
-// A function on the numbers from one on that is no sequence.
+// A function on consecutive numbers that is no sequence.
 #[cycle(show)]
 fn put_numbered<W: Write>(
     first: i64,

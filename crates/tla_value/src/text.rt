@@ -13,7 +13,7 @@ use std::sync::Arc;
 // The most bytes of a short string.
 const MOST: usize = 14;
 
-// A short string: the first bytes, as many as it is long.
+// A short string: the first `len` of these bytes.
 #[derive(Clone, Copy, Debug)]
 struct Short {
     bytes: [u8; 14],

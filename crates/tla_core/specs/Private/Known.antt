@@ -18,7 +18,7 @@ HasValue c v = IsAlways (means (expr_of c)) (tree_of v)
 abbrev pub HasField : List ℕ × Core → Value × Value → Type 0
 HasField f p = (tree_of p.0 ≡ text f.0) × IsAlways (means (expr_of f.1)) (tree_of p.1)
 
--- fields as they stand in memory
+-- the expression of a field in memory
 abbrev pub named_core : List ℕ × Core → List ℕ × Expr
 named_core f = (f.0, expr_of f.1)
 

@@ -24,7 +24,7 @@ tested test (Some v) = do
   holds ← test v
   Ok (Some holds)
 
--- whether a value stands in the set of what some expressions give
+-- whether a value is in the set of the values of some expressions
 abbrev pub one_of_rule : Place → List Meaning → Tree → Bound → Present → Next → Outcome Bool
 one_of_rule p ms v b s t = do
   vs ← each (λ (m : Meaning). m.value b s t) ms

@@ -108,7 +108,7 @@ fn function_on_tuples<'s, 'c: 'a, 'a>(
     }
 }
 
-/// The values of some expressions, from left to right, lent where they can be.
+/// The values of some expressions, from left to right, borrowed if possible.
 #[cycle(evaluate)]
 pub(super) fn evaluated_each<'c: 'a, 'a>(
     alloc: Global,

@@ -70,7 +70,7 @@ pub(super) fn implies<'c: 'a, 'a>(
     }
 }
 
-/// TRUE where the condition is.
+/// TRUE if the condition is TRUE.
 #[cycle(evaluate)]
 pub(super) fn assert<'c: 'a, 'a>(
     alloc: Global,

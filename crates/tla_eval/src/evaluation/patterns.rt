@@ -14,7 +14,8 @@ use tla_core::{Core, Opening, Place};
 use tla_operators::evaluated::Evaluated;
 use tla_operators::trouble::Trouble;
 
-/// The value of a body. Elements that it opens are opened here: `evaluate` takes much stack, and is called once for a form that binds.
+/// The value of a body. If it opens elements, that is done here, because `evaluate` takes much stack and should be
+/// called only once for a form that binds names.
 #[cycle(evaluate)]
 pub(super) fn body_value<'c: 'a, 'a>(
     alloc: Global,
@@ -44,7 +45,7 @@ pub(super) fn opened<'c: 'a, 'a>(
     Ok(Evaluated::Owned(value_with_all(alloc, body, items.as_slice(), env)?))
 }
 
-/// A set, all elements of which are tried.
+/// A set, each of whose elements is checked against a pattern.
 #[cycle(evaluate)]
 pub(super) fn tried<'c: 'a, 'a>(
     alloc: Global,

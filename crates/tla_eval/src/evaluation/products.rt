@@ -38,7 +38,7 @@ pub(super) fn records<'c: 'a, 'a>(
     Ok(Evaluated::Owned(records_with(alloc, place, fields, sets.as_slice())?))
 }
 
-/// The values of some fields, from left to right, lent where they can be.
+/// The values of some fields, from left to right, borrowed if possible.
 #[cycle(evaluate)]
 fn field_sets<'c: 'a, 'a>(
     alloc: Global,

@@ -62,7 +62,7 @@ Knows-prop (One' _ outer names _) s t = hlevel (props, Knows-prop outer s t)
 Knows-prop (Many' _ outer names _) s t = hlevel (props, Knows-prop outer s t)
 Knows-prop (Defined' _ outer number names d v) s t = hlevel (props, IsKnown-prop v (val (expr_in (scope_of outer) d.now) (bound_of outer) s t), Knows-prop outer s t)
 
--- a definition of this number is around, under so many names, and has this value
+-- the definition with this number is around the expression, with this many names outside it, and has this value
 pub record IsDefinition (frame : Frame) (s : Present) (t : Next) (number names : ℕ) (v : Tree) : Type 0 where
   pub expr : Expr
   pub outer : Bound

@@ -1,4 +1,4 @@
-//! Sets that are only asked for a member.
+//! Membership in sets that aren't built.
 ghost use Rattle.std.specs.Prelude.{◌≡◌, length, map};
 ghost use Rattle.tla_value.specs.TreeOf.{tree_of};
 ghost use Rattle.tla_core.specs.declared.fault.Place.{Place as AnyPlace};
@@ -25,7 +25,7 @@ use tla_operators::sequences::sequence_items;
 use tla_operators::sets::{has_domain, if_set};
 use tla_value::Value;
 
-/// Whether a form with one operand has a member.
+/// Whether `member` is in a set given by a form with one operand.
 #[cycle(evaluate)]
 pub(super) fn has_of_one<'m: 'a, 'a>(
     alloc: Global,
@@ -49,7 +49,7 @@ pub(super) fn has_of_one<'m: 'a, 'a>(
     }
 }
 
-/// Whether a form with two operands has a member.
+/// Whether `member` is in a set given by a form with two operands.
 #[cycle(evaluate)]
 pub(super) fn has_of_two<'m: 'a, 'a>(
     alloc: Global,
@@ -94,7 +94,7 @@ pub(super) fn has_of_two<'m: 'a, 'a>(
     }
 }
 
-/// Whether IF has a member.
+/// Whether `member` is in the set that IF chooses.
 #[cycle(evaluate)]
 pub(super) fn has_of_three<'m: 'a, 'a>(
     alloc: Global,
@@ -119,7 +119,7 @@ pub(super) fn has_of_three<'m: 'a, 'a>(
     }
 }
 
-/// Whether a form with a list of operands has a member.
+/// Whether `member` is in a set given by a form with a list of operands.
 #[cycle(evaluate)]
 pub(super) fn has_in_list<'m: 'a, 'a>(
     alloc: Global,
@@ -141,7 +141,7 @@ pub(super) fn has_in_list<'m: 'a, 'a>(
     }
 }
 
-/// Whether a filtered set has a member.
+/// Whether `member` is in a filtered set.
 #[cycle(evaluate)]
 pub(super) fn has_in_binder<'m: 'a, 'a>(
     alloc: Global,
@@ -190,7 +190,7 @@ fn is_function_into<'m: 'a, 'a>(
     }
 }
 
-/// Whether a value is a tuple with each part a member of the code at its place.
+/// Whether a value is a tuple whose items are members of these codes, one by one.
 #[cycle(evaluate)]
 fn is_tuple_of<'m: 'a, 'a>(
     alloc: Global,
@@ -212,7 +212,7 @@ fn is_tuple_of<'m: 'a, 'a>(
     }
 }
 
-/// Whether each of these codes has the value at its place, up to the first that has it not.
+/// Whether each item is a member of its code, tested up to the first that isn't.
 #[cycle(evaluate)]
 fn parts_have<'m: 'a, 'a>(
     alloc: Global,

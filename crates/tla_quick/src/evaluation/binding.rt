@@ -113,7 +113,7 @@ pub(super) fn value_with<'m: 'a, 'a>(
     owned(alloc, value(alloc, body, inner)?)
 }
 
-/// Whether a body is TRUE of the element with a number; none where there are fewer elements.
+/// Whether a body is TRUE of element `number`; None if there are fewer elements.
 #[cycle(evaluate)]
 fn holds_at<'e, 'm: 'a, 'a>(
     alloc: Global,

@@ -137,7 +137,7 @@ fn chosen_once<'l, 'm: 'a, 'a>(
     Err(Stop::Unknown)
 }
 
-/// The value of a body for the choice with a number; none where there are fewer choices.
+/// The value of a body for choice `number`; None if there are fewer choices.
 #[cycle(evaluate)]
 fn value_for<'l, 'm: 'a, 'a>(
     alloc: Global,

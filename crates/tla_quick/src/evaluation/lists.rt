@@ -63,7 +63,7 @@ fn values_of<'m: 'a, 'a>(
     Ok(values)
 }
 
-/// The values of some codes, from left to right, lent where they can be.
+/// The values of some codes, from left to right, borrowed if possible.
 #[cycle(evaluate)]
 pub(super) fn evaluated_each<'m: 'a, 'a>(
     alloc: Global,

@@ -75,7 +75,7 @@ fn updated<'m: 'a, 'a>(
     }
 }
 
-/// A value with another one along a path of one key and others. Where the key is outside the domain nothing changes.
+/// A value updated along a path: `key` first, then `rest`. If the key is outside the domain, nothing changes.
 #[cycle(evaluate)]
 fn updated_at<'m: 'a, 'a>(
     alloc: Global,

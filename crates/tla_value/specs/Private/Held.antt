@@ -27,12 +27,12 @@ abbrev pub set_hash : Option (Arc Members Global) → ℕ
 set_hash None = word_of []
 set_hash (Some held) = (arc_value held).hash
 
--- the arguments that a domain has, where there are so many
+-- the arguments of a domain of n
 abbrev pub domain_trees : ℕ → Domain → List Tree
 domain_trees n (Numbers z) = counted_up n z
 domain_trees n (Listed ts) = ts
 
--- numbers of 64 bits, of which there are some, or a set of so many
+-- numbers of 64 bits, at least one, or a set of n values
 abbrev pub FitsDomain : ℕ → Domain → Type 0
 FitsDomain n (Numbers z) = (0 < n) × FitNumbers n z
 FitsDomain n (Listed ts) = length ts ≡ n

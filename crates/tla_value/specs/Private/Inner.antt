@@ -17,7 +17,7 @@ with_value_at [] i v = []
 with_value_at (p ∷ ps) zero v = (p.0, v) ∷ ps
 with_value_at (p ∷ ps) (suc i) v = p ∷ with_value_at ps i v
 
--- of the trees of one list, those that stand in another, or those that don't
+-- the trees of one list that are in another, or those that aren't
 abbrev pub chosen_of : Bool → List Tree → List Tree → List Tree
 chosen_of shared others ts = filter (λ t. cond shared (is_member t others) (not (is_member t others))) ts
 
@@ -42,7 +42,7 @@ keyed fs = map (λ (f : List ℕ × List Tree). (text f.0, set (trees f.1))) fs
 abbrev pub field_of : {S : Type 0} → (S → List Tree) → Value × S → Tree × Tree
 field_of now f = (tree_of f.0, set (trees (now f.1)))
 
--- what stands before the text at an index
+-- the separator before the text at an index
 abbrev pub separator_before : ℕ → List ℕ → List ℕ
 separator_before zero separator = []
 separator_before (suc n) separator = separator
