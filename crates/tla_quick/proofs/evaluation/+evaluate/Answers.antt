@@ -1,8 +1,7 @@
-use Rattle.std.proofs.Common.{◌≡◌, rules, arith, Vec, Global, map, zip, length, option_map, Option, Bor, List, ◌++◌, ◌∷◌, [], Bool, Some, None, Ok, Err, ap, sym, ◌∙◌, refl, subst}
-use Rattle.std.specs.Prelude.{slice_get}
+use Rattle.std.proofs.Common.{◌≡◌, rules, arith, map, option_map, Option, Bor, List, ◌++◌, ◌∷◌, [], Bool, Ok, ap, sym, ◌∙◌, refl}
 use Rattle.std.proofs.lemmas.List.{map-append, length-map}
 use Rattle.tla_value.specs.Tree.{Tree, truth}
-use Rattle.tla_value.specs.TreeOf.{tree_of, pair_of}
+use Rattle.tla_value.specs.TreeOf.{tree_of}
 use Rattle.tla_value.specs.Choices.{choices}
 use Rattle.tla_value.specs.declared.value.Value.{Value}
 use Rattle.tla_core.specs.declared.fault.Place.{Place}
