@@ -17,7 +17,7 @@ use Rattle.tla_lex.specs.declared.lexeme.Source.TheVariants.{Module, Configurati
 use Rattle.tla_lex.specs.declared.token.Kind.{Kind}
 use Rattle.tla_lex.specs.declared.token.Kind.TheVariants as kinds
 use Rattle.tla_lex.proofs.Numbers.{number_is}
-use Rattle.tla_lex.proofs.Runs.{clash, run_covers, run_passes, first_taken, starts_is}
+use Rattle.tla_lex.proofs.Runs.{clash, run_covers, run_passes, run_stops, first_taken, starts_is}
 use Rattle.tla_lex.proofs.Shapes.{Marked, shape, marked_no_word, mark_alone, mark_length}
 
 number_len : (source : Source) (w : Bytes) (kind : Kind) (n : ℕ) → number source w ≡ Found kind n → n ≡ length w
@@ -30,7 +30,7 @@ number_len Module w kind n h = by (small (value 0 w)) h
 
 -- what a run of letters, digits and `_` is read as: a mark of fairness, or the whole run
 abbrev WordFound : Source → Bytes → Kind → ℕ → Type 0
-WordFound source w kind n = (IsTrue (begins_fairness w) × (n ≡ 3) × IsListed (take 3 w) kind fairness_marks) ⊎ ((n ≡ length w) × ((next : ℕ) → IsToken source w next kind))
+WordFound source w kind n = (IsTrue (begins_fairness w) × (n ≡ 3) × IsListed (take 3 w) kind fairness_marks) ⊎ ((n ≡ length w) × ((next : ℕ) → is_word next ≡ false → IsToken source w next kind))
 
 abbrev chosen : Source → Bytes → Bool → Bool → Bool → Bool → Bool → Lexeme
 chosen source w a b c d e =
@@ -47,15 +47,15 @@ word_chosen source w kind n all false true c d e ha hb hc hd he h = inl (subst (
 word_chosen source w kind n all false false true d e ha hb hc hd he h =
     let none : begins_fairness w ≡ false = subst (λ x. (x || starts_with nat_eq w (codes "SF_")) ≡ false) (sym ha) hb in
     let same : kind ≡ name_kind (lookup reserved_words w) = cc in
-    inr (cc, λ next. name all hc none same)
+    inr (cc, λ next stop. name all hc none same stop)
 word_chosen source w kind n all false false false true e ha hb hc hd he h =
     let same : n ≡ length w = number_len source w kind n h in
-    inr (same, λ next. digits hd (number_is source w kind n h))
+    inr (same, λ next stop. digits hd (number_is source w kind n h) stop)
 word_chosen source w kind n all false false false false true ha hb hc hd he h =
     let is : w ≡ codes "_" = (bytes_eq-Decides w (codes "_")).0 he in
     let one : n ≡ 1 = cc in
     let same : kind ≡ kinds.Underscore = cc in
-    inr (one ∙ sym (ap length is), λ next. underscore is same)
+    inr (one ∙ sym (ap length is), λ next stop. underscore is same stop)
 word_chosen source w kind n all false false false false false ha hb hc hd he h = absurd (let z : ⊥ = cc in z)
 
 word_found : (source : Source) (w : Bytes) (kind : Kind) (n : ℕ) → IsTrue (list_all is_word w) → word source w ≡ Found kind n → WordFound source w kind n
@@ -78,7 +78,7 @@ module _ (source : Source) (text : Bytes) (kind : Kind) (n : ℕ) (h : word sour
   word_begins = elim found [
     | inl (f, e, l) ↦ subst (λ m. BeginsWith source text kind m) (sym e)
         (fairness (subst (λ w. IsListed w kind fairness_marks) (take-take 3 (prefix_len is_word text) text (mark_within l)) l))
-    | inr (e, t) ↦ subst (λ m. BeginsWith source text kind m) (sym (e ∙ length-prefix_len is_word text)) (t (first (drop (prefix_len is_word text) text)))
+    | inr (e, t) ↦ subst (λ m. BeginsWith source text kind m) (sym (e ∙ length-prefix_len is_word text)) (t (first (drop (prefix_len is_word text) text)) (run_stops is_word refl text))
   ]
 
   pub word_longest : 0 < prefix_len is_word text → IsTrue (is_word (first text)) → (m : ℕ) (other : Kind) → n < m → m ≤ length text → BeginsWith source text other m → ⊥

@@ -68,9 +68,9 @@ pub data Marked (w : Bytes) (next : ℕ) (kind : Kind) : Type 0 where
   other : IsListed w kind symbols → Marked w next kind
 
 pub shape : (source : Source) (w : Bytes) (next : ℕ) (kind : Kind) → IsToken source w next kind → IsTrue (list_all is_word w) ⊎ Marked w next kind
-shape source w next kind (name a b c d) = inl a
-shape source w next kind (digits a b) = inl (all_pass is_digit is_word digit_is_word w a)
-shape source w next kind (underscore a b) = inl (subst (λ v. IsTrue (list_all is_word v)) (sym a) refl)
+shape source w next kind (name a b c d e) = inl a
+shape source w next kind (digits a b c) = inl (all_pass is_digit is_word digit_is_word w a)
+shape source w next kind (underscore a b c) = inl (subst (λ v. IsTrue (list_all is_word v)) (sym a) refl)
 shape source w next kind (fairness a) = inl (mark_words w kind a)
 shape source w next kind (quoted a b) = let s = string_of w a in inr (quote s.0 (s.1 ∙ ap (λ k. Found k (length w)) (sym b)))
 shape source w next kind (separator a b c) = inr (dashes a b)
@@ -104,9 +104,9 @@ mark_first test a b w h = elim (either (starts_with nat_eq w (codes "WF_")) (sta
 
 -- no token longer than a mark of fairness begins with one
 pub mark_alone : (source : Source) (w : Bytes) (next : ℕ) (kind : Kind) → IsToken source w next kind → IsTrue (begins_fairness w) → 3 < length w → ⊥
-mark_alone source w next kind (name a b c d) h l = clash h c
-mark_alone source w next kind (digits a b) h l = clash (first_passes is_digit w (omega arith) a) (mark_first is_digit refl refl w h)
-mark_alone source w next kind (underscore a b) h l = let one : length w ≡ 1 = ap length a in omega arith
+mark_alone source w next kind (name a b c d e) h l = clash h c
+mark_alone source w next kind (digits a b c) h l = clash (first_passes is_digit w (omega arith) a) (mark_first is_digit refl refl w h)
+mark_alone source w next kind (underscore a b c) h l = let one : length w ≡ 1 = ap length a in omega arith
 mark_alone source w next kind (fairness a) h l = let three : length w ≡ 3 = mark_length w kind a in omega arith
 mark_alone source w next kind (quoted a b) h l = clash (string_of w a).0 (mark_first is_quote refl refl w h)
 mark_alone source w next kind (separator a b c) h l = clash (first_passes is_dash w (omega arith) a) (mark_first is_dash refl refl w h)

@@ -25,12 +25,13 @@ fairness_marks = (codes "WF_", kinds.WeakFairness) ∷ (codes "SF_", kinds.Stron
 abbrev pub begins_fairness : Bytes → Bool
 begins_fairness w = starts_with nat_eq w (codes "WF_") || starts_with nat_eq w (codes "SF_")
 
--- These bytes, followed by the byte `next`, are one token of this kind.
+-- These bytes, followed by the byte `next`, are one token of this kind. A run of letters, digits and `_` ends with the
+-- token, unless that is a mark of fairness.
 pub data IsToken (source : Source) (w : Bytes) (next : ℕ) (kind : Kind) : Type 0 where
   -- a name or a reserved word
-  name : IsTrue (list_all is_word w) → IsTrue (list_any is_letter w) → begins_fairness w ≡ false → kind ≡ name_kind (lookup reserved_words w) → IsToken source w next kind
-  digits : IsTrue (list_all is_digit w) → IsNumber source w kind → IsToken source w next kind
-  underscore : w ≡ codes "_" → kind ≡ kinds.Underscore → IsToken source w next kind
+  name : IsTrue (list_all is_word w) → IsTrue (list_any is_letter w) → begins_fairness w ≡ false → kind ≡ name_kind (lookup reserved_words w) → is_word next ≡ false → IsToken source w next kind
+  digits : IsTrue (list_all is_digit w) → IsNumber source w kind → is_word next ≡ false → IsToken source w next kind
+  underscore : w ≡ codes "_" → kind ≡ kinds.Underscore → is_word next ≡ false → IsToken source w next kind
   fairness : IsListed w kind fairness_marks → IsToken source w next kind
   quoted : IsString w → kind ≡ kinds.Text → IsToken source w next kind
   separator : IsTrue (list_all is_dash w) → 4 ≤ length w → kind ≡ kinds.Separator → IsToken source w next kind
