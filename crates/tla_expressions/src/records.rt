@@ -18,9 +18,7 @@ use crate::record_parts::{
     ParsedField, ParsedFields, ParsedKey, ParsedKeys, ParsedUpdate, ParsedUpdates, except_of,
     key_of, record_of, record_set_of,
 };
-use tla_grammar::{
-    Between, Context, Refusal, following, is_kind, name_at, refused, refused_update, seen,
-};
+use tla_grammar::{Between, Context, Refusal, following, is_kind, name_at, refused, seen};
 use tla_lex::{Kind, Place, Token};
 use tla_tree::{Field, Key, Update, Written, push};
 
@@ -209,7 +207,7 @@ impl<R: ExpressionReader> Grammar<R> {
         ensures { GivesUpdate text.now tokens.now self.now.depth result (reading.change text.now tokens.now (expr text.now tokens.now self.now.depth) context from) }
     {
         if !is_kind(Kind::Bang, seen(tokens, context.column, from)) {
-            return Err(refused_update(tokens, context.column, from));
+            return Err(refused(tokens, context.column, from));
         }
         let found = self.path(text, tokens, context, from + 1)?;
         if !is_kind(Kind::Equal, seen(tokens, context.column, found.end)) {

@@ -13,6 +13,7 @@ use Rattle.tla_tree.specs.declared.tree.Bullet.TheVariants as b
 use Rattle.tla_grammar.specs.Operators.{low, infix_of, bullet_of, same_bullet}
 use Rattle.tla_tree.specs.Words.{written}
 use Rattle.tla_grammar.specs.Tokens.{right_of, seen, is_bullet_at, Has, Writes, KindAt, Commas}
+use Rattle.tla_grammar.specs.LeftOut.{Underscores, IsParameter, Parameters}
 use Rattle.tla_grammar.specs.Kinds.{kind_at}
 use Rattle.tla_grammar.specs.Ending.{above, infix_at}
 use Rattle.tla_grammar.specs.Outcome.{Outcome, ◌>>=◌, need, room, at_op}
@@ -137,3 +138,11 @@ module _ (ts : List Token) where
   -- one name more
   pub commas_more : (n m from at : ℕ) → m ≡ n + 1 → Commas ts n from at → KindAt ts at k.Name → KindAt ts (at + 1) k.Comma → Commas ts m from (at + 2)
   commas_more n m from at h x y z = rw (h, add-one) (at, x, y, z, refl)
+
+  -- one underscore more
+  pub underscores_more : (n m from at : ℕ) → m ≡ n + 1 → Underscores ts n from at → KindAt ts at k.Underscore → KindAt ts (at + 1) k.Comma → Underscores ts m from (at + 2)
+  underscores_more n m from at h x y z = rw (h, add-one) (at, x, y, z, refl)
+
+  -- one parameter more
+  pub parameters_more : (n m from at comma : ℕ) → m ≡ n + 1 → Parameters ts n from at → IsParameter ts at comma → KindAt ts comma k.Comma → Parameters ts m from (comma + 1)
+  parameters_more n m from at comma h x y z = rw (h, add-one) (at, comma, x, y, z, refl)

@@ -1,5 +1,7 @@
 -- The forms of the book's language that this one leaves out.
-use Rattle.std.specs.Prelude.{◌≡◌, ◌≤◌, ◌<◌, ◌⊎◌, ℕ, zero, suc, ◌+◌, Bool, true, false, not, IsTrue, IsSome, List, Option, None, Some, slice_get}
+use Rattle.std.specs.Prelude.{◌≡◌, ◌≤◌, ◌<◌, ◌⊎◌, ℕ, zero, suc, ◌+◌, Bool, true, false, not, IsTrue, IsSome, List, Option, None, Some, slice_get, take, drop, length, ◌-◌}
+use Rattle.std.specs.List.{list_all}
+use Rattle.tla_lex.specs.Bytes.{is_space_or_tab}
 use Rattle.tla_lex.specs.declared.token.Token.{Token}
 use Rattle.tla_lex.specs.declared.token.Kind.{Kind}
 use Rattle.tla_lex.specs.declared.token.Kind.TheVariants as k
@@ -47,6 +49,10 @@ behind_role _ n = Some n
 abbrev pub open_behind : Kind → ℕ → Option ℕ
 open_behind kind n = behind_role (role_of kind) n
 
+-- there are spaces or tabs between these bytes, one or more
+abbrev pub AreApart : List ℕ → ℕ → ℕ → Type 0
+AreApart text from to = (from < to) × (to ≤ length text) × IsTrue (list_all is_space_or_tab (take (to - from) (drop from text)))
+
 module _ (ts : List Token) where
   -- a word or symbol that is left out
   abbrev pub IsWordLeftOut : ℕ → Type 0
@@ -58,14 +64,13 @@ module _ (ts : List Token) where
   IsUnderExcept zero n = ⊥
   IsUnderExcept (suc at) n = (KindAt ts at k.Except × (n ≡ 0)) ⊎ ((m : ℕ) × IsUnderExcept at m × (t : Token) × (slice_get ts at ≡ Some t) × (open_behind t.kind m ≡ Some n))
 
-  -- an update of EXCEPT begins here: directly after it, or after a comma between updates
-  abbrev pub BeginsUpdate : ℕ → Type 0
-  BeginsUpdate zero = ⊥
-  BeginsUpdate (suc before) = KindAt ts before k.Except ⊎ (KindAt ts before k.Comma × IsUnderExcept before 0)
+  -- inside an EXCEPT, at any depth: the brackets around it are still open
+  abbrev pub IsInExcept : ℕ → Type 0
+  IsInExcept at = (n : ℕ) × IsUnderExcept at n
 
-  -- `!` where no update begins: it selects from a module
+  -- `!` outside EXCEPT: it selects from a module
   abbrev pub IsSelector : ℕ → Type 0
-  IsSelector at = KindAt ts at k.Bang × (BeginsUpdate at → ⊥)
+  IsSelector at = KindAt ts at k.Bang × (IsInExcept at → ⊥)
 
   -- a quantifier over names without a set, \A x, y : p
   abbrev pub IsUnbounded : ℕ → Type 0
@@ -86,15 +91,41 @@ module _ (ts : List Token) where
   abbrev pub IsInfix : ℕ → Type 0
   IsInfix at = (t : Token) × (slice_get ts at ≡ Some t) × IsSome (infix_of t.kind)
 
-  -- an operator as parameter: F(_), or F(_, .. ; - _; _ + _
-  abbrev pub IsOperatorParameter : ℕ → Type 0
-  IsOperatorParameter at = (KindAt ts at k.Name × KindAt ts (at + 1) k.LeftParen × KindAt ts (at + 2) k.Underscore)
-      ⊎ (IsPrefix at × KindAt ts (at + 1) k.Underscore)
-      ⊎ (KindAt ts at k.Underscore × IsInfix (at + 1) × KindAt ts (at + 2) k.Underscore)
+  -- this many underscores between two tokens, each with a comma after it
+  abbrev pub Underscores : ℕ → ℕ → ℕ → Type 0
+  Underscores zero from at = at ≡ from
+  Underscores (suc n) from at = (before : ℕ) × Underscores n from before × KindAt ts before k.Underscore × KindAt ts (before + 1) k.Comma × (at ≡ before + 2)
 
-  -- a definition with an operator as parameter, Op(F(_), ..) ==
+  -- F(_, ..), up to the token after it
+  abbrev pub IsNamedParameter : ℕ → ℕ → Type 0
+  IsNamedParameter at to = (n : ℕ) × (last : ℕ) × KindAt ts at k.Name × KindAt ts (at + 1) k.LeftParen × Underscores n (at + 2) last × KindAt ts last k.Underscore × KindAt ts (last + 1) k.RightParen × (to ≡ last + 2)
+
+  -- an operator as parameter, up to the token after it: F(_, ..); - _; _ + _
+  abbrev pub IsOperatorParameter : ℕ → ℕ → Type 0
+  IsOperatorParameter at to = IsNamedParameter at to
+      ⊎ (IsPrefix at × KindAt ts (at + 1) k.Underscore × (to ≡ at + 2))
+      ⊎ (KindAt ts at k.Underscore × IsInfix (at + 1) × KindAt ts (at + 2) k.Underscore × (to ≡ at + 3))
+
+  -- a name or an operator as parameter, up to the token after it
+  abbrev pub IsParameter : ℕ → ℕ → Type 0
+  IsParameter at to = (KindAt ts at k.Name × (to ≡ at + 1)) ⊎ IsOperatorParameter at to
+
+  -- this many parameters between two tokens, each with a comma after it
+  abbrev pub Parameters : ℕ → ℕ → ℕ → Type 0
+  Parameters zero from at = at ≡ from
+  Parameters (suc n) from at = (before : ℕ) × (comma : ℕ) × Parameters n from before × IsParameter before comma × KindAt ts comma k.Comma × (at ≡ comma + 1)
+
+  -- the parameters of a definition and its `==`: Op(.., ..) ==
+  abbrev pub IsDefinition : ℕ → Type 0
+  IsDefinition at = (n : ℕ) × (last : ℕ) × (end : ℕ) × KindAt ts at k.Name × KindAt ts (at + 1) k.LeftParen × Parameters n (at + 2) last × IsParameter last end × KindAt ts end k.RightParen × KindAt ts (end + 1) k.Define
+
+  -- an operator among the parameters
+  abbrev pub HasOperator : ℕ → Type 0
+  HasOperator at = (n : ℕ) × (here : ℕ) × (end : ℕ) × Parameters n (at + 2) here × IsOperatorParameter here end
+
+  -- a definition with an operator as parameter, Op(.., F(_), ..) ==
   abbrev pub HasOperatorParameter : ℕ → Type 0
-  HasOperatorParameter at = (n : ℕ) × (last : ℕ) × KindAt ts at k.Name × KindAt ts (at + 1) k.LeftParen × Commas ts n (at + 2) last × IsOperatorParameter last
+  HasOperatorParameter at = IsDefinition at × HasOperator at
 
   -- only separators come before the token: a module's name and a separator come before its units
   abbrev pub OnlySeparators : ℕ → Type 0
@@ -105,11 +136,7 @@ module _ (ts : List Token) where
   IsExtended zero at = (before : ℕ) × KindAt ts before k.Extends × OnlySeparators before × (at ≡ before + 1)
   IsExtended (suc n) at = (before : ℕ) × IsExtended n before × KindAt ts before k.Name × KindAt ts (before + 1) k.Comma × (at ≡ before + 2)
 
-  -- a second header: MODULE after a line of dashes
-  abbrev pub IsSecondHeader : ℕ → Type 0
-  IsSecondHeader at = (before : ℕ) × KindAt ts before k.Separator × KindAt ts (before + 1) k.Module × (at ≡ before + 1)
-
-  -- the list of the forms left out
+  -- the list of the forms left out, but for those that the text decides: a second header, and an unknown module
   pub data LeftOut (at : ℕ) : Type 0 where
     word : IsWordLeftOut at → LeftOut at
     selector : IsSelector at → LeftOut at
@@ -117,7 +144,6 @@ module _ (ts : List Token) where
     unbounded_choice : IsUnboundedChoice at → LeftOut at
     unbounded_tuple : IsUnboundedTuple at → LeftOut at
     parameter : HasOperatorParameter at → LeftOut at
-    second_header : IsSecondHeader at → LeftOut at
 
   -- a form that is left out begins at the token of this number
   unfoldable pub BeginsLeftOut : ℕ → Type 0
@@ -126,3 +152,8 @@ module _ (ts : List Token) where
   -- a name under EXTENDS that is none of the modules known
   abbrev pub IsUnknownModule : List ℕ → ℕ → Type 0
   IsUnknownModule text at = (n : ℕ) × (t : Token) × IsExtended n at × (slice_get ts at ≡ Some t) × (t.kind ≡ k.Name) × IsTrue (not (is_module (word_of text t)))
+
+  -- a second header: MODULE after a run of dashes and spaces or tabs
+  abbrev pub IsSecondHeader : List ℕ → ℕ → Type 0
+  IsSecondHeader text at = (before : ℕ) × (line : Token) × (t : Token) × (at ≡ before + 1) × (slice_get ts before ≡ Some line) × (line.kind ≡ k.Separator)
+      × (slice_get ts at ≡ Some t) × (t.kind ≡ k.Module) × AreApart text line.end t.start

@@ -11,3 +11,4 @@ pub mod Ahead
 pub mod Marks
 pub mod Outcome
 pub mod Refusals
+pub mod Private

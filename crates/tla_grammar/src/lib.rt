@@ -19,5 +19,5 @@ pub use operators::{
 pub use refusal::Refusal;
 pub use tokens::{
     Between, Postfix, closing, following, is_kind, may_follow, name_at, operator_at, postfix_at,
-    refused, refused_parameter, refused_unit, refused_update, seen, text_of,
+    refused, refused_parameter, refused_unit, seen, text_of,
 };

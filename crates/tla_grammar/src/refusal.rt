@@ -18,6 +18,8 @@ pub enum Refusal {
     LeftOut(usize),
     /// The module, a name under EXTENDS, is not known.
     UnknownModule(usize),
+    /// MODULE of a second header.
+    SecondHeader(usize),
     NoMemory,
 }
 

@@ -6,9 +6,12 @@ ghost use Rattle.tla_grammar.specs.Tokens as spec;
 ghost use Rattle.tla_tree.specs.Words as words;
 ghost use Rattle.tla_grammar.specs.Kinds as kinds;
 ghost use Rattle.tla_grammar.specs.Ending as ending;
+ghost use Rattle.std.specs.List.{list_all};
+ghost use Rattle.tla_lex.specs.Bytes as bytes;
 ghost use Rattle.tla_grammar.specs.LeftOut as left_out;
+ghost use Rattle.tla_grammar.specs.Private.Open as open_brackets;
 ghost use Rattle.tla_grammar.specs.Marks as marks;
-ghost use Rattle.tla_grammar.specs.Refusals.{Refuses};
+ghost use Rattle.tla_grammar.specs.Refusals.{Refuses, RefusesUnit};
 
 use crate::ahead::{Role, role_of};
 use crate::operators::{bullet_of, infix_of, low, prefix_of};
@@ -254,75 +257,57 @@ fn is_left_out(kind: Kind) -> bool
     }
 }
 
-/// How many brackets are open before a token of this kind, if `count` are open after it. None if that can't be.
-fn open_before(kind: Kind, count: usize) -> Option<usize>
-    requires { count < 2 ^ 63 }
-    ensures some { IfSome result (λ n. (m : ℕ) → (left_out.open_behind kind m ≡ Some count) ↔ (m ≡ n)) }
-    ensures none { result ≡ None → (m : ℕ) → left_out.open_behind kind m ≡ Some count → ⊥ }
-    ensures few { IfSome result (λ n. n ≤ count + 1) }
+/// The least number of brackets that are open before a token of this kind, if at least `least` are open after it.
+fn open_before(kind: Kind, least: usize) -> usize
+    requires { least < 2 ^ 63 }
+    ensures value { result ≡ open_brackets.least_before (kinds.role_of kind) least }
+    ensures few { result ≤ least + 1 }
 {
     match role_of(kind) {
-        Role::Opens => count.checked_sub(1),
-        Role::Closes => Some(count + 1),
-        _ => Some(count),
+        Role::Opens => least.saturating_sub(1),
+        Role::Closes => least + 1,
+        _ => least,
     }
 }
 
-/// Whether this token is EXCEPT, and no bracket is open after it.
-fn is_except_itself(token: Token, count: usize) -> bool
-    ensures { IsTrue result ↔ ((token.kind ≡ Kind.Except) × (count ≡ 0)) }
+/// Whether this token is EXCEPT, and no bracket need be open after it.
+fn is_except_itself(token: Token, least: usize) -> bool
+    ensures { IsTrue result ↔ ((token.kind ≡ Kind.Except) × (least ≡ 0)) }
 {
     match token.kind {
-        Kind::Except => count == 0,
+        Kind::Except => least == 0,
         _ => false,
     }
 }
 
-/// Whether EXCEPT comes before the token, and every bracket that was opened since, and no other one, is closed.
-fn is_under_except(tokens: &[Token], at: usize) -> bool
+/// Whether the token is inside an EXCEPT: one comes before it, and the brackets around that one are still open.
+fn is_in_except(tokens: &[Token], at: usize) -> bool
     requires { at ≤ length tokens.now }
-    ensures { IsTrue result ↔ left_out.IsUnderExcept tokens.now at 0 }
+    ensures { IsTrue result ↔ left_out.IsInExcept tokens.now at }
 {
-    let mut open: usize = 0;
+    let mut least: usize = 0;
     let mut place = at;
     for _turn in 0..at {
         place -= 1;
         let Some(t) = tokens.get(place) else {
             return false;
         };
-        if is_except_itself(*t, open) {
+        if is_except_itself(*t, least) {
             return true;
         }
-        let Some(before) = open_before(t.kind, open) else {
-            return false;
-        };
-        open = before;
+        least = open_before(t.kind, least);
     }
     false
 }
 
-/// Whether an update of EXCEPT begins here.
-fn begins_update(tokens: &[Token], at: usize) -> bool
-    ensures { IsTrue result ↔ left_out.BeginsUpdate tokens.now at }
-{
-    if at == 0 {
-        return false;
-    }
-    let Some(t) = tokens.get(at - 1) else {
-        return false;
-    };
-    match t.kind {
-        Kind::Except => true,
-        Kind::Comma => is_under_except(tokens, at - 1),
-        _ => false,
-    }
-}
-
-/// Whether there is a `!` here that doesn't begin an update.
+/// Whether there is a `!` here, outside EXCEPT.
 fn is_selector(tokens: &[Token], at: usize) -> bool
     ensures { IsTrue result → left_out.IsSelector tokens.now at }
 {
-    is_kind(Kind::Bang, tokens.get(at).copied()) && !begins_update(tokens, at)
+    match tokens.get(at) {
+        Some(t) => is_kind(Kind::Bang, Some(*t)) && !is_in_except(tokens, at),
+        None => false,
+    }
 }
 
 /// The refusal of a token that can't follow what was read: a form that is left out, else a token at or left of its
@@ -347,17 +332,6 @@ pub fn refused(tokens: &[Token], column: u128, at: usize) -> Refusal
     }
 }
 
-/// The refusal of a token at which an update of EXCEPT must begin: if it is `!`, it is at or left of its list's column.
-pub fn refused_update(tokens: &[Token], column: u128, at: usize) -> Refusal
-    ensures { Refuses tokens.now result }
-{
-    if is_kind(Kind::Bang, tokens.get(at).copied()) {
-        Refusal::Column(at)
-    } else {
-        refused(tokens, column, at)
-    }
-}
-
 /// Whether there is an infix operator here.
 fn is_infix(tokens: &[Token], at: usize) -> bool
     ensures { IsTrue result → left_out.IsInfix tokens.now at }
@@ -368,39 +342,115 @@ fn is_infix(tokens: &[Token], at: usize) -> bool
     }
 }
 
-/// Whether there is an operator as a parameter here, right of the column.
-fn is_operator_parameter(tokens: &[Token], column: u128, at: usize) -> bool
-    ensures { IsTrue result → left_out.IsOperatorParameter tokens.now at }
-{
-    let Some(t) = seen(tokens, column, at) else {
-        return false;
-    };
-    match t.kind {
-        Kind::Name => {
-            is_kind(Kind::LeftParen, seen(tokens, column, at + 1))
-                && is_kind(Kind::Underscore, seen(tokens, column, at + 2))
-        }
-        Kind::Underscore => {
-            is_infix(tokens, at + 1) && is_kind(Kind::Underscore, seen(tokens, column, at + 2))
-        }
-        other => {
-            prefix_of(other).is_some() && is_kind(Kind::Underscore, seen(tokens, column, at + 1))
-        }
-    }
-}
-
-/// Whether there is a definition here whose parameters, all right of the column, have an operator among them.
-fn has_operator_parameter(tokens: &[Token], column: u128, from: usize) -> bool
-    ensures { IsTrue result → left_out.HasOperatorParameter tokens.now from }
+/// The token after `F(_, ..)`, if that is here, right of the column.
+fn named_parameter_end(tokens: &[Token], column: u128, from: usize) -> Option<usize>
+    ensures is { IfSome result (λ to. left_out.IsNamedParameter tokens.now from to) }
+    ensures within { IfSome result (λ to. to ≤ length tokens.now) }
 {
     if !is_kind(Kind::Name, seen(tokens, column, from))
         || !is_kind(Kind::LeftParen, seen(tokens, column, from + 1))
     {
+        return None;
+    }
+    let mut at = from + 2;
+    for _turn in 0..tokens.len() {
+        if !is_kind(Kind::Underscore, seen(tokens, column, at)) {
+            return None;
+        }
+        if is_kind(Kind::RightParen, seen(tokens, column, at + 1)) {
+            return Some(at + 2);
+        }
+        if !is_kind(Kind::Comma, seen(tokens, column, at + 1)) {
+            return None;
+        }
+        at += 2;
+    }
+    None
+}
+
+/// The token after an operator that is a parameter here, right of the column.
+fn operator_parameter_end(tokens: &[Token], column: u128, at: usize) -> Option<usize>
+    ensures is { IfSome result (λ to. left_out.IsOperatorParameter tokens.now at to) }
+    ensures within { IfSome result (λ to. to ≤ length tokens.now) }
+{
+    match seen(tokens, column, at)?.kind {
+        Kind::Name => named_parameter_end(tokens, column, at),
+        Kind::Underscore => {
+            if is_infix(tokens, at + 1) && is_kind(Kind::Underscore, seen(tokens, column, at + 2)) {
+                Some(at + 3)
+            } else {
+                None
+            }
+        }
+        other => {
+            if prefix_of(other).is_some()
+                && is_kind(Kind::Underscore, seen(tokens, column, at + 1))
+            {
+                Some(at + 2)
+            } else {
+                None
+            }
+        }
+    }
+}
+
+/// The token after a parameter, a name or an operator, right of the column.
+fn parameter_end(tokens: &[Token], column: u128, at: usize) -> Option<usize>
+    ensures is { IfSome result (λ to. left_out.IsParameter tokens.now at to) }
+    ensures within { IfSome result (λ to. to ≤ length tokens.now) }
+{
+    match operator_parameter_end(tokens, column, at) {
+        Some(end) => Some(end),
+        None => {
+            if is_kind(Kind::Name, seen(tokens, column, at)) {
+                Some(at + 1)
+            } else {
+                None
+            }
+        }
+    }
+}
+
+/// Whether `Op(` is here, right of the column.
+fn opens_parameters(tokens: &[Token], column: u128, from: usize) -> bool
+    ensures is { IsTrue result → spec.KindAt tokens.now from Kind.Name × spec.KindAt tokens.now (from + 1) Kind.LeftParen }
+    ensures within { IsTrue result → from + 2 ≤ length tokens.now }
+{
+    is_kind(Kind::Name, seen(tokens, column, from))
+        && is_kind(Kind::LeftParen, seen(tokens, column, from + 1))
+}
+
+/// Whether there is a definition here, with its parameters and `==`, all right of the column.
+fn is_definition(tokens: &[Token], column: u128, from: usize) -> bool
+    ensures { IsTrue result → left_out.IsDefinition tokens.now from }
+{
+    if !opens_parameters(tokens, column, from) {
         return false;
     }
     let mut at = from + 2;
     for _turn in 0..tokens.len() {
-        if is_operator_parameter(tokens, column, at) {
+        let Some(end) = parameter_end(tokens, column, at) else {
+            return false;
+        };
+        if is_kind(Kind::RightParen, seen(tokens, column, end)) {
+            return is_kind(Kind::Define, seen(tokens, column, end + 1));
+        }
+        if !is_kind(Kind::Comma, seen(tokens, column, end)) {
+            return false;
+        }
+        at = end + 1;
+    }
+    false
+}
+
+/// Whether there is an operator among the parameters here, after names alone and right of the column.
+fn has_operator(tokens: &[Token], column: u128, from: usize) -> bool
+    requires { from + 2 ≤ length tokens.now }
+    ensures { IsTrue result → left_out.HasOperator tokens.now from }
+{
+    let mut at = from + 2;
+    for _turn in 0..tokens.len() {
+        if operator_parameter_end(tokens, column, at).is_some() {
             return true;
         }
         if !is_kind(Kind::Name, seen(tokens, column, at))
@@ -411,6 +461,15 @@ fn has_operator_parameter(tokens: &[Token], column: u128, from: usize) -> bool
         at += 2;
     }
     false
+}
+
+/// Whether there is a definition here that has an operator among its parameters.
+fn has_operator_parameter(tokens: &[Token], column: u128, from: usize) -> bool
+    ensures { IsTrue result → left_out.HasOperatorParameter tokens.now from }
+{
+    opens_parameters(tokens, column, from)
+        && is_definition(tokens, column, from)
+        && has_operator(tokens, column, from)
 }
 
 /// The refusal of a token in the parameters of the definition at `from`: the definition, if it is left out, else the
@@ -426,16 +485,50 @@ pub fn refused_parameter(tokens: &[Token], column: u128, from: usize, at: usize)
     }
 }
 
-/// The refusal of a token that begins no unit.
-#[tactic(auto, unfolding(crate::specs::LeftOut::BeginsLeftOut))]
-pub fn refused_unit(tokens: &[Token], at: usize) -> Refusal
-    ensures { Refuses tokens.now result }
+fn is_space_or_tab(b: u8) -> bool
+    ensures { result ≡ bytes.is_space_or_tab b }
 {
-    if 0 < at
-        && is_kind(Kind::Separator, tokens.get(at - 1).copied())
-        && is_kind(Kind::Module, tokens.get(at).copied())
-    {
-        Refusal::LeftOut(at)
+    b == b' ' || b == b'\t'
+}
+
+/// Whether the bytes are spaces and tabs.
+fn are_blank(text: &[u8]) -> bool
+    ensures { result ≡ list_all bytes.is_space_or_tab text.now }
+{
+    text.iter().all(|b| is_space_or_tab(*b))
+}
+
+/// Whether there are spaces or tabs between these bytes, and nothing else.
+fn are_apart(text: &[u8], from: usize, to: usize) -> bool
+    ensures { IsTrue result → left_out.AreApart text.now from to }
+{
+    from < to && to <= text.len() && are_blank(&text[from..to])
+}
+
+/// Whether MODULE is here, after a run of dashes and spaces or tabs.
+fn is_second_header(text: &[u8], tokens: &[Token], at: usize) -> bool
+    ensures { IsTrue result → left_out.IsSecondHeader tokens.now text.now at }
+{
+    if at == 0 {
+        return false;
+    }
+    let Some(line) = tokens.get(at - 1) else {
+        return false;
+    };
+    let Some(t) = tokens.get(at) else {
+        return false;
+    };
+    is_kind(Kind::Separator, Some(*line))
+        && is_kind(Kind::Module, Some(*t))
+        && are_apart(text, line.end, t.start)
+}
+
+/// The refusal of a token that begins no unit.
+pub fn refused_unit(text: &[u8], tokens: &[Token], at: usize) -> Refusal
+    ensures { RefusesUnit text.now tokens.now result }
+{
+    if is_second_header(text, tokens, at) {
+        Refusal::SecondHeader(at)
     } else {
         refused(tokens, 0, at)
     }

@@ -2,3 +2,4 @@ pub mod UnitsComplete
 pub mod UnitsSound
 pub mod UnitsSteps
 pub mod Whole
+mod NoWords

@@ -1,13 +1,13 @@
 //! The tree of a module.
 
-ghost use Rattle.std.specs.Prelude.{◌≡◌, ◌≤◌, ◌⊎◌, List, map, IfOk, IfErr};
+ghost use Rattle.std.specs.Prelude.{◌≡◌, ◌≤◌, ◌-◌, List, Some, None, length, map, slice_get, IfOk, IfErr};
+ghost use Rattle.tla_lex.specs.declared.token.Token as lexed;
 ghost use Rattle.tla_tree.specs.Units.{UnitTree};
 ghost use Rattle.tla_parse.specs.Units.{units_depth, SpellsModule};
 ghost use Rattle.tla_tree.specs.UnitsView.{unit_view};
 ghost use Rattle.tla_tree.specs.declared.tree.TheConstants.{MAX_DEPTH};
 ghost use Rattle.tla_parse.specs.Private.UnitsReading.{whole};
-ghost use Rattle.tla_grammar.specs.LeftOut.{BeginsLeftOut, IsUnknownModule};
-ghost use Rattle.tla_parse.specs.Parsing.{NoneSpells, Justified, IsLocated};
+ghost use Rattle.tla_parse.specs.Parsing.{NoneSpells, Justified, IsLocated, IsFormLeftOut, PassesNoWord};
 ghost use Rattle.tla_grammar.specs.Refusals.{Fails};
 
 use crate::error::{ParseCode, ParseError};
@@ -18,10 +18,13 @@ use tla_lex::{Place, Token};
 use tla_tree::{Module, Written};
 
 /// The place of the token, or of the last one if there are fewer.
-fn place_of(tokens: &[Token], at: usize) -> Place {
+fn place_of(tokens: &[Token], at: usize) -> Place
+    ensures here { (t : lexed.Token) → slice_get tokens.now at ≡ Some t → result ≡ t.place }
+    ensures last { slice_get tokens.now at ≡ None → (t : lexed.Token) → slice_get tokens.now (length tokens.now - 1) ≡ Some t → result ≡ t.place }
+{
     match tokens.get(at) {
         Some(t) => t.place,
-        None => match tokens.last() {
+        None => match tokens.get(tokens.len().saturating_sub(1)) {
             Some(t) => t.place,
             None => Place::FIRST,
         },
@@ -31,9 +34,10 @@ fn place_of(tokens: &[Token], at: usize) -> Place {
 /// The refusal of a form that is left out, with its first token as its name.
 fn left_out(alloc: Global, text: &[u8], tokens: &[Token], at: usize) -> ParseError
     requires none { NoneSpells text.now tokens.now }
-    requires form { BeginsLeftOut tokens.now at ⊎ IsUnknownModule tokens.now text.now at }
+    requires form { IsFormLeftOut text.now tokens.now at }
     ensures justified { Justified text.now tokens.now result.code result.place result.name }
     ensures located { IsLocated result.code result.place result.name }
+    ensures passes { PassesNoWord tokens.now result.code result.place }
 {
     let Some(t) = tokens.get(at) else {
         return ParseError::at(ParseCode::Unexpected, place_of(tokens, at));
@@ -53,6 +57,7 @@ fn error_of(alloc: Global, text: &[u8], tokens: &[Token], refusal: Refusal) -> P
     requires { Fails text.now tokens.now refusal (whole text.now tokens.now MAX_DEPTH) }
     ensures justified { Justified text.now tokens.now result.code result.place result.name }
     ensures located { IsLocated result.code result.place result.name }
+    ensures passes { PassesNoWord tokens.now result.code result.place }
 {
     match refusal {
         Refusal::Unexpected(at) => ParseError::at(ParseCode::Unexpected, place_of(tokens, at)),
@@ -61,6 +66,7 @@ fn error_of(alloc: Global, text: &[u8], tokens: &[Token], refusal: Refusal) -> P
         Refusal::Nesting(at) => ParseError::at(ParseCode::Nesting, place_of(tokens, at)),
         Refusal::LeftOut(at) => left_out(alloc, text, tokens, at),
         Refusal::UnknownModule(at) => left_out(alloc, text, tokens, at),
+        Refusal::SecondHeader(at) => left_out(alloc, text, tokens, at),
         Refusal::NoMemory => ParseError::NO_MEMORY,
     }
 }
@@ -76,6 +82,8 @@ pub fn parse_module(alloc: Global, text: &[u8], tokens: &[Token]) -> Result<Modu
     // the list.
     ensures justified { IfErr result (λ e. Justified text.now tokens.now e.code e.place e.name) }
     ensures located { IfErr result (λ e. IsLocated e.code e.place e.name) }
+    // A token that is unexpected or too far left is no word or symbol that is left out.
+    ensures passes { IfErr result (λ e. PassesNoWord tokens.now e.code e.place) }
 {
     match module_units(alloc, text, tokens) {
         Ok(found) => Ok(Module { units: found.units }),

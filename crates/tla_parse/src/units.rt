@@ -310,7 +310,7 @@ fn unit_at(alloc: Global, text: &[u8], tokens: &[Token], from: usize) -> Result<
                 end: found.end,
             })
         }
-        _ => Err(refused_unit(tokens, from)),
+        _ => Err(refused_unit(text, tokens, from)),
     }
 }
 

@@ -1,0 +1,6 @@
+use Rattle.std.proofs.Common.{◌+◌, ◌≤◌, length}
+use Rattle.tla_grammar.specs.LeftOut.{Parameters}
+use Rattle.tla_grammar.proofs.tokens.has_operator.Given as goal
+
+abbrev pub invariant-loop-turn : goal.invariant-loop-turn
+invariant-loop-turn l = record { listed : Parameters l.tokens l._turn (l.from + 2) l.at; within : l.at ≤ length l.tokens }

@@ -1,6 +1,0 @@
-use Rattle.std.proofs.Common.{◌+◌, ◌≤◌, length}
-use Rattle.tla_grammar.specs.Tokens.{Commas}
-use Rattle.tla_grammar.proofs.tokens.has_operator_parameter.Given as goal
-
-abbrev pub invariant-loop-turn : goal.invariant-loop-turn
-invariant-loop-turn l = record { listed : Commas l.tokens l._turn (l.from + 2) l.at; within : l.at ≤ length l.tokens }

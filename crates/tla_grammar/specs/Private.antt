@@ -1,0 +1,2 @@
+-- What serves the code: no public contract cites these.
+pub mod Open
