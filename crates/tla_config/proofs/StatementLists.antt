@@ -1,5 +1,5 @@
 -- A list of statements, found statement by statement.
-use Rattle.std.proofs.Common.{◌≡◌, ◌<◌, ◌≤◌, ℕ, ◌+◌, Bool, true, false, not, ◌&&◌, ◌||◌, List, [], ◌∷◌, ◌++◌, Some, None, ◌⊎◌, inl, inr, filter, slice_get, refl, sym, ap, subst, ◌∙◌, append_assoc, append-nil, length-append, arith, length}
+use Rattle.std.proofs.Common.{◌≡◌, ◌<◌, ◌≤◌, ℕ, ◌+◌, Bool, true, false, true≢false, not, ◌&&◌, ◌||◌, List, [], ◌∷◌, ◌++◌, Some, None, ◌⊎◌, inl, inr, filter, slice_get, refl, sym, ap, subst, ◌∙◌, append_assoc, append-nil, length-append, arith, length}
 use Rattle.std.proofs.lemmas.List.Elements.{filter-append}
 use Rattle.std.proofs.lemmas.Option.{slice_get_past}
 use Rattle.tla_lex.specs.declared.token.Kind.TheVariants as k
@@ -10,10 +10,10 @@ use Rattle.tla_config.specs.declared.keyword.Keyword.TheVariants as keyword
 use Rattle.tla_config.specs.declared.refusal.Refusal.{Refusal}
 use Rattle.tla_config.specs.declared.refusal.Refusal.TheVariants as refusal
 use Rattle.tla_config.specs.Configuration.{Has, SpellsStatement, StatementsUpTo, SpellsStatements, is_check_deadlock}
-use Rattle.tla_config.specs.Private.Fronts.{keyword_of}
+use Rattle.tla_config.specs.Private.Fronts.{keyword_of, is_check_word, is_check, begins_check}
 use Rattle.tla_config.specs.Private.Gives.{Because, Fails, Ends, IsStatement, NoStatement, AreStatements, NoStatements, LeftOutIn, TooLargeIn, ClearStatement, LeftOutAt, TooLargeAt, Clear}
 use Rattle.tla_config.specs.Refusals.{FollowsStatements}
-use Rattle.tla_config.specs.Statements.{Statement}
+use Rattle.tla_config.specs.Statements.{Statement, Specification, Init, Next, Invariants, Constraints, Constants, CheckDeadlock}
 use Rattle.tla_config.proofs.Arms.{word_for, place_for, spelled_front, left_out_front, clear_none}
 use Rattle.tla_config.proofs.Fronts.{has_within, name_within, comma_begins_none, name_begins_none, constants_is}
 
@@ -53,10 +53,18 @@ count_small false = omega arith
 pub few_checks : (bs : List Statement) (checks : Bool) → checks_of bs ≡ count_of checks → checks_of bs ≤ 1
 few_checks bs checks h = rw h (count_small checks)
 
-pub both_hold : (a b : Bool) → not (a && b) ≡ false → (a ≡ true) × (b ≡ true)
-both_hold true true h = (refl, refl)
-both_hold true false h = (let z : ⊥ = cc in absurd z)
-both_hold false b h = (let z : ⊥ = cc in absurd z)
+both_true : (a b : Bool) → (a && b) ≡ true → (a ≡ true) × (b ≡ true)
+both_true true b h = (refl, h)
+both_true false b h = absurd (true≢false (sym h))
+
+word_is_check : (c : Statement) → is_check_word (word_for c) ≡ is_check_deadlock c
+word_is_check (Specification p w) = refl
+word_is_check (Init p w) = refl
+word_is_check (Next p w) = refl
+word_is_check (Invariants p ws) = refl
+word_is_check (Constraints p ws) = refl
+word_is_check (Constants p is) = refl
+word_is_check (CheckDeadlock p check) = refl
 
 module _ (text : List ℕ) (ts : List Token) where
   begins_within : (c : Statement) (at to : ℕ) → SpellsStatement text ts c at to → length ts ≤ at → ⊥
@@ -157,27 +165,51 @@ module _ (text : List ℕ) (ts : List Token) where
   clear_all : ((begin : ℕ) → FollowsStatements text ts begin → HasCause begin → ⊥) → Clear text ts
   clear_all f = record { no_left = λ n x. f x.0 x.1 (n, inl x.2); no_large = λ n x. f x.0 x.1 (n, inr x.2) }
 
-  module _ (front : List Statement) (at mid : ℕ) (c : Statement) (checks : Bool) where
-    twice : StatementsSoFar front at → IsStatement text ts c at mid → ClearStatement text ts at → checks_of front ≡ count_of checks → not (checks && is_check_deadlock c) ≡ false
-        → (cs : List Statement) (to : ℕ) → StatementsUpTo text ts cs 0 to → Stops to → checks_of cs ≤ 1 → ⊥
-    twice so st f h second cs to x s once =
-        let two = both_hold checks (is_check_deadlock c) second in
-        let e : is_check_deadlock c ≡ true = two.1 in
-        let one : checks_of front ≡ 1 = h ∙ ap (λ y. count_of y) two.0 in
-        let r = so.rest cs to x s in
-        let n = next_rest c r.0 at mid to st f r.2 s in
-        let p : cs ≡ (front ++ c ∷ []) ++ n.0 = r.1 ∙ ap (λ y. front ++ y) n.1 ∙ sym (append_assoc front (c ∷ []) n.0) in
-        let q = checks_append (front ++ c ∷ []) n.0 in
-        let m = checks_more front c true 1 one e in
-        let t : checks_of cs ≡ 2 + checks_of n.0 = ap (λ y. checks_of y) p ∙ q ∙ ap (λ y. y + checks_of n.0) m in
-        absurd (omega arith)
+  -- a statement that is read here is CHECK_DEADLOCK where that begins here
+  pub check_begins : (at to : ℕ) (c : Statement) → SpellsStatement text ts c at to → begins_check text (slice_get ts at) ≡ is_check_deadlock c
+  check_begins at to c x = ap is_check (spelled_front text ts at c to x) ∙ word_is_check c
 
-    -- CHECK_DEADLOCK for a second time
-    pub so_far_twice : StatementsSoFar front at → IsStatement text ts c at mid → ClearStatement text ts at → checks_of front ≡ count_of checks → not (checks && is_check_deadlock c) ≡ false → NoStatements text ts
-    so_far_twice so st f h second cs x once = twice so st f h second cs (length ts) x stops_last once
+  check_no_cause : (at begin : ℕ) → begins_check text (slice_get ts at) ≡ true → at ≡ begin → HasCause begin → ⊥
+  check_no_cause at begin h same w = by w.0 w.1
+    where
+      there : begins_check text (slice_get ts begin) ≡ true
+      there = subst (λ n. begins_check text (slice_get ts n) ≡ true) same h
 
-    pub so_far_twice_clear : StatementsSoFar front at → IsStatement text ts c at mid → ClearStatement text ts at → checks_of front ≡ count_of checks → not (checks && is_check_deadlock c) ≡ false → Clear text ts
-    so_far_twice_clear so st f h second = clear_all (λ begin g w. twice so st f h second g.statements begin g.spelled (stops_cause begin w) g.once)
+      no_constant : Has text ts k.Constant begin → ⊥
+      no_constant x = true≢false (sym there ∙ ap is_check (constants_is text ts begin x.0.place (x.0, x.1, x.2, refl)))
+
+      by : (n : ℕ) → LeftOutIn text ts begin n ⊎ TooLargeIn text ts begin n → ⊥
+      by n (inl (inl x)) = true≢false (sym there ∙ ap is_check (left_out_front text ts begin x.0))
+      by n (inl (inr x)) = no_constant x.0
+      by n (inr x) = no_constant x.0
+
+  module _ (front : List Statement) (at : ℕ) where
+    twice_rest : (cs ds : List Statement) (to : ℕ) → checks_of front ≡ 1 → begins_check text (slice_get ts at) ≡ true → cs ≡ front ++ ds → StatementsUpTo text ts ds at to → checks_of cs ≤ 1 → (at ≡ to → ⊥) → ⊥
+    twice_rest cs [] to one check e x once apart = apart x
+    twice_rest cs (d ∷ ds) to one check e x once apart =
+        let second : is_check_deadlock d ≡ true = sym (check_begins at x.0 d x.1) ∙ check in
+        let p : checks_of cs ≡ checks_of front + checks_of (d ∷ ds) = ap (λ y. checks_of y) e ∙ checks_append front (d ∷ ds) in
+        let q : checks_of (d ∷ ds) ≡ checks_of (d ∷ []) + checks_of ds = checks_append (d ∷ []) ds in
+        let r : checks_of (d ∷ []) ≡ 1 = checks_one d true second in
+        absurd (omega (arith, one, p, q, r, once))
+
+    twice : StatementsSoFar front at → checks_of front ≡ 1 → begins_check text (slice_get ts at) ≡ true → (cs : List Statement) (to : ℕ) → StatementsUpTo text ts cs 0 to → Stops to → checks_of cs ≤ 1 → (at ≡ to → ⊥) → ⊥
+    twice so one check cs to x s once apart = let r = so.rest cs to x s in twice_rest cs r.0 to one check r.1 r.2 once apart
+
+    -- CHECK_DEADLOCK begins for a second time
+    pub so_far_twice : (checks : Bool) → at < length ts → StatementsSoFar front at → checks_of front ≡ count_of checks → (checks && begins_check text (slice_get ts at)) ≡ true → NoStatements text ts
+    so_far_twice checks l so h second cs x once =
+        let two = both_true checks (begins_check text (slice_get ts at)) second in
+        twice so (h ∙ ap (λ y. count_of y) two.0) two.1 cs (length ts) x stops_last once (λ e. omega (arith, e, l))
+
+    pub so_far_twice_clear : (checks : Bool) → StatementsSoFar front at → checks_of front ≡ count_of checks → (checks && begins_check text (slice_get ts at)) ≡ true → Clear text ts
+    so_far_twice_clear checks so h second =
+        let two = both_true checks (begins_check text (slice_get ts at)) second in
+        clear_all (λ begin g w. twice so (h ∙ ap (λ y. count_of y) two.0) two.1 g.statements begin g.spelled (stops_cause begin w) g.once (λ e. check_no_cause at begin two.1 e w))
+
+  -- no second one begins here
+  pub not_twice : (checks : Bool) (at to : ℕ) (c : Statement) → SpellsStatement text ts c at to → (checks && begins_check text (slice_get ts at)) ≡ false → not (checks && is_check_deadlock c) ≡ true
+  not_twice checks at to c x h = ap not (subst (λ b. (checks && b) ≡ false) (check_begins at to c x) h)
 
   -- they are followed by this token
   pub so_far_follows : (front : List Statement) (at : ℕ) → checks_of front ≤ 1 → StatementsSoFar front at → FollowsStatements text ts at

@@ -29,16 +29,9 @@ pub enum Statement {
 }
 
 impl Statement {
-    ghost use Rattle.std.specs.Prelude.{◌≡◌, not, ◌&&◌, ◌||◌};
+    ghost use Rattle.std.specs.Prelude.{◌≡◌, ◌||◌};
     ghost use Rattle.tla_config.specs.Configuration.{is_check_deadlock};
     ghost use Rattle.tla_config.specs.View.{statement_view};
-
-    /// Whether it may follow statements with or without CHECK_DEADLOCK.
-    pub(crate) fn may_follow(&self, checks: bool) -> bool
-        ensures { result ≡ not (checks && is_check_deadlock (statement_view self.now)) }
-    {
-        !(checks && matches!(self, Statement::CheckDeadlock(_, _)))
-    }
 
     /// Whether CHECK_DEADLOCK is among such statements and this one.
     pub(crate) fn checks_too(&self, checks: bool) -> bool

@@ -1,6 +1,7 @@
 //! The statements of a configuration.
 
-ghost use Rattle.std.specs.Prelude.{◌≤◌, ◌<◌, length, map, IfErr, IfOk, OnOk};
+ghost use Rattle.std.specs.Prelude.{◌≡◌, ◌≤◌, ◌<◌, ◌&&◌, length, map, slice_get, IfErr, IfOk, OnOk};
+ghost use Rattle.tla_config.specs.Private.Fronts as fronts;
 ghost use Rattle.tla_config.specs.Private.Gives as spec;
 ghost use Rattle.tla_config.specs.View.{statement_view};
 
@@ -90,6 +91,23 @@ fn statement(
     }
 }
 
+/// Whether CHECK_DEADLOCK begins here.
+fn begins_check(text: &[u8], tokens: &[Token], at: usize) -> bool
+    ensures { result ≡ fronts.begins_check text.now (slice_get tokens.now at) }
+{
+    let Some((keyword, _)) = keyword_at(text, tokens, at) else {
+        return false;
+    };
+    matches!(keyword, Keyword::CheckDeadlock)
+}
+
+/// Whether CHECK_DEADLOCK begins here, after statements with or without it.
+fn begins_second_check(text: &[u8], tokens: &[Token], checks: bool, at: usize) -> bool
+    ensures { result ≡ (checks && fronts.begins_check text.now (slice_get tokens.now at)) }
+{
+    checks && begins_check(text, tokens, at)
+}
+
 /// The statements of all tokens, CHECK_DEADLOCK at most once among them.
 pub fn statements(alloc: Global, text: &[u8], tokens: &[Token]) -> Result<Vec<Statement>, Refusal>
     ensures found { IfOk result (λ v. spec.AreStatements text.now tokens.now (map statement_view v.items)) }
@@ -101,10 +119,10 @@ pub fn statements(alloc: Global, text: &[u8], tokens: &[Token]) -> Result<Vec<St
     let mut checks = false;
     let mut at = 0;
     while at < tokens.len() {
-        let found = statement(alloc, text, tokens, at)?;
-        if !found.statement.may_follow(checks) {
+        if begins_second_check(text, tokens, checks, at) {
             return Err(Refusal::Unexpected(at));
         }
+        let found = statement(alloc, text, tokens, at)?;
         checks = found.statement.checks_too(checks);
         at = found.end;
         push(&mut statements, found.statement)?;

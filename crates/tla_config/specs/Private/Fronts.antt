@@ -60,3 +60,15 @@ digits_by t _ = None
 abbrev pub digits_of : Option Token → Option Token
 digits_of None = None
 digits_of (Some t) = digits_by t t.kind
+
+abbrev pub is_check_word : Keyword → Bool
+is_check_word word.CheckDeadlock = true
+is_check_word _ = false
+
+abbrev pub is_check : Option (Keyword × Place) → Bool
+is_check None = false
+is_check (Some x) = is_check_word x.0
+
+-- CHECK_DEADLOCK begins here
+abbrev pub begins_check : Bytes → Option Token → Bool
+begins_check text o = is_check (keyword_of text o)
