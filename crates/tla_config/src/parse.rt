@@ -2,7 +2,7 @@
 
 ghost use Rattle.std.specs.Prelude.{◌≡◌, ◌≢◌, ◌⊎◌, List, Some, None, length, IfOk, IfErr};
 ghost use Rattle.tla_lex.specs.Places.{place_at};
-ghost use Rattle.tla_lex.specs.Tokens.{no_memory};
+ghost use Rattle.tla_lex.specs.Tokens.{IsNotUtf8, no_memory};
 ghost use Rattle.tla_lex.specs.declared.token.Place as lexed_at;
 ghost use Rattle.tla_config.specs.Configuration.{IsConfiguration};
 ghost use Rattle.tla_config.specs.Private.Gives.{Because, Fails, NoStatements, LeftOutAt, TooLargeAt, Clear, OnlyBegins};
@@ -15,7 +15,7 @@ use crate::refusal::Refusal;
 use crate::statements::statements;
 use crate::tokens::token_at;
 use std::alloc::Global;
-use tla_lex::{Kind, LexError, Place, Scan, Stop, Token, configuration_tokens};
+use tla_lex::{Kind, LexCode, LexError, Place, Scan, Stop, Token, configuration_tokens};
 use tla_tree::slice_of;
 use tla_value::Text;
 
@@ -27,16 +27,20 @@ fn refused(place: Place) -> DefsError
 }
 
 /// The refusal of a text that has no tokens.
-fn unread(error: LexError) -> DefsError
+fn unread(text: &[u8], error: LexError) -> DefsError
+    requires { IsNotUtf8 text.now error ⊎ (error ≡ no_memory) }
     ensures code { result.code ≢ DefsCode.Memory → error ≢ no_memory }
     ensures source { result.source ≡ Source.Configuration }
     ensures located { IsLocated result.code result.place result.name }
     ensures text { result.code ≡ DefsCode.ConfigurationText ⊎ (result.code ≡ DefsCode.Memory) }
 {
-    match error.place {
-        Some(place) => refused(place),
-        None => DefsError::no_memory(Source::Configuration),
+    if let LexCode::NoMemory = error.code {
+        return DefsError::no_memory(Source::Configuration);
     }
+    let Some(place) = error.place else {
+        unreachable!()
+    };
+    refused(place)
 }
 
 /// The place of a token, or the end of the text.
@@ -132,7 +136,7 @@ pub fn parse_config(alloc: Global, text: &[u8]) -> Result<Config, DefsError>
 {
     let Scan { tokens, stop } = match configuration_tokens(alloc, text) {
         Ok(scan) => scan,
-        Err(error) => return Err(unread(error)),
+        Err(error) => return Err(unread(text, error)),
     };
     let statements = match statements(alloc, text, &tokens) {
         Ok(statements) => statements,
