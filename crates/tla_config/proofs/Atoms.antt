@@ -13,7 +13,7 @@ use Rattle.tla_config.specs.declared.refusal.Refusal.{Refusal}
 use Rattle.tla_config.specs.declared.refusal.Refusal.TheVariants as refusal
 use Rattle.tla_config.specs.Configuration.{Has, SpellsLiteral}
 use Rattle.tla_config.specs.Private.Fronts.{kind_at, digits_of}
-use Rattle.tla_config.specs.Beyond.{IsBeyond, itself}
+use Rattle.tla_config.specs.Private.Beyond.{IsBeyond, itself}
 use Rattle.tla_config.specs.Private.Gives.{Because, Nowhere, Fails}
 use Rattle.tla_config.specs.Private.GivesValues.{IsValueAt, NoValue, WritesNone, AtomBeyond, BeyondIn, IsUnwritten}
 use Rattle.tla_config.proofs.Arms.{because_map}
@@ -94,7 +94,7 @@ module _ (source : List ℕ) (ts : List Token) where
   atom_beyond room at t h b = itself room at (at + 1) (atom b.0) (inl (t, h, b.1, refl)) b.2
 
   -- a token that writes no value
-  no_spelled : (at : ℕ) (t : Token) → slice_get ts at ≡ Some t → kind_at k.LeftBrace (slice_get ts at) ≡ false → kind_at k.Minus (slice_get ts at) ≡ false → WritesNone source t → NoLiteral source ts at
+  pub no_spelled : (at : ℕ) (t : Token) → slice_get ts at ≡ Some t → kind_at k.LeftBrace (slice_get ts at) ≡ false → kind_at k.Minus (slice_get ts at) ≡ false → WritesNone source t → NoLiteral source ts at
   no_spelled at t h p q f (atom v) to (inl a) = let e = one_token (slice_get ts at) t a.0 h a.1 in let n : atom_of source a.0 ≡ None = ap (λ u. atom_of source u) (sym e) ∙ f in let m = a.2 in (let z : ⊥ = cc in z)
   no_spelled at t h p q f (atom v) to (inr a) = kind_none source ts k.Minus at refl q a.0
   no_spelled at t h p q f (braces ls) to a = kind_none source ts k.LeftBrace at refl p (opens source ts ls at to a)

@@ -4,7 +4,7 @@ use Rattle.tla_lex.specs.declared.token.Kind.TheVariants as k
 use Rattle.tla_lex.specs.declared.token.Token.{Token}
 use Rattle.tla_value.specs.IsValue.{IsValue}
 use Rattle.tla_value.specs.Tree.{Tree}
-use Rattle.tla_config.specs.Beyond.{MembersUpTo, IsBeyond, itself, nested, member}
+use Rattle.tla_config.specs.Private.Beyond.{MembersUpTo, IsBeyond, itself, nested, member}
 use Rattle.tla_config.specs.Configuration.{Has, SpellsLiteral}
 use Rattle.tla_config.specs.Literals.{Literal, value_of}
 use Rattle.tla_config.specs.Private.GivesValues.{IsValueAt, IsUnwritten}

@@ -7,12 +7,13 @@ use Rattle.tla_value.specs.IsValue.{IsValue}
 use Rattle.tla_value.specs.Tree.{Tree, Trees, Pairs, truth, int, text, model, set, fun, no_trees, more_trees, no_pairs, more_pairs, trees, pairs, members, entries, depth, deepest, deepest_pair}
 use Rattle.tla_config.specs.declared.refusal.Refusal.{Refusal}
 use Rattle.tla_config.specs.declared.refusal.Refusal.TheVariants as refusal
-use Rattle.tla_config.specs.Beyond.{IsBeyond}
+use Rattle.tla_config.specs.Beyond.{IsWrittenBeyond}
 use Rattle.tla_config.specs.Configuration.{Has, IsName, SpellsItem, Items}
 use Rattle.tla_config.specs.Private.Fronts.{kind_at}
 use Rattle.tla_config.specs.Private.Gives.{Because, Nowhere, Anything, Fails, Ends, GoesOn, LeftOutHere, TooLargeHere, ClearItem, LeftOutBehind, TooLargeBehind, ClearItems}
 use Rattle.tla_config.specs.Refusals.{IsLeftOutItem, IsTooLargeItem, ItemsUpTo}
-use Rattle.tla_config.specs.Private.GivesValues.{NoValue, NoItem, AreItems, NoItems, BeyondIn, IsUnwritten}
+use Rattle.tla_config.specs.Private.GivesValues.{NoValue, NoItem, AreItems, NoItems, TooLargeValue, IsValueAt}
+use Rattle.tla_config.specs.Private.LiteralEnds.{EndsAt, NoneEnds}
 use Rattle.tla_config.specs.Literals.{value_of}
 use Rattle.tla_config.specs.Statements.{Item, Value, Replaces}
 use Rattle.tla_config.proofs.Arms.{because_map}
@@ -82,7 +83,7 @@ module _ (source : List ℕ) (ts : List Token) where
   bracket_left_out at w n e b = ((w, n), kind_found k.Substitute (slice_get ts (at + 1)) e, kind_found k.LeftBracket (slice_get ts (at + 2)) b)
 
   -- nothing is left out in the item, nor too large
-  clear_item : (at : ℕ) → (Has source ts k.Substitute (at + 1) → Has source ts k.LeftBracket (at + 2) → ⊥) → (Has source ts k.Equal (at + 1) → IsBeyond source ts 64 (at + 2) → ⊥) → ClearItem source ts at
+  clear_item : (at : ℕ) → (Has source ts k.Substitute (at + 1) → Has source ts k.LeftBracket (at + 2) → ⊥) → (Has source ts k.Equal (at + 1) → IsWrittenBeyond source ts (at + 2) → ⊥) → ClearItem source ts at
   clear_item at f g = record { no_left = λ n x. f x.0.1 x.0.2; no_large = λ n x. g x.0.1 x.0.2 }
 
   -- no name begins it
@@ -94,13 +95,23 @@ module _ (source : List ℕ) (ts : List Token) where
   name_because refusal.NoMemory at f x = tt
 
   -- it has a value
-  pub value_clear : (at : ℕ) → kind_at k.Equal (slice_get ts (at + 1)) ≡ true → (IsBeyond source ts 64 (at + 2) → ⊥) → ClearItem source ts at
+  pub value_clear : (at : ℕ) → kind_at k.Equal (slice_get ts (at + 1)) ≡ true → (IsWrittenBeyond source ts (at + 2) → ⊥) → ClearItem source ts at
   value_clear at e f = clear_item at (λ x y. arrow_equal (at + 1) (kind_found k.Equal (slice_get ts (at + 1)) e) x) (λ x. f)
 
-  pub value_because : (r : Refusal) (at : ℕ) (w : Written) → IsName source ts w at → kind_at k.Equal (slice_get ts (at + 1)) ≡ true → Because r Nowhere (BeyondIn source ts at 64 (at + 2)) (IsUnwritten source ts 64 (at + 2))
+  pub value_because : (r : Refusal) (at : ℕ) (w : Written) → IsName source ts w at → kind_at k.Equal (slice_get ts (at + 1)) ≡ true → Because r Nowhere (TooLargeValue source ts at) (NoneEnds source ts (at + 2))
       → Because r (LeftOutHere source ts at) (TooLargeHere source ts at) (ClearItem source ts at)
-  value_because r at w n e x = because_map r Nowhere (BeyondIn source ts at 64 (at + 2)) (LeftOutHere source ts at) (TooLargeHere source ts at) (IsUnwritten source ts 64 (at + 2)) (ClearItem source ts at)
-      (λ m y. absurd y) (λ m y. (((w, n), kind_found k.Equal (slice_get ts (at + 1)) e, y.1), y.0)) (λ y. value_clear at e y.within) x
+  value_because r at w n e x = because_map r Nowhere (TooLargeValue source ts at) (LeftOutHere source ts at) (TooLargeHere source ts at) (NoneEnds source ts (at + 2)) (ClearItem source ts at)
+      (λ m y. absurd y) (λ m y. (((w, n), kind_found k.Equal (slice_get ts (at + 1)) e, y.1), y.0)) (λ y. value_clear at e (λ b. y b.0 b.1 b.2)) x
+
+  -- what is written whole, where no value is within the limits, is beyond them
+  pub written_beyond : (at to : ℕ) → NoValue source ts 64 at → EndsAt source ts at to → IsWrittenBeyond source ts at
+  written_beyond at to f x = (x.0, to, x.1, λ y. f x.0 to x.1 y (value_depth (value_of x.0) y))
+
+  -- a value that is within them isn't beyond them
+  pub within_limits : (at to : ℕ) (v : Tree) → IsValueAt source ts v at to → IsWrittenBeyond source ts at → ⊥
+  within_limits at to v found b =
+      let e = one_literal source ts b.0 found.literal at b.1 to b.2 found.spelled in
+      b.3 (subst (λ u. IsValue u) (sym (ap (λ l. value_of l) e.0 ∙ found.meaning)) found.is_value)
 
   -- it has neither a value nor an operator
   pub neither_clear : (at : ℕ) → kind_at k.Equal (slice_get ts (at + 1)) ≡ false → kind_at k.Substitute (slice_get ts (at + 1)) ≡ false → ClearItem source ts at

@@ -5,6 +5,7 @@ pub mod Arms
 pub mod StatementLists
 pub mod TextEnd
 pub mod Literals
+pub mod LiteralEnds
 pub mod Beyond
 pub mod Limits
 pub mod Numbers

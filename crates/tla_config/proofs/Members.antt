@@ -8,7 +8,7 @@ use Rattle.tla_value.specs.Tree.{Tree, set, trees, members-trees, depth, deepest
 use Rattle.tla_config.specs.Configuration.{Has, SpellsLiteral, SpellsMembers}
 use Rattle.tla_config.specs.declared.refusal.Refusal.{Refusal}
 use Rattle.tla_config.specs.declared.refusal.Refusal.TheVariants as refusal
-use Rattle.tla_config.specs.Beyond.{MembersUpTo, IsBeyond, itself, member}
+use Rattle.tla_config.specs.Private.Beyond.{MembersUpTo, IsBeyond, itself, member}
 use Rattle.tla_config.specs.Private.Gives.{Because, Nowhere, Fails}
 use Rattle.tla_config.specs.Private.GivesValues.{IsValueAt, NoValue, BeyondIn, IsUnwritten}
 use Rattle.tla_config.proofs.Arms.{because_map}

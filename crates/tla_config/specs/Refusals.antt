@@ -10,10 +10,9 @@ use Rattle.tla_lex.specs.declared.token.Place.{Place}
 use Rattle.tla_lex.specs.declared.token.Token.{Token}
 use Rattle.tla_tree.specs.Words.{word_of}
 use Rattle.tla_tree.specs.declared.word.Written.{Written}
-use Rattle.tla_value.specs.declared.set.TheConstants.{MAX_NESTING}
 use Rattle.tla_config.specs.declared.error.DefsCode.{DefsCode}
 use Rattle.tla_config.specs.declared.error.DefsCode.TheVariants as code
-use Rattle.tla_config.specs.Beyond.{IsBeyond}
+use Rattle.tla_config.specs.Beyond.{IsWrittenBeyond}
 use Rattle.tla_config.specs.Configuration.{Has, IsName, SpellsItem, StatementsUpTo, is_check_deadlock}
 use Rattle.tla_config.specs.Names.{Name, is_among}
 use Rattle.tla_config.specs.Statements.{Item, Statement}
@@ -34,9 +33,9 @@ module _ (text : Bytes) (ts : List Token) where
   abbrev pub IsLeftOutItem : ℕ → Type 0
   IsLeftOutItem at = ((c : Written) × IsName text ts c at) × Has text ts k.Substitute (at + 1) × Has text ts k.LeftBracket (at + 2)
 
-  -- `c = value` begins here, with a value beyond the limits
+  -- `c = value` is here, with a value beyond the limits
   abbrev pub IsTooLargeItem : ℕ → Type 0
-  IsTooLargeItem at = ((c : Written) × IsName text ts c at) × Has text ts k.Equal (at + 1) × IsBeyond text ts MAX_NESTING (at + 2)
+  IsTooLargeItem at = ((c : Written) × IsName text ts c at) × Has text ts k.Equal (at + 1) × IsWrittenBeyond text ts (at + 2)
 
   -- items between two tokens, each with or without a comma after it
   abbrev pub ItemsUpTo : List Item → ℕ → ℕ → Type 0

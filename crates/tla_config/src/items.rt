@@ -1,14 +1,17 @@
 //! Lists of items.
 
-ghost use Rattle.std.specs.Prelude.{◌≤◌, ◌<◌, length, IfOk, IfErr, OnOk};
-ghost use Rattle.tla_config.specs.Private.Gives.{Because, LeftOutHere, TooLargeHere, ClearItem, LeftOutBehind, TooLargeBehind, ClearItems};
+ghost use Rattle.std.specs.Prelude.{◌≤◌, ◌<◌, ◌+◌, length, IfOk, IfErr, OnOk};
+ghost use Rattle.tla_config.specs.Beyond.{IsWrittenBeyond};
+ghost use Rattle.tla_config.specs.Private.LiteralEnds.{NoneEnds};
+ghost use Rattle.tla_config.specs.Private.Gives.{Because, Nowhere, Fails, LeftOutHere, TooLargeHere, ClearItem, LeftOutBehind, TooLargeBehind, ClearItems};
 ghost use Rattle.tla_config.specs.Private.GivesValues as spec;
 
 use crate::names::{name, next_name};
 use crate::refusal::Refusal;
 use crate::statement::Item;
 use crate::tokens::is_kind;
-use crate::values::value;
+use crate::values::{ParsedValue, value};
+use crate::written::literal_end;
 use std::alloc::Global;
 use tla_lex::{Kind, Token};
 use tla_tree::push;
@@ -28,6 +31,44 @@ pub struct ParsedItems {
     pub end: usize,
 }
 
+/// The refusal of the value of an item, after its `=`: that it is too large only if all of it is written.
+fn refused_value(text: &[u8], tokens: &[Token], item: usize, refusal: Refusal) -> Refusal
+    requires item { item + 2 ≤ length tokens.now }
+    requires fails { Fails text.now tokens.now refusal (spec.NoValue text.now tokens.now 64 (item + 2)) }
+    requires because { Because refusal Nowhere (spec.BeyondIn text.now tokens.now item 64 (item + 2)) (spec.IsUnwritten text.now tokens.now 64 (item + 2)) }
+    ensures fails { Fails text.now tokens.now result (spec.NoValue text.now tokens.now 64 (item + 2)) }
+    ensures because { Because result Nowhere (spec.TooLargeValue text.now tokens.now item) (NoneEnds text.now tokens.now (item + 2)) }
+{
+    match refusal {
+        Refusal::TooLarge(at) => match literal_end(text, tokens, item + 2) {
+            Ok(_) => Refusal::TooLarge(at),
+            Err(breaks_off) => Refusal::Unexpected(breaks_off),
+        },
+        Refusal::Unexpected(at) => Refusal::Unexpected(at),
+        Refusal::LeftOut(at) => Refusal::LeftOut(at),
+        Refusal::NoMemory => Refusal::NoMemory,
+    }
+}
+
+/// The value of an item, after its `=`.
+fn item_value(
+    alloc: Global,
+    text: &[u8],
+    tokens: &[Token],
+    item: usize,
+) -> Result<ParsedValue, Refusal>
+    requires { item + 2 ≤ length tokens.now }
+    ensures gives { spec.GivesValue text.now tokens.now 64 (item + 2) result }
+    ensures because { IfErr result (λ e. Because e Nowhere (spec.TooLargeValue text.now tokens.now item) (NoneEnds text.now tokens.now (item + 2))) }
+    ensures limits { OnOk result (IsWrittenBeyond text.now tokens.now (item + 2) → ⊥) }
+    ensures within { IfOk result (λ x. (item + 2 < x.end) × (x.end ≤ length tokens.now)) }
+{
+    match value(alloc, text, tokens, item, MAX_NESTING as usize, item + 2) {
+        Ok(found) => Ok(found),
+        Err(refusal) => Err(refused_value(text, tokens, item, refusal)),
+    }
+}
+
 /// The item that begins here.
 fn item(alloc: Global, text: &[u8], tokens: &[Token], at: usize) -> Result<ParsedItem, Refusal>
     ensures gives { spec.GivesItem text.now tokens.now at result }
@@ -37,7 +78,7 @@ fn item(alloc: Global, text: &[u8], tokens: &[Token], at: usize) -> Result<Parse
 {
     let constant = name(alloc, text, tokens, at)?;
     if is_kind(Kind::Equal, tokens, at + 1) {
-        let found = value(alloc, text, tokens, at, MAX_NESTING as usize, at + 2)?;
+        let found = item_value(alloc, text, tokens, at)?;
         return Ok(ParsedItem {
             item: Item::Value(constant, found.value),
             end: found.end,

@@ -14,6 +14,7 @@ mod statement;
 mod statements;
 mod tokens;
 mod values;
+mod written;
 
 pub use config::Config;
 pub use error::{DefsCode, DefsError, Source};

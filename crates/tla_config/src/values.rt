@@ -10,7 +10,7 @@ ghost use Rattle.tla_value.specs.IsValue.{IsValue};
 ghost use Rattle.tla_value.specs.Tree as tree;
 ghost use Rattle.tla_value.specs.TreeOf.{tree_of};
 ghost use Rattle.tla_tree.specs.Words.{word_of};
-ghost use Rattle.tla_config.specs.Beyond.{IsBeyond};
+ghost use Rattle.tla_config.specs.Private.Beyond.{IsBeyond};
 ghost use Rattle.tla_config.specs.Private.Fronts.{kind_at};
 ghost use Rattle.tla_config.specs.Private.Gives.{Because, Nowhere};
 ghost use Rattle.tla_config.specs.Private.GivesValues as spec;

@@ -1,5 +1,5 @@
 -- What the answer of a reader of values says. Private contracts alone cite this.
-use Rattle.std.specs.Prelude.{◌≡◌, ◌≤◌, ℕ, List, Some, None, Result, Ok, Err, map}
+use Rattle.std.specs.Prelude.{◌≡◌, ◌≤◌, ℕ, ◌+◌, List, Some, None, Result, Ok, Err, map}
 use Rattle.tla_lex.specs.Bytes.{Bytes}
 use Rattle.tla_lex.specs.declared.token.Token.{Token}
 use Rattle.tla_value.specs.IsValue.{IsValue}
@@ -11,7 +11,8 @@ use Rattle.tla_config.specs.declared.items.ParsedItem.{ParsedItem}
 use Rattle.tla_config.specs.declared.items.ParsedItems.{ParsedItems}
 use Rattle.tla_config.specs.declared.refusal.Refusal.{Refusal}
 use Rattle.tla_config.specs.declared.values.ParsedValue.{ParsedValue}
-use Rattle.tla_config.specs.Beyond.{IsBeyond}
+use Rattle.tla_config.specs.Beyond.{IsWrittenBeyond}
+use Rattle.tla_config.specs.Private.Beyond.{IsBeyond}
 use Rattle.tla_config.specs.Configuration.{SpellsLiteral, SpellsItem, Items}
 use Rattle.tla_config.specs.Private.Gives.{Ends, Fails}
 use Rattle.tla_config.specs.Literals.{Literal, value_of, atom_of}
@@ -74,6 +75,10 @@ module _ (text : Bytes) (ts : List Token) where
   -- the value that begins here is beyond the limits, in the item of this number
   abbrev pub BeyondIn : ℕ → ℕ → ℕ → ℕ → Type 0
   BeyondIn item room from at = (at ≡ item) × IsBeyond text ts room from
+
+  -- the value of the item of this number is written whole, and is beyond the limits
+  abbrev pub TooLargeValue : ℕ → ℕ → Type 0
+  TooLargeValue item at = (at ≡ item) × IsWrittenBeyond text ts (item + 2)
 
   -- no value is written here, and none that is beyond the limits begins here
   pub record IsUnwritten (room from : ℕ) : Type 0 where

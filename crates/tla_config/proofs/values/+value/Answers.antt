@@ -6,7 +6,7 @@ use Rattle.tla_value.specs.IsValue.{IsValue}
 use Rattle.tla_value.specs.Sets.{set_of}
 use Rattle.tla_value.specs.Tree.{set, trees}
 use Rattle.tla_value.specs.TreeOf.{tree_of}
-use Rattle.tla_config.specs.Beyond.{IsBeyond, nested}
+use Rattle.tla_config.specs.Private.Beyond.{IsBeyond, nested}
 use Rattle.tla_config.specs.Private.GivesValues.{IsValueAt, NoValue}
 use Rattle.tla_config.proofs.Arms.{fails_map}
 use Rattle.tla_config.proofs.Atoms.{NoAtom, atom_is, no_atom, atom_because, token_unwritten}
