@@ -2,3 +2,4 @@ pub mod Walks
 pub mod Tables
 pub mod Settling
 pub mod Firsts
+pub mod Dues

@@ -1,11 +1,11 @@
 //! Items that lead back to their name.
 
-ghost use Rattle.std.specs.Prelude.{◌≡◌, ◌≢◌, ◌++◌, true, false, OnOk, IfOk, IfErr, map};
+ghost use Rattle.std.specs.Prelude.{◌≡◌, ◌≢◌, ◌≤◌, ◌+◌, ◌++◌, length, true, false, OnOk, IfOk, IfErr, map};
 ghost use Rattle.tla_config.specs.declared.error.DefsCode.TheVariants.{Memory};
 ghost use Rattle.tla_tree.specs.UnitsView.{unit_view};
 ghost use Rattle.tla_items.specs.Cycles.{AreStraight};
 ghost use Rattle.tla_items.specs.References as spec;
-ghost use Rattle.tla_items.specs.Private.Reached.{AreAmong, AreLed, Covers, GoesOn};
+ghost use Rattle.tla_items.specs.Private.Reached.{AreAmong, AreLed, Covers, GoesOn, due};
 ghost use Rattle.tla_items.specs.Private.Settled.{AreSettled, all_among};
 ghost use Rattle.tla_items.specs.Refusal.{IsOfCycle};
 
@@ -47,6 +47,7 @@ fn go_on<'a>(
     name: &'a Word,
 ) -> Result<(), DefsError>
     ensures ok { OnOk result (GoesOn references.now name.entry.now walk.old.passed walk.old.waiting walk.new.passed walk.new.waiting) }
+    ensures less { OnOk result (due references.now walk.new.passed + length walk.new.waiting ≤ due references.now walk.old.passed + length walk.old.waiting) }
     ensures err { IfErr result (λ e. e.code ≡ Memory) }
 {
     if !walk.passed.insert(name.as_bytes())? {
@@ -71,13 +72,12 @@ fn reached<'a>(
         waiting: Waiting::new(alloc),
     };
     push_next(references, &mut walk.waiting, from)?;
-    for _turn in 0..u64::MAX {
+    loop {
         let Some(name) = walk.waiting.pop() else {
             return Ok(walk.passed);
         };
         go_on(references, &mut walk, name)?;
     }
-    Err(DefsError::no_memory(Source::Module))
 }
 
 /// Whether a name leads to itself. The only error is that memory ran out.

@@ -38,6 +38,7 @@ impl<'a> NameSet<'a> {
     pub(crate) fn insert(&mut self, name: &'a [u8]) -> Result<bool, DefsError>
         ensures new { IfOk result (λ b. b ≡ true → self.new ≡ self.old ++ name.entry.now ∷ []) }
         ensures same { IfOk result (λ b. b ≡ false → self.new ≡ self.old) }
+        ensures fresh { IfOk result (λ b. b ≡ true → is_among name.entry.now self.old ≡ false) }
         ensures seen { IfOk result (λ b. b ≡ false → is_among name.entry.now self.old ≡ true) }
         ensures err { IfErr result (λ e. e.code ≡ Memory) }
     {

@@ -1,10 +1,19 @@
 -- The names that a name leads to, as the code finds them. Private contracts alone cite this.
-use Rattle.std.specs.Prelude.{◌≡◌, true, List, [], ◌∷◌, ◌++◌}
+use Rattle.std.specs.Prelude.{◌≡◌, ℕ, ◌+◌, length, Bool, true, false, List, [], ◌∷◌, ◌++◌}
 use Rattle.tla_config.specs.Names.{Name, is_among}
 use Rattle.tla_items.specs.References.{Reference, next_names, LeadsBy}
 
 abbrev pub AreAmong : List Name → List Name → Type 0
 AreAmong xs ys = (z : Name) → is_among z xs ≡ true → is_among z ys ≡ true
+
+abbrev pub part_due : Bool → ℕ → ℕ
+part_due true n = 0
+part_due false n = n
+
+-- the most names that the names not yet passed can lead to at once
+abbrev pub due : List Reference → List Name → ℕ
+due [] passed = 0
+due (l ∷ ls) passed = part_due (is_among l.0 passed) (length l.1) + due ls passed
 
 module _ (ls : List Reference) where
   -- a name leads to each of these
