@@ -1,6 +1,6 @@
 //! From an expression to the form that it means.
 
-ghost use Rattle.std.specs.Prelude.{◌≡◌, ◌≤◌, length, ℕ, List, map, IfOk, OnOk, IfErr};
+ghost use Rattle.std.specs.Prelude.{◌≡◌, ◌≤◌, length, ℕ, true, List, map, IfOk, OnOk, IfErr};
 ghost use Rattle.tla_tree.specs.View.{view, definition_view};
 ghost use Rattle.tla_tree.specs.Tree.{definitions as definitions_of};
 ghost use Rattle.tla_expand.specs.declared.arena.Entry as arena_entry;
@@ -8,6 +8,7 @@ ghost use Rattle.tla_expand.specs.Meanings.{Scope, standard, operator, builtin_m
 ghost use Rattle.tla_expand.specs.Expand.{expand, definitions_in, definition_in};
 ghost use Rattle.tla_expand.specs.Scopes.{AreLinked, IsBelow, Extends, scope_at, entry_scope, meaning_of, arguments_in};
 ghost use Rattle.tla_expand.specs.Private.Gives.{reduction_gives, head_gives, IsAlone, IsWithin, Explains};
+ghost use Rattle.tla_expand.specs.Private.Forms.{means_another};
 ghost use Rattle.tla_expand.specs.Primes.{with_primes};
 ghost use Rattle.tla_expand.specs.Listed.{listed};
 
@@ -242,6 +243,7 @@ fn go<'a>(
     scope: usize,
     primes: Primes,
 ) -> Result<Reduction<'a>, Failure>
+    requires another { means_another (view tree.now) ≡ true }
     requires linked { AreLinked (listed entries.old) }
     requires scope { scope ≤ length (listed entries.old) }
     ensures linked { OnOk result (AreLinked (listed entries.new)) }
@@ -267,7 +269,7 @@ fn go<'a>(
             let inside = define(entries, definitions.as_slice(), scope)?;
             Ok(Reduction::Goes(inner, inside, primes))
         }
-        _ => Err(Failure::Memory),
+        _ => unreachable!(),
     }
 }
 
