@@ -20,7 +20,7 @@ ghost use Rattle.tla_defs.specs.Private.Specified.{initial_in, initial_tree, act
 use crate::behaviour::Behaviour;
 use crate::specification::{Specified, specification};
 use std::alloc::Global;
-use tla_config::{DefsCode, DefsError, Source};
+use tla_config::{DefsCode, DefsError};
 use tla_core::Core;
 use tla_expand::{Primes, Scopes};
 use tla_formulas::{Places, action, initial, refusal};
@@ -92,12 +92,13 @@ fn specified_initial<'a>(
     scopes: &Scopes<'a>,
     specified: &Specified<'a>,
 ) -> Result<Core, DefsError>
+    requires { (i : Tree) × (initial_in specified.now ≡ Some i) }
     ensures found { (i : Tree) → initial_in specified.now ≡ Some i → IfOk result (λ c. formulas.IsInitial (scope_of scopes.now) i (expr_of c)) }
     ensures formula { (i : Tree) → initial_in specified.now ≡ Some i → IfErr result (λ e. e.code ≢ Memory → formula_refused.IsOfFormula (expand i (scope_of scopes.now) 0) read.Once e) }
     ensures none { (i : Tree) → initial_in specified.now ≡ Some i → IfErr result (λ e. e.code ≢ Memory → (x : expr.Expr) → formulas.IsInitial (scope_of scopes.now) i x → ⊥) }
 {
     if specified.initial.len() == 0 {
-        return Err(DefsError::no_memory(Source::Module));
+        unreachable!()
     }
     let first = specified.initial[0];
     if specified.initial.len() == 1 {
@@ -129,6 +130,7 @@ pub(crate) fn initial_predicate<'a>(
     scopes: &Scopes<'a>,
     meant: &InitAndNext<'a>,
 ) -> Result<Core, DefsError>
+    requires { (i : Tree) × (initial_tree «meant».now ≡ Some i) }
     ensures found { (i : Tree) → initial_tree «meant».now ≡ Some i → IfOk result (λ c. formulas.IsInitial (scope_of scopes.now) i (expr_of c)) }
     ensures formula { (i : Tree) → initial_tree «meant».now ≡ Some i → IfErr result (λ e. e.code ≢ Memory → formula_refused.IsOfFormula (expand i (scope_of scopes.now) 0) read.Once e) }
     ensures none { (i : Tree) → initial_tree «meant».now ≡ Some i → IfErr result (λ e. e.code ≢ Memory → (x : expr.Expr) → formulas.IsInitial (scope_of scopes.now) i x → ⊥) }
