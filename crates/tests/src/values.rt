@@ -14,7 +14,7 @@ fn nested(alloc: Global, braces: u64) -> Result<Value, ValueError> {
     for _ in 0..braces {
         let mut values = Vec::new(alloc);
         values.push(value)?;
-        value = Value::Set(SetValue::from_values(values)?);
+        value = Value::Set(SetValue::from_values(alloc, values)?);
     }
     Ok(value)
 }
@@ -56,7 +56,7 @@ fn refuses_a_member(alloc: Global, largest: i64) -> Result<bool, ValueError> {
 
 // Whether this many pairs of different numbers are refused.
 fn refuses_pairs(alloc: Global, count: i64) -> Result<bool, ValueError> {
-    let made = FunValue::from_pairs(numbered_pairs(alloc, count)?);
+    let made = FunValue::from_pairs(alloc, numbered_pairs(alloc, count)?);
     Ok(matches!(made, Err(ValueError::TooMany)))
 }
 
@@ -125,7 +125,7 @@ fn numbered_pairs(alloc: Global, count: i64) -> Result<Vec<(Value, Value)>, Valu
 fn one_pair(alloc: Global) -> Result<FunValue, ValueError> {
     let mut pairs = Vec::new(alloc);
     pairs.push((Value::Int(1), Value::Int(7)))?;
-    FunValue::from_pairs(pairs)
+    FunValue::from_pairs(alloc, pairs)
 }
 
 // Whether a function is that from 1 to this value.
@@ -199,7 +199,7 @@ fn backwards(alloc: Global) -> Result<SetValue, ValueError> {
     for number in 0..1_000_000 {
         values.push(Value::Int(1_000_000_i64.wrapping_sub(number)))?;
     }
-    SetValue::from_values(values)
+    SetValue::from_values(alloc, values)
 }
 
 fn text_length(alloc: Global, value: &Value) -> Option<usize> {

@@ -109,7 +109,7 @@ fn known_set(alloc: Global, parts: &[Core]) -> Result<Option<Value>, AllocError>
     ensures { IfOk result (λ o. IfSome o (λ v. (p : Place) → IsAlways (means-enumerated p (parts_of_cores parts.now)) (tree_of v))) }
 {
     match known_values(alloc, parts)? {
-        Some(values) => set_within(SetValue::from_values(values)),
+        Some(values) => set_within(SetValue::from_values(alloc, values)),
         None => Ok(None),
     }
 }
@@ -119,7 +119,7 @@ fn known_tuple(alloc: Global, parts: &[Core]) -> Result<Option<Value>, AllocErro
     ensures { IfOk result (λ o. IfSome o (λ v. (p : Place) → IsAlways (means-tuple p (parts_of_cores parts.now)) (tree_of v))) }
 {
     match known_values(alloc, parts)? {
-        Some(values) => fun_within(FunValue::sequence(values)),
+        Some(values) => fun_within(FunValue::sequence(alloc, values)),
         None => Ok(None),
     }
 }
@@ -129,7 +129,7 @@ fn known_record(alloc: Global, fields: &[(Text, Core)]) -> Result<Option<Value>,
     ensures { IfOk result (λ o. IfSome o (λ v. (p : Place) → IsAlways (means-record_of p (fields_of_cores fields.now)) (tree_of v))) }
 {
     match known_fields(alloc, fields)? {
-        Some(pairs) => fun_within(FunValue::from_pairs(pairs)),
+        Some(pairs) => fun_within(FunValue::from_pairs(alloc, pairs)),
         None => Ok(None),
     }
 }

@@ -192,7 +192,10 @@ pub(crate) fn single<'p>(
     ensures { Gives result (binary_rule Single place.now (tree_of argument.now) (tree_of value.now)) }
 {
     let pair = (copied(alloc, argument)?, copied(alloc, value)?);
-    made_fun(place, FunValue::from_pairs(Vec::from_array(alloc, [pair])?))
+    made_fun(
+        place,
+        FunValue::from_pairs(alloc, Vec::from_array(alloc, [pair])?),
+    )
 }
 
 /// `@@`.

@@ -232,7 +232,7 @@ pub(crate) fn union_all<'p>(
     ensures { Gives result (unary_rule Union place.now (tree_of sets.now)) }
 {
     let sets = members(place, sets)?;
-    joined(alloc, place, sets)?.into_set(place)
+    joined(alloc, place, sets)?.into_set(alloc, place)
 }
 
 /// The different members of some sets.
@@ -254,7 +254,7 @@ pub fn booleans<'p, 'a>(alloc: Global) -> Result<Evaluated<'a>, Trouble<'p>>
         Ok(values) => values,
         Err(_) => return Err(memory()),
     };
-    match SetValue::from_values(values) {
+    match SetValue::from_values(alloc, values) {
         Ok(set) => Ok(Evaluated::Owned(Value::Set(set))),
         Err(_) => Err(memory()),
     }

@@ -236,12 +236,17 @@ pub(crate) fn made_of_three(
 }
 
 /// What a form with a list of operands makes of their values.
-pub(crate) fn made_of_list(place: &Place, form: ListForm, values: Vec<Value>) -> Result<Value, Stop>
+pub(crate) fn made_of_list(
+    alloc: Global,
+    place: &Place,
+    form: ListForm,
+    values: Vec<Value>,
+) -> Result<Value, Stop>
     ensures { (es : Exprs) (b : Bound) (s : Present) (t : Next) → each (λ (m : Meaning). m.value b s t) (mean_all es) ≡ Ok (map tree_of values.items) → Answers tree_of result (val (list_expr form place.now es) b s t) }
 {
     match form {
-        ListForm::Enumerated => Ok(made_set(place, SetValue::from_values(values))?),
-        ListForm::Tuple => Ok(sequence_of(place, values)?),
+        ListForm::Enumerated => Ok(made_set(place, SetValue::from_values(alloc, values))?),
+        ListForm::Tuple => Ok(sequence_of(alloc, place, values)?),
         _ => Err(Stop::Unknown),
     }
 }
@@ -270,10 +275,10 @@ pub(crate) fn one_of_known(
 }
 
 /// The set of some values.
-pub(crate) fn set_of(place: &Place, values: Vec<Value>) -> Result<Value, Stop>
+pub(crate) fn set_of(alloc: Global, place: &Place, values: Vec<Value>) -> Result<Value, Stop>
     ensures { Answers tree_of result (make_set place.now (map tree_of values.items)) }
 {
-    Ok(made_set(place, SetValue::from_values(values))?)
+    Ok(made_set(place, SetValue::from_values(alloc, values))?)
 }
 
 /// The element with a number, as a value of its own.
@@ -313,10 +318,14 @@ pub(crate) fn known_members(set: &Value) -> Result<&[Value], Stop>
 }
 
 /// The record of some fields.
-pub(crate) fn made_record(place: &Place, pairs: Vec<(Value, Value)>) -> Result<Value, Stop>
+pub(crate) fn made_record(
+    alloc: Global,
+    place: &Place,
+    pairs: Vec<(Value, Value)>,
+) -> Result<Value, Stop>
     ensures { Answers tree_of result (make_fun place.now (map pair_of pairs.items)) }
 {
-    Ok(made_fun(place, FunValue::from_pairs(pairs))?)
+    Ok(made_fun(place, FunValue::from_pairs(alloc, pairs))?)
 }
 
 /// A value that is a function, copied where it was lent.

@@ -231,7 +231,7 @@ pub(super) fn filter<'c: 'a, 'a>(
 {
     let elements = elements_in(alloc, place, set, env)?;
     let kept = passing(alloc, place, body, &elements, env)?;
-    Ok(Evaluated::Owned(made_set(place, SetValue::from_values(kept))?))
+    Ok(Evaluated::Owned(made_set(place, SetValue::from_values(alloc, kept))?))
 }
 
 /// Copies of those of these elements of which a body is TRUE.

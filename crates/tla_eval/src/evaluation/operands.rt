@@ -164,7 +164,7 @@ pub(super) fn enumerated<'c: 'a, 'a>(
     ensures { Evaluates result ((means-enumerated place.now (parts_of_cores parts.now)).value (bound_in env.entry) (present_in env.entry) (next_in env.entry)) }
 {
     let values = values_of(alloc, parts, env)?;
-    Ok(Evaluated::Owned(made_set(place, SetValue::from_values(values))?))
+    Ok(Evaluated::Owned(made_set(place, SetValue::from_values(alloc, values))?))
 }
 
 /// The sequence of the values of its parts.
@@ -178,7 +178,7 @@ pub(super) fn tuple<'c: 'a, 'a>(
     ensures { Evaluates result ((means-tuple place.now (parts_of_cores parts.now)).value (bound_in env.entry) (present_in env.entry) (next_in env.entry)) }
 {
     let values = values_of(alloc, parts, env)?;
-    Ok(Evaluated::Owned(sequence_of(place, values)?))
+    Ok(Evaluated::Owned(sequence_of(alloc, place, values)?))
 }
 
 /// The record of the values of its fields.
@@ -192,5 +192,5 @@ pub(super) fn record_of<'c: 'a, 'a>(
     ensures { Evaluates result (record_rule place.now (fields_of_cores fields.now) (bound_in env.entry) (present_in env.entry) (next_in env.entry)) }
 {
     let pairs = named_values(alloc, fields, env)?;
-    Ok(Evaluated::Owned(made_fun(place, FunValue::from_pairs(pairs))?))
+    Ok(Evaluated::Owned(made_fun(place, FunValue::from_pairs(alloc, pairs))?))
 }

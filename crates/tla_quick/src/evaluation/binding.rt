@@ -66,7 +66,7 @@ pub(super) fn value_of_binder<'m: 'a, 'a>(
         }
         BinderForm::Filter => {
             let found = elements(alloc, place, set, env)?;
-            Ok(Evaluated::Owned(set_of(place, passing(alloc, place, body, &found, env)?)?))
+            Ok(Evaluated::Owned(set_of(alloc, place, passing(alloc, place, body, &found, env)?)?))
         }
     }
 }
