@@ -1,5 +1,5 @@
 //! What forms make of values that are known.
-ghost use Rattle.std.specs.Prelude.{◌≡◌, ◌+◌, ◌++◌, Ok, IfOk, OnOk, List, cond, map, slice_get};
+ghost use Rattle.std.specs.Prelude.{◌≡◌, ◌<◌, ◌+◌, ◌++◌, Ok, IfOk, OnOk, List, length, cond, map, slice_get};
 ghost use Rattle.std.specs.Option.{option_to_list};
 ghost use Rattle.tla_value.specs.Tree.{Tree, truth, fun, pairs};
 ghost use Rattle.tla_value.specs.TreeOf.{tree_of, pair_of};
@@ -284,13 +284,13 @@ pub(crate) fn set_of(alloc: Global, place: &Place, values: Vec<Value>) -> Result
 /// The element with a number, as a value of its own.
 pub(crate) fn chosen<'a>(
     alloc: Global,
-    place: &Place,
     elements: &'a Elements<'a>,
     number: usize,
 ) -> Result<Value, Stop>
-    ensures { Answers tree_of result (or_fault NoChoice place.now (slice_get (elements_of elements.now) number)) }
+    requires { number < length (elements_of elements.now) }
+    ensures { (p : AnyPlace) → Answers tree_of result (or_fault NoChoice p (slice_get (elements_of elements.now) number)) }
 {
-    Ok(chosen_at(alloc, place, elements, number)?)
+    Ok(chosen_at(alloc, elements, number)?)
 }
 
 /// Adds the element with a number at the end, if it is to be kept.
@@ -301,6 +301,7 @@ pub(crate) fn keep<'a>(
     number: usize,
     keep: bool,
 ) -> Result<(), Stop>
+    requires { number < length (elements_of elements.now) }
     ensures { OnOk result (map tree_of kept.new.items ≡ cond keep (map tree_of kept.old.items ++ option_to_list (slice_get (elements_of elements.now) number)) (map tree_of kept.old.items)) }
 {
     Ok(keep_at(alloc, kept, elements, number, keep)?)
