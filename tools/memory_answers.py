@@ -32,8 +32,10 @@ EXCEPTIONS = {
     ("tla_check/src/checking.rt", "stopped_by_module"): "`parse_code` has a code for each error but out of memory",
     ("tla_check/src/checking.rt", "stopped_by_definitions"): "`defs_code` has a code for each error but out of memory",
     ("tla_defs/src/global.rt", "with_item"): "`with_value` and `with_replacement` of `Scopes` have no other error",
+    ("tla_expand/src/builders.rt", "text_of"): "no token spells a word that isn't UTF-8",
     ("tla_explain/src/document.rt", "state_value"): "a `Vec` takes all bytes unless memory is refused",
     ("tla_explain/src/document.rt", "write_document"): "a `Vec` takes all bytes unless memory is refused",
+    ("tla_names/src/refusal.rt", "text_of"): "no token spells a name that isn't UTF-8",
     ("tla_page/src/page.rt", "told"): "`refused` is set only where an allocation was refused",
 }
 

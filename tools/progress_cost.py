@@ -1,7 +1,11 @@
 #!/usr/bin/env python3
-"""Counts the instructions of a run with progress lines and of the same run with --quiet, in pieces of 1,024 states and of one.
+"""Counts the instructions that a run takes for what it writes to standard error.
 
     tools/progress_cost.py [--program FILE]
+
+It compares a run with progress lines and the same run with --quiet, in pieces of 1,024 states and of one; then a run with
+--coverage and the same run without; and a run of fewer than 2,000 states, whose steps are counted without the option, and
+the same run with --quiet.
 
 The program is crates/tlacheck/out/tlacheck, which is proved and built if it is not there. valgrind counts; under it the
 run takes long enough for a line every few seconds.
@@ -22,9 +26,9 @@ MODULE = """---- MODULE Grid ----
 EXTENDS Integers
 VARIABLES x, y
 Init == x = 0 /\\ y = 0
-Next == \\/ x' = (x + 1) % 300 /\\ y' = y
-        \\/ y' = (y + 1) % 300 /\\ x' = x
-Inv == x < 300
+Next == \\/ x' = (x + 1) % SIDE /\\ y' = y
+        \\/ y' = (y + 1) % SIDE /\\ x' = x
+Inv == x < SIDE
 ====
 """
 CONFIGURATION = "INIT Init\nNEXT Next\nINVARIANT Inv\n"
@@ -37,20 +41,33 @@ def instructions(words):
     return int(re.search(r"Collected : (\d+)", errors).group(1)), len(re.findall(r"tlacheck: \d+ s, level", errors))
 
 
+def written(folder, side):
+    """The files of a grid with sides of this length."""
+    module, configuration = folder / f"Grid{side}.tla", folder / f"Grid{side}.cfg"
+    module.write_text(MODULE.replace("SIDE", str(side)))
+    configuration.write_text(CONFIGURATION)
+    return [str(module), str(configuration)]
+
+
+def compared(what, less, more):
+    """Prints how many instructions more the second run takes than the first."""
+    base, _ = instructions(less)
+    whole, lines = instructions(more)
+    share = 100 * (whole - base) / base
+    print(f"{what}: {base} instructions, {whole} with {lines} progress lines, {share:.3f} percent more")
+
+
 def main():
     parser = argparse.ArgumentParser(description=__doc__, formatter_class=argparse.RawDescriptionHelpFormatter)
     parser.add_argument("--program")
     program = built("tlacheck", parser.parse_args().program)
     with tempfile.TemporaryDirectory() as folder:
-        module, configuration = f"{folder}/Grid.tla", f"{folder}/Grid.cfg"
-        pathlib.Path(module).write_text(MODULE)
-        pathlib.Path(configuration).write_text(CONFIGURATION)
+        large, small = (written(pathlib.Path(folder), side) for side in (300, 44))
         for cut in ("1024", "1"):
-            words = [program, module, configuration, "--cut", cut]
-            quiet, _ = instructions([*words, "--quiet"])
-            whole, lines = instructions(words)
-            more = 100 * (whole - quiet) / quiet
-            print(f"in pieces of {cut}: {quiet} instructions, {whole} with {lines} progress lines, {more:.3f} percent more")
+            words = [program, *large, "--cut", cut]
+            compared(f"progress lines, in pieces of {cut}", [*words, "--quiet"], words)
+        compared("--coverage of 90,000 states", [program, *large], [program, *large, "--coverage"])
+        compared("1,936 states, counted without the option", [program, *small, "--quiet"], [program, *small])
 
 
 if __name__ == "__main__":

@@ -1,6 +1,6 @@
 ----------------------------- MODULE Clients -----------------------------
 (* Clients that each take a ticket and are served one at a time, in the order of
-   the tickets. What stands between the two lines about the translation is what
+   the tickets. The part from BEGIN TRANSLATION to END TRANSLATION is what
    the PlusCal translator writes. *)
 EXTENDS Naturals, TLC
 
