@@ -90,7 +90,8 @@ fn one<'m>(
     form: OneForm<'m>,
     a: &'m Core,
 ) -> Result<Code<'m>, AllocError>
-    ensures { IfOk result (λ c. (scope : Scope) → expr_in scope c ≡ one_expr form.entry place (expr_of a.now)) }
+    ensures { IfOk result (λ c.
+        (scope : Scope) → expr_in scope c ≡ one_expr form.entry place (expr_of a.now)) }
 {
     let a = operand(alloc, a)?;
     Ok(Code::One(place, form, a))
@@ -104,7 +105,8 @@ fn two<'m>(
     a: &'m Core,
     b: &'m Core,
 ) -> Result<Code<'m>, AllocError>
-    ensures { IfOk result (λ c. (scope : Scope) → expr_in scope c ≡ two_expr form place (expr_of a.now) (expr_of b.now)) }
+    ensures { IfOk result (λ c.
+        (scope : Scope) → expr_in scope c ≡ two_expr form place (expr_of a.now) (expr_of b.now)) }
 {
     let a = operand(alloc, a)?;
     let b = operand(alloc, b)?;
@@ -120,7 +122,10 @@ fn three<'m>(
     b: &'m Core,
     c: &'m Core,
 ) -> Result<Code<'m>, AllocError>
-    ensures { IfOk result (λ x. (scope : Scope) → expr_in scope x ≡ three_expr form place (expr_of a.now) (expr_of b.now) (expr_of c.now)) }
+    ensures { IfOk result (λ x.
+        (scope : Scope)
+        → expr_in scope x
+        ≡ three_expr form place (expr_of a.now) (expr_of b.now) (expr_of c.now)) }
 {
     let a = operand(alloc, a)?;
     let b = operand(alloc, b)?;
@@ -135,7 +140,8 @@ fn list<'m>(
     form: ListForm,
     parts: &'m [Core],
 ) -> Result<Code<'m>, AllocError>
-    ensures { IfOk result (λ c. (scope : Scope) → expr_in scope c ≡ list_expr form place (exprs_of_cores parts.now)) }
+    ensures { IfOk result (λ c.
+        (scope : Scope) → expr_in scope c ≡ list_expr form place (exprs_of_cores parts.now)) }
 {
     let parts = arranged_all(alloc, parts)?;
     Ok(Code::List(place, form, parts))
@@ -148,7 +154,8 @@ fn named<'m>(
     form: FieldForm,
     fields: &'m [(Text, Core)],
 ) -> Result<Code<'m>, AllocError>
-    ensures { IfOk result (λ c. (scope : Scope) → expr_in scope c ≡ field_expr form place (fields_of_list fields.now)) }
+    ensures { IfOk result (λ c.
+        (scope : Scope) → expr_in scope c ≡ field_expr form place (fields_of_list fields.now)) }
 {
     let fields = arranged_fields(alloc, fields)?;
     Ok(Code::Fields(place, form, fields))
@@ -162,7 +169,9 @@ fn binder<'m>(
     set: &'m Core,
     body: &'m Core,
 ) -> Result<Code<'m>, AllocError>
-    ensures { IfOk result (λ c. (scope : Scope) → expr_in scope c ≡ binder_expr form place (expr_of set.now) (expr_of body.now)) }
+    ensures { IfOk result (λ c.
+        (scope : Scope)
+        → expr_in scope c ≡ binder_expr form place (expr_of set.now) (expr_of body.now)) }
 {
     let set = operand(alloc, set)?;
     let body = operand(alloc, body)?;
@@ -177,7 +186,9 @@ fn mapped<'m>(
     sets: &'m [Core],
     body: &'m Core,
 ) -> Result<Code<'m>, AllocError>
-    ensures { IfOk result (λ c. (scope : Scope) → expr_in scope c ≡ map_expr form place (exprs_of_cores sets.now) (expr_of body.now)) }
+    ensures { IfOk result (λ c.
+        (scope : Scope)
+        → expr_in scope c ≡ map_expr form place (exprs_of_cores sets.now) (expr_of body.now)) }
 {
     let sets = arranged_all(alloc, sets)?;
     let body = operand(alloc, body)?;
@@ -191,7 +202,9 @@ fn updated<'m>(
     updates: &'m [(Vec<Core>, Core)],
     base: &'m Core,
 ) -> Result<Code<'m>, AllocError>
-    ensures { IfOk result (λ c. (scope : Scope) → expr_in scope c ≡ except place (expr_of base.now) (updates_of_list updates.now)) }
+    ensures { IfOk result (λ c.
+        (scope : Scope)
+        → expr_in scope c ≡ except place (expr_of base.now) (updates_of_list updates.now)) }
 {
     let base = operand(alloc, base)?;
     let updates = arranged_updates(alloc, updates)?;
@@ -205,7 +218,8 @@ fn with_items<'m>(
     openings: &'m [Opening],
     body: &'m Core,
 ) -> Result<Code<'m>, AllocError>
-    ensures { IfOk result (λ c. (scope : Scope) → expr_in scope c ≡ opened place openings.now (expr_of body.now)) }
+    ensures { IfOk result (λ c.
+        (scope : Scope) → expr_in scope c ≡ opened place openings.now (expr_of body.now)) }
 {
     let body = operand(alloc, body)?;
     let openings = openings.to_vec(alloc)?;

@@ -54,7 +54,8 @@ pub struct DefsError {
 impl DefsError {
     /// Want of memory, where this text was read.
     pub fn no_memory(source: Source) -> DefsError
-        ensures { result ≡ record { code = DefsCode.Memory; source = source; place = None; name = None } }
+        ensures { result
+            ≡ record { code = DefsCode.Memory; source = source; place = None; name = None } }
     {
         DefsError {
             code: DefsCode::Memory,
@@ -66,7 +67,8 @@ impl DefsError {
 
     /// A refusal at a place, without a name.
     pub fn at(code: DefsCode, source: Source, place: Place) -> DefsError
-        ensures { result ≡ record { code = code; source = source; place = Some place; name = None } }
+        ensures { result
+            ≡ record { code = code; source = source; place = Some place; name = None } }
     {
         DefsError {
             code,

@@ -34,10 +34,15 @@ pub struct ParsedItems {
 /// The refusal of the value of an item, after its `=`: that it is too large only if all of it is written.
 fn refused_value(text: &[u8], tokens: &[Token], item: usize, refusal: Refusal) -> Refusal
     requires item { item + 2 ≤ length tokens.now }
-    requires fails { Fails text.now tokens.now refusal (spec.NoValue text.now tokens.now 64 (item + 2)) }
-    requires because { Because refusal Nowhere (spec.BeyondIn text.now tokens.now item 64 (item + 2)) (spec.IsUnwritten text.now tokens.now 64 (item + 2)) }
-    ensures fails { Fails text.now tokens.now result (spec.NoValue text.now tokens.now 64 (item + 2)) }
-    ensures because { Because result Nowhere (spec.TooLargeValue text.now tokens.now item) (NoneEnds text.now tokens.now (item + 2)) }
+    requires fails { Fails text.now tokens.now refusal
+        (spec.NoValue text.now tokens.now 64 (item + 2)) }
+    requires because { Because refusal Nowhere
+        (spec.BeyondIn text.now tokens.now item 64 (item + 2))
+        (spec.IsUnwritten text.now tokens.now 64 (item + 2)) }
+    ensures fails { Fails text.now tokens.now result
+        (spec.NoValue text.now tokens.now 64 (item + 2)) }
+    ensures because { Because result Nowhere (spec.TooLargeValue text.now tokens.now item)
+        (NoneEnds text.now tokens.now (item + 2)) }
 {
     match refusal {
         Refusal::TooLarge(at) => match literal_end(text, tokens, item + 2) {
@@ -59,7 +64,9 @@ fn item_value(
 ) -> Result<ParsedValue, Refusal>
     requires { item + 2 ≤ length tokens.now }
     ensures gives { spec.GivesValue text.now tokens.now 64 (item + 2) result }
-    ensures because { IfErr result (λ e. Because e Nowhere (spec.TooLargeValue text.now tokens.now item) (NoneEnds text.now tokens.now (item + 2))) }
+    ensures because { IfErr result (λ e.
+        Because e Nowhere (spec.TooLargeValue text.now tokens.now item)
+        (NoneEnds text.now tokens.now (item + 2))) }
     ensures limits { OnOk result (IsWrittenBeyond text.now tokens.now (item + 2) → ⊥) }
     ensures within { IfOk result (λ x. (item + 2 < x.end) × (x.end ≤ length tokens.now)) }
 {
@@ -72,7 +79,9 @@ fn item_value(
 /// The item that begins here.
 fn item(alloc: Global, text: &[u8], tokens: &[Token], at: usize) -> Result<ParsedItem, Refusal>
     ensures gives { spec.GivesItem text.now tokens.now at result }
-    ensures because { IfErr result (λ e. Because e (LeftOutHere text.now tokens.now at) (TooLargeHere text.now tokens.now at) (ClearItem text.now tokens.now at)) }
+    ensures because { IfErr result (λ e.
+        Because e (LeftOutHere text.now tokens.now at) (TooLargeHere text.now tokens.now at)
+        (ClearItem text.now tokens.now at)) }
     ensures clear { OnOk result (ClearItem text.now tokens.now at) }
     ensures within { IfOk result (λ x. (at < x.end) × (x.end ≤ length tokens.now)) }
 {
@@ -105,7 +114,9 @@ pub fn items(
     from: usize,
 ) -> Result<ParsedItems, Refusal>
     ensures gives { spec.GivesItems text.now tokens.now from result }
-    ensures because { IfErr result (λ e. Because e (LeftOutBehind text.now tokens.now from) (TooLargeBehind text.now tokens.now from) (ClearItems text.now tokens.now from)) }
+    ensures because { IfErr result (λ e.
+        Because e (LeftOutBehind text.now tokens.now from)
+        (TooLargeBehind text.now tokens.now from) (ClearItems text.now tokens.now from)) }
     ensures clear { OnOk result (ClearItems text.now tokens.now from) }
     ensures within { IfOk result (λ x. (from < x.end) × (x.end ≤ length tokens.now)) }
 {

@@ -21,7 +21,9 @@ use tla_value::Text;
 
 /// The refusal of the text at a place.
 fn refused(place: Place) -> DefsError
-    ensures { result ≡ record { code = DefsCode.ConfigurationText; source = Source.Configuration; place = Some place; name = None } }
+    ensures { result
+        ≡ record
+        { code = DefsCode.ConfigurationText; source = Source.Configuration; place = Some place; name = None } }
 {
     DefsError::at(DefsCode::ConfigurationText, Source::Configuration, place)
 }
@@ -65,7 +67,9 @@ fn place_of_stop(stop: Stop) -> Place {
 fn left_out_at(alloc: Global, place: Place, word: &str) -> DefsError
     ensures source { result.source ≡ Source.Configuration }
     ensures located { IsLocated result.code result.place result.name }
-    ensures is { (result.code ≡ DefsCode.Memory) ⊎ ((result.code ≡ DefsCode.StatementLeftOut) × (result.place ≡ Some place) × (result.name ≡ Some word.now)) }
+    ensures is { (result.code ≡ DefsCode.Memory)
+        ⊎ ((result.code ≡ DefsCode.StatementLeftOut) × (result.place ≡ Some place)
+        × (result.name ≡ Some word.now)) }
 {
     match Text::new(alloc, word) {
         Ok(name) => DefsError {
@@ -102,7 +106,8 @@ fn left_out(alloc: Global, text: &[u8], tokens: &[Token], at: usize) -> DefsErro
 fn error_of(alloc: Global, text: &[u8], tokens: &[Token], end: Place, refusal: Refusal) -> DefsError
     requires begins { Begins text.now tokens.now }
     requires fails { Fails text.now tokens.now refusal (NoStatements text.now tokens.now) }
-    requires because { Because refusal (LeftOutAt text.now tokens.now) (TooLargeAt text.now tokens.now) (Clear text.now tokens.now) }
+    requires because { Because refusal (LeftOutAt text.now tokens.now)
+        (TooLargeAt text.now tokens.now) (Clear text.now tokens.now) }
     requires only { OnlyBegins text.now tokens.now }
     ensures source { result.source ≡ Source.Configuration }
     ensures located { IsLocated result.code result.place result.name }
@@ -125,11 +130,13 @@ fn error_of(alloc: Global, text: &[u8], tokens: &[Token], end: Place, refusal: R
 pub fn parse_config(alloc: Global, text: &[u8]) -> Result<Config, DefsError>
     ensures found { IfOk result (λ c. IsConfiguration text.now c.statements) }
     // It says no other statements.
-    ensures only { IfOk result (λ c. (cs : List spec.Statement) → IsConfiguration text.now cs → cs ≡ c.statements) }
+    ensures only { IfOk result (λ c.
+        (cs : List spec.Statement) → IsConfiguration text.now cs → cs ≡ c.statements) }
     ensures end { IfOk result (λ c. c.end ≡ place_at text.now (length text.now)) }
 
     // A text is refused only where it says none.
-    ensures none { IfErr result (λ e. e.code ≢ DefsCode.Memory → (cs : List spec.Statement) → IsConfiguration text.now cs → ⊥) }
+    ensures none { IfErr result (λ e.
+        e.code ≢ DefsCode.Memory → (cs : List spec.Statement) → IsConfiguration text.now cs → ⊥) }
     ensures explains { IfErr result (λ e. Explains text.now e.code e.place e.name) }
     ensures located { IfErr result (λ e. IsLocated e.code e.place e.name) }
     ensures source { IfErr result (λ e. e.source ≡ Source.Configuration) }

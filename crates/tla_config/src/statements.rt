@@ -30,7 +30,9 @@ fn statement(
     at: usize,
 ) -> Result<ParsedStatement, Refusal>
     ensures gives { spec.GivesStatement text.now tokens.now at result }
-    ensures because { IfErr result (λ e. spec.Because e (spec.LeftOutIn text.now tokens.now at) (spec.TooLargeIn text.now tokens.now at) (spec.ClearStatement text.now tokens.now at)) }
+    ensures because { IfErr result (λ e.
+        spec.Because e (spec.LeftOutIn text.now tokens.now at)
+        (spec.TooLargeIn text.now tokens.now at) (spec.ClearStatement text.now tokens.now at)) }
     ensures clear { OnOk result (spec.ClearStatement text.now tokens.now at) }
     ensures within { IfOk result (λ x. (at < x.end) × (x.end ≤ length tokens.now)) }
 {
@@ -110,9 +112,13 @@ fn begins_second_check(text: &[u8], tokens: &[Token], checks: bool, at: usize) -
 
 /// The statements of all tokens, CHECK_DEADLOCK at most once among them.
 pub fn statements(alloc: Global, text: &[u8], tokens: &[Token]) -> Result<Vec<Statement>, Refusal>
-    ensures found { IfOk result (λ v. spec.AreStatements text.now tokens.now (map statement_view v.items)) }
-    ensures none { IfErr result (λ e. spec.Fails text.now tokens.now e (spec.NoStatements text.now tokens.now)) }
-    ensures because { IfErr result (λ e. spec.Because e (spec.LeftOutAt text.now tokens.now) (spec.TooLargeAt text.now tokens.now) (spec.Clear text.now tokens.now)) }
+    ensures found { IfOk result (λ v.
+        spec.AreStatements text.now tokens.now (map statement_view v.items)) }
+    ensures none { IfErr result (λ e.
+        spec.Fails text.now tokens.now e (spec.NoStatements text.now tokens.now)) }
+    ensures because { IfErr result (λ e.
+        spec.Because e (spec.LeftOutAt text.now tokens.now) (spec.TooLargeAt text.now tokens.now)
+        (spec.Clear text.now tokens.now)) }
     ensures clear { OnOk result (spec.Clear text.now tokens.now) }
 {
     let mut statements = Vec::new(alloc);

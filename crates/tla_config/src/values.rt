@@ -90,7 +90,8 @@ fn bytes_of(alloc: Global, literal: &[u8]) -> Result<Vec<u8>, Refusal>
 fn text_of(alloc: Global, bytes: &[u8], item: usize) -> Result<Text, Refusal>
     ensures bytes { IfOk result (λ t. t ≡ bytes.now) }
     ensures utf8 { IfOk result (λ t. ∥ IsUtf8 bytes.now ∥₁) }
-    ensures err { IfErr result (λ e. (e ≡ Refusal.NoMemory) ⊎ ((e ≡ Refusal.TooLarge item) × (IsUtf8 bytes.now → ⊥))) }
+    ensures err { IfErr result (λ e.
+        (e ≡ Refusal.NoMemory) ⊎ ((e ≡ Refusal.TooLarge item) × (IsUtf8 bytes.now → ⊥))) }
 {
     let Ok(text) = str::from_utf8(bytes) else {
         return Err(Refusal::TooLarge(item));
@@ -119,7 +120,9 @@ fn text_value(
     requires kind { token.kind ≡ Kind.Text }
     requires bytes { bytes.now ≡ string_text (word_of text.now token) }
     ensures gives { (ts : List lexed.Token) → spec.GivesAtom text.now ts token result }
-    ensures because { IfErr result (λ e. Because e Nowhere (λ n. (n ≡ item) × spec.AtomBeyond text.now token) (spec.WritesNone text.now token)) }
+    ensures because { IfErr result (λ e.
+        Because e Nowhere (λ n. (n ≡ item) × spec.AtomBeyond text.now token)
+        (spec.WritesNone text.now token)) }
 {
     match text_of(alloc, bytes, item) {
         Ok(text) => Ok(Value::Text(text)),
@@ -131,7 +134,9 @@ fn text_value(
 fn string(alloc: Global, text: &[u8], item: usize, token: Token) -> Result<Value, Refusal>
     requires { token.kind ≡ Kind.Text }
     ensures gives { (ts : List lexed.Token) → spec.GivesAtom text.now ts token result }
-    ensures because { IfErr result (λ e. Because e Nowhere (λ n. (n ≡ item) × spec.AtomBeyond text.now token) (spec.WritesNone text.now token)) }
+    ensures because { IfErr result (λ e.
+        Because e Nowhere (λ n. (n ≡ item) × spec.AtomBeyond text.now token)
+        (spec.WritesNone text.now token)) }
 {
     let bytes = bytes_of(alloc, slice_of(text, token))?;
     text_value(alloc, text, &bytes, item, token)
@@ -141,7 +146,9 @@ fn string(alloc: Global, text: &[u8], item: usize, token: Token) -> Result<Value
 fn model(alloc: Global, text: &[u8], item: usize, at: usize, token: Token) -> Result<Value, Refusal>
     requires { token.kind ≡ Kind.Name }
     ensures gives { (ts : List lexed.Token) → spec.GivesAtom text.now ts token result }
-    ensures because { IfErr result (λ e. Because e Nowhere (λ n. (n ≡ item) × spec.AtomBeyond text.now token) (spec.WritesNone text.now token)) }
+    ensures because { IfErr result (λ e.
+        Because e Nowhere (λ n. (n ≡ item) × spec.AtomBeyond text.now token)
+        (spec.WritesNone text.now token)) }
 {
     let word = slice_of(text, token);
     match keyword_of(word) {
@@ -163,7 +170,9 @@ fn atom(
     token: Token,
 ) -> Result<Value, Refusal>
     ensures gives { spec.GivesAtom text.now tokens.now token result }
-    ensures because { IfErr result (λ e. Because e Nowhere (λ n. (n ≡ item) × spec.AtomBeyond text.now token) (spec.WritesNone text.now token)) }
+    ensures because { IfErr result (λ e.
+        Because e Nowhere (λ n. (n ≡ item) × spec.AtomBeyond text.now token)
+        (spec.WritesNone text.now token)) }
 {
     let word = slice_of(text, token);
     match token.kind {
@@ -181,7 +190,8 @@ fn atom(
 
 /// The set of these values.
 fn set(values: Vec<Value>, item: usize) -> Result<Value, Refusal>
-    ensures gives { (text : List ℕ) (ts : List lexed.Token) → spec.GivesSet text ts (map tree_of values.items) result }
+    ensures gives { (text : List ℕ) (ts : List lexed.Token)
+        → spec.GivesSet text ts (map tree_of values.items) result }
     ensures because { IfErr result (λ e. Because e Nowhere (λ n. n ≡ item) ⊥) }
 {
     match SetValue::from_values(values) {
@@ -196,7 +206,10 @@ fn set(values: Vec<Value>, item: usize) -> Result<Value, Refusal>
 fn negated(text: &[u8], tokens: &[Token], item: usize, at: usize) -> Result<ParsedValue, Refusal>
     requires { kind_at Kind.Minus (slice_get tokens.now at) ≡ true }
     ensures gives { (room : ℕ) → spec.GivesValue text.now tokens.now room at result }
-    ensures because { (room : ℕ) → IfErr result (λ e. Because e Nowhere (spec.BeyondIn text.now tokens.now item room at) (spec.IsUnwritten text.now tokens.now room at)) }
+    ensures because { (room : ℕ)
+        → IfErr result (λ e.
+        Because e Nowhere (spec.BeyondIn text.now tokens.now item room at)
+        (spec.IsUnwritten text.now tokens.now room at)) }
     ensures limits { (room : ℕ) → OnOk result (IsBeyond text.now tokens.now room at → ⊥) }
     ensures within { IfOk result (λ x. (at < x.end) × (x.end ≤ length tokens.now)) }
 {
@@ -223,7 +236,9 @@ pub fn value(
     at: usize,
 ) -> Result<ParsedValue, Refusal>
     ensures gives { spec.GivesValue text.now tokens.now room at result }
-    ensures because { IfErr result (λ e. Because e Nowhere (spec.BeyondIn text.now tokens.now item room at) (spec.IsUnwritten text.now tokens.now room at)) }
+    ensures because { IfErr result (λ e.
+        Because e Nowhere (spec.BeyondIn text.now tokens.now item room at)
+        (spec.IsUnwritten text.now tokens.now room at)) }
     ensures limits { OnOk result (IsBeyond text.now tokens.now room at → ⊥) }
     ensures within { IfOk result (λ x. (at < x.end) × (x.end ≤ length tokens.now)) }
 {
@@ -256,7 +271,9 @@ fn members(
 ) -> Result<ParsedValue, Refusal>
     requires { kind_at Kind.LeftBrace (slice_get tokens.now from) ≡ true }
     ensures gives { spec.GivesValue text.now tokens.now (room + 1) from result }
-    ensures because { IfErr result (λ e. Because e Nowhere (spec.BeyondIn text.now tokens.now item (room + 1) from) (spec.IsUnwritten text.now tokens.now (room + 1) from)) }
+    ensures because { IfErr result (λ e.
+        Because e Nowhere (spec.BeyondIn text.now tokens.now item (room + 1) from)
+        (spec.IsUnwritten text.now tokens.now (room + 1) from)) }
     ensures limits { OnOk result (IsBeyond text.now tokens.now (room + 1) from → ⊥) }
     ensures within { IfOk result (λ x. (from < x.end) × (x.end ≤ length tokens.now)) }
 {

@@ -49,7 +49,8 @@ fn atom_end(text: &[u8], tokens: &[Token], at: usize) -> Result<usize, usize>
 /// which there is none.
 #[tactic(auto, using(crate::proofs::LiteralEnds::empty_ends))]
 fn part_end(text: &[u8], tokens: &[Token], at: usize) -> Result<usize, usize>
-    requires { ends.opens_members (slice_get tokens.now at) (slice_get tokens.now (at + 1)) ≡ false }
+    requires { ends.opens_members (slice_get tokens.now at) (slice_get tokens.now (at + 1))
+        ≡ false }
     ensures found { IfOk result (λ to. ends.EndsAt text.now tokens.now at to) }
     ensures none { IfErr result (λ n. ends.NoneEnds text.now tokens.now at) }
     ensures within { IfOk result (λ to. (at < to) × (to ≤ length tokens.now)) }
@@ -63,7 +64,8 @@ fn part_end(text: &[u8], tokens: &[Token], at: usize) -> Result<usize, usize>
 
 /// Whether a set opens here that has a member.
 fn opens_members(tokens: &[Token], at: usize) -> bool
-    ensures value { result ≡ ends.opens_members (slice_get tokens.now at) (slice_get tokens.now (at + 1)) }
+    ensures value { result
+        ≡ ends.opens_members (slice_get tokens.now at) (slice_get tokens.now (at + 1)) }
     ensures within { IsTrue result → at < length tokens.now }
 {
     is_kind(Kind::LeftBrace, tokens, at) && !is_kind(Kind::RightBrace, tokens, at + 1)
@@ -79,8 +81,11 @@ struct Inside {
 /// Passes the braces that close sets.
 fn closed(tokens: &[Token], inside: Inside) -> Inside
     requires { inside.at ≤ length tokens.now }
-    ensures same { (text : List ℕ) (to : ℕ) → ends.Completes text tokens.now result.deep result.at to ↔ ends.Completes text tokens.now inside.deep inside.at to }
-    ensures stops { 0 < result.deep → kind_at k.RightBrace (slice_get tokens.now result.at) ≡ false }
+    ensures same { (text : List ℕ) (to : ℕ)
+        → ends.Completes text tokens.now result.deep result.at to
+        ↔ ends.Completes text tokens.now inside.deep inside.at to }
+    ensures stops { 0 < result.deep
+        → kind_at k.RightBrace (slice_get tokens.now result.at) ≡ false }
     ensures fewer { result.deep ≤ inside.deep }
     ensures onward { inside.at ≤ result.at }
     ensures within { result.at ≤ length tokens.now }

@@ -84,7 +84,9 @@ fn known_fields(
 
 /// A set that was made, if it is within the limits.
 fn set_within(made: Result<SetValue, ValueError>) -> Result<Option<Value>, AllocError>
-    ensures { (ts : List Tree) → MakesSet ts made → IfOk result (λ o. IfSome o (λ v. (p : Place) → rising_set p ts ≡ Ok (tree_of v))) }
+    ensures { (ts : List Tree)
+        → MakesSet ts made
+        → IfOk result (λ o. IfSome o (λ v. (p : Place) → rising_set p ts ≡ Ok (tree_of v))) }
 {
     match made {
         Ok(set) => Ok(Some(Value::Set(set))),
@@ -95,7 +97,9 @@ fn set_within(made: Result<SetValue, ValueError>) -> Result<Option<Value>, Alloc
 
 /// A function that was made, if it is within the limits.
 fn fun_within(made: Result<FunValue, ValueError>) -> Result<Option<Value>, AllocError>
-    ensures { (ps : List (Tree × Tree)) → MakesFun ps made → IfOk result (λ o. IfSome o (λ v. (p : Place) → rising_fun p ps ≡ Ok (tree_of v))) }
+    ensures { (ps : List (Tree × Tree))
+        → MakesFun ps made
+        → IfOk result (λ o. IfSome o (λ v. (p : Place) → rising_fun p ps ≡ Ok (tree_of v))) }
 {
     match made {
         Ok(fun) => Ok(Some(Value::Fun(fun))),
@@ -106,7 +110,9 @@ fn fun_within(made: Result<FunValue, ValueError>) -> Result<Option<Value>, Alloc
 
 /// The set of some parts, where it is known.
 fn known_set(alloc: Global, parts: &[Core]) -> Result<Option<Value>, AllocError>
-    ensures { IfOk result (λ o. IfSome o (λ v. (p : Place) → IsAlways (means-enumerated p (parts_of_cores parts.now)) (tree_of v))) }
+    ensures { IfOk result (λ o.
+        IfSome o (λ v.
+        (p : Place) → IsAlways (means-enumerated p (parts_of_cores parts.now)) (tree_of v))) }
 {
     match known_values(alloc, parts)? {
         Some(values) => set_within(SetValue::from_values(values)),
@@ -116,7 +122,9 @@ fn known_set(alloc: Global, parts: &[Core]) -> Result<Option<Value>, AllocError>
 
 /// The sequence of some parts, where it is known.
 fn known_tuple(alloc: Global, parts: &[Core]) -> Result<Option<Value>, AllocError>
-    ensures { IfOk result (λ o. IfSome o (λ v. (p : Place) → IsAlways (means-tuple p (parts_of_cores parts.now)) (tree_of v))) }
+    ensures { IfOk result (λ o.
+        IfSome o (λ v.
+        (p : Place) → IsAlways (means-tuple p (parts_of_cores parts.now)) (tree_of v))) }
 {
     match known_values(alloc, parts)? {
         Some(values) => fun_within(FunValue::sequence(values)),
@@ -126,7 +134,9 @@ fn known_tuple(alloc: Global, parts: &[Core]) -> Result<Option<Value>, AllocErro
 
 /// The record of some fields, where it is known.
 fn known_record(alloc: Global, fields: &[(Text, Core)]) -> Result<Option<Value>, AllocError>
-    ensures { IfOk result (λ o. IfSome o (λ v. (p : Place) → IsAlways (means-record_of p (fields_of_cores fields.now)) (tree_of v))) }
+    ensures { IfOk result (λ o.
+        IfSome o (λ v.
+        (p : Place) → IsAlways (means-record_of p (fields_of_cores fields.now)) (tree_of v))) }
 {
     match known_fields(alloc, fields)? {
         Some(pairs) => fun_within(FunValue::from_pairs(pairs)),

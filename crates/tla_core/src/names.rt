@@ -42,7 +42,9 @@ fn has_name(names: Option<usize>, index: usize) -> bool
 
 /// Whether each name that is opened exists.
 fn are_bound(openings: &[Opening], names: Option<usize>) -> bool
-    ensures { (n : ℕ) → Counts names n → result ≡ list_all (λ (o : Opening). nat_lt o.name n) openings.now }
+    ensures { (n : ℕ)
+        → Counts names n
+        → result ≡ list_all (λ (o : Opening). nat_lt o.name n) openings.now }
 {
     for opening in openings {
         if !has_name(names, opening.name) {
@@ -144,7 +146,9 @@ fn fits_within(core: &Core, names: Option<usize>, variables: usize, now: bool) -
 /// Whether the names and variables of each part exist.
 #[cycle(fits)]
 fn all_fit(parts: &[Core], names: Option<usize>, variables: usize, now: bool) -> bool
-    ensures { (n : ℕ) → Counts names n → result ≡ list_all (λ (e : Expr). fits e n variables now) (map expr_of parts.now) }
+    ensures { (n : ℕ)
+        → Counts names n
+        → result ≡ list_all (λ (e : Expr). fits e n variables now) (map expr_of parts.now) }
 {
     for part in parts {
         if !fits_within(part, names, variables, now) {
@@ -157,7 +161,11 @@ fn all_fit(parts: &[Core], names: Option<usize>, variables: usize, now: bool) ->
 /// Whether the names and variables of each field exist.
 #[cycle(fits)]
 fn fields_fit(fields: &[(Text, Core)], names: Option<usize>, variables: usize, now: bool) -> bool
-    ensures { (n : ℕ) → Counts names n → result ≡ list_all (λ (e : Expr). fits e n variables now) (map (λ (f : List ℕ × Core). expr_of f.1) fields.now) }
+    ensures { (n : ℕ)
+        → Counts names n
+        → result
+        ≡ list_all (λ (e : Expr). fits e n variables now)
+        (map (λ (f : List ℕ × Core). expr_of f.1) fields.now) }
 {
     for field in fields {
         if !fits_within(&field.1, names, variables, now) {
@@ -170,7 +178,11 @@ fn fields_fit(fields: &[(Text, Core)], names: Option<usize>, variables: usize, n
 /// Whether the names and variables of each arm exist.
 #[cycle(fits)]
 fn arms_fit(arms: &[(Core, Core)], names: Option<usize>, variables: usize, now: bool) -> bool
-    ensures { (n : ℕ) → Counts names n → result ≡ list_all (λ (a : Expr × Expr). fits a.0 n variables now && fits a.1 n variables now) (map exprs_of_arm arms.now) }
+    ensures { (n : ℕ)
+        → Counts names n
+        → result
+        ≡ list_all (λ (a : Expr × Expr). fits a.0 n variables now && fits a.1 n variables now)
+        (map exprs_of_arm arms.now) }
 {
     for arm in arms {
         if !fits_within(&arm.0, names, variables, now) {
@@ -191,7 +203,9 @@ fn updates_fit(
     variables: usize,
     now: bool,
 ) -> bool
-    ensures { (n : ℕ) → Counts names n → result ≡ list_all (update_fits n variables now) updates.now }
+    ensures { (n : ℕ)
+        → Counts names n
+        → result ≡ list_all (update_fits n variables now) updates.now }
 {
     for update in updates {
         if !all_fit(update.0.as_slice(), names, variables, now) {

@@ -56,7 +56,8 @@ fn is_constant(place: &Place, value: &Value, tree: &Fixed) -> bool
 /// Whether a tree is the set of these parts.
 #[cycle(same)]
 fn is_enumerated(place: &Place, parts: &[Fixed], tree: &Fixed) -> bool
-    ensures { IsTrue result → enumerated place.now (exprs (map fixed_of parts.now)) ≡ fixed_of tree.now }
+    ensures { IsTrue result
+        → enumerated place.now (exprs (map fixed_of parts.now)) ≡ fixed_of tree.now }
 {
     match tree {
         Fixed::Enumerated(at, others) => is_place(place, at) && same_parts(parts, others),
@@ -78,7 +79,8 @@ fn is_tuple(place: &Place, parts: &[Fixed], tree: &Fixed) -> bool
 /// Whether a tree is the record of these fields.
 #[cycle(same)]
 fn is_record(place: &Place, named: &[(Text, Fixed)], tree: &Fixed) -> bool
-    ensures { IsTrue result → record_of place.now (fields (map named_fixed named.now)) ≡ fixed_of tree.now }
+    ensures { IsTrue result
+        → record_of place.now (fields (map named_fixed named.now)) ≡ fixed_of tree.now }
 {
     match tree {
         Fixed::Record(at, others) => is_place(place, at) && same_fields(named, others),

@@ -24,7 +24,8 @@ fn alone<'a>(
     name: &'a Written,
     statements: &'a [Statement],
 ) -> Result<Behaviour<'a>, Place>
-    ensures { GivesBehaviour result (refused.alone place name.entry.now (map statement_view statements.entry.now)) }
+    ensures { GivesBehaviour result
+        (refused.alone place name.entry.now (map statement_view statements.entry.now)) }
 {
     let mut left = statements;
     while let [first, rest @ ..] = left {
@@ -44,7 +45,8 @@ fn alone<'a>(
 
 /// The behaviour; or the place of a statement that is one too many, or of the end if one is missing.
 pub(crate) fn named_behaviour(config: &Config) -> Result<Behaviour<'_>, Place>
-    ensures { GivesBehaviour result (refused.behaviour config.entry.now.statements config.entry.now.end None None) }
+    ensures { GivesBehaviour result
+        (refused.behaviour config.entry.now.statements config.entry.now.end None None) }
 {
     let mut init = None;
     let mut step = None;

@@ -73,7 +73,8 @@ fn invariants_named<'a>(
     alloc: Global,
     statements: &'a [Statement],
 ) -> Result<Vec<&'a Written>, DefsError>
-    ensures ok { IfOk result (λ ws. mentions ws.items ≡ model.invariants_named (map statement_view statements.entry.now)) }
+    ensures ok { IfOk result (λ ws.
+        mentions ws.items ≡ model.invariants_named (map statement_view statements.entry.now)) }
     ensures err { IfErr result (λ e. e.code ≡ Memory) }
 {
     let mut names = Vec::new(alloc);
@@ -92,7 +93,8 @@ fn constraints_named<'a>(
     alloc: Global,
     statements: &'a [Statement],
 ) -> Result<Vec<&'a Written>, DefsError>
-    ensures ok { IfOk result (λ ws. mentions ws.items ≡ model.constraints_named (map statement_view statements.entry.now)) }
+    ensures ok { IfOk result (λ ws.
+        mentions ws.items ≡ model.constraints_named (map statement_view statements.entry.now)) }
     ensures err { IfErr result (λ e. e.code ≡ Memory) }
 {
     let mut names = Vec::new(alloc);
@@ -122,9 +124,17 @@ fn named_predicate(
     name: &Written,
 ) -> Result<StatePredicate, DefsError>
     ensures name { IfOk result (λ p. p.name ≡ name.now.word) }
-    ensures found { IfOk result (λ p. formulas.IsStatePredicate (scope_of scopes.now) name.now (expr_of p.core)) }
-    ensures formula { IfErr result (λ e. e.code ≢ Memory → formula_refused.IsOfFormula (formulas.meaning_in (scope_of scopes.now) name.now) read.Once e) }
-    ensures none { IfErr result (λ e. e.code ≢ Memory → (x : expr.Expr) → formulas.IsStatePredicate (scope_of scopes.now) name.now x → ⊥) }
+    ensures found { IfOk result (λ p.
+        formulas.IsStatePredicate (scope_of scopes.now) name.now (expr_of p.core)) }
+    ensures formula { IfErr result (λ e.
+        e.code ≢ Memory
+        → formula_refused.IsOfFormula (formulas.meaning_in (scope_of scopes.now) name.now)
+        read.Once e) }
+    ensures none { IfErr result (λ e.
+        e.code ≢ Memory
+        → (x : expr.Expr)
+        → formulas.IsStatePredicate (scope_of scopes.now) name.now x
+        → ⊥) }
 {
     let word = text_of(alloc, name.word.as_bytes())?;
     let core = state_predicate(alloc, places, scopes, name)?;
@@ -139,9 +149,20 @@ fn push_predicate(
     name: &Written,
     predicates: &mut Vec<StatePredicate>,
 ) -> Result<(), DefsError>
-    ensures found { (left all : List written.Written) → OnOk result (Follow (scope_of scopes.now) (name.now ∷ left) all (map predicate_of predicates.old.items) → Follow (scope_of scopes.now) left all (map predicate_of predicates.new.items)) }
-    ensures formula { IfErr result (λ e. e.code ≢ Memory → formula_refused.IsOfFormula (formulas.meaning_in (scope_of scopes.now) name.now) read.Once e) }
-    ensures none { IfErr result (λ e. e.code ≢ Memory → (x : expr.Expr) → formulas.IsStatePredicate (scope_of scopes.now) name.now x → ⊥) }
+    ensures found { (left all : List written.Written)
+        → OnOk result
+        (Follow (scope_of scopes.now) (name.now ∷ left) all
+        (map predicate_of predicates.old.items)
+        → Follow (scope_of scopes.now) left all (map predicate_of predicates.new.items)) }
+    ensures formula { IfErr result (λ e.
+        e.code ≢ Memory
+        → formula_refused.IsOfFormula (formulas.meaning_in (scope_of scopes.now) name.now)
+        read.Once e) }
+    ensures none { IfErr result (λ e.
+        e.code ≢ Memory
+        → (x : expr.Expr)
+        → formulas.IsStatePredicate (scope_of scopes.now) name.now x
+        → ⊥) }
 {
     let predicate = named_predicate(alloc, places, scopes, name)?;
     push(predicates, predicate)?;
@@ -155,9 +176,13 @@ fn state_predicates(
     scopes: &Scopes<'_>,
     names: &[&Written],
 ) -> Result<Vec<StatePredicate>, DefsError>
-    ensures found { IfOk result (λ ps. model.AreStatePredicates (scope_of scopes.now) (mentions names.now) (map predicate_of ps.items)) }
-    ensures formula { IfErr result (λ e. e.code ≢ Memory → refused.IsOfPredicate (scope_of scopes.now) (mentions names.now) e) }
-    ensures none { IfErr result (λ e. e.code ≢ Memory → LacksPredicate (scope_of scopes.now) (mentions names.now)) }
+    ensures found { IfOk result (λ ps.
+        model.AreStatePredicates (scope_of scopes.now) (mentions names.now)
+        (map predicate_of ps.items)) }
+    ensures formula { IfErr result (λ e.
+        e.code ≢ Memory → refused.IsOfPredicate (scope_of scopes.now) (mentions names.now) e) }
+    ensures none { IfErr result (λ e.
+        e.code ≢ Memory → LacksPredicate (scope_of scopes.now) (mentions names.now)) }
 {
     let mut predicates = Vec::new(alloc);
     let mut left = names;
@@ -175,9 +200,18 @@ fn invariants(
     scopes: &Scopes<'_>,
     statements: &[Statement],
 ) -> Result<Vec<StatePredicate>, DefsError>
-    ensures found { IfOk result (λ ps. model.AreStatePredicates (scope_of scopes.now) (model.invariants_named (map statement_view statements.now)) (map predicate_of ps.items)) }
-    ensures formula { IfErr result (λ e. e.code ≢ Memory → refused.IsOfPredicate (scope_of scopes.now) (model.invariants_named (map statement_view statements.now)) e) }
-    ensures none { IfErr result (λ e. e.code ≢ Memory → LacksPredicate (scope_of scopes.now) (model.invariants_named (map statement_view statements.now))) }
+    ensures found { IfOk result (λ ps.
+        model.AreStatePredicates (scope_of scopes.now)
+        (model.invariants_named (map statement_view statements.now))
+        (map predicate_of ps.items)) }
+    ensures formula { IfErr result (λ e.
+        e.code ≢ Memory
+        → refused.IsOfPredicate (scope_of scopes.now)
+        (model.invariants_named (map statement_view statements.now)) e) }
+    ensures none { IfErr result (λ e.
+        e.code ≢ Memory
+        → LacksPredicate (scope_of scopes.now)
+        (model.invariants_named (map statement_view statements.now))) }
 {
     let named = invariants_named(alloc, statements)?;
     let predicates = state_predicates(alloc, places, scopes, named.as_slice())?;
@@ -191,9 +225,18 @@ fn constraints(
     scopes: &Scopes<'_>,
     statements: &[Statement],
 ) -> Result<Vec<StatePredicate>, DefsError>
-    ensures found { IfOk result (λ ps. model.AreStatePredicates (scope_of scopes.now) (model.constraints_named (map statement_view statements.now)) (map predicate_of ps.items)) }
-    ensures formula { IfErr result (λ e. e.code ≢ Memory → refused.IsOfPredicate (scope_of scopes.now) (model.constraints_named (map statement_view statements.now)) e) }
-    ensures none { IfErr result (λ e. e.code ≢ Memory → LacksPredicate (scope_of scopes.now) (model.constraints_named (map statement_view statements.now))) }
+    ensures found { IfOk result (λ ps.
+        model.AreStatePredicates (scope_of scopes.now)
+        (model.constraints_named (map statement_view statements.now))
+        (map predicate_of ps.items)) }
+    ensures formula { IfErr result (λ e.
+        e.code ≢ Memory
+        → refused.IsOfPredicate (scope_of scopes.now)
+        (model.constraints_named (map statement_view statements.now)) e) }
+    ensures none { IfErr result (λ e.
+        e.code ≢ Memory
+        → LacksPredicate (scope_of scopes.now)
+        (model.constraints_named (map statement_view statements.now))) }
 {
     let named = constraints_named(alloc, statements)?;
     let predicates = state_predicates(alloc, places, scopes, named.as_slice())?;
@@ -206,9 +249,17 @@ fn assumptions<'a>(
     units: &'a [Unit],
     scopes: &Scopes<'a>,
 ) -> Result<Vec<Core>, DefsError>
-    ensures found { IfOk result (λ es. model.AreAssumptions (scope_of scopes.now) (model.assumptions_of (map unit_view units.entry.now)) (map expr_of es.items)) }
-    ensures formula { IfErr result (λ e. e.code ≢ Memory → refused.IsOfAssumption (scope_of scopes.now) (model.assumptions_of (map unit_view units.entry.now)) e) }
-    ensures none { IfErr result (λ e. e.code ≢ Memory → LacksAssumption (scope_of scopes.now) (model.assumptions_of (map unit_view units.entry.now))) }
+    ensures found { IfOk result (λ es.
+        model.AreAssumptions (scope_of scopes.now)
+        (model.assumptions_of (map unit_view units.entry.now)) (map expr_of es.items)) }
+    ensures formula { IfErr result (λ e.
+        e.code ≢ Memory
+        → refused.IsOfAssumption (scope_of scopes.now)
+        (model.assumptions_of (map unit_view units.entry.now)) e) }
+    ensures none { IfErr result (λ e.
+        e.code ≢ Memory
+        → LacksAssumption (scope_of scopes.now)
+        (model.assumptions_of (map unit_view units.entry.now))) }
 {
     let mut assumptions = Vec::new(alloc);
     let mut left = units;
@@ -233,15 +284,28 @@ fn model<'a>(
 ) -> Result<Model, DefsError>
     requires known { known.misuse (map unit_view units.now) ≡ None }
     requires items { items.now ≡ items_of (map statement_view statements.now) }
-    requires given { given.items_misused (given.replaceable_of (map unit_view units.now)) (given.nameable_of (map unit_view units.now)) [] items.now ≡ None }
+    requires given { given.items_misused (given.replaceable_of (map unit_view units.now))
+        (given.nameable_of (map unit_view units.now)) [] items.now
+        ≡ None }
     requires valued { unvalued (given.replaced_names items.now) (map unit_view units.now) ≡ None }
-    requires named { named.names_misused (given.definitions_of (map unit_view units.now)) (map statement_view statements.now) ≡ None }
+    requires named { named.names_misused (given.definitions_of (map unit_view units.now))
+        (map statement_view statements.now)
+        ≡ None }
     requires straight { AreStraight (references (map unit_view units.now) items.now) items.now }
     requires variables { variables.now ≡ known.variables_of (map unit_view units.now) }
     requires only { IsOnly (map statement_view statements.now) (behaviour_of behaviour) }
-    ensures found { IfOk result (λ m. model.IsModel (map unit_view units.now) (map statement_view statements.now) (model_of m)) }
-    ensures refused { IfErr result (λ e. e.code ≢ Memory → refused.IsLast (map unit_view units.now) (map statement_view statements.now) (Ok (behaviour_of behaviour.entry)) e) }
-    ensures none { IfErr result (λ e. e.code ≢ Memory → (m : ModelTree) → model.IsModel (map unit_view units.now) (map statement_view statements.now) m → ⊥) }
+    ensures found { IfOk result (λ m.
+        model.IsModel (map unit_view units.now) (map statement_view statements.now)
+        (model_of m)) }
+    ensures refused { IfErr result (λ e.
+        e.code ≢ Memory
+        → refused.IsLast (map unit_view units.now) (map statement_view statements.now)
+        (Ok (behaviour_of behaviour.entry)) e) }
+    ensures none { IfErr result (λ e.
+        e.code ≢ Memory
+        → (m : ModelTree)
+        → model.IsModel (map unit_view units.now) (map statement_view statements.now) m
+        → ⊥) }
 {
     let global = global_scope(alloc, units, items)?;
     let scopes = &*global;
@@ -268,9 +332,15 @@ fn model<'a>(
 
 /// The model, or a refusal. If memory ran out, nothing is known.
 fn model_or_refusal(alloc: Global, units: &[Unit], config: &Config) -> Result<Model, DefsError>
-    ensures found { IfOk result (λ m. model.IsModel (map unit_view units.now) config.now.statements (model_of m)) }
-    ensures refused { IfErr result (λ e. e.code ≢ Memory → refused.IsRefusal (map unit_view units.now) config.now e) }
-    ensures none { IfErr result (λ e. e.code ≢ Memory → (m : ModelTree) → model.IsModel (map unit_view units.now) config.now.statements m → ⊥) }
+    ensures found { IfOk result (λ m.
+        model.IsModel (map unit_view units.now) config.now.statements (model_of m)) }
+    ensures refused { IfErr result (λ e.
+        e.code ≢ Memory → refused.IsRefusal (map unit_view units.now) config.now e) }
+    ensures none { IfErr result (λ e.
+        e.code ≢ Memory
+        → (m : ModelTree)
+        → model.IsModel (map unit_view units.now) config.now.statements m
+        → ⊥) }
 {
     let statements = config.statements();
     let variables = variables(alloc, units)?;
@@ -295,12 +365,23 @@ fn model_or_refusal(alloc: Global, units: &[Unit], config: &Config) -> Result<Mo
 /// clause says which of the steps after the items refuses.) It recurses as deep as the module's trees are nested, which
 /// is at most 200 from `parse_module`, and over a formula's expansion to depth 300.
 pub fn build(alloc: Global, module: &Module, config: &Config) -> Result<Model, DefsError>
-    ensures found { IfOk result (λ m. model.IsModel (map unit_view «module».now.units.items) config.now.statements (model_of m)) }
+    ensures found { IfOk result (λ m.
+        model.IsModel (map unit_view «module».now.units.items) config.now.statements
+        (model_of m)) }
     // No other model is named.
-    ensures only { IfOk result (λ m. (n : ModelTree) → model.IsModel (map unit_view «module».now.units.items) config.now.statements n → n ≡ model_of m) }
+    ensures only { IfOk result (λ m.
+        (n : ModelTree)
+        → model.IsModel (map unit_view «module».now.units.items) config.now.statements n
+        → n ≡ model_of m) }
     // A refusal has its cause, and up to C7 it is the first in the order of steps. Then there is no model.
-    ensures refused { IfErr result (λ e. e.code ≢ Memory → refused.IsRefusal (map unit_view «module».now.units.items) config.now e) }
-    ensures none { IfErr result (λ e. e.code ≢ Memory → (n : ModelTree) → model.IsModel (map unit_view «module».now.units.items) config.now.statements n → ⊥) }
+    ensures refused { IfErr result (λ e.
+        e.code ≢ Memory
+        → refused.IsRefusal (map unit_view «module».now.units.items) config.now e) }
+    ensures none { IfErr result (λ e.
+        e.code ≢ Memory
+        → (n : ModelTree)
+        → model.IsModel (map unit_view «module».now.units.items) config.now.statements n
+        → ⊥) }
     ensures located { IfErr result (λ e. IsLocated e.code e.place e.name) }
 {
     match model_or_refusal(alloc, module.units.as_slice(), config) {

@@ -32,7 +32,12 @@ fn push_each<'a>(
     trees: &'a [Expr],
     names: usize,
 ) -> Result<(), DefsError>
-    ensures ok { (b : bodies.Bodies) → OnOk result (conjuncts_left b formulas.new.items ≡ spec.conjuncts_each (spec.conjuncts_of names b) (trees_of (map view trees.entry.now)) ++ conjuncts_left b formulas.old.items) }
+    ensures ok { (b : bodies.Bodies)
+        → OnOk result
+        (conjuncts_left b formulas.new.items
+        ≡ spec.conjuncts_each (spec.conjuncts_of names b)
+        (trees_of (map view trees.entry.now))
+        ++ conjuncts_left b formulas.old.items) }
     ensures err { IfErr result (λ e. e.code ≡ Memory) }
 {
     for i in 0..trees.len() {
@@ -55,7 +60,9 @@ pub(crate) enum Split<'a> {
 }
 
 fn split_of<'a>(tree: &'a Expr) -> Split<'a>
-    ensures { (ρ : _) → spec.conjuncts_in ρ (view tree.entry.now) ≡ conjuncts_by ρ (view tree.entry.now) result }
+    ensures { (ρ : _)
+        → spec.conjuncts_in ρ (view tree.entry.now)
+        ≡ conjuncts_by ρ (view tree.entry.now) result }
 {
     match tree {
         Expr::Paren(_, inner) => Split::Same(inner),
@@ -107,7 +114,8 @@ impl<'t, 'a> Classes<'t, 'a> {
 
     /// The formula that replaces a name, if names are replaced `names` definitions deep.
     fn formula(&self, name: &[u8], names: usize) -> Option<Formula<'a>>
-        ensures { option_map (conjuncts_from (replaced_in self.now)) result ≡ spec.conjuncts_of names (replaced_in self.now) name.now }
+        ensures { option_map (conjuncts_from (replaced_in self.now)) result
+            ≡ spec.conjuncts_of names (replaced_in self.now) name.now }
     {
         if names == 0 {
             return None;
@@ -138,7 +146,12 @@ fn go_on<'a>(
     walk: &mut Walk<'a>,
 ) -> Result<(), DefsError>
     requires fair { AreMadeOfFairness (fair_names classes.now) (replaced_in classes.now) }
-    ensures ok { OnOk result ((ss : List spec.Step) (es : List Tree) → AreFoundOrLeft (fair_names classes.now) (replaced_in classes.now) (walk.old.left.items ++ formula.entry ∷ []) walk.old.parts ss es → AreFoundOrLeft (fair_names classes.now) (replaced_in classes.now) walk.new.left.items walk.new.parts ss es) }
+    ensures ok { OnOk result
+        ((ss : List spec.Step) (es : List Tree)
+        → AreFoundOrLeft (fair_names classes.now) (replaced_in classes.now)
+        (walk.old.left.items ++ formula.entry ∷ []) walk.old.parts ss es
+        → AreFoundOrLeft (fair_names classes.now) (replaced_in classes.now) walk.new.left.items
+        walk.new.parts ss es) }
     ensures err { IfErr result (λ e. e.code ≡ Memory) }
 {
     let Formula { tree, names } = formula;
@@ -179,9 +192,21 @@ pub(crate) fn parts_of<'a>(
     place: Place,
 ) -> Result<Parts<'a>, DefsError>
     requires fair { AreMadeOfFairness (fair_names classes.now) (replaced_in classes.now) }
-    ensures steps { IfOk result (λ p. steps_in p ≡ spec.steps_of (spec.conjuncts names (replaced_in classes.now) (tree_at whole.entry))) }
-    ensures initial { IfOk result (λ p. seen p.initial.items ≡ initials_by (fair_names classes.now) (spec.conjuncts names (replaced_in classes.now) (tree_at whole.entry))) }
-    ensures refused { IfErr result (λ e. e.code ≢ Memory → IsOfMany place (spec.steps_of (spec.conjuncts names (replaced_in classes.now) (tree_at whole.entry))) (initials_by (fair_names classes.now) (spec.conjuncts names (replaced_in classes.now) (tree_at whole.entry))) e) }
+    ensures steps { IfOk result (λ p.
+        steps_in p
+        ≡ spec.steps_of
+        (spec.conjuncts names (replaced_in classes.now) (tree_at whole.entry))) }
+    ensures initial { IfOk result (λ p.
+        seen p.initial.items
+        ≡ initials_by (fair_names classes.now)
+        (spec.conjuncts names (replaced_in classes.now) (tree_at whole.entry))) }
+    ensures refused { IfErr result (λ e.
+        e.code ≢ Memory
+        → IsOfMany place
+        (spec.steps_of
+        (spec.conjuncts names (replaced_in classes.now) (tree_at whole.entry)))
+        (initials_by (fair_names classes.now)
+        (spec.conjuncts names (replaced_in classes.now) (tree_at whole.entry))) e) }
 {
     let mut walk = Walk {
         left: Vec::new(alloc),

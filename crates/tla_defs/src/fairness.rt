@@ -40,7 +40,8 @@ fn fair_tree<'a>(
     tree: &'a Expr,
 ) -> Result<bool, DefsError>
     ensures kept { OnOk result (bound.new ≡ bound.old) }
-    ensures same { IfOk result (λ r. r ≡ spec.fair_in (found_names definitions.now) bound.old (view tree.entry.now)) }
+    ensures same { IfOk result (λ r.
+        r ≡ spec.fair_in (found_names definitions.now) bound.old (view tree.entry.now)) }
     ensures err { IfErr result (λ e. e.code ≡ Memory) }
 {
     match tree {
@@ -85,7 +86,11 @@ fn fair_under<'a>(
     body: &'a Expr,
 ) -> Result<bool, DefsError>
     ensures kept { OnOk result (bound.new ≡ bound.old) }
-    ensures same { IfOk result (λ r. r ≡ spec.fair_in (found_names definitions.now) (bound.old ++ plain (bound_names (binders (map group_view groups.entry.now)))) (view body.entry.now)) }
+    ensures same { IfOk result (λ r.
+        r
+        ≡ spec.fair_in (found_names definitions.now)
+        (bound.old ++ plain (bound_names (binders (map group_view groups.entry.now))))
+        (view body.entry.now)) }
     ensures err { IfErr result (λ e. e.code ≡ Memory) }
 {
     let mark = bound.len();
@@ -103,7 +108,10 @@ fn each_fair<'a>(
     trees: &'a [Expr],
 ) -> Result<bool, DefsError>
     ensures kept { OnOk result (bound.new ≡ bound.old) }
-    ensures same { IfOk result (λ r. r ≡ spec.fair_each (found_names definitions.now) bound.old (trees_of (map view trees.entry.now))) }
+    ensures same { IfOk result (λ r.
+        r
+        ≡ spec.fair_each (found_names definitions.now) bound.old
+        (trees_of (map view trees.entry.now))) }
     ensures err { IfErr result (λ e. e.code ≡ Memory) }
 {
     let mut others = trees;
@@ -122,7 +130,8 @@ pub(crate) fn is_fair<'a>(
     definitions: &Definitions<'_, 'a>,
     tree: &'a Expr,
 ) -> Result<bool, DefsError>
-    ensures ok { IfOk result (λ r. r ≡ spec.fair_in (found_names definitions.now) [] (view tree.entry.now)) }
+    ensures ok { IfOk result (λ r.
+        r ≡ spec.fair_in (found_names definitions.now) [] (view tree.entry.now)) }
     ensures err { IfErr result (λ e. e.code ≡ Memory) }
 {
     let mut bound = Scope::new(alloc);

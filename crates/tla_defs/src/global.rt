@@ -31,7 +31,10 @@ struct Counted<'a> {
 
 /// Adds a variable.
 fn with_variable<'a>(counted: Counted<'a>, name: &'a Word) -> Result<Counted<'a>, DefsError>
-    ensures ok { IfOk result (λ c. scope_of c.scopes ≡ global.with_variable counted.entry.variables name.now (scope_of counted.entry.scopes)) }
+    ensures ok { IfOk result (λ c.
+        scope_of c.scopes
+        ≡ global.with_variable counted.entry.variables name.now
+        (scope_of counted.entry.scopes)) }
     ensures next { IfOk result (λ c. c.variables ≡ counted.entry.variables + 1) }
     ensures err { IfErr result (λ e. e.code ≡ Memory) }
 {
@@ -47,7 +50,10 @@ fn with_variable<'a>(counted: Counted<'a>, name: &'a Word) -> Result<Counted<'a>
 
 /// Adds variables.
 fn with_variables<'a>(counted: Counted<'a>, names: &'a [Written]) -> Result<Counted<'a>, DefsError>
-    ensures ok { IfOk result (λ c. scope_of c.scopes ≡ global.variables_in counted.entry.variables names.now (scope_of counted.entry.scopes)) }
+    ensures ok { IfOk result (λ c.
+        scope_of c.scopes
+        ≡ global.variables_in counted.entry.variables names.now
+        (scope_of counted.entry.scopes)) }
     ensures next { IfOk result (λ c. c.variables ≡ counted.entry.variables + length names.now) }
     ensures err { IfErr result (λ e. e.code ≡ Memory) }
 {
@@ -66,7 +72,9 @@ fn with_operator<'a>(
     name: &'a Word,
     body: &'a Expr,
 ) -> Result<Counted<'a>, DefsError>
-    ensures ok { IfOk result (λ c. scope_of c.scopes ≡ global.with_operator name.now (view body.now) (scope_of counted.entry.scopes)) }
+    ensures ok { IfOk result (λ c.
+        scope_of c.scopes
+        ≡ global.with_operator name.now (view body.now) (scope_of counted.entry.scopes)) }
     ensures same { IfOk result (λ c. c.variables ≡ counted.entry.variables) }
     ensures err { IfErr result (λ e. e.code ≡ Memory) }
 {
@@ -82,7 +90,9 @@ fn with_definition<'a>(
     counted: Counted<'a>,
     definition: &'a Definition,
 ) -> Result<Counted<'a>, DefsError>
-    ensures ok { IfOk result (λ c. scope_of c.scopes ≡ definition_in (definition_view definition.now) (scope_of counted.entry.scopes)) }
+    ensures ok { IfOk result (λ c.
+        scope_of c.scopes
+        ≡ definition_in (definition_view definition.now) (scope_of counted.entry.scopes)) }
     ensures same { IfOk result (λ c. c.variables ≡ counted.entry.variables) }
     ensures err { IfErr result (λ e. e.code ≡ Memory) }
 {
@@ -100,7 +110,11 @@ fn with_operator_unless<'a>(
     name: &'a Word,
     body: &'a Expr,
 ) -> Result<Counted<'a>, DefsError>
-    ensures ok { IfOk result (λ c. scope_of c.scopes ≡ global.unless (is_among name.now replaced.now) (global.with_operator name.now (view body.now) (scope_of counted.entry.scopes)) (scope_of counted.entry.scopes)) }
+    ensures ok { IfOk result (λ c.
+        scope_of c.scopes
+        ≡ global.unless (is_among name.now replaced.now)
+        (global.with_operator name.now (view body.now) (scope_of counted.entry.scopes))
+        (scope_of counted.entry.scopes)) }
     ensures same { IfOk result (λ c. c.variables ≡ counted.entry.variables) }
     ensures err { IfErr result (λ e. e.code ≡ Memory) }
 {
@@ -116,7 +130,11 @@ fn with_definition_unless<'a>(
     replaced: &Names<'_>,
     definition: &'a Definition,
 ) -> Result<Counted<'a>, DefsError>
-    ensures ok { IfOk result (λ c. scope_of c.scopes ≡ global.unless (is_among (signature (definition_view definition.now)).0 replaced.now) (definition_in (definition_view definition.now) (scope_of counted.entry.scopes)) (scope_of counted.entry.scopes)) }
+    ensures ok { IfOk result (λ c.
+        scope_of c.scopes
+        ≡ global.unless (is_among (signature (definition_view definition.now)).0 replaced.now)
+        (definition_in (definition_view definition.now) (scope_of counted.entry.scopes))
+        (scope_of counted.entry.scopes)) }
     ensures same { IfOk result (λ c. c.variables ≡ counted.entry.variables) }
     ensures err { IfErr result (λ e. e.code ≡ Memory) }
 {
@@ -132,7 +150,11 @@ fn with_unit<'a>(
     replaced: &Names<'_>,
     unit: &'a Unit,
 ) -> Result<Counted<'a>, DefsError>
-    ensures ok { IfOk result (λ c. (us : List UnitTree) → global.units_in replaced.now counted.entry.variables (unit_view unit.now ∷ us) (scope_of counted.entry.scopes) ≡ global.units_in replaced.now c.variables us (scope_of c.scopes)) }
+    ensures ok { IfOk result (λ c.
+        (us : List UnitTree)
+        → global.units_in replaced.now counted.entry.variables (unit_view unit.now ∷ us)
+        (scope_of counted.entry.scopes)
+        ≡ global.units_in replaced.now c.variables us (scope_of c.scopes)) }
     ensures err { IfErr result (λ e. e.code ≡ Memory) }
 {
     match unit {
@@ -153,7 +175,10 @@ fn with_unit<'a>(
 
 /// Adds the name of an item.
 fn with_item<'a>(scopes: Scopes<'a>, item: &'a Item) -> Result<Scopes<'a>, DefsError>
-    ensures ok { IfOk result (λ s. scope_of s ≡ given_names.with_item (outer_of scopes.entry) (item_view item.now) (scope_of scopes.entry)) }
+    ensures ok { IfOk result (λ s.
+        scope_of s
+        ≡ given_names.with_item (outer_of scopes.entry) (item_view item.now)
+        (scope_of scopes.entry)) }
     ensures outer { IfOk result (λ s. outer_of s ≡ outer_of scopes.entry) }
     ensures err { IfErr result (λ e. e.code ≡ Memory) }
 {
@@ -169,7 +194,9 @@ fn with_item<'a>(scopes: Scopes<'a>, item: &'a Item) -> Result<Scopes<'a>, DefsE
 
 /// Adds the names of items.
 fn with_items<'a>(scopes: Scopes<'a>, given: &Items<'a>) -> Result<Scopes<'a>, DefsError>
-    ensures ok { IfOk result (λ s. scope_of s ≡ given_names.with_items (outer_of scopes.entry) given.now (scope_of scopes.entry)) }
+    ensures ok { IfOk result (λ s.
+        scope_of s
+        ≡ given_names.with_items (outer_of scopes.entry) given.now (scope_of scopes.entry)) }
     ensures err { IfErr result (λ e. e.code ≡ Memory) }
 {
     let mut all = scopes;
@@ -187,7 +214,10 @@ fn with_units<'a>(
     replaced: &Names<'_>,
     units: &'a [Unit],
 ) -> Result<Scopes<'a>, DefsError>
-    ensures ok { IfOk result (λ s. scope_of s ≡ global.units_in replaced.now counted.entry.variables (map unit_view units.now) (scope_of counted.entry.scopes)) }
+    ensures ok { IfOk result (λ s.
+        scope_of s
+        ≡ global.units_in replaced.now counted.entry.variables (map unit_view units.now)
+        (scope_of counted.entry.scopes)) }
     ensures err { IfErr result (λ e. e.code ≡ Memory) }
 {
     let mut all = counted;
@@ -208,7 +238,9 @@ fn meant<'a>(
     units: &'a [Unit],
 ) -> Result<Box<Scopes<'a>>, DefsError>
     requires { replaced.now ≡ items.replaced_names given.now }
-    ensures ok { IfOk result (λ s. scope_of s.value ≡ global.meant (map unit_view units.now) given.now (scope_of scopes.entry)) }
+    ensures ok { IfOk result (λ s.
+        scope_of s.value
+        ≡ global.meant (map unit_view units.now) given.now (scope_of scopes.entry)) }
     ensures err { IfErr result (λ e. e.code ≡ Memory) }
 {
     let counted = Counted {
@@ -228,8 +260,12 @@ fn raised<'a>(
     units: &'a [Unit],
 ) -> Result<Box<Scopes<'a>>, DefsError>
     requires replaced { replaced.now ≡ items.replaced_names given.now }
-    requires first { scope_of scopes.value ≡ global.meant (map unit_view units.now) given.now standard }
-    ensures ok { IfOk result (λ s. scope_of s.value ≡ global.raised (map unit_view units.now) given.now given.now (scope_of scopes.entry.value)) }
+    requires first { scope_of scopes.value
+        ≡ global.meant (map unit_view units.now) given.now standard }
+    ensures ok { IfOk result (λ s.
+        scope_of s.value
+        ≡ global.raised (map unit_view units.now) given.now given.now
+        (scope_of scopes.entry.value)) }
     ensures err { IfErr result (λ e. e.code ≡ Memory) }
 {
     let mut all = scopes;
@@ -254,7 +290,8 @@ pub(crate) fn global_scope<'a>(
     units: &'a [Unit],
     given: &Items<'a>,
 ) -> Result<Box<Scopes<'a>>, DefsError>
-    ensures ok { IfOk result (λ s. scope_of s.value ≡ global.global (map unit_view units.now) given.now) }
+    ensures ok { IfOk result (λ s.
+        scope_of s.value ≡ global.global (map unit_view units.now) given.now) }
     ensures err { IfErr result (λ e. e.code ≡ Memory) }
 {
     let replaced = given.names(alloc)?;

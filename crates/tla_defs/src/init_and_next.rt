@@ -44,9 +44,17 @@ pub(crate) fn meaning<'a>(
     variables: usize,
     behaviour: Behaviour<'a>,
 ) -> Result<InitAndNext<'a>, DefsError>
-    ensures found { IfOk result (λ m. IsMeant (map unit_view units.now) items.now (scope_of scopes.now) variables (behaviour_of behaviour.entry) m) }
-    ensures refused { IfErr result (λ e. e.code ≢ Memory → MayBeLast (form_refused (behaviour_of behaviour.entry)) (HasMany (map unit_view units.now) items.now (behaviour_of behaviour.entry)) e) }
-    ensures none { IfErr result (λ e. e.code ≡ DefsCode.SpecificationForm → NoneMeant (map unit_view units.now) items.now (scope_of scopes.now) variables (behaviour_of behaviour.entry)) }
+    ensures found { IfOk result (λ m.
+        IsMeant (map unit_view units.now) items.now (scope_of scopes.now) variables
+        (behaviour_of behaviour.entry) m) }
+    ensures refused { IfErr result (λ e.
+        e.code ≢ Memory
+        → MayBeLast (form_refused (behaviour_of behaviour.entry))
+        (HasMany (map unit_view units.now) items.now (behaviour_of behaviour.entry)) e) }
+    ensures none { IfErr result (λ e.
+        e.code ≡ DefsCode.SpecificationForm
+        → NoneMeant (map unit_view units.now) items.now (scope_of scopes.now) variables
+        (behaviour_of behaviour.entry)) }
 {
     match behaviour {
         Behaviour::Named(initial, next) => Ok(InitAndNext::Named(initial, next)),
@@ -59,9 +67,17 @@ pub(crate) fn meaning<'a>(
 
 /// An initial predicate of one conjunct, over the next values of variables.
 fn one_conjunct<'a>(alloc: Global, scopes: &Scopes<'a>, tree: &'a Expr) -> Result<Core, DefsError>
-    ensures found { IfOk result (λ c. formulas.IsInitial (scope_of scopes.now) (view tree.entry.now) (expr_of c)) }
-    ensures formula { IfErr result (λ e. e.code ≢ Memory → formula_refused.IsOfFormula (expand (view tree.entry.now) (scope_of scopes.now) 0) read.Once e) }
-    ensures none { IfErr result (λ e. e.code ≢ Memory → (x : expr.Expr) → formulas.IsInitial (scope_of scopes.now) (view tree.entry.now) x → ⊥) }
+    ensures found { IfOk result (λ c.
+        formulas.IsInitial (scope_of scopes.now) (view tree.entry.now) (expr_of c)) }
+    ensures formula { IfErr result (λ e.
+        e.code ≢ Memory
+        → formula_refused.IsOfFormula (expand (view tree.entry.now) (scope_of scopes.now) 0)
+        read.Once e) }
+    ensures none { IfErr result (λ e.
+        e.code ≢ Memory
+        → (x : expr.Expr)
+        → formulas.IsInitial (scope_of scopes.now) (view tree.entry.now) x
+        → ⊥) }
 {
     match scopes.expansion(alloc, tree, Primes::Once) {
         Ok(core) => Ok(core),
@@ -76,9 +92,20 @@ fn several_conjuncts<'a>(
     place: Place,
     trees: &[&'a Expr],
 ) -> Result<Core, DefsError>
-    ensures found { IfOk result (λ c. formulas.IsInitial (scope_of scopes.now) (Junction place bullet.And (trees_of (seen trees.now))) (expr_of c)) }
-    ensures formula { IfErr result (λ e. e.code ≢ Memory → formula_refused.IsOfFormula (expand (Junction place bullet.And (trees_of (seen trees.now))) (scope_of scopes.now) 0) read.Once e) }
-    ensures none { IfErr result (λ e. e.code ≢ Memory → (x : expr.Expr) → formulas.IsInitial (scope_of scopes.now) (Junction place bullet.And (trees_of (seen trees.now))) x → ⊥) }
+    ensures found { IfOk result (λ c.
+        formulas.IsInitial (scope_of scopes.now)
+        (Junction place bullet.And (trees_of (seen trees.now))) (expr_of c)) }
+    ensures formula { IfErr result (λ e.
+        e.code ≢ Memory
+        → formula_refused.IsOfFormula
+        (expand (Junction place bullet.And (trees_of (seen trees.now)))
+        (scope_of scopes.now) 0) read.Once e) }
+    ensures none { IfErr result (λ e.
+        e.code ≢ Memory
+        → (x : expr.Expr)
+        → formulas.IsInitial (scope_of scopes.now)
+        (Junction place bullet.And (trees_of (seen trees.now))) x
+        → ⊥) }
 {
     match scopes.conjunction(alloc, place, trees, Primes::Once) {
         Ok(core) => Ok(core),
@@ -92,9 +119,21 @@ fn specified_initial<'a>(
     scopes: &Scopes<'a>,
     specified: &Specified<'a>,
 ) -> Result<Core, DefsError>
-    ensures found { (i : Tree) → initial_in specified.now ≡ Some i → IfOk result (λ c. formulas.IsInitial (scope_of scopes.now) i (expr_of c)) }
-    ensures formula { (i : Tree) → initial_in specified.now ≡ Some i → IfErr result (λ e. e.code ≢ Memory → formula_refused.IsOfFormula (expand i (scope_of scopes.now) 0) read.Once e) }
-    ensures none { (i : Tree) → initial_in specified.now ≡ Some i → IfErr result (λ e. e.code ≢ Memory → (x : expr.Expr) → formulas.IsInitial (scope_of scopes.now) i x → ⊥) }
+    ensures found { (i : Tree)
+        → initial_in specified.now ≡ Some i
+        → IfOk result (λ c. formulas.IsInitial (scope_of scopes.now) i (expr_of c)) }
+    ensures formula { (i : Tree)
+        → initial_in specified.now ≡ Some i
+        → IfErr result (λ e.
+        e.code ≢ Memory
+        → formula_refused.IsOfFormula (expand i (scope_of scopes.now) 0) read.Once e) }
+    ensures none { (i : Tree)
+        → initial_in specified.now ≡ Some i
+        → IfErr result (λ e.
+        e.code ≢ Memory
+        → (x : expr.Expr)
+        → formulas.IsInitial (scope_of scopes.now) i x
+        → ⊥) }
 {
     if specified.initial.len() == 0 {
         return Err(DefsError::no_memory(Source::Module));
@@ -112,9 +151,17 @@ fn specified_action<'a>(
     scopes: &Scopes<'a>,
     tree: &'a Expr,
 ) -> Result<Core, DefsError>
-    ensures found { IfOk result (λ c. formulas.IsAction (scope_of scopes.now) (view tree.entry.now) (expr_of c)) }
-    ensures formula { IfErr result (λ e. e.code ≢ Memory → formula_refused.IsOfFormula (expand (view tree.entry.now) (scope_of scopes.now) 0) read.Never e) }
-    ensures none { IfErr result (λ e. e.code ≢ Memory → (x : expr.Expr) → formulas.IsAction (scope_of scopes.now) (view tree.entry.now) x → ⊥) }
+    ensures found { IfOk result (λ c.
+        formulas.IsAction (scope_of scopes.now) (view tree.entry.now) (expr_of c)) }
+    ensures formula { IfErr result (λ e.
+        e.code ≢ Memory
+        → formula_refused.IsOfFormula (expand (view tree.entry.now) (scope_of scopes.now) 0)
+        read.Never e) }
+    ensures none { IfErr result (λ e.
+        e.code ≢ Memory
+        → (x : expr.Expr)
+        → formulas.IsAction (scope_of scopes.now) (view tree.entry.now) x
+        → ⊥) }
 {
     match scopes.expansion(alloc, tree, Primes::Never) {
         Ok(core) => Ok(core),
@@ -129,9 +176,21 @@ pub(crate) fn initial_predicate<'a>(
     scopes: &Scopes<'a>,
     meant: &InitAndNext<'a>,
 ) -> Result<Core, DefsError>
-    ensures found { (i : Tree) → initial_tree «meant».now ≡ Some i → IfOk result (λ c. formulas.IsInitial (scope_of scopes.now) i (expr_of c)) }
-    ensures formula { (i : Tree) → initial_tree «meant».now ≡ Some i → IfErr result (λ e. e.code ≢ Memory → formula_refused.IsOfFormula (expand i (scope_of scopes.now) 0) read.Once e) }
-    ensures none { (i : Tree) → initial_tree «meant».now ≡ Some i → IfErr result (λ e. e.code ≢ Memory → (x : expr.Expr) → formulas.IsInitial (scope_of scopes.now) i x → ⊥) }
+    ensures found { (i : Tree)
+        → initial_tree «meant».now ≡ Some i
+        → IfOk result (λ c. formulas.IsInitial (scope_of scopes.now) i (expr_of c)) }
+    ensures formula { (i : Tree)
+        → initial_tree «meant».now ≡ Some i
+        → IfErr result (λ e.
+        e.code ≢ Memory
+        → formula_refused.IsOfFormula (expand i (scope_of scopes.now) 0) read.Once e) }
+    ensures none { (i : Tree)
+        → initial_tree «meant».now ≡ Some i
+        → IfErr result (λ e.
+        e.code ≢ Memory
+        → (x : expr.Expr)
+        → formulas.IsInitial (scope_of scopes.now) i x
+        → ⊥) }
 {
     match meant {
         InitAndNext::Named(name, _) => initial(alloc, places, scopes, name),
@@ -146,9 +205,17 @@ pub(crate) fn next_action<'a>(
     scopes: &Scopes<'a>,
     meant: &InitAndNext<'a>,
 ) -> Result<Core, DefsError>
-    ensures found { IfOk result (λ c. formulas.IsAction (scope_of scopes.now) (action_tree «meant».now) (expr_of c)) }
-    ensures formula { IfErr result (λ e. e.code ≢ Memory → formula_refused.IsOfFormula (expand (action_tree «meant».now) (scope_of scopes.now) 0) read.Never e) }
-    ensures none { IfErr result (λ e. e.code ≢ Memory → (x : expr.Expr) → formulas.IsAction (scope_of scopes.now) (action_tree «meant».now) x → ⊥) }
+    ensures found { IfOk result (λ c.
+        formulas.IsAction (scope_of scopes.now) (action_tree «meant».now) (expr_of c)) }
+    ensures formula { IfErr result (λ e.
+        e.code ≢ Memory
+        → formula_refused.IsOfFormula (expand (action_tree «meant».now) (scope_of scopes.now) 0)
+        read.Never e) }
+    ensures none { IfErr result (λ e.
+        e.code ≢ Memory
+        → (x : expr.Expr)
+        → formulas.IsAction (scope_of scopes.now) (action_tree «meant».now) x
+        → ⊥) }
 {
     match meant {
         InitAndNext::Named(_, name) => action(alloc, places, scopes, name),

@@ -70,8 +70,12 @@ impl<'a> Parts<'a> {
         definitions: &Definitions<'_, 'a>,
         tree: &'a Expr,
     ) -> Result<(), DefsError>
-        ensures steps { OnOk result (steps_in self.new ≡ steps_in self.old ++ spec.steps_of (tree_at tree.entry ∷ [])) }
-        ensures initial { OnOk result (seen self.new.initial.items ≡ seen self.old.initial.items ++ initials_by (found_names definitions.now) (tree_at tree.entry ∷ [])) }
+        ensures steps { OnOk result
+            (steps_in self.new ≡ steps_in self.old ++ spec.steps_of (tree_at tree.entry ∷ [])) }
+        ensures initial { OnOk result
+            (seen self.new.initial.items
+            ≡ seen self.old.initial.items
+            ++ initials_by (found_names definitions.now) (tree_at tree.entry ∷ [])) }
         ensures err { IfErr result (λ e. e.code ≡ Memory) }
     {
         if let Some(step) = always(tree) {
@@ -86,7 +90,9 @@ impl<'a> Parts<'a> {
     /// The refusal of two steps, or of more other conjuncts than an expression within the limits has nodes.
     /// SPECIFICATION is at this place.
     pub(crate) fn too_many(&self, place: Place) -> Option<DefsError>
-        ensures told { (e : DefsError) → result ≡ Some e → IsOfMany place (steps_in self.now) (seen self.now.initial.items) e }
+        ensures told { (e : DefsError)
+            → result ≡ Some e
+            → IsOfMany place (steps_in self.now) (seen self.now.initial.items) e }
         ensures few { result ≡ None → AreFew self.now }
     {
         if self.steps.len() > 1 {

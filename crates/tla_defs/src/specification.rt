@@ -46,9 +46,15 @@ fn covered<'a>(
     subscript: &'a Expr,
     place: Place,
 ) -> Result<(), DefsError>
-    ensures covers { OnOk result (subscripts.IsCover (scope_of scopes.now) variables (view subscript.entry.now)) }
-    ensures refused { IfErr result (λ e. e.code ≢ Memory → refusal.refusal_at DefsCode.SpecificationForm Source.Configuration place ≡ e) }
-    ensures none { IfErr result (λ e. e.code ≢ Memory → subscripts.IsCover (scope_of scopes.now) variables (view subscript.entry.now) → ⊥) }
+    ensures covers { OnOk result
+        (subscripts.IsCover (scope_of scopes.now) variables (view subscript.entry.now)) }
+    ensures refused { IfErr result (λ e.
+        e.code ≢ Memory
+        → refusal.refusal_at DefsCode.SpecificationForm Source.Configuration place ≡ e) }
+    ensures none { IfErr result (λ e.
+        e.code ≢ Memory
+        → subscripts.IsCover (scope_of scopes.now) variables (view subscript.entry.now)
+        → ⊥) }
 {
     match scopes.covers(alloc, subscript, variables) {
         Ok(true) => Ok(()),
@@ -64,8 +70,13 @@ fn of_state_level<'a>(
     tree: &'a Expr,
     place: Place,
 ) -> Result<(), DefsError>
-    ensures refused { IfErr result (λ e. e.code ≢ Memory → refusal.refusal_at DefsCode.SpecificationForm Source.Configuration place ≡ e) }
-    ensures none { IfErr result (λ e. e.code ≢ Memory → with_primes Primes.Once (expand (view tree.entry.now) (scope_of scopes.now) 0) ≡ None) }
+    ensures refused { IfErr result (λ e.
+        e.code ≢ Memory
+        → refusal.refusal_at DefsCode.SpecificationForm Source.Configuration place ≡ e) }
+    ensures none { IfErr result (λ e.
+        e.code ≢ Memory
+        → with_primes Primes.Once (expand (view tree.entry.now) (scope_of scopes.now) 0)
+        ≡ None) }
 {
     match scopes.expansion(alloc, tree, Primes::Once) {
         Ok(core) => {
@@ -116,8 +127,11 @@ fn each_of_state_level<'a>(
     trees: &[&'a Expr],
     place: Place,
 ) -> Result<(), DefsError>
-    ensures refused { IfErr result (λ e. e.code ≢ Memory → refusal.refusal_at DefsCode.SpecificationForm Source.Configuration place ≡ e) }
-    ensures none { IfErr result (λ e. e.code ≢ Memory → LacksState (scope_of scopes.now) (seen trees.now)) }
+    ensures refused { IfErr result (λ e.
+        e.code ≢ Memory
+        → refusal.refusal_at DefsCode.SpecificationForm Source.Configuration place ≡ e) }
+    ensures none { IfErr result (λ e.
+        e.code ≢ Memory → LacksState (scope_of scopes.now) (seen trees.now)) }
 {
     let mut met = IndexSet::new(alloc);
     let mut left = trees;
@@ -141,9 +155,15 @@ pub(crate) fn specification<'a>(
     place: Place,
     name: &Written,
 ) -> Result<Specified<'a>, DefsError>
-    ensures found { IfOk result (λ s. IsForm (map unit_view units.now) items.now (scope_of scopes.now) variables name.now s) }
-    ensures refused { IfErr result (λ e. e.code ≢ Memory → MayBeLast (form_refused (refused.Specified place name.now)) (HasTooMany (map unit_view units.now) items.now name.now) e) }
-    ensures none { IfErr result (λ e. e.code ≡ DefsCode.SpecificationForm → NoForm (map unit_view units.now) items.now (scope_of scopes.now) variables name.now) }
+    ensures found { IfOk result (λ s.
+        IsForm (map unit_view units.now) items.now (scope_of scopes.now) variables name.now s) }
+    ensures refused { IfErr result (λ e.
+        e.code ≢ Memory
+        → MayBeLast (form_refused (refused.Specified place name.now))
+        (HasTooMany (map unit_view units.now) items.now name.now) e) }
+    ensures none { IfErr result (λ e.
+        e.code ≡ DefsCode.SpecificationForm
+        → NoForm (map unit_view units.now) items.now (scope_of scopes.now) variables name.now) }
 {
     let fairness = Table::of(alloc, units, items, Class::Fairness)?;
     let temporal = Table::of(alloc, units, items, Class::Temporal)?;

@@ -54,8 +54,12 @@ pub(crate) struct Definitions<'t, 'a> {
 
 /// The name and the body of a definition, if it has no parameters.
 fn named_body<'a>(definition: &'a Definition) -> Option<(&'a [u8], &'a Expr)>
-    ensures global { (us : List UnitTree) (x : Name) → spec.body_or (option_map spec.named result) x (body_in us x) ≡ body_in (unit_tree.Defines (definition_view definition.entry.now) ∷ us) x }
-    ensures local { (at : _) (us : List UnitTree) (x : Name) → spec.body_or (option_map spec.named result) x (body_in us x) ≡ body_in (unit_tree.Local at (definition_view definition.entry.now) ∷ us) x }
+    ensures global { (us : List UnitTree) (x : Name)
+        → spec.body_or (option_map spec.named result) x (body_in us x)
+        ≡ body_in (unit_tree.Defines (definition_view definition.entry.now) ∷ us) x }
+    ensures local { (at : _) (us : List UnitTree) (x : Name)
+        → spec.body_or (option_map spec.named result) x (body_in us x)
+        ≡ body_in (unit_tree.Local at (definition_view definition.entry.now) ∷ us) x }
 {
     match definition {
         Definition::Operator(name, parameters, body) => {
@@ -71,7 +75,9 @@ fn named_body<'a>(definition: &'a Definition) -> Option<(&'a [u8], &'a Expr)>
 
 /// The name and the body of the definition of a unit, if it has no parameters.
 fn defined<'a>(unit: &'a Unit) -> Option<(&'a [u8], &'a Expr)>
-    ensures { (us : List UnitTree) (x : Name) → spec.body_or (option_map spec.named result) x (body_in us x) ≡ body_in (unit_view unit.entry.now ∷ us) x }
+    ensures { (us : List UnitTree) (x : Name)
+        → spec.body_or (option_map spec.named result) x (body_in us x)
+        ≡ body_in (unit_view unit.entry.now ∷ us) x }
 {
     match unit {
         Unit::Operator(name, body) | Unit::Assume(_, Some(name), body) => {
@@ -85,9 +91,17 @@ fn defined<'a>(unit: &'a Unit) -> Option<(&'a [u8], &'a Expr)>
 impl<'a> Table<'a> {
     /// Adds a definition, unless its name is known already. The only error is that memory ran out.
     fn add(&mut self, name: &'a [u8], tree: &'a Expr) -> Result<(), DefsError>
-        ensures bodies { OnOk result ((x : Name) (o : Option Tree) → or_else (spec.body_at self.new.definitions.entries x) o ≡ or_else (spec.body_at self.old.definitions.entries x) (body_if (bytes_eq x name.entry.now) (tree_at tree.entry) o)) }
-        ensures found { OnOk result ((x : Name) → spec.found_at self.new.definitions.entries x ≡ spec.found_at self.old.definitions.entries x) }
-        ensures many { OnOk result (length self.new.definitions.entries ≤ length self.old.definitions.entries + 1) }
+        ensures bodies { OnOk result
+            ((x : Name) (o : Option Tree)
+            → or_else (spec.body_at self.new.definitions.entries x) o
+            ≡ or_else (spec.body_at self.old.definitions.entries x)
+            (body_if (bytes_eq x name.entry.now) (tree_at tree.entry) o)) }
+        ensures found { OnOk result
+            ((x : Name)
+            → spec.found_at self.new.definitions.entries x
+            ≡ spec.found_at self.old.definitions.entries x) }
+        ensures many { OnOk result
+            (length self.new.definitions.entries ≤ length self.old.definitions.entries + 1) }
         ensures err { IfErr result (λ e. e.code ≡ Memory) }
     {
         if self.definitions.contains_key(&name) {
@@ -103,9 +117,17 @@ impl<'a> Table<'a> {
 
     /// Adds the definition of a unit. The only error is that memory ran out.
     fn add_unit(&mut self, unit: &'a Unit) -> Result<(), DefsError>
-        ensures bodies { OnOk result ((x : Name) (us : List UnitTree) → or_else (spec.body_at self.new.definitions.entries x) (body_in us x) ≡ or_else (spec.body_at self.old.definitions.entries x) (body_in (unit_view unit.entry.now ∷ us) x)) }
-        ensures found { OnOk result ((x : Name) → spec.found_at self.new.definitions.entries x ≡ spec.found_at self.old.definitions.entries x) }
-        ensures many { OnOk result (length self.new.definitions.entries ≤ length self.old.definitions.entries + 1) }
+        ensures bodies { OnOk result
+            ((x : Name) (us : List UnitTree)
+            → or_else (spec.body_at self.new.definitions.entries x) (body_in us x)
+            ≡ or_else (spec.body_at self.old.definitions.entries x)
+            (body_in (unit_view unit.entry.now ∷ us) x)) }
+        ensures found { OnOk result
+            ((x : Name)
+            → spec.found_at self.new.definitions.entries x
+            ≡ spec.found_at self.old.definitions.entries x) }
+        ensures many { OnOk result
+            (length self.new.definitions.entries ≤ length self.old.definitions.entries + 1) }
         ensures err { IfErr result (λ e. e.code ≡ Memory) }
     {
         match defined(unit) {
@@ -116,8 +138,12 @@ impl<'a> Table<'a> {
 
     /// The definitions of a module, none of which is known to be of the class. The only error is that memory ran out.
     fn of_units(alloc: Global, units: &'a [Unit]) -> Result<Table<'a>, DefsError>
-        ensures bodies { IfOk result (λ t. (x : Name) → spec.body_at t.definitions.entries x ≡ body_in (map unit_view units.entry.now) x) }
-        ensures found { IfOk result (λ t. (x : Name) → spec.found_at t.definitions.entries x ≡ false) }
+        ensures bodies { IfOk result (λ t.
+            (x : Name)
+            → spec.body_at t.definitions.entries x
+            ≡ body_in (map unit_view units.entry.now) x) }
+        ensures found { IfOk result (λ t.
+            (x : Name) → spec.found_at t.definitions.entries x ≡ false) }
         ensures many { IfOk result (λ t. length t.definitions.entries ≤ length units.entry.now) }
         ensures err { IfErr result (λ e. e.code ≡ Memory) }
     {
@@ -151,10 +177,19 @@ impl<'a> Table<'a> {
         class: Class,
         number: usize,
     ) -> Result<bool, DefsError>
-        ensures passed { IfOk result (λ b. b ≡ false → spec.IsFound (spec.property class) self.old.definitions.entries items.now number) }
-        ensures same { IfOk result (λ b. b ≡ false → self.new.definitions.entries ≡ self.old.definitions.entries) }
-        ensures one { IfOk result (λ b. b ≡ true → spec.found_count self.new.definitions.entries ≡ spec.found_count self.old.definitions.entries + 1) }
-        ensures more { OnOk result (spec.SameDefinitions (spec.property class) self.old.definitions.entries self.new.definitions.entries items.now) }
+        ensures passed { IfOk result (λ b.
+            b ≡ false
+            → spec.IsFound (spec.property class) self.old.definitions.entries items.now
+            number) }
+        ensures same { IfOk result (λ b.
+            b ≡ false → self.new.definitions.entries ≡ self.old.definitions.entries) }
+        ensures one { IfOk result (λ b.
+            b ≡ true
+            → spec.found_count self.new.definitions.entries
+            ≡ spec.found_count self.old.definitions.entries + 1) }
+        ensures more { OnOk result
+            (spec.SameDefinitions (spec.property class) self.old.definitions.entries
+            self.new.definitions.entries items.now) }
         ensures err { IfErr result (λ e. e.code ≡ Memory) }
     {
         let Some((name, body)) = self.definitions.get_index(number) else {
@@ -183,10 +218,22 @@ impl<'a> Table<'a> {
         items: &Items<'a>,
         class: Class,
     ) -> Result<bool, DefsError>
-        ensures passed { IfOk result (λ b. b ≡ false → (i : ℕ) → i < length self.new.definitions.entries → spec.IsFound (spec.property class) self.new.definitions.entries items.now i) }
-        ensures same { IfOk result (λ b. b ≡ false → spec.found_count self.new.definitions.entries ≡ spec.found_count self.old.definitions.entries) }
-        ensures one { IfOk result (λ b. b ≡ true → spec.found_count self.old.definitions.entries < spec.found_count self.new.definitions.entries) }
-        ensures more { OnOk result (spec.SameDefinitions (spec.property class) self.old.definitions.entries self.new.definitions.entries items.now) }
+        ensures passed { IfOk result (λ b.
+            b ≡ false
+            → (i : ℕ)
+            → i < length self.new.definitions.entries
+            → spec.IsFound (spec.property class) self.new.definitions.entries items.now i) }
+        ensures same { IfOk result (λ b.
+            b ≡ false
+            → spec.found_count self.new.definitions.entries
+            ≡ spec.found_count self.old.definitions.entries) }
+        ensures one { IfOk result (λ b.
+            b ≡ true
+            → spec.found_count self.old.definitions.entries
+            < spec.found_count self.new.definitions.entries) }
+        ensures more { OnOk result
+            (spec.SameDefinitions (spec.property class) self.old.definitions.entries
+            self.new.definitions.entries items.now) }
         ensures err { IfErr result (λ e. e.code ≡ Memory) }
     {
         let mut changed = false;
@@ -206,8 +253,13 @@ impl<'a> Table<'a> {
         items: &Items<'a>,
         class: Class,
     ) -> Result<Table<'a>, DefsError>
-        ensures bodies { IfOk result (λ t. spec.bodies_by t.definitions.entries items.now ≡ body_of (map unit_view units.entry.now) items.now) }
-        ensures found { IfOk result (λ t. spec.found_by t.definitions.entries items.now ≡ names_with (spec.property class) (length units.entry.now) (body_of (map unit_view units.entry.now) items.now)) }
+        ensures bodies { IfOk result (λ t.
+            spec.bodies_by t.definitions.entries items.now
+            ≡ body_of (map unit_view units.entry.now) items.now) }
+        ensures found { IfOk result (λ t.
+            spec.found_by t.definitions.entries items.now
+            ≡ names_with (spec.property class) (length units.entry.now)
+            (body_of (map unit_view units.entry.now) items.now)) }
         ensures err { IfErr result (λ e. e.code ≡ Memory) }
     {
         let mut table = Table::of_units(alloc, units)?;
@@ -226,7 +278,8 @@ fn is_of<'a>(
     definitions: &Definitions<'_, 'a>,
     tree: &'a Expr,
 ) -> Result<bool, DefsError>
-    ensures ok { IfOk result (λ r. r ≡ spec.property class (found_names definitions.now) (tree_at tree.entry)) }
+    ensures ok { IfOk result (λ r.
+        r ≡ spec.property class (found_names definitions.now) (tree_at tree.entry)) }
     ensures err { IfErr result (λ e. e.code ≡ Memory) }
 {
     match class {

@@ -34,7 +34,8 @@ fn temporal_tree<'a>(
     tree: &'a Expr,
 ) -> Result<bool, DefsError>
     ensures kept { OnOk result (bound.new ≡ bound.old) }
-    ensures same { IfOk result (λ r. r ≡ spec.temporal_in (found_names definitions.now) bound.old (view tree.entry.now)) }
+    ensures same { IfOk result (λ r.
+        r ≡ spec.temporal_in (found_names definitions.now) bound.old (view tree.entry.now)) }
     ensures err { IfErr result (λ e. e.code ≡ Memory) }
 {
     match tree {
@@ -75,7 +76,11 @@ fn temporal_under<'a>(
     body: &'a Expr,
 ) -> Result<bool, DefsError>
     ensures kept { OnOk result (bound.new ≡ bound.old) }
-    ensures same { IfOk result (λ r. r ≡ spec.temporal_in (found_names definitions.now) (bound.old ++ plain (bound_names (binders (map group_view groups.entry.now)))) (view body.entry.now)) }
+    ensures same { IfOk result (λ r.
+        r
+        ≡ spec.temporal_in (found_names definitions.now)
+        (bound.old ++ plain (bound_names (binders (map group_view groups.entry.now))))
+        (view body.entry.now)) }
     ensures err { IfErr result (λ e. e.code ≡ Memory) }
 {
     let mark = bound.len();
@@ -93,7 +98,10 @@ fn some_temporal<'a>(
     trees: &'a [Expr],
 ) -> Result<bool, DefsError>
     ensures kept { OnOk result (bound.new ≡ bound.old) }
-    ensures same { IfOk result (λ r. r ≡ spec.some_temporal (found_names definitions.now) bound.old (trees_of (map view trees.entry.now))) }
+    ensures same { IfOk result (λ r.
+        r
+        ≡ spec.some_temporal (found_names definitions.now) bound.old
+        (trees_of (map view trees.entry.now))) }
     ensures err { IfErr result (λ e. e.code ≡ Memory) }
 {
     let mut others = trees;
@@ -112,7 +120,8 @@ pub(crate) fn is_temporal<'a>(
     definitions: &Definitions<'_, 'a>,
     tree: &'a Expr,
 ) -> Result<bool, DefsError>
-    ensures ok { IfOk result (λ r. r ≡ spec.temporal_in (found_names definitions.now) [] (view tree.entry.now)) }
+    ensures ok { IfOk result (λ r.
+        r ≡ spec.temporal_in (found_names definitions.now) [] (view tree.entry.now)) }
     ensures err { IfErr result (λ e. e.code ≡ Memory) }
 {
     let mut bound = Scope::new(alloc);

@@ -32,7 +32,8 @@ pub(crate) struct Environment<'a> {
 /// The value of a bound name, or how many names are bound. It calls itself once for each form around it that binds
 /// names.
 fn bound_name<'a>(frame: &'a Frame<'a>, index: usize) -> Result<&'a Value, usize>
-    ensures found { IfOk result (λ v. slice_get (bound_of frame.entry.now) index ≡ Some (tree_of v.now)) }
+    ensures found { IfOk result (λ v.
+        slice_get (bound_of frame.entry.now) index ≡ Some (tree_of v.now)) }
     ensures absent { IfErr result (λ n. (n ≡ length (bound_of frame.entry.now)) × (n ≤ index)) }
 {
     match frame {

@@ -20,7 +20,8 @@ fn fitting<'p, 'a>(
     count: usize,
     element: &'a Value,
 ) -> Result<&'a [Value], Trouble<'p>>
-    ensures { GivesBy (λ vs. map tree_of vs.now) result (fitting place.now count (tree_of element.now)) }
+    ensures { GivesBy (λ vs. map tree_of vs.now) result
+        (fitting place.now count (tree_of element.now)) }
 {
     match sequence_items(element) {
         Some(items) => {
@@ -41,7 +42,8 @@ pub(crate) fn open_items<'p, 'a>(
     openings: &[Opening],
     frame: &'a Frame<'a>,
 ) -> Result<Vec<Value>, Trouble<'p>>
-    ensures { GivesBy (λ v. map tree_of v.items) result (opened_items place.now openings.now (bound_of frame.entry.now)) }
+    ensures { GivesBy (λ v. map tree_of v.items) result
+        (opened_items place.now openings.now (bound_of frame.entry.now)) }
 {
     let mut items = Vec::new(alloc);
     for opening in openings {
@@ -60,7 +62,8 @@ pub fn opened(
     openings: &[Opening],
     bound: &[Value],
 ) -> Result<Vec<Value>, Fault>
-    ensures { GivesBy (λ v. map tree_of v.items) result (opened_items place openings.now (map tree_of bound.now)) }
+    ensures { GivesBy (λ v. map tree_of v.items) result
+        (opened_items place openings.now (map tree_of bound.now)) }
 {
     let frame = Frame::Outer(&*bound);
     Ok(open_items(alloc, &place, openings, &frame)?)
@@ -68,7 +71,8 @@ pub fn opened(
 
 /// Checks each of these elements against a pattern.
 fn try_all<'p>(place: &'p Place, count: usize, elements: &[Value]) -> Result<(), Trouble<'p>>
-    ensures { GivesBy (λ u. u) result (nothing_of (each (fitting place.now count) (map tree_of elements.now))) }
+    ensures { GivesBy (λ u. u) result
+        (nothing_of (each (fitting place.now count) (map tree_of elements.now))) }
 {
     for element in elements {
         fitting(place, count, element)?;
@@ -78,7 +82,8 @@ fn try_all<'p>(place: &'p Place, count: usize, elements: &[Value]) -> Result<(),
 
 /// Checks each element of a value that is a set against a pattern.
 pub(crate) fn try_set<'p>(place: &'p Place, count: usize, value: &Value) -> Result<(), Trouble<'p>>
-    ensures { GivesBy (λ u. tree_of value.now) result (tried_set place.now count (tree_of value.now)) }
+    ensures { GivesBy (λ u. tree_of value.now) result
+        (tried_set place.now count (tree_of value.now)) }
 {
     match value {
         Value::Set(set) => try_all(place, count, set.items()),

@@ -56,9 +56,14 @@ pub(crate) struct Entry<'a> {
 pub(crate) fn position(entries: &Entries<'_, '_>, scope: usize, name: &[u8]) -> Option<usize>
     requires linked { AreLinked (listed entries.now) }
     requires within { scope ≤ length (listed entries.now) }
-    ensures found { IfSome result (λ k. (e : arena_entry.Entry) → e ≡ get_or (listed entries.now) k e → scope_at (listed entries.now) scope name.now ≡ meaning_of (scope_at (listed entries.now)) e.what) }
+    ensures found { IfSome result (λ k.
+        (e : arena_entry.Entry)
+        → e ≡ get_or (listed entries.now) k e
+        → scope_at (listed entries.now) scope name.now
+        ≡ meaning_of (scope_at (listed entries.now)) e.what) }
     ensures there { IfSome result (λ k. k < length (listed entries.now)) }
-    ensures none { IfNone result (scope_at (listed entries.now) scope name.now ≡ standard name.now) }
+    ensures none { IfNone result
+        (scope_at (listed entries.now) scope name.now ≡ standard name.now) }
 {
     let hash = name_hash(name);
     let mut at = scope;
@@ -76,9 +81,12 @@ pub(crate) fn position(entries: &Entries<'_, '_>, scope: usize, name: &[u8]) -> 
 pub(crate) fn find<'a>(entries: &Entries<'_, 'a>, scope: usize, name: &[u8]) -> Option<Entry<'a>>
     requires linked { AreLinked (listed entries.now) }
     requires within { scope ≤ length (listed entries.now) }
-    ensures found { IfSome result (λ e. scope_at (listed entries.now) scope name.now ≡ meaning_of (scope_at (listed entries.now)) e.what) }
+    ensures found { IfSome result (λ e.
+        scope_at (listed entries.now) scope name.now
+        ≡ meaning_of (scope_at (listed entries.now)) e.what) }
     ensures below { IfSome result (λ e. IsBelow (length (listed entries.now)) e.what e.rest) }
-    ensures none { IfNone result (scope_at (listed entries.now) scope name.now ≡ standard name.now) }
+    ensures none { IfNone result
+        (scope_at (listed entries.now) scope name.now ≡ standard name.now) }
 {
     match position(entries, scope, name) {
         Some(at) => Some(entries.node(at).entry),
@@ -92,7 +100,9 @@ pub(crate) fn enter<'a>(entries: &mut Entries<'_, 'a>, entry: Entry<'a>) -> Resu
     requires below { IsBelow (length (listed entries.old)) entry.what entry.rest }
     ensures linked { OnOk result (AreLinked (listed entries.new)) }
     ensures added { OnOk result (listed entries.new ≡ listed entries.old ++ entry.entry ∷ []) }
-    ensures scope { IfOk result (λ s. scope_at (listed entries.new) s ≡ entry_scope (scope_at (listed entries.old)) entry.entry) }
+    ensures scope { IfOk result (λ s.
+        scope_at (listed entries.new) s
+        ≡ entry_scope (scope_at (listed entries.old)) entry.entry) }
     ensures end { IfOk result (λ s. s ≡ length (listed entries.new)) }
     ensures own { OnOk result (lent_count entries.new ≡ lent_count entries.old) }
     ensures err { IfErr result (λ e. e ≡ Failure.Memory) }
@@ -116,7 +126,11 @@ pub(crate) fn bind<'a>(
     ensures linked { OnOk result (AreLinked (listed entries.new)) }
     ensures extends { OnOk result (Extends (listed entries.new) (listed entries.old)) }
     ensures within { IfOk result (λ s. s ≤ length (listed entries.new)) }
-    ensures bound { IfOk result (λ s. with_parameters parameters.now (arguments_in arguments.now (scope_at (listed entries.old) scope)) (scope_at (listed entries.old) home) ≡ Some (scope_at (listed entries.new) s)) }
+    ensures bound { IfOk result (λ s.
+        with_parameters parameters.now
+        (arguments_in arguments.now (scope_at (listed entries.old) scope))
+        (scope_at (listed entries.old) home)
+        ≡ Some (scope_at (listed entries.new) s)) }
     ensures err { IfErr result (λ e. e ≡ Failure.Memory) }
 {
     let mut at = home;

@@ -33,7 +33,10 @@ fn push_each<'a>(
     names: &'a [Written],
     set: &'a Expr,
 ) -> Result<(), Failure>
-    ensures ok { OnOk result ((σ : Scope) → binds_in binds.new.items σ ≡ binds_in binds.old.items σ ++ bind_each names.now (expand (view set.now) σ) []) }
+    ensures ok { OnOk result
+        ((σ : Scope)
+        → binds_in binds.new.items σ
+        ≡ binds_in binds.old.items σ ++ bind_each names.now (expand (view set.now) σ) []) }
     ensures err { IfErr result (λ e. e ≡ Failure.Memory) }
 {
     for i in 0..names.len() {
@@ -52,7 +55,11 @@ fn push_entry<'a>(
     pattern: &'a Pattern,
     set: &'a Expr,
 ) -> Result<(), Failure>
-    ensures ok { OnOk result ((σ : Scope) → binds_in binds.new.items σ ≡ binds_in binds.old.items σ ++ bind_entry (pattern_view pattern.now) (expand (view set.now) σ) []) }
+    ensures ok { OnOk result
+        ((σ : Scope)
+        → binds_in binds.new.items σ
+        ≡ binds_in binds.old.items σ
+        ++ bind_entry (pattern_view pattern.now) (expand (view set.now) σ) []) }
     ensures err { IfErr result (λ e. e ≡ Failure.Memory) }
 {
     match pattern {
@@ -70,7 +77,10 @@ pub(crate) fn bind_one<'a>(
     pattern: &'a Pattern,
     set: &'a Expr,
 ) -> Result<Vec<Bind<'a>>, Failure>
-    ensures ok { IfOk result (λ bs. (σ : Scope) → binds_in bs.items σ ≡ bind_entry (pattern_view pattern.now) (expand (view set.now) σ) []) }
+    ensures ok { IfOk result (λ bs.
+        (σ : Scope)
+        → binds_in bs.items σ
+        ≡ bind_entry (pattern_view pattern.now) (expand (view set.now) σ) []) }
     ensures err { IfErr result (λ e. e ≡ Failure.Memory) }
 {
     let mut binds = Vec::new(alloc);
@@ -80,7 +90,8 @@ pub(crate) fn bind_one<'a>(
 
 /// The elements of a binder list in order, each with its set. The only error is that memory ran out.
 pub(crate) fn bind_list<'a>(alloc: Global, groups: &'a [Binder]) -> Result<Vec<Bind<'a>>, Failure>
-    ensures ok { IfOk result (λ bs. (σ : Scope) → binds_in bs.items σ ≡ binds_of (binders (map group_view groups.now)) σ) }
+    ensures ok { IfOk result (λ bs.
+        (σ : Scope) → binds_in bs.items σ ≡ binds_of (binders (map group_view groups.now)) σ) }
     ensures err { IfErr result (λ e. e ≡ Failure.Memory) }
 {
     let mut binds = Vec::new(alloc);

@@ -106,7 +106,8 @@ pub(crate) fn two_core(
     first: Box<Core>,
     second: Core,
 ) -> Result<Core, Failure>
-    ensures ok { IfOk result (λ c. expr_of c ≡ nodes.two node place (expr_of first.value) (expr_of second)) }
+    ensures ok { IfOk result (λ c.
+        expr_of c ≡ nodes.two node place (expr_of first.value) (expr_of second)) }
     ensures err { IfErr result (λ e. e ≡ Failure.Memory) }
 {
     match node {
@@ -132,7 +133,8 @@ fn two_boxed(
     first: Box<Core>,
     second: Box<Core>,
 ) -> Result<Core, Failure>
-    ensures ok { IfOk result (λ c. expr_of c ≡ nodes.two node place (expr_of first.value) (expr_of second.value)) }
+    ensures ok { IfOk result (λ c.
+        expr_of c ≡ nodes.two node place (expr_of first.value) (expr_of second.value)) }
     ensures err { IfErr result (λ e. e ≡ Failure.Memory) }
 {
     match node {
@@ -161,7 +163,9 @@ pub(crate) fn three_core(
     second: Box<Core>,
     third: Core,
 ) -> Result<Core, Failure>
-    ensures ok { IfOk result (λ c. expr_of c ≡ nodes.three node place (expr_of first.value) (expr_of second.value) (expr_of third)) }
+    ensures ok { IfOk result (λ c.
+        expr_of c
+        ≡ nodes.three node place (expr_of first.value) (expr_of second.value) (expr_of third)) }
     ensures err { IfErr result (λ e. e ≡ Failure.Memory) }
 {
     let (third, two) = box_beside(alloc, third, (first, second))?;
@@ -186,7 +190,8 @@ fn disjunction(place: Place, parts: Vec<Core>) -> Core
 }
 
 fn enumerated(alloc: Global, place: Place, parts: Vec<Core>) -> Result<Core, Failure>
-    ensures ok { IfOk result (λ c. expr_of c ≡ expr.enumerated place (exprs (map expr_of parts.items))) }
+    ensures ok { IfOk result (λ c.
+        expr_of c ≡ expr.enumerated place (exprs (map expr_of parts.items))) }
     ensures err { IfErr result (λ e. e ≡ Failure.Memory) }
 {
     Ok(Core::set_of(alloc, place, parts)?)
@@ -213,7 +218,8 @@ pub(crate) fn many_core(
     node: ListNode,
     parts: Vec<Core>,
 ) -> Result<Core, Failure>
-    ensures ok { IfOk result (λ c. expr_of c ≡ nodes.many node place (exprs (map expr_of parts.items))) }
+    ensures ok { IfOk result (λ c.
+        expr_of c ≡ nodes.many node place (exprs (map expr_of parts.items))) }
     ensures err { IfErr result (λ e. e ≡ Failure.Memory) }
 {
     match node {
@@ -243,7 +249,8 @@ pub(crate) fn binding_core(
     set: Box<Core>,
     body: Core,
 ) -> Result<Core, Failure>
-    ensures ok { IfOk result (λ c. expr_of c ≡ nodes.binding node place (expr_of set.value) (expr_of body)) }
+    ensures ok { IfOk result (λ c.
+        expr_of c ≡ nodes.binding node place (expr_of set.value) (expr_of body)) }
     ensures err { IfErr result (λ e. e ≡ Failure.Memory) }
 {
     let (body, set) = box_beside(alloc, body, set)?;
@@ -262,7 +269,8 @@ pub(crate) fn opened_core(
     openings: Vec<Opening>,
     body: Core,
 ) -> Result<Core, Failure>
-    ensures ok { IfOk result (λ c. under_openings place openings.items (Some (expr_of body)) ≡ Some (expr_of c)) }
+    ensures ok { IfOk result (λ c.
+        under_openings place openings.items (Some (expr_of body)) ≡ Some (expr_of c)) }
     ensures err { IfErr result (λ e. e ≡ Failure.Memory) }
 {
     if openings.len() == 0 {
@@ -298,7 +306,8 @@ pub(crate) fn product_core(
     first: Box<Core>,
     others: Vec<Core>,
 ) -> Result<Core, Failure>
-    ensures ok { IfOk result (λ c. expr_of c ≡ expr.product place (exprs (expr_of first.value ∷ map expr_of others.items))) }
+    ensures ok { IfOk result (λ c.
+        expr_of c ≡ expr.product place (exprs (expr_of first.value ∷ map expr_of others.items))) }
     ensures err { IfErr result (λ e. e ≡ Failure.Memory) }
 {
     let parts = with_first(Box::into_inner(first), others)?;
@@ -307,7 +316,8 @@ pub(crate) fn product_core(
 
 /// CASE.
 pub(crate) fn cases_core(place: Place, arms: Vec<(Core, Core)>) -> Core
-    ensures { expr_of result ≡ expr.cases place (arms_with (map exprs_of_arm arms.items) expr.no_arms) }
+    ensures { expr_of result
+        ≡ expr.cases place (arms_with (map exprs_of_arm arms.items) expr.no_arms) }
 {
     Core::Cases(place, arms, None)
 }
@@ -319,7 +329,10 @@ pub(crate) fn cases_or_core(
     arms: Vec<(Core, Core)>,
     last: Core,
 ) -> Result<Core, Failure>
-    ensures ok { IfOk result (λ c. expr_of c ≡ expr.cases place (arms_with (map exprs_of_arm arms.items) (expr.other (expr_of last)))) }
+    ensures ok { IfOk result (λ c.
+        expr_of c
+        ≡ expr.cases place
+        (arms_with (map exprs_of_arm arms.items) (expr.other (expr_of last)))) }
     ensures err { IfErr result (λ e. e ≡ Failure.Memory) }
 {
     let (last, arms) = box_beside(alloc, last, arms)?;
@@ -327,7 +340,9 @@ pub(crate) fn cases_or_core(
 }
 
 fn cases_or(place: Place, arms: Vec<(Core, Core)>, last: Box<Core>) -> Core
-    ensures { expr_of result ≡ expr.cases place (arms_with (map exprs_of_arm arms.items) (expr.other (expr_of last.value))) }
+    ensures { expr_of result
+        ≡ expr.cases place
+        (arms_with (map exprs_of_arm arms.items) (expr.other (expr_of last.value))) }
 {
     Core::Cases(place, arms, Some(last))
 }
@@ -340,7 +355,8 @@ pub(crate) fn gather_core(
     sets: Vec<Core>,
     body: Core,
 ) -> Result<Core, Failure>
-    ensures ok { IfOk result (λ c. expr_of c ≡ nodes.gather node place (exprs (map expr_of sets.items)) (expr_of body)) }
+    ensures ok { IfOk result (λ c.
+        expr_of c ≡ nodes.gather node place (exprs (map expr_of sets.items)) (expr_of body)) }
     ensures err { IfErr result (λ e. e ≡ Failure.Memory) }
 {
     let (body, sets) = box_beside(alloc, body, sets)?;
@@ -351,13 +367,15 @@ pub(crate) fn gather_core(
 }
 
 fn image(place: Place, sets: Vec<Core>, body: Box<Core>) -> Core
-    ensures { expr_of result ≡ expr.image place (exprs (map expr_of sets.items)) (expr_of body.value) }
+    ensures { expr_of result
+        ≡ expr.image place (exprs (map expr_of sets.items)) (expr_of body.value) }
 {
     Core::Image(place, sets, body)
 }
 
 fn function(place: Place, sets: Vec<Core>, body: Box<Core>) -> Core
-    ensures { expr_of result ≡ expr.function place (exprs (map expr_of sets.items)) (expr_of body.value) }
+    ensures { expr_of result
+        ≡ expr.function place (exprs (map expr_of sets.items)) (expr_of body.value) }
 {
     Core::Function(place, sets, body)
 }
@@ -369,7 +387,8 @@ pub(crate) fn fielded_core(
     node: Fielded,
     fields: Vec<(Text, Core)>,
 ) -> Result<Core, Failure>
-    ensures ok { IfOk result (λ c. expr_of c ≡ nodes.fielded node place (fields_of (map named_part fields.items))) }
+    ensures ok { IfOk result (λ c.
+        expr_of c ≡ nodes.fielded node place (fields_of (map named_part fields.items))) }
     ensures err { IfErr result (λ e. e ≡ Failure.Memory) }
 {
     match node {
@@ -379,7 +398,8 @@ pub(crate) fn fielded_core(
 }
 
 fn record(alloc: Global, place: Place, fields: Vec<(Text, Core)>) -> Result<Core, Failure>
-    ensures ok { IfOk result (λ c. expr_of c ≡ expr.record_of place (fields_of (map named_part fields.items))) }
+    ensures ok { IfOk result (λ c.
+        expr_of c ≡ expr.record_of place (fields_of (map named_part fields.items))) }
     ensures err { IfErr result (λ e. e ≡ Failure.Memory) }
 {
     Ok(Core::record_of(alloc, place, fields)?)
@@ -393,7 +413,9 @@ fn records(place: Place, fields: Vec<(Text, Core)>) -> Core
 
 /// EXCEPT.
 pub(crate) fn except(place: Place, function: Box<Core>, updates: Vec<(Vec<Core>, Core)>) -> Core
-    ensures { expr_of result ≡ expr.except place (expr_of function.value) (updates_of (map changed_part updates.items)) }
+    ensures { expr_of result
+        ≡ expr.except place (expr_of function.value)
+        (updates_of (map changed_part updates.items)) }
 {
     Core::Except(place, function, updates)
 }

@@ -39,7 +39,8 @@ fn each_apart<'a>(
 ) -> Result<Many, Failure>
     requires linked { AreLinked (listed entries.old) }
     requires scope { scope ≤ length (listed entries.old) }
-    ensures same { GivesMany 299 199999 result (each_of (part_in primes (scope_at (listed entries.old) scope) 0) (pointed trees.now)) }
+    ensures same { GivesMany 299 199999 result
+        (each_of (part_in primes (scope_at (listed entries.old) scope) 0) (pointed trees.now)) }
 {
     let mut parts = Vec::new(alloc);
     let mut left = NODES_BELOW;
@@ -71,10 +72,34 @@ pub(crate) fn conjunction<'a>(
 ) -> Result<Core, Failure>
     requires linked { AreLinked (listed entries.old) }
     requires scope { scope ≤ length (listed entries.old) }
-    ensures found { IfOk result (λ c. with_primes primes (expansion.expand (Junction place bullet.And (trees_of (map (λ (t : Bor syntax.Expr). view t.now) trees.now))) (scope_at (listed entries.old) scope) 0) ≡ Some (expr_of c)) }
+    ensures found { IfOk result (λ c.
+        with_primes primes
+        (expansion.expand
+        (Junction place bullet.And
+        (trees_of (map (λ (t : Bor syntax.Expr). view t.now) trees.now)))
+        (scope_at (listed entries.old) scope) 0)
+        ≡ Some (expr_of c)) }
     ensures limits { IfOk result (λ c. IsWithinLimits (expr_of c)) }
-    ensures gone { IfErr result (λ f. (p : fault.Place) → f ≡ Failure.NoExpansion p → with_primes primes (expansion.expand (Junction place bullet.And (trees_of (map (λ (t : Bor syntax.Expr). view t.now) trees.now))) (scope_at (listed entries.old) scope) 0) ≡ None) }
-    ensures none { IfErr result (λ f. f ≢ Failure.Memory → (e : expr.Expr) → with_primes primes (expansion.expand (Junction place bullet.And (trees_of (map (λ (t : Bor syntax.Expr). view t.now) trees.now))) (scope_at (listed entries.old) scope) 0) ≡ Some e → IsWithinLimits e → ⊥) }
+    ensures gone { IfErr result (λ f.
+        (p : fault.Place)
+        → f ≡ Failure.NoExpansion p
+        → with_primes primes
+        (expansion.expand
+        (Junction place bullet.And
+        (trees_of (map (λ (t : Bor syntax.Expr). view t.now) trees.now)))
+        (scope_at (listed entries.old) scope) 0)
+        ≡ None) }
+    ensures none { IfErr result (λ f.
+        f ≢ Failure.Memory
+        → (e : expr.Expr)
+        → with_primes primes
+        (expansion.expand
+        (Junction place bullet.And
+        (trees_of (map (λ (t : Bor syntax.Expr). view t.now) trees.now)))
+        (scope_at (listed entries.old) scope) 0)
+        ≡ Some e
+        → IsWithinLimits e
+        → ⊥) }
 {
     let many = each_apart(alloc, entries, trees, scope, primes, sought)?;
     Ok(builders::conjunction(place_of(place), many.parts))

@@ -91,7 +91,8 @@ fn push_parts<'a>(
     scope: usize,
     primes: Primes,
 ) -> Result<(), Failure>
-    ensures ok { OnOk result (ArePushed left.old.items items.entry.now scope primes left.new.items) }
+    ensures ok { OnOk result
+        (ArePushed left.old.items items.entry.now scope primes left.new.items) }
     ensures err { IfErr result (λ f. f ≡ Failure.Memory) }
 {
     for i in 0..items.len() {
@@ -128,7 +129,12 @@ fn was_gone(gone: &IndexSet<Gone>, entry: Gone) -> bool
 /// Continues with a form. Returns whether it is a variable or a tuple. The only error is that memory ran out.
 fn go_into<'a>(walk: &mut Walk<'_, 'a>, head: Head<'a>) -> Result<bool, Failure>
     requires within { head.scope ≤ length (listed walk.old.entries) }
-    ensures goes { IfOk result (λ b. (whole : Option expr.Expr) → IsWalkTo whole (listed walk.old.entries) walk.old.left.items walk.old.gone.keys walk.old.met.keys (head_gives (listed walk.old.entries) head.entry 0) → GoesOn whole (listed walk.new.entries) walk.new.left.items walk.new.gone.keys walk.new.met.keys b) }
+    ensures goes { IfOk result (λ b.
+        (whole : Option expr.Expr)
+        → IsWalkTo whole (listed walk.old.entries) walk.old.left.items walk.old.gone.keys
+        walk.old.met.keys (head_gives (listed walk.old.entries) head.entry 0)
+        → GoesOn whole (listed walk.new.entries) walk.new.left.items walk.new.gone.keys
+        walk.new.met.keys b) }
     ensures err { IfErr result (λ f. f ≡ Failure.Memory) }
 {
     match piece_of(head) {
@@ -147,7 +153,12 @@ fn go_into<'a>(walk: &mut Walk<'_, 'a>, head: Head<'a>) -> Result<bool, Failure>
 /// Continues with a reduction. Returns whether it may lead to a part. The only error is that memory ran out.
 fn go_along<'a>(walk: &mut Walk<'_, 'a>, reduction: Reduction<'a>) -> Result<bool, Failure>
     requires within { IsWithin (listed walk.old.entries) reduction }
-    ensures goes { IfOk result (λ b. (whole : Option expr.Expr) → IsWalkTo whole (listed walk.old.entries) walk.old.left.items walk.old.gone.keys walk.old.met.keys (reduction_gives (listed walk.old.entries) reduction.entry 0) → GoesOn whole (listed walk.new.entries) walk.new.left.items walk.new.gone.keys walk.new.met.keys b) }
+    ensures goes { IfOk result (λ b.
+        (whole : Option expr.Expr)
+        → IsWalkTo whole (listed walk.old.entries) walk.old.left.items walk.old.gone.keys
+        walk.old.met.keys (reduction_gives (listed walk.old.entries) reduction.entry 0)
+        → GoesOn whole (listed walk.new.entries) walk.new.left.items walk.new.gone.keys
+        walk.new.met.keys b) }
     ensures err { IfErr result (λ f. f ≡ Failure.Memory) }
 {
     match reduction {
@@ -168,7 +179,15 @@ fn go_from<'a>(
 ) -> Result<bool, Failure>
     requires linked { AreLinked (listed walk.old.entries) }
     requires within { scope ≤ length (listed walk.old.entries) }
-    ensures goes { IfOk result (λ b. (whole : Option expr.Expr) → IsWalkTo whole (listed walk.old.entries) walk.old.left.items walk.old.gone.keys walk.old.met.keys (with_primes primes (expansion.expand (view tree.entry.now) (scope_at (listed walk.old.entries) scope) 0)) → GoesOn whole (listed walk.new.entries) walk.new.left.items walk.new.gone.keys walk.new.met.keys b) }
+    ensures goes { IfOk result (λ b.
+        (whole : Option expr.Expr)
+        → IsWalkTo whole (listed walk.old.entries) walk.old.left.items walk.old.gone.keys
+        walk.old.met.keys
+        (with_primes primes
+        (expansion.expand (view tree.entry.now)
+        (scope_at (listed walk.old.entries) scope) 0))
+        → GoesOn whole (listed walk.new.entries) walk.new.left.items walk.new.gone.keys
+        walk.new.met.keys b) }
     ensures err { IfErr result (λ f. f ≡ Failure.Memory) }
 {
     match next_reduction(&mut walk.entries, tree, scope, primes) {
@@ -190,7 +209,15 @@ fn look_at_name<'a>(
     requires linked { AreLinked (listed walk.old.entries) }
     requires within { scope ≤ length (listed walk.old.entries) }
     requires named { IsNamed (listed walk.old.entries) (view tree.now) scope entry }
-    ensures goes { IfOk result (λ b. (whole : Option expr.Expr) → IsWalkTo whole (listed walk.old.entries) walk.old.left.items walk.old.gone.keys walk.old.met.keys (with_primes primes (expansion.expand (view tree.entry.now) (scope_at (listed walk.old.entries) scope) 0)) → GoesOn whole (listed walk.new.entries) walk.new.left.items walk.new.gone.keys walk.new.met.keys b) }
+    ensures goes { IfOk result (λ b.
+        (whole : Option expr.Expr)
+        → IsWalkTo whole (listed walk.old.entries) walk.old.left.items walk.old.gone.keys
+        walk.old.met.keys
+        (with_primes primes
+        (expansion.expand (view tree.entry.now)
+        (scope_at (listed walk.old.entries) scope) 0))
+        → GoesOn whole (listed walk.new.entries) walk.new.left.items walk.new.gone.keys
+        walk.new.met.keys b) }
     ensures err { IfErr result (λ f. f ≡ Failure.Memory) }
 {
     let gone = Gone { entry, primes };
@@ -210,7 +237,15 @@ fn look_at<'a>(
 ) -> Result<bool, Failure>
     requires linked { AreLinked (listed walk.old.entries) }
     requires within { scope ≤ length (listed walk.old.entries) }
-    ensures goes { IfOk result (λ b. (whole : Option expr.Expr) → IsWalkTo whole (listed walk.old.entries) walk.old.left.items walk.old.gone.keys walk.old.met.keys (with_primes primes (expansion.expand (view tree.entry.now) (scope_at (listed walk.old.entries) scope) 0)) → GoesOn whole (listed walk.new.entries) walk.new.left.items walk.new.gone.keys walk.new.met.keys b) }
+    ensures goes { IfOk result (λ b.
+        (whole : Option expr.Expr)
+        → IsWalkTo whole (listed walk.old.entries) walk.old.left.items walk.old.gone.keys
+        walk.old.met.keys
+        (with_primes primes
+        (expansion.expand (view tree.entry.now)
+        (scope_at (listed walk.old.entries) scope) 0))
+        → GoesOn whole (listed walk.new.entries) walk.new.left.items walk.new.gone.keys
+        walk.new.met.keys b) }
     ensures err { IfErr result (λ f. f ≡ Failure.Memory) }
 {
     match named(&walk.entries, tree, scope) {
@@ -224,7 +259,12 @@ fn look_at<'a>(
 fn go_on<'a>(walk: &mut Walk<'_, 'a>, left: Visit<'a>) -> Result<bool, Failure>
     requires linked { AreLinked (listed walk.old.entries) }
     requires inside { IsInside (listed walk.old.entries) left }
-    ensures goes { IfOk result (λ b. (whole : Option expr.Expr) → IsWalk whole (listed walk.old.entries) (walk.old.left.items ++ left.entry ∷ []) walk.old.gone.keys walk.old.met.keys → GoesOn whole (listed walk.new.entries) walk.new.left.items walk.new.gone.keys walk.new.met.keys b) }
+    ensures goes { IfOk result (λ b.
+        (whole : Option expr.Expr)
+        → IsWalk whole (listed walk.old.entries) (walk.old.left.items ++ left.entry ∷ [])
+        walk.old.gone.keys walk.old.met.keys
+        → GoesOn whole (listed walk.new.entries) walk.new.left.items walk.new.gone.keys
+        walk.new.met.keys b) }
     ensures err { IfErr result (λ f. f ≡ Failure.Memory) }
 {
     match left {
@@ -264,8 +304,18 @@ fn go_through<'a>(
     requires left { walk.old.left.items ≡ [] }
     requires gone { length walk.old.gone.keys ≡ 0 }
     requires met { length walk.old.met.keys ≡ 0 }
-    ensures yes { IfOk result (λ b. b ≡ true → (e : expr.Expr) × (expansion.expand (view tree.entry.now) (scope_at (listed walk.old.entries) scope) 0 ≡ Some e) × (spec.covers variables e ≡ true)) }
-    ensures no { IfOk result (λ b. b ≡ false → (e : expr.Expr) → expansion.expand (view tree.entry.now) (scope_at (listed walk.old.entries) scope) 0 ≡ Some e → spec.covers variables e ≡ false) }
+    ensures yes { IfOk result (λ b.
+        b ≡ true
+        → (e : expr.Expr)
+        × (expansion.expand (view tree.entry.now) (scope_at (listed walk.old.entries) scope)
+        0
+        ≡ Some e) × (spec.covers variables e ≡ true)) }
+    ensures no { IfOk result (λ b.
+        b ≡ false
+        → (e : expr.Expr)
+        → expansion.expand (view tree.entry.now) (scope_at (listed walk.old.entries) scope) 0
+        ≡ Some e
+        → spec.covers variables e ≡ false) }
     ensures err { IfErr result (λ f. f ≡ Failure.Memory) }
 {
     push(&mut walk.left, Visit::Part(tree, scope, Primes::Never))?;
@@ -292,8 +342,17 @@ pub(crate) fn covers<'a>(
 ) -> Result<bool, Failure>
     requires linked { AreLinked (listed entries) }
     requires within { scope ≤ length (listed entries) }
-    ensures yes { IfOk result (λ b. b ≡ true → (e : expr.Expr) × (expansion.expand (view tree.entry.now) (scope_at (listed entries.entry) scope) 0 ≡ Some e) × (spec.covers variables e ≡ true)) }
-    ensures no { IfOk result (λ b. b ≡ false → (e : expr.Expr) → expansion.expand (view tree.entry.now) (scope_at (listed entries.entry) scope) 0 ≡ Some e → spec.covers variables e ≡ false) }
+    ensures yes { IfOk result (λ b.
+        b ≡ true
+        → (e : expr.Expr)
+        × (expansion.expand (view tree.entry.now) (scope_at (listed entries.entry) scope) 0
+        ≡ Some e) × (spec.covers variables e ≡ true)) }
+    ensures no { IfOk result (λ b.
+        b ≡ false
+        → (e : expr.Expr)
+        → expansion.expand (view tree.entry.now) (scope_at (listed entries.entry) scope) 0
+        ≡ Some e
+        → spec.covers variables e ≡ false) }
     ensures err { IfErr result (λ f. f ≡ Failure.Memory) }
 {
     let left = Vec::new(alloc);

@@ -106,7 +106,8 @@ fn leaf_of<'a>(
     primes: Primes,
     left: usize,
 ) -> Result<Expanded, Failure>
-    ensures { (room : ℕ) → Gives (room + 1) (left + 1) result (with_primes primes (nodes.leaf node.entry place)) }
+    ensures { (room : ℕ)
+        → Gives (room + 1) (left + 1) result (with_primes primes (nodes.leaf node.entry place)) }
 {
     let core = leaf_core(alloc, place, node)?;
     Ok(Expanded { core, left })
@@ -142,7 +143,8 @@ pub(crate) fn expand<'a>(
     requires scope { at.scope ≤ length (listed entries.old) }
     requires small { at.bound + at.left ≤ most_named }
     ensures kept { OnOk result (listed entries.new ≡ listed entries.old) }
-    ensures same { Gives at.room at.left result (part_in at.primes (scope_at (listed entries.old) at.scope) at.bound tree.now) }
+    ensures same { Gives at.room at.left result
+        (part_in at.primes (scope_at (listed entries.old) at.scope) at.bound tree.now) }
 {
     let inside = at.inside()?;
     let mark = entries.len();
@@ -169,7 +171,9 @@ pub(crate) fn node_of<'a>(
     requires scope { at.scope ≤ length (listed entries.old) }
     requires small { at.bound + at.left < most_named }
     ensures kept { OnOk result (listed entries.new ≡ listed entries.old) }
-    ensures same { Gives (at.room + 1) (at.left + 1) result (with_primes at.primes (form_in form.entry (scope_at (listed entries.old) at.scope) at.bound)) }
+    ensures same { Gives (at.room + 1) (at.left + 1) result
+        (with_primes at.primes
+        (form_in form.entry (scope_at (listed entries.old) at.scope) at.bound)) }
 {
     match form {
         Form::Leaf(place, node) => leaf_of(alloc, place, node, at.primes, at.left),
@@ -229,7 +233,10 @@ fn use_node<'a>(
     requires scope { at.scope ≤ length (listed entries.old) }
     requires small { at.bound + at.left ≤ most_named }
     ensures kept { OnOk result (listed entries.new ≡ listed entries.old) }
-    ensures same { Gives (at.room + 1) (at.left + 1) result (with_primes at.primes (builtin_meaning builtin place (arguments_in arguments.now (scope_at (listed entries.old) at.scope)) at.bound)) }
+    ensures same { Gives (at.room + 1) (at.left + 1) result
+        (with_primes at.primes
+        (builtin_meaning builtin place
+        (arguments_in arguments.now (scope_at (listed entries.old) at.scope)) at.bound)) }
 {
     match builtin {
         Builtin::Kinds(kind) => match arguments {
@@ -272,7 +279,9 @@ fn one_node<'a>(
     requires scope { at.scope ≤ length (listed entries.old) }
     requires small { at.bound + at.left ≤ most_named }
     ensures kept { OnOk result (listed entries.new ≡ listed entries.old) }
-    ensures same { Gives (at.room + 1) (at.left + 1) result (made (λ x. nodes.one node.entry place x) (part_in at.primes (scope_at (listed entries.old) at.scope) at.bound part.now)) }
+    ensures same { Gives (at.room + 1) (at.left + 1) result
+        (made (λ x. nodes.one node.entry place x)
+        (part_in at.primes (scope_at (listed entries.old) at.scope) at.bound part.now)) }
 {
     let part = expand(alloc, entries, part, at)?;
     let core = one_core(alloc, place, node, part.core)?;
@@ -298,7 +307,10 @@ fn two_node<'a>(
     requires scope { at.scope ≤ length (listed entries.old) }
     requires small { at.bound + at.left ≤ most_named }
     ensures kept { OnOk result (listed entries.new ≡ listed entries.old) }
-    ensures same { Gives (at.room + 1) (at.left + 1) result (made (λ xy. nodes.two node place xy.0 xy.1) (both (part_in at.primes (scope_at (listed entries.old) at.scope) at.bound first.now) (part_in at.primes (scope_at (listed entries.old) at.scope) at.bound second.now))) }
+    ensures same { Gives (at.room + 1) (at.left + 1) result
+        (made (λ xy. nodes.two node place xy.0 xy.1)
+        (both (part_in at.primes (scope_at (listed entries.old) at.scope) at.bound first.now)
+        (part_in at.primes (scope_at (listed entries.old) at.scope) at.bound second.now))) }
 {
     let two = two_parts(alloc, entries, first, second, at.primes, at)?;
     let core = two_core(alloc, place, node, two.first, two.second)?;
@@ -325,7 +337,13 @@ fn three_node<'a>(
     requires scope { at.scope ≤ length (listed entries.old) }
     requires small { at.bound + at.left ≤ most_named }
     ensures kept { OnOk result (listed entries.new ≡ listed entries.old) }
-    ensures same { Gives (at.room + 1) (at.left + 1) result (made (λ t. nodes.three node place t.0.0 t.0.1 t.1) (both (both (part_in at.primes (scope_at (listed entries.old) at.scope) at.bound first.now) (part_in at.primes (scope_at (listed entries.old) at.scope) at.bound second.now)) (part_in at.primes (scope_at (listed entries.old) at.scope) at.bound third.now))) }
+    ensures same { Gives (at.room + 1) (at.left + 1) result
+        (made (λ t. nodes.three node place t.0.0 t.0.1 t.1)
+        (both
+        (both
+        (part_in at.primes (scope_at (listed entries.old) at.scope) at.bound first.now)
+        (part_in at.primes (scope_at (listed entries.old) at.scope) at.bound second.now))
+        (part_in at.primes (scope_at (listed entries.old) at.scope) at.bound third.now))) }
 {
     let two = two_parts(alloc, entries, first, second, at.primes, at)?;
     let left = two.left;
@@ -353,7 +371,10 @@ fn many_node<'a>(
     requires scope { at.scope ≤ length (listed entries.old) }
     requires small { at.bound + at.left ≤ most_named }
     ensures kept { OnOk result (listed entries.new ≡ listed entries.old) }
-    ensures same { Gives (at.room + 1) (at.left + 1) result (made (λ xs. nodes.many node place (exprs xs)) (each_of (part_in at.primes (scope_at (listed entries.old) at.scope) at.bound) items.now)) }
+    ensures same { Gives (at.room + 1) (at.left + 1) result
+        (made (λ xs. nodes.many node place (exprs xs))
+        (each_of (part_in at.primes (scope_at (listed entries.old) at.scope) at.bound)
+        items.now)) }
 {
     let many = each(alloc, entries, items, at)?;
     let core = many_core(alloc, place, node, many.parts)?;
@@ -378,7 +399,11 @@ fn index_node<'a>(
     requires scope { at.scope ≤ length (listed entries.old) }
     requires small { at.bound + at.left ≤ most_named }
     ensures kept { OnOk result (listed entries.new ≡ listed entries.old) }
-    ensures same { Gives (at.room + 1) (at.left + 1) result (made (λ xy. nodes.two BinaryNode.Apply place xy.0 xy.1) (both (part_in at.primes (scope_at (listed entries.old) at.scope) at.bound function.now) (key_in at.primes (scope_at (listed entries.old) at.scope) at.bound items.now))) }
+    ensures same { Gives (at.room + 1) (at.left + 1) result
+        (made (λ xy. nodes.two BinaryNode.Apply place xy.0 xy.1)
+        (both
+        (part_in at.primes (scope_at (listed entries.old) at.scope) at.bound function.now)
+        (key_in at.primes (scope_at (listed entries.old) at.scope) at.bound items.now))) }
 {
     let function = expand(alloc, entries, function, at)?;
     let left = function.left;
@@ -405,7 +430,10 @@ fn cases_node<'a>(
     requires scope { at.scope ≤ length (listed entries.old) }
     requires small { at.bound + at.left ≤ most_named }
     ensures kept { OnOk result (listed entries.new ≡ listed entries.old) }
-    ensures same { Gives (at.room + 1) (at.left + 1) result (made (λ xs. expr.cases place (arms_with xs expr.no_arms)) (each_of (arm_in at.primes (scope_at (listed entries.old) at.scope) at.bound) arms.now)) }
+    ensures same { Gives (at.room + 1) (at.left + 1) result
+        (made (λ xs. expr.cases place (arms_with xs expr.no_arms))
+        (each_of (arm_in at.primes (scope_at (listed entries.old) at.scope) at.bound)
+        arms.now)) }
 {
     let made = arms_of(alloc, entries, arms, at)?;
     Ok(Expanded {
@@ -429,7 +457,12 @@ fn cases_or_node<'a>(
     requires scope { at.scope ≤ length (listed entries.old) }
     requires small { at.bound + at.left ≤ most_named }
     ensures kept { OnOk result (listed entries.new ≡ listed entries.old) }
-    ensures same { Gives (at.room + 1) (at.left + 1) result (made (λ xs. expr.cases place (arms_with xs.0 (expr.other xs.1))) (both (each_of (arm_in at.primes (scope_at (listed entries.old) at.scope) at.bound) arms.now) (part_in at.primes (scope_at (listed entries.old) at.scope) at.bound last.now))) }
+    ensures same { Gives (at.room + 1) (at.left + 1) result
+        (made (λ xs. expr.cases place (arms_with xs.0 (expr.other xs.1)))
+        (both
+        (each_of (arm_in at.primes (scope_at (listed entries.old) at.scope) at.bound)
+        arms.now)
+        (part_in at.primes (scope_at (listed entries.old) at.scope) at.bound last.now))) }
 {
     let made = arms_of(alloc, entries, arms, at)?;
     let left = made.left;
@@ -456,7 +489,11 @@ fn product_node<'a>(
     requires scope { at.scope ≤ length (listed entries.old) }
     requires small { at.bound + at.left ≤ most_named }
     ensures kept { OnOk result (listed entries.new ≡ listed entries.old) }
-    ensures same { Gives (at.room + 1) (at.left + 1) result (made (λ xs. expr.product place (exprs (xs.0 ∷ xs.1))) (both (part_in at.primes (scope_at (listed entries.old) at.scope) at.bound first.now) (each_of (part_in at.primes (scope_at (listed entries.old) at.scope) at.bound) others.now))) }
+    ensures same { Gives (at.room + 1) (at.left + 1) result
+        (made (λ xs. expr.product place (exprs (xs.0 ∷ xs.1)))
+        (both (part_in at.primes (scope_at (listed entries.old) at.scope) at.bound first.now)
+        (each_of (part_in at.primes (scope_at (listed entries.old) at.scope) at.bound)
+        others.now))) }
 {
     let first = expand(alloc, entries, first, at)?;
     let left = first.left;
@@ -484,7 +521,10 @@ fn fields_node<'a>(
     requires scope { at.scope ≤ length (listed entries.old) }
     requires small { at.bound + at.left ≤ most_named }
     ensures kept { OnOk result (listed entries.new ≡ listed entries.old) }
-    ensures same { Gives (at.room + 1) (at.left + 1) result (made (λ xs. nodes.fielded node place (fields_of xs)) (each_of (field_in at.primes (scope_at (listed entries.old) at.scope) at.bound) fields.now)) }
+    ensures same { Gives (at.room + 1) (at.left + 1) result
+        (made (λ xs. nodes.fielded node place (fields_of xs))
+        (each_of (field_in at.primes (scope_at (listed entries.old) at.scope) at.bound)
+        fields.now)) }
 {
     let made = named_parts(alloc, entries, fields, at)?;
     let core = fielded_core(alloc, place, node, made.fields)?;
@@ -508,7 +548,9 @@ fn two_parts<'a>(
     requires scope { at.scope ≤ length (listed entries.old) }
     requires small { at.bound + at.left ≤ most_named }
     ensures kept { OnOk result (listed entries.new ≡ listed entries.old) }
-    ensures same { GivesTwo at.room at.left result (both (part_in primes (scope_at (listed entries.old) at.scope) at.bound first.now) (part_in at.primes (scope_at (listed entries.old) at.scope) at.bound second.now)) }
+    ensures same { GivesTwo at.room at.left result
+        (both (part_in primes (scope_at (listed entries.old) at.scope) at.bound first.now)
+        (part_in at.primes (scope_at (listed entries.old) at.scope) at.bound second.now)) }
 {
     let first = expand(alloc, entries, first, Setting { primes, ..at })?;
     let left = first.left;
@@ -532,10 +574,25 @@ pub(crate) fn expansion<'a>(
 ) -> Result<Core, Failure>
     requires linked { AreLinked (listed entries.old) }
     requires scope { scope ≤ length (listed entries.old) }
-    ensures found { IfOk result (λ c. with_primes primes (expansion.expand (view tree.now) (scope_at (listed entries.old) scope) 0) ≡ Some (expr_of c)) }
+    ensures found { IfOk result (λ c.
+        with_primes primes
+        (expansion.expand (view tree.now) (scope_at (listed entries.old) scope) 0)
+        ≡ Some (expr_of c)) }
     ensures limits { IfOk result (λ c. IsWithinLimits (expr_of c)) }
-    ensures gone { IfErr result (λ f. (p : Place) → f ≡ Failure.NoExpansion p → with_primes primes (expansion.expand (view tree.now) (scope_at (listed entries.old) scope) 0) ≡ None) }
-    ensures none { IfErr result (λ f. f ≢ Failure.Memory → (e : expr.Expr) → with_primes primes (expansion.expand (view tree.now) (scope_at (listed entries.old) scope) 0) ≡ Some e → IsWithinLimits e → ⊥) }
+    ensures gone { IfErr result (λ f.
+        (p : Place)
+        → f ≡ Failure.NoExpansion p
+        → with_primes primes
+        (expansion.expand (view tree.now) (scope_at (listed entries.old) scope) 0)
+        ≡ None) }
+    ensures none { IfErr result (λ f.
+        f ≢ Failure.Memory
+        → (e : expr.Expr)
+        → with_primes primes
+        (expansion.expand (view tree.now) (scope_at (listed entries.old) scope) 0)
+        ≡ Some e
+        → IsWithinLimits e
+        → ⊥) }
 {
     let at = Setting {
         scope,

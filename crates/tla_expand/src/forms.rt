@@ -167,7 +167,9 @@ pub(crate) fn form_of<'a>(tree: &'a Expr) -> OwnForm<'a>
 
 /// Whether an operator of a module takes this many arguments.
 pub(crate) fn takes(builtin: Builtin, arguments: &[Expr]) -> bool
-    ensures { result ≡ false → (p : Place) (σ : Scope) (d : ℕ) → builtin_meaning builtin p (arguments_in arguments.now σ) d ≡ None }
+    ensures { result ≡ false
+        → (p : Place) (σ : Scope) (d : ℕ)
+        → builtin_meaning builtin p (arguments_in arguments.now σ) d ≡ None }
 {
     match builtin {
         Builtin::Kinds(_) => matches!(arguments, []),

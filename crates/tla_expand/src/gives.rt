@@ -88,8 +88,13 @@ pub(crate) fn given_argument<'a>(
     count: usize,
     given: Projection,
 ) -> Option<&'a Expr>
-    ensures some { IfSome result (λ e. (σ : Scope) (p : Place) (d : ℕ) → backs.given count given p (arguments_in arguments.now σ) d ≡ with_primes given.primes (expand (view e.now) σ d)) }
-    ensures none { IfNone result ((σ : Scope) (p : Place) (d : ℕ) → backs.given count given p (arguments_in arguments.now σ) d ≡ None) }
+    ensures some { IfSome result (λ e.
+        (σ : Scope) (p : Place) (d : ℕ)
+        → backs.given count given p (arguments_in arguments.now σ) d
+        ≡ with_primes given.primes (expand (view e.now) σ d)) }
+    ensures none { IfNone result
+        ((σ : Scope) (p : Place) (d : ℕ)
+        → backs.given count given p (arguments_in arguments.now σ) d ≡ None) }
 {
     if count != arguments.len() {
         return None;
@@ -171,7 +176,8 @@ fn sought(known: &Known<'_>, name: &[u8]) -> Option<Summary>
 fn entered(entries: &Entries<'_, '_>, scope: usize, name: &[u8]) -> Option<(usize, Projection)>
     requires linked { AreLinked (listed entries.now) }
     requires within { scope ≤ length (listed entries.now) }
-    ensures { IfSome result (λ g. scope_at (listed entries.now) scope name.now ≡ backs.given g.0 g.1) }
+    ensures { IfSome result (λ g.
+        scope_at (listed entries.now) scope name.now ≡ backs.given g.0 g.1) }
 {
     match find(entries, scope, name)?.what {
         What::Gives(count, given) => Some((count, given)),
@@ -216,7 +222,8 @@ fn used<'a>(
 ) -> Turn<'a>
     requires linked { AreLinked (listed entries.now) }
     requires within { scope ≤ length (listed entries.now) }
-    ensures { IsUse (view part.entry.tree.now) name.now arguments.now → IsTurn (scope_at (listed entries.now) scope) part.entry result }
+    ensures { IsUse (view part.entry.tree.now) name.now arguments.now
+        → IsTurn (scope_at (listed entries.now) scope) part.entry result }
 {
     match name_means(entries, scope, part.known, name.word.as_bytes()) {
         Summary::Gives(count, given) => match given_argument(arguments, count, given) {
@@ -306,7 +313,9 @@ fn given_in(
 ) -> Option<Reached>
     requires linked { AreLinked (listed entries.now) }
     requires within { scope ≤ length (listed entries.now) }
-    ensures { IfSome result (λ r. GivesBack (scope_at (listed entries.now) scope) part.entry (drop from definitions.now) r) }
+    ensures { IfSome result (λ r.
+        GivesBack (scope_at (listed entries.now) scope) part.entry (drop from definitions.now)
+        r) }
 {
     if left == 0 {
         return None;
@@ -343,7 +352,10 @@ fn given_in(
 
 /// The summary of an operator with this many parameters that leads to an argument of its own, or of a layer around it.
 fn operator_summary(known: &Known<'_>, count: usize, reached: Reached) -> Summary
-    ensures means { (f : Layers) → Means f result (with_count count (λ args. reached_in reached (with_layer (depth known.now) args f))) }
+    ensures means { (f : Layers)
+        → Means f result
+        (with_count count (λ args.
+        reached_in reached (with_layer (depth known.now) args f))) }
     ensures round { IsRound (depth known.now) result }
 {
     let Some(own) = depth_of(known) else {
@@ -369,7 +381,8 @@ fn definition_summary(
 ) -> Summary
     requires linked { AreLinked (listed entries.now) }
     requires within { scope ≤ length (listed entries.now) }
-    ensures { IsSummary (scope_at (listed entries.now) scope) known.now (definition_view definition.now) result }
+    ensures { IsSummary (scope_at (listed entries.now) scope) known.now
+        (definition_view definition.now) result }
 {
     let Definition::Operator(_, parameters, body) = definition else {
         return Summary::Other;
@@ -392,7 +405,9 @@ fn given_by(
 ) -> Option<Reached>
     requires linked { AreLinked (listed entries.now) }
     requires within { scope ≤ length (listed entries.now) }
-    ensures { IfSome result (λ r. IsOperator (scope_at (listed entries.now) scope) known.now parameters.now (view body.now) r) }
+    ensures { IfSome result (λ r.
+        IsOperator (scope_at (listed entries.now) scope) known.now parameters.now (view body.now)
+        r) }
 {
     let inside = Known::Parameters(&*parameters, &*known);
     let part = BodyPart {
@@ -413,7 +428,9 @@ pub(crate) fn gives(
 ) -> Option<Projection>
     requires linked { AreLinked (listed entries.now) }
     requires within { scope ≤ length (listed entries.now) }
-    ensures { IfSome result (λ g. operator parameters.now (expand (view body.now)) (scope_at (listed entries.now) scope) ≡ backs.given (length parameters.now) g) }
+    ensures { IfSome result (λ g.
+        operator parameters.now (expand (view body.now)) (scope_at (listed entries.now) scope)
+        ≡ backs.given (length parameters.now) g) }
 {
     if parameters.len() == 0 {
         return None;

@@ -49,8 +49,12 @@ fn jump_at(entries: &Entries<'_, '_>, hash: usize, at: usize, bit: usize) -> Jum
     requires { at ≤ length (listed entries.now) }
     ensures to_within { result.to ≤ length (listed entries.now) }
     ensures next_within { result.next ≤ length (listed entries.now) }
-    ensures to { (x : names.Name) → slot_of hash (hash_of x) ≡ bit → found_at (listed entries.now) at x ≡ found_at (listed entries.now) result.to x }
-    ensures next { (x : names.Name) → bit < slot_of hash (hash_of x) → found_at (listed entries.now) at x ≡ found_at (listed entries.now) result.next x }
+    ensures to { (x : names.Name)
+        → slot_of hash (hash_of x) ≡ bit
+        → found_at (listed entries.now) at x ≡ found_at (listed entries.now) result.to x }
+    ensures next { (x : names.Name)
+        → bit < slot_of hash (hash_of x)
+        → found_at (listed entries.now) at x ≡ found_at (listed entries.now) result.next x }
 {
     if at == 0 {
         return Jump { to: 0, next: 0 };
@@ -74,7 +78,9 @@ fn jump_at(entries: &Entries<'_, '_>, hash: usize, at: usize, bit: usize) -> Jum
 pub(crate) fn jumps_from(entries: &Entries<'_, '_>, hash: usize, scope: usize) -> [usize; 17]
     requires { scope ≤ length (listed entries.now) }
     ensures below { (b : ℕ) → get_or result b 0 ≤ length (listed entries.now) }
-    ensures same { (x : names.Name) → found_at (listed entries.now) scope x ≡ found_at (listed entries.now) (get_or result (slot_of hash (hash_of x)) 0) x }
+    ensures same { (x : names.Name)
+        → found_at (listed entries.now) scope x
+        ≡ found_at (listed entries.now) (get_or result (slot_of hash (hash_of x)) 0) x }
 {
     let mut jumps = [0; 17];
     let mut at = scope;

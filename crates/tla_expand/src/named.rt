@@ -34,10 +34,25 @@ pub(crate) fn named_expansion<'a>(
 ) -> Result<Core, Failure>
     requires linked { AreLinked (listed entries.old) }
     requires scope { scope ≤ length (listed entries.old) }
-    ensures found { IfOk result (λ c. with_primes primes (expansion.expand (Name name.now) (scope_at (listed entries.old) scope) 0) ≡ Some (expr_of c)) }
+    ensures found { IfOk result (λ c.
+        with_primes primes
+        (expansion.expand (Name name.now) (scope_at (listed entries.old) scope) 0)
+        ≡ Some (expr_of c)) }
     ensures limits { IfOk result (λ c. IsWithinLimits (expr_of c)) }
-    ensures gone { IfErr result (λ f. (p : fault.Place) → f ≡ Failure.NoExpansion p → with_primes primes (expansion.expand (Name name.now) (scope_at (listed entries.old) scope) 0) ≡ None) }
-    ensures none { IfErr result (λ f. f ≢ Failure.Memory → (e : expr.Expr) → with_primes primes (expansion.expand (Name name.now) (scope_at (listed entries.old) scope) 0) ≡ Some e → IsWithinLimits e → ⊥) }
+    ensures gone { IfErr result (λ f.
+        (p : fault.Place)
+        → f ≡ Failure.NoExpansion p
+        → with_primes primes
+        (expansion.expand (Name name.now) (scope_at (listed entries.old) scope) 0)
+        ≡ None) }
+    ensures none { IfErr result (λ f.
+        f ≢ Failure.Memory
+        → (e : expr.Expr)
+        → with_primes primes
+        (expansion.expand (Name name.now) (scope_at (listed entries.old) scope) 0)
+        ≡ Some e
+        → IsWithinLimits e
+        → ⊥) }
 {
     let at = place_of(name.place);
     let word = name.word.as_bytes();

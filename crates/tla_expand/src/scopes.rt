@@ -38,8 +38,11 @@ use tla_value::Value;
 /// The refusal of an expression that was too large with its level, given what was found without a level: only its level
 /// is the reason if it is within the limits then.
 fn still_refused(found: Result<Core, Failure>) -> Failure
-    ensures level { (p : Place) → result ≡ Failure.NoExpansion p → (c : core.Core) × (found ≡ Ok c) }
-    ensures large { result ≡ Failure.TooLarge → (f : failure.Failure) × (found ≡ Err f) × (f ≢ Failure.Memory) }
+    ensures level { (p : Place)
+        → result ≡ Failure.NoExpansion p
+        → (c : core.Core) × (found ≡ Ok c) }
+    ensures large { result ≡ Failure.TooLarge
+        → (f : failure.Failure) × (found ≡ Err f) × (f ≢ Failure.Memory) }
 {
     match found {
         Ok(core) => {
@@ -95,7 +98,8 @@ impl<'a> Scopes<'a> {
     /// With one more entry. The only error is that memory ran out.
     fn with_entry(self, entry: Entry<'a>) -> Result<Scopes<'a>, Failure>
         requires { IsBelow (length (listed self.entries)) entry.what entry.rest }
-        ensures ok { IfOk result (λ s. scope_of s ≡ entry_scope (scope_at (listed self.entry.entries)) entry.entry) }
+        ensures ok { IfOk result (λ s.
+            scope_of s ≡ entry_scope (scope_at (listed self.entry.entries)) entry.entry) }
         ensures outer { IfOk result (λ s. outer_of s ≡ outer_of self.entry) }
         ensures err { IfErr result (λ e. e ≡ Failure.Memory) }
     {
@@ -111,7 +115,8 @@ impl<'a> Scopes<'a> {
 
     /// With a variable and its number. The only error is that memory ran out.
     pub fn with_variable(self, name: &'a Word, number: usize) -> Result<Scopes<'a>, Failure>
-        ensures ok { IfOk result (λ s. scope_of s ≡ with_name name.now (variable number) (scope_of self.entry)) }
+        ensures ok { IfOk result (λ s.
+            scope_of s ≡ with_name name.now (variable number) (scope_of self.entry)) }
         ensures outer { IfOk result (λ s. outer_of s ≡ outer_of self.entry) }
         ensures err { IfErr result (λ e. e ≡ Failure.Memory) }
     {
@@ -125,7 +130,8 @@ impl<'a> Scopes<'a> {
 
     /// With a constant and its value. The only error is that memory ran out.
     pub fn with_value(self, name: &'a Word, value: &'a Value) -> Result<Scopes<'a>, Failure>
-        ensures ok { IfOk result (λ s. scope_of s ≡ with_name name.now (value_name value.now) (scope_of self.entry)) }
+        ensures ok { IfOk result (λ s.
+            scope_of s ≡ with_name name.now (value_name value.now) (scope_of self.entry)) }
         ensures outer { IfOk result (λ s. outer_of s ≡ outer_of self.entry) }
         ensures err { IfErr result (λ e. e ≡ Failure.Memory) }
     {
@@ -139,7 +145,9 @@ impl<'a> Scopes<'a> {
 
     /// With a name that means what another one meant before. The only error is that memory ran out.
     pub fn with_replacement(self, name: &'a Word, operator: &Word) -> Result<Scopes<'a>, Failure>
-        ensures ok { IfOk result (λ s. scope_of s ≡ with_name name.now (outer_of self.entry operator.now) (scope_of self.entry)) }
+        ensures ok { IfOk result (λ s.
+            scope_of s
+            ≡ with_name name.now (outer_of self.entry operator.now) (scope_of self.entry)) }
         ensures outer { IfOk result (λ s. outer_of s ≡ outer_of self.entry) }
         ensures err { IfErr result (λ e. e ≡ Failure.Memory) }
     {
@@ -160,7 +168,10 @@ impl<'a> Scopes<'a> {
 
     /// With a definition without parameters. The only error is that memory ran out.
     pub fn with_operator(self, name: &'a Word, body: &'a Expr) -> Result<Scopes<'a>, Failure>
-        ensures ok { IfOk result (λ s. scope_of s ≡ with_name name.now (operator [] (expand (view body.now)) (scope_of self.entry)) (scope_of self.entry)) }
+        ensures ok { IfOk result (λ s.
+            scope_of s
+            ≡ with_name name.now (operator [] (expand (view body.now)) (scope_of self.entry))
+            (scope_of self.entry)) }
         ensures outer { IfOk result (λ s. outer_of s ≡ outer_of self.entry) }
         ensures err { IfErr result (λ e. e ≡ Failure.Memory) }
     {
@@ -174,7 +185,8 @@ impl<'a> Scopes<'a> {
 
     /// With a definition. The only error is that memory ran out.
     pub fn with_definition(self, definition: &'a Definition) -> Result<Scopes<'a>, Failure>
-        ensures ok { IfOk result (λ s. scope_of s ≡ definition_in (definition_view definition.now) (scope_of self.entry)) }
+        ensures ok { IfOk result (λ s.
+            scope_of s ≡ definition_in (definition_view definition.now) (scope_of self.entry)) }
         ensures outer { IfOk result (λ s. outer_of s ≡ outer_of self.entry) }
         ensures err { IfErr result (λ e. e ≡ Failure.Memory) }
     {
@@ -191,10 +203,20 @@ impl<'a> Scopes<'a> {
         primes: Primes,
         sought: Option<Primes>,
     ) -> Result<Core, Failure>
-        ensures found { IfOk result (λ c. with_primes primes (expand (view tree.now) (scope_of self.now) 0) ≡ Some (expr_of c)) }
+        ensures found { IfOk result (λ c.
+            with_primes primes (expand (view tree.now) (scope_of self.now) 0)
+            ≡ Some (expr_of c)) }
         ensures limits { IfOk result (λ c. IsWithinLimits (expr_of c)) }
-        ensures gone { IfErr result (λ f. (p : Place) → f ≡ Failure.NoExpansion p → with_primes primes (expand (view tree.now) (scope_of self.now) 0) ≡ None) }
-        ensures none { IfErr result (λ f. f ≢ Failure.Memory → (e : expr.Expr) → with_primes primes (expand (view tree.now) (scope_of self.now) 0) ≡ Some e → IsWithinLimits e → ⊥) }
+        ensures gone { IfErr result (λ f.
+            (p : Place)
+            → f ≡ Failure.NoExpansion p
+            → with_primes primes (expand (view tree.now) (scope_of self.now) 0) ≡ None) }
+        ensures none { IfErr result (λ f.
+            f ≢ Failure.Memory
+            → (e : expr.Expr)
+            → with_primes primes (expand (view tree.now) (scope_of self.now) 0) ≡ Some e
+            → IsWithinLimits e
+            → ⊥) }
     {
         let mut entries = self.entries.lent(alloc);
         expansion(alloc, &mut entries, tree, self.current, primes, sought)
@@ -204,12 +226,27 @@ impl<'a> Scopes<'a> {
     /// first refusal in the order of the expansion: one prime too many on a variable, a limit, or that memory ran out.
     /// `Primes::Once` takes each variable as the variable's next value.
     pub fn expansion(&self, alloc: Global, tree: &'a Expr, primes: Primes) -> Result<Core, Failure>
-        ensures found { IfOk result (λ c. with_primes primes (expand (view tree.now) (scope_of self.now) 0) ≡ Some (expr_of c)) }
+        ensures found { IfOk result (λ c.
+            with_primes primes (expand (view tree.now) (scope_of self.now) 0)
+            ≡ Some (expr_of c)) }
         ensures limits { IfOk result (λ c. IsWithinLimits (expr_of c)) }
-        ensures gone { IfErr result (λ f. (p : Place) → f ≡ Failure.NoExpansion p → with_primes primes (expand (view tree.now) (scope_of self.now) 0) ≡ None) }
-        ensures none { IfErr result (λ f. f ≢ Failure.Memory → (e : expr.Expr) → with_primes primes (expand (view tree.now) (scope_of self.now) 0) ≡ Some e → IsWithinLimits e → ⊥) }
+        ensures gone { IfErr result (λ f.
+            (p : Place)
+            → f ≡ Failure.NoExpansion p
+            → with_primes primes (expand (view tree.now) (scope_of self.now) 0) ≡ None) }
+        ensures none { IfErr result (λ f.
+            f ≢ Failure.Memory
+            → (e : expr.Expr)
+            → with_primes primes (expand (view tree.now) (scope_of self.now) 0) ≡ Some e
+            → IsWithinLimits e
+            → ⊥) }
         // `TooLarge` means that there is no expansion within the limits, whatever its level.
-        ensures large { IfErr result (λ f. f ≡ Failure.TooLarge → (e : expr.Expr) → expand (view tree.now) (scope_of self.now) 0 ≡ Some e → IsWithinLimits e → ⊥) }
+        ensures large { IfErr result (λ f.
+            f ≡ Failure.TooLarge
+            → (e : expr.Expr)
+            → expand (view tree.now) (scope_of self.now) 0 ≡ Some e
+            → IsWithinLimits e
+            → ⊥) }
     {
         match self.find_expansion(alloc, tree, primes, Some(primes)) {
             Err(Failure::TooLarge) => {
@@ -228,10 +265,20 @@ impl<'a> Scopes<'a> {
         primes: Primes,
         sought: Option<Primes>,
     ) -> Result<Core, Failure>
-        ensures found { IfOk result (λ c. with_primes primes (expand (Name name.now) (scope_of self.now) 0) ≡ Some (expr_of c)) }
+        ensures found { IfOk result (λ c.
+            with_primes primes (expand (Name name.now) (scope_of self.now) 0)
+            ≡ Some (expr_of c)) }
         ensures limits { IfOk result (λ c. IsWithinLimits (expr_of c)) }
-        ensures gone { IfErr result (λ f. (p : Place) → f ≡ Failure.NoExpansion p → with_primes primes (expand (Name name.now) (scope_of self.now) 0) ≡ None) }
-        ensures none { IfErr result (λ f. f ≢ Failure.Memory → (e : expr.Expr) → with_primes primes (expand (Name name.now) (scope_of self.now) 0) ≡ Some e → IsWithinLimits e → ⊥) }
+        ensures gone { IfErr result (λ f.
+            (p : Place)
+            → f ≡ Failure.NoExpansion p
+            → with_primes primes (expand (Name name.now) (scope_of self.now) 0) ≡ None) }
+        ensures none { IfErr result (λ f.
+            f ≢ Failure.Memory
+            → (e : expr.Expr)
+            → with_primes primes (expand (Name name.now) (scope_of self.now) 0) ≡ Some e
+            → IsWithinLimits e
+            → ⊥) }
     {
         let mut entries = self.entries.lent(alloc);
         named_expansion(alloc, &mut entries, name, self.current, primes, sought)
@@ -239,12 +286,27 @@ impl<'a> Scopes<'a> {
 
     /// The expansion of a name without arguments, within the same limits; or the first refusal.
     pub fn meaning(&self, alloc: Global, name: &Written, primes: Primes) -> Result<Core, Failure>
-        ensures found { IfOk result (λ c. with_primes primes (expand (Name name.now) (scope_of self.now) 0) ≡ Some (expr_of c)) }
+        ensures found { IfOk result (λ c.
+            with_primes primes (expand (Name name.now) (scope_of self.now) 0)
+            ≡ Some (expr_of c)) }
         ensures limits { IfOk result (λ c. IsWithinLimits (expr_of c)) }
-        ensures gone { IfErr result (λ f. (p : Place) → f ≡ Failure.NoExpansion p → with_primes primes (expand (Name name.now) (scope_of self.now) 0) ≡ None) }
-        ensures none { IfErr result (λ f. f ≢ Failure.Memory → (e : expr.Expr) → with_primes primes (expand (Name name.now) (scope_of self.now) 0) ≡ Some e → IsWithinLimits e → ⊥) }
+        ensures gone { IfErr result (λ f.
+            (p : Place)
+            → f ≡ Failure.NoExpansion p
+            → with_primes primes (expand (Name name.now) (scope_of self.now) 0) ≡ None) }
+        ensures none { IfErr result (λ f.
+            f ≢ Failure.Memory
+            → (e : expr.Expr)
+            → with_primes primes (expand (Name name.now) (scope_of self.now) 0) ≡ Some e
+            → IsWithinLimits e
+            → ⊥) }
         // `TooLarge` means that there is no expansion within the limits, whatever its level.
-        ensures large { IfErr result (λ f. f ≡ Failure.TooLarge → (e : expr.Expr) → expand (Name name.now) (scope_of self.now) 0 ≡ Some e → IsWithinLimits e → ⊥) }
+        ensures large { IfErr result (λ f.
+            f ≡ Failure.TooLarge
+            → (e : expr.Expr)
+            → expand (Name name.now) (scope_of self.now) 0 ≡ Some e
+            → IsWithinLimits e
+            → ⊥) }
     {
         match self.find_meaning(alloc, name, primes, Some(primes)) {
             Err(Failure::TooLarge) => {
@@ -264,10 +326,34 @@ impl<'a> Scopes<'a> {
         primes: Primes,
         sought: Option<Primes>,
     ) -> Result<Core, Failure>
-        ensures found { IfOk result (λ c. with_primes primes (expand (Junction place bullet.And (trees_of (map (λ (t : Bor syntax.Expr). view t.now) trees.now))) (scope_of self.now) 0) ≡ Some (expr_of c)) }
+        ensures found { IfOk result (λ c.
+            with_primes primes
+            (expand
+            (Junction place bullet.And
+            (trees_of (map (λ (t : Bor syntax.Expr). view t.now) trees.now)))
+            (scope_of self.now) 0)
+            ≡ Some (expr_of c)) }
         ensures limits { IfOk result (λ c. IsWithinLimits (expr_of c)) }
-        ensures gone { IfErr result (λ f. (p : Place) → f ≡ Failure.NoExpansion p → with_primes primes (expand (Junction place bullet.And (trees_of (map (λ (t : Bor syntax.Expr). view t.now) trees.now))) (scope_of self.now) 0) ≡ None) }
-        ensures none { IfErr result (λ f. f ≢ Failure.Memory → (e : expr.Expr) → with_primes primes (expand (Junction place bullet.And (trees_of (map (λ (t : Bor syntax.Expr). view t.now) trees.now))) (scope_of self.now) 0) ≡ Some e → IsWithinLimits e → ⊥) }
+        ensures gone { IfErr result (λ f.
+            (p : Place)
+            → f ≡ Failure.NoExpansion p
+            → with_primes primes
+            (expand
+            (Junction place bullet.And
+            (trees_of (map (λ (t : Bor syntax.Expr). view t.now) trees.now)))
+            (scope_of self.now) 0)
+            ≡ None) }
+        ensures none { IfErr result (λ f.
+            f ≢ Failure.Memory
+            → (e : expr.Expr)
+            → with_primes primes
+            (expand
+            (Junction place bullet.And
+            (trees_of (map (λ (t : Bor syntax.Expr). view t.now) trees.now)))
+            (scope_of self.now) 0)
+            ≡ Some e
+            → IsWithinLimits e
+            → ⊥) }
     {
         let mut entries = self.entries.lent(alloc);
         conjunction(
@@ -289,12 +375,45 @@ impl<'a> Scopes<'a> {
         trees: &[&'a Expr],
         primes: Primes,
     ) -> Result<Core, Failure>
-        ensures found { IfOk result (λ c. with_primes primes (expand (Junction place bullet.And (trees_of (map (λ (t : Bor syntax.Expr). view t.now) trees.now))) (scope_of self.now) 0) ≡ Some (expr_of c)) }
+        ensures found { IfOk result (λ c.
+            with_primes primes
+            (expand
+            (Junction place bullet.And
+            (trees_of (map (λ (t : Bor syntax.Expr). view t.now) trees.now)))
+            (scope_of self.now) 0)
+            ≡ Some (expr_of c)) }
         ensures limits { IfOk result (λ c. IsWithinLimits (expr_of c)) }
-        ensures gone { IfErr result (λ f. (p : Place) → f ≡ Failure.NoExpansion p → with_primes primes (expand (Junction place bullet.And (trees_of (map (λ (t : Bor syntax.Expr). view t.now) trees.now))) (scope_of self.now) 0) ≡ None) }
-        ensures none { IfErr result (λ f. f ≢ Failure.Memory → (e : expr.Expr) → with_primes primes (expand (Junction place bullet.And (trees_of (map (λ (t : Bor syntax.Expr). view t.now) trees.now))) (scope_of self.now) 0) ≡ Some e → IsWithinLimits e → ⊥) }
+        ensures gone { IfErr result (λ f.
+            (p : Place)
+            → f ≡ Failure.NoExpansion p
+            → with_primes primes
+            (expand
+            (Junction place bullet.And
+            (trees_of (map (λ (t : Bor syntax.Expr). view t.now) trees.now)))
+            (scope_of self.now) 0)
+            ≡ None) }
+        ensures none { IfErr result (λ f.
+            f ≢ Failure.Memory
+            → (e : expr.Expr)
+            → with_primes primes
+            (expand
+            (Junction place bullet.And
+            (trees_of (map (λ (t : Bor syntax.Expr). view t.now) trees.now)))
+            (scope_of self.now) 0)
+            ≡ Some e
+            → IsWithinLimits e
+            → ⊥) }
         // `TooLarge` means that there is no expansion within the limits, whatever its level.
-        ensures large { IfErr result (λ f. f ≡ Failure.TooLarge → (e : expr.Expr) → expand (Junction place bullet.And (trees_of (map (λ (t : Bor syntax.Expr). view t.now) trees.now))) (scope_of self.now) 0 ≡ Some e → IsWithinLimits e → ⊥) }
+        ensures large { IfErr result (λ f.
+            f ≡ Failure.TooLarge
+            → (e : expr.Expr)
+            → expand
+            (Junction place bullet.And
+            (trees_of (map (λ (t : Bor syntax.Expr). view t.now) trees.now)))
+            (scope_of self.now) 0
+            ≡ Some e
+            → IsWithinLimits e
+            → ⊥) }
     {
         match self.find_conjunction(alloc, place, trees, primes, Some(primes)) {
             Err(Failure::TooLarge) => {
@@ -308,8 +427,15 @@ impl<'a> Scopes<'a> {
     /// Whether an expression is a variable or a nested tuple of variables that covers the first `variables`. The tuple
     /// isn't made, so there is no limit to it. The only error is that memory ran out.
     pub fn covers(&self, alloc: Global, tree: &'a Expr, variables: usize) -> Result<bool, Failure>
-        ensures yes { IfOk result (λ b. b ≡ true → (e : expr.Expr) × (expand (view tree.now) (scope_of self.now) 0 ≡ Some e) × (cover.covers variables e ≡ true)) }
-        ensures no { IfOk result (λ b. b ≡ false → (e : expr.Expr) → expand (view tree.now) (scope_of self.now) 0 ≡ Some e → cover.covers variables e ≡ false) }
+        ensures yes { IfOk result (λ b.
+            b ≡ true
+            → (e : expr.Expr) × (expand (view tree.now) (scope_of self.now) 0 ≡ Some e)
+            × (cover.covers variables e ≡ true)) }
+        ensures no { IfOk result (λ b.
+            b ≡ false
+            → (e : expr.Expr)
+            → expand (view tree.now) (scope_of self.now) 0 ≡ Some e
+            → cover.covers variables e ≡ false) }
         ensures err { IfErr result (λ f. f ≡ Failure.Memory) }
     {
         let entries = self.entries.lent(alloc);

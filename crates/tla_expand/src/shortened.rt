@@ -41,7 +41,10 @@ fn chosen<'a>(
 ) -> Option<&'a Expr>
     requires linked { AreLinked (listed entries.now) }
     requires within { scope ≤ length (listed entries.now) }
-    ensures { IfSome result (λ e. (σ : Scope) (p : Place) (d : ℕ) → scope_at (listed entries.now) scope name.now p (arguments_in arguments.now σ) d ≡ expand (view e.now) σ d) }
+    ensures { IfSome result (λ e.
+        (σ : Scope) (p : Place) (d : ℕ)
+        → scope_at (listed entries.now) scope name.now p (arguments_in arguments.now σ) d
+        ≡ expand (view e.now) σ d) }
 {
     let entry = find(entries, scope, name)?;
     let What::Gives(count, given) = entry.what else {
@@ -62,7 +65,10 @@ fn part_of<'a>(
 ) -> Option<&'a Expr>
     requires linked { AreLinked (listed entries.now) }
     requires within { scope ≤ length (listed entries.now) }
-    ensures { IfSome result (λ e. (args : List Argument) (σ : Scope) (d : ℕ) → with_parameters parameters.now args (scope_at (listed entries.now) scope) ≡ Some σ → expand (view e.now) σ d ≡ expand (view body.now) σ d) }
+    ensures { IfSome result (λ e.
+        (args : List Argument) (σ : Scope) (d : ℕ)
+        → with_parameters parameters.now args (scope_at (listed entries.now) scope) ≡ Some σ
+        → expand (view e.now) σ d ≡ expand (view body.now) σ d) }
 {
     match body {
         Expr::Paren(_, inner) => Some(inner),
@@ -86,7 +92,9 @@ pub(crate) fn shortened<'a>(
 ) -> &'a Expr
     requires linked { AreLinked (listed entries.now) }
     requires within { scope ≤ length (listed entries.now) }
-    ensures { operator parameters.now (expand (view result.now)) (scope_at (listed entries.now) scope) ≡ operator parameters.now (expand (view body.now)) (scope_at (listed entries.now) scope) }
+    ensures { operator parameters.now (expand (view result.now))
+        (scope_at (listed entries.now) scope)
+        ≡ operator parameters.now (expand (view body.now)) (scope_at (listed entries.now) scope) }
 {
     let mut part = body;
     for _turn in 0..1000 {

@@ -50,8 +50,14 @@ fn use_of_module<'a>(
     primes: Primes,
 ) -> Result<Head<'a>, Failure>
     ensures scope { IfOk result (λ h. h.scope ≡ scope) }
-    ensures same { IfOk result (λ h. (es : List arena_entry.Entry) (d : ℕ) → with_primes primes (standard name.now place (arguments_in arguments.now (scope_at es scope)) d) ≡ head_gives es h d) }
-    ensures err { IfErr result (λ e. (σ : Scope) → Explains e (λ d. standard name.now place (arguments_in arguments.now σ) d)) }
+    ensures same { IfOk result (λ h.
+        (es : List arena_entry.Entry) (d : ℕ)
+        → with_primes primes
+        (standard name.now place (arguments_in arguments.now (scope_at es scope)) d)
+        ≡ head_gives es h d) }
+    ensures err { IfErr result (λ e.
+        (σ : Scope)
+        → Explains e (λ d. standard name.now place (arguments_in arguments.now σ) d)) }
 {
     let Some(builtin) = builtin_for(name) else {
         return Err(Failure::NoExpansion(place));
@@ -68,8 +74,14 @@ fn use_of_builtin<'a>(
     primes: Primes,
 ) -> Result<Head<'a>, Failure>
     ensures scope { IfOk result (λ h. h.scope ≡ scope) }
-    ensures same { IfOk result (λ h. (es : List arena_entry.Entry) (d : ℕ) → with_primes primes (builtin_meaning builtin place (arguments_in arguments.now (scope_at es scope)) d) ≡ head_gives es h d) }
-    ensures err { IfErr result (λ e. (σ : Scope) → Explains e (λ d. builtin_meaning builtin place (arguments_in arguments.now σ) d)) }
+    ensures same { IfOk result (λ h.
+        (es : List arena_entry.Entry) (d : ℕ)
+        → with_primes primes
+        (builtin_meaning builtin place (arguments_in arguments.now (scope_at es scope)) d)
+        ≡ head_gives es h d) }
+    ensures err { IfErr result (λ e.
+        (σ : Scope)
+        → Explains e (λ d. builtin_meaning builtin place (arguments_in arguments.now σ) d)) }
 {
     if !takes(builtin, arguments) {
         return Err(Failure::NoExpansion(place));
@@ -91,9 +103,20 @@ fn use_alone<'a>(
     primes: Primes,
 ) -> Result<Reduction<'a>, Failure>
     requires { IsAlone what }
-    ensures within { IfOk result (λ s. (es : List arena_entry.Entry) (rest : ℕ) → IsBelow (length es) what.entry rest → scope ≤ length es → IsWithin es s) }
-    ensures same { IfOk result (λ s. (es : List arena_entry.Entry) (d : ℕ) → with_primes primes (meaning_of (scope_at es) what.entry place (arguments_in arguments.now (scope_at es scope)) d) ≡ reduction_gives es s d) }
-    ensures err { IfErr result (λ e. (at : ℕ → Scope) (σ : Scope) → Explains e (λ d. meaning_of at what.entry place (arguments_in arguments.now σ) d)) }
+    ensures within { IfOk result (λ s.
+        (es : List arena_entry.Entry) (rest : ℕ)
+        → IsBelow (length es) what.entry rest
+        → scope ≤ length es
+        → IsWithin es s) }
+    ensures same { IfOk result (λ s.
+        (es : List arena_entry.Entry) (d : ℕ)
+        → with_primes primes
+        (meaning_of (scope_at es) what.entry place
+        (arguments_in arguments.now (scope_at es scope)) d)
+        ≡ reduction_gives es s d) }
+    ensures err { IfErr result (λ e.
+        (at : ℕ → Scope) (σ : Scope)
+        → Explains e (λ d. meaning_of at what.entry place (arguments_in arguments.now σ) d)) }
 {
     if arguments.len() > 0 {
         return Err(Failure::NoExpansion(place));
@@ -136,8 +159,16 @@ pub(crate) fn use_of<'a>(
     ensures linked { OnOk result (AreLinked (listed entries.new)) }
     ensures extends { OnOk result (Extends (listed entries.new) (listed entries.old)) }
     ensures within { IfOk result (λ s. IsWithin (listed entries.new) s) }
-    ensures same { IfOk result (λ s. (d : ℕ) → with_primes primes (scope_at (listed entries.old) scope name.now place (arguments_in arguments.now (scope_at (listed entries.old) scope)) d) ≡ reduction_gives (listed entries.new) s d) }
-    ensures err { IfErr result (λ e. Explains e (λ d. scope_at (listed entries.old) scope name.now place (arguments_in arguments.now (scope_at (listed entries.old) scope)) d)) }
+    ensures same { IfOk result (λ s.
+        (d : ℕ)
+        → with_primes primes
+        (scope_at (listed entries.old) scope name.now place
+        (arguments_in arguments.now (scope_at (listed entries.old) scope)) d)
+        ≡ reduction_gives (listed entries.new) s d) }
+    ensures err { IfErr result (λ e.
+        Explains e (λ d.
+        scope_at (listed entries.old) scope name.now place
+        (arguments_in arguments.now (scope_at (listed entries.old) scope)) d)) }
 {
     let Some(entry) = find(entries, scope, name) else {
         let head = use_of_module(place, name, arguments, scope, primes)?;
@@ -174,7 +205,10 @@ fn define<'a>(
     ensures linked { OnOk result (AreLinked (listed entries.new)) }
     ensures extends { OnOk result (Extends (listed entries.new) (listed entries.old)) }
     ensures within { IfOk result (λ s. s ≤ length (listed entries.new)) }
-    ensures same { IfOk result (λ s. definitions_in (definitions_of (map definition_view definitions.now)) (scope_at (listed entries.old) scope) ≡ scope_at (listed entries.new) s) }
+    ensures same { IfOk result (λ s.
+        definitions_in (definitions_of (map definition_view definitions.now))
+        (scope_at (listed entries.old) scope)
+        ≡ scope_at (listed entries.new) s) }
     ensures err { IfErr result (λ e. e ≡ Failure.Memory) }
 {
     let mut at = scope;
@@ -195,7 +229,8 @@ fn operator_of<'a>(
     requires linked { AreLinked (listed entries.now) }
     requires within { scope ≤ length (listed entries.now) }
     ensures below { IsBelow scope result scope }
-    ensures same { meaning_of (scope_at (listed entries.now)) result ≡ operator parameters.now (expand (view body.now)) (scope_at (listed entries.now) scope) }
+    ensures same { meaning_of (scope_at (listed entries.now)) result
+        ≡ operator parameters.now (expand (view body.now)) (scope_at (listed entries.now) scope) }
 {
     match gives(entries, scope, parameters, body) {
         Some(given) => What::Gives(parameters.len(), given),
@@ -216,7 +251,8 @@ pub(crate) fn entry_of<'a>(
     requires within { scope ≤ length (listed entries.now) }
     ensures rest { result.rest ≡ scope }
     ensures below { IsBelow scope result.what result.rest }
-    ensures scope { entry_scope (scope_at (listed entries.now)) result ≡ definition_in (definition_view definition.now) (scope_at (listed entries.now) scope) }
+    ensures scope { entry_scope (scope_at (listed entries.now)) result
+        ≡ definition_in (definition_view definition.now) (scope_at (listed entries.now) scope) }
 {
     match definition {
         Definition::Operator(name, parameters, body) => {
@@ -247,8 +283,12 @@ fn go<'a>(
     ensures linked { OnOk result (AreLinked (listed entries.new)) }
     ensures extends { OnOk result (Extends (listed entries.new) (listed entries.old)) }
     ensures within { IfOk result (λ s. IsWithin (listed entries.new) s) }
-    ensures same { IfOk result (λ s. (d : ℕ) → with_primes primes (expand (view tree.now) (scope_at (listed entries.old) scope) d) ≡ reduction_gives (listed entries.new) s d) }
-    ensures err { IfErr result (λ e. Explains e (λ d. expand (view tree.now) (scope_at (listed entries.old) scope) d)) }
+    ensures same { IfOk result (λ s.
+        (d : ℕ)
+        → with_primes primes (expand (view tree.now) (scope_at (listed entries.old) scope) d)
+        ≡ reduction_gives (listed entries.new) s d) }
+    ensures err { IfErr result (λ e.
+        Explains e (λ d. expand (view tree.now) (scope_at (listed entries.old) scope) d)) }
 {
     match tree {
         Expr::Name(name) => {
@@ -283,8 +323,12 @@ pub(crate) fn next_reduction<'a>(
     ensures linked { OnOk result (AreLinked (listed entries.new)) }
     ensures extends { OnOk result (Extends (listed entries.new) (listed entries.old)) }
     ensures within { IfOk result (λ s. IsWithin (listed entries.new) s) }
-    ensures same { IfOk result (λ s. (d : ℕ) → with_primes primes (expand (view tree.now) (scope_at (listed entries.old) scope) d) ≡ reduction_gives (listed entries.new) s d) }
-    ensures err { IfErr result (λ e. Explains e (λ d. expand (view tree.now) (scope_at (listed entries.old) scope) d)) }
+    ensures same { IfOk result (λ s.
+        (d : ℕ)
+        → with_primes primes (expand (view tree.now) (scope_at (listed entries.old) scope) d)
+        ≡ reduction_gives (listed entries.new) s d) }
+    ensures err { IfErr result (λ e.
+        Explains e (λ d. expand (view tree.now) (scope_at (listed entries.old) scope) d)) }
 {
     match form_of(tree) {
         OwnForm::Goes => go(entries, tree, scope, primes),
@@ -316,7 +360,10 @@ fn give_back<'a>(entries: &mut Entries<'_, 'a>, kept: usize, scope: usize)
     ensures linked { AreLinked (listed entries.new) }
     ensures within { scope ≤ length (listed entries.new) }
     ensures same { scope_at (listed entries.new) scope ≡ scope_at (listed entries.old) scope }
-    ensures extends { (es : List arena_entry.Entry) → length es ≤ kept → Extends (listed entries.old) es → Extends (listed entries.new) es }
+    ensures extends { (es : List arena_entry.Entry)
+        → length es ≤ kept
+        → Extends (listed entries.old) es
+        → Extends (listed entries.new) es }
 {
     let end = larger(kept, scope);
     entries.truncate(end);
@@ -376,8 +423,13 @@ pub(crate) fn find_head<'a>(
     ensures linked { OnOk result (AreLinked (listed entries.new)) }
     ensures extends { OnOk result (Extends (listed entries.new) (listed entries.old)) }
     ensures within { IfOk result (λ h. h.scope ≤ length (listed entries.new)) }
-    ensures same { IfOk result (λ h. (d : ℕ) → with_primes primes (expand (view start.now) (scope_at (listed entries.old) scope) d) ≡ head_gives (listed entries.new) h d) }
-    ensures err { IfErr result (λ e. Explains e (λ d. with_primes primes (expand (view start.now) (scope_at (listed entries.old) scope) d))) }
+    ensures same { IfOk result (λ h.
+        (d : ℕ)
+        → with_primes primes (expand (view start.now) (scope_at (listed entries.old) scope) d)
+        ≡ head_gives (listed entries.new) h d) }
+    ensures err { IfErr result (λ e.
+        Explains e (λ d.
+        with_primes primes (expand (view start.now) (scope_at (listed entries.old) scope) d))) }
 {
     let mark = entries.len();
     head_behind(entries, start, scope, primes, mark)
@@ -397,8 +449,13 @@ fn head_behind<'a>(
     ensures linked { OnOk result (AreLinked (listed entries.new)) }
     ensures extends { OnOk result (Extends (listed entries.new) (listed entries.old)) }
     ensures within { IfOk result (λ h. h.scope ≤ length (listed entries.new)) }
-    ensures same { IfOk result (λ h. (d : ℕ) → with_primes primes (expand (view start.now) (scope_at (listed entries.old) scope) d) ≡ head_gives (listed entries.new) h d) }
-    ensures err { IfErr result (λ e. Explains e (λ d. with_primes primes (expand (view start.now) (scope_at (listed entries.old) scope) d))) }
+    ensures same { IfOk result (λ h.
+        (d : ℕ)
+        → with_primes primes (expand (view start.now) (scope_at (listed entries.old) scope) d)
+        ≡ head_gives (listed entries.new) h d) }
+    ensures err { IfErr result (λ e.
+        Explains e (λ d.
+        with_primes primes (expand (view start.now) (scope_at (listed entries.old) scope) d))) }
 {
     let mut tree = start;
     let mut at = scope;

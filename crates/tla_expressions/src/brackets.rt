@@ -33,7 +33,9 @@ impl<R: ExpressionReader> Grammar<R> {
         requires reads { R.reads_to self.now.reader self.now.depth }
         requires depth { first.depth ≡ edges.depth (view first.tree.value) }
         requires shallow { first.depth ≤ self.now.depth }
-        ensures { GivesTrees text.now tokens.now self.now.depth result (reading.others text.now tokens.now (expr text.now tokens.now self.now.depth) context close (view first.tree.value) first.end) }
+        ensures { GivesTrees text.now tokens.now self.now.depth result
+            (reading.others text.now tokens.now (expr text.now tokens.now self.now.depth) context
+            close (view first.tree.value) first.end) }
     {
         let mut items = Vec::new(self.alloc);
         push_inner(&mut items, first.tree)?;
@@ -70,7 +72,9 @@ impl<R: ExpressionReader> Grammar<R> {
     ) -> Result<Parsed, Refusal>
         requires reads { R.reads_to self.now.reader self.now.depth }
         requires small { self.now.depth ≤ MAX_DEPTH }
-        ensures { Gives text.now tokens.now (self.now.depth + 1) result (reading.subscript text.now tokens.now (expr text.now tokens.now self.now.depth) context from) }
+        ensures { Gives text.now tokens.now (self.now.depth + 1) result
+            (reading.subscript text.now tokens.now (expr text.now tokens.now self.now.depth)
+            context from) }
     {
         let Some(t) = seen(tokens, context.column, from) else {
             return Err(refused(tokens, context.column, from));
@@ -105,7 +109,9 @@ impl<R: ExpressionReader> Grammar<R> {
         requires depth { first.depth ≡ edges.depth (view first.tree.value) }
         requires shallow { first.depth ≤ self.now.depth }
         requires small { self.now.depth ≤ MAX_DEPTH }
-        ensures { Gives text.now tokens.now (self.now.depth + 1) result (reading.action text.now tokens.now (expr text.now tokens.now self.now.depth) (self.now.depth + 1) context at step (view first.tree.value) first.end) }
+        ensures { Gives text.now tokens.now (self.now.depth + 1) result
+            (reading.action text.now tokens.now (expr text.now tokens.now self.now.depth)
+            (self.now.depth + 1) context at step (view first.tree.value) first.end) }
     {
         let subscript = self.subscript(text, tokens, context, first.end + 1)?;
         let depth = first.depth.max(subscript.depth) + 1;
@@ -134,7 +140,9 @@ impl<R: ExpressionReader> Grammar<R> {
         requires reads { R.reads_to self.now.reader self.now.depth }
         requires within { from < length tokens.now }
         requires small { self.now.depth ≤ MAX_DEPTH }
-        ensures { Gives text.now tokens.now (self.now.depth + 1) result (reading.fair text.now tokens.now (expr text.now tokens.now self.now.depth) (self.now.depth + 1) context at fairness from) }
+        ensures { Gives text.now tokens.now (self.now.depth + 1) result
+            (reading.fair text.now tokens.now (expr text.now tokens.now self.now.depth)
+            (self.now.depth + 1) context at fairness from) }
     {
         let subscript = self.subscript(text, tokens, context, from + 1)?;
         if !is_kind(Kind::LeftParen, seen(tokens, context.column, subscript.end)) {
@@ -169,7 +177,9 @@ impl<R: ExpressionReader> Grammar<R> {
         requires reads { R.reads_to self.now.reader self.now.depth }
         requires within { from < length tokens.now }
         requires small { self.now.depth ≤ MAX_DEPTH }
-        ensures { Gives text.now tokens.now (self.now.depth + 1) result (reading.filter text.now tokens.now (expr text.now tokens.now self.now.depth) context at from) }
+        ensures { Gives text.now tokens.now (self.now.depth + 1) result
+            (reading.filter text.now tokens.now (expr text.now tokens.now self.now.depth) context
+            at from) }
     {
         let set = self.one_group(text, tokens, context, None, from + 1)?;
         if !is_kind(Kind::Colon, seen(tokens, context.column, set.end)) {
@@ -202,7 +212,9 @@ impl<R: ExpressionReader> Grammar<R> {
         requires depth { first.depth ≡ edges.depth (view first.tree.value) }
         requires shallow { first.depth ≤ self.now.depth }
         requires small { self.now.depth ≤ MAX_DEPTH }
-        ensures { Gives text.now tokens.now (self.now.depth + 1) result (reading.image text.now tokens.now (expr text.now tokens.now self.now.depth) context at (view first.tree.value) first.end) }
+        ensures { Gives text.now tokens.now (self.now.depth + 1) result
+            (reading.image text.now tokens.now (expr text.now tokens.now self.now.depth) context
+            at (view first.tree.value) first.end) }
     {
         let found = self.groups(text, tokens, context, None, first.end + 1)?;
         if !is_kind(Kind::RightBrace, seen(tokens, context.column, found.end)) {
@@ -232,7 +244,9 @@ impl<R: ExpressionReader> Grammar<R> {
         requires depth { first.depth ≡ edges.depth (view first.tree.value) }
         requires shallow { first.depth ≤ self.now.depth }
         requires small { self.now.depth ≤ MAX_DEPTH }
-        ensures { Gives text.now tokens.now (self.now.depth + 1) result (reading.set_of text.now tokens.now (expr text.now tokens.now self.now.depth) context at from (view first.tree.value) first.end) }
+        ensures { Gives text.now tokens.now (self.now.depth + 1) result
+            (reading.set_of text.now tokens.now (expr text.now tokens.now self.now.depth) context
+            at from (view first.tree.value) first.end) }
     {
         if is_kind(Kind::Colon, seen(tokens, context.column, first.end)) {
             if binds(tokens, context.column, from + 1).is_some() {
@@ -266,7 +280,9 @@ impl<R: ExpressionReader> Grammar<R> {
         requires reads { R.reads_to self.now.reader self.now.depth }
         requires within { from < length tokens.now }
         requires small { self.now.depth ≤ MAX_DEPTH }
-        ensures { Gives text.now tokens.now (self.now.depth + 1) result (reading.brace text.now tokens.now (expr text.now tokens.now self.now.depth) context at from) }
+        ensures { Gives text.now tokens.now (self.now.depth + 1) result
+            (reading.brace text.now tokens.now (expr text.now tokens.now self.now.depth) context
+            at from) }
     {
         if is_kind(Kind::RightBrace, seen(tokens, context.column, from + 1)) {
             return node(
@@ -296,7 +312,9 @@ impl<R: ExpressionReader> Grammar<R> {
         requires reads { R.reads_to self.now.reader self.now.depth }
         requires within { from < length tokens.now }
         requires small { self.now.depth ≤ MAX_DEPTH }
-        ensures { Gives text.now tokens.now (self.now.depth + 1) result (reading.tuple text.now tokens.now (expr text.now tokens.now self.now.depth) (self.now.depth + 1) context at from) }
+        ensures { Gives text.now tokens.now (self.now.depth + 1) result
+            (reading.tuple text.now tokens.now (expr text.now tokens.now self.now.depth)
+            (self.now.depth + 1) context at from) }
     {
         if is_kind(Kind::RightTuple, seen(tokens, context.column, from + 1)) {
             return node(
@@ -337,7 +355,9 @@ impl<R: ExpressionReader> Grammar<R> {
         requires reads { R.reads_to self.now.reader self.now.depth }
         requires within { from < length tokens.now }
         requires small { self.now.depth ≤ MAX_DEPTH }
-        ensures { Gives text.now tokens.now (self.now.depth + 1) result (reading.mapping text.now tokens.now (expr text.now tokens.now self.now.depth) context at from) }
+        ensures { Gives text.now tokens.now (self.now.depth + 1) result
+            (reading.mapping text.now tokens.now (expr text.now tokens.now self.now.depth) context
+            at from) }
     {
         let found = self.groups(text, tokens, context, None, from + 1)?;
         if !is_kind(Kind::MapsTo, seen(tokens, context.column, found.end)) {
@@ -370,7 +390,9 @@ impl<R: ExpressionReader> Grammar<R> {
         requires depth { first.depth ≡ edges.depth (view first.tree.value) }
         requires shallow { first.depth ≤ self.now.depth }
         requires small { self.now.depth ≤ MAX_DEPTH }
-        ensures { Gives text.now tokens.now (self.now.depth + 1) result (reading.function_set text.now tokens.now (expr text.now tokens.now self.now.depth) context at (view first.tree.value) first.end) }
+        ensures { Gives text.now tokens.now (self.now.depth + 1) result
+            (reading.function_set text.now tokens.now (expr text.now tokens.now self.now.depth)
+            context at (view first.tree.value) first.end) }
     {
         let range = self.inner(text, tokens, context, 0, first.end + 1)?;
         if !is_kind(Kind::RightBracket, seen(tokens, context.column, range.end)) {
@@ -399,7 +421,9 @@ impl<R: ExpressionReader> Grammar<R> {
         requires depth { first.depth ≡ edges.depth (view first.tree.value) }
         requires shallow { first.depth ≤ self.now.depth }
         requires small { self.now.depth ≤ MAX_DEPTH }
-        ensures { Gives text.now tokens.now (self.now.depth + 1) result (reading.behind_first text.now tokens.now (expr text.now tokens.now self.now.depth) (self.now.depth + 1) context at (view first.tree.value) first.end) }
+        ensures { Gives text.now tokens.now (self.now.depth + 1) result
+            (reading.behind_first text.now tokens.now (expr text.now tokens.now self.now.depth)
+            (self.now.depth + 1) context at (view first.tree.value) first.end) }
     {
         if is_kind(Kind::Arrow, seen(tokens, context.column, first.end)) {
             return self.function_set(text, tokens, context, at, first);
@@ -431,7 +455,9 @@ impl<R: ExpressionReader> Grammar<R> {
         requires reads { R.reads_to self.now.reader self.now.depth }
         requires within { from < length tokens.now }
         requires small { self.now.depth ≤ MAX_DEPTH }
-        ensures { Gives text.now tokens.now (self.now.depth + 1) result (reading.bracket text.now tokens.now (expr text.now tokens.now self.now.depth) (self.now.depth + 1) context at from) }
+        ensures { Gives text.now tokens.now (self.now.depth + 1) result
+            (reading.bracket text.now tokens.now (expr text.now tokens.now self.now.depth)
+            (self.now.depth + 1) context at from) }
     {
         match opened_by(tokens, context.column, from + 1) {
             Opened::Record => self.record(text, tokens, context, at, from),

@@ -33,7 +33,9 @@ impl<R: ExpressionReader> Grammar<R> {
         requires reads { R.reads_to self.now.reader self.now.depth }
         requires within { from < length tokens.now }
         requires small { self.now.depth ≤ MAX_DEPTH }
-        ensures { Gives text.now tokens.now (self.now.depth + 1) result (reading.quantified text.now tokens.now (reading.expr text.now tokens.now self.now.depth) context at quantifier from) }
+        ensures { Gives text.now tokens.now (self.now.depth + 1) result
+            (reading.quantified text.now tokens.now
+            (reading.expr text.now tokens.now self.now.depth) context at quantifier from) }
     {
         let found = self.groups(text, tokens, context, Some(from), from + 1)?;
         if !is_kind(Kind::Colon, seen(tokens, context.column, found.end)) {
@@ -61,7 +63,9 @@ impl<R: ExpressionReader> Grammar<R> {
         requires reads { R.reads_to self.now.reader self.now.depth }
         requires within { from < length tokens.now }
         requires small { self.now.depth ≤ MAX_DEPTH }
-        ensures { Gives text.now tokens.now (self.now.depth + 1) result (reading.chosen text.now tokens.now (reading.expr text.now tokens.now self.now.depth) context at from) }
+        ensures { Gives text.now tokens.now (self.now.depth + 1) result
+            (reading.chosen text.now tokens.now (reading.expr text.now tokens.now self.now.depth)
+            context at from) }
     {
         let set = self.one_group(text, tokens, context, Some(from), from + 1)?;
         if !is_kind(Kind::Colon, seen(tokens, context.column, set.end)) {
@@ -89,7 +93,9 @@ impl<R: ExpressionReader> Grammar<R> {
         requires reads { R.reads_to self.now.reader self.now.depth }
         requires within { from < length tokens.now }
         requires small { self.now.depth ≤ MAX_DEPTH }
-        ensures { Gives text.now tokens.now (self.now.depth + 1) result (reading.choice text.now tokens.now (reading.expr text.now tokens.now self.now.depth) context at from) }
+        ensures { Gives text.now tokens.now (self.now.depth + 1) result
+            (reading.choice text.now tokens.now (reading.expr text.now tokens.now self.now.depth)
+            context at from) }
     {
         let condition = self.inner(text, tokens, context, 0, from + 1)?;
         if !is_kind(Kind::Then, seen(tokens, context.column, condition.end)) {
@@ -118,7 +124,9 @@ impl<R: ExpressionReader> Grammar<R> {
         from: usize,
     ) -> Result<ParsedArm, Refusal>
         requires reads { R.reads_to self.now.reader self.now.depth }
-        ensures { GivesArm text.now tokens.now self.now.depth result (reading.arm_at text.now tokens.now (reading.expr text.now tokens.now self.now.depth) context from) }
+        ensures { GivesArm text.now tokens.now self.now.depth result
+            (reading.arm_at text.now tokens.now (reading.expr text.now tokens.now self.now.depth)
+            context from) }
     {
         let guard = self.inner(text, tokens, context, 0, from)?;
         if !is_kind(Kind::Arrow, seen(tokens, context.column, guard.end)) {
@@ -138,7 +146,9 @@ impl<R: ExpressionReader> Grammar<R> {
         from: usize,
     ) -> Result<ParsedArms, Refusal>
         requires reads { R.reads_to self.now.reader self.now.depth }
-        ensures { GivesArms text.now tokens.now self.now.depth result (reading.arms_at text.now tokens.now (reading.expr text.now tokens.now self.now.depth) (length tokens.now) [] context from) }
+        ensures { GivesArms text.now tokens.now self.now.depth result
+            (reading.arms_at text.now tokens.now (reading.expr text.now tokens.now self.now.depth)
+            (length tokens.now) [] context from) }
     {
         let mut arms = Vec::new(self.alloc);
         let mut depth = 0;
@@ -169,7 +179,9 @@ impl<R: ExpressionReader> Grammar<R> {
         requires reads { R.reads_to self.now.reader self.now.depth }
         requires within { from < length tokens.now }
         requires small { self.now.depth ≤ MAX_DEPTH }
-        ensures { Gives text.now tokens.now (self.now.depth + 1) result (reading.cases text.now tokens.now (reading.expr text.now tokens.now self.now.depth) context at from) }
+        ensures { Gives text.now tokens.now (self.now.depth + 1) result
+            (reading.cases text.now tokens.now (reading.expr text.now tokens.now self.now.depth)
+            context at from) }
     {
         let found = self.arms_at(text, tokens, context, from + 1)?;
         let end = found.end;
@@ -205,7 +217,9 @@ impl<R: ExpressionReader> Grammar<R> {
     ) -> Result<ParsedDefinition, Refusal>
         requires reads { R.reads_to self.now.reader self.now.depth }
         requires within { from ≤ length tokens.now }
-        ensures { GivesDefinition text.now tokens.now self.now.depth result (reading.operator text.now tokens.now (reading.expr text.now tokens.now self.now.depth) context t from) }
+        ensures { GivesDefinition text.now tokens.now self.now.depth result
+            (reading.operator text.now tokens.now
+            (reading.expr text.now tokens.now self.now.depth) context t from) }
     {
         let found = parameters(self.alloc, text, tokens, context.column, form, from)?;
         let end = found.end;
@@ -236,7 +250,9 @@ impl<R: ExpressionReader> Grammar<R> {
     ) -> Result<ParsedDefinition, Refusal>
         requires reads { R.reads_to self.now.reader self.now.depth }
         requires within { form + 2 ≤ length tokens.now }
-        ensures { GivesDefinition text.now tokens.now self.now.depth result (reading.function text.now tokens.now (reading.expr text.now tokens.now self.now.depth) context t (form + 2)) }
+        ensures { GivesDefinition text.now tokens.now self.now.depth result
+            (reading.function text.now tokens.now
+            (reading.expr text.now tokens.now self.now.depth) context t (form + 2)) }
     {
         let found = self.groups(text, tokens, context, None, form + 2)?;
         let end = found.end;
@@ -267,7 +283,9 @@ impl<R: ExpressionReader> Grammar<R> {
     ) -> Result<ParsedDefinition, Refusal>
         requires reads { R.reads_to self.now.reader self.now.depth }
         requires within { from < length tokens.now }
-        ensures { GivesDefinition text.now tokens.now self.now.depth result (reading.defined text.now tokens.now (reading.expr text.now tokens.now self.now.depth) context t from) }
+        ensures { GivesDefinition text.now tokens.now self.now.depth result
+            (reading.defined text.now tokens.now (reading.expr text.now tokens.now self.now.depth)
+            context t from) }
     {
         if is_kind(Kind::Define, seen(tokens, context.column, from + 1)) {
             let name = Written::of_token(self.alloc, text, t)?;
@@ -301,7 +319,9 @@ impl<R: ExpressionReader> Grammar<R> {
         from: usize,
     ) -> Result<ParsedDefinition, Refusal>
         requires reads { R.reads_to self.now.reader self.now.depth }
-        ensures { GivesDefinition text.now tokens.now self.now.depth result (reading.definition text.now tokens.now (reading.expr text.now tokens.now self.now.depth) context from) }
+        ensures { GivesDefinition text.now tokens.now self.now.depth result
+            (reading.definition text.now tokens.now
+            (reading.expr text.now tokens.now self.now.depth) context from) }
     {
         let Some(t) = name_at(seen(tokens, context.column, from)) else {
             return Err(refused(tokens, context.column, from));
@@ -319,7 +339,10 @@ impl<R: ExpressionReader> Grammar<R> {
         from: usize,
     ) -> Result<ParsedDefinitions, Refusal>
         requires reads { R.reads_to self.now.reader self.now.depth }
-        ensures { GivesDefinitions text.now tokens.now self.now.depth result (reading.definitions_at text.now tokens.now (reading.expr text.now tokens.now self.now.depth) (length tokens.now) [] context from) }
+        ensures { GivesDefinitions text.now tokens.now self.now.depth result
+            (reading.definitions_at text.now tokens.now
+            (reading.expr text.now tokens.now self.now.depth) (length tokens.now) [] context
+            from) }
     {
         let mut definitions = Vec::new(self.alloc);
         let mut depth = 0;
@@ -354,7 +377,9 @@ impl<R: ExpressionReader> Grammar<R> {
         requires reads { R.reads_to self.now.reader self.now.depth }
         requires within { from < length tokens.now }
         requires small { self.now.depth ≤ MAX_DEPTH }
-        ensures { Gives text.now tokens.now (self.now.depth + 1) result (reading.lets text.now tokens.now (reading.expr text.now tokens.now self.now.depth) context at from) }
+        ensures { Gives text.now tokens.now (self.now.depth + 1) result
+            (reading.lets text.now tokens.now (reading.expr text.now tokens.now self.now.depth)
+            context at from) }
     {
         let found = self.definitions_at(text, tokens, context, from + 1)?;
         if !is_kind(Kind::In, seen(tokens, context.column, found.end)) {

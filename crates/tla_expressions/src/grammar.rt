@@ -38,7 +38,8 @@ impl<R: ExpressionReader> Grammar<R> {
         at: usize,
     ) -> Result<Parsed, Refusal>
         requires { R.reads_to self.now.reader self.now.depth }
-        ensures { Gives text.now tokens.now self.now.depth result (reading.expr text.now tokens.now self.now.depth context floor at) }
+        ensures { Gives text.now tokens.now self.now.depth result
+            (reading.expr text.now tokens.now self.now.depth context floor at) }
     {
         self.reader
             .read(self.alloc, text, tokens, self.depth, context, floor, at)
@@ -59,7 +60,9 @@ impl<R: ExpressionReader> Grammar<R> {
         requires depth { first.depth ≡ edges.depth (view first.tree.value) }
         requires shallow { first.depth ≤ self.now.depth + 1 }
         requires small { self.now.depth ≤ MAX_DEPTH }
-        ensures { Gives text.now tokens.now (self.now.depth + 1) result (reading.indexed text.now tokens.now (reading.expr text.now tokens.now self.now.depth) (self.now.depth + 1) context (view first.tree.value) first.end) }
+        ensures { Gives text.now tokens.now (self.now.depth + 1) result
+            (reading.indexed text.now tokens.now (reading.expr text.now tokens.now self.now.depth)
+            (self.now.depth + 1) context (view first.tree.value) first.end) }
     {
         let found = self.some(text, tokens, context, Kind::RightBracket, first.end + 1)?;
         let depth = first.depth.max(found.depth) + 1;
@@ -90,7 +93,9 @@ impl<R: ExpressionReader> Grammar<R> {
         requires depth { first.depth ≡ edges.depth (view first.tree.value) }
         requires shallow { first.depth ≤ self.now.depth + 1 }
         requires small { self.now.depth ≤ MAX_DEPTH }
-        ensures { Gives text.now tokens.now (self.now.depth + 1) result (reading.behind text.now tokens.now (reading.expr text.now tokens.now self.now.depth) (self.now.depth + 1) context (view first.tree.value) form first.end) }
+        ensures { Gives text.now tokens.now (self.now.depth + 1) result
+            (reading.behind text.now tokens.now (reading.expr text.now tokens.now self.now.depth)
+            (self.now.depth + 1) context (view first.tree.value) form first.end) }
     {
         match form {
             Postfix::Index => self.indexed(text, tokens, context, start, first),
@@ -140,7 +145,10 @@ impl<R: ExpressionReader> Grammar<R> {
         requires depth { first.depth ≡ edges.depth (view first.tree.value) }
         requires shallow { first.depth ≤ self.now.depth + 1 }
         requires small { self.now.depth ≤ MAX_DEPTH }
-        ensures { Gives text.now tokens.now (self.now.depth + 1) result (reading.postfixes text.now tokens.now (reading.expr text.now tokens.now self.now.depth) (self.now.depth + 1) context (view first.tree.value) first.end) }
+        ensures { Gives text.now tokens.now (self.now.depth + 1) result
+            (reading.postfixes text.now tokens.now
+            (reading.expr text.now tokens.now self.now.depth) (self.now.depth + 1) context
+            (view first.tree.value) first.end) }
     {
         let mut left = first;
         for _turn in 0..self.depth + 1 {
@@ -172,7 +180,9 @@ impl<R: ExpressionReader> Grammar<R> {
         requires reads { R.reads_to self.now.reader self.now.depth }
         requires within { from < length tokens.now }
         requires small { self.now.depth ≤ MAX_DEPTH }
-        ensures { Gives text.now tokens.now (self.now.depth + 1) result (reading.prefix text.now tokens.now (reading.expr text.now tokens.now self.now.depth) context op at from) }
+        ensures { Gives text.now tokens.now (self.now.depth + 1) result
+            (reading.prefix text.now tokens.now (reading.expr text.now tokens.now self.now.depth)
+            context op at from) }
     {
         let e = self.inner(text, tokens, context, prefix_high(op), from + 1)?;
         node(self.alloc, Expr::Unary(at, op, e.tree), e.end, e.depth + 1)
@@ -194,7 +204,9 @@ impl<R: ExpressionReader> Grammar<R> {
         requires depth { left.depth ≡ edges.depth (view left.tree.value) }
         requires shallow { left.depth ≤ self.now.depth + 1 }
         requires small { self.now.depth ≤ MAX_DEPTH }
-        ensures { Gives text.now tokens.now (self.now.depth + 1) result (reading.turn text.now tokens.now (reading.expr text.now tokens.now self.now.depth) (self.now.depth + 1) context (view left.tree.value) op left.end) }
+        ensures { Gives text.now tokens.now (self.now.depth + 1) result
+            (reading.turn text.now tokens.now (reading.expr text.now tokens.now self.now.depth)
+            (self.now.depth + 1) context (view left.tree.value) op left.end) }
     {
         if is_product(op) {
             return self.product(text, tokens, context, start, left);
@@ -234,7 +246,10 @@ impl<R: ExpressionReader> Grammar<R> {
         requires depth { first.depth ≡ edges.depth (view first.tree.value) }
         requires shallow { first.depth ≤ self.now.depth + 1 }
         requires small { self.now.depth ≤ MAX_DEPTH }
-        ensures { Gives text.now tokens.now (self.now.depth + 1) result (reading.climb text.now tokens.now (reading.expr text.now tokens.now self.now.depth) self.now.depth (self.now.depth + 1) context floor (view first.tree.value) first.end) }
+        ensures { Gives text.now tokens.now (self.now.depth + 1) result
+            (reading.climb text.now tokens.now (reading.expr text.now tokens.now self.now.depth)
+            self.now.depth (self.now.depth + 1) context floor (view first.tree.value)
+            first.end) }
     {
         let mut left = first;
         for _turn in 0..self.depth {
@@ -265,7 +280,10 @@ impl<R: ExpressionReader> Grammar<R> {
         requires within { from < length tokens.now }
         requires flat { edges.depth (view tree) ≡ 1 }
         requires small { self.now.depth ≤ MAX_DEPTH }
-        ensures { Gives text.now tokens.now (self.now.depth + 1) result (reading.postfixes text.now tokens.now (reading.expr text.now tokens.now self.now.depth) (self.now.depth + 1) context (view tree) (from + 1)) }
+        ensures { Gives text.now tokens.now (self.now.depth + 1) result
+            (reading.postfixes text.now tokens.now
+            (reading.expr text.now tokens.now self.now.depth) (self.now.depth + 1) context
+            (view tree) (from + 1)) }
     {
         let first = node(self.alloc, tree, from + 1, 1)?;
         self.postfixes(text, tokens, context, from, first)
@@ -285,7 +303,10 @@ impl<R: ExpressionReader> Grammar<R> {
         requires within { from < length tokens.now }
         requires token { spec.seen tokens.now context.column from ≡ Some t }
         requires small { self.now.depth ≤ MAX_DEPTH }
-        ensures { Gives text.now tokens.now (self.now.depth + 1) result (reading.by_class text.now tokens.now (reading.expr text.now tokens.now self.now.depth) (self.now.depth + 1) context t from) }
+        ensures { Gives text.now tokens.now (self.now.depth + 1) result
+            (reading.by_class text.now tokens.now
+            (reading.expr text.now tokens.now self.now.depth) (self.now.depth + 1) context t
+            from) }
     {
         let at = t.place;
         if let Some(bullet) = bullet_of(t.kind) {
@@ -317,7 +338,9 @@ impl<R: ExpressionReader> Grammar<R> {
     ) -> Result<Parsed, Refusal>
         requires reads { R.reads_to self.now.reader self.now.depth }
         requires small { self.now.depth ≤ MAX_DEPTH }
-        ensures { Gives text.now tokens.now (self.now.depth + 1) result (reading.operand text.now tokens.now (reading.expr text.now tokens.now self.now.depth) (self.now.depth + 1) context from) }
+        ensures { Gives text.now tokens.now (self.now.depth + 1) result
+            (reading.operand text.now tokens.now (reading.expr text.now tokens.now self.now.depth)
+            (self.now.depth + 1) context from) }
     {
         let Some(t) = seen(tokens, context.column, from) else {
             return Err(refused(tokens, context.column, from));
@@ -384,7 +407,9 @@ impl<R: ExpressionReader> Grammar<R> {
     ) -> Result<Parsed, Refusal>
         requires reads { R.reads_to self.now.reader self.now.depth }
         requires small { self.now.depth ≤ MAX_DEPTH }
-        ensures { Gives text.now tokens.now (self.now.depth + 1) result (reading.level text.now tokens.now (reading.expr text.now tokens.now self.now.depth) self.now.depth context floor at) }
+        ensures { Gives text.now tokens.now (self.now.depth + 1) result
+            (reading.level text.now tokens.now (reading.expr text.now tokens.now self.now.depth)
+            self.now.depth context floor at) }
     {
         let first = self.operand(text, tokens, context, at)?;
         self.climb(text, tokens, context, floor, at, first)
@@ -403,7 +428,8 @@ pub fn expr(
     at: usize,
 ) -> Result<Parsed, Refusal>
     requires { depth ≤ MAX_DEPTH }
-    ensures { Gives text.now tokens.now depth result (reading.expr text.now tokens.now depth context floor at) }
+    ensures { Gives text.now tokens.now depth result
+        (reading.expr text.now tokens.now depth context floor at) }
 {
     if depth == 0 {
         return Err(Refusal::Nesting(at));
@@ -424,7 +450,9 @@ pub fn definition(
     context: Context,
     from: usize,
 ) -> Result<ParsedDefinition, Refusal>
-    ensures { GivesDefinition text.now tokens.now MAX_DEPTH result (reading.definition text.now tokens.now (reading.expr text.now tokens.now MAX_DEPTH) context from) }
+    ensures { GivesDefinition text.now tokens.now MAX_DEPTH result
+        (reading.definition text.now tokens.now (reading.expr text.now tokens.now MAX_DEPTH)
+        context from) }
 {
     Grammar {
         alloc,

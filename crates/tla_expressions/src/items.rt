@@ -38,7 +38,9 @@ impl<R: ExpressionReader> Grammar<R> {
         requires reads { R.reads_to self.now.reader self.now.depth }
         requires depth { front.depth ≡ edges.depths (trees (map view front.items.items)) }
         requires shallow { front.depth ≤ self.now.depth }
-        ensures { GivesItems text.now tokens.now self.now.depth result (lists.exprs text.now tokens.now (reading.expr text.now tokens.now self.now.depth) (length tokens.now) (map view front.items.items) context between front.end) }
+        ensures { GivesItems text.now tokens.now self.now.depth result
+            (lists.exprs text.now tokens.now (reading.expr text.now tokens.now self.now.depth)
+            (length tokens.now) (map view front.items.items) context between front.end) }
     {
         let mut items = front.items;
         let mut depth = front.depth;
@@ -66,7 +68,9 @@ impl<R: ExpressionReader> Grammar<R> {
         from: usize,
     ) -> Result<ParsedItems, Refusal>
         requires reads { R.reads_to self.now.reader self.now.depth }
-        ensures { GivesItems text.now tokens.now self.now.depth result (lists.exprs text.now tokens.now (reading.expr text.now tokens.now self.now.depth) (length tokens.now) [] context between from) }
+        ensures { GivesItems text.now tokens.now self.now.depth result
+            (lists.exprs text.now tokens.now (reading.expr text.now tokens.now self.now.depth)
+            (length tokens.now) [] context between from) }
     {
         let front = ParsedItems {
             items: Vec::new(self.alloc),
@@ -87,7 +91,9 @@ impl<R: ExpressionReader> Grammar<R> {
         from: usize,
     ) -> Result<ParsedItems, Refusal>
         requires reads { R.reads_to self.now.reader self.now.depth }
-        ensures { GivesTrees text.now tokens.now self.now.depth result (lists.some text.now tokens.now (reading.expr text.now tokens.now self.now.depth) context close from) }
+        ensures { GivesTrees text.now tokens.now self.now.depth result
+            (lists.some text.now tokens.now (reading.expr text.now tokens.now self.now.depth)
+            context close from) }
     {
         let found = self.exprs(text, tokens, context, Between::Comma, from)?;
         if !is_kind(close, seen(tokens, context.column, found.end)) {
@@ -114,7 +120,9 @@ impl<R: ExpressionReader> Grammar<R> {
         requires reads { R.reads_to self.now.reader self.now.depth }
         requires within { from < length tokens.now }
         requires small { self.now.depth ≤ MAX_DEPTH }
-        ensures { Gives text.now tokens.now (self.now.depth + 1) result (lists.listing text.now tokens.now (reading.expr text.now tokens.now self.now.depth) context at brackets from) }
+        ensures { Gives text.now tokens.now (self.now.depth + 1) result
+            (lists.listing text.now tokens.now (reading.expr text.now tokens.now self.now.depth)
+            context at brackets from) }
     {
         let close = closing(brackets);
         if is_kind(close, seen(tokens, context.column, from + 1)) {
@@ -149,7 +157,9 @@ impl<R: ExpressionReader> Grammar<R> {
         requires reads { R.reads_to self.now.reader self.now.depth }
         requires within { from < length tokens.now }
         requires small { self.now.depth ≤ MAX_DEPTH }
-        ensures { Gives text.now tokens.now (self.now.depth + 1) result (reading.named text.now tokens.now (reading.expr text.now tokens.now self.now.depth) context t from) }
+        ensures { Gives text.now tokens.now (self.now.depth + 1) result
+            (reading.named text.now tokens.now (reading.expr text.now tokens.now self.now.depth)
+            context t from) }
     {
         let name = Written::of_token(self.alloc, text, t)?;
         if !is_kind(Kind::LeftParen, seen(tokens, context.column, from + 1)) {
@@ -174,7 +184,9 @@ impl<R: ExpressionReader> Grammar<R> {
         requires reads { R.reads_to self.now.reader self.now.depth }
         requires within { from < length tokens.now }
         requires small { self.now.depth ≤ MAX_DEPTH }
-        ensures { Gives text.now tokens.now (self.now.depth + 1) result (lists.paren text.now tokens.now (reading.expr text.now tokens.now self.now.depth) context at from) }
+        ensures { Gives text.now tokens.now (self.now.depth + 1) result
+            (lists.paren text.now tokens.now (reading.expr text.now tokens.now self.now.depth)
+            context at from) }
     {
         let e = self.inner(text, tokens, context, 0, from + 1)?;
         if !is_kind(Kind::RightParen, seen(tokens, context.column, e.end)) {
@@ -194,7 +206,10 @@ impl<R: ExpressionReader> Grammar<R> {
         front: ParsedPattern,
     ) -> Result<ParsedBinder, Refusal>
         requires { R.reads_to self.now.reader self.now.depth }
-        ensures { GivesGroup text.now tokens.now self.now.depth result (lists.set_behind text.now tokens.now (reading.expr text.now tokens.now self.now.depth) context (pattern_view front.pattern) front.end) }
+        ensures { GivesGroup text.now tokens.now self.now.depth result
+            (lists.set_behind text.now tokens.now
+            (reading.expr text.now tokens.now self.now.depth) context
+            (pattern_view front.pattern) front.end) }
     {
         if !is_kind(Kind::Member, seen(tokens, context.column, front.end)) {
             return Err(refused_binder(tokens, context.column, form, front.end));
@@ -220,7 +235,9 @@ impl<R: ExpressionReader> Grammar<R> {
     ) -> Result<ParsedBinder, Refusal>
         requires reads { R.reads_to self.now.reader self.now.depth }
         requires within { from ≤ length tokens.now }
-        ensures { GivesGroup text.now tokens.now self.now.depth result (lists.group text.now tokens.now (reading.expr text.now tokens.now self.now.depth) context from) }
+        ensures { GivesGroup text.now tokens.now self.now.depth result
+            (lists.group text.now tokens.now (reading.expr text.now tokens.now self.now.depth)
+            context from) }
     {
         let front = pattern(self.alloc, text, tokens, context.column, from)?;
         self.set_behind(text, tokens, context, form, front)
@@ -238,7 +255,9 @@ impl<R: ExpressionReader> Grammar<R> {
     ) -> Result<ParsedBinder, Refusal>
         requires reads { R.reads_to self.now.reader self.now.depth }
         requires within { from ≤ length tokens.now }
-        ensures { GivesGroup text.now tokens.now self.now.depth result (lists.one_group text.now tokens.now (reading.expr text.now tokens.now self.now.depth) context from) }
+        ensures { GivesGroup text.now tokens.now self.now.depth result
+            (lists.one_group text.now tokens.now (reading.expr text.now tokens.now self.now.depth)
+            context from) }
     {
         let front = single(self.alloc, text, tokens, context.column, from)?;
         self.set_behind(text, tokens, context, form, front)
@@ -256,7 +275,9 @@ impl<R: ExpressionReader> Grammar<R> {
     ) -> Result<ParsedBinders, Refusal>
         requires reads { R.reads_to self.now.reader self.now.depth }
         requires within { from ≤ length tokens.now }
-        ensures { GivesGroups text.now tokens.now self.now.depth result (lists.groups text.now tokens.now (reading.expr text.now tokens.now self.now.depth) (length tokens.now) [] context from) }
+        ensures { GivesGroups text.now tokens.now self.now.depth result
+            (lists.groups text.now tokens.now (reading.expr text.now tokens.now self.now.depth)
+            (length tokens.now) [] context from) }
     {
         let mut binders = Vec::new(self.alloc);
         let mut depth = 0;
@@ -292,7 +313,9 @@ impl<R: ExpressionReader> Grammar<R> {
         requires reads { R.reads_to self.now.reader self.now.depth }
         requires within { from < length tokens.now }
         requires small { self.now.depth ≤ MAX_DEPTH }
-        ensures { Gives text.now tokens.now (self.now.depth + 1) result (reading.junction text.now tokens.now (reading.expr text.now tokens.now self.now.depth) context at bullet from) }
+        ensures { Gives text.now tokens.now (self.now.depth + 1) result
+            (reading.junction text.now tokens.now
+            (reading.expr text.now tokens.now self.now.depth) context at bullet from) }
     {
         let items_context = context.of_items(at.column);
         let found = self.exprs(

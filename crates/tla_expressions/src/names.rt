@@ -26,7 +26,8 @@ pub fn names(
     from: usize,
 ) -> Result<ParsedNames, Refusal>
     requires { from ≤ length tokens.now }
-    ensures { GivesNames text.now tokens.now result (lists.names text.now tokens.now (length tokens.now) [] column from) }
+    ensures { GivesNames text.now tokens.now result
+        (lists.names text.now tokens.now (length tokens.now) [] column from) }
 {
     let mut names = Vec::new(alloc);
     let mut at = from;
@@ -54,7 +55,8 @@ pub fn parameters(
     from: usize,
 ) -> Result<ParsedNames, Refusal>
     requires { from ≤ length tokens.now }
-    ensures { GivesNames text.now tokens.now result (lists.names text.now tokens.now (length tokens.now) [] column from) }
+    ensures { GivesNames text.now tokens.now result
+        (lists.names text.now tokens.now (length tokens.now) [] column from) }
 {
     match names(alloc, text, tokens, column, from) {
         Err(Refusal::Unexpected(at)) => Err(refused_parameter(tokens, column, form, at)),
@@ -79,7 +81,8 @@ fn tuple_of_names(
     from: usize,
 ) -> Result<ParsedPattern, Refusal>
     requires { from ≤ length tokens.now }
-    ensures { GivesPattern text.now tokens.now result (lists.tuple_of_names text.now tokens.now column from) }
+    ensures { GivesPattern text.now tokens.now result
+        (lists.tuple_of_names text.now tokens.now column from) }
 {
     let found = names(alloc, text, tokens, column, from)?;
     if !is_kind(Kind::RightTuple, seen(tokens, column, found.end)) {
@@ -101,7 +104,8 @@ pub fn pattern(
     from: usize,
 ) -> Result<ParsedPattern, Refusal>
     requires { from ≤ length tokens.now }
-    ensures { GivesPattern text.now tokens.now result (lists.pattern text.now tokens.now column from) }
+    ensures { GivesPattern text.now tokens.now result
+        (lists.pattern text.now tokens.now column from) }
 {
     if is_kind(Kind::LeftTuple, seen(tokens, column, from)) {
         return tuple_of_names(alloc, text, tokens, column, from + 1);
@@ -123,7 +127,8 @@ pub fn single(
     from: usize,
 ) -> Result<ParsedPattern, Refusal>
     requires { from ≤ length tokens.now }
-    ensures { GivesPattern text.now tokens.now result (lists.single text.now tokens.now column from) }
+    ensures { GivesPattern text.now tokens.now result
+        (lists.single text.now tokens.now column from) }
 {
     if is_kind(Kind::LeftTuple, seen(tokens, column, from)) {
         return tuple_of_names(alloc, text, tokens, column, from + 1);

@@ -60,7 +60,9 @@ fn boxed(alloc: Global, tree: Expr) -> Result<Box<Expr>, Refusal>
 /// out.
 pub fn node(alloc: Global, tree: Expr, end: usize, depth: usize) -> Result<Parsed, Refusal>
     requires { depth ≡ edges.depth (view tree) }
-    ensures gives { (text : List ℕ) (tokens : List Token) (most : ℕ) → depth ≤ most → Gives text tokens most result (Ok (view tree, end)) }
+    ensures gives { (text : List ℕ) (tokens : List Token) (most : ℕ)
+        → depth ≤ most
+        → Gives text tokens most result (Ok (view tree, end)) }
     ensures err { IfErr result (λ e. e ≡ Refusal.NoMemory) }
 {
     let tree = boxed(alloc, tree)?;
@@ -163,7 +165,9 @@ pub fn quantified_of(
     groups: Vec<Binder>,
     body: Box<Expr>,
 ) -> Expr
-    ensures { view result ≡ tree.Quantified at quantifier (binders (map group_view groups.items)) (view body.value) }
+    ensures { view result
+        ≡ tree.Quantified at quantifier (binders (map group_view groups.items))
+        (view body.value) }
 {
     Expr::Quantified(at, quantifier, groups, body)
 }
@@ -175,31 +179,37 @@ pub fn case_of(at: Place, arms: Vec<Arm>) -> Expr
 }
 
 pub fn case_with_other(at: Place, arms: Vec<Arm>, value: Box<Expr>) -> Expr
-    ensures { view result ≡ tree.Case at (tree.arms (map choice_view arms.items)) (tree.other (view value.value)) }
+    ensures { view result
+        ≡ tree.Case at (tree.arms (map choice_view arms.items)) (tree.other (view value.value)) }
 {
     Expr::Case(at, arms, Some(value))
 }
 
 pub fn let_of(at: Place, definitions: Vec<Definition>, body: Box<Expr>) -> Expr
-    ensures { view result ≡ tree.Let at (tree.definitions (map definition_view definitions.items)) (view body.value) }
+    ensures { view result
+        ≡ tree.Let at (tree.definitions (map definition_view definitions.items))
+        (view body.value) }
 {
     Expr::Let(at, definitions, body)
 }
 
 pub fn function_of(name: Written, groups: Vec<Binder>, body: Box<Expr>) -> Definition
-    ensures { definition_view result ≡ tree.DefinesFunction name (binders (map group_view groups.items)) (view body.value) }
+    ensures { definition_view result
+        ≡ tree.DefinesFunction name (binders (map group_view groups.items)) (view body.value) }
 {
     Definition::Function(name, groups, Box::into_inner(body))
 }
 
 pub fn image_of(at: Place, element: Box<Expr>, groups: Vec<Binder>) -> Expr
-    ensures { view result ≡ tree.Image at (view element.value) (binders (map group_view groups.items)) }
+    ensures { view result
+        ≡ tree.Image at (view element.value) (binders (map group_view groups.items)) }
 {
     Expr::Image(at, element, groups)
 }
 
 pub fn mapping_of(at: Place, groups: Vec<Binder>, body: Box<Expr>) -> Expr
-    ensures { view result ≡ tree.Function at (binders (map group_view groups.items)) (view body.value) }
+    ensures { view result
+        ≡ tree.Function at (binders (map group_view groups.items)) (view body.value) }
 {
     Expr::Function(at, groups, body)
 }

@@ -27,7 +27,9 @@ impl<R: ExpressionReader> Grammar<R> {
         from: usize,
     ) -> Result<Parsed, Refusal>
         requires { R.reads_to self.now.reader self.now.depth }
-        ensures { Gives text.now tokens.now self.now.depth result (reading.factor text.now tokens.now (reading.expr text.now tokens.now self.now.depth) context from) }
+        ensures { Gives text.now tokens.now self.now.depth result
+            (reading.factor text.now tokens.now (reading.expr text.now tokens.now self.now.depth)
+            context from) }
     {
         let e = self.inner(text, tokens, context, high(Infix::Product), from)?;
         if is_kind(Kind::Product, seen(tokens, context.column, e.end))
@@ -50,7 +52,9 @@ impl<R: ExpressionReader> Grammar<R> {
         from: usize,
     ) -> Result<ParsedItems, Refusal>
         requires reads { R.reads_to self.now.reader self.now.depth }
-        ensures { GivesItems text.now tokens.now self.now.depth result (reading.factors text.now tokens.now (reading.expr text.now tokens.now self.now.depth) (length tokens.now) [] context from) }
+        ensures { GivesItems text.now tokens.now self.now.depth result
+            (reading.factors text.now tokens.now (reading.expr text.now tokens.now self.now.depth)
+            (length tokens.now) [] context from) }
     {
         let mut items = Vec::new(self.alloc);
         let mut depth = 0;
@@ -83,7 +87,9 @@ impl<R: ExpressionReader> Grammar<R> {
         requires depth { first.depth ≡ edges.depth (view first.tree.value) }
         requires shallow { first.depth ≤ self.now.depth + 1 }
         requires small { self.now.depth ≤ MAX_DEPTH }
-        ensures { Gives text.now tokens.now (self.now.depth + 1) result (reading.product text.now tokens.now (reading.expr text.now tokens.now self.now.depth) (self.now.depth + 1) context (view first.tree.value) first.end) }
+        ensures { Gives text.now tokens.now (self.now.depth + 1) result
+            (reading.product text.now tokens.now (reading.expr text.now tokens.now self.now.depth)
+            (self.now.depth + 1) context (view first.tree.value) first.end) }
     {
         if !edge_allows(first.tree.as_ref(), Infix::Product) {
             return Err(Refusal::Precedence(first.end));

@@ -76,7 +76,8 @@ pub fn key_of(arguments: Vec<Expr>) -> Key
 }
 
 pub fn except_of(at: Place, function: Box<Expr>, updates: Vec<Update>) -> Expr
-    ensures { view result ≡ tree.Except at (view function.value) (tree.updates (map update_view updates.items)) }
+    ensures { view result
+        ≡ tree.Except at (view function.value) (tree.updates (map update_view updates.items)) }
 {
     Expr::Except(at, function, updates)
 }

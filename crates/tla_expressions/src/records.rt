@@ -34,7 +34,9 @@ impl<R: ExpressionReader> Grammar<R> {
         from: usize,
     ) -> Result<ParsedField, Refusal>
         requires reads { R.reads_to self.now.reader self.now.depth }
-        ensures { GivesField text.now tokens.now self.now.depth result (reading.entry text.now tokens.now (expr text.now tokens.now self.now.depth) context mark from) }
+        ensures { GivesField text.now tokens.now self.now.depth result
+            (reading.entry text.now tokens.now (expr text.now tokens.now self.now.depth) context
+            mark from) }
     {
         let Some(name) = name_at(seen(tokens, context.column, from)) else {
             return Err(refused(tokens, context.column, from));
@@ -65,7 +67,9 @@ impl<R: ExpressionReader> Grammar<R> {
         from: usize,
     ) -> Result<ParsedFields, Refusal>
         requires reads { R.reads_to self.now.reader self.now.depth }
-        ensures { GivesFields text.now tokens.now self.now.depth result (reading.entries text.now tokens.now (expr text.now tokens.now self.now.depth) (length tokens.now) [] context mark from) }
+        ensures { GivesFields text.now tokens.now self.now.depth result
+            (reading.entries text.now tokens.now (expr text.now tokens.now self.now.depth)
+            (length tokens.now) [] context mark from) }
     {
         let mut fields = Vec::new(self.alloc);
         let mut depth = 0;
@@ -96,7 +100,9 @@ impl<R: ExpressionReader> Grammar<R> {
         requires reads { R.reads_to self.now.reader self.now.depth }
         requires within { from < length tokens.now }
         requires small { self.now.depth ≤ MAX_DEPTH }
-        ensures { Gives text.now tokens.now (self.now.depth + 1) result (reading.record_of text.now tokens.now (expr text.now tokens.now self.now.depth) context at from) }
+        ensures { Gives text.now tokens.now (self.now.depth + 1) result
+            (reading.record_of text.now tokens.now (expr text.now tokens.now self.now.depth)
+            context at from) }
     {
         let found = self.entries(text, tokens, context, Kind::MapsTo, from + 1)?;
         if !is_kind(Kind::RightBracket, seen(tokens, context.column, found.end)) {
@@ -120,7 +126,9 @@ impl<R: ExpressionReader> Grammar<R> {
         requires reads { R.reads_to self.now.reader self.now.depth }
         requires within { from < length tokens.now }
         requires small { self.now.depth ≤ MAX_DEPTH }
-        ensures { Gives text.now tokens.now (self.now.depth + 1) result (reading.records_of text.now tokens.now (expr text.now tokens.now self.now.depth) context at from) }
+        ensures { Gives text.now tokens.now (self.now.depth + 1) result
+            (reading.records_of text.now tokens.now (expr text.now tokens.now self.now.depth)
+            context at from) }
     {
         let found = self.entries(text, tokens, context, Kind::Colon, from + 1)?;
         if !is_kind(Kind::RightBracket, seen(tokens, context.column, found.end)) {
@@ -141,7 +149,9 @@ impl<R: ExpressionReader> Grammar<R> {
         from: usize,
     ) -> Result<ParsedKey, Refusal>
         requires reads { R.reads_to self.now.reader self.now.depth }
-        ensures { GivesKey text.now tokens.now self.now.depth result (reading.key_at text.now tokens.now (expr text.now tokens.now self.now.depth) context from) }
+        ensures { GivesKey text.now tokens.now self.now.depth result
+            (reading.key_at text.now tokens.now (expr text.now tokens.now self.now.depth) context
+            from) }
     {
         if is_kind(Kind::LeftBracket, seen(tokens, context.column, from)) {
             let found = self.some(text, tokens, context, Kind::RightBracket, from + 1)?;
@@ -176,7 +186,9 @@ impl<R: ExpressionReader> Grammar<R> {
         from: usize,
     ) -> Result<ParsedKeys, Refusal>
         requires reads { R.reads_to self.now.reader self.now.depth }
-        ensures { GivesKeys text.now tokens.now self.now.depth result (reading.path text.now tokens.now (expr text.now tokens.now self.now.depth) (length tokens.now) [] context from) }
+        ensures { GivesKeys text.now tokens.now self.now.depth result
+            (reading.path text.now tokens.now (expr text.now tokens.now self.now.depth)
+            (length tokens.now) [] context from) }
     {
         let mut keys = Vec::new(self.alloc);
         let mut depth = 0;
@@ -204,7 +216,9 @@ impl<R: ExpressionReader> Grammar<R> {
         from: usize,
     ) -> Result<ParsedUpdate, Refusal>
         requires reads { R.reads_to self.now.reader self.now.depth }
-        ensures { GivesUpdate text.now tokens.now self.now.depth result (reading.change text.now tokens.now (expr text.now tokens.now self.now.depth) context from) }
+        ensures { GivesUpdate text.now tokens.now self.now.depth result
+            (reading.change text.now tokens.now (expr text.now tokens.now self.now.depth) context
+            from) }
     {
         if !is_kind(Kind::Bang, seen(tokens, context.column, from)) {
             return Err(refused(tokens, context.column, from));
@@ -238,7 +252,9 @@ impl<R: ExpressionReader> Grammar<R> {
         from: usize,
     ) -> Result<ParsedUpdates, Refusal>
         requires reads { R.reads_to self.now.reader self.now.depth }
-        ensures { GivesUpdates text.now tokens.now self.now.depth result (reading.changes text.now tokens.now (expr text.now tokens.now self.now.depth) (length tokens.now) [] context from) }
+        ensures { GivesUpdates text.now tokens.now self.now.depth result
+            (reading.changes text.now tokens.now (expr text.now tokens.now self.now.depth)
+            (length tokens.now) [] context from) }
     {
         let mut updates = Vec::new(self.alloc);
         let mut depth = 0;
@@ -275,7 +291,9 @@ impl<R: ExpressionReader> Grammar<R> {
         requires depth { first.depth ≡ edges.depth (view first.tree.value) }
         requires shallow { first.depth ≤ self.now.depth }
         requires small { self.now.depth ≤ MAX_DEPTH }
-        ensures { Gives text.now tokens.now (self.now.depth + 1) result (reading.except text.now tokens.now (expr text.now tokens.now self.now.depth) context at (view first.tree.value) first.end) }
+        ensures { Gives text.now tokens.now (self.now.depth + 1) result
+            (reading.except text.now tokens.now (expr text.now tokens.now self.now.depth) context
+            at (view first.tree.value) first.end) }
     {
         let found = self.changes(text, tokens, context, first.end + 1)?;
         if !is_kind(Kind::RightBracket, seen(tokens, context.column, found.end)) {

@@ -34,7 +34,11 @@ fn place_of(place: tla_core::Place) -> Place {
 
 /// A refusal of a formula that begins at this place: its level is too high, or it is too large.
 pub fn refusal(failure: Failure, begins: Place) -> DefsError
-    ensures formula { (o : Option expr.Expr) (k : prime.Primes) → ((p : fault.Place) → failure ≡ Failure.NoExpansion p → with_primes k o ≡ None) → (failure ≡ Failure.TooLarge → (x : expr.Expr) → o ≡ Some x → IsWithinLimits x → ⊥) → result.code ≢ Memory → refused.IsOfFormula o k result }
+    ensures formula { (o : Option expr.Expr) (k : prime.Primes)
+        → ((p : fault.Place) → failure ≡ Failure.NoExpansion p → with_primes k o ≡ None)
+        → (failure ≡ Failure.TooLarge → (x : expr.Expr) → o ≡ Some x → IsWithinLimits x → ⊥)
+        → result.code ≢ Memory
+        → refused.IsOfFormula o k result }
     ensures memory { failure ≡ Failure.Memory → result.code ≡ Memory }
 {
     match failure {
@@ -53,9 +57,16 @@ pub fn initial(
     scopes: &Scopes<'_>,
     name: &Written,
 ) -> Result<Core, DefsError>
-    ensures found { IfOk result (λ c. formulas.IsInitial (scope_of scopes.now) (Name name.now) (expr_of c)) }
-    ensures formula { IfErr result (λ e. e.code ≢ Memory → refused.IsOfFormula (expand (Name name.now) (scope_of scopes.now) 0) read.Once e) }
-    ensures none { IfErr result (λ e. e.code ≢ Memory → (x : expr.Expr) → formulas.IsInitial (scope_of scopes.now) (Name name.now) x → ⊥) }
+    ensures found { IfOk result (λ c.
+        formulas.IsInitial (scope_of scopes.now) (Name name.now) (expr_of c)) }
+    ensures formula { IfErr result (λ e.
+        e.code ≢ Memory
+        → refused.IsOfFormula (expand (Name name.now) (scope_of scopes.now) 0) read.Once e) }
+    ensures none { IfErr result (λ e.
+        e.code ≢ Memory
+        → (x : expr.Expr)
+        → formulas.IsInitial (scope_of scopes.now) (Name name.now) x
+        → ⊥) }
 {
     match scopes.meaning(alloc, name, Primes::Once) {
         Ok(core) => Ok(core),
@@ -70,9 +81,16 @@ pub fn action(
     scopes: &Scopes<'_>,
     name: &Written,
 ) -> Result<Core, DefsError>
-    ensures found { IfOk result (λ c. formulas.IsAction (scope_of scopes.now) (Name name.now) (expr_of c)) }
-    ensures formula { IfErr result (λ e. e.code ≢ Memory → refused.IsOfFormula (expand (Name name.now) (scope_of scopes.now) 0) read.Never e) }
-    ensures none { IfErr result (λ e. e.code ≢ Memory → (x : expr.Expr) → formulas.IsAction (scope_of scopes.now) (Name name.now) x → ⊥) }
+    ensures found { IfOk result (λ c.
+        formulas.IsAction (scope_of scopes.now) (Name name.now) (expr_of c)) }
+    ensures formula { IfErr result (λ e.
+        e.code ≢ Memory
+        → refused.IsOfFormula (expand (Name name.now) (scope_of scopes.now) 0) read.Never e) }
+    ensures none { IfErr result (λ e.
+        e.code ≢ Memory
+        → (x : expr.Expr)
+        → formulas.IsAction (scope_of scopes.now) (Name name.now) x
+        → ⊥) }
 {
     match scopes.meaning(alloc, name, Primes::Never) {
         Ok(core) => Ok(core),
@@ -88,9 +106,17 @@ pub fn state_predicate(
     scopes: &Scopes<'_>,
     name: &Written,
 ) -> Result<Core, DefsError>
-    ensures found { IfOk result (λ c. formulas.IsStatePredicate (scope_of scopes.now) name.now (expr_of c)) }
-    ensures formula { IfErr result (λ e. e.code ≢ Memory → refused.IsOfFormula (formulas.meaning_in (scope_of scopes.now) name.now) read.Once e) }
-    ensures none { IfErr result (λ e. e.code ≢ Memory → (x : expr.Expr) → formulas.IsStatePredicate (scope_of scopes.now) name.now x → ⊥) }
+    ensures found { IfOk result (λ c.
+        formulas.IsStatePredicate (scope_of scopes.now) name.now (expr_of c)) }
+    ensures formula { IfErr result (λ e.
+        e.code ≢ Memory
+        → refused.IsOfFormula (formulas.meaning_in (scope_of scopes.now) name.now) read.Once
+        e) }
+    ensures none { IfErr result (λ e.
+        e.code ≢ Memory
+        → (x : expr.Expr)
+        → formulas.IsStatePredicate (scope_of scopes.now) name.now x
+        → ⊥) }
 {
     let over_next = initial(alloc, places, scopes, name)?;
     drop(over_next);
@@ -99,9 +125,17 @@ pub fn state_predicate(
 
 /// An assumption. A formula is of constant level if it can be read with two primes.
 pub fn assumption<'a>(alloc: Global, scopes: &Scopes<'a>, tree: &'a Expr) -> Result<Core, DefsError>
-    ensures found { IfOk result (λ c. formulas.IsAssumption (scope_of scopes.now) (view tree.entry.now) (expr_of c)) }
-    ensures formula { IfErr result (λ e. e.code ≢ Memory → refused.IsOfFormula (expand (view tree.entry.now) (scope_of scopes.now) 0) read.Twice e) }
-    ensures none { IfErr result (λ e. e.code ≢ Memory → (x : expr.Expr) → formulas.IsAssumption (scope_of scopes.now) (view tree.entry.now) x → ⊥) }
+    ensures found { IfOk result (λ c.
+        formulas.IsAssumption (scope_of scopes.now) (view tree.entry.now) (expr_of c)) }
+    ensures formula { IfErr result (λ e.
+        e.code ≢ Memory
+        → refused.IsOfFormula (expand (view tree.entry.now) (scope_of scopes.now) 0) read.Twice
+        e) }
+    ensures none { IfErr result (λ e.
+        e.code ≢ Memory
+        → (x : expr.Expr)
+        → formulas.IsAssumption (scope_of scopes.now) (view tree.entry.now) x
+        → ⊥) }
 {
     match scopes.expansion(alloc, tree, Primes::Twice) {
         Ok(core) => Ok(core),

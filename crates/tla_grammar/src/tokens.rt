@@ -413,7 +413,9 @@ fn parameter_end(tokens: &[Token], column: u128, at: usize) -> Option<usize>
 
 /// Whether `Op(` is here, right of the column.
 fn opens_parameters(tokens: &[Token], column: u128, from: usize) -> bool
-    ensures is { IsTrue result → spec.KindAt tokens.now from Kind.Name × spec.KindAt tokens.now (from + 1) Kind.LeftParen }
+    ensures is { IsTrue result
+        → spec.KindAt tokens.now from Kind.Name
+        × spec.KindAt tokens.now (from + 1) Kind.LeftParen }
     ensures within { IsTrue result → from + 2 ≤ length tokens.now }
 {
     is_kind(Kind::Name, seen(tokens, column, from))

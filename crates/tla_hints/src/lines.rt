@@ -5,8 +5,10 @@ ghost use Rattle.tla_hints.specs.Lines.{BeginsAt, feeds_before, is_line_feed, li
 
 /// The line of this number, from 1, without its line feed; none where the text has fewer lines.
 pub fn line_of(text: &[u8], number: u64) -> Option<&[u8]>
-    ensures line { IfSome result (λ line. (at : ℕ) × BeginsAt text.now number at × (line.now ≡ line_at text.now at)) }
-    ensures none { IfNone result ((number ≡ 0) ⊎ (feeds_before text.now (length text.now) + 1 < number)) }
+    ensures line { IfSome result (λ line.
+        (at : ℕ) × BeginsAt text.now number at × (line.now ≡ line_at text.now at)) }
+    ensures none { IfNone result
+        ((number ≡ 0) ⊎ (feeds_before text.now (length text.now) + 1 < number)) }
 {
     let start = start_of(text, number)?;
     let rest = &text[start..];
@@ -16,7 +18,8 @@ pub fn line_of(text: &[u8], number: u64) -> Option<&[u8]>
 /// Where the line of this number begins.
 fn start_of(text: &[u8], number: u64) -> Option<usize>
     ensures start { IfSome result (BeginsAt text.now number) }
-    ensures none { IfNone result ((number ≡ 0) ⊎ (feeds_before text.now (length text.now) + 1 < number)) }
+    ensures none { IfNone result
+        ((number ≡ 0) ⊎ (feeds_before text.now (length text.now) + 1 < number)) }
 {
     if number == 0 {
         return None;

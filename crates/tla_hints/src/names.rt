@@ -16,9 +16,17 @@ pub struct Near {
 /// The first of the nearest names of a list, by the number of edits, or None if the list is empty. The only error is
 /// that memory ran out.
 pub fn nearest(alloc: Global, name: &str, known: &[&str]) -> Result<Option<Near>, AllocError>
-    ensures one { IfOk result (λ o. MatchOption o (length known.now ≡ 0) (λ near. near.index < length known.now)) }
-    ensures distance { IfOk result (λ o. MatchOption o (length known.now ≡ 0) (λ near. (d : Bor (List ℕ)) → near.distance ≡ distance name.now (slice_index_or known.now near.index d).now)) }
-    ensures none_nearer { IfOk result (λ o. MatchOption o (length known.now ≡ 0) (λ near. (k : ℕ) (d : Bor (List ℕ)) → k < length known.now → near.distance ≤ distance name.now (slice_index_or known.now k d).now)) }
+    ensures one { IfOk result (λ o.
+        MatchOption o (length known.now ≡ 0) (λ near. near.index < length known.now)) }
+    ensures distance { IfOk result (λ o.
+        MatchOption o (length known.now ≡ 0) (λ near.
+        (d : Bor (List ℕ))
+        → near.distance ≡ distance name.now (slice_index_or known.now near.index d).now)) }
+    ensures none_nearer { IfOk result (λ o.
+        MatchOption o (length known.now ≡ 0) (λ near.
+        (k : ℕ) (d : Bor (List ℕ))
+        → k < length known.now
+        → near.distance ≤ distance name.now (slice_index_or known.now k d).now)) }
 {
     let mut best: Option<Near> = None;
     for (index, other) in known.iter().enumerate() {

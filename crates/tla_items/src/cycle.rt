@@ -24,7 +24,8 @@ fn push_next<'a>(
     names: &mut Waiting<'a>,
     name: &'a Word,
 ) -> Result<(), DefsError>
-    ensures ok { OnOk result (names.new ≡ names.old ++ spec.next_names references.now name.entry.now) }
+    ensures ok { OnOk result
+        (names.new ≡ names.old ++ spec.next_names references.now name.entry.now) }
     ensures err { IfErr result (λ e. e.code ≡ Memory) }
 {
     match references.next(name.as_bytes()) {
@@ -46,8 +47,12 @@ fn go_on<'a>(
     walk: &mut Walk<'a>,
     name: &'a Word,
 ) -> Result<(), DefsError>
-    ensures ok { OnOk result (GoesOn references.now name.entry.now walk.old.passed walk.old.waiting walk.new.passed walk.new.waiting) }
-    ensures less { OnOk result (due references.now walk.new.passed + length walk.new.waiting ≤ due references.now walk.old.passed + length walk.old.waiting) }
+    ensures ok { OnOk result
+        (GoesOn references.now name.entry.now walk.old.passed walk.old.waiting walk.new.passed
+        walk.new.waiting) }
+    ensures less { OnOk result
+        (due references.now walk.new.passed + length walk.new.waiting
+        ≤ due references.now walk.old.passed + length walk.old.waiting) }
     ensures err { IfErr result (λ e. e.code ≡ Memory) }
 {
     if !walk.passed.insert(name.as_bytes())? {
@@ -62,7 +67,8 @@ fn reached<'a>(
     references: &References<'a>,
     from: &'a Word,
 ) -> Result<NameSet<'a>, DefsError>
-    ensures start { IfOk result (λ ys. AreAmong (spec.next_names references.now from.entry.now) ys) }
+    ensures start { IfOk result (λ ys.
+        AreAmong (spec.next_names references.now from.entry.now) ys) }
     ensures led { IfOk result (λ ys. AreLed references.now from.entry.now ys) }
     ensures covers { IfOk result (λ ys. Covers references.now ys ys) }
     ensures err { IfErr result (λ e. e.code ≡ Memory) }
@@ -217,8 +223,11 @@ fn each_straight<'a>(
 
 /// Checks that no item leads back to its name in this module; or returns the first that does.
 pub fn straight<'a>(alloc: Global, units: &'a [Unit], items: &Items<'a>) -> Result<(), DefsError>
-    ensures ok { OnOk result (AreStraight (spec.references (map unit_view units.entry.now) items.now) items.now) }
-    ensures err { IfErr result (λ e. e.code ≢ Memory → IsOfCycle (spec.references (map unit_view units.entry.now) items.now) items.now e) }
+    ensures ok { OnOk result
+        (AreStraight (spec.references (map unit_view units.entry.now) items.now) items.now) }
+    ensures err { IfErr result (λ e.
+        e.code ≢ Memory
+        → IsOfCycle (spec.references (map unit_view units.entry.now) items.now) items.now e) }
 {
     let references = References::of(alloc, units, items)?;
     each_straight(alloc, &references, items)

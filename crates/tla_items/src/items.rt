@@ -84,7 +84,8 @@ impl<'a> Items<'a> {
 
     /// Adds the items of one statement. The only error is that memory ran out.
     fn push_of(&mut self, statement: &'a Statement) -> Result<(), DefsError>
-        ensures ok { OnOk result (self.new ≡ self.old ++ config.constant_items (statement_view statement.entry.now)) }
+        ensures ok { OnOk result
+            (self.new ≡ self.old ++ config.constant_items (statement_view statement.entry.now)) }
         ensures err { IfErr result (λ e. e.code ≡ Memory) }
     {
         match statement {
@@ -100,7 +101,8 @@ impl<'a> Items<'a> {
 
     /// The items of a configuration. The only error is that memory ran out.
     pub fn of(alloc: Global, statements: &'a [Statement]) -> Result<Items<'a>, DefsError>
-        ensures ok { IfOk result (λ is. is ≡ config.items_of (map statement_view statements.entry.now)) }
+        ensures ok { IfOk result (λ is.
+            is ≡ config.items_of (map statement_view statements.entry.now)) }
         ensures err { IfErr result (λ e. e.code ≡ Memory) }
     {
         let mut items = Items {
@@ -134,7 +136,8 @@ impl<'a> Items<'a> {
 
     /// The name that a name means: Op, if it has an item `c <- Op`. None if it has a value.
     pub fn stands_for<'n>(&'n self, name: &'n [u8]) -> Option<&'n [u8]>
-        ensures { option_map (λ (w : Bor (List ℕ)). w.now) result ≡ spec.stands_for self.entry.now name.entry.now }
+        ensures { option_map (λ (w : Bor (List ℕ)). w.now) result
+            ≡ spec.stands_for self.entry.now name.entry.now }
     {
         let mut word = name;
         let mut left = self.list.len();
@@ -184,7 +187,8 @@ pub fn name_of<'a>(definition: &'a Definition) -> &'a Word
 
 /// What a definition brings in.
 fn push_definition<'a>(scope: &mut Scope<'a>, definition: &'a Definition) -> Result<(), DefsError>
-    ensures ok { OnOk result (scope.new ≡ scope.old ++ signature (definition_view definition.entry.now) ∷ []) }
+    ensures ok { OnOk result
+        (scope.new ≡ scope.old ++ signature (definition_view definition.entry.now) ∷ []) }
     ensures err { IfErr result (λ e. e.code ≡ Memory) }
 {
     match definition {
@@ -232,7 +236,8 @@ pub fn definitions_of<'a>(alloc: Global, units: &'a [Unit]) -> Result<Scope<'a>,
 
 /// Adds the names that a unit brings into scope: by EXTENDS, a declaration or a definition.
 pub(crate) fn push_brought<'a>(scope: &mut Scope<'a>, unit: &'a Unit) -> Result<(), DefsError>
-    ensures ok { OnOk result (scope.new ≡ scope.old ++ references.brings (unit_view unit.entry.now)) }
+    ensures ok { OnOk result
+        (scope.new ≡ scope.old ++ references.brings (unit_view unit.entry.now)) }
     ensures err { IfErr result (λ e. e.code ≡ Memory) }
 {
     match unit {
@@ -245,7 +250,8 @@ pub(crate) fn push_brought<'a>(scope: &mut Scope<'a>, unit: &'a Unit) -> Result<
 
 /// Adds the names of a unit that may have an item.
 fn push_replaceable<'a>(scope: &mut Scope<'a>, unit: &'a Unit) -> Result<(), DefsError>
-    ensures ok { OnOk result (scope.new ≡ scope.old ++ spec.replaceable (unit_view unit.entry.now)) }
+    ensures ok { OnOk result
+        (scope.new ≡ scope.old ++ spec.replaceable (unit_view unit.entry.now)) }
     ensures err { IfErr result (λ e. e.code ≡ Memory) }
 {
     match unit {
@@ -308,7 +314,9 @@ fn value_named(
     before: &Names<'_>,
     name: &Written,
 ) -> Result<(), DefsError>
-    ensures { (v : value.Tree) (μ : scopes.Scope) → Says Source.Configuration result (spec.item_misused values.now μ before.now (config.Value name.now v)) }
+    ensures { (v : value.Tree) (μ : scopes.Scope)
+        → Says Source.Configuration result
+        (spec.item_misused values.now μ before.now (config.Value name.now v)) }
 {
     let Some(arity) = values.arity(name.word.as_bytes()) else {
         return Err(refused(alloc, DefsCode::UnknownName, name));
@@ -330,7 +338,10 @@ fn replacement_named(
     name: &Written,
     operator: &Written,
 ) -> Result<(), DefsError>
-    ensures { (δ : scopes.Scope) → Says Source.Configuration result (spec.item_misused δ operators.now before.now (config.Replaces name.now operator.now)) }
+    ensures { (δ : scopes.Scope)
+        → Says Source.Configuration result
+        (spec.item_misused δ operators.now before.now
+        (config.Replaces name.now operator.now)) }
 {
     let Some(arity) = operators.arity(name.word.as_bytes()) else {
         return Err(refused(alloc, DefsCode::UnknownName, name));
@@ -355,7 +366,8 @@ fn item_named(
     before: &Names<'_>,
     item: &Item,
 ) -> Result<(), DefsError>
-    ensures { Says Source.Configuration result (spec.item_misused values.now operators.now before.now (item_view item.now)) }
+    ensures { Says Source.Configuration result
+        (spec.item_misused values.now operators.now before.now (item_view item.now)) }
 {
     match item {
         Item::Value(name, _) => value_named(alloc, values, before, name),
@@ -372,7 +384,8 @@ fn each_named(
     operators: &Scope<'_>,
     items: &Items<'_>,
 ) -> Result<(), DefsError>
-    ensures { Says Source.Configuration result (spec.items_misused values.now operators.now [] items.now) }
+    ensures { Says Source.Configuration result
+        (spec.items_misused values.now operators.now [] items.now) }
 {
     let mut before = Names::new(alloc);
     let mut left = items.list();
@@ -386,7 +399,9 @@ fn each_named(
 
 /// Checks the names of items: each is known, has one item, and takes no argument or as many as its operator.
 fn items_named(alloc: Global, units: &[Unit], items: &Items<'_>) -> Result<(), DefsError>
-    ensures { Says Source.Configuration result (spec.items_misused (spec.replaceable_of (map unit_view units.now)) (spec.nameable_of (map unit_view units.now)) [] items.now) }
+    ensures { Says Source.Configuration result
+        (spec.items_misused (spec.replaceable_of (map unit_view units.now))
+        (spec.nameable_of (map unit_view units.now)) [] items.now) }
 {
     let values = replaceable_of(alloc, units)?;
     let operators = nameable_of(alloc, units)?;
@@ -396,9 +411,14 @@ fn items_named(alloc: Global, units: &[Unit], items: &Items<'_>) -> Result<(), D
 /// Checks that items are for constants and definitions that may have them, and that each constant has a value. Else
 /// returns the first misuse of a name in the items, or else the first constant without an item.
 pub fn valued(alloc: Global, units: &[Unit], items: &Items<'_>) -> Result<(), DefsError>
-    ensures given { OnOk result (spec.items_misused (spec.replaceable_of (map unit_view units.now)) (spec.nameable_of (map unit_view units.now)) [] items.now ≡ None) }
-    ensures valued { OnOk result (constants.unvalued (spec.replaced_names items.now) (map unit_view units.now) ≡ None) }
-    ensures err { IfErr result (λ e. e.code ≢ Memory → items_refused (map unit_view units.now) items.now ≡ Some e) }
+    ensures given { OnOk result
+        (spec.items_misused (spec.replaceable_of (map unit_view units.now))
+        (spec.nameable_of (map unit_view units.now)) [] items.now
+        ≡ None) }
+    ensures valued { OnOk result
+        (constants.unvalued (spec.replaced_names items.now) (map unit_view units.now) ≡ None) }
+    ensures err { IfErr result (λ e.
+        e.code ≢ Memory → items_refused (map unit_view units.now) items.now ≡ Some e) }
 {
     items_named(alloc, units, items)?;
     let replaced = items.names(alloc)?;

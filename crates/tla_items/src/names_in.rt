@@ -69,7 +69,11 @@ fn first_and<'a>(
     first: &'a Expr,
     others: &'a [Expr],
 ) -> Result<(), DefsError>
-    ensures ok { OnOk result (names.new ≡ names.old ++ (references.names_in (view first.entry.now) ++ references.names_each (trees (map view others.entry.now)))) }
+    ensures ok { OnOk result
+        (names.new
+        ≡ names.old
+        ++ (references.names_in (view first.entry.now)
+        ++ references.names_each (trees (map view others.entry.now)))) }
     ensures err { IfErr result (λ e. e.code ≡ Memory) }
 {
     expression(names, first)?;
@@ -79,7 +83,11 @@ fn first_and<'a>(
 /// Adds the names of a binder list's sets and of a body.
 #[cycle(names_in)]
 fn bound<'a>(names: &mut Names<'a>, groups: &'a [Binder], body: &'a Expr) -> Result<(), DefsError>
-    ensures ok { OnOk result (names.new ≡ names.old ++ (references.names_sets (binders (map group_view groups.entry.now)) ++ references.names_in (view body.entry.now))) }
+    ensures ok { OnOk result
+        (names.new
+        ≡ names.old
+        ++ (references.names_sets (binders (map group_view groups.entry.now))
+        ++ references.names_in (view body.entry.now))) }
     ensures err { IfErr result (λ e. e.code ≡ Memory) }
 {
     each_set(names, groups)?;
@@ -93,7 +101,12 @@ fn within<'a>(
     items: &'a [Definition],
     body: &'a Expr,
 ) -> Result<(), DefsError>
-    ensures ok { OnOk result (names.new ≡ names.old ++ (references.names_definitions (definitions (map definition_view items.entry.now)) ++ references.names_in (view body.entry.now))) }
+    ensures ok { OnOk result
+        (names.new
+        ≡ names.old
+        ++ (references.names_definitions
+        (definitions (map definition_view items.entry.now))
+        ++ references.names_in (view body.entry.now))) }
     ensures err { IfErr result (λ e. e.code ≡ Memory) }
 {
     each_definition(names, items)?;
@@ -107,7 +120,11 @@ fn except<'a>(
     function: &'a Expr,
     items: &'a [Update],
 ) -> Result<(), DefsError>
-    ensures ok { OnOk result (names.new ≡ names.old ++ (references.names_in (view function.entry.now) ++ references.names_updates (updates (map update_view items.entry.now)))) }
+    ensures ok { OnOk result
+        (names.new
+        ≡ names.old
+        ++ (references.names_in (view function.entry.now)
+        ++ references.names_updates (updates (map update_view items.entry.now)))) }
     ensures err { IfErr result (λ e. e.code ≡ Memory) }
 {
     expression(names, function)?;
@@ -117,7 +134,8 @@ fn except<'a>(
 /// Adds the names of expressions.
 #[cycle(names_in)]
 fn each<'a>(names: &mut Names<'a>, items: &'a [Expr]) -> Result<(), DefsError>
-    ensures ok { OnOk result (names.new ≡ names.old ++ references.names_each (trees (map view items.entry.now))) }
+    ensures ok { OnOk result
+        (names.new ≡ names.old ++ references.names_each (trees (map view items.entry.now))) }
     ensures err { IfErr result (λ e. e.code ≡ Memory) }
 {
     let mut left = items;
@@ -131,7 +149,9 @@ fn each<'a>(names: &mut Names<'a>, items: &'a [Expr]) -> Result<(), DefsError>
 /// Adds the names of the sets of a binder list.
 #[cycle(names_in)]
 fn each_set<'a>(names: &mut Names<'a>, items: &'a [Binder]) -> Result<(), DefsError>
-    ensures ok { OnOk result (names.new ≡ names.old ++ references.names_sets (binders (map group_view items.entry.now))) }
+    ensures ok { OnOk result
+        (names.new
+        ≡ names.old ++ references.names_sets (binders (map group_view items.entry.now))) }
     ensures err { IfErr result (λ e. e.code ≡ Memory) }
 {
     let mut left = items;
@@ -145,7 +165,9 @@ fn each_set<'a>(names: &mut Names<'a>, items: &'a [Binder]) -> Result<(), DefsEr
 /// Adds the names of arms.
 #[cycle(names_in)]
 fn each_arm<'a>(names: &mut Names<'a>, items: &'a [Arm]) -> Result<(), DefsError>
-    ensures ok { OnOk result (names.new ≡ names.old ++ references.names_arms (arms (map choice_view items.entry.now))) }
+    ensures ok { OnOk result
+        (names.new
+        ≡ names.old ++ references.names_arms (arms (map choice_view items.entry.now))) }
     ensures err { IfErr result (λ e. e.code ≡ Memory) }
 {
     let mut left = items;
@@ -160,7 +182,9 @@ fn each_arm<'a>(names: &mut Names<'a>, items: &'a [Arm]) -> Result<(), DefsError
 /// Adds the names of fields' values.
 #[cycle(names_in)]
 fn each_field<'a>(names: &mut Names<'a>, items: &'a [Field]) -> Result<(), DefsError>
-    ensures ok { OnOk result (names.new ≡ names.old ++ references.names_fields (fields (map field_view items.entry.now))) }
+    ensures ok { OnOk result
+        (names.new
+        ≡ names.old ++ references.names_fields (fields (map field_view items.entry.now))) }
     ensures err { IfErr result (λ e. e.code ≡ Memory) }
 {
     let mut left = items;
@@ -174,7 +198,9 @@ fn each_field<'a>(names: &mut Names<'a>, items: &'a [Field]) -> Result<(), DefsE
 /// Adds the names of updates.
 #[cycle(names_in)]
 fn each_update<'a>(names: &mut Names<'a>, items: &'a [Update]) -> Result<(), DefsError>
-    ensures ok { OnOk result (names.new ≡ names.old ++ references.names_updates (updates (map update_view items.entry.now))) }
+    ensures ok { OnOk result
+        (names.new
+        ≡ names.old ++ references.names_updates (updates (map update_view items.entry.now))) }
     ensures err { IfErr result (λ e. e.code ≡ Memory) }
 {
     let mut left = items;
@@ -189,7 +215,8 @@ fn each_update<'a>(names: &mut Names<'a>, items: &'a [Update]) -> Result<(), Def
 /// Adds the names of a step of a path.
 #[cycle(names_in)]
 fn one_key<'a>(names: &mut Names<'a>, key: &'a Key) -> Result<(), DefsError>
-    ensures ok { OnOk result (names.new ≡ names.old ++ references.names_key (key_view key.entry.now)) }
+    ensures ok { OnOk result
+        (names.new ≡ names.old ++ references.names_key (key_view key.entry.now)) }
     ensures err { IfErr result (λ e. e.code ≡ Memory) }
 {
     match key {
@@ -201,7 +228,8 @@ fn one_key<'a>(names: &mut Names<'a>, key: &'a Key) -> Result<(), DefsError>
 /// Adds the names of a path.
 #[cycle(names_in)]
 fn path<'a>(names: &mut Names<'a>, items: &'a [Key]) -> Result<(), DefsError>
-    ensures ok { OnOk result (names.new ≡ names.old ++ references.names_keys (keys (map key_view items.entry.now))) }
+    ensures ok { OnOk result
+        (names.new ≡ names.old ++ references.names_keys (keys (map key_view items.entry.now))) }
     ensures err { IfErr result (λ e. e.code ≡ Memory) }
 {
     let mut left = items;
@@ -218,7 +246,9 @@ pub(crate) fn definition<'a>(
     names: &mut Names<'a>,
     definition: &'a Definition,
 ) -> Result<(), DefsError>
-    ensures ok { OnOk result (names.new ≡ names.old ++ references.names_definition (definition_view definition.entry.now)) }
+    ensures ok { OnOk result
+        (names.new
+        ≡ names.old ++ references.names_definition (definition_view definition.entry.now)) }
     ensures err { IfErr result (λ e. e.code ≡ Memory) }
 {
     match definition {
@@ -230,7 +260,11 @@ pub(crate) fn definition<'a>(
 /// Adds the names of definitions' bodies.
 #[cycle(names_in)]
 fn each_definition<'a>(names: &mut Names<'a>, items: &'a [Definition]) -> Result<(), DefsError>
-    ensures ok { OnOk result (names.new ≡ names.old ++ references.names_definitions (definitions (map definition_view items.entry.now))) }
+    ensures ok { OnOk result
+        (names.new
+        ≡ names.old
+        ++ references.names_definitions
+        (definitions (map definition_view items.entry.now))) }
     ensures err { IfErr result (λ e. e.code ≡ Memory) }
 {
     let mut left = items;

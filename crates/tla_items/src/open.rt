@@ -28,7 +28,8 @@ fn meets(names: &Names<'_>, others: &Names<'_>) -> bool
 
 /// Adds the name of a definition, if one of the names in it is one of these. The only error is that memory ran out.
 fn touch<'a>(touched: &mut Names<'a>, name: &'a Word, names: &Names<'_>) -> Result<(), DefsError>
-    ensures ok { OnOk result (touched.new ≡ spec.with_touched touched.old name.entry.now names.now) }
+    ensures ok { OnOk result
+        (touched.new ≡ spec.with_touched touched.old name.entry.now names.now) }
     ensures err { IfErr result (λ e. e.code ≡ Memory) }
 {
     if meets(names, touched) {
@@ -40,7 +41,8 @@ fn touch<'a>(touched: &mut Names<'a>, name: &'a Word, names: &Names<'_>) -> Resu
 /// Adds the names that a unit defines, if one of the names in it is one of these. The only error is that memory ran
 /// out.
 fn touch_unit<'a>(alloc: Global, touched: &mut Names<'a>, unit: &'a Unit) -> Result<(), DefsError>
-    ensures ok { OnOk result (touched.new ≡ spec.unit_touched touched.old (unit_view unit.entry.now)) }
+    ensures ok { OnOk result
+        (touched.new ≡ spec.unit_touched touched.old (unit_view unit.entry.now)) }
     ensures err { IfErr result (λ e. e.code ≡ Memory) }
 {
     let mut names = Names::new(alloc);
@@ -122,7 +124,8 @@ pub fn still_open<'a>(
     units: &'a [Unit],
     items: &Items<'a>,
 ) -> Result<Names<'a>, DefsError>
-    ensures ok { IfOk result (λ xs. xs ≡ spec.still_open (map unit_view units.entry.now) items.now before.entry) }
+    ensures ok { IfOk result (λ xs.
+        xs ≡ spec.still_open (map unit_view units.entry.now) items.now before.entry) }
     ensures err { IfErr result (λ e. e.code ≡ Memory) }
 {
     let operators = touched(alloc, before, units)?;

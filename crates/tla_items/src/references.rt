@@ -43,7 +43,10 @@ impl<'a> References<'a> {
 
     /// Adds a name and those that it leads to, unless they are known already. The only error is that memory ran out.
     fn add(&mut self, name: &'a [u8], next: Names<'a>) -> Result<(), DefsError>
-        ensures ok { OnOk result ((rest : List spec.Reference) (x : List ℕ) → spec.next_names (self.new ++ rest) x ≡ spec.next_names (self.old ++ (name.entry.now, next.entry) ∷ rest) x) }
+        ensures ok { OnOk result
+            ((rest : List spec.Reference) (x : List ℕ)
+            → spec.next_names (self.new ++ rest) x
+            ≡ spec.next_names (self.old ++ (name.entry.now, next.entry) ∷ rest) x) }
         ensures err { IfErr result (λ e. e.code ≡ Memory) }
     {
         if self.next.contains_key(&name) {
@@ -63,7 +66,11 @@ impl<'a> References<'a> {
 
     /// Adds an item. The only error is that memory ran out.
     fn add_item(&mut self, alloc: Global, item: &'a Item) -> Result<(), DefsError>
-        ensures ok { OnOk result ((rest : List spec.Reference) (x : List ℕ) → spec.next_names (self.new ++ rest) x ≡ spec.next_names (self.old ++ spec.item_reference (item_view item.entry.now) ∷ rest) x) }
+        ensures ok { OnOk result
+            ((rest : List spec.Reference) (x : List ℕ)
+            → spec.next_names (self.new ++ rest) x
+            ≡ spec.next_names
+            (self.old ++ spec.item_reference (item_view item.entry.now) ∷ rest) x) }
         ensures err { IfErr result (λ e. e.code ≡ Memory) }
     {
         let mut next = Names::new(alloc);
@@ -83,7 +90,13 @@ impl<'a> References<'a> {
         scope: &Scope<'_>,
         unit: &'a Unit,
     ) -> Result<(), DefsError>
-        ensures ok { OnOk result ((rest : List spec.Reference) (x : List ℕ) → spec.next_names (self.new ++ rest) x ≡ spec.next_names (self.old ++ (spec.unit_references scope.now (unit_view unit.entry.now) ++ rest)) x) }
+        ensures ok { OnOk result
+            ((rest : List spec.Reference) (x : List ℕ)
+            → spec.next_names (self.new ++ rest) x
+            ≡ spec.next_names
+            (self.old
+            ++ (spec.unit_references scope.now (unit_view unit.entry.now) ++ rest))
+            x) }
         ensures err { IfErr result (λ e. e.code ≡ Memory) }
     {
         match unit {
@@ -106,7 +119,11 @@ impl<'a> References<'a> {
 
     /// Adds items. The only error is that memory ran out.
     fn add_items(&mut self, alloc: Global, items: &Items<'a>) -> Result<(), DefsError>
-        ensures ok { OnOk result ((rest : List spec.Reference) (x : List ℕ) → spec.next_names (self.new ++ rest) x ≡ spec.next_names (self.old ++ (map spec.item_reference items.now ++ rest)) x) }
+        ensures ok { OnOk result
+            ((rest : List spec.Reference) (x : List ℕ)
+            → spec.next_names (self.new ++ rest) x
+            ≡ spec.next_names (self.old ++ (map spec.item_reference items.now ++ rest))
+            x) }
         ensures err { IfErr result (λ e. e.code ≡ Memory) }
     {
         let mut left = items.list();
@@ -119,7 +136,11 @@ impl<'a> References<'a> {
 
     /// Adds the definitions of a module. The only error is that memory ran out.
     fn add_units(&mut self, alloc: Global, units: &'a [Unit]) -> Result<(), DefsError>
-        ensures ok { OnOk result ((x : List ℕ) → spec.next_names self.new x ≡ spec.next_names (self.old ++ spec.units_references [] (map unit_view units.entry.now)) x) }
+        ensures ok { OnOk result
+            ((x : List ℕ)
+            → spec.next_names self.new x
+            ≡ spec.next_names
+            (self.old ++ spec.units_references [] (map unit_view units.entry.now)) x) }
         ensures err { IfErr result (λ e. e.code ≡ Memory) }
     {
         let mut scope = Scope::new(alloc);
@@ -138,7 +159,11 @@ impl<'a> References<'a> {
         units: &'a [Unit],
         items: &Items<'a>,
     ) -> Result<References<'a>, DefsError>
-        ensures ok { IfOk result (λ ls. (x : List ℕ) → spec.next_names ls x ≡ spec.next_names (spec.references (map unit_view units.entry.now) items.now) x) }
+        ensures ok { IfOk result (λ ls.
+            (x : List ℕ)
+            → spec.next_names ls x
+            ≡ spec.next_names (spec.references (map unit_view units.entry.now) items.now)
+            x) }
         ensures err { IfErr result (λ e. e.code ≡ Memory) }
     {
         let mut references = References::new(alloc);
@@ -170,7 +195,8 @@ fn known_among<'a>(
 
 /// The names in an expression that are in scope.
 fn known_in<'a>(alloc: Global, scope: &Scope<'_>, tree: &'a Expr) -> Result<Names<'a>, DefsError>
-    ensures ok { IfOk result (λ xs. xs ≡ spec.known_among scope.now (spec.names_in (view tree.entry.now))) }
+    ensures ok { IfOk result (λ xs.
+        xs ≡ spec.known_among scope.now (spec.names_in (view tree.entry.now))) }
     ensures err { IfErr result (λ e. e.code ≡ Memory) }
 {
     let mut names = Names::new(alloc);
@@ -184,7 +210,10 @@ fn known_in_definition<'a>(
     scope: &Scope<'_>,
     defined: &'a Definition,
 ) -> Result<Names<'a>, DefsError>
-    ensures ok { IfOk result (λ xs. xs ≡ spec.known_among scope.now (spec.names_definition (definition_view defined.entry.now))) }
+    ensures ok { IfOk result (λ xs.
+        xs
+        ≡ spec.known_among scope.now
+        (spec.names_definition (definition_view defined.entry.now))) }
     ensures err { IfErr result (λ e. e.code ≡ Memory) }
 {
     let mut names = Names::new(alloc);

@@ -98,7 +98,10 @@ pub fn configuration_tokens(alloc: Global, text: &[u8]) -> Result<Scan, LexError
     ensures utf8 { OnOk result (IsUtf8 text.now) }
     ensures found { IfOk result (λ s. Reads Source.Configuration text.now 0 s.tokens.items s.stop) }
     // Nothing else is read.
-    ensures only { IfOk result (λ s. (ts : List Token) (stop : Stop) → Reads Source.Configuration text.now 0 ts stop → (ts ≡ s.tokens.items) × (stop ≡ s.stop)) }
+    ensures only { IfOk result (λ s.
+        (ts : List Token) (stop : Stop)
+        → Reads Source.Configuration text.now 0 ts stop
+        → (ts ≡ s.tokens.items) × (stop ≡ s.stop)) }
     ensures spans { IfOk result (λ s. InOrder 0 (length text.now) s.tokens.items) }
     ensures fault { IfErr result (λ e. IsNotUtf8 text.now e ⊎ (e ≡ no_memory)) }
 {

@@ -114,7 +114,9 @@ fn pick(text: &[u8], best: Lexeme, spelling: &[u8], kind: Kind) -> Lexeme
 /// The longest spelling of a table at the front of a text, or an unknown character.
 fn longest(text: &[u8], table: &[(&[u8], Kind)]) -> Lexeme
     requires { 0 < length text.now }
-    ensures value { result ≡ spec.longest text.now (Lexeme.Fault LexCode.Unknown 0) (map (λ e. (e.0.now, e.1)) table.now) }
+    ensures value { result
+        ≡ spec.longest text.now (Lexeme.Fault LexCode.Unknown 0)
+        (map (λ e. (e.0.now, e.1)) table.now) }
     ensures within { Fits (length text.now) result }
 {
     let mut best = Lexeme::Fault(LexCode::Unknown, 0);

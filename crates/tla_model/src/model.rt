@@ -34,8 +34,12 @@ impl Model {
         constraints: Vec<StatePredicate>,
         check_deadlock: bool,
     ) -> Model
-        requires { IsSound (tree_of_parts variables.items assumptions.items init.value next.value invariants.items constraints.items check_deadlock) }
-        ensures { model_of result ≡ tree_of_parts variables.items assumptions.items init.value next.value invariants.items constraints.items check_deadlock }
+        requires { IsSound
+            (tree_of_parts variables.items assumptions.items init.value next.value
+            invariants.items constraints.items check_deadlock) }
+        ensures { model_of result
+            ≡ tree_of_parts variables.items assumptions.items init.value next.value
+            invariants.items constraints.items check_deadlock }
     {
         Model {
             variables,

@@ -20,8 +20,10 @@ pub(crate) fn declare<'a>(
     scope: &mut Scope<'a>,
     declarations: &'a [Declaration],
 ) -> Result<(), DefsError>
-    ensures more { OnOk result (scope.new ≡ scope.old ++ spec.constants (map declared declarations.now)) }
-    ensures first { Says Source.Module result (spec.misused_constants scope.old (map declared declarations.now)) }
+    ensures more { OnOk result
+        (scope.new ≡ scope.old ++ spec.constants (map declared declarations.now)) }
+    ensures first { Says Source.Module result
+        (spec.misused_constants scope.old (map declared declarations.now)) }
 {
     let mut left = declarations;
     while let [first, rest @ ..] = left {
@@ -34,7 +36,8 @@ pub(crate) fn declare<'a>(
 
 /// The first of these constants that has no item.
 fn first_unvalued<'a>(replaced: &Names<'_>, declarations: &'a [Declaration]) -> Option<Mention<'a>>
-    ensures { option_map written_of result ≡ spec.first_unvalued replaced.now (map declared declarations.entry.now) }
+    ensures { option_map written_of result
+        ≡ spec.first_unvalued replaced.now (map declared declarations.entry.now) }
 {
     let mut left = declarations;
     while let [first, rest @ ..] = left {
@@ -48,7 +51,8 @@ fn first_unvalued<'a>(replaced: &Names<'_>, declarations: &'a [Declaration]) -> 
 
 /// The first constant of a unit that has no item.
 fn declared_unvalued<'a>(replaced: &Names<'_>, unit: &'a Unit) -> Option<Mention<'a>>
-    ensures { option_map written_of result ≡ spec.declared_unvalued replaced.now (unit_view unit.entry.now) }
+    ensures { option_map written_of result
+        ≡ spec.declared_unvalued replaced.now (unit_view unit.entry.now) }
 {
     match unit {
         Unit::Constants(_, declarations) => first_unvalued(replaced, declarations),
@@ -58,7 +62,8 @@ fn declared_unvalued<'a>(replaced: &Names<'_>, unit: &'a Unit) -> Option<Mention
 
 /// The first constant that has no value.
 pub fn unvalued<'a>(replaced: &Names<'_>, units: &'a [Unit]) -> Option<Mention<'a>>
-    ensures { option_map written_of result ≡ spec.unvalued replaced.now (map unit_view units.entry.now) }
+    ensures { option_map written_of result
+        ≡ spec.unvalued replaced.now (map unit_view units.entry.now) }
 {
     let mut left = units;
     while let [first, rest @ ..] = left {

@@ -40,7 +40,8 @@ fn named(alloc: Global, definitions: &Scope<'_>, name: &Written) -> Result<(), D
 
 /// Names of definitions without parameters.
 fn each_named(alloc: Global, definitions: &Scope<'_>, names: &[Written]) -> Result<(), DefsError>
-    ensures { refused.Says Source.Configuration result (naming.each_misnamed definitions.now names.now) }
+    ensures { refused.Says Source.Configuration result
+        (naming.each_misnamed definitions.now names.now) }
 {
     let mut left = names;
     while let [first, rest @ ..] = left {
@@ -57,7 +58,8 @@ fn statement_named(
     definitions: &Scope<'_>,
     statement: &Statement,
 ) -> Result<(), DefsError>
-    ensures { refused.Says Source.Configuration result (naming.each_misnamed definitions.now (naming.named (statement_view statement.now))) }
+    ensures { refused.Says Source.Configuration result
+        (naming.each_misnamed definitions.now (naming.named (statement_view statement.now))) }
 {
     match statement {
         Statement::Init(_, name) | Statement::Next(_, name) | Statement::Specification(_, name) =>
@@ -77,7 +79,8 @@ pub fn statements_named(
     definitions: &Scope<'_>,
     statements: &[Statement],
 ) -> Result<(), DefsError>
-    ensures { refused.Says Source.Configuration result (naming.names_misused definitions.now (map statement_view statements.now)) }
+    ensures { refused.Says Source.Configuration result
+        (naming.names_misused definitions.now (map statement_view statements.now)) }
 {
     let mut left = statements;
     while let [first, rest @ ..] = left {

@@ -184,7 +184,8 @@ pub(crate) fn expression<'a>(
     tree: &'a Expr,
 ) -> Result<(), DefsError>
     ensures same { OnOk result (scope.new ≡ scope.old) }
-    ensures first { Says Source.Module result (known.misused modules.now scope.old (view tree.now)) }
+    ensures first { Says Source.Module result
+        (known.misused modules.now scope.old (view tree.now)) }
 {
     match tree {
         Expr::Name(name) => used(alloc, scope, name, 0),
@@ -246,7 +247,9 @@ fn call<'a>(
     arguments: &'a [Expr],
 ) -> Result<(), DefsError>
     ensures same { OnOk result (scope.new ≡ scope.old) }
-    ensures first { Says Source.Module result (or_else (known.used scope.old name.now (length arguments.now)) (known.misused_each modules.now scope.old (trees (map view arguments.now)))) }
+    ensures first { Says Source.Module result
+        (or_else (known.used scope.old name.now (length arguments.now))
+        (known.misused_each modules.now scope.old (trees (map view arguments.now)))) }
 {
     used(alloc, scope, name, arguments.len())?;
     each(alloc, modules, scope, arguments)
@@ -262,7 +265,9 @@ fn index<'a>(
     arguments: &'a [Expr],
 ) -> Result<(), DefsError>
     ensures same { OnOk result (scope.new ≡ scope.old) }
-    ensures first { Says Source.Module result (or_else (known.misused modules.now scope.old (view function.now)) (known.misused_each modules.now scope.old (trees (map view arguments.now)))) }
+    ensures first { Says Source.Module result
+        (or_else (known.misused modules.now scope.old (view function.now))
+        (known.misused_each modules.now scope.old (trees (map view arguments.now)))) }
 {
     expression(alloc, modules, scope, function)?;
     each(alloc, modules, scope, arguments)
@@ -280,7 +285,12 @@ fn chosen<'a>(
     body: &'a Expr,
 ) -> Result<(), DefsError>
     ensures same { OnOk result (scope.new ≡ scope.old) }
-    ensures first { Says Source.Module result (or_else (known.brought scope.old [] (names_of (pattern_view pattern.now))) (or_else (known.misused modules.now scope.old (view set.now)) (known.misused modules.now (scope.old ++ scope_of.plain (words (names_of (pattern_view pattern.now)))) (view body.now)))) }
+    ensures first { Says Source.Module result
+        (or_else (known.brought scope.old [] (names_of (pattern_view pattern.now)))
+        (or_else (known.misused modules.now scope.old (view set.now))
+        (known.misused modules.now
+        (scope.old ++ scope_of.plain (words (names_of (pattern_view pattern.now))))
+        (view body.now)))) }
 {
     let names = pattern.names();
     new_names(alloc, scope, names)?;
@@ -303,7 +313,11 @@ fn element<'a>(
     groups: &'a [Binder],
 ) -> Result<(), DefsError>
     ensures same { OnOk result (scope.new ≡ scope.old) }
-    ensures first { Says Source.Module result (known.misused modules.now (scope.old ++ scope_of.plain (scope_of.bound_names (binders (map group_view groups.now)))) (view value.now)) }
+    ensures first { Says Source.Module result
+        (known.misused modules.now
+        (scope.old
+        ++ scope_of.plain (scope_of.bound_names (binders (map group_view groups.now))))
+        (view value.now)) }
 {
     let mark = scope.len();
     scope.push_bound(groups)?;
@@ -322,7 +336,8 @@ fn bound_before<'a>(
     groups: &'a [Binder],
 ) -> Result<(), DefsError>
     ensures same { OnOk result (scope.new ≡ scope.old) }
-    ensures first { Says Source.Module result (known.misused_sets modules.now scope.old [] (binders (map group_view groups.now))) }
+    ensures first { Says Source.Module result
+        (known.misused_sets modules.now scope.old [] (binders (map group_view groups.now))) }
 {
     let mark = scope.len();
     bind(alloc, modules, scope, groups)?;
@@ -340,7 +355,13 @@ fn image<'a>(
     groups: &'a [Binder],
 ) -> Result<(), DefsError>
     ensures same { OnOk result (scope.new ≡ scope.old) }
-    ensures first { Says Source.Module result (or_else (known.misused modules.now (scope.old ++ scope_of.plain (scope_of.bound_names (binders (map group_view groups.now)))) (view value.now)) (known.misused_sets modules.now scope.old [] (binders (map group_view groups.now)))) }
+    ensures first { Says Source.Module result
+        (or_else
+        (known.misused modules.now
+        (scope.old
+        ++ scope_of.plain (scope_of.bound_names (binders (map group_view groups.now))))
+        (view value.now))
+        (known.misused_sets modules.now scope.old [] (binders (map group_view groups.now)))) }
 {
     element(alloc, modules, scope, value, groups)?;
     bound_before(alloc, modules, scope, groups)
@@ -355,7 +376,8 @@ fn each_field<'a>(
     items: &'a [Field],
 ) -> Result<(), DefsError>
     ensures same { OnOk result (scope.new ≡ scope.old) }
-    ensures first { Says Source.Module result (known.misused_fields modules.now scope.old [] (fields (map field_view items.now))) }
+    ensures first { Says Source.Module result
+        (known.misused_fields modules.now scope.old [] (fields (map field_view items.now))) }
 {
     let mut before = Names::new(alloc);
     let mut left = items;
@@ -378,7 +400,9 @@ fn except<'a>(
     items: &'a [Update],
 ) -> Result<(), DefsError>
     ensures same { OnOk result (scope.new ≡ scope.old) }
-    ensures first { Says Source.Module result (or_else (known.misused modules.now scope.old (view function.now)) (known.misused_updates modules.now scope.old (updates (map update_view items.now)))) }
+    ensures first { Says Source.Module result
+        (or_else (known.misused modules.now scope.old (view function.now))
+        (known.misused_updates modules.now scope.old (updates (map update_view items.now)))) }
 {
     expression(alloc, modules, scope, function)?;
     each_update(alloc, modules, scope, items)
@@ -393,7 +417,8 @@ fn each_update<'a>(
     items: &'a [Update],
 ) -> Result<(), DefsError>
     ensures same { OnOk result (scope.new ≡ scope.old) }
-    ensures first { Says Source.Module result (known.misused_updates modules.now scope.old (updates (map update_view items.now))) }
+    ensures first { Says Source.Module result
+        (known.misused_updates modules.now scope.old (updates (map update_view items.now))) }
 {
     let mut left = items;
     while let [first, rest @ ..] = left {
@@ -412,7 +437,9 @@ fn one_update<'a>(
     update: &'a Update,
 ) -> Result<(), DefsError>
     ensures same { OnOk result (scope.new ≡ scope.old) }
-    ensures first { Says Source.Module result (or_else (known.misused_keys modules.now scope.old (update_view update.now).0) (known.misused modules.now scope.old (update_view update.now).1)) }
+    ensures first { Says Source.Module result
+        (or_else (known.misused_keys modules.now scope.old (update_view update.now).0)
+        (known.misused modules.now scope.old (update_view update.now).1)) }
 {
     path(alloc, modules, scope, &update.path)?;
     expression(alloc, modules, scope, &update.value)
@@ -427,7 +454,8 @@ fn one_key<'a>(
     key: &'a Key,
 ) -> Result<(), DefsError>
     ensures same { OnOk result (scope.new ≡ scope.old) }
-    ensures first { Says Source.Module result (known.misused_key modules.now scope.old (key_view key.now)) }
+    ensures first { Says Source.Module result
+        (known.misused_key modules.now scope.old (key_view key.now)) }
 {
     match key {
         Key::Index(arguments) => each(alloc, modules, scope, arguments),
@@ -444,7 +472,8 @@ fn path<'a>(
     items: &'a [Key],
 ) -> Result<(), DefsError>
     ensures same { OnOk result (scope.new ≡ scope.old) }
-    ensures first { Says Source.Module result (known.misused_keys modules.now scope.old (keys (map key_view items.now))) }
+    ensures first { Says Source.Module result
+        (known.misused_keys modules.now scope.old (keys (map key_view items.now))) }
 {
     let mut left = items;
     while let [first, rest @ ..] = left {
@@ -465,7 +494,13 @@ fn bound<'a>(
     body: &'a Expr,
 ) -> Result<(), DefsError>
     ensures same { OnOk result (scope.new ≡ scope.old) }
-    ensures first { Says Source.Module result (or_else (known.misused_sets modules.now scope.old [] (binders (map group_view groups.now))) (known.misused modules.now (scope.old ++ scope_of.plain (scope_of.bound_names (binders (map group_view groups.now)))) (view body.now))) }
+    ensures first { Says Source.Module result
+        (or_else
+        (known.misused_sets modules.now scope.old [] (binders (map group_view groups.now)))
+        (known.misused modules.now
+        (scope.old
+        ++ scope_of.plain (scope_of.bound_names (binders (map group_view groups.now))))
+        (view body.now))) }
 {
     let mark = scope.len();
     bind(alloc, modules, scope, groups)?;
@@ -485,7 +520,13 @@ fn within<'a>(
     body: &'a Expr,
 ) -> Result<(), DefsError>
     ensures same { OnOk result (scope.new ≡ scope.old) }
-    ensures first { Says Source.Module result (or_else (known.misused_definitions modules.now scope.old (definitions (map definition_view items.now))) (known.misused modules.now (scope.old ++ scope_of.signatures (definitions (map definition_view items.now))) (view body.now))) }
+    ensures first { Says Source.Module result
+        (or_else
+        (known.misused_definitions modules.now scope.old
+        (definitions (map definition_view items.now)))
+        (known.misused modules.now
+        (scope.old ++ scope_of.signatures (definitions (map definition_view items.now)))
+        (view body.now))) }
 {
     let mark = scope.len();
     define(alloc, modules, scope, items)?;
@@ -504,7 +545,9 @@ fn case<'a>(
     other: &'a Expr,
 ) -> Result<(), DefsError>
     ensures same { OnOk result (scope.new ≡ scope.old) }
-    ensures first { Says Source.Module result (or_else (known.misused_arms modules.now scope.old (arms (map choice_view items.now))) (known.misused modules.now scope.old (view other.now))) }
+    ensures first { Says Source.Module result
+        (or_else (known.misused_arms modules.now scope.old (arms (map choice_view items.now)))
+        (known.misused modules.now scope.old (view other.now))) }
 {
     each_arm(alloc, modules, scope, items)?;
     expression(alloc, modules, scope, other)
@@ -519,7 +562,8 @@ fn each<'a>(
     items: &'a [Expr],
 ) -> Result<(), DefsError>
     ensures same { OnOk result (scope.new ≡ scope.old) }
-    ensures first { Says Source.Module result (known.misused_each modules.now scope.old (trees (map view items.now))) }
+    ensures first { Says Source.Module result
+        (known.misused_each modules.now scope.old (trees (map view items.now))) }
 {
     let mut left = items;
     while let [first, rest @ ..] = left {
@@ -538,7 +582,8 @@ fn each_arm<'a>(
     items: &'a [Arm],
 ) -> Result<(), DefsError>
     ensures same { OnOk result (scope.new ≡ scope.old) }
-    ensures first { Says Source.Module result (known.misused_arms modules.now scope.old (arms (map choice_view items.now))) }
+    ensures first { Says Source.Module result
+        (known.misused_arms modules.now scope.old (arms (map choice_view items.now))) }
 {
     let mut left = items;
     while let [first, rest @ ..] = left {
@@ -557,8 +602,12 @@ fn bind<'a>(
     scope: &mut Scope<'a>,
     groups: &'a [Binder],
 ) -> Result<(), DefsError>
-    ensures more { OnOk result (scope.new ≡ scope.old ++ scope_of.plain (scope_of.bound_names (binders (map group_view groups.now)))) }
-    ensures first { Says Source.Module result (known.misused_sets modules.now scope.old [] (binders (map group_view groups.now))) }
+    ensures more { OnOk result
+        (scope.new
+        ≡ scope.old
+        ++ scope_of.plain (scope_of.bound_names (binders (map group_view groups.now)))) }
+    ensures first { Says Source.Module result
+        (known.misused_sets modules.now scope.old [] (binders (map group_view groups.now))) }
 {
     let mut new = Names::new(alloc);
     let mut left = groups;
@@ -581,7 +630,15 @@ fn function<'a>(
     body: &'a Expr,
 ) -> Result<(), DefsError>
     ensures more { OnOk result (scope.new ≡ scope.old ++ (name.now.word, 0) ∷ []) }
-    ensures first { Says Source.Module result (or_else (known.new_name scope.old name.now) (or_else (known.misused_sets modules.now scope.old [] (binders (map group_view groups.now))) (known.misused modules.now (scope.old ++ scope_of.plain (scope_of.bound_names (binders (map group_view groups.now)))) (view body.now)))) }
+    ensures first { Says Source.Module result
+        (or_else (known.new_name scope.old name.now)
+        (or_else
+        (known.misused_sets modules.now scope.old [] (binders (map group_view groups.now)))
+        (known.misused modules.now
+        (scope.old
+        ++ scope_of.plain
+        (scope_of.bound_names (binders (map group_view groups.now))))
+        (view body.now)))) }
 {
     new_name(alloc, scope, name)?;
     bound(alloc, modules, scope, groups, body)?;
@@ -596,8 +653,10 @@ pub(crate) fn definition<'a>(
     scope: &mut Scope<'a>,
     definition: &'a Definition,
 ) -> Result<(), DefsError>
-    ensures more { OnOk result (scope.new ≡ scope.old ++ scope_of.signature (definition_view definition.now) ∷ []) }
-    ensures first { Says Source.Module result (known.misused_definition modules.now scope.old (definition_view definition.now)) }
+    ensures more { OnOk result
+        (scope.new ≡ scope.old ++ scope_of.signature (definition_view definition.now) ∷ []) }
+    ensures first { Says Source.Module result
+        (known.misused_definition modules.now scope.old (definition_view definition.now)) }
 {
     match definition {
         Definition::Operator(name, parameters, body) => {
@@ -623,8 +682,12 @@ fn define<'a>(
     scope: &mut Scope<'a>,
     items: &'a [Definition],
 ) -> Result<(), DefsError>
-    ensures more { OnOk result (scope.new ≡ scope.old ++ scope_of.signatures (definitions (map definition_view items.now))) }
-    ensures first { Says Source.Module result (known.misused_definitions modules.now scope.old (definitions (map definition_view items.now))) }
+    ensures more { OnOk result
+        (scope.new
+        ≡ scope.old ++ scope_of.signatures (definitions (map definition_view items.now))) }
+    ensures first { Says Source.Module result
+        (known.misused_definitions modules.now scope.old
+        (definitions (map definition_view items.now))) }
 {
     let mut left = items;
     while let [first, rest @ ..] = left {

@@ -82,7 +82,11 @@ impl<'a> Scope<'a> {
         first: (&'a [u8], usize),
         second: (&'a [u8], usize),
     ) -> Result<(), DefsError>
-        ensures ok { OnOk result (self.new ≡ self.old ++ (first.entry.0.now, first.entry.1) ∷ (second.entry.0.now, second.entry.1) ∷ []) }
+        ensures ok { OnOk result
+            (self.new
+            ≡ self.old
+            ++ (first.entry.0.now, first.entry.1) ∷ (second.entry.0.now, second.entry.1) ∷
+            []) }
         ensures err { IfErr result (λ e. e.code ≡ Memory) }
     {
         self.push(first.0, first.1)?;
@@ -104,7 +108,9 @@ impl<'a> Scope<'a> {
 
     /// Adds the names of a binder list. The only error is that memory ran out.
     pub fn push_bound(&mut self, groups: &'a [Binder]) -> Result<(), DefsError>
-        ensures ok { OnOk result (self.new ≡ self.old ++ plain (bound_names (binders (map group_view groups.entry.now)))) }
+        ensures ok { OnOk result
+            (self.new
+            ≡ self.old ++ plain (bound_names (binders (map group_view groups.entry.now)))) }
         ensures err { IfErr result (λ e. e.code ≡ Memory) }
     {
         let mut left = groups;
@@ -130,7 +136,8 @@ impl<'a> Scope<'a> {
 
     /// Adds constants. The only error is that memory ran out.
     pub fn push_declared(&mut self, declarations: &'a [Declaration]) -> Result<(), DefsError>
-        ensures ok { OnOk result (self.new ≡ self.old ++ constants (map declared declarations.entry.now)) }
+        ensures ok { OnOk result
+            (self.new ≡ self.old ++ constants (map declared declarations.entry.now)) }
         ensures err { IfErr result (λ e. e.code ≡ Memory) }
     {
         let mut left = declarations;

@@ -39,9 +39,19 @@ fn push_all<'a>(names: &mut Names<'a>, written: &'a [Written]) -> Result<(), Def
 
 /// What one unit more brings in.
 fn bring_unit<'a>(alloc: Global, brought: &mut Brought<'a>, unit: &'a Unit) -> Result<(), DefsError>
-    ensures known { OnOk result ((us : List UnitTree) → misuses.misuse_from brought.old.modules brought.old.scope (unit_view unit.now ∷ us) ≡ misuses.misuse_from brought.new.modules brought.new.scope us) }
-    ensures variables { OnOk result (brought.new.variables ≡ brought.old.variables ++ misuses.declared (unit_view unit.now)) }
-    ensures err { IfErr result (λ e. e.code ≢ Memory → (us : List UnitTree) → refusal_for Source.Module (misuses.misuse_from brought.old.modules brought.old.scope (unit_view unit.now ∷ us)) ≡ Some e) }
+    ensures known { OnOk result
+        ((us : List UnitTree)
+        → misuses.misuse_from brought.old.modules brought.old.scope (unit_view unit.now ∷ us)
+        ≡ misuses.misuse_from brought.new.modules brought.new.scope us) }
+    ensures variables { OnOk result
+        (brought.new.variables ≡ brought.old.variables ++ misuses.declared (unit_view unit.now)) }
+    ensures err { IfErr result (λ e.
+        e.code ≢ Memory
+        → (us : List UnitTree)
+        → refusal_for Source.Module
+        (misuses.misuse_from brought.old.modules brought.old.scope
+        (unit_view unit.now ∷ us))
+        ≡ Some e) }
 {
     match unit {
         Unit::Separator(_) | Unit::Theorem(_, _, _) => Ok(()),
@@ -73,7 +83,9 @@ fn bring_unit<'a>(alloc: Global, brought: &mut Brought<'a>, unit: &'a Unit) -> R
 pub fn variables<'a>(alloc: Global, units: &'a [Unit]) -> Result<Names<'a>, DefsError>
     ensures known { OnOk result (misuses.misuse (map unit_view units.now) ≡ None) }
     ensures variables { IfOk result (λ vs. vs ≡ misuses.variables_of (map unit_view units.now)) }
-    ensures err { IfErr result (λ e. e.code ≢ Memory → refusal_for Source.Module (misuses.misuse (map unit_view units.now)) ≡ Some e) }
+    ensures err { IfErr result (λ e.
+        e.code ≢ Memory
+        → refusal_for Source.Module (misuses.misuse (map unit_view units.now)) ≡ Some e) }
 {
     let mut brought = Brought {
         modules: Names::new(alloc),

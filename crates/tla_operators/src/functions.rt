@@ -20,7 +20,9 @@ use tla_value::{FunValue, Text, Value, ValueError};
 /// The function that a call made, or the fault for the limit that it would pass.
 #[tactic(auto, using(crate::proofs::Made::fun_made, crate::proofs::Made::fun_refused))]
 pub fn made_fun(place: &Place, made: Result<FunValue, ValueError>) -> Result<Value, Trouble<'_>>
-    ensures { (ps : List (Tree × Tree)) → MakesFun ps made → Gives result (rising_fun place.now ps) }
+    ensures { (ps : List (Tree × Tree))
+        → MakesFun ps made
+        → Gives result (rising_fun place.now ps) }
 {
     match made {
         Ok(fun) => Ok(Value::Fun(fun)),
@@ -96,7 +98,8 @@ pub fn apply<'p, 'a>(
     function: Evaluated<'a>,
     argument: &Value,
 ) -> Result<Evaluated<'a>, Trouble<'p>>
-    ensures { Evaluates result (binary_rule Apply place.now (tree_of_evaluated function.entry) (tree_of argument.now)) }
+    ensures { Evaluates result
+        (binary_rule Apply place.now (tree_of_evaluated function.entry) (tree_of argument.now)) }
 {
     match function {
         Evaluated::Borrowed(function) => Ok(Evaluated::Borrowed(value_at(
@@ -116,7 +119,8 @@ fn value_at<'p, 'a>(
     function: &'a Value,
     argument: &Value,
 ) -> Result<&'a Value, Trouble<'p>>
-    ensures { GivesBorrowed result (binary_rule Apply place.now (tree_of function.now) (tree_of argument.now)) }
+    ensures { GivesBorrowed result
+        (binary_rule Apply place.now (tree_of function.now) (tree_of argument.now)) }
 {
     match function {
         Value::Fun(fun) => match fun.apply(argument) {
@@ -134,7 +138,8 @@ pub fn field<'p, 'a>(
     name: &Text,
     base: Evaluated<'a>,
 ) -> Result<Evaluated<'a>, Trouble<'p>>
-    ensures { Evaluates result (unary_rule (Field name.now) place.now (tree_of_evaluated base.entry)) }
+    ensures { Evaluates result
+        (unary_rule (Field name.now) place.now (tree_of_evaluated base.entry)) }
 {
     let name = Value::Text(copied_text(alloc, name)?);
     match base {
@@ -153,7 +158,9 @@ fn field_at<'p, 'a>(
     name: &Value,
     base: &'a Value,
 ) -> Result<&'a Value, Trouble<'p>>
-    ensures { (s : List ℕ) → tree_of name.now ≡ text s → GivesBorrowed result (unary_rule (Field s) place.now (tree_of base.now)) }
+    ensures { (s : List ℕ)
+        → tree_of name.now ≡ text s
+        → GivesBorrowed result (unary_rule (Field s) place.now (tree_of base.now)) }
 {
     match base {
         Value::Fun(fun) => match fun.apply(name) {
@@ -189,7 +196,8 @@ pub(crate) fn single<'p>(
     argument: &Value,
     value: &Value,
 ) -> Result<Value, Trouble<'p>>
-    ensures { Gives result (binary_rule Single place.now (tree_of argument.now) (tree_of value.now)) }
+    ensures { Gives result
+        (binary_rule Single place.now (tree_of argument.now) (tree_of value.now)) }
 {
     let pair = (copied(alloc, argument)?, copied(alloc, value)?);
     made_fun(place, FunValue::from_pairs(Vec::from_array(alloc, [pair])?))

@@ -70,7 +70,11 @@ impl Gathered {
     /// Drops doubles if there is no room left. Then there is room for twice as many values as remain.
     #[tactic(auto, using(crate::proofs::Different::gathered_so))]
     fn make_room(&mut self)
-        ensures { (ts : List Tree) → IsHeld ts (map tree_of self.old.values.items) → self.old.is_full ≡ false → self.old.room ≤ most_held ts → IsGathered ts self.new }
+        ensures { (ts : List Tree)
+            → IsHeld ts (map tree_of self.old.values.items)
+            → self.old.is_full ≡ false
+            → self.old.room ≤ most_held ts
+            → IsGathered ts self.new }
     {
         if self.values.len() < self.room {
             return;
@@ -83,7 +87,9 @@ impl Gathered {
 
     /// The set of the values.
     pub fn into_set(self, place: &Place) -> Result<Value, Trouble<'_>>
-        ensures { (o : Outcome (List Tree)) → Gathers (Ok self) o → Gives result (set_rule place.now o) }
+        ensures { (o : Outcome (List Tree))
+            → Gathers (Ok self) o
+            → Gives result (set_rule place.now o) }
     {
         made_set(place, SetValue::from_values(self.values))
     }

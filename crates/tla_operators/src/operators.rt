@@ -27,7 +27,8 @@ pub fn unary<'p, 'a>(
     operator: Unary,
     operand: Evaluated<'a>,
 ) -> Result<Evaluated<'a>, Trouble<'p>>
-    ensures { Evaluates result (unary_rule (unary_of operator) place.now (tree_of_evaluated operand.entry)) }
+    ensures { Evaluates result
+        (unary_rule (unary_of operator) place.now (tree_of_evaluated operand.entry)) }
 {
     match operator {
         Unary::Head => head(alloc, place, operand),
@@ -101,7 +102,8 @@ pub fn binary<'p>(
     left: &Value,
     right: &Value,
 ) -> Result<Value, Trouble<'p>>
-    ensures { Gives result (binary_rule (binary_of operator) place.now (tree_of left.now) (tree_of right.now)) }
+    ensures { Gives result
+        (binary_rule (binary_of operator) place.now (tree_of left.now) (tree_of right.now)) }
 {
     match operator {
         Binary::Iff => iff(place, left, right),
@@ -163,7 +165,8 @@ pub fn two_ints<'p>(
     left: &Value,
     right: &Value,
 ) -> Result<(i64, i64), Trouble<'p>>
-    ensures { GivesBy (λ (n : ℤ × ℤ). n) result (two_ints place.now (tree_of left.now) (tree_of right.now)) }
+    ensures { GivesBy (λ (n : ℤ × ℤ). n) result
+        (two_ints place.now (tree_of left.now) (tree_of right.now)) }
 {
     match (left, right) {
         (Value::Int(left), Value::Int(right)) => Ok((*left, *right)),

@@ -26,7 +26,8 @@ pub(crate) fn items_of<'p, 'a>(
     place: &'p Place,
     sequence: &'a Value,
 ) -> Result<&'a [Value], Trouble<'p>>
-    ensures value { GivesBy (λ vs. map tree_of vs.now) result (as_sequence place.now (tree_of sequence.now)) }
+    ensures value { GivesBy (λ vs. map tree_of vs.now) result
+        (as_sequence place.now (tree_of sequence.now)) }
     ensures few { IfOk result (λ vs. length vs.now ≤ MAX_ELEMENTS) }
     ensures shallow { IfOk result (λ vs. deepest (trees (map tree_of vs.now)) < MAX_NESTING) }
 {
@@ -59,7 +60,8 @@ pub fn add_items<'p>(
     items: &mut Vec<Value>,
     values: &[Value],
 ) -> Result<(), Trouble<'p>>
-    ensures ok { OnOk result (map tree_of items.new.items ≡ map tree_of items.old.items ++ map tree_of values.now) }
+    ensures ok { OnOk result
+        (map tree_of items.new.items ≡ map tree_of items.old.items ++ map tree_of values.now) }
     ensures err { IfErr result (λ f. f ≡ out_of_memory) }
 {
     for value in values {
@@ -172,7 +174,8 @@ pub(crate) fn append<'p>(
     sequence: &Value,
     item: &Value,
 ) -> Result<Value, Trouble<'p>>
-    ensures { Gives result (binary_rule Append place.now (tree_of sequence.now) (tree_of item.now)) }
+    ensures { Gives result
+        (binary_rule Append place.now (tree_of sequence.now) (tree_of item.now)) }
 {
     let items = items_of(place, sequence)?;
     let mut values = Vec::with_capacity(alloc, items.len() + 1)?;
@@ -189,7 +192,8 @@ pub fn sub_seq<'p>(
     low: &Value,
     high: &Value,
 ) -> Result<Value, Trouble<'p>>
-    ensures { Gives result (sub_seq_rule place.now (tree_of sequence.now) (tree_of low.now) (tree_of high.now)) }
+    ensures { Gives result
+        (sub_seq_rule place.now (tree_of sequence.now) (tree_of low.now) (tree_of high.now)) }
 {
     let items = items_of(place, sequence)?;
     let (low, high) = two_ints(place, low, high)?;

@@ -74,7 +74,8 @@ pub fn union_of<'p>(
     left: &Value,
     right: &Value,
 ) -> Result<Value, Trouble<'p>>
-    ensures { Gives result (on_sets place.now (λ xs ys. xs ++ ys) (tree_of left.now) (tree_of right.now)) }
+    ensures { Gives result
+        (on_sets place.now (λ xs ys. xs ++ ys) (tree_of left.now) (tree_of right.now)) }
 {
     match (left, right) {
         (Value::Set(left), Value::Set(right)) => made_set(place, left.union(alloc, right)),
@@ -89,7 +90,9 @@ pub fn intersection_of<'p>(
     left: &Value,
     right: &Value,
 ) -> Result<Value, Trouble<'p>>
-    ensures { Gives result (on_sets place.now (λ xs ys. filter (λ v. is_member v ys) xs) (tree_of left.now) (tree_of right.now)) }
+    ensures { Gives result
+        (on_sets place.now (λ xs ys. filter (λ v. is_member v ys) xs) (tree_of left.now)
+        (tree_of right.now)) }
 {
     match (left, right) {
         (Value::Set(left), Value::Set(right)) => {
@@ -107,7 +110,9 @@ pub fn difference_of<'p>(
     left: &Value,
     right: &Value,
 ) -> Result<Value, Trouble<'p>>
-    ensures { Gives result (on_sets place.now (λ xs ys. filter (λ v. not (is_member v ys)) xs) (tree_of left.now) (tree_of right.now)) }
+    ensures { Gives result
+        (on_sets place.now (λ xs ys. filter (λ v. not (is_member v ys)) xs) (tree_of left.now)
+        (tree_of right.now)) }
 {
     match (left, right) {
         (Value::Set(left), Value::Set(right)) => {
@@ -135,7 +140,8 @@ pub fn functions_between<'p>(
     domain: &Value,
     range: &Value,
 ) -> Result<Value, Trouble<'p>>
-    ensures { Gives result (on_sets place.now functions_of (tree_of domain.now) (tree_of range.now)) }
+    ensures { Gives result
+        (on_sets place.now functions_of (tree_of domain.now) (tree_of range.now)) }
 {
     match (domain, range) {
         (Value::Set(domain), Value::Set(range)) => made_set(
@@ -152,7 +158,9 @@ pub fn made_functions(
     place: &Place,
     made: Result<SetValue, ValueError>,
 ) -> Result<Value, Trouble<'_>>
-    ensures { (ts : List Tree) → MakesSetOfFunctions ts made → Gives result (sized_set place.now (size_of_functions ts) ts) }
+    ensures { (ts : List Tree)
+        → MakesSetOfFunctions ts made
+        → Gives result (sized_set place.now (size_of_functions ts) ts) }
 {
     match made {
         Ok(set) => Ok(Value::Set(set)),
@@ -196,7 +204,8 @@ pub fn as_sets<'p>(
     place: &'p Place,
     values: &[Evaluated<'_>],
 ) -> Result<Vec<SetValue>, Trouble<'p>>
-    ensures { GivesBy (λ v. v.items) result (each (as_set place.now) (map tree_of_evaluated values.now)) }
+    ensures { GivesBy (λ v. v.items) result
+        (each (as_set place.now) (map tree_of_evaluated values.now)) }
 {
     let mut sets = Vec::with_capacity(alloc, values.len())?;
     for value in values {
@@ -281,7 +290,9 @@ fn is_same(left: &Value, right: &Value) -> bool
 fn is_argument(function: &FunValue, place: usize, value: &Value) -> bool
     requires within { place < length function.now }
     requires few { length function.now ≤ MAX_ELEMENTS }
-    ensures { option_map (λ a. tree_eq a (tree_of value.now)) (slice_get (arguments function.now) place) ≡ Some result }
+    ensures { option_map (λ a. tree_eq a (tree_of value.now))
+        (slice_get (arguments function.now) place)
+        ≡ Some result }
 {
     match function.arguments() {
         Arguments::Numbers(first) => is_number(value, first + place as i64),
@@ -291,7 +302,8 @@ fn is_argument(function: &FunValue, place: usize, value: &Value) -> bool
 
 /// Whether the arguments of a function are just these values, in order.
 pub fn has_domain(function: &FunValue, values: &[Value]) -> bool
-    ensures { result ≡ tree_eq (set (trees (arguments function.now))) (set (trees (map tree_of values.now))) }
+    ensures { result
+        ≡ tree_eq (set (trees (arguments function.now))) (set (trees (map tree_of values.now))) }
 {
     if function.len() != values.len() {
         return false;

@@ -20,7 +20,10 @@ use tla_tree::{Module, Written};
 /// The place of the token, or of the last one if there are fewer.
 fn place_of(tokens: &[Token], at: usize) -> Place
     ensures here { (t : lexed.Token) → slice_get tokens.now at ≡ Some t → result ≡ t.place }
-    ensures last { slice_get tokens.now at ≡ None → (t : lexed.Token) → slice_get tokens.now (length tokens.now - 1) ≡ Some t → result ≡ t.place }
+    ensures last { slice_get tokens.now at ≡ None
+        → (t : lexed.Token)
+        → slice_get tokens.now (length tokens.now - 1) ≡ Some t
+        → result ≡ t.place }
 {
     match tokens.get(at) {
         Some(t) => t.place,
@@ -74,10 +77,14 @@ fn error_of(alloc: Global, text: &[u8], tokens: &[Token], refusal: Refusal) -> P
 /// The tree of a module, from its tokens, which end with the closing line. Only their kinds, columns and slices of the text count.
 pub fn parse_module(alloc: Global, text: &[u8], tokens: &[Token]) -> Result<Module, ParseError>
     // The units spell the tokens, and their expressions are no deeper than the limit.
-    ensures found { IfOk result (λ m. SpellsModule text.now tokens.now (map unit_view m.units.items)) }
+    ensures found { IfOk result (λ m.
+        SpellsModule text.now tokens.now (map unit_view m.units.items)) }
     ensures shallow { IfOk result (λ m. units_depth (map unit_view m.units.items) ≤ MAX_DEPTH) }
     // No other units spell them.
-    ensures only { IfOk result (λ m. (us : List UnitTree) → SpellsModule text.now tokens.now us → us ≡ map unit_view m.units.items) }
+    ensures only { IfOk result (λ m.
+        (us : List UnitTree)
+        → SpellsModule text.now tokens.now us
+        → us ≡ map unit_view m.units.items) }
     // Tokens are refused only if they spell no units, or, for P4, none within the limit; a form that is left out is on
     // the list.
     ensures justified { IfErr result (λ e. Justified text.now tokens.now e.code e.place e.name) }

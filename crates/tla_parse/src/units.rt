@@ -87,7 +87,8 @@ fn extended(
 ) -> Result<ParsedNames, Refusal>
     requires within { from ≤ length tokens.now }
     requires extends { IsExtended tokens.now 0 from }
-    ensures { GivesNames text.now tokens.now result (reading.modules text.now tokens.now (length tokens.now) [] from) }
+    ensures { GivesNames text.now tokens.now result
+        (reading.modules text.now tokens.now (length tokens.now) [] from) }
 {
     let mut names = Vec::new(alloc);
     let mut at = from;
@@ -172,7 +173,8 @@ fn constants(
     tokens: &[Token],
     from: usize,
 ) -> Result<ParsedDeclarations, Refusal>
-    ensures { GivesConstants text.now tokens.now result (reading.constants text.now tokens.now (length tokens.now) [] from) }
+    ensures { GivesConstants text.now tokens.now result
+        (reading.constants text.now tokens.now (length tokens.now) [] from) }
 {
     let mut declarations = Vec::new(alloc);
     let mut at = from;
@@ -205,7 +207,8 @@ fn claim_name(tokens: &[Token], from: usize) -> Option<Token>
 #[tactic(auto, unfolding(crate::specs::Private::UnitsReading::claim))]
 fn claim(alloc: Global, text: &[u8], tokens: &[Token], from: usize) -> Result<ParsedClaim, Refusal>
     requires { from ≤ length tokens.now }
-    ensures { GivesClaim text.now tokens.now result (reading.claim text.now tokens.now MAX_DEPTH from) }
+    ensures { GivesClaim text.now tokens.now result
+        (reading.claim text.now tokens.now MAX_DEPTH from) }
 {
     match claim_name(tokens, from) {
         None => {
@@ -249,8 +252,10 @@ fn unit_of(definition: Definition) -> Unit
 /// The unit that begins at the token of this number.
 #[tactic(auto, unfolding(crate::specs::Private::UnitsReading::unit))]
 fn unit_at(alloc: Global, text: &[u8], tokens: &[Token], from: usize) -> Result<ParsedUnit, Refusal>
-    requires extends { IsTrue (kind_at k.Extends (seen tokens.now 0 from)) → OnlySeparators tokens.now from }
-    ensures { GivesUnit text.now tokens.now result (reading.unit text.now tokens.now MAX_DEPTH from) }
+    requires extends { IsTrue (kind_at k.Extends (seen tokens.now 0 from))
+        → OnlySeparators tokens.now from }
+    ensures { GivesUnit text.now tokens.now result
+        (reading.unit text.now tokens.now MAX_DEPTH from) }
 {
     let Some(t) = seen(tokens, 0, from) else {
         return Err(refused(tokens, 0, from));
@@ -330,7 +335,8 @@ fn units_from(
     from: usize,
 ) -> Result<ParsedUnits, Refusal>
     requires { OnlySeparators tokens.now from }
-    ensures { GivesUnits text.now tokens.now result (reading.units text.now tokens.now MAX_DEPTH (length tokens.now) [] true from) }
+    ensures { GivesUnits text.now tokens.now result
+        (reading.units text.now tokens.now MAX_DEPTH (length tokens.now) [] true from) }
 {
     let mut units = Vec::new(alloc);
     let mut first = true;

@@ -72,7 +72,9 @@ fn keep_one<'m>(
     code: &Code<'m>,
     names: usize,
 ) -> Option<Code<'m>>
-    ensures more { IfSome result (λ c. expr_in (scope_with constants.new.items) c ≡ expr_in (scope_with constants.old.items) code.now) }
+    ensures more { IfSome result (λ c.
+        expr_in (scope_with constants.new.items) c
+        ≡ expr_in (scope_with constants.old.items) code.now) }
     ensures none { IfNone result (constants.new.items ≡ constants.old.items) }
 {
     let constant = next_constant(alloc, code, names)?;
@@ -158,7 +160,8 @@ fn with_definitions<'m>(alloc: Global, kept: Prepared<'m>, names: usize) -> Prep
 
 /// The shared code of an expression, if sharing finds something.
 fn defined<'m>(alloc: Global, kept: &Prepared<'m>, names: usize) -> Option<Code<'m>>
-    ensures { IfSome result (λ c. expr_in (scope_with kept.now.constants.items) c ≡ prepared_expr kept.now) }
+    ensures { IfSome result (λ c.
+        expr_in (scope_with kept.now.constants.items) c ≡ prepared_expr kept.now) }
 {
     let outside = outside_of(alloc, kept.constants.as_slice())?;
     shared(alloc, &kept.code, names, outside.as_slice())

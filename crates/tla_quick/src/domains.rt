@@ -25,7 +25,8 @@ pub(crate) fn known_lists<'a>(
     place: &Place,
     sets: &'a [Evaluated<'a>],
 ) -> Result<Vec<&'a [Value]>, Stop>
-    ensures { Answers (λ v. map (λ l. map tree_of l.now) v.items) result (each (as_set place.now) (map tree_of_evaluated sets.now)) }
+    ensures { Answers (λ v. map (λ l. map tree_of l.now) v.items) result
+        (each (as_set place.now) (map tree_of_evaluated sets.now)) }
 {
     Ok(lists_of(alloc, place, sets)?)
 }
@@ -36,7 +37,9 @@ pub(crate) fn known_choice(
     lists: &[&[Value]],
     number: usize,
 ) -> Result<Option<Vec<Value>>, Stop>
-    ensures { IfOk result (λ o. option_map (λ v. map tree_of v.items) o ≡ slice_get (choices (map (λ l. map tree_of l.now) lists.now)) number) }
+    ensures { IfOk result (λ o.
+        option_map (λ v. map tree_of v.items) o
+        ≡ slice_get (choices (map (λ l. map tree_of l.now) lists.now)) number) }
 {
     Ok(choice_at(alloc, lists, number)?)
 }
@@ -50,7 +53,9 @@ pub(crate) fn gather(values: &mut Gathered, value: Value) -> Result<(), Stop>
 
 /// The set of the gathered values.
 pub(crate) fn gathered_set(place: &Place, values: Gathered) -> Result<Value, Stop>
-    ensures { (ts : List Tree) → IsGathered ts values → Answers tree_of result (make_set place.now ts) }
+    ensures { (ts : List Tree)
+        → IsGathered ts values
+        → Answers tree_of result (make_set place.now ts) }
 {
     Ok(values.into_set(place)?)
 }
@@ -61,7 +66,12 @@ pub(crate) fn known_domain(
     place: &Place,
     sets: &[Evaluated<'_>],
 ) -> Result<SetValue, Stop>
-    ensures { IfOk result (λ ts. (ys : List Tree) → AreForChoices place.now (map tree_of_evaluated sets.now) ys → (length ts ≡ length ys) × (function_rule place.now (map tree_of_evaluated sets.now) ys ≡ make_fun place.now (zip ts ys))) }
+    ensures { IfOk result (λ ts.
+        (ys : List Tree)
+        → AreForChoices place.now (map tree_of_evaluated sets.now) ys
+        → (length ts ≡ length ys)
+        × (function_rule place.now (map tree_of_evaluated sets.now) ys
+        ≡ make_fun place.now (zip ts ys))) }
 {
     if sets.len() == 1 {
         one_domain(alloc, place, sets)
@@ -73,7 +83,12 @@ pub(crate) fn known_domain(
 /// The domain for one set: its members.
 fn one_domain(alloc: Global, place: &Place, sets: &[Evaluated<'_>]) -> Result<SetValue, Stop>
     requires { length sets.now ≡ 1 }
-    ensures { IfOk result (λ ts. (ys : List Tree) → AreForChoices place.now (map tree_of_evaluated sets.now) ys → (length ts ≡ length ys) × (function_rule place.now (map tree_of_evaluated sets.now) ys ≡ make_fun place.now (zip ts ys))) }
+    ensures { IfOk result (λ ts.
+        (ys : List Tree)
+        → AreForChoices place.now (map tree_of_evaluated sets.now) ys
+        → (length ts ≡ length ys)
+        × (function_rule place.now (map tree_of_evaluated sets.now) ys
+        ≡ make_fun place.now (zip ts ys))) }
 {
     let domain = copied_set(alloc, place, sets[0].value())?;
     Ok(domain)
@@ -82,7 +97,12 @@ fn one_domain(alloc: Global, place: &Place, sets: &[Evaluated<'_>]) -> Result<Se
 /// The domain for several sets: the tuples with one member of each.
 fn domain_of_several(alloc: Global, place: &Place, sets: &[Evaluated<'_>]) -> Result<SetValue, Stop>
     requires { length sets.now ≡ 1 → ⊥ }
-    ensures { IfOk result (λ ts. (ys : List Tree) → AreForChoices place.now (map tree_of_evaluated sets.now) ys → (length ts ≡ length ys) × (function_rule place.now (map tree_of_evaluated sets.now) ys ≡ make_fun place.now (zip ts ys))) }
+    ensures { IfOk result (λ ts.
+        (ys : List Tree)
+        → AreForChoices place.now (map tree_of_evaluated sets.now) ys
+        → (length ts ≡ length ys)
+        × (function_rule place.now (map tree_of_evaluated sets.now) ys
+        ≡ make_fun place.now (zip ts ys))) }
 {
     match domain_of(alloc, place, sets)? {
         Domain::Tuples(tuples) => Ok(tuples),
@@ -98,7 +118,8 @@ pub(crate) fn made_function_with(
     values: Vec<Value>,
 ) -> Result<Value, Stop>
     requires { length domain.now ≡ length values.items }
-    ensures { Answers tree_of result (make_fun place.now (zip domain.now (map tree_of values.items))) }
+    ensures { Answers tree_of result
+        (make_fun place.now (zip domain.now (map tree_of values.items))) }
 {
     Ok(function_with(alloc, place, domain, values)?)
 }

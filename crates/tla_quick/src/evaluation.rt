@@ -121,7 +121,8 @@ pub(crate) fn has<'m: 'a, 'a>(
     member: &'a Value,
     env: Environment<'m, 'a>,
 ) -> Result<bool, Stop>
-    ensures { Answers (λ b. b) result (has_in env.entry (tree_of member.now) (code_in env.entry code.now)) }
+    ensures { Answers (λ b. b) result
+        (has_in env.entry (tree_of member.now) (code_in env.entry code.now)) }
 {
     if !is_asked(code) {
         return has_known(value(alloc, code, env)?.value(), member);
@@ -149,7 +150,9 @@ pub(crate) fn elements<'m: 'a, 'a>(
     code: &'a Code<'m>,
     env: Environment<'m, 'a>,
 ) -> Result<Elements<'a>, Stop>
-    ensures { Answers elements_of result (elements place.now (means (code_in env.entry code.now)) (bound_in env.entry) (present_in env.entry) (next_in env.entry)) }
+    ensures { Answers elements_of result
+        (elements place.now (means (code_in env.entry code.now)) (bound_in env.entry)
+        (present_in env.entry) (next_in env.entry)) }
 {
     match code {
         Code::Two(at, form, left, right) => elements_of_two(
@@ -170,7 +173,11 @@ fn elements_of_two<'m: 'a, 'a>(
     right: &'a Code<'m>,
     env: Environment<'m, 'a>,
 ) -> Result<Elements<'a>, Stop>
-    ensures { Answers elements_of result (elements place.now (means (two_expr form at.now (code_in env.entry left.now) (code_in env.entry right.now))) (bound_in env.entry) (present_in env.entry) (next_in env.entry)) }
+    ensures { Answers elements_of result
+        (elements place.now
+        (means
+        (two_expr form at.now (code_in env.entry left.now) (code_in env.entry right.now)))
+        (bound_in env.entry) (present_in env.entry) (next_in env.entry)) }
 {
     match form {
         TwoForm::Operator(operator) => {

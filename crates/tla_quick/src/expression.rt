@@ -55,7 +55,10 @@ impl<'m> Expression<'m> {
         now: Option<&'x State>,
         partial: &'x Partial,
     ) -> Option<Value>
-        ensures { IfSome result (λ v. val (expr_of self.now.core.now) (map tree_of bound.now) (option_map (λ s. s.now) now.entry) partial.now ≡ Ok (tree_of v)) }
+        ensures { IfSome result (λ v.
+            val (expr_of self.now.core.now) (map tree_of bound.now)
+            (option_map (λ s. s.now) now.entry) partial.now
+            ≡ Ok (tree_of v)) }
     {
         let outer = Frame::Outer(&self.prepared.constants);
         let frame = Frame::Many(&outer, 0, bound);
@@ -81,7 +84,10 @@ impl<'m> Expression<'m> {
         now: Option<&'x State>,
         partial: &'x Partial,
     ) -> Option<bool>
-        ensures { IfSome result (λ b. asks place (means (expr_of self.now.core.now)) (map tree_of bound.now) (option_map (λ s. s.now) now.entry) partial.now ≡ Ok b) }
+        ensures { IfSome result (λ b.
+            asks place (means (expr_of self.now.core.now)) (map tree_of bound.now)
+            (option_map (λ s. s.now) now.entry) partial.now
+            ≡ Ok b) }
     {
         let outer = Frame::Outer(&self.prepared.constants);
         let frame = Frame::Many(&outer, 0, bound);
@@ -104,7 +110,10 @@ impl<'m> Expression<'m> {
         now: Option<&'x State>,
         partial: &'x Partial,
     ) -> Option<bool>
-        ensures { IfSome result (λ b. mem (tree_of member.now) (expr_of self.now.core.now) (map tree_of bound.now) (option_map (λ s. s.now) now.entry) partial.now ≡ Ok b) }
+        ensures { IfSome result (λ b.
+            mem (tree_of member.now) (expr_of self.now.core.now) (map tree_of bound.now)
+            (option_map (λ s. s.now) now.entry) partial.now
+            ≡ Ok b) }
     {
         let outer = Frame::Outer(&self.prepared.constants);
         let frame = Frame::Many(&outer, 0, bound);
@@ -128,7 +137,10 @@ impl<'m> Expression<'m> {
         now: Option<&'x State>,
         partial: &'x Partial,
     ) -> Option<Vec<Value>>
-        ensures { IfSome result (λ v. elements place.now (means (expr_of self.now.core.now)) (map tree_of bound.now) (option_map (λ s. s.now) now.entry) partial.now ≡ Ok (map tree_of v.items)) }
+        ensures { IfSome result (λ v.
+            elements place.now (means (expr_of self.now.core.now)) (map tree_of bound.now)
+            (option_map (λ s. s.now) now.entry) partial.now
+            ≡ Ok (map tree_of v.items)) }
     {
         let outer = Frame::Outer(&self.prepared.constants);
         let frame = Frame::Many(&outer, 0, bound);

@@ -24,7 +24,9 @@ pub(crate) enum Frame<'m, 'a> {
 
 /// The value of a bound name.
 pub(crate) fn bound_name<'m: 'a, 'a>(frame: &'a Frame<'m, 'a>, index: usize) -> Option<&'a Value>
-    ensures { (s : Present) (t : Next) → Knows frame.entry.now s t → IfSome result (λ v. slice_get (bound_of frame.entry.now) index ≡ Some (tree_of v.now)) }
+    ensures { (s : Present) (t : Next)
+        → Knows frame.entry.now s t
+        → IfSome result (λ v. slice_get (bound_of frame.entry.now) index ≡ Some (tree_of v.now)) }
 {
     match frame {
         Frame::Outer(_) => None,
@@ -55,7 +57,10 @@ pub(crate) struct Found<'a> {
 
 /// The value of the closed part with a number.
 fn kept_value<'m: 'a, 'a>(constants: &'a Vec<Constant<'m>>, number: usize) -> Option<&'a Value>
-    ensures { (frame : Frame) (s : Present) (t : Next) → bound_of frame ≡ [] → scope_of frame ≡ scope_with constants.now.items → IfSome result (λ v. IsDefinition frame s t number 0 (tree_of v.now)) }
+    ensures { (frame : Frame) (s : Present) (t : Next)
+        → bound_of frame ≡ []
+        → scope_of frame ≡ scope_with constants.now.items
+        → IfSome result (λ v. IsDefinition frame s t number 0 (tree_of v.now)) }
 {
     match constants.get(number) {
         Some(constant) => Some(&constant.value),
@@ -65,7 +70,11 @@ fn kept_value<'m: 'a, 'a>(constants: &'a Vec<Constant<'m>>, number: usize) -> Op
 
 /// Closed part `number`, as a definition in the empty scope.
 fn found_among<'m: 'a, 'a>(constants: &'a Vec<Constant<'m>>, number: usize) -> Option<Found<'a>>
-    ensures { (frame : Frame) (s : Present) (t : Next) → bound_of frame ≡ [] → scope_of frame ≡ scope_with constants.now.items → IfSome result (λ f. IfSome f.value (λ v. IsDefinition frame s t number f.names (tree_of v.now))) }
+    ensures { (frame : Frame) (s : Present) (t : Next)
+        → bound_of frame ≡ []
+        → scope_of frame ≡ scope_with constants.now.items
+        → IfSome result (λ f.
+        IfSome f.value (λ v. IsDefinition frame s t number f.names (tree_of v.now))) }
 {
     match kept_value(constants, number) {
         Some(value) => Some(Found {
@@ -78,7 +87,11 @@ fn found_among<'m: 'a, 'a>(constants: &'a Vec<Constant<'m>>, number: usize) -> O
 
 /// The definition with a number.
 pub(crate) fn definition<'m: 'a, 'a>(frame: &'a Frame<'m, 'a>, number: usize) -> Option<Found<'a>>
-    ensures { (s : Present) (t : Next) → Knows frame.entry.now s t → IfSome result (λ f. IfSome f.value (λ v. IsDefinition frame.entry.now s t number f.names (tree_of v.now))) }
+    ensures { (s : Present) (t : Next)
+        → Knows frame.entry.now s t
+        → IfSome result (λ f.
+        IfSome f.value (λ v.
+        IsDefinition frame.entry.now s t number f.names (tree_of v.now))) }
 {
     match frame {
         Frame::Outer(constants) => found_among(constants, number),

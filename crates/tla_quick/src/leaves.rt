@@ -42,7 +42,8 @@ pub(crate) fn bound_value<'m: 'a, 'a>(
 
 /// The present value of a variable.
 fn now_value<'a>(now: Option<&'a State>, variable: usize) -> Result<&'a Value, Stop>
-    ensures { IfOk result (λ v. variable_of (option_map (λ s. s.now) now.entry) variable ≡ tree_of v.now) }
+    ensures { IfOk result (λ v.
+        variable_of (option_map (λ s. s.now) now.entry) variable ≡ tree_of v.now) }
 {
     match now {
         Some(state) => match state.values().get(variable) {
@@ -73,7 +74,10 @@ pub(crate) fn used_value<'m: 'a, 'a>(
     by: usize,
     env: Environment<'m, 'a>,
 ) -> Result<&'a Value, Stop>
-    ensures { (place : Place) → IfOk result (λ v. value_in env.entry (used place by (slice_get (scope_in env.entry) number)) ≡ Ok (tree_of v.now)) }
+    ensures { (place : Place)
+        → IfOk result (λ v.
+        value_in env.entry (used place by (slice_get (scope_in env.entry) number))
+        ≡ Ok (tree_of v.now)) }
 {
     match definition(env.frame, number) {
         Some(found) => known_value(found, number, by, env.names),
@@ -192,7 +196,9 @@ pub(crate) fn open_items<'m: 'a, 'a>(
     openings: &'a [Opening],
     env: Environment<'m, 'a>,
 ) -> Result<Vec<Value>, Stop>
-    ensures { (p : Place) → Answers (λ v. map tree_of v.items) result (opened_items p openings.now (bound_in env.entry)) }
+    ensures { (p : Place)
+        → Answers (λ v. map tree_of v.items) result
+        (opened_items p openings.now (bound_in env.entry)) }
 {
     let mut items = Vec::new(alloc);
     for opening in openings {

@@ -40,7 +40,9 @@ use tla_value::{FunValue, SetValue, Value, ValueError};
 /// An owned value: a borrowed one is copied.
 pub(crate) fn owned(alloc: Global, value: Evaluated<'_>) -> Result<Value, Stop>
     ensures value { IfOk result (λ v. tree_of_evaluated value.entry ≡ tree_of v) }
-    ensures told { (o : Outcome Tree) → o ≡ Ok (tree_of_evaluated value.entry) → Answers tree_of result o }
+    ensures told { (o : Outcome Tree)
+        → o ≡ Ok (tree_of_evaluated value.entry)
+        → Answers tree_of result o }
 {
     Ok(value.into_value(alloc)?)
 }
@@ -67,7 +69,9 @@ pub(crate) fn count_more(count: usize, more: usize) -> Result<usize, Stop>
 
 /// Whether a value is a member of an expression, the value of which is known.
 pub(crate) fn has_known(set: &Value, value: &Value) -> Result<bool, Stop>
-    ensures { (e : Expr) (b : Bound) (s : Present) (t : Next) → val e b s t ≡ Ok (tree_of set.now) → Answers (λ x. x) result (mem (tree_of value.now) e b s t) }
+    ensures { (e : Expr) (b : Bound) (s : Present) (t : Next)
+        → val e b s t ≡ Ok (tree_of set.now)
+        → Answers (λ x. x) result (mem (tree_of value.now) e b s t) }
 {
     sets();
     let _depth = value.nesting();
@@ -84,7 +88,9 @@ pub(crate) fn made_of_one<'m, 'a>(
     form: OneForm<'m>,
     operand: Evaluated<'a>,
 ) -> Result<Evaluated<'a>, Stop>
-    ensures { (e : Expr) (b : Bound) (s : Present) (t : Next) → val e b s t ≡ Ok (tree_of_evaluated operand.entry) → Answers tree_of_evaluated result (val (one_expr form.entry place.now e) b s t) }
+    ensures { (e : Expr) (b : Bound) (s : Present) (t : Next)
+        → val e b s t ≡ Ok (tree_of_evaluated operand.entry)
+        → Answers tree_of_evaluated result (val (one_expr form.entry place.now e) b s t) }
 {
     match form {
         OneForm::Operator(operator) => Ok(unary(alloc, place, operator, operand)?),
@@ -106,7 +112,10 @@ pub(crate) fn made_of_two<'a>(
     left: Evaluated<'a>,
     right: Evaluated<'a>,
 ) -> Result<Evaluated<'a>, Stop>
-    ensures { (e d : Expr) (b : Bound) (s : Present) (t : Next) → val e b s t ≡ Ok (tree_of_evaluated left.entry) → val d b s t ≡ Ok (tree_of_evaluated right.entry) → Answers tree_of_evaluated result (val (two_expr form place.now e d) b s t) }
+    ensures { (e d : Expr) (b : Bound) (s : Present) (t : Next)
+        → val e b s t ≡ Ok (tree_of_evaluated left.entry)
+        → val d b s t ≡ Ok (tree_of_evaluated right.entry)
+        → Answers tree_of_evaluated result (val (two_expr form place.now e d) b s t) }
 {
     match form {
         TwoForm::Apply => Ok(apply(alloc, place, left, right.value())?),
@@ -122,7 +131,10 @@ fn made_of_values(
     left: &Value,
     right: &Value,
 ) -> Result<Value, Stop>
-    ensures { (e d : Expr) (b : Bound) (s : Present) (t : Next) → val e b s t ≡ Ok (tree_of left.now) → val d b s t ≡ Ok (tree_of right.now) → Answers tree_of result (val (two_expr form place.now e d) b s t) }
+    ensures { (e d : Expr) (b : Bound) (s : Present) (t : Next)
+        → val e b s t ≡ Ok (tree_of left.now)
+        → val d b s t ≡ Ok (tree_of right.now)
+        → Answers tree_of result (val (two_expr form place.now e d) b s t) }
 {
     match form {
         TwoForm::Operator(operator) => Ok(binary(alloc, place, operator, left, right)?),
@@ -141,7 +153,10 @@ pub(crate) fn compared(
     left: &Value,
     right: &Value,
 ) -> Result<bool, Stop>
-    ensures { (e d : Expr) (b : Bound) (s : Present) (t : Next) → val e b s t ≡ Ok (tree_of left.now) → val d b s t ≡ Ok (tree_of right.now) → Answers truth result (val (two_expr form place.now e d) b s t) }
+    ensures { (e d : Expr) (b : Bound) (s : Present) (t : Next)
+        → val e b s t ≡ Ok (tree_of left.now)
+        → val d b s t ≡ Ok (tree_of right.now)
+        → Answers truth result (val (two_expr form place.now e d) b s t) }
 {
     match form {
         TwoForm::Equal => Ok(left == right),
@@ -152,7 +167,8 @@ pub(crate) fn compared(
 
 /// Whether an operator that compares two values gives TRUE.
 fn compared_by(place: &Place, operator: Binary, left: &Value, right: &Value) -> Result<bool, Stop>
-    ensures { Answers truth result (binary_rule (binary_of operator) place.now (tree_of left.now) (tree_of right.now)) }
+    ensures { Answers truth result
+        (binary_rule (binary_of operator) place.now (tree_of left.now) (tree_of right.now)) }
 {
     match operator {
         Binary::Unequal => Ok(left != right),
@@ -179,7 +195,8 @@ fn compared_by(place: &Place, operator: Binary, left: &Value, right: &Value) -> 
 
 /// `<=>`
 fn same_truth(left: &Value, right: &Value) -> Result<bool, Stop>
-    ensures { (p : AnyPlace) → Answers truth result (binary_rule Iff p (tree_of left.now) (tree_of right.now)) }
+    ensures { (p : AnyPlace)
+        → Answers truth result (binary_rule Iff p (tree_of left.now) (tree_of right.now)) }
 {
     match (left, right) {
         (Value::Truth(left), Value::Truth(right)) => Ok(*left == *right),
@@ -196,7 +213,11 @@ pub(crate) fn operator_has(
     right: &Value,
     value: &Value,
 ) -> Result<bool, Stop>
-    ensures { (e d : Expr) (b : Bound) (s : Present) (t : Next) → val e b s t ≡ Ok (tree_of left.now) → val d b s t ≡ Ok (tree_of right.now) → Answers (λ x. x) result (mem (tree_of value.now) (two_expr (of_two operator) place.now e d) b s t) }
+    ensures { (e d : Expr) (b : Bound) (s : Present) (t : Next)
+        → val e b s t ≡ Ok (tree_of left.now)
+        → val d b s t ≡ Ok (tree_of right.now)
+        → Answers (λ x. x) result
+        (mem (tree_of value.now) (two_expr (of_two operator) place.now e d) b s t) }
 {
     Ok(two_have(alloc, place, operator, left, right, value)?)
 }
@@ -210,14 +231,20 @@ pub(crate) fn operator_elements<'a>(
     left: &Value,
     right: &Value,
 ) -> Result<Elements<'a>, Stop>
-    ensures { (e d : Expr) (b : Bound) (s : Present) (t : Next) → val e b s t ≡ Ok (tree_of left.now) → val d b s t ≡ Ok (tree_of right.now) → Answers elements_of result (elements place.now (means (two_expr (of_two operator) at.now e d)) b s t) }
+    ensures { (e d : Expr) (b : Bound) (s : Present) (t : Next)
+        → val e b s t ≡ Ok (tree_of left.now)
+        → val d b s t ≡ Ok (tree_of right.now)
+        → Answers elements_of result
+        (elements place.now (means (two_expr (of_two operator) at.now e d)) b s t) }
 {
     Ok(elements_of_two(alloc, place, at, operator, left, right)?)
 }
 
 /// The elements of a value that is a set.
 pub(crate) fn known_elements<'a>(place: &Place, set: Evaluated<'a>) -> Result<Elements<'a>, Stop>
-    ensures { (e : Expr) (b : Bound) (s : Present) (t : Next) → val e b s t ≡ Ok (tree_of_evaluated set.entry) → Answers elements_of result (elements place.now (means e) b s t) }
+    ensures { (e : Expr) (b : Bound) (s : Present) (t : Next)
+        → val e b s t ≡ Ok (tree_of_evaluated set.entry)
+        → Answers elements_of result (elements place.now (means e) b s t) }
 {
     Ok(members_of(place, set)?)
 }
@@ -230,14 +257,20 @@ pub(crate) fn made_of_three(
     second: &Value,
     third: &Value,
 ) -> Result<Value, Stop>
-    ensures { (e d f : Expr) (b : Bound) (s : Present) (t : Next) → val e b s t ≡ Ok (tree_of first.now) → val d b s t ≡ Ok (tree_of second.now) → val f b s t ≡ Ok (tree_of third.now) → Answers tree_of result (val (sub_seq place.now e d f) b s t) }
+    ensures { (e d f : Expr) (b : Bound) (s : Present) (t : Next)
+        → val e b s t ≡ Ok (tree_of first.now)
+        → val d b s t ≡ Ok (tree_of second.now)
+        → val f b s t ≡ Ok (tree_of third.now)
+        → Answers tree_of result (val (sub_seq place.now e d f) b s t) }
 {
     Ok(sub_seq(alloc, place, first, second, third)?)
 }
 
 /// What a form with a list of operands makes of their values.
 pub(crate) fn made_of_list(place: &Place, form: ListForm, values: Vec<Value>) -> Result<Value, Stop>
-    ensures { (es : Exprs) (b : Bound) (s : Present) (t : Next) → each (λ (m : Meaning). m.value b s t) (mean_all es) ≡ Ok (map tree_of values.items) → Answers tree_of result (val (list_expr form place.now es) b s t) }
+    ensures { (es : Exprs) (b : Bound) (s : Present) (t : Next)
+        → each (λ (m : Meaning). m.value b s t) (mean_all es) ≡ Ok (map tree_of values.items)
+        → Answers tree_of result (val (list_expr form place.now es) b s t) }
 {
     match form {
         ListForm::Enumerated => Ok(made_set(place, SetValue::from_values(values))?),
@@ -252,7 +285,10 @@ pub(crate) fn made_product(
     place: &Place,
     values: &[Evaluated<'_>],
 ) -> Result<Value, Stop>
-    ensures { (es : Exprs) (b : Bound) (s : Present) (t : Next) → each (λ (m : Meaning). m.value b s t) (mean_all es) ≡ Ok (map tree_of_evaluated values.now) → Answers tree_of result (val (product place.now es) b s t) }
+    ensures { (es : Exprs) (b : Bound) (s : Present) (t : Next)
+        → each (λ (m : Meaning). m.value b s t) (mean_all es)
+        ≡ Ok (map tree_of_evaluated values.now)
+        → Answers tree_of result (val (product place.now es) b s t) }
 {
     Ok(tuples_with(alloc, place, values)?)
 }
@@ -264,7 +300,10 @@ pub(crate) fn one_of_known(
     values: &[Evaluated<'_>],
     value: &Value,
 ) -> Result<bool, Stop>
-    ensures { (es : Exprs) (b : Bound) (s : Present) (t : Next) → each (λ (m : Meaning). m.value b s t) (mean_all es) ≡ Ok (map tree_of_evaluated values.now) → Answers (λ x. x) result (mem (tree_of value.now) (enumerated place.now es) b s t) }
+    ensures { (es : Exprs) (b : Bound) (s : Present) (t : Next)
+        → each (λ (m : Meaning). m.value b s t) (mean_all es)
+        ≡ Ok (map tree_of_evaluated values.now)
+        → Answers (λ x. x) result (mem (tree_of value.now) (enumerated place.now es) b s t) }
 {
     Ok(set_has(alloc, place, values, value)?)
 }
@@ -283,7 +322,8 @@ pub(crate) fn chosen<'a>(
     elements: &'a Elements<'a>,
     number: usize,
 ) -> Result<Value, Stop>
-    ensures { Answers tree_of result (or_fault NoChoice place.now (slice_get (elements_of elements.now) number)) }
+    ensures { Answers tree_of result
+        (or_fault NoChoice place.now (slice_get (elements_of elements.now) number)) }
 {
     Ok(chosen_at(alloc, place, elements, number)?)
 }
@@ -296,7 +336,12 @@ pub(crate) fn keep<'a>(
     number: usize,
     keep: bool,
 ) -> Result<(), Stop>
-    ensures { OnOk result (map tree_of kept.new.items ≡ cond keep (map tree_of kept.old.items ++ option_to_list (slice_get (elements_of elements.now) number)) (map tree_of kept.old.items)) }
+    ensures { OnOk result
+        (map tree_of kept.new.items
+        ≡ cond keep
+        (map tree_of kept.old.items
+        ++ option_to_list (slice_get (elements_of elements.now) number))
+        (map tree_of kept.old.items)) }
 {
     Ok(keep_at(alloc, kept, elements, number, keep)?)
 }
@@ -304,7 +349,8 @@ pub(crate) fn keep<'a>(
 /// The members of a value that is a set.
 #[tactic(auto, using(tla_operators::proofs::Known::as_set_known))]
 pub(crate) fn known_members(set: &Value) -> Result<&[Value], Stop>
-    ensures { (place : AnyPlace) → Answers (λ vs. map tree_of vs.now) result (as_set place (tree_of set.now)) }
+    ensures { (place : AnyPlace)
+        → Answers (λ vs. map tree_of vs.now) result (as_set place (tree_of set.now)) }
 {
     match set {
         Value::Set(set) => Ok(set.items()),
@@ -342,7 +388,9 @@ pub(crate) fn made_function(
     place: &Place,
     made: Result<FunValue, ValueError>,
 ) -> Result<Value, Stop>
-    ensures { (ps : List (Tree × Tree)) → MakesFun ps made → Answers tree_of result (rising_fun place.now ps) }
+    ensures { (ps : List (Tree × Tree))
+        → MakesFun ps made
+        → Answers tree_of result (rising_fun place.now ps) }
 {
     Ok(made_fun(place, made)?)
 }

@@ -71,7 +71,9 @@ fn are_fields<'m>(values: &[Value], fields: &[(&'m Text, Code<'m>)]) -> bool
 
 /// Whether the arguments of a function are just the names of some fields.
 fn has_names<'m>(function: &FunValue, fields: &[(&'m Text, Code<'m>)]) -> bool
-    ensures { result ≡ tree_eq (set (trees (arguments function.now))) (set (trees (set_of (names_in fields.now)))) }
+    ensures { result
+        ≡ tree_eq (set (trees (arguments function.now)))
+        (set (trees (set_of (names_in fields.now)))) }
 {
     match function.arguments() {
         Arguments::Listed(arguments) => are_fields(arguments, fields)
@@ -82,7 +84,11 @@ fn has_names<'m>(function: &FunValue, fields: &[(&'m Text, Code<'m>)]) -> bool
 
 /// The same, of the fields of an expression.
 pub(crate) fn has_just<'m>(function: &FunValue, fields: &[(&'m Text, Code<'m>)]) -> bool
-    ensures { (scope : Scope) → result ≡ tree_eq (set (trees (arguments function.now))) (set (trees (set_of (keys_of (mean_fields (fields_of_codes scope fields.now)))))) }
+    ensures { (scope : Scope)
+        → result
+        ≡ tree_eq (set (trees (arguments function.now)))
+        (set
+        (trees (set_of (keys_of (mean_fields (fields_of_codes scope fields.now)))))) }
 {
     has_names(function, fields)
 }

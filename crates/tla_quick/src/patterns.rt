@@ -12,7 +12,8 @@ use tla_value::Value;
 
 /// The items of an element that is a sequence of `count` items.
 pub(crate) fn fitting<'a>(count: usize, element: &'a Value) -> Result<&'a [Value], Stop>
-    ensures { (p : Place) → Answers (λ vs. map tree_of vs.now) result (fitting p count (tree_of element.now)) }
+    ensures { (p : Place)
+        → Answers (λ vs. map tree_of vs.now) result (fitting p count (tree_of element.now)) }
 {
     match sequence_items(element) {
         Some(items) => {
@@ -28,7 +29,9 @@ pub(crate) fn fitting<'a>(count: usize, element: &'a Value) -> Result<&'a [Value
 
 /// Tries each of these elements.
 fn try_all(count: usize, elements: &[Value]) -> Result<(), Stop>
-    ensures { (p : Place) → Answers (λ u. u) result (nothing_of (each (fitting p count) (map tree_of elements.now))) }
+    ensures { (p : Place)
+        → Answers (λ u. u) result
+        (nothing_of (each (fitting p count) (map tree_of elements.now))) }
 {
     for element in elements {
         fitting(count, element)?;
@@ -38,7 +41,8 @@ fn try_all(count: usize, elements: &[Value]) -> Result<(), Stop>
 
 /// Tries each element of a value that is a set.
 pub(crate) fn try_set(count: usize, value: &Value) -> Result<(), Stop>
-    ensures { (p : Place) → Answers (λ u. tree_of value.now) result (tried_set p count (tree_of value.now)) }
+    ensures { (p : Place)
+        → Answers (λ u. tree_of value.now) result (tried_set p count (tree_of value.now)) }
 {
     match value {
         Value::Set(set) => try_all(count, set.items()),

@@ -26,8 +26,10 @@ pub struct WriteFault {
 
 /// Writes the report. The first write that fails or takes no byte ends it. Takes no memory.
 pub fn write_report<W: Write>(checked: &Checked, out: &mut W) -> Result<(), WriteFault>
-    ensures ok { OnOk result (Appends (W.contents out.old) (W.contents out.new) (report checked.now)) }
-    ensures fault { IfErr result (λ e. AddsFirst (W.contents out.old) (W.contents out.new) (report checked.now) e.written) }
+    ensures ok { OnOk result
+        (Appends (W.contents out.old) (W.contents out.new) (report checked.now)) }
+    ensures fault { IfErr result (λ e.
+        AddsFirst (W.contents out.old) (W.contents out.new) (report checked.now) e.written) }
 {
     match put_report(checked, out) {
         Ok(_) => Ok(()),
@@ -99,7 +101,8 @@ fn put_fault<W: Write>(
     out: &mut W,
 ) -> Result<u64, ShortWrite>
     requires about { IsAboutOne (length answered.now.variables) fault.now.place fault.now.variable }
-    requires named { IsNamedPart (length answered.now.invariants) (length answered.now.constraints) part }
+    requires named { IsNamedPart (length answered.now.invariants) (length answered.now.constraints)
+        part }
     ensures { Puts (W.contents out.old) (W.contents out.new) 0
         (fault_line answered.now.variables answered.now.invariants answered.now.constraints fault.now part) result }
 {
@@ -223,7 +226,8 @@ fn put_states<W: Write>(
     mut written: u64,
 ) -> Result<u64, ShortWrite>
     requires { AreWhole (length variables.now) states.now }
-    ensures { Puts (W.contents out.old) (W.contents out.new) written (trace_lines variables.now 1 states.now) result }
+    ensures { Puts (W.contents out.old) (W.contents out.new) written
+        (trace_lines variables.now 1 states.now) result }
 {
     for (index, state) in states.iter().enumerate() {
         written = put_state(index + 1, state, variables, out, written)?;
@@ -239,7 +243,8 @@ fn put_state<W: Write>(
     written: u64,
 ) -> Result<u64, ShortWrite>
     requires { length state.now ≡ length variables.now }
-    ensures { Puts (W.contents out.old) (W.contents out.new) written (state_lines variables.now number state.now) result }
+    ensures { Puts (W.contents out.old) (W.contents out.new) written
+        (state_lines variables.now number state.now) result }
 {
     let pieces = [
         Piece::Text("State "),
@@ -257,7 +262,8 @@ fn put_values<W: Write>(
     mut written: u64,
 ) -> Result<u64, ShortWrite>
     requires { length values.now ≡ length variables.now }
-    ensures { Puts (W.contents out.old) (W.contents out.new) written (value_lines variables.now (map tree_of values.now)) result }
+    ensures { Puts (W.contents out.old) (W.contents out.new) written
+        (value_lines variables.now (map tree_of values.now)) result }
 {
     for (index, value) in values.iter().enumerate() {
         written = put_value(variables[index].as_str(), value, out, written)?;
@@ -271,7 +277,8 @@ fn put_value<'a, W: Write>(
     out: &mut W,
     written: u64,
 ) -> Result<u64, ShortWrite>
-    ensures { Puts (W.contents out.old) (W.contents out.new) written (value_line variable.now (tree_of value.now)) result }
+    ensures { Puts (W.contents out.old) (W.contents out.new) written
+        (value_line variable.now (tree_of value.now)) result }
 {
     let pieces = [
         Piece::Text("/\\ "),
@@ -306,7 +313,8 @@ enum Piece<'a> {
 
 // Writes the pieces and a line feed.
 fn put_line<W: Write>(pieces: &[Piece<'_>], out: &mut W, written: u64) -> Result<u64, ShortWrite>
-    ensures { Puts (W.contents out.old) (W.contents out.new) written (pieces_text pieces.now ++ codes "\n") result }
+    ensures { Puts (W.contents out.old) (W.contents out.new) written
+        (pieces_text pieces.now ++ codes "\n") result }
 {
     let written = put_pieces(pieces, out, written)?;
     put(out, written, b"\n")
@@ -317,7 +325,8 @@ fn put_pieces<W: Write>(
     out: &mut W,
     mut written: u64,
 ) -> Result<u64, ShortWrite>
-    ensures { Puts (W.contents out.old) (W.contents out.new) written (pieces_text pieces.now) result }
+    ensures { Puts (W.contents out.old) (W.contents out.new) written (pieces_text pieces.now)
+        result }
 {
     for piece in pieces {
         written = put_piece(piece, out, written)?;

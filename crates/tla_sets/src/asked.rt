@@ -33,7 +33,9 @@ pub fn two_have<'p>(
     right: &Value,
     value: &Value,
 ) -> Result<bool, Trouble<'p>>
-    ensures { GivesTruth result (has_rule place.now (tree_of value.now) (binary_rule (binary_of operator) place.now (tree_of left.now) (tree_of right.now))) }
+    ensures { GivesTruth result
+        (has_rule place.now (tree_of value.now)
+        (binary_rule (binary_of operator) place.now (tree_of left.now) (tree_of right.now))) }
 {
     match operator {
         Binary::Range => range_has(place, left, right, value),
@@ -48,7 +50,9 @@ fn range_has<'p>(
     right: &Value,
     value: &Value,
 ) -> Result<bool, Trouble<'p>>
-    ensures { GivesTruth result (has_rule place.now (tree_of value.now) (binary_rule Range place.now (tree_of left.now) (tree_of right.now))) }
+    ensures { GivesTruth result
+        (has_rule place.now (tree_of value.now)
+        (binary_rule Range place.now (tree_of left.now) (tree_of right.now))) }
 {
     let (low, high) = two_ints(place, left, right)?;
     range_between_has(place, low, high, value)
@@ -62,7 +66,8 @@ fn range_between_has<'p>(
     high: i64,
     value: &Value,
 ) -> Result<bool, Trouble<'p>>
-    ensures { GivesTruth result (has_rule place.now (tree_of value.now) (rising_set place.now (range_of low high))) }
+    ensures { GivesTruth result
+        (has_rule place.now (tree_of value.now) (rising_set place.now (range_of low high))) }
 {
     fits_range(place, low, high)?;
     Ok(is_between(value, low, high))
@@ -99,7 +104,8 @@ pub fn set_has<'p>(
     values: &[Evaluated<'_>],
     value: &Value,
 ) -> Result<bool, Trouble<'p>>
-    ensures { GivesTruth result (stands_rule place.now (map tree_of_evaluated values.now) (tree_of value.now)) }
+    ensures { GivesTruth result
+        (stands_rule place.now (map tree_of_evaluated values.now) (tree_of value.now)) }
 {
     if are_within(values) {
         Ok(stands_in(values, value))
@@ -111,7 +117,8 @@ pub fn set_has<'p>(
 /// Whether the set of some values is surely within the limits.
 fn are_within(values: &[Evaluated<'_>]) -> bool
     ensures few { result ≡ true → length values.now ≤ MAX_ELEMENTS }
-    ensures shallow { result ≡ true → deepest (trees (map tree_of_evaluated values.now)) < MAX_NESTING }
+    ensures shallow { result ≡ true
+        → deepest (trees (map tree_of_evaluated values.now)) < MAX_NESTING }
 {
     if values.len() > MAX_ELEMENTS {
         return false;

@@ -34,7 +34,8 @@ pub fn lists_of<'p, 'a>(
     place: &'p Place,
     sets: &'a [Evaluated<'a>],
 ) -> Result<Vec<&'a [Value]>, Trouble<'p>>
-    ensures { GivesBy (λ v. map (λ l. map tree_of l.now) v.items) result (each (as_set place.now) (map tree_of_evaluated sets.now)) }
+    ensures { GivesBy (λ v. map (λ l. map tree_of l.now) v.items) result
+        (each (as_set place.now) (map tree_of_evaluated sets.now)) }
 {
     let mut lists = Vec::with_capacity(alloc, sets.len())?;
     for set in sets {
@@ -64,7 +65,9 @@ pub fn choice_at<'p>(
     lists: &[&[Value]],
     number: usize,
 ) -> Result<Option<Vec<Value>>, Trouble<'p>>
-    ensures ok { IfOk result (λ o. option_map (λ v. map tree_of v.items) o ≡ slice_get (choices (map (λ l. map tree_of l.now) lists.now)) number) }
+    ensures ok { IfOk result (λ o.
+        option_map (λ v. map tree_of v.items) o
+        ≡ slice_get (choices (map (λ l. map tree_of l.now) lists.now)) number) }
     ensures err { IfErr result (λ f. f ≡ out_of_memory) }
 {
     let mut choice = Vec::with_capacity(alloc, lists.len())?;
@@ -115,8 +118,10 @@ pub fn function_on<'p>(
     values: Vec<Value>,
 ) -> Result<Value, Trouble<'p>>
     requires one { length sets.now ≡ 1 }
-    requires paired { AreForChoices place.now (map tree_of_evaluated sets.now) (map tree_of values.items) }
-    ensures { Gives result (function_rule place.now (map tree_of_evaluated sets.now) (map tree_of values.items)) }
+    requires paired { AreForChoices place.now (map tree_of_evaluated sets.now)
+        (map tree_of values.items) }
+    ensures { Gives result
+        (function_rule place.now (map tree_of_evaluated sets.now) (map tree_of values.items)) }
 {
     let domain = copied_set(alloc, place, sets[0].value())?;
     function_with(alloc, place, &domain, values)

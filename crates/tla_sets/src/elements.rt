@@ -61,7 +61,9 @@ pub fn elements_of_two<'p, 'a>(
     left: &Value,
     right: &Value,
 ) -> Result<Elements<'a>, Trouble<'p>>
-    ensures { GivesElements result (elements_rule place.now (binary_rule (binary_of operator) at.now (tree_of left.now) (tree_of right.now))) }
+    ensures { GivesElements result
+        (elements_rule place.now
+        (binary_rule (binary_of operator) at.now (tree_of left.now) (tree_of right.now))) }
 {
     match operator {
         Binary::Range => numbers(place, at, left, right),
@@ -76,7 +78,9 @@ fn numbers<'p, 'a>(
     left: &Value,
     right: &Value,
 ) -> Result<Elements<'a>, Trouble<'p>>
-    ensures { GivesElements result (elements_rule place.now (binary_rule Range at.now (tree_of left.now) (tree_of right.now))) }
+    ensures { GivesElements result
+        (elements_rule place.now
+        (binary_rule Range at.now (tree_of left.now) (tree_of right.now))) }
 {
     let (low, high) = two_ints(at, left, right)?;
     numbers_between(place, at, low, high)
@@ -90,7 +94,8 @@ fn numbers_between<'p, 'a>(
     low: i64,
     high: i64,
 ) -> Result<Elements<'a>, Trouble<'p>>
-    ensures { GivesElements result (elements_rule place.now (rising_set at.now (range_of low high))) }
+    ensures { GivesElements result
+        (elements_rule place.now (rising_set at.now (range_of low high))) }
 {
     fits_range(at, low, high)?;
     Ok(Elements::Numbers(low, high))
@@ -98,7 +103,8 @@ fn numbers_between<'p, 'a>(
 
 /// Whether the set of the numbers from `low` to `high` is within the limits.
 pub(crate) fn fits_range(place: &Place, low: i64, high: i64) -> Result<(), Trouble<'_>>
-    ensures { GivesBy (λ _. set (trees (range_of low high))) result (rising_set place.now (range_of low high)) }
+    ensures { GivesBy (λ _. set (trees (range_of low high))) result
+        (rising_set place.now (range_of low high)) }
 {
     if high < low {
         return Ok(());
@@ -168,7 +174,8 @@ pub fn chosen_at<'p, 'e>(
     elements: &'e Elements<'e>,
     number: usize,
 ) -> Result<Value, Trouble<'p>>
-    ensures { Gives result (or_fault NoChoice place.now (slice_get (elements_of elements.now) number)) }
+    ensures { Gives result
+        (or_fault NoChoice place.now (slice_get (elements_of elements.now) number)) }
 {
     match element_at(elements, number) {
         Some(element) => element.into_value(alloc),
@@ -184,7 +191,12 @@ pub fn keep_at<'p, 'e>(
     number: usize,
     keep: bool,
 ) -> Result<(), Trouble<'p>>
-    ensures ok { OnOk result (map tree_of kept.new.items ≡ cond keep (map tree_of kept.old.items ++ option_to_list (slice_get (elements_of elements.now) number)) (map tree_of kept.old.items)) }
+    ensures ok { OnOk result
+        (map tree_of kept.new.items
+        ≡ cond keep
+        (map tree_of kept.old.items
+        ++ option_to_list (slice_get (elements_of elements.now) number))
+        (map tree_of kept.old.items)) }
     ensures err { IfErr result (λ f. f ≡ out_of_memory) }
 {
     if !keep {

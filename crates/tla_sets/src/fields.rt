@@ -28,7 +28,8 @@ pub fn records_with<'p>(
     values: &[Evaluated<'_>],
 ) -> Result<Value, Trouble<'p>>
     requires { length fields.now ≡ length values.now }
-    ensures { Gives result (records_rule place.now (fields_of_cores fields.now) (map tree_of_evaluated values.now)) }
+    ensures { Gives result
+        (records_rule place.now (fields_of_cores fields.now) (map tree_of_evaluated values.now)) }
 {
     let sets = named_sets(alloc, place, fields, values)?;
     if are_different(fields) {
@@ -46,7 +47,8 @@ fn named_sets<'p>(
     values: &[Evaluated<'_>],
 ) -> Result<Vec<(Text, SetValue)>, Trouble<'p>>
     requires { length fields.now ≡ length values.now }
-    ensures { GivesBy (λ v. v.items) result (named_sets place.now (fields_of_cores fields.now) (map tree_of_evaluated values.now)) }
+    ensures { GivesBy (λ v. v.items) result
+        (named_sets place.now (fields_of_cores fields.now) (map tree_of_evaluated values.now)) }
 {
     let mut sets = Vec::with_capacity(alloc, fields.len())?;
     for i in 0..fields.len() {
@@ -99,7 +101,8 @@ fn is_name(argument: &Value, name: &Text) -> bool
 
 /// The position of a name among some values, counted from 0.
 fn name_place(values: &[Value], name: &Text) -> Option<usize>
-    ensures some { IfSome result (λ i. slice_get (map tree_of values.now) i ≡ Some (text name.now)) }
+    ensures some { IfSome result (λ i.
+        slice_get (map tree_of values.now) i ≡ Some (text name.now)) }
     ensures none { IfNone result (is_member (text name.now) (map tree_of values.now) ≡ false) }
 {
     for i in 0..values.len() {
@@ -126,7 +129,9 @@ pub fn field_in<'a>(function: &'a FunValue, name: &Text) -> Option<&'a Value>
 
 /// Whether a function has each field.
 fn has_fields(function: &FunValue, fields: &[(Text, Core)]) -> bool
-    ensures { result ≡ list_all (λ k. is_member k (arguments function.now)) (keys_of (fields_of_cores fields.now)) }
+    ensures { result
+        ≡ list_all (λ k. is_member k (arguments function.now))
+        (keys_of (fields_of_cores fields.now)) }
 {
     for field in fields {
         if field_in(function, &field.0).is_none() {
@@ -148,7 +153,9 @@ fn is_field(argument: &Value, fields: &[(Text, Core)]) -> bool
 
 /// Whether each of some values is the name of a field.
 fn are_fields(values: &[Value], fields: &[(Text, Core)]) -> bool
-    ensures { result ≡ list_all (λ a. is_member a (keys_of (fields_of_cores fields.now))) (map tree_of values.now) }
+    ensures { result
+        ≡ list_all (λ a. is_member a (keys_of (fields_of_cores fields.now)))
+        (map tree_of values.now) }
 {
     for value in values {
         if !is_field(value, fields) {
@@ -160,7 +167,9 @@ fn are_fields(values: &[Value], fields: &[(Text, Core)]) -> bool
 
 /// Whether the arguments of a function are just the names of some fields.
 pub fn has_just(function: &FunValue, fields: &[(Text, Core)]) -> bool
-    ensures { result ≡ tree_eq (set (trees (arguments function.now))) (set (trees (set_of (keys_of (fields_of_cores fields.now))))) }
+    ensures { result
+        ≡ tree_eq (set (trees (arguments function.now)))
+        (set (trees (set_of (keys_of (fields_of_cores fields.now))))) }
 {
     match function.arguments() {
         Arguments::Listed(arguments) => are_fields(arguments, fields)

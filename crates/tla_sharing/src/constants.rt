@@ -61,7 +61,10 @@ pub fn with_constant<'m>(
     names: usize,
     outside: &[usize],
 ) -> Option<Code<'m>>
-    ensures { IfSome result (λ c. (scope : Scope) → HasNames scope outside.now → expr_in (scope ++ (0, expr_in scope constant.now) ∷ []) c ≡ expr_in scope code.now) }
+    ensures { IfSome result (λ c.
+        (scope : Scope)
+        → HasNames scope outside.now
+        → expr_in (scope ++ (0, expr_in scope constant.now) ∷ []) c ≡ expr_in scope code.now) }
 {
     let target = Target {
         definition: constant,

@@ -38,7 +38,10 @@ pub(crate) fn is_copy(original: &Code<'_>, copy: &Code<'_>, shift: Shift<'_>) ->
 
 /// Whether a use of the definition with a number is the copy of one.
 fn is_copied_use(number: usize, names: usize, since: usize, shift: Shift<'_>) -> bool
-    ensures { IsTrue result → (outer : ℕ) → slice_get shift.entry.outside.now number ≡ Some outer → IsUse outer names since shift.entry.from shift.entry.by }
+    ensures { IsTrue result
+        → (outer : ℕ)
+        → slice_get shift.entry.outside.now number ≡ Some outer
+        → IsUse outer names since shift.entry.from shift.entry.by }
 {
     match shift.outside.get(number) {
         Some(outside) => is_use(*outside, names, since, shift.from, shift.by),

@@ -31,7 +31,8 @@ struct Spot<'o> {
 
 /// The same context under more names, one call deeper.
 fn under<'o>(spot: Spot<'o>, more: usize) -> Result<Spot<'o>, Declined>
-    ensures { IfOk result (λ s. (s.outside.now ≡ spot.entry.outside.now) × (s.calls + 1 ≡ spot.entry.calls)) }
+    ensures { IfOk result (λ s.
+        (s.outside.now ≡ spot.entry.outside.now) × (s.calls + 1 ≡ spot.entry.calls)) }
 {
     let Some(names) = spot.names.checked_add(more) else {
         return Err(Declined);
@@ -64,7 +65,8 @@ pub fn shared<'m>(
     names: usize,
     outside: &[usize],
 ) -> Option<Code<'m>>
-    ensures { IfSome result (λ c. (scope : Scope) → HasNames scope outside.now → expr_in scope c ≡ expr_in scope code.now) }
+    ensures { IfSome result (λ c.
+        (scope : Scope) → HasNames scope outside.now → expr_in scope c ≡ expr_in scope code.now) }
 {
     let spot = Spot {
         names,
@@ -140,7 +142,8 @@ fn boxed_inside<'m>(
     body: &Code<'m>,
     spot: Spot<'_>,
 ) -> Result<Box<Code<'m>>, Declined>
-    ensures { IfOk result (λ c. Agrees (spot.entry.outside.now ++ spot.entry.names ∷ []) body.now c.value) }
+    ensures { IfOk result (λ c.
+        Agrees (spot.entry.outside.now ++ spot.entry.names ∷ []) body.now c.value) }
 {
     let next = under(spot, 0)?;
     let outside = one_more(alloc, spot.outside, spot.names)?;
@@ -288,7 +291,8 @@ fn updates_shared<'m>(
     updates: &[(Vec<Code<'m>>, Code<'m>)],
     spot: Spot<'_>,
 ) -> Result<Vec<(Vec<Code<'m>>, Code<'m>)>, Declined>
-    ensures { IfOk result (λ cs. AllZip (UpdateAgrees spot.entry.outside.now) updates.now cs.items) }
+    ensures { IfOk result (λ cs.
+        AllZip (UpdateAgrees spot.entry.outside.now) updates.now cs.items) }
 {
     let next = under(spot, 0)?;
     let inner = under(spot, 1)?;

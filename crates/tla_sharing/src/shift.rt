@@ -54,7 +54,9 @@ pub(crate) fn are_openings(
 
 /// Whether two expressions without names are the same, at the same place.
 pub(crate) fn are_same(original: &Core, copy: &Core) -> bool
-    ensures { IsTrue result → (from by : ℕ) → expr_of copy.now ≡ raise from by (expr_of original.now) }
+    ensures { IsTrue result
+        → (from by : ℕ)
+        → expr_of copy.now ≡ raise from by (expr_of original.now) }
 {
     match (original, copy) {
         (Core::Constant(p, v), Core::Constant(q, w)) => p == q && v == w,
@@ -69,7 +71,9 @@ pub(crate) fn are_same(original: &Core, copy: &Core) -> bool
 
 /// Whether two forms with one operand are the same.
 pub(crate) fn is_same_form(one: &OneForm<'_>, other: &OneForm<'_>) -> bool
-    ensures { IsTrue result → (p : Place) (a : Expr) → one_expr other.now p a ≡ one_expr one.now p a }
+    ensures { IsTrue result
+        → (p : Place) (a : Expr)
+        → one_expr other.now p a ≡ one_expr one.now p a }
 {
     match (one, other) {
         (OneForm::Operator(f), OneForm::Operator(g)) => f == g,

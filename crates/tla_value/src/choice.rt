@@ -38,7 +38,8 @@ fn has_empty(sets: &[&SetValue]) -> bool
 
 // How many ways there are to choose a member of each set, where there are at most a million.
 fn count_of(sets: &[&SetValue]) -> Option<usize>
-    ensures count { MatchOption result (MAX_ELEMENTS < ways (map (λ s. s.now) sets.now)) (λ n. (n ≡ ways (map (λ s. s.now) sets.now)) × (n ≤ MAX_ELEMENTS)) }
+    ensures count { MatchOption result (MAX_ELEMENTS < ways (map (λ s. s.now) sets.now)) (λ n.
+        (n ≡ ways (map (λ s. s.now) sets.now)) × (n ≤ MAX_ELEMENTS)) }
     ensures rising { AllByRecursion (IsStrictlySortedBy tree_cmp) (map (λ s. s.now) sets.now) }
 {
     if has_empty(sets) {
@@ -63,8 +64,10 @@ fn pick(
 ) -> Result<(Value, Value), ValueError>
     requires at { at < length set.now }
     requires shallow { depth (tree_of argument.now) < MAX_NESTING }
-    ensures ok { IfOk result (λ p. pair_of p ≡ (tree_of argument.now, slice_index_or set.now at (truth false))) }
-    ensures shallow { IfOk result (λ p. max (depth (tree_of p.0)) (depth (tree_of p.1)) < MAX_NESTING) }
+    ensures ok { IfOk result (λ p.
+        pair_of p ≡ (tree_of argument.now, slice_index_or set.now at (truth false))) }
+    ensures shallow { IfOk result (λ p.
+        max (depth (tree_of p.0)) (depth (tree_of p.1)) < MAX_NESTING) }
     ensures err { IfErr result (λ e. e ≡ Memory) }
 {
     let member = &set.items()[at];
@@ -83,8 +86,11 @@ fn choice_at(
     requires count { count ≡ ways (map (λ s. s.now) sets.now) }
     requires number { number < count }
     requires shallow { deepest (trees (map tree_of arguments.now)) < MAX_NESTING }
-    ensures ok { IfOk result (λ v. map pair_of v.items ≡ zip (map tree_of arguments.now) (choice_of (map (λ s. s.now) sets.now) number)) }
-    ensures shallow { IfOk result (λ v. deepest_pair (pairs_of (map pair_of v.items)) < MAX_NESTING) }
+    ensures ok { IfOk result (λ v.
+        map pair_of v.items
+        ≡ zip (map tree_of arguments.now) (choice_of (map (λ s. s.now) sets.now) number)) }
+    ensures shallow { IfOk result (λ v.
+        deepest_pair (pairs_of (map pair_of v.items)) < MAX_NESTING) }
     ensures err { IfErr result (λ e. e ≡ Memory) }
 {
     let mut pairs = Vec::with_capacity(alloc, arguments.len())?;
@@ -111,7 +117,9 @@ fn functions(
     requires few { length arguments.now ≤ MAX_ELEMENTS }
     requires rising { IsStrictlySortedBy tree_cmp (map tree_of arguments.now) }
     requires shallow { deepest (trees (map tree_of arguments.now)) < MAX_NESTING }
-    ensures ok { IfOk result (λ v. map tree_of v.items ≡ functions_by (map tree_of arguments.now) (map (λ s. s.now) sets.now)) }
+    ensures ok { IfOk result (λ v.
+        map tree_of v.items
+        ≡ functions_by (map tree_of arguments.now) (map (λ s. s.now) sets.now)) }
     ensures err { IfErr result (λ e. e ≡ Memory) }
 {
     let mut functions = Vec::with_capacity(alloc, count)?;
@@ -140,7 +148,8 @@ fn repeated<'a>(
     set: &'a SetValue,
     items: &[Value],
 ) -> Result<Vec<&'a SetValue>, ValueError>
-    ensures ok { IfOk result (λ v. map (λ s. s.now) v.items ≡ map (λ (t : Tree). set.now) (map tree_of items.now)) }
+    ensures ok { IfOk result (λ v.
+        map (λ s. s.now) v.items ≡ map (λ (t : Tree). set.now) (map tree_of items.now)) }
     ensures err { IfErr result (λ e. e ≡ Memory) }
 {
     let mut parts = Vec::with_capacity(alloc, items.len())?;
@@ -164,7 +173,8 @@ fn set_of_functions(
     requires rising { IsStrictlySortedBy tree_cmp (map tree_of arguments.now) }
     requires shallow { deepest (trees (map tree_of arguments.now)) < MAX_NESTING }
     requires lists { AllByRecursion (IsStrictlySortedBy tree_cmp) (map (λ s. s.now) sets.now) }
-    ensures { MakesSet (set_of (functions_by (map tree_of arguments.now) (map (λ s. s.now) sets.now))) result }
+    ensures { MakesSet
+        (set_of (functions_by (map tree_of arguments.now) (map (λ s. s.now) sets.now))) result }
 {
     set_from_rising(functions(alloc, arguments, sets, count)?)
 }
@@ -196,7 +206,8 @@ fn sublist_at(
     number: usize,
 ) -> Result<Vec<Value>, ValueError>
     requires count { count ≡ 2 ^ length items.now }
-    ensures ok { IfOk result (λ v. map tree_of v.items ≡ sublist_of (map tree_of items.now) number) }
+    ensures ok { IfOk result (λ v.
+        map tree_of v.items ≡ sublist_of (map tree_of items.now) number) }
     ensures err { IfErr result (λ e. e ≡ Memory) }
 {
     let mut kept = Vec::new(alloc);
@@ -245,7 +256,8 @@ fn sorted_fields(
     alloc: Global,
     fields: &[(Text, SetValue)],
 ) -> Result<Vec<(Value, &SetValue)>, ValueError>
-    ensures ok { IfOk result (λ v. map (field_of (λ s. s.now)) v.items ≡ fun_of (keyed fields.now)) }
+    ensures ok { IfOk result (λ v.
+        map (field_of (λ s. s.now)) v.items ≡ fun_of (keyed fields.now)) }
     ensures err { IfErr result (λ e. e ≡ Memory) }
 {
     let mut pairs = keyed_fields(alloc, fields)?;
@@ -271,7 +283,8 @@ fn field_sets<'a>(
 
 // The names of some fields.
 fn field_names(alloc: Global, fields: Vec<(Value, &SetValue)>) -> Result<Vec<Value>, ValueError>
-    ensures ok { IfOk result (λ v. map tree_of v.items ≡ map (λ f. tree_of f.0) fields.entry.items) }
+    ensures ok { IfOk result (λ v.
+        map tree_of v.items ≡ map (λ f. tree_of f.0) fields.entry.items) }
     ensures err { IfErr result (λ e. e ≡ Memory) }
 {
     let mut names = Vec::with_capacity(alloc, fields.len())?;
@@ -290,7 +303,8 @@ fn set_of_records(
     requires sets { length names.now ≡ length sets.now }
     requires rising { IsStrictlySortedBy tree_cmp (map tree_of names.now) }
     requires shallow { deepest (trees (map tree_of names.now)) < MAX_NESTING }
-    ensures made { MakesSetOfFunctions (set_of (functions_by (map tree_of names.now) (map (λ s. s.now) sets.now))) result }
+    ensures made { MakesSetOfFunctions
+        (set_of (functions_by (map tree_of names.now) (map (λ s. s.now) sets.now))) result }
     ensures rising { AllByRecursion (IsStrictlySortedBy tree_cmp) (map (λ s. s.now) sets.now) }
 {
     if has_empty(sets) {

@@ -62,7 +62,8 @@ fn copy_zipped(
     values: &[Value],
 ) -> Result<Vec<(Value, Value)>, ValueError>
     requires { length arguments.now ≡ length values.now }
-    ensures ok { IfOk result (λ v. map pair_of v.items ≡ map pair_of (zip arguments.now values.now)) }
+    ensures ok { IfOk result (λ v.
+        map pair_of v.items ≡ map pair_of (zip arguments.now values.now)) }
     ensures err { IfErr result (λ e. e ≡ Memory) }
 {
     let mut pairs = Vec::with_capacity(alloc, values.len())?;

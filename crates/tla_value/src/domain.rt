@@ -28,8 +28,10 @@ fn is_number(value: &Value, first: i64, steps: usize) -> bool
 
 // The first of some values, if they are consecutive numbers.
 fn first_number(arguments: &[Value]) -> Option<i64>
-    ensures numbers { IfSome result (λ z. map tree_of arguments.now ≡ counted_up (length arguments.now) z) }
-    ensures fit { IfSome result (λ z. (0 < length arguments.now) × FitNumbers (length arguments.now) z) }
+    ensures numbers { IfSome result (λ z.
+        map tree_of arguments.now ≡ counted_up (length arguments.now) z) }
+    ensures fit { IfSome result (λ z.
+        (0 < length arguments.now) × FitNumbers (length arguments.now) z) }
 {
     let [Value::Int(first), ..] = arguments else {
         return None;
@@ -46,7 +48,8 @@ fn first_number(arguments: &[Value]) -> Option<i64>
 // The domain of a sequence of these values.
 pub(crate) fn first_numbers(values: &Vec<Value>) -> Domain
     requires { length values.now.items ≤ MAX_ELEMENTS }
-    ensures numbers { domain_trees (length values.now.items) result ≡ counted_up (length values.now.items) (pos 1) }
+    ensures numbers { domain_trees (length values.now.items) result
+        ≡ counted_up (length values.now.items) (pos 1) }
     ensures fits { FitsDomain (length values.now.items) result }
 {
     if values.is_empty() {
@@ -58,7 +61,8 @@ pub(crate) fn first_numbers(values: &Vec<Value>) -> Domain
 
 // The position of a value among `count` consecutive numbers, of which `first` is the first.
 fn number_place(first: i64, count: usize, value: &Value) -> Option<usize>
-    ensures some { IfSome result (λ i. slice_get (counted_up count first) i ≡ Some (tree_of value.now)) }
+    ensures some { IfSome result (λ i.
+        slice_get (counted_up count first) i ≡ Some (tree_of value.now)) }
     ensures none { IfNone result (is_member (tree_of value.now) (counted_up count first) ≡ false) }
 {
     let Value::Int(number) = value else {
@@ -101,7 +105,8 @@ pub(crate) fn deepest_after(
     requires fits { FitsDomain (length values.now) domain.now }
     requires there { added ≤ deepest_pair (pairs (entry_pairs domain.now values.now)) }
     requires within { deepest_pair (pairs (entry_pairs domain.now values.now)) ≤ max before added }
-    requires kept { before ≤ max (deepest_pair (pairs (entry_pairs domain.now values.now))) replaced }
+    requires kept { before
+        ≤ max (deepest_pair (pairs (entry_pairs domain.now values.now))) replaced }
     ensures { result ≡ deepest_pair (pairs (entry_pairs domain.now values.now)) }
 {
     if added >= before {
@@ -117,7 +122,8 @@ impl Domain {
     // The domain of a rising list of arguments.
     pub(crate) fn from_rising(arguments: Vec<Value>) -> Result<Domain, ValueError>
         requires { IsSetList (map tree_of arguments.items) }
-        ensures ok { IfOk result (λ d. domain_trees (length arguments.items) d ≡ map tree_of arguments.items) }
+        ensures ok { IfOk result (λ d.
+            domain_trees (length arguments.items) d ≡ map tree_of arguments.items) }
         ensures fits { IfOk result (FitsDomain (length arguments.items)) }
         ensures err { IfErr result (λ e. e ≡ Memory) }
     {
@@ -165,8 +171,10 @@ impl Domain {
 
     // The position of a value among the `count` arguments.
     pub(crate) fn place(&self, count: usize, value: &Value) -> Option<usize>
-        ensures some { IfSome result (λ i. slice_get (domain_trees count self.now) i ≡ Some (tree_of value.now)) }
-        ensures none { IfNone result (is_member (tree_of value.now) (domain_trees count self.now) ≡ false) }
+        ensures some { IfSome result (λ i.
+            slice_get (domain_trees count self.now) i ≡ Some (tree_of value.now)) }
+        ensures none { IfNone result
+            (is_member (tree_of value.now) (domain_trees count self.now) ≡ false) }
     {
         match self {
             Domain::Numbers(first) => number_place(*first, count, value),

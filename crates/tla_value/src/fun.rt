@@ -28,8 +28,10 @@ use std::cmp::Ordering;
 // Sorts pairs by argument. Those with equal arguments keep their order.
 pub(crate) fn sort_pairs<T>(pairs: &mut Vec<(Value, T)>) -> Result<(), ValueError>
     ensures permutation { IsPermutation pairs.old.items pairs.new.items }
-    ensures sorted { OnOk result (IsSortedBy (λ (p q : Value × T). is_lt (value_cmp p.0 q.0)) pairs.new.items) }
-    ensures stable { IsStableBy (λ (p q : Value × T). is_lt (value_cmp p.0 q.0)) pairs.old.items pairs.new.items }
+    ensures sorted { OnOk result
+        (IsSortedBy (λ (p q : Value × T). is_lt (value_cmp p.0 q.0)) pairs.new.items) }
+    ensures stable { IsStableBy (λ (p q : Value × T). is_lt (value_cmp p.0 q.0)) pairs.old.items
+        pairs.new.items }
     ensures memory { IfErr result (λ e. e ≡ Memory) }
 {
     pairs.sort_by(|a, b| compare(&a.0, &b.0))?;
@@ -57,8 +59,10 @@ pub(crate) fn deepest_part_of(pairs: &[(Value, Value)]) -> u64
 
 // Arguments and values of some pairs, each in a list.
 fn split(pairs: Vec<(Value, Value)>) -> Result<(Vec<Value>, Vec<Value>), ValueError>
-    ensures arguments { IfOk result (λ r. map tree_of r.0.items ≡ arguments (map pair_of pairs.items)) }
-    ensures values { IfOk result (λ r. map tree_of r.1.items ≡ values_of (map pair_of pairs.items)) }
+    ensures arguments { IfOk result (λ r.
+        map tree_of r.0.items ≡ arguments (map pair_of pairs.items)) }
+    ensures values { IfOk result (λ r.
+        map tree_of r.1.items ≡ values_of (map pair_of pairs.items)) }
     ensures err { IfErr result (λ e. e ≡ Memory) }
 {
     let alloc = *pairs.allocator();
@@ -94,7 +98,8 @@ pub(crate) fn fun_within(pairs: Vec<(Value, Value)>) -> Result<FunValue, ValueEr
 
 // The function of pairs that rise by argument.
 fn fun_from_rising(pairs: Vec<(Value, Value)>) -> Result<FunValue, ValueError>
-    requires { IsStrictlySortedBy tree_cmp (map (λ (p : Tree × Tree). p.0) (map pair_of pairs.items)) }
+    requires { IsStrictlySortedBy tree_cmp
+        (map (λ (p : Tree × Tree). p.0) (map pair_of pairs.items)) }
     ensures { MakesFun (map pair_of pairs.items) result }
 {
     if pairs.len() > MAX_ELEMENTS {
@@ -133,9 +138,11 @@ fn is_sequence(arguments: Arguments<'_>, count: usize) -> bool
 impl FunValue {
     // Another value at one argument, if it is there: in place where nobody else holds the values.
     fn put(&mut self, argument: &Value, value: Value) -> Result<(), ValueError>
-        ensures ok { OnOk result (self.new ≡ except_of (tree_of argument.now) (tree_of value) self.old) }
+        ensures ok { OnOk result
+            (self.new ≡ except_of (tree_of argument.now) (tree_of value) self.old) }
         ensures value { OnOk result (IsValue (fun (pairs_of self.new))) }
-        ensures refused { IfErr result (RefusesFun (except_of (tree_of argument.now) (tree_of value) self.old)) }
+        ensures refused { IfErr result
+            (RefusesFun (except_of (tree_of argument.now) (tree_of value) self.old)) }
     {
         match self.place(argument) {
             Some(index) => self.put_at(index, value),
@@ -226,7 +233,8 @@ impl FunValue {
 
     /// The value of the function at an argument.
     pub fn apply(&self, argument: &Value) -> Option<&Value>
-        ensures { option_map (λ v. tree_of v.now) result ≡ value_at (tree_of argument.now) self.now }
+        ensures { option_map (λ v. tree_of v.now) result
+            ≡ value_at (tree_of argument.now) self.now }
     {
         match self.place(argument) {
             Some(index) => Some(&self.values()[index]),

@@ -43,7 +43,10 @@ pub(crate) fn keep_copy(
     item: &Value,
     wanted: bool,
 ) -> Result<(), ValueError>
-    ensures ok { OnOk result (map tree_of kept.new.items ≡ cond wanted (map tree_of kept.old.items ++ tree_of item.now ∷ []) (map tree_of kept.old.items)) }
+    ensures ok { OnOk result
+        (map tree_of kept.new.items
+        ≡ cond wanted (map tree_of kept.old.items ++ tree_of item.now ∷ [])
+        (map tree_of kept.old.items)) }
     ensures err { IfErr result (λ e. e ≡ Memory) }
 {
     if wanted {
@@ -61,7 +64,8 @@ pub(crate) fn chosen(
 ) -> Result<Vec<Value>, ValueError>
     requires rising { IsStrictlySortedBy tree_cmp (map tree_of items.now) }
     requires others { IsStrictlySortedBy tree_cmp (map tree_of others.now) }
-    ensures ok { IfOk result (λ v. map tree_of v.items ≡ chosen_of shared (map tree_of others.now) (map tree_of items.now)) }
+    ensures ok { IfOk result (λ v.
+        map tree_of v.items ≡ chosen_of shared (map tree_of others.now) (map tree_of items.now)) }
     ensures err { IfErr result (λ e. e ≡ Memory) }
 {
     let mut kept = Vec::new(alloc);
@@ -78,7 +82,8 @@ pub(crate) fn chosen(
 pub(crate) fn all_stand_in(items: &[Value], others: &[Value]) -> bool
     requires rising { IsStrictlySortedBy tree_cmp (map tree_of items.now) }
     requires others { IsStrictlySortedBy tree_cmp (map tree_of others.now) }
-    ensures { result ≡ list_all (λ t. is_member t (map tree_of others.now)) (map tree_of items.now) }
+    ensures { result
+        ≡ list_all (λ t. is_member t (map tree_of others.now)) (map tree_of items.now) }
 {
     let mut at = 0;
     for item in items {
@@ -99,7 +104,8 @@ pub(crate) fn merged(
 ) -> Result<Vec<Value>, ValueError>
     requires left { IsStrictlySortedBy tree_cmp (map tree_of left.now) }
     requires right { IsStrictlySortedBy tree_cmp (map tree_of right.now) }
-    ensures ok { IfOk result (λ v. map tree_of v.items ≡ set_of (map tree_of left.now ++ map tree_of right.now)) }
+    ensures ok { IfOk result (λ v.
+        map tree_of v.items ≡ set_of (map tree_of left.now ++ map tree_of right.now)) }
     ensures err { IfErr result (λ e. e ≡ Memory) }
 {
     let mut merged = Vec::new(alloc);
@@ -131,7 +137,8 @@ pub(crate) fn merged(
 
 // Adds copies of some values at the end.
 fn add_copies(alloc: Global, to: &mut Vec<Value>, items: &[Value]) -> Result<(), ValueError>
-    ensures ok { OnOk result (map tree_of to.new.items ≡ map tree_of to.old.items ++ map tree_of items.now) }
+    ensures ok { OnOk result
+        (map tree_of to.new.items ≡ map tree_of to.old.items ++ map tree_of items.now) }
     ensures err { IfErr result (λ e. e ≡ Memory) }
 {
     for item in items {

@@ -21,7 +21,8 @@ pub(crate) fn merged_pairs(
 ) -> Result<Vec<(Value, Value)>, ValueError>
     requires left { IsStrictlySortedBy tree_cmp (arguments (map pair_of left.now)) }
     requires right { IsStrictlySortedBy tree_cmp (arguments (map pair_of right.now)) }
-    ensures ok { IfOk result (λ v. map pair_of v.items ≡ fun_of (map pair_of left.now ++ map pair_of right.now)) }
+    ensures ok { IfOk result (λ v.
+        map pair_of v.items ≡ fun_of (map pair_of left.now ++ map pair_of right.now)) }
     ensures err { IfErr result (λ e. e ≡ Memory) }
 {
     let mut merged = Vec::new(alloc);
@@ -70,7 +71,8 @@ fn keep_pairs(
     kept: &mut Vec<(Value, Value)>,
     pairs: &[(Value, Value)],
 ) -> Result<(), ValueError>
-    ensures ok { OnOk result (map pair_of kept.new.items ≡ map pair_of kept.old.items ++ map pair_of pairs.now) }
+    ensures ok { OnOk result
+        (map pair_of kept.new.items ≡ map pair_of kept.old.items ++ map pair_of pairs.now) }
     ensures err { IfErr result (λ e. e ≡ Memory) }
 {
     for pair in pairs {

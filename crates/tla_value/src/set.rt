@@ -110,7 +110,8 @@ impl SetValue {
         ensures at { IfOk result (λ i. slice_get self.now i ≡ Some (tree_of value.now)) }
         ensures within { IfErr result (λ i. i ≤ length self.now) }
         ensures there { IfOk result (λ _. set_of (tree_of value.now ∷ self.now) ≡ self.now) }
-        ensures absent { IfErr result (λ i. set_of (tree_of value.now ∷ self.now) ≡ insert self.now i (tree_of value.now)) }
+        ensures absent { IfErr result (λ i.
+            set_of (tree_of value.now ∷ self.now) ≡ insert self.now i (tree_of value.now)) }
         ensures value { IsValue (set (trees self.now)) }
     {
         self.items().binary_search(value)

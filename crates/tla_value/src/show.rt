@@ -30,8 +30,11 @@ impl Value {
     ///
     /// The first write that fails, or that takes no byte, ends the call. Takes no memory.
     pub fn write_text<W: Write>(&self, out: &mut W) -> Result<(), TextFault>
-        ensures ok { OnOk result (Appends (W.contents out.old) (W.contents out.new) (text_of (tree_of self.now))) }
-        ensures err { IfErr result (λ e. AddsFirst (W.contents out.old) (W.contents out.new) (text_of (tree_of self.now)) e.written) }
+        ensures ok { OnOk result
+            (Appends (W.contents out.old) (W.contents out.new) (text_of (tree_of self.now))) }
+        ensures err { IfErr result (λ e.
+            AddsFirst (W.contents out.old) (W.contents out.new) (text_of (tree_of self.now))
+            e.written) }
     {
         match self.put_text(out, 0) {
             Ok(_) => Ok(()),
@@ -42,7 +45,8 @@ impl Value {
     /// Writes the text of the value as [`Value::write_text`] does, after `written` bytes, and
     /// answers the count after it, which stays at `u64::MAX`.
     pub fn put_text<W: Write>(&self, out: &mut W, written: u64) -> Result<u64, ShortWrite>
-        ensures { Puts (W.contents out.old) (W.contents out.new) written (text_of (tree_of self.now)) result }
+        ensures { Puts (W.contents out.old) (W.contents out.new) written
+            (text_of (tree_of self.now)) result }
     {
         put_value(self, out, written)
     }
@@ -50,7 +54,8 @@ impl Value {
 
 #[cycle(show)]
 fn put_value<W: Write>(value: &Value, out: &mut W, written: u64) -> Result<u64, ShortWrite>
-    ensures { Puts (W.contents out.old) (W.contents out.new) written (text_of (tree_of value.now)) result }
+    ensures { Puts (W.contents out.old) (W.contents out.new) written (text_of (tree_of value.now))
+        result }
 {
     match value {
         Value::Truth(true) => put(out, written, b"TRUE"),
@@ -89,7 +94,8 @@ fn put_escaped<W: Write>(byte: u8, out: &mut W, written: u64) -> Result<u64, Sho
 
 #[cycle(show)]
 fn put_set<W: Write>(of: &SetValue, out: &mut W, written: u64) -> Result<u64, ShortWrite>
-    ensures { Puts (W.contents out.old) (W.contents out.new) written (text_of (set (trees of.now))) result }
+    ensures { Puts (W.contents out.old) (W.contents out.new) written (text_of (set (trees of.now)))
+        result }
 {
     let items = of.items();
     let written = put(out, written, b"{")?;
@@ -100,7 +106,8 @@ fn put_set<W: Write>(of: &SetValue, out: &mut W, written: u64) -> Result<u64, Sh
 // Writes some values with commas between them.
 #[cycle(show)]
 fn put_items<W: Write>(items: &[Value], out: &mut W, written: u64) -> Result<u64, ShortWrite>
-    ensures { Puts (W.contents out.old) (W.contents out.new) written (joined (codes ", ") (member_texts (trees (map tree_of items.now)))) result }
+    ensures { Puts (W.contents out.old) (W.contents out.new) written
+        (joined (codes ", ") (member_texts (trees (map tree_of items.now)))) result }
 {
     let mut written = written;
     for i in 0..items.len() {
@@ -117,7 +124,8 @@ fn put_item<W: Write>(
     out: &mut W,
     written: u64,
 ) -> Result<u64, ShortWrite>
-    ensures { Puts (W.contents out.old) (W.contents out.new) written (separator_before index (codes ", ") ++ text_of (tree_of item.now)) result }
+    ensures { Puts (W.contents out.old) (W.contents out.new) written
+        (separator_before index (codes ", ") ++ text_of (tree_of item.now)) result }
 {
     let written = put_between(index, b", ", out, written)?;
     put_value(item, out, written)
@@ -130,7 +138,8 @@ fn put_between<W: Write>(
     out: &mut W,
     written: u64,
 ) -> Result<u64, ShortWrite>
-    ensures { Puts (W.contents out.old) (W.contents out.new) written (separator_before index separator.now) result }
+    ensures { Puts (W.contents out.old) (W.contents out.new) written
+        (separator_before index separator.now) result }
 {
     if index == 0 {
         Ok(written)
@@ -141,7 +150,8 @@ fn put_between<W: Write>(
 
 #[cycle(show)]
 fn put_function<W: Write>(of: &FunValue, out: &mut W, written: u64) -> Result<u64, ShortWrite>
-    ensures { Puts (W.contents out.old) (W.contents out.new) written (text_of (fun (pairs_of of.now))) result }
+    ensures { Puts (W.contents out.old) (W.contents out.new) written
+        (text_of (fun (pairs_of of.now))) result }
 {
     let values = of.values();
     if values.is_empty() {
@@ -163,7 +173,11 @@ fn put_numbers<W: Write>(
 ) -> Result<u64, ShortWrite>
     requires some { 0 < length values.now }
     requires fits { FitNumbers (length values.now) first }
-    ensures { Puts (W.contents out.old) (W.contents out.new) written (text_of (fun (pairs_of (map pair_of (zip (numbers_from (length values.now) first) values.now))))) result }
+    ensures { Puts (W.contents out.old) (W.contents out.new) written
+        (text_of
+        (fun
+        (pairs_of (map pair_of (zip (numbers_from (length values.now) first) values.now)))))
+        result }
 {
     if first == 1 {
         put_sequence(values, out, written)
@@ -182,7 +196,8 @@ fn put_listed<W: Write>(
 ) -> Result<u64, ShortWrite>
     requires long { length arguments.now ≡ length values.now }
     requires some { 0 < length values.now }
-    ensures { Puts (W.contents out.old) (W.contents out.new) written (text_of (fun (pairs_of (map pair_of (zip arguments.now values.now))))) result }
+    ensures { Puts (W.contents out.old) (W.contents out.new) written
+        (text_of (fun (pairs_of (map pair_of (zip arguments.now values.now))))) result }
 {
     // No argument is a number and a string, so one of the two walks ends at the first argument.
     if are_from_one(arguments) {
@@ -241,7 +256,8 @@ fn put_field<W: Write>(
 
 // Writes a string without quotes, and nothing for another value.
 fn put_name<W: Write>(name: &Value, out: &mut W, written: u64) -> Result<u64, ShortWrite>
-    ensures { Puts (W.contents out.old) (W.contents out.new) written (field_name (tree_of name.now)) result }
+    ensures { Puts (W.contents out.old) (W.contents out.new) written (field_name (tree_of name.now))
+        result }
 {
     match name {
         Value::Text(text) => put(out, written, text.as_str().as_bytes()),

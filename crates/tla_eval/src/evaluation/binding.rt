@@ -33,7 +33,9 @@ pub(super) fn for_all<'c: 'a, 'a>(
     body: &'c Core,
     env: Environment<'a>,
 ) -> Result<Evaluated<'a>, Trouble<'c>>
-    ensures { Evaluates result ((means-for_all place.now (means (expr_of set.now)) (means (expr_of body.now))).value (bound_in env.entry) (present_in env.entry) (next_in env.entry)) }
+    ensures { Evaluates result
+        ((means-for_all place.now (means (expr_of set.now)) (means (expr_of body.now))).value
+        (bound_in env.entry) (present_in env.entry) (next_in env.entry)) }
 {
     let elements = elements_in(alloc, place, set, env)?;
     Ok(Evaluated::truth(each_holds(alloc, place, body, &elements, env)?))
@@ -48,7 +50,9 @@ pub(super) fn for_some<'c: 'a, 'a>(
     body: &'c Core,
     env: Environment<'a>,
 ) -> Result<Evaluated<'a>, Trouble<'c>>
-    ensures { Evaluates result ((means-for_some place.now (means (expr_of set.now)) (means (expr_of body.now))).value (bound_in env.entry) (present_in env.entry) (next_in env.entry)) }
+    ensures { Evaluates result
+        ((means-for_some place.now (means (expr_of set.now)) (means (expr_of body.now))).value
+        (bound_in env.entry) (present_in env.entry) (next_in env.entry)) }
 {
     let elements = elements_in(alloc, place, set, env)?;
     Ok(Evaluated::truth(some_holds(alloc, place, body, &elements, env)?))
@@ -63,7 +67,9 @@ pub(super) fn choose<'c: 'a, 'a>(
     body: &'c Core,
     env: Environment<'a>,
 ) -> Result<Evaluated<'a>, Trouble<'c>>
-    ensures { Evaluates result ((means-choose place.now (means (expr_of set.now)) (means (expr_of body.now))).value (bound_in env.entry) (present_in env.entry) (next_in env.entry)) }
+    ensures { Evaluates result
+        ((means-choose place.now (means (expr_of set.now)) (means (expr_of body.now))).value
+        (bound_in env.entry) (present_in env.entry) (next_in env.entry)) }
 {
     let elements = elements_in(alloc, place, set, env)?;
     Ok(Evaluated::Owned(first_passing(alloc, place, body, &elements, env)?))
@@ -77,7 +83,9 @@ pub(super) fn elements_in<'c: 'a, 'a>(
     set: &'c Core,
     env: Environment<'a>,
 ) -> Result<Elements<'a>, Trouble<'c>>
-    ensures { GivesElements result (elements place.now (means (expr_of set.now)) (bound_in env.entry) (present_in env.entry) (next_in env.entry)) }
+    ensures { GivesElements result
+        (elements place.now (means (expr_of set.now)) (bound_in env.entry) (present_in env.entry)
+        (next_in env.entry)) }
 {
     match set {
         Core::Binary(at, operator, left, right) => {
@@ -99,7 +107,11 @@ fn holds_at<'e, 'c: 'a, 'a>(
     number: usize,
     env: Environment<'a>,
 ) -> Result<Option<bool>, Trouble<'c>>
-    ensures { GivesBy (λ o. o) result (tested (λ v. asks place.now (means (expr_of body.now)) (bound_in env.entry ++ v ∷ []) (present_in env.entry) (next_in env.entry)) (slice_get (elements_of elements.now) number)) }
+    ensures { GivesBy (λ o. o) result
+        (tested (λ v.
+        asks place.now (means (expr_of body.now)) (bound_in env.entry ++ v ∷ [])
+        (present_in env.entry) (next_in env.entry))
+        (slice_get (elements_of elements.now) number)) }
 {
     match element_at(elements, number) {
         Some(element) => Ok(Some(ask_with(alloc, place, body, element.value(), env)?)),
@@ -116,7 +128,10 @@ fn each_holds<'e, 'c: 'a, 'a>(
     elements: &'e Elements<'e>,
     env: Environment<'a>,
 ) -> Result<bool, Trouble<'c>>
-    ensures { GivesTruth result (all_hold (λ v. asks place.now (means (expr_of body.now)) (bound_in env.entry ++ v ∷ []) (present_in env.entry) (next_in env.entry)) (elements_of elements.now)) }
+    ensures { GivesTruth result
+        (all_hold (λ v.
+        asks place.now (means (expr_of body.now)) (bound_in env.entry ++ v ∷ [])
+        (present_in env.entry) (next_in env.entry)) (elements_of elements.now)) }
 {
     for number in 0..usize::MAX {
         match holds_at(alloc, place, body, elements, number, env)? {
@@ -140,7 +155,10 @@ fn some_holds<'e, 'c: 'a, 'a>(
     elements: &'e Elements<'e>,
     env: Environment<'a>,
 ) -> Result<bool, Trouble<'c>>
-    ensures { GivesTruth result (some_hold (λ v. asks place.now (means (expr_of body.now)) (bound_in env.entry ++ v ∷ []) (present_in env.entry) (next_in env.entry)) (elements_of elements.now)) }
+    ensures { GivesTruth result
+        (some_hold (λ v.
+        asks place.now (means (expr_of body.now)) (bound_in env.entry ++ v ∷ [])
+        (present_in env.entry) (next_in env.entry)) (elements_of elements.now)) }
 {
     for number in 0..usize::MAX {
         match holds_at(alloc, place, body, elements, number, env)? {
@@ -164,7 +182,10 @@ fn first_passing<'e, 'c: 'a, 'a>(
     elements: &'e Elements<'e>,
     env: Environment<'a>,
 ) -> Result<Value, Trouble<'c>>
-    ensures { Gives result (first_passing place.now (λ v. asks place.now (means (expr_of body.now)) (bound_in env.entry ++ v ∷ []) (present_in env.entry) (next_in env.entry)) (elements_of elements.now)) }
+    ensures { Gives result
+        (first_passing place.now (λ v.
+        asks place.now (means (expr_of body.now)) (bound_in env.entry ++ v ∷ [])
+        (present_in env.entry) (next_in env.entry)) (elements_of elements.now)) }
 {
     for number in 0..usize::MAX {
         match holds_at(alloc, place, body, elements, number, env)? {
@@ -188,7 +209,9 @@ pub(super) fn ask_with<'c: 'a, 'a>(
     value: &'a Value,
     env: Environment<'a>,
 ) -> Result<bool, Trouble<'c>>
-    ensures { GivesTruth result (asks place.now (means (expr_of body.now)) (bound_in env.entry ++ tree_of value.now ∷ []) (present_in env.entry) (next_in env.entry)) }
+    ensures { GivesTruth result
+        (asks place.now (means (expr_of body.now)) (bound_in env.entry ++ tree_of value.now ∷ [])
+        (present_in env.entry) (next_in env.entry)) }
 {
     let frame = Frame::One(env.frame, value);
     let inner = Environment {
@@ -207,7 +230,9 @@ pub(super) fn value_with<'c: 'a, 'a>(
     value: &'a Value,
     env: Environment<'a>,
 ) -> Result<Value, Trouble<'c>>
-    ensures { Gives result ((means (expr_of body.now)).value (bound_in env.entry ++ tree_of value.now ∷ []) (present_in env.entry) (next_in env.entry)) }
+    ensures { Gives result
+        ((means (expr_of body.now)).value (bound_in env.entry ++ tree_of value.now ∷ [])
+        (present_in env.entry) (next_in env.entry)) }
 {
     let frame = Frame::One(env.frame, value);
     let inner = Environment {
@@ -227,7 +252,9 @@ pub(super) fn filter<'c: 'a, 'a>(
     body: &'c Core,
     env: Environment<'a>,
 ) -> Result<Evaluated<'a>, Trouble<'c>>
-    ensures { Evaluates result ((means-filtered place.now (means (expr_of set.now)) (means (expr_of body.now))).value (bound_in env.entry) (present_in env.entry) (next_in env.entry)) }
+    ensures { Evaluates result
+        ((means-filtered place.now (means (expr_of set.now)) (means (expr_of body.now))).value
+        (bound_in env.entry) (present_in env.entry) (next_in env.entry)) }
 {
     let elements = elements_in(alloc, place, set, env)?;
     let kept = passing(alloc, place, body, &elements, env)?;
@@ -243,7 +270,10 @@ fn passing<'e, 'c: 'a, 'a>(
     elements: &'e Elements<'e>,
     env: Environment<'a>,
 ) -> Result<Vec<Value>, Trouble<'c>>
-    ensures { GivesBy (λ v. map tree_of v.items) result (passing (λ v. asks place.now (means (expr_of body.now)) (bound_in env.entry ++ v ∷ []) (present_in env.entry) (next_in env.entry)) (elements_of elements.now)) }
+    ensures { GivesBy (λ v. map tree_of v.items) result
+        (passing (λ v.
+        asks place.now (means (expr_of body.now)) (bound_in env.entry ++ v ∷ [])
+        (present_in env.entry) (next_in env.entry)) (elements_of elements.now)) }
 {
     let mut kept = Vec::new(alloc);
     for number in 0..usize::MAX {

@@ -36,7 +36,9 @@ pub(super) fn image<'c: 'a, 'a>(
     body: &'c Core,
     env: Environment<'a>,
 ) -> Result<Evaluated<'a>, Trouble<'c>>
-    ensures { Evaluates result (image_rule place.now (parts_of_cores sets.now) (means (expr_of body.now)) (bound_in env.entry) (present_in env.entry) (next_in env.entry)) }
+    ensures { Evaluates result
+        (image_rule place.now (parts_of_cores sets.now) (means (expr_of body.now))
+        (bound_in env.entry) (present_in env.entry) (next_in env.entry)) }
 {
     let sets = evaluated_each(alloc, sets, env)?;
     let lists = lists_of(alloc, place, sets.as_slice())?;
@@ -53,7 +55,9 @@ pub(super) fn function<'c: 'a, 'a>(
     body: &'c Core,
     env: Environment<'a>,
 ) -> Result<Evaluated<'a>, Trouble<'c>>
-    ensures { Evaluates result (chosen_function_rule place.now (parts_of_cores sets.now) (means (expr_of body.now)) (bound_in env.entry) (present_in env.entry) (next_in env.entry)) }
+    ensures { Evaluates result
+        (chosen_function_rule place.now (parts_of_cores sets.now) (means (expr_of body.now))
+        (bound_in env.entry) (present_in env.entry) (next_in env.entry)) }
 {
     let sets = evaluated_each(alloc, sets, env)?;
     let sets = sets.as_slice();
@@ -74,7 +78,9 @@ fn function_on_members<'s, 'c: 'a, 'a>(
     env: Environment<'a>,
 ) -> Result<Value, Trouble<'c>>
     requires { length sets.now ≡ 1 }
-    ensures { Gives result (function_for_rule place.now (means (expr_of body.now)) (bound_in env.entry) (present_in env.entry) (next_in env.entry) (map tree_of_evaluated sets.now)) }
+    ensures { Gives result
+        (function_for_rule place.now (means (expr_of body.now)) (bound_in env.entry)
+        (present_in env.entry) (next_in env.entry) (map tree_of_evaluated sets.now)) }
 {
     let lists = lists_of(alloc, place, sets)?;
     let values = chosen(alloc, body, lists.as_slice(), env)?;
@@ -92,7 +98,9 @@ fn function_on_tuples<'s, 'c: 'a, 'a>(
     env: Environment<'a>,
 ) -> Result<Value, Trouble<'c>>
     requires { length sets.now ≡ 1 → ⊥ }
-    ensures { Gives result (function_for_rule place.now (means (expr_of body.now)) (bound_in env.entry) (present_in env.entry) (next_in env.entry) (map tree_of_evaluated sets.now)) }
+    ensures { Gives result
+        (function_for_rule place.now (means (expr_of body.now)) (bound_in env.entry)
+        (present_in env.entry) (next_in env.entry) (map tree_of_evaluated sets.now)) }
 {
     let lists = lists_of(alloc, place, sets)?;
     let lists = lists.as_slice();
@@ -115,7 +123,10 @@ pub(super) fn evaluated_each<'c: 'a, 'a>(
     cores: &'c [Core],
     env: Environment<'a>,
 ) -> Result<Vec<Evaluated<'a>>, Trouble<'c>>
-    ensures { GivesBy (λ v. map tree_of_evaluated v.items) result (each (λ (m : Meaning). m.value (bound_in env.entry) (present_in env.entry) (next_in env.entry)) (parts_of_cores cores.now)) }
+    ensures { GivesBy (λ v. map tree_of_evaluated v.items) result
+        (each (λ (m : Meaning).
+        m.value (bound_in env.entry) (present_in env.entry) (next_in env.entry))
+        (parts_of_cores cores.now)) }
 {
     let mut values = Vec::with_capacity(alloc, cores.len())?;
     for core in cores {
@@ -140,7 +151,9 @@ fn chosen<'l, 'c: 'a, 'a>(
     lists: &'l [&'l [Value]],
     env: Environment<'a>,
 ) -> Result<Vec<Value>, Trouble<'c>>
-    ensures { GivesBy (λ v. map tree_of v.items) result (values_for (means (expr_of body.now)) (bound_in env.entry) (present_in env.entry) (next_in env.entry) (map (λ l. map tree_of l.now) lists.now)) }
+    ensures { GivesBy (λ v. map tree_of v.items) result
+        (values_for (means (expr_of body.now)) (bound_in env.entry) (present_in env.entry)
+        (next_in env.entry) (map (λ l. map tree_of l.now) lists.now)) }
 {
     let mut values = Vec::with_capacity(alloc, last_count(lists))?;
     for number in 0..usize::MAX {
@@ -160,7 +173,9 @@ fn chosen_once<'l, 'c: 'a, 'a>(
     lists: &'l [&'l [Value]],
     env: Environment<'a>,
 ) -> Result<Gathered, Trouble<'c>>
-    ensures { Gathers result (values_for (means (expr_of body.now)) (bound_in env.entry) (present_in env.entry) (next_in env.entry) (map (λ l. map tree_of l.now) lists.now)) }
+    ensures { Gathers result
+        (values_for (means (expr_of body.now)) (bound_in env.entry) (present_in env.entry)
+        (next_in env.entry) (map (λ l. map tree_of l.now) lists.now)) }
 {
     let mut values = Gathered::new(alloc);
     for number in 0..usize::MAX {
@@ -180,7 +195,10 @@ fn pass_over<'l, 'c: 'a, 'a>(
     lists: &'l [&'l [Value]],
     env: Environment<'a>,
 ) -> Result<(), Trouble<'c>>
-    ensures { GivesBy (λ u. u) result (nothing_of (values_for (means (expr_of body.now)) (bound_in env.entry) (present_in env.entry) (next_in env.entry) (map (λ l. map tree_of l.now) lists.now))) }
+    ensures { GivesBy (λ u. u) result
+        (nothing_of
+        (values_for (means (expr_of body.now)) (bound_in env.entry) (present_in env.entry)
+        (next_in env.entry) (map (λ l. map tree_of l.now) lists.now))) }
 {
     for number in 0..usize::MAX {
         match value_for(alloc, body, lists, number, env)? {
@@ -200,7 +218,10 @@ fn value_for<'l, 'c: 'a, 'a>(
     number: usize,
     env: Environment<'a>,
 ) -> Result<Option<Value>, Trouble<'c>>
-    ensures { GivesBy (λ o. option_map tree_of o) result (value_at (means (expr_of body.now)) (bound_in env.entry) (present_in env.entry) (next_in env.entry) (slice_get (choices (map (λ l. map tree_of l.now) lists.now)) number)) }
+    ensures { GivesBy (λ o. option_map tree_of o) result
+        (value_at (means (expr_of body.now)) (bound_in env.entry) (present_in env.entry)
+        (next_in env.entry)
+        (slice_get (choices (map (λ l. map tree_of l.now) lists.now)) number)) }
 {
     if lists.len() == 1 {
         value_for_member(alloc, body, lists[0], number, env)
@@ -218,7 +239,9 @@ fn value_for_member<'l, 'c: 'a, 'a>(
     number: usize,
     env: Environment<'a>,
 ) -> Result<Option<Value>, Trouble<'c>>
-    ensures { GivesBy (λ o. option_map tree_of o) result (value_at (means (expr_of body.now)) (bound_in env.entry) (present_in env.entry) (next_in env.entry) (slice_get (choices (map tree_of list.now ∷ [])) number)) }
+    ensures { GivesBy (λ o. option_map tree_of o) result
+        (value_at (means (expr_of body.now)) (bound_in env.entry) (present_in env.entry)
+        (next_in env.entry) (slice_get (choices (map tree_of list.now ∷ [])) number)) }
 {
     match member_of(list, number) {
         Some(value) => Ok(Some(value_with(alloc, body, value, env)?)),
@@ -235,7 +258,10 @@ fn value_for_choice<'l, 'c: 'a, 'a>(
     number: usize,
     env: Environment<'a>,
 ) -> Result<Option<Value>, Trouble<'c>>
-    ensures { GivesBy (λ o. option_map tree_of o) result (value_at (means (expr_of body.now)) (bound_in env.entry) (present_in env.entry) (next_in env.entry) (slice_get (choices (map (λ l. map tree_of l.now) lists.now)) number)) }
+    ensures { GivesBy (λ o. option_map tree_of o) result
+        (value_at (means (expr_of body.now)) (bound_in env.entry) (present_in env.entry)
+        (next_in env.entry)
+        (slice_get (choices (map (λ l. map tree_of l.now) lists.now)) number)) }
 {
     match choice_at(alloc, lists, number)? {
         Some(choice) => Ok(Some(value_with_all(alloc, body, choice.as_slice(), env)?)),
@@ -251,7 +277,9 @@ pub(super) fn value_with_all<'c: 'a, 'a>(
     choice: &'a [Value],
     env: Environment<'a>,
 ) -> Result<Value, Trouble<'c>>
-    ensures { Gives result ((means (expr_of body.now)).value (bound_in env.entry ++ map tree_of choice.now) (present_in env.entry) (next_in env.entry)) }
+    ensures { Gives result
+        ((means (expr_of body.now)).value (bound_in env.entry ++ map tree_of choice.now)
+        (present_in env.entry) (next_in env.entry)) }
 {
     let frame = Frame::Many(env.frame, choice);
     let inner = Environment {

@@ -24,7 +24,9 @@ pub(super) fn conjunction<'c: 'a, 'a>(
     parts: &'c [Core],
     env: Environment<'a>,
 ) -> Result<Evaluated<'a>, Trouble<'c>>
-    ensures { Evaluates result ((means-conjunction place.now (parts_of_cores parts.now)).value (bound_in env.entry) (present_in env.entry) (next_in env.entry)) }
+    ensures { Evaluates result
+        ((means-conjunction place.now (parts_of_cores parts.now)).value (bound_in env.entry)
+        (present_in env.entry) (next_in env.entry)) }
 {
     for part in parts {
         if !ask(alloc, place, part, env)? {
@@ -42,7 +44,9 @@ pub(super) fn disjunction<'c: 'a, 'a>(
     parts: &'c [Core],
     env: Environment<'a>,
 ) -> Result<Evaluated<'a>, Trouble<'c>>
-    ensures { Evaluates result ((means-disjunction place.now (parts_of_cores parts.now)).value (bound_in env.entry) (present_in env.entry) (next_in env.entry)) }
+    ensures { Evaluates result
+        ((means-disjunction place.now (parts_of_cores parts.now)).value (bound_in env.entry)
+        (present_in env.entry) (next_in env.entry)) }
 {
     for part in parts {
         if ask(alloc, place, part, env)? {
@@ -61,7 +65,9 @@ pub(super) fn implies<'c: 'a, 'a>(
     right: &'c Core,
     env: Environment<'a>,
 ) -> Result<Evaluated<'a>, Trouble<'c>>
-    ensures { Evaluates result ((means-implies place.now (means (expr_of left.now)) (means (expr_of right.now))).value (bound_in env.entry) (present_in env.entry) (next_in env.entry)) }
+    ensures { Evaluates result
+        ((means-implies place.now (means (expr_of left.now)) (means (expr_of right.now))).value
+        (bound_in env.entry) (present_in env.entry) (next_in env.entry)) }
 {
     if ask(alloc, place, left, env)? {
         Ok(Evaluated::truth(ask(alloc, place, right, env)?))
@@ -78,7 +84,9 @@ pub(super) fn assert<'c: 'a, 'a>(
     condition: &'c Core,
     env: Environment<'a>,
 ) -> Result<Evaluated<'a>, Trouble<'c>>
-    ensures { Evaluates result ((means-assert place.now (means (expr_of condition.now)) (means (expr_of condition.now))).value (bound_in env.entry) (present_in env.entry) (next_in env.entry)) }
+    ensures { Evaluates result
+        ((means-assert place.now (means (expr_of condition.now)) (means (expr_of condition.now))).value
+        (bound_in env.entry) (present_in env.entry) (next_in env.entry)) }
 {
     if ask(alloc, place, condition, env)? {
         Ok(Evaluated::truth(true))
@@ -96,7 +104,9 @@ pub(super) fn cases<'c: 'a, 'a>(
     other: Option<&'c Core>,
     env: Environment<'a>,
 ) -> Result<Evaluated<'a>, Trouble<'c>>
-    ensures { Evaluates result ((means-cases place.now (arms_of_cores arms.now) (option_map (λ c. means (expr_of c.now)) other.entry)).value (bound_in env.entry) (present_in env.entry) (next_in env.entry)) }
+    ensures { Evaluates result
+        ((means-cases place.now (arms_of_cores arms.now) (option_map (λ c. means (expr_of c.now)) other.entry)).value
+        (bound_in env.entry) (present_in env.entry) (next_in env.entry)) }
 {
     for arm in arms {
         if ask(alloc, place, &arm.0, env)? {
@@ -119,7 +129,9 @@ pub(super) fn cases_have<'c: 'a, 'a>(
     value: &'a Value,
     env: Environment<'a>,
 ) -> Result<bool, Trouble<'c>>
-    ensures { GivesTruth result ((means-cases place.now (arms_of_cores arms.now) (option_map (λ c. means (expr_of c.now)) other.entry)).has (tree_of value.now) (bound_in env.entry) (present_in env.entry) (next_in env.entry)) }
+    ensures { GivesTruth result
+        ((means-cases place.now (arms_of_cores arms.now) (option_map (λ c. means (expr_of c.now)) other.entry)).has
+        (tree_of value.now) (bound_in env.entry) (present_in env.entry) (next_in env.entry)) }
 {
     for arm in arms {
         if ask(alloc, place, &arm.0, env)? {

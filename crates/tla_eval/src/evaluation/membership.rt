@@ -31,7 +31,9 @@ pub(super) fn is_member<'c: 'a, 'a>(
     set: &'c Core,
     env: Environment<'a>,
 ) -> Result<Evaluated<'a>, Trouble<'c>>
-    ensures { Evaluates result ((means-member (means (expr_of set.now)).place (means (expr_of element.now)) (means (expr_of set.now))).value (bound_in env.entry) (present_in env.entry) (next_in env.entry)) }
+    ensures { Evaluates result
+        ((means-member (means (expr_of set.now)).place (means (expr_of element.now)) (means (expr_of set.now))).value
+        (bound_in env.entry) (present_in env.entry) (next_in env.entry)) }
 {
     let element = evaluate(alloc, element, env)?;
     Ok(Evaluated::truth(has(alloc, set, element.value(), env)?))
@@ -45,7 +47,9 @@ pub(super) fn is_no_member<'c: 'a, 'a>(
     set: &'c Core,
     env: Environment<'a>,
 ) -> Result<Evaluated<'a>, Trouble<'c>>
-    ensures { Evaluates result ((means-not_member (means (expr_of set.now)).place (means (expr_of element.now)) (means (expr_of set.now))).value (bound_in env.entry) (present_in env.entry) (next_in env.entry)) }
+    ensures { Evaluates result
+        ((means-not_member (means (expr_of set.now)).place (means (expr_of element.now)) (means (expr_of set.now))).value
+        (bound_in env.entry) (present_in env.entry) (next_in env.entry)) }
 {
     let element = evaluate(alloc, element, env)?;
     Ok(Evaluated::truth(!has(alloc, set, element.value(), env)?))
@@ -60,7 +64,9 @@ pub(super) fn is_subset<'c: 'a, 'a>(
     right: &'c Core,
     env: Environment<'a>,
 ) -> Result<Evaluated<'a>, Trouble<'c>>
-    ensures { Evaluates result ((means-subset place.now (means (expr_of left.now)) (means (expr_of right.now))).value (bound_in env.entry) (present_in env.entry) (next_in env.entry)) }
+    ensures { Evaluates result
+        ((means-subset place.now (means (expr_of left.now)) (means (expr_of right.now))).value
+        (bound_in env.entry) (present_in env.entry) (next_in env.entry)) }
 {
     let left = evaluate(alloc, left, env)?;
     let values = members(place, left.value())?;
@@ -75,7 +81,10 @@ pub(super) fn has_all<'c: 'a, 'a>(
     values: &'a [Value],
     env: Environment<'a>,
 ) -> Result<bool, Trouble<'c>>
-    ensures { GivesTruth result (all_hold (λ v. mem v (expr_of core.now) (bound_in env.entry) (present_in env.entry) (next_in env.entry)) (map tree_of values.now)) }
+    ensures { GivesTruth result
+        (all_hold (λ v.
+        mem v (expr_of core.now) (bound_in env.entry) (present_in env.entry)
+        (next_in env.entry)) (map tree_of values.now)) }
 {
     for value in values {
         if !has(alloc, core, value, env)? {
@@ -96,7 +105,9 @@ pub(super) fn two_hold<'c: 'a, 'a>(
     value: &'a Value,
     env: Environment<'a>,
 ) -> Result<bool, Trouble<'c>>
-    ensures { GivesTruth result ((means-binary place.now (binary_of operator) (means (expr_of left.now)) (means (expr_of right.now))).has (tree_of value.now) (bound_in env.entry) (present_in env.entry) (next_in env.entry)) }
+    ensures { GivesTruth result
+        ((means-binary place.now (binary_of operator) (means (expr_of left.now)) (means (expr_of right.now))).has
+        (tree_of value.now) (bound_in env.entry) (present_in env.entry) (next_in env.entry)) }
 {
     let left = evaluate(alloc, left, env)?;
     let right = evaluate(alloc, right, env)?;
@@ -112,7 +123,9 @@ pub(super) fn is_one_of<'c: 'a, 'a>(
     value: &'a Value,
     env: Environment<'a>,
 ) -> Result<bool, Trouble<'c>>
-    ensures { GivesTruth result (one_of_rule place.now (parts_of_cores parts.now) (tree_of value.now) (bound_in env.entry) (present_in env.entry) (next_in env.entry)) }
+    ensures { GivesTruth result
+        (one_of_rule place.now (parts_of_cores parts.now) (tree_of value.now) (bound_in env.entry)
+        (present_in env.entry) (next_in env.entry)) }
 {
     let values = evaluated_each(alloc, parts, env)?;
     set_has(alloc, place, values.as_slice(), value)
@@ -127,7 +140,9 @@ pub(super) fn cup<'c: 'a, 'a>(
     right: &'c Core,
     env: Environment<'a>,
 ) -> Result<Evaluated<'a>, Trouble<'c>>
-    ensures { Evaluates result ((means-cup place.now (means (expr_of left.now)) (means (expr_of right.now))).value (bound_in env.entry) (present_in env.entry) (next_in env.entry)) }
+    ensures { Evaluates result
+        ((means-cup place.now (means (expr_of left.now)) (means (expr_of right.now))).value
+        (bound_in env.entry) (present_in env.entry) (next_in env.entry)) }
 {
     let left = evaluate(alloc, left, env)?;
     let right = evaluate(alloc, right, env)?;
@@ -143,7 +158,9 @@ pub(super) fn cap<'c: 'a, 'a>(
     right: &'c Core,
     env: Environment<'a>,
 ) -> Result<Evaluated<'a>, Trouble<'c>>
-    ensures { Evaluates result ((means-cap place.now (means (expr_of left.now)) (means (expr_of right.now))).value (bound_in env.entry) (present_in env.entry) (next_in env.entry)) }
+    ensures { Evaluates result
+        ((means-cap place.now (means (expr_of left.now)) (means (expr_of right.now))).value
+        (bound_in env.entry) (present_in env.entry) (next_in env.entry)) }
 {
     let left = evaluate(alloc, left, env)?;
     let right = evaluate(alloc, right, env)?;
@@ -159,7 +176,9 @@ pub(super) fn minus<'c: 'a, 'a>(
     right: &'c Core,
     env: Environment<'a>,
 ) -> Result<Evaluated<'a>, Trouble<'c>>
-    ensures { Evaluates result ((means-minus place.now (means (expr_of left.now)) (means (expr_of right.now))).value (bound_in env.entry) (present_in env.entry) (next_in env.entry)) }
+    ensures { Evaluates result
+        ((means-minus place.now (means (expr_of left.now)) (means (expr_of right.now))).value
+        (bound_in env.entry) (present_in env.entry) (next_in env.entry)) }
 {
     let left = evaluate(alloc, left, env)?;
     let right = evaluate(alloc, right, env)?;

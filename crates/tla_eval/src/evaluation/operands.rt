@@ -33,7 +33,9 @@ pub(super) fn on_one<'c: 'a, 'a>(
     operand: &'c Core,
     env: Environment<'a>,
 ) -> Result<Evaluated<'a>, Trouble<'c>>
-    ensures { Evaluates result ((means-unary place.now (unary_of operator) (means (expr_of operand.now))).value (bound_in env.entry) (present_in env.entry) (next_in env.entry)) }
+    ensures { Evaluates result
+        ((means-unary place.now (unary_of operator) (means (expr_of operand.now))).value
+        (bound_in env.entry) (present_in env.entry) (next_in env.entry)) }
 {
     let operand = evaluate(alloc, operand, env)?;
     unary(alloc, place, operator, operand)
@@ -49,7 +51,9 @@ pub(super) fn on_two<'c: 'a, 'a>(
     right: &'c Core,
     env: Environment<'a>,
 ) -> Result<Evaluated<'a>, Trouble<'c>>
-    ensures { Evaluates result ((means-binary place.now (binary_of operator) (means (expr_of left.now)) (means (expr_of right.now))).value (bound_in env.entry) (present_in env.entry) (next_in env.entry)) }
+    ensures { Evaluates result
+        ((means-binary place.now (binary_of operator) (means (expr_of left.now)) (means (expr_of right.now))).value
+        (bound_in env.entry) (present_in env.entry) (next_in env.entry)) }
 {
     let left = evaluate(alloc, left, env)?;
     let right = evaluate(alloc, right, env)?;
@@ -65,7 +69,9 @@ pub(super) fn applied<'c: 'a, 'a>(
     argument: &'c Core,
     env: Environment<'a>,
 ) -> Result<Evaluated<'a>, Trouble<'c>>
-    ensures { Evaluates result ((means-binary place.now Apply (means (expr_of function.now)) (means (expr_of argument.now))).value (bound_in env.entry) (present_in env.entry) (next_in env.entry)) }
+    ensures { Evaluates result
+        ((means-binary place.now Apply (means (expr_of function.now)) (means (expr_of argument.now))).value
+        (bound_in env.entry) (present_in env.entry) (next_in env.entry)) }
 {
     let function = evaluate(alloc, function, env)?;
     let argument = evaluate(alloc, argument, env)?;
@@ -80,7 +86,9 @@ pub(super) fn equal<'c: 'a, 'a>(
     right: &'c Core,
     env: Environment<'a>,
 ) -> Result<Evaluated<'a>, Trouble<'c>>
-    ensures { Evaluates result ((means-equal (means (expr_of left.now)).place (means (expr_of left.now)) (means (expr_of right.now))).value (bound_in env.entry) (present_in env.entry) (next_in env.entry)) }
+    ensures { Evaluates result
+        ((means-equal (means (expr_of left.now)).place (means (expr_of left.now)) (means (expr_of right.now))).value
+        (bound_in env.entry) (present_in env.entry) (next_in env.entry)) }
 {
     let left = evaluate(alloc, left, env)?;
     let right = evaluate(alloc, right, env)?;
@@ -96,7 +104,9 @@ pub(super) fn field_of<'c: 'a, 'a>(
     base: &'c Core,
     env: Environment<'a>,
 ) -> Result<Evaluated<'a>, Trouble<'c>>
-    ensures { Evaluates result ((means-unary place.now (Field name.now) (means (expr_of base.now))).value (bound_in env.entry) (present_in env.entry) (next_in env.entry)) }
+    ensures { Evaluates result
+        ((means-unary place.now (Field name.now) (means (expr_of base.now))).value
+        (bound_in env.entry) (present_in env.entry) (next_in env.entry)) }
 {
     let base = evaluate(alloc, base, env)?;
     field(alloc, place, name, base)
@@ -112,7 +122,9 @@ pub(super) fn part_of<'c: 'a, 'a>(
     high: &'c Core,
     env: Environment<'a>,
 ) -> Result<Evaluated<'a>, Trouble<'c>>
-    ensures { Evaluates result ((means-sub_seq place.now (means (expr_of sequence.now)) (means (expr_of low.now)) (means (expr_of high.now))).value (bound_in env.entry) (present_in env.entry) (next_in env.entry)) }
+    ensures { Evaluates result
+        ((means-sub_seq place.now (means (expr_of sequence.now)) (means (expr_of low.now)) (means (expr_of high.now))).value
+        (bound_in env.entry) (present_in env.entry) (next_in env.entry)) }
 {
     let sequence = evaluate(alloc, sequence, env)?;
     let low = evaluate(alloc, low, env)?;
@@ -127,7 +139,10 @@ fn values_of<'c: 'a, 'a>(
     cores: &'c [Core],
     env: Environment<'a>,
 ) -> Result<Vec<Value>, Trouble<'c>>
-    ensures { GivesBy (λ v. map tree_of v.items) result (each (λ (m : Meaning). m.value (bound_in env.entry) (present_in env.entry) (next_in env.entry)) (parts_of_cores cores.now)) }
+    ensures { GivesBy (λ v. map tree_of v.items) result
+        (each (λ (m : Meaning).
+        m.value (bound_in env.entry) (present_in env.entry) (next_in env.entry))
+        (parts_of_cores cores.now)) }
 {
     let mut values = Vec::with_capacity(alloc, cores.len())?;
     for core in cores {
@@ -143,7 +158,10 @@ fn named_values<'c: 'a, 'a>(
     fields: &'c [(Text, Core)],
     env: Environment<'a>,
 ) -> Result<Vec<(Value, Value)>, Trouble<'c>>
-    ensures { GivesBy (λ v. map pair_of v.items) result (each (λ (f : List ℕ × Meaning). named_value f (bound_in env.entry) (present_in env.entry) (next_in env.entry)) (fields_of_cores fields.now)) }
+    ensures { GivesBy (λ v. map pair_of v.items) result
+        (each (λ (f : List ℕ × Meaning).
+        named_value f (bound_in env.entry) (present_in env.entry) (next_in env.entry))
+        (fields_of_cores fields.now)) }
 {
     let mut pairs = Vec::with_capacity(alloc, fields.len())?;
     for field in fields {
@@ -161,7 +179,9 @@ pub(super) fn enumerated<'c: 'a, 'a>(
     parts: &'c [Core],
     env: Environment<'a>,
 ) -> Result<Evaluated<'a>, Trouble<'c>>
-    ensures { Evaluates result ((means-enumerated place.now (parts_of_cores parts.now)).value (bound_in env.entry) (present_in env.entry) (next_in env.entry)) }
+    ensures { Evaluates result
+        ((means-enumerated place.now (parts_of_cores parts.now)).value (bound_in env.entry)
+        (present_in env.entry) (next_in env.entry)) }
 {
     let values = values_of(alloc, parts, env)?;
     Ok(Evaluated::Owned(made_set(place, SetValue::from_values(values))?))
@@ -175,7 +195,9 @@ pub(super) fn tuple<'c: 'a, 'a>(
     parts: &'c [Core],
     env: Environment<'a>,
 ) -> Result<Evaluated<'a>, Trouble<'c>>
-    ensures { Evaluates result ((means-tuple place.now (parts_of_cores parts.now)).value (bound_in env.entry) (present_in env.entry) (next_in env.entry)) }
+    ensures { Evaluates result
+        ((means-tuple place.now (parts_of_cores parts.now)).value (bound_in env.entry)
+        (present_in env.entry) (next_in env.entry)) }
 {
     let values = values_of(alloc, parts, env)?;
     Ok(Evaluated::Owned(sequence_of(place, values)?))
@@ -189,7 +211,9 @@ pub(super) fn record_of<'c: 'a, 'a>(
     fields: &'c [(Text, Core)],
     env: Environment<'a>,
 ) -> Result<Evaluated<'a>, Trouble<'c>>
-    ensures { Evaluates result (record_rule place.now (fields_of_cores fields.now) (bound_in env.entry) (present_in env.entry) (next_in env.entry)) }
+    ensures { Evaluates result
+        (record_rule place.now (fields_of_cores fields.now) (bound_in env.entry)
+        (present_in env.entry) (next_in env.entry)) }
 {
     let pairs = named_values(alloc, fields, env)?;
     Ok(Evaluated::Owned(made_fun(place, FunValue::from_pairs(pairs))?))

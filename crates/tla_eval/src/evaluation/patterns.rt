@@ -22,7 +22,8 @@ pub(super) fn body_value<'c: 'a, 'a>(
     body: &'c Core,
     env: Environment<'a>,
 ) -> Result<Evaluated<'a>, Trouble<'c>>
-    ensures { Evaluates result (val (expr_of body.now) (bound_in env.entry) (present_in env.entry) (next_in env.entry)) }
+    ensures { Evaluates result
+        (val (expr_of body.now) (bound_in env.entry) (present_in env.entry) (next_in env.entry)) }
 {
     match body {
         Core::Opened(place, openings, part) => opened(alloc, place, openings, part, env),
@@ -39,7 +40,9 @@ pub(super) fn opened<'c: 'a, 'a>(
     body: &'c Core,
     env: Environment<'a>,
 ) -> Result<Evaluated<'a>, Trouble<'c>>
-    ensures { Evaluates result ((means-opened place.now openings.now (means (expr_of body.now))).value (bound_in env.entry) (present_in env.entry) (next_in env.entry)) }
+    ensures { Evaluates result
+        ((means-opened place.now openings.now (means (expr_of body.now))).value
+        (bound_in env.entry) (present_in env.entry) (next_in env.entry)) }
 {
     let items = open_items(alloc, place, openings, env.frame)?;
     Ok(Evaluated::Owned(value_with_all(alloc, body, items.as_slice(), env)?))
@@ -54,7 +57,9 @@ pub(super) fn tried<'c: 'a, 'a>(
     set: &'c Core,
     env: Environment<'a>,
 ) -> Result<Evaluated<'a>, Trouble<'c>>
-    ensures { Evaluates result ((means-tried place.now count (means (expr_of set.now))).value (bound_in env.entry) (present_in env.entry) (next_in env.entry)) }
+    ensures { Evaluates result
+        ((means-tried place.now count (means (expr_of set.now))).value (bound_in env.entry)
+        (present_in env.entry) (next_in env.entry)) }
 {
     let value = evaluate(alloc, set, env)?;
     try_set(place, count, value.value())?;

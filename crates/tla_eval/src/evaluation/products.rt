@@ -32,7 +32,9 @@ pub(super) fn records<'c: 'a, 'a>(
     fields: &'c [(Text, Core)],
     env: Environment<'a>,
 ) -> Result<Evaluated<'a>, Trouble<'c>>
-    ensures { Evaluates result (record_set_rule place.now (fields_of_cores fields.now) (bound_in env.entry) (present_in env.entry) (next_in env.entry)) }
+    ensures { Evaluates result
+        (record_set_rule place.now (fields_of_cores fields.now) (bound_in env.entry)
+        (present_in env.entry) (next_in env.entry)) }
 {
     let sets = field_sets(alloc, fields, env)?;
     Ok(Evaluated::Owned(records_with(alloc, place, fields, sets.as_slice())?))
@@ -45,7 +47,10 @@ fn field_sets<'c: 'a, 'a>(
     fields: &'c [(Text, Core)],
     env: Environment<'a>,
 ) -> Result<Vec<Evaluated<'a>>, Trouble<'c>>
-    ensures { GivesBy (λ v. map tree_of_evaluated v.items) result (each (λ (m : Meaning). m.value (bound_in env.entry) (present_in env.entry) (next_in env.entry)) (parts_of (fields_of_cores fields.now))) }
+    ensures { GivesBy (λ v. map tree_of_evaluated v.items) result
+        (each (λ (m : Meaning).
+        m.value (bound_in env.entry) (present_in env.entry) (next_in env.entry))
+        (parts_of (fields_of_cores fields.now))) }
 {
     let mut values = Vec::with_capacity(alloc, fields.len())?;
     for field in fields {
@@ -62,7 +67,9 @@ pub(super) fn product<'c: 'a, 'a>(
     parts: &'c [Core],
     env: Environment<'a>,
 ) -> Result<Evaluated<'a>, Trouble<'c>>
-    ensures { Evaluates result (product_rule place.now (parts_of_cores parts.now) (bound_in env.entry) (present_in env.entry) (next_in env.entry)) }
+    ensures { Evaluates result
+        (product_rule place.now (parts_of_cores parts.now) (bound_in env.entry)
+        (present_in env.entry) (next_in env.entry)) }
 {
     let sets = evaluated_each(alloc, parts, env)?;
     Ok(Evaluated::Owned(tuples_with(alloc, place, sets.as_slice())?))
@@ -76,7 +83,10 @@ pub(super) fn is_record_of<'c: 'a, 'a>(
     value: &'a Value,
     env: Environment<'a>,
 ) -> Result<bool, Trouble<'c>>
-    ensures { (p : Place) → GivesTruth result ((means-records p (fields_of_cores fields.now)).has (tree_of value.now) (bound_in env.entry) (present_in env.entry) (next_in env.entry)) }
+    ensures { (p : Place)
+        → GivesTruth result
+        ((means-records p (fields_of_cores fields.now)).has (tree_of value.now)
+        (bound_in env.entry) (present_in env.entry) (next_in env.entry)) }
 {
     match if_function(value) {
         Some(function) => {
@@ -98,7 +108,10 @@ fn fields_have<'c: 'a, 'a>(
     function: &'a FunValue,
     env: Environment<'a>,
 ) -> Result<bool, Trouble<'c>>
-    ensures { GivesTruth result (all_hold (field_has function.now (bound_in env.entry) (present_in env.entry) (next_in env.entry)) (fields_of_cores fields.now)) }
+    ensures { GivesTruth result
+        (all_hold
+        (field_has function.now (bound_in env.entry) (present_in env.entry)
+        (next_in env.entry)) (fields_of_cores fields.now)) }
 {
     for field in fields {
         match field_in(function, &field.0) {
@@ -121,7 +134,10 @@ pub(super) fn is_tuple_of<'c: 'a, 'a>(
     value: &'a Value,
     env: Environment<'a>,
 ) -> Result<bool, Trouble<'c>>
-    ensures { (p : Place) → GivesTruth result ((means-product p (parts_of_cores parts.now)).has (tree_of value.now) (bound_in env.entry) (present_in env.entry) (next_in env.entry)) }
+    ensures { (p : Place)
+        → GivesTruth result
+        ((means-product p (parts_of_cores parts.now)).has (tree_of value.now)
+        (bound_in env.entry) (present_in env.entry) (next_in env.entry)) }
 {
     match sequence_items(value) {
         Some(items) => {
@@ -144,7 +160,9 @@ fn parts_have<'c: 'a, 'a>(
     env: Environment<'a>,
 ) -> Result<bool, Trouble<'c>>
     requires { length items.now ≡ length parts.now }
-    ensures { GivesTruth result (parts_have (parts_of_cores parts.now) (map tree_of items.now) (bound_in env.entry) (present_in env.entry) (next_in env.entry)) }
+    ensures { GivesTruth result
+        (parts_have (parts_of_cores parts.now) (map tree_of items.now) (bound_in env.entry)
+        (present_in env.entry) (next_in env.entry)) }
 {
     for i in 0..parts.len() {
         if !has(alloc, &parts[i], &items[i], env)? {

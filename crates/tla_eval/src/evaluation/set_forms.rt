@@ -31,7 +31,9 @@ pub(super) fn power<'c: 'a, 'a>(
     set: &'c Core,
     env: Environment<'a>,
 ) -> Result<Evaluated<'a>, Trouble<'c>>
-    ensures { Evaluates result ((means-power place.now (means (expr_of set.now))).value (bound_in env.entry) (present_in env.entry) (next_in env.entry)) }
+    ensures { Evaluates result
+        ((means-power place.now (means (expr_of set.now))).value (bound_in env.entry)
+        (present_in env.entry) (next_in env.entry)) }
 {
     let set = evaluate(alloc, set, env)?;
     Ok(Evaluated::Owned(subsets_of(alloc, place, set.value())?))
@@ -46,7 +48,9 @@ pub(super) fn functions<'c: 'a, 'a>(
     range: &'c Core,
     env: Environment<'a>,
 ) -> Result<Evaluated<'a>, Trouble<'c>>
-    ensures { Evaluates result ((means-functions place.now (means (expr_of domain.now)) (means (expr_of range.now))).value (bound_in env.entry) (present_in env.entry) (next_in env.entry)) }
+    ensures { Evaluates result
+        ((means-functions place.now (means (expr_of domain.now)) (means (expr_of range.now))).value
+        (bound_in env.entry) (present_in env.entry) (next_in env.entry)) }
 {
     let domain = evaluate(alloc, domain, env)?;
     let range = evaluate(alloc, range, env)?;
@@ -61,7 +65,9 @@ pub(super) fn is_set_within<'c: 'a, 'a>(
     value: &'a Value,
     env: Environment<'a>,
 ) -> Result<bool, Trouble<'c>>
-    ensures { GivesTruth result ((means-power (means (expr_of core.now)).place (means (expr_of core.now))).has (tree_of value.now) (bound_in env.entry) (present_in env.entry) (next_in env.entry)) }
+    ensures { GivesTruth result
+        ((means-power (means (expr_of core.now)).place (means (expr_of core.now))).has
+        (tree_of value.now) (bound_in env.entry) (present_in env.entry) (next_in env.entry)) }
 {
     match if_set(value) {
         Some(values) => has_all(alloc, core, values, env),
@@ -77,7 +83,9 @@ pub(super) fn is_sequence_of<'c: 'a, 'a>(
     value: &'a Value,
     env: Environment<'a>,
 ) -> Result<bool, Trouble<'c>>
-    ensures { GivesTruth result ((means-sequences (means (expr_of core.now)).place (means (expr_of core.now))).has (tree_of value.now) (bound_in env.entry) (present_in env.entry) (next_in env.entry)) }
+    ensures { GivesTruth result
+        ((means-sequences (means (expr_of core.now)).place (means (expr_of core.now))).has
+        (tree_of value.now) (bound_in env.entry) (present_in env.entry) (next_in env.entry)) }
 {
     match sequence_items(value) {
         Some(items) => has_all(alloc, core, items, env),
@@ -95,7 +103,9 @@ pub(super) fn is_function_into<'c: 'a, 'a>(
     value: &'a Value,
     env: Environment<'a>,
 ) -> Result<bool, Trouble<'c>>
-    ensures { GivesTruth result ((means-functions place.now (means (expr_of domain.now)) (means (expr_of range.now))).has (tree_of value.now) (bound_in env.entry) (present_in env.entry) (next_in env.entry)) }
+    ensures { GivesTruth result
+        ((means-functions place.now (means (expr_of domain.now)) (means (expr_of range.now))).has
+        (tree_of value.now) (bound_in env.entry) (present_in env.entry) (next_in env.entry)) }
 {
     match if_function(value) {
         Some(function) => {

@@ -26,7 +26,9 @@ pub(super) fn except<'c: 'a, 'a>(
     base: &'c Core,
     env: Environment<'a>,
 ) -> Result<Evaluated<'a>, Trouble<'c>>
-    ensures { Evaluates result ((means-except place.now (means (expr_of base.now)) (updates_of_cores updates.now)).value (bound_in env.entry) (present_in env.entry) (next_in env.entry)) }
+    ensures { Evaluates result
+        ((means-except place.now (means (expr_of base.now)) (updates_of_cores updates.now)).value
+        (bound_in env.entry) (present_in env.entry) (next_in env.entry)) }
 {
     let base = evaluate(alloc, base, env)?;
     updated_by_all(alloc, place, updates, base, env)
@@ -41,7 +43,9 @@ fn updated_by_all<'c: 'a, 'a>(
     base: Evaluated<'a>,
     env: Environment<'a>,
 ) -> Result<Evaluated<'a>, Trouble<'c>>
-    ensures { Evaluates result (update_all place.now (updates_of_cores updates.now) (bound_in env.entry) (present_in env.entry) (next_in env.entry) (tree_of_evaluated base.entry)) }
+    ensures { Evaluates result
+        (update_all place.now (updates_of_cores updates.now) (bound_in env.entry)
+        (present_in env.entry) (next_in env.entry) (tree_of_evaluated base.entry)) }
 {
     let mut value = base;
     for update in updates {
@@ -61,7 +65,10 @@ fn updated<'c: 'a, 'a>(
     value: Evaluated<'a>,
     env: Environment<'a>,
 ) -> Result<Value, Trouble<'c>>
-    ensures { Gives result (update place.now (parts_of_cores keys.now) (means (expr_of body.now)) (bound_in env.entry) (present_in env.entry) (next_in env.entry) (tree_of_evaluated value.entry)) }
+    ensures { Gives result
+        (update place.now (parts_of_cores keys.now) (means (expr_of body.now))
+        (bound_in env.entry) (present_in env.entry) (next_in env.entry)
+        (tree_of_evaluated value.entry)) }
 {
     match keys.split_first() {
         None => value_with(alloc, body, value.value(), env),
@@ -80,7 +87,10 @@ fn updated_at<'c: 'a, 'a>(
     value: Evaluated<'a>,
     env: Environment<'a>,
 ) -> Result<Value, Trouble<'c>>
-    ensures { Gives result (update place.now (means (expr_of key.now) ∷ parts_of_cores rest.now) (means (expr_of body.now)) (bound_in env.entry) (present_in env.entry) (next_in env.entry) (tree_of_evaluated value.entry)) }
+    ensures { Gives result
+        (update place.now (means (expr_of key.now) ∷ parts_of_cores rest.now)
+        (means (expr_of body.now)) (bound_in env.entry) (present_in env.entry)
+        (next_in env.entry) (tree_of_evaluated value.entry)) }
 {
     let function = into_function(alloc, place, value)?;
     let key = evaluate(alloc, key, env)?;

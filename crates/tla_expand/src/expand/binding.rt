@@ -53,7 +53,12 @@ pub(super) fn bound_several<'a>(
     requires scope { at.scope ≤ length (listed entries.old) }
     requires small { at.bound + at.left < most_named }
     ensures kept { OnOk result (listed entries.new ≡ listed entries.old) }
-    ensures same { Gives (at.room + 1) (at.left + 1) result (with_primes at.primes (bounds.nested node place (expansion.binds_of (binders (map group_view groups.now)) (scope_at (listed entries.old) at.scope)) (expansion.expand (view body.now)) (scope_at (listed entries.old) at.scope) at.bound)) }
+    ensures same { Gives (at.room + 1) (at.left + 1) result
+        (with_primes at.primes
+        (bounds.nested node place
+        (expansion.binds_of (binders (map group_view groups.now))
+        (scope_at (listed entries.old) at.scope)) (expansion.expand (view body.now))
+        (scope_at (listed entries.old) at.scope) at.bound)) }
 {
     let binds = bind_list(alloc, groups)?;
     let [first, rest @ ..] = binds.as_slice() else {
@@ -85,7 +90,13 @@ pub(super) fn bound_one<'a>(
     requires scope { at.scope ≤ length (listed entries.old) }
     requires small { at.bound + at.left < most_named }
     ensures kept { OnOk result (listed entries.new ≡ listed entries.old) }
-    ensures same { Gives (at.room + 1) (at.left + 1) result (with_primes at.primes (bounds.nested node place (bind_entry (pattern_view pattern.now) (expansion.expand (view set.now) (scope_at (listed entries.old) at.scope)) []) (expansion.expand (view body.now)) (scope_at (listed entries.old) at.scope) at.bound)) }
+    ensures same { Gives (at.room + 1) (at.left + 1) result
+        (with_primes at.primes
+        (bounds.nested node place
+        (bind_entry (pattern_view pattern.now)
+        (expansion.expand (view set.now) (scope_at (listed entries.old) at.scope)) [])
+        (expansion.expand (view body.now)) (scope_at (listed entries.old) at.scope)
+        at.bound)) }
 {
     let binds = bind_one(alloc, pattern, set)?;
     let [first, rest @ ..] = binds.as_slice() else {
@@ -115,7 +126,12 @@ fn nested<'a>(
     requires scope { at.scope ≤ length (listed entries.old) }
     requires small { at.bound + at.left < most_named }
     ensures kept { OnOk result (listed entries.new ≡ listed entries.old) }
-    ensures same { Gives (at.room + 1) (at.left + 1) result (with_primes at.primes (bounds.nested under.entry.node under.entry.place (binds_in (first.entry ∷ rest.now) (scope_at (listed entries.old) under.entry.home)) (expansion.expand (view under.entry.body.now)) (scope_at (listed entries.old) at.scope) at.bound)) }
+    ensures same { Gives (at.room + 1) (at.left + 1) result
+        (with_primes at.primes
+        (bounds.nested under.entry.node under.entry.place
+        (binds_in (first.entry ∷ rest.now) (scope_at (listed entries.old) under.entry.home))
+        (expansion.expand (view under.entry.body.now))
+        (scope_at (listed entries.old) at.scope) at.bound)) }
 {
     let home = Setting {
         scope: under.home,
@@ -150,7 +166,15 @@ fn under_element<'a>(
     requires scope { at.scope ≤ length (listed entries.old) }
     requires small { at.bound + at.left < most_named }
     ensures kept { OnOk result (listed entries.new ≡ listed entries.old) }
-    ensures same { Gives at.room at.left result (with_primes at.primes (bounds.under under.entry.place (names_of names.entry) (last_or (binds_in rest.now (scope_at (listed entries.old) under.entry.home)) (expansion.expand (view under.entry.body.now)) (bounds.nested under.entry.node under.entry.place (binds_in rest.now (scope_at (listed entries.old) under.entry.home)) (expansion.expand (view under.entry.body.now)))) (scope_at (listed entries.old) at.scope) at.bound)) }
+    ensures same { Gives at.room at.left result
+        (with_primes at.primes
+        (bounds.under under.entry.place (names_of names.entry)
+        (last_or (binds_in rest.now (scope_at (listed entries.old) under.entry.home))
+        (expansion.expand (view under.entry.body.now))
+        (bounds.nested under.entry.node under.entry.place
+        (binds_in rest.now (scope_at (listed entries.old) under.entry.home))
+        (expansion.expand (view under.entry.body.now))))
+        (scope_at (listed entries.old) at.scope) at.bound)) }
 {
     match names {
         Names::Name(name) => under_name(alloc, entries, under, name, rest, at),
@@ -173,7 +197,15 @@ fn under_name<'a>(
     requires scope { at.scope ≤ length (listed entries.old) }
     requires small { at.bound + at.left < most_named }
     ensures kept { OnOk result (listed entries.new ≡ listed entries.old) }
-    ensures same { Gives at.room at.left result (with_primes at.primes (bounds.under under.entry.place (bounds.named name.now.word) (last_or (binds_in rest.now (scope_at (listed entries.old) under.entry.home)) (expansion.expand (view under.entry.body.now)) (bounds.nested under.entry.node under.entry.place (binds_in rest.now (scope_at (listed entries.old) under.entry.home)) (expansion.expand (view under.entry.body.now)))) (scope_at (listed entries.old) at.scope) at.bound)) }
+    ensures same { Gives at.room at.left result
+        (with_primes at.primes
+        (bounds.under under.entry.place (bounds.named name.now.word)
+        (last_or (binds_in rest.now (scope_at (listed entries.old) under.entry.home))
+        (expansion.expand (view under.entry.body.now))
+        (bounds.nested under.entry.node under.entry.place
+        (binds_in rest.now (scope_at (listed entries.old) under.entry.home))
+        (expansion.expand (view under.entry.body.now))))
+        (scope_at (listed entries.old) at.scope) at.bound)) }
 {
     let mark = entries.len();
     let entry = Entry {
@@ -207,7 +239,15 @@ fn under_tuple<'a>(
     requires scope { at.scope ≤ length (listed entries.old) }
     requires small { at.bound + at.left < most_named }
     ensures kept { OnOk result (listed entries.new ≡ listed entries.old) }
-    ensures same { Gives at.room at.left result (with_primes at.primes (bounds.under under.entry.place (bounds.tupled names.now) (last_or (binds_in rest.now (scope_at (listed entries.old) under.entry.home)) (expansion.expand (view under.entry.body.now)) (bounds.nested under.entry.node under.entry.place (binds_in rest.now (scope_at (listed entries.old) under.entry.home)) (expansion.expand (view under.entry.body.now)))) (scope_at (listed entries.old) at.scope) at.bound)) }
+    ensures same { Gives at.room at.left result
+        (with_primes at.primes
+        (bounds.under under.entry.place (bounds.tupled names.now)
+        (last_or (binds_in rest.now (scope_at (listed entries.old) under.entry.home))
+        (expansion.expand (view under.entry.body.now))
+        (bounds.nested under.entry.node under.entry.place
+        (binds_in rest.now (scope_at (listed entries.old) under.entry.home))
+        (expansion.expand (view under.entry.body.now))))
+        (scope_at (listed entries.old) at.scope) at.bound)) }
 {
     let count = names.len();
     if count > at.left {
@@ -245,7 +285,14 @@ fn within<'a>(
     requires scope { at.scope ≤ length (listed entries.old) }
     requires small { at.bound + at.left ≤ most_named }
     ensures kept { OnOk result (listed entries.new ≡ listed entries.old) }
-    ensures same { Gives at.room at.left result (with_primes at.primes (last_or (binds_in binds.now (scope_at (listed entries.old) under.entry.home)) (expansion.expand (view under.entry.body.now)) (bounds.nested under.entry.node under.entry.place (binds_in binds.now (scope_at (listed entries.old) under.entry.home)) (expansion.expand (view under.entry.body.now))) (scope_at (listed entries.old) at.scope) at.bound)) }
+    ensures same { Gives at.room at.left result
+        (with_primes at.primes
+        (last_or (binds_in binds.now (scope_at (listed entries.old) under.entry.home))
+        (expansion.expand (view under.entry.body.now))
+        (bounds.nested under.entry.node under.entry.place
+        (binds_in binds.now (scope_at (listed entries.old) under.entry.home))
+        (expansion.expand (view under.entry.body.now)))
+        (scope_at (listed entries.old) at.scope) at.bound)) }
 {
     let [first, rest @ ..] = binds else {
         return expand(alloc, entries, under.body, at);
@@ -270,7 +317,12 @@ pub(super) fn gather_node<'a>(
     requires scope { at.scope ≤ length (listed entries.old) }
     requires small { at.bound + at.left ≤ most_named }
     ensures kept { OnOk result (listed entries.new ≡ listed entries.old) }
-    ensures same { Gives (at.room + 1) (at.left + 1) result (with_primes at.primes (bounds.gathered node place (expansion.binds_of (binders (map group_view groups.now)) (scope_at (listed entries.old) at.scope)) (expansion.expand (view body.now)) (scope_at (listed entries.old) at.scope) at.bound)) }
+    ensures same { Gives (at.room + 1) (at.left + 1) result
+        (with_primes at.primes
+        (bounds.gathered node place
+        (expansion.binds_of (binders (map group_view groups.now))
+        (scope_at (listed entries.old) at.scope)) (expansion.expand (view body.now))
+        (scope_at (listed entries.old) at.scope) at.bound)) }
 {
     let binds = bind_list(alloc, groups)?;
     let binds = binds.as_slice();
@@ -309,7 +361,8 @@ fn set_for<'a>(
     requires scope { at.scope ≤ length (listed entries.old) }
     requires small { at.bound + at.left ≤ most_named }
     ensures kept { OnOk result (listed entries.new ≡ listed entries.old) }
-    ensures same { Gives at.room at.left result (set_in place at.primes (scope_at (listed entries.old) at.scope) at.bound bind.entry) }
+    ensures same { Gives at.room at.left result
+        (set_in place at.primes (scope_at (listed entries.old) at.scope) at.bound bind.entry) }
 {
     let set = expand(alloc, entries, bind.set, at)?;
     match bind.names {
@@ -337,7 +390,9 @@ fn sets_of<'a>(
     requires scope { at.scope ≤ length (listed entries.old) }
     requires small { at.bound + at.left ≤ most_named }
     ensures kept { OnOk result (listed entries.new ≡ listed entries.old) }
-    ensures same { GivesMany at.room at.left result (each_of (set_in place at.primes (scope_at (listed entries.old) at.scope) at.bound) binds.now) }
+    ensures same { GivesMany at.room at.left result
+        (each_of (set_in place at.primes (scope_at (listed entries.old) at.scope) at.bound)
+        binds.now) }
 {
     let mut parts = Vec::new(alloc);
     let mut left = at.left;
@@ -366,7 +421,8 @@ fn opening_of(alloc: Global, names: &[Written], bound: usize) -> Result<Vec<Open
 
 /// Adds this element, if it is opened. The only error is that memory ran out.
 fn push_opening(openings: &mut Vec<Opening>, names: Names<'_>, bound: usize) -> Result<(), Failure>
-    ensures ok { OnOk result (openings.new.items ≡ openings.old.items ++ opened_at (names_of names.entry) bound) }
+    ensures ok { OnOk result
+        (openings.new.items ≡ openings.old.items ++ opened_at (names_of names.entry) bound) }
     ensures err { IfErr result (λ e. e ≡ Failure.Memory) }
 {
     match names {
@@ -384,7 +440,8 @@ fn push_opening(openings: &mut Vec<Opening>, names: Names<'_>, bound: usize) -> 
 /// The elements that are opened, of those with numbers from `bound` on. The only error is that memory ran out.
 fn openings_of(alloc: Global, binds: &[Bind<'_>], bound: usize) -> Result<Vec<Opening>, Failure>
     requires { bound + length binds.now ≤ most_named }
-    ensures ok { IfOk result (λ os. (σ : Scope) → os.items ≡ bounds.openings (binds_in binds.now σ) bound) }
+    ensures ok { IfOk result (λ os.
+        (σ : Scope) → os.items ≡ bounds.openings (binds_in binds.now σ) bound) }
     ensures err { IfErr result (λ e. e ≡ Failure.Memory) }
 {
     let mut openings = Vec::new(alloc);
@@ -423,7 +480,9 @@ fn name_each<'a>(
     ensures linked { OnOk result (AreLinked (listed entries.new)) }
     ensures extends { OnOk result (Extends (listed entries.new) (listed entries.old)) }
     ensures within { IfOk result (λ s. s ≤ length (listed entries.new)) }
-    ensures same { IfOk result (λ s. with_each names.now bound (scope_at (listed entries.old) scope) ≡ scope_at (listed entries.new) s) }
+    ensures same { IfOk result (λ s.
+        with_each names.now bound (scope_at (listed entries.old) scope)
+        ≡ scope_at (listed entries.new) s) }
     ensures err { IfErr result (λ e. e ≡ Failure.Memory) }
 {
     let mut at = scope;
@@ -447,11 +506,18 @@ fn name_all<'a>(
 ) -> Result<usize, Failure>
     requires linked { AreLinked (listed entries.old) }
     requires scope { scope ≤ length (listed entries.old) }
-    requires small { (σ : Scope) (d : ℕ) → bound + length binds.now + items_in (bounds.openings (binds_in binds.now σ) d) ≤ most_named }
+    requires small { (σ : Scope) (d : ℕ)
+        → bound + length binds.now + items_in (bounds.openings (binds_in binds.now σ) d)
+        ≤ most_named }
     ensures linked { OnOk result (AreLinked (listed entries.new)) }
     ensures extends { OnOk result (Extends (listed entries.new) (listed entries.old)) }
     ensures within { IfOk result (λ s. s ≤ length (listed entries.new)) }
-    ensures same { IfOk result (λ s. (σ : Scope) → bounds.with_items (binds_in binds.now σ) (bound + length binds.now) (bounds.with_elements (binds_in binds.now σ) bound (scope_at (listed entries.old) scope)) ≡ scope_at (listed entries.new) s) }
+    ensures same { IfOk result (λ s.
+        (σ : Scope)
+        → bounds.with_items (binds_in binds.now σ) (bound + length binds.now)
+        (bounds.with_elements (binds_in binds.now σ) bound
+        (scope_at (listed entries.old) scope))
+        ≡ scope_at (listed entries.new) s) }
     ensures err { IfErr result (λ e. e ≡ Failure.Memory) }
 {
     let scope = name_elements(entries, binds, bound, scope)?;
@@ -470,7 +536,9 @@ fn name_element<'a>(
     ensures linked { OnOk result (AreLinked (listed entries.new)) }
     ensures extends { OnOk result (Extends (listed entries.new) (listed entries.old)) }
     ensures within { IfOk result (λ s. s ≤ length (listed entries.new)) }
-    ensures same { IfOk result (λ s. scope_at (listed entries.new) s ≡ with_element (names_of names.entry) bound (scope_at (listed entries.old) scope)) }
+    ensures same { IfOk result (λ s.
+        scope_at (listed entries.new) s
+        ≡ with_element (names_of names.entry) bound (scope_at (listed entries.old) scope)) }
     ensures err { IfErr result (λ e. e ≡ Failure.Memory) }
 {
     match names {
@@ -499,7 +567,11 @@ fn name_elements<'a>(
     ensures linked { OnOk result (AreLinked (listed entries.new)) }
     ensures extends { OnOk result (Extends (listed entries.new) (listed entries.old)) }
     ensures within { IfOk result (λ s. s ≤ length (listed entries.new)) }
-    ensures same { IfOk result (λ s. (σ : Scope) → bounds.with_elements (binds_in binds.now σ) bound (scope_at (listed entries.old) scope) ≡ scope_at (listed entries.new) s) }
+    ensures same { IfOk result (λ s.
+        (σ : Scope)
+        → bounds.with_elements (binds_in binds.now σ) bound
+        (scope_at (listed entries.old) scope)
+        ≡ scope_at (listed entries.new) s) }
     ensures err { IfErr result (λ e. e ≡ Failure.Memory) }
 {
     let mut at = scope;
@@ -529,11 +601,15 @@ fn name_items<'a>(
 ) -> Result<usize, Failure>
     requires linked { AreLinked (listed entries.old) }
     requires scope { scope ≤ length (listed entries.old) }
-    requires small { (σ : Scope) (d : ℕ) → bound + items_in (bounds.openings (binds_in binds.now σ) d) ≤ most_named }
+    requires small { (σ : Scope) (d : ℕ)
+        → bound + items_in (bounds.openings (binds_in binds.now σ) d) ≤ most_named }
     ensures linked { OnOk result (AreLinked (listed entries.new)) }
     ensures extends { OnOk result (Extends (listed entries.new) (listed entries.old)) }
     ensures within { IfOk result (λ s. s ≤ length (listed entries.new)) }
-    ensures same { IfOk result (λ s. (σ : Scope) → bounds.with_items (binds_in binds.now σ) bound (scope_at (listed entries.old) scope) ≡ scope_at (listed entries.new) s) }
+    ensures same { IfOk result (λ s.
+        (σ : Scope)
+        → bounds.with_items (binds_in binds.now σ) bound (scope_at (listed entries.old) scope)
+        ≡ scope_at (listed entries.new) s) }
     ensures err { IfErr result (λ e. e ≡ Failure.Memory) }
 {
     let mut at = scope;

@@ -63,7 +63,10 @@ fn look_at_form<'a>(
     requires scope { at.scope ≤ length (listed entries.old) }
     requires small { at.bound + at.left < most_named }
     ensures kept { OnOk result (listed entries.new ≡ listed entries.old) }
-    ensures fails { IfErr result (λ f. Fails (at.room + 1) (at.left + 1) f (with_primes at.primes (form_in form.entry (scope_at (listed entries.old) at.scope) at.bound))) }
+    ensures fails { IfErr result (λ f.
+        Fails (at.room + 1) (at.left + 1) f
+        (with_primes at.primes
+        (form_in form.entry (scope_at (listed entries.old) at.scope) at.bound))) }
 {
     let made = node_of(alloc, entries, form, at)?;
     drop(made);
@@ -82,7 +85,10 @@ fn look_at_each<'a>(
     requires scope { at.scope ≤ length (listed entries.old) }
     requires small { at.bound + at.left ≤ most_named }
     ensures kept { OnOk result (listed entries.new ≡ listed entries.old) }
-    ensures fails { IfErr result (λ f. FailsBy (total nodes) (highest depth) at.room at.left f (each_of (part_in at.primes (scope_at (listed entries.old) at.scope) at.bound) trees.now)) }
+    ensures fails { IfErr result (λ f.
+        FailsBy (total nodes) (highest depth) at.room at.left f
+        (each_of (part_in at.primes (scope_at (listed entries.old) at.scope) at.bound)
+        trees.now)) }
 {
     match each(alloc, entries, trees, at) {
         Ok(_) => Ok(()),
@@ -106,7 +112,10 @@ fn look_at_tuple<'a>(
     requires small { at.bound + at.left ≤ most_named }
     requires tuple { tuple_parts head.form ≡ Some items }
     ensures kept { OnOk result (listed entries.new ≡ listed entries.old) }
-    ensures fails { IfErr result (λ f. Fails (at.room + 1) (at.left + 1) f (with_primes at.primes (form_in head.entry.form (scope_at (listed entries.old) at.scope) at.bound))) }
+    ensures fails { IfErr result (λ f.
+        Fails (at.room + 1) (at.left + 1) f
+        (with_primes at.primes
+        (form_in head.entry.form (scope_at (listed entries.old) at.scope) at.bound))) }
 {
     let trees = items.as_slice();
     if !are_fewer(outer, at.primes) {
@@ -136,7 +145,9 @@ fn look_at<'a>(
     requires scope { at.scope ≤ length (listed entries.old) }
     requires small { at.bound + at.left ≤ most_named }
     ensures kept { OnOk result (listed entries.new ≡ listed entries.old) }
-    ensures fails { IfErr result (λ f. Fails at.room at.left f (part_in at.primes (scope_at (listed entries.old) at.scope) at.bound tree.now)) }
+    ensures fails { IfErr result (λ f.
+        Fails at.room at.left f
+        (part_in at.primes (scope_at (listed entries.old) at.scope) at.bound tree.now)) }
 {
     if !is_sought(at.sought, at.primes) {
         return Ok(());
@@ -159,7 +170,11 @@ fn look_at_operand<'a>(
     requires scope { at.scope ≤ length (listed entries.old) }
     requires small { at.bound + at.left ≤ most_named }
     ensures kept { OnOk result (listed entries.new ≡ listed entries.old) }
-    ensures fails { IfErr result (λ f. (p : fault.Place) → Fails (at.room + 1) (at.left + 1) f (kept_part (settled_primes at.primes) p (scope_at (listed entries.old) at.scope) at.bound tree.now)) }
+    ensures fails { IfErr result (λ f.
+        (p : fault.Place)
+        → Fails (at.room + 1) (at.left + 1) f
+        (kept_part (settled_primes at.primes) p (scope_at (listed entries.old) at.scope)
+        at.bound tree.now)) }
 {
     if !is_sought(at.sought, at.primes) {
         return Ok(());
@@ -197,7 +212,9 @@ pub(super) fn node_behind<'a>(
     requires scope { at.scope ≤ length (listed entries.old) }
     requires small { at.bound + at.left < most_named }
     ensures kept { OnOk result (listed entries.new ≡ listed entries.old) }
-    ensures same { Gives (at.room + 1) (at.left + 1) result (with_primes at.primes (form_in head.entry.form (scope_at (listed entries.old) at.scope) at.bound)) }
+    ensures same { Gives (at.room + 1) (at.left + 1) result
+        (with_primes at.primes
+        (form_in head.entry.form (scope_at (listed entries.old) at.scope) at.bound)) }
 {
     if !is_sought(at.sought, outer) {
         return node_of(alloc, entries, head.form, at);
@@ -230,7 +247,9 @@ pub(super) fn unchanged_node<'a>(
     requires scope { at.scope ≤ length (listed entries.old) }
     requires small { at.bound + at.left < most_named }
     ensures kept { OnOk result (listed entries.new ≡ listed entries.old) }
-    ensures same { Gives (at.room + 1) (at.left + 1) result (kept_part (settled_primes at.primes) place (scope_at (listed entries.old) at.scope) at.bound tree.now) }
+    ensures same { Gives (at.room + 1) (at.left + 1) result
+        (kept_part (settled_primes at.primes) place (scope_at (listed entries.old) at.scope)
+        at.bound tree.now) }
 {
     look_at_operand(alloc, entries, tree, at)?;
     let primes = settled(at.primes);
@@ -251,7 +270,9 @@ pub(super) fn kept_parts<'a>(
     requires scope { at.scope ≤ length (listed entries.old) }
     requires small { at.bound + at.left ≤ most_named }
     ensures kept { OnOk result (listed entries.new ≡ listed entries.old) }
-    ensures same { GivesTwo at.room at.left result (both (part_in primes (scope_at (listed entries.old) at.scope) at.bound tree.now) (part_in at.primes (scope_at (listed entries.old) at.scope) at.bound tree.now)) }
+    ensures same { GivesTwo at.room at.left result
+        (both (part_in primes (scope_at (listed entries.old) at.scope) at.bound tree.now)
+        (part_in at.primes (scope_at (listed entries.old) at.scope) at.bound tree.now)) }
 {
     match two_parts(alloc, entries, tree, tree, primes, at) {
         Err(Failure::NoExpansion(_)) => Err(Failure::NoExpansion(told)),
@@ -272,7 +293,9 @@ pub(super) fn kept_subscript<'a>(
     requires scope { at.scope ≤ length (listed entries.old) }
     requires small { at.bound + at.left ≤ most_named }
     ensures kept { OnOk result (listed entries.new ≡ listed entries.old) }
-    ensures same { Gives at.room at.left result (kept_part (settled_primes at.primes) place (scope_at (listed entries.old) at.scope) at.bound tree.now) }
+    ensures same { Gives at.room at.left result
+        (kept_part (settled_primes at.primes) place (scope_at (listed entries.old) at.scope)
+        at.bound tree.now) }
 {
     let inside = at.inside()?;
     unchanged_node(alloc, entries, place, tree, inside)
@@ -288,7 +311,9 @@ fn changed_at<'a>(
     requires linked { AreLinked (listed entries.old) }
     requires scope { at.scope ≤ length (listed entries.old) }
     ensures kept { OnOk result (listed entries.new ≡ listed entries.old) }
-    ensures none { IfErr result (λ f. SaysNone f (part_in at.primes (scope_at (listed entries.old) at.scope) at.bound tree.now)) }
+    ensures none { IfErr result (λ f.
+        SaysNone f
+        (part_in at.primes (scope_at (listed entries.old) at.scope) at.bound tree.now)) }
 {
     let mark = entries.len();
     let found = find_head(entries, tree, at.scope, at.primes)?;
@@ -309,7 +334,8 @@ pub(super) fn changed_subscript<'a>(
     requires scope { at.scope ≤ length (listed entries.old) }
     requires small { at.bound + at.left ≤ most_named }
     ensures kept { OnOk result (listed entries.new ≡ listed entries.old) }
-    ensures same { Gives at.room at.left result (changed_in at.primes place (scope_at (listed entries.old) at.scope) at.bound tree.now) }
+    ensures same { Gives at.room at.left result
+        (changed_in at.primes place (scope_at (listed entries.old) at.scope) at.bound tree.now) }
 {
     look_at(alloc, entries, tree, at)?;
     let told = changed_at(entries, tree, place, at)?;

@@ -30,7 +30,9 @@ pub(super) fn each<'a>(
     requires scope { at.scope ≤ length (listed entries.old) }
     requires small { at.bound + at.left ≤ most_named }
     ensures kept { OnOk result (listed entries.new ≡ listed entries.old) }
-    ensures same { GivesMany at.room at.left result (each_of (part_in at.primes (scope_at (listed entries.old) at.scope) at.bound) trees.now) }
+    ensures same { GivesMany at.room at.left result
+        (each_of (part_in at.primes (scope_at (listed entries.old) at.scope) at.bound)
+        trees.now) }
 {
     let mut parts = Vec::new(alloc);
     let mut left = at.left;
@@ -55,7 +57,8 @@ pub(super) fn key<'a>(
     requires scope { at.scope ≤ length (listed entries.old) }
     requires small { at.bound + at.left ≤ most_named }
     ensures kept { OnOk result (listed entries.new ≡ listed entries.old) }
-    ensures same { Gives at.room at.left result (key_in at.primes (scope_at (listed entries.old) at.scope) at.bound items.now) }
+    ensures same { Gives at.room at.left result
+        (key_in at.primes (scope_at (listed entries.old) at.scope) at.bound items.now) }
 {
     match items {
         [] => Err(Failure::NoExpansion(place)),
@@ -80,7 +83,10 @@ fn tuple_of<'a>(
     requires scope { at.scope ≤ length (listed entries.old) }
     requires small { at.bound + at.left ≤ most_named }
     ensures kept { OnOk result (listed entries.new ≡ listed entries.old) }
-    ensures same { Gives at.room at.left result (made (λ xs. expr.tuple place (exprs xs)) (each_of (part_in at.primes (scope_at (listed entries.old) at.scope) at.bound) items.now)) }
+    ensures same { Gives at.room at.left result
+        (made (λ xs. expr.tuple place (exprs xs))
+        (each_of (part_in at.primes (scope_at (listed entries.old) at.scope) at.bound)
+        items.now)) }
 {
     let inside = at.inside()?;
     let many = each(alloc, entries, items, inside)?;
@@ -103,7 +109,8 @@ pub(super) fn arms_of<'a>(
     requires scope { at.scope ≤ length (listed entries.old) }
     requires small { at.bound + at.left ≤ most_named }
     ensures kept { OnOk result (listed entries.new ≡ listed entries.old) }
-    ensures same { GivesArms at.room at.left result (each_of (arm_in at.primes (scope_at (listed entries.old) at.scope) at.bound) arms.now) }
+    ensures same { GivesArms at.room at.left result
+        (each_of (arm_in at.primes (scope_at (listed entries.old) at.scope) at.bound) arms.now) }
 {
     let mut made = Vec::new(alloc);
     let mut left = at.left;
@@ -129,7 +136,9 @@ pub(super) fn named_parts<'a>(
     requires scope { at.scope ≤ length (listed entries.old) }
     requires small { at.bound + at.left ≤ most_named }
     ensures kept { OnOk result (listed entries.new ≡ listed entries.old) }
-    ensures same { GivesFields at.room at.left result (each_of (field_in at.primes (scope_at (listed entries.old) at.scope) at.bound) fields.now) }
+    ensures same { GivesFields at.room at.left result
+        (each_of (field_in at.primes (scope_at (listed entries.old) at.scope) at.bound)
+        fields.now) }
 {
     let mut made = Vec::new(alloc);
     let mut left = at.left;

@@ -56,7 +56,8 @@ pub(super) fn kept<'a>(
     requires scope { at.scope ≤ length (listed entries.old) }
     requires small { at.bound + at.left < most_named }
     ensures kept { OnOk result (listed entries.new ≡ listed entries.old) }
-    ensures same { Gives (at.room + 1) (at.left + 1) result (kept_part at.primes place (scope_at (listed entries.old) at.scope) at.bound tree.now) }
+    ensures same { Gives (at.room + 1) (at.left + 1) result
+        (kept_part at.primes place (scope_at (listed entries.old) at.scope) at.bound tree.now) }
 {
     let mark = entries.len();
     let found = find_head(entries, tree, at.scope, at.primes)?;
@@ -101,7 +102,9 @@ fn kept_each<'a>(
     requires scope { at.scope ≤ length (listed entries.old) }
     requires small { at.bound + at.left ≤ most_named }
     ensures kept { OnOk result (listed entries.new ≡ listed entries.old) }
-    ensures same { GivesMany at.room at.left result (each_of (kept_part at.primes place (scope_at (listed entries.old) at.scope) at.bound) trees.now) }
+    ensures same { GivesMany at.room at.left result
+        (each_of (kept_part at.primes place (scope_at (listed entries.old) at.scope) at.bound)
+        trees.now) }
 {
     let mut parts = Vec::new(alloc);
     let mut left = at.left;
@@ -126,7 +129,8 @@ pub(super) fn kept_one<'a>(
     requires scope { at.scope ≤ length (listed entries.old) }
     requires small { at.bound + at.left ≤ most_named }
     ensures kept { OnOk result (listed entries.new ≡ listed entries.old) }
-    ensures same { Gives at.room at.left result (kept_part at.primes place (scope_at (listed entries.old) at.scope) at.bound tree.now) }
+    ensures same { Gives at.room at.left result
+        (kept_part at.primes place (scope_at (listed entries.old) at.scope) at.bound tree.now) }
 {
     let inside = at.inside()?;
     kept(alloc, entries, place, tree, inside)
@@ -145,7 +149,8 @@ pub(super) fn changed<'a>(
     requires scope { at.scope ≤ length (listed entries.old) }
     requires small { at.bound + at.left ≤ most_named }
     ensures kept { OnOk result (listed entries.new ≡ listed entries.old) }
-    ensures same { Gives at.room at.left result (changed_in at.primes place (scope_at (listed entries.old) at.scope) at.bound tree.now) }
+    ensures same { Gives at.room at.left result
+        (changed_in at.primes place (scope_at (listed entries.old) at.scope) at.bound tree.now) }
 {
     let inside = at.inside()?;
     let more = one_more(at.primes);
@@ -179,7 +184,11 @@ pub(super) fn square_node<'a>(
     requires scope { at.scope ≤ length (listed entries.old) }
     requires small { at.bound + at.left ≤ most_named }
     ensures kept { OnOk result (listed entries.new ≡ listed entries.old) }
-    ensures same { Gives (at.room + 1) (at.left + 1) result (made (λ xy. nodes.two BinaryNode.Or place xy.0 xy.1) (both (part_in at.primes (scope_at (listed entries.old) at.scope) at.bound action.now) (kept_part (settled_primes at.primes) place_v (scope_at (listed entries.old) at.scope) at.bound v.now))) }
+    ensures same { Gives (at.room + 1) (at.left + 1) result
+        (made (λ xy. nodes.two BinaryNode.Or place xy.0 xy.1)
+        (both (part_in at.primes (scope_at (listed entries.old) at.scope) at.bound action.now)
+        (kept_part (settled_primes at.primes) place_v
+        (scope_at (listed entries.old) at.scope) at.bound v.now))) }
 {
     let action = expand(alloc, entries, action, at)?;
     let left = action.left;
@@ -208,7 +217,11 @@ pub(super) fn angle_node<'a>(
     requires scope { at.scope ≤ length (listed entries.old) }
     requires small { at.bound + at.left ≤ most_named }
     ensures kept { OnOk result (listed entries.new ≡ listed entries.old) }
-    ensures same { Gives (at.room + 1) (at.left + 1) result (made (λ xy. nodes.two BinaryNode.And place xy.0 xy.1) (both (part_in at.primes (scope_at (listed entries.old) at.scope) at.bound action.now) (changed_in at.primes place_v (scope_at (listed entries.old) at.scope) at.bound v.now))) }
+    ensures same { Gives (at.room + 1) (at.left + 1) result
+        (made (λ xy. nodes.two BinaryNode.And place xy.0 xy.1)
+        (both (part_in at.primes (scope_at (listed entries.old) at.scope) at.bound action.now)
+        (changed_in at.primes place_v (scope_at (listed entries.old) at.scope) at.bound
+        v.now))) }
 {
     let action = expand(alloc, entries, action, at)?;
     let left = action.left;

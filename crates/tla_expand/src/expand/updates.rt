@@ -38,7 +38,12 @@ pub(super) fn except_node<'a>(
     requires scope { at.scope ≤ length (listed entries.old) }
     requires small { at.bound + at.left < most_named }
     ensures kept { OnOk result (listed entries.new ≡ listed entries.old) }
-    ensures same { Gives (at.room + 1) (at.left + 1) result (made (λ xs. expr.except place xs.0 (updates_of xs.1)) (both (part_in at.primes (scope_at (listed entries.old) at.scope) at.bound function.now) (each_of (update_in at.primes (scope_at (listed entries.old) at.scope) at.bound) updates.now))) }
+    ensures same { Gives (at.room + 1) (at.left + 1) result
+        (made (λ xs. expr.except place xs.0 (updates_of xs.1))
+        (both
+        (part_in at.primes (scope_at (listed entries.old) at.scope) at.bound function.now)
+        (each_of (update_in at.primes (scope_at (listed entries.old) at.scope) at.bound)
+        updates.now))) }
 {
     let function = expand(alloc, entries, function, at)?;
     let left = function.left;
@@ -63,7 +68,9 @@ fn changes<'a>(
     requires scope { at.scope ≤ length (listed entries.old) }
     requires small { at.bound + at.left < most_named }
     ensures kept { OnOk result (listed entries.new ≡ listed entries.old) }
-    ensures same { GivesChanges at.room at.left result (each_of (update_in at.primes (scope_at (listed entries.old) at.scope) at.bound) updates.now) }
+    ensures same { GivesChanges at.room at.left result
+        (each_of (update_in at.primes (scope_at (listed entries.old) at.scope) at.bound)
+        updates.now) }
 {
     let mut made = Vec::new(alloc);
     let mut left = at.left;
@@ -91,7 +98,8 @@ fn change<'a>(
     requires scope { at.scope ≤ length (listed entries.old) }
     requires small { at.bound + at.left < most_named }
     ensures kept { OnOk result (listed entries.new ≡ listed entries.old) }
-    ensures same { GivesChange at.room at.left result (update_in at.primes (scope_at (listed entries.old) at.scope) at.bound update.now) }
+    ensures same { GivesChange at.room at.left result
+        (update_in at.primes (scope_at (listed entries.old) at.scope) at.bound update.now) }
 {
     let path = path_of(alloc, entries, place, update.path.as_slice(), at)?;
     let left = path.left;
@@ -115,7 +123,8 @@ fn new_value<'a>(
     requires scope { at.scope ≤ length (listed entries.old) }
     requires small { at.bound + at.left < most_named }
     ensures kept { OnOk result (listed entries.new ≡ listed entries.old) }
-    ensures same { Gives at.room at.left result (value_in at.primes (scope_at (listed entries.old) at.scope) at.bound value.now) }
+    ensures same { Gives at.room at.left result
+        (value_in at.primes (scope_at (listed entries.old) at.scope) at.bound value.now) }
 {
     let mark = entries.len();
     let entry = Entry {
@@ -147,7 +156,8 @@ fn path_of<'a>(
     requires scope { at.scope ≤ length (listed entries.old) }
     requires small { at.bound + at.left ≤ most_named }
     ensures kept { OnOk result (listed entries.new ≡ listed entries.old) }
-    ensures same { GivesMany at.room at.left result (each_of (step_in at.primes (scope_at (listed entries.old) at.scope) at.bound) keys.now) }
+    ensures same { GivesMany at.room at.left result
+        (each_of (step_in at.primes (scope_at (listed entries.old) at.scope) at.bound) keys.now) }
 {
     let mut parts = Vec::new(alloc);
     let mut left = at.left;
@@ -172,7 +182,8 @@ fn step_of<'a>(
     requires scope { at.scope ≤ length (listed entries.old) }
     requires small { at.bound + at.left ≤ most_named }
     ensures kept { OnOk result (listed entries.new ≡ listed entries.old) }
-    ensures same { Gives at.room at.left result (step_in at.primes (scope_at (listed entries.old) at.scope) at.bound step.now) }
+    ensures same { Gives at.room at.left result
+        (step_in at.primes (scope_at (listed entries.old) at.scope) at.bound step.now) }
 {
     match step {
         Key::Index(items) => key(alloc, entries, place, items.as_slice(), at),
@@ -182,7 +193,8 @@ fn step_of<'a>(
 
 /// The name of a field, as a text.
 fn field_key(alloc: Global, name: &Written, at: Setting) -> Result<Expanded, Failure>
-    ensures { Gives at.room at.left result (Some (expr.constant (places.place_of name.now.place) (value.text name.now.word))) }
+    ensures { Gives at.room at.left result
+        (Some (expr.constant (places.place_of name.now.place) (value.text name.now.word))) }
 {
     let inside = at.inside()?;
     let place = place_of(name.place);

@@ -34,7 +34,10 @@ pub(super) fn has_of_one<'m: 'a, 'a>(
     member: &'a Value,
     env: Environment<'m, 'a>,
 ) -> Result<bool, Stop>
-    ensures { (p : AnyPlace) → Answers (λ b. b) result (has_in env.entry (tree_of member.now) (one_expr form.entry p (code_in env.entry operand.now))) }
+    ensures { (p : AnyPlace)
+        → Answers (λ b. b) result
+        (has_in env.entry (tree_of member.now)
+        (one_expr form.entry p (code_in env.entry operand.now))) }
 {
     match form {
         OneForm::Power => match if_set(member) {
@@ -60,7 +63,9 @@ pub(super) fn has_of_two<'m: 'a, 'a>(
     member: &'a Value,
     env: Environment<'m, 'a>,
 ) -> Result<bool, Stop>
-    ensures { Answers (λ b. b) result (has_in env.entry (tree_of member.now) (two_expr form place.now (code_in env.entry left.now) (code_in env.entry right.now))) }
+    ensures { Answers (λ b. b) result
+        (has_in env.entry (tree_of member.now)
+        (two_expr form place.now (code_in env.entry left.now) (code_in env.entry right.now))) }
 {
     match form {
         TwoForm::Operator(operator) => {
@@ -105,7 +110,11 @@ pub(super) fn has_of_three<'m: 'a, 'a>(
     member: &'a Value,
     env: Environment<'m, 'a>,
 ) -> Result<bool, Stop>
-    ensures { (p : AnyPlace) → Answers (λ b. b) result (has_in env.entry (tree_of member.now) (three_expr form p (code_in env.entry first.now) (code_in env.entry second.now) (code_in env.entry third.now))) }
+    ensures { (p : AnyPlace)
+        → Answers (λ b. b) result
+        (has_in env.entry (tree_of member.now)
+        (three_expr form p (code_in env.entry first.now) (code_in env.entry second.now)
+        (code_in env.entry third.now))) }
 {
     match form {
         ThreeForm::If => {
@@ -129,7 +138,9 @@ pub(super) fn has_in_list<'m: 'a, 'a>(
     member: &'a Value,
     env: Environment<'m, 'a>,
 ) -> Result<bool, Stop>
-    ensures { Answers (λ b. b) result (has_in env.entry (tree_of member.now) (list_expr form place.now (exprs_of_codes (scope_in env.entry) parts.now))) }
+    ensures { Answers (λ b. b) result
+        (has_in env.entry (tree_of member.now)
+        (list_expr form place.now (exprs_of_codes (scope_in env.entry) parts.now))) }
 {
     match form {
         ListForm::Enumerated => {
@@ -151,7 +162,10 @@ pub(super) fn has_in_binder<'m: 'a, 'a>(
     member: &'a Value,
     env: Environment<'m, 'a>,
 ) -> Result<bool, Stop>
-    ensures { (p : AnyPlace) → Answers (λ b. b) result (has_in env.entry (tree_of member.now) (binder_expr form p (code_in env.entry set.now) (code_in env.entry body.now))) }
+    ensures { (p : AnyPlace)
+        → Answers (λ b. b) result
+        (has_in env.entry (tree_of member.now)
+        (binder_expr form p (code_in env.entry set.now) (code_in env.entry body.now))) }
 {
     match form {
         BinderForm::Filter => {
@@ -174,7 +188,10 @@ fn is_function_into<'m: 'a, 'a>(
     member: &'a Value,
     env: Environment<'m, 'a>,
 ) -> Result<bool, Stop>
-    ensures { (p : AnyPlace) → Answers (λ b. b) result (has_in env.entry (tree_of member.now) (functions p (code_in env.entry domain.now) (code_in env.entry range.now))) }
+    ensures { (p : AnyPlace)
+        → Answers (λ b. b) result
+        (has_in env.entry (tree_of member.now)
+        (functions p (code_in env.entry domain.now) (code_in env.entry range.now))) }
 {
     match if_function(member) {
         Some(function) => {
@@ -198,7 +215,10 @@ fn is_tuple_of<'m: 'a, 'a>(
     member: &'a Value,
     env: Environment<'m, 'a>,
 ) -> Result<bool, Stop>
-    ensures { (p : AnyPlace) → Answers (λ b. b) result (has_in env.entry (tree_of member.now) (product p (exprs_of_codes (scope_in env.entry) parts.now))) }
+    ensures { (p : AnyPlace)
+        → Answers (λ b. b) result
+        (has_in env.entry (tree_of member.now)
+        (product p (exprs_of_codes (scope_in env.entry) parts.now))) }
 {
     match sequence_items(member) {
         Some(items) => {
@@ -221,7 +241,10 @@ fn parts_have<'m: 'a, 'a>(
     env: Environment<'m, 'a>,
 ) -> Result<bool, Stop>
     requires { length items.now ≡ length parts.now }
-    ensures { Answers (λ b. b) result (parts_have (mean_all (exprs_of_codes (scope_in env.entry) parts.now)) (map tree_of items.now) (bound_in env.entry) (present_in env.entry) (next_in env.entry)) }
+    ensures { Answers (λ b. b) result
+        (parts_have (mean_all (exprs_of_codes (scope_in env.entry) parts.now))
+        (map tree_of items.now) (bound_in env.entry) (present_in env.entry)
+        (next_in env.entry)) }
 {
     for i in 0..parts.len() {
         if !has(alloc, &parts[i], &items[i], env)? {

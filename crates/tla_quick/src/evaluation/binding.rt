@@ -34,7 +34,10 @@ pub(super) fn truth_of_binder<'m: 'a, 'a>(
     body: &'a Code<'m>,
     env: Environment<'m, 'a>,
 ) -> Result<bool, Stop>
-    ensures { Answers truth result (value_in env.entry (binder_expr form place.now (code_in env.entry set.now) (code_in env.entry body.now))) }
+    ensures { Answers truth result
+        (value_in env.entry
+        (binder_expr form place.now (code_in env.entry set.now)
+        (code_in env.entry body.now))) }
 {
     let found = elements(alloc, place, set, env)?;
     match form {
@@ -54,7 +57,10 @@ pub(super) fn value_of_binder<'m: 'a, 'a>(
     body: &'a Code<'m>,
     env: Environment<'m, 'a>,
 ) -> Result<Evaluated<'a>, Stop>
-    ensures { Answers tree_of_evaluated result (value_in env.entry (binder_expr form place.now (code_in env.entry set.now) (code_in env.entry body.now))) }
+    ensures { Answers tree_of_evaluated result
+        (value_in env.entry
+        (binder_expr form place.now (code_in env.entry set.now)
+        (code_in env.entry body.now))) }
 {
     match form {
         BinderForm::ForAll | BinderForm::ForSome => Ok(Evaluated::truth(truth_of_binder(
@@ -79,7 +85,8 @@ pub(super) fn truth_with<'m: 'a, 'a>(
     value: &'a Value,
     env: Environment<'m, 'a>,
 ) -> Result<bool, Stop>
-    ensures { Answers truth result (value_with env.entry (tree_of value.now ∷ []) (code_in env.entry body.now)) }
+    ensures { Answers truth result
+        (value_with env.entry (tree_of value.now ∷ []) (code_in env.entry body.now)) }
 {
     let frame = Frame::One(env.frame, env.names, value);
     let inner = Environment {
@@ -100,7 +107,8 @@ pub(super) fn value_with<'m: 'a, 'a>(
     bound: &'a Value,
     env: Environment<'m, 'a>,
 ) -> Result<Value, Stop>
-    ensures { Answers tree_of result (value_with env.entry (tree_of bound.now ∷ []) (code_in env.entry body.now)) }
+    ensures { Answers tree_of result
+        (value_with env.entry (tree_of bound.now ∷ []) (code_in env.entry body.now)) }
 {
     let frame = Frame::One(env.frame, env.names, bound);
     let inner = Environment {
@@ -123,7 +131,11 @@ fn holds_at<'e, 'm: 'a, 'a>(
     number: usize,
     env: Environment<'m, 'a>,
 ) -> Result<Option<bool>, Stop>
-    ensures { Answers (λ o. o) result (tested (λ v. asks place.now (means (code_in env.entry body.now)) (bound_in env.entry ++ v ∷ []) (present_in env.entry) (next_in env.entry)) (slice_get (elements_of elements.now) number)) }
+    ensures { Answers (λ o. o) result
+        (tested (λ v.
+        asks place.now (means (code_in env.entry body.now)) (bound_in env.entry ++ v ∷ [])
+        (present_in env.entry) (next_in env.entry))
+        (slice_get (elements_of elements.now) number)) }
 {
     match element_at(elements, number) {
         Some(element) => Ok(Some(truth_with(alloc, body, element.value(), env)?)),
@@ -140,7 +152,10 @@ fn each_holds<'e, 'm: 'a, 'a>(
     elements: &'e Elements<'e>,
     env: Environment<'m, 'a>,
 ) -> Result<bool, Stop>
-    ensures { Answers (λ b. b) result (all_hold (λ v. asks place.now (means (code_in env.entry body.now)) (bound_in env.entry ++ v ∷ []) (present_in env.entry) (next_in env.entry)) (elements_of elements.now)) }
+    ensures { Answers (λ b. b) result
+        (all_hold (λ v.
+        asks place.now (means (code_in env.entry body.now)) (bound_in env.entry ++ v ∷ [])
+        (present_in env.entry) (next_in env.entry)) (elements_of elements.now)) }
 {
     for number in 0..usize::MAX {
         match holds_at(alloc, place, body, elements, number, env)? {
@@ -164,7 +179,10 @@ fn some_holds<'e, 'm: 'a, 'a>(
     elements: &'e Elements<'e>,
     env: Environment<'m, 'a>,
 ) -> Result<bool, Stop>
-    ensures { Answers (λ b. b) result (some_hold (λ v. asks place.now (means (code_in env.entry body.now)) (bound_in env.entry ++ v ∷ []) (present_in env.entry) (next_in env.entry)) (elements_of elements.now)) }
+    ensures { Answers (λ b. b) result
+        (some_hold (λ v.
+        asks place.now (means (code_in env.entry body.now)) (bound_in env.entry ++ v ∷ [])
+        (present_in env.entry) (next_in env.entry)) (elements_of elements.now)) }
 {
     for number in 0..usize::MAX {
         match holds_at(alloc, place, body, elements, number, env)? {
@@ -188,7 +206,10 @@ fn first_passing<'e, 'm: 'a, 'a>(
     elements: &'e Elements<'e>,
     env: Environment<'m, 'a>,
 ) -> Result<Value, Stop>
-    ensures { Answers tree_of result (first_passing place.now (λ v. asks place.now (means (code_in env.entry body.now)) (bound_in env.entry ++ v ∷ []) (present_in env.entry) (next_in env.entry)) (elements_of elements.now)) }
+    ensures { Answers tree_of result
+        (first_passing place.now (λ v.
+        asks place.now (means (code_in env.entry body.now)) (bound_in env.entry ++ v ∷ [])
+        (present_in env.entry) (next_in env.entry)) (elements_of elements.now)) }
 {
     for number in 0..usize::MAX {
         match holds_at(alloc, place, body, elements, number, env)? {
@@ -212,7 +233,10 @@ fn passing<'e, 'm: 'a, 'a>(
     elements: &'e Elements<'e>,
     env: Environment<'m, 'a>,
 ) -> Result<Vec<Value>, Stop>
-    ensures { Answers (λ v. map tree_of v.items) result (passing (λ v. asks place.now (means (code_in env.entry body.now)) (bound_in env.entry ++ v ∷ []) (present_in env.entry) (next_in env.entry)) (elements_of elements.now)) }
+    ensures { Answers (λ v. map tree_of v.items) result
+        (passing (λ v.
+        asks place.now (means (code_in env.entry body.now)) (bound_in env.entry ++ v ∷ [])
+        (present_in env.entry) (next_in env.entry)) (elements_of elements.now)) }
 {
     let mut kept = Vec::new(alloc);
     for number in 0..usize::MAX {

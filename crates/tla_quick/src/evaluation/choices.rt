@@ -40,7 +40,10 @@ pub(super) fn value_of_map<'m: 'a, 'a>(
     body: &'a Code<'m>,
     env: Environment<'m, 'a>,
 ) -> Result<Value, Stop>
-    ensures { Answers tree_of result (value_in env.entry (map_expr form place.now (exprs_of_codes (scope_in env.entry) sets.now) (code_in env.entry body.now))) }
+    ensures { Answers tree_of result
+        (value_in env.entry
+        (map_expr form place.now (exprs_of_codes (scope_in env.entry) sets.now)
+        (code_in env.entry body.now))) }
 {
     match form {
         MapForm::Image => image(alloc, place, sets, body, env),
@@ -57,7 +60,10 @@ fn image<'m: 'a, 'a>(
     body: &'a Code<'m>,
     env: Environment<'m, 'a>,
 ) -> Result<Value, Stop>
-    ensures { Answers tree_of result (image_rule place.now (mean_all (exprs_of_codes (scope_in env.entry) sets.now)) (means (code_in env.entry body.now)) (bound_in env.entry) (present_in env.entry) (next_in env.entry)) }
+    ensures { Answers tree_of result
+        (image_rule place.now (mean_all (exprs_of_codes (scope_in env.entry) sets.now))
+        (means (code_in env.entry body.now)) (bound_in env.entry) (present_in env.entry)
+        (next_in env.entry)) }
 {
     let sets = evaluated_each(alloc, sets, env)?;
     let lists = known_lists(alloc, place, sets.as_slice())?;
@@ -74,7 +80,10 @@ fn function<'m: 'a, 'a>(
     body: &'a Code<'m>,
     env: Environment<'m, 'a>,
 ) -> Result<Value, Stop>
-    ensures { Answers tree_of result (chosen_function_rule place.now (mean_all (exprs_of_codes (scope_in env.entry) sets.now)) (means (code_in env.entry body.now)) (bound_in env.entry) (present_in env.entry) (next_in env.entry)) }
+    ensures { Answers tree_of result
+        (chosen_function_rule place.now (mean_all (exprs_of_codes (scope_in env.entry) sets.now))
+        (means (code_in env.entry body.now)) (bound_in env.entry) (present_in env.entry)
+        (next_in env.entry)) }
 {
     let sets = evaluated_each(alloc, sets, env)?;
     function_for(alloc, place, sets.as_slice(), body, env)
@@ -89,7 +98,9 @@ fn function_for<'s, 'm: 'a, 'a>(
     body: &'a Code<'m>,
     env: Environment<'m, 'a>,
 ) -> Result<Value, Stop>
-    ensures { Answers tree_of result (function_for_rule place.now (means (code_in env.entry body.now)) (bound_in env.entry) (present_in env.entry) (next_in env.entry) (map tree_of_evaluated sets.now)) }
+    ensures { Answers tree_of result
+        (function_for_rule place.now (means (code_in env.entry body.now)) (bound_in env.entry)
+        (present_in env.entry) (next_in env.entry) (map tree_of_evaluated sets.now)) }
 {
     let domain = known_domain(alloc, place, sets)?;
     let lists = known_lists(alloc, place, sets)?;
@@ -105,7 +116,9 @@ fn chosen<'l, 'm: 'a, 'a>(
     lists: &'l [&'l [Value]],
     env: Environment<'m, 'a>,
 ) -> Result<Vec<Value>, Stop>
-    ensures { Answers (λ v. map tree_of v.items) result (values_for (means (code_in env.entry body.now)) (bound_in env.entry) (present_in env.entry) (next_in env.entry) (map (λ l. map tree_of l.now) lists.now)) }
+    ensures { Answers (λ v. map tree_of v.items) result
+        (values_for (means (code_in env.entry body.now)) (bound_in env.entry)
+        (present_in env.entry) (next_in env.entry) (map (λ l. map tree_of l.now) lists.now)) }
 {
     let mut values = Vec::new(alloc);
     for number in 0..usize::MAX {
@@ -125,7 +138,11 @@ fn chosen_once<'l, 'm: 'a, 'a>(
     lists: &'l [&'l [Value]],
     env: Environment<'m, 'a>,
 ) -> Result<Gathered, Stop>
-    ensures { IfOk result (λ g. (ts : List Tree) × (values_for (means (code_in env.entry body.now)) (bound_in env.entry) (present_in env.entry) (next_in env.entry) (map (λ l. map tree_of l.now) lists.now) ≡ Ok ts) × IsGathered ts g) }
+    ensures { IfOk result (λ g.
+        (ts : List Tree)
+        × (values_for (means (code_in env.entry body.now)) (bound_in env.entry)
+        (present_in env.entry) (next_in env.entry) (map (λ l. map tree_of l.now) lists.now)
+        ≡ Ok ts) × IsGathered ts g) }
 {
     let mut values = Gathered::new(alloc);
     for number in 0..usize::MAX {
@@ -146,7 +163,10 @@ fn value_for<'l, 'm: 'a, 'a>(
     number: usize,
     env: Environment<'m, 'a>,
 ) -> Result<Option<Value>, Stop>
-    ensures { Answers (λ o. option_map tree_of o) result (value_at (means (code_in env.entry body.now)) (bound_in env.entry) (present_in env.entry) (next_in env.entry) (slice_get (choices (map (λ l. map tree_of l.now) lists.now)) number)) }
+    ensures { Answers (λ o. option_map tree_of o) result
+        (value_at (means (code_in env.entry body.now)) (bound_in env.entry) (present_in env.entry)
+        (next_in env.entry)
+        (slice_get (choices (map (λ l. map tree_of l.now) lists.now)) number)) }
 {
     if lists.len() == 1 {
         value_for_member(alloc, body, lists[0], number, env)
@@ -164,7 +184,9 @@ fn value_for_member<'l, 'm: 'a, 'a>(
     number: usize,
     env: Environment<'m, 'a>,
 ) -> Result<Option<Value>, Stop>
-    ensures { Answers (λ o. option_map tree_of o) result (value_at (means (code_in env.entry body.now)) (bound_in env.entry) (present_in env.entry) (next_in env.entry) (slice_get (choices (map tree_of list.now ∷ [])) number)) }
+    ensures { Answers (λ o. option_map tree_of o) result
+        (value_at (means (code_in env.entry body.now)) (bound_in env.entry) (present_in env.entry)
+        (next_in env.entry) (slice_get (choices (map tree_of list.now ∷ [])) number)) }
 {
     match member_of(list, number) {
         Some(value) => Ok(Some(value_with(alloc, body, value, env)?)),
@@ -181,7 +203,10 @@ fn value_for_choice<'l, 'm: 'a, 'a>(
     number: usize,
     env: Environment<'m, 'a>,
 ) -> Result<Option<Value>, Stop>
-    ensures { Answers (λ o. option_map tree_of o) result (value_at (means (code_in env.entry body.now)) (bound_in env.entry) (present_in env.entry) (next_in env.entry) (slice_get (choices (map (λ l. map tree_of l.now) lists.now)) number)) }
+    ensures { Answers (λ o. option_map tree_of o) result
+        (value_at (means (code_in env.entry body.now)) (bound_in env.entry) (present_in env.entry)
+        (next_in env.entry)
+        (slice_get (choices (map (λ l. map tree_of l.now) lists.now)) number)) }
 {
     match known_choice(alloc, lists, number)? {
         Some(choice) => Ok(Some(value_with_all(alloc, body, choice.as_slice(), env)?)),
@@ -197,7 +222,8 @@ pub(super) fn value_with_all<'m: 'a, 'a>(
     choice: &'a [Value],
     env: Environment<'m, 'a>,
 ) -> Result<Value, Stop>
-    ensures { Answers tree_of result (value_with env.entry (map tree_of choice.now) (code_in env.entry body.now)) }
+    ensures { Answers tree_of result
+        (value_with env.entry (map tree_of choice.now) (code_in env.entry body.now)) }
 {
     let frame = Frame::Many(env.frame, env.names, choice);
     let inner = Environment {

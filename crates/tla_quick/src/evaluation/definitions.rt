@@ -28,7 +28,10 @@ pub(super) fn value_of_let<'m: 'a, 'a>(
     body: &'a Code<'m>,
     env: Environment<'m, 'a>,
 ) -> Result<Evaluated<'a>, Stop>
-    ensures { Answers tree_of_evaluated result (value_in env.entry (expr_in (scope_in env.entry ++ (names, code_in env.entry definition.now) ∷ []) body.now)) }
+    ensures { Answers tree_of_evaluated result
+        (value_in env.entry
+        (expr_in (scope_in env.entry ++ (names, code_in env.entry definition.now) ∷ [])
+        body.now)) }
 {
     if names != env.names {
         return Err(Stop::Unknown);
@@ -55,7 +58,11 @@ fn value_under<'m: 'a, 'a>(
     env: Environment<'m, 'a>,
 ) -> Result<Value, Stop>
     requires { IsKnown known (value_in env (code_in env definition.now)) }
-    ensures { Answers tree_of result (value_in env.entry (expr_in (scope_in env.entry ++ (env.entry.names, code_in env.entry definition.now) ∷ []) body.now)) }
+    ensures { Answers tree_of result
+        (value_in env.entry
+        (expr_in
+        (scope_in env.entry ++ (env.entry.names, code_in env.entry definition.now) ∷ [])
+        body.now)) }
 {
     let frame = Frame::Defined(env.frame, env.definitions, env.names, definition, known);
     let inner = Environment {
@@ -78,7 +85,10 @@ pub(super) fn truth_of_let<'m: 'a, 'a>(
     body: &'a Code<'m>,
     env: Environment<'m, 'a>,
 ) -> Result<bool, Stop>
-    ensures { Answers truth result (value_in env.entry (expr_in (scope_in env.entry ++ (names, code_in env.entry definition.now) ∷ []) body.now)) }
+    ensures { Answers truth result
+        (value_in env.entry
+        (expr_in (scope_in env.entry ++ (names, code_in env.entry definition.now) ∷ [])
+        body.now)) }
 {
     if names != env.names {
         return Err(Stop::Unknown);
@@ -105,7 +115,11 @@ fn truth_under<'m: 'a, 'a>(
     env: Environment<'m, 'a>,
 ) -> Result<bool, Stop>
     requires { IsKnown known (value_in env (code_in env definition.now)) }
-    ensures { Answers truth result (value_in env.entry (expr_in (scope_in env.entry ++ (env.entry.names, code_in env.entry definition.now) ∷ []) body.now)) }
+    ensures { Answers truth result
+        (value_in env.entry
+        (expr_in
+        (scope_in env.entry ++ (env.entry.names, code_in env.entry definition.now) ∷ [])
+        body.now)) }
 {
     let frame = Frame::Defined(env.frame, env.definitions, env.names, definition, known);
     let inner = Environment {
@@ -129,7 +143,10 @@ pub(super) fn has_of_let<'m: 'a, 'a>(
     member: &'a Value,
     env: Environment<'m, 'a>,
 ) -> Result<bool, Stop>
-    ensures { Answers (λ b. b) result (has_in env.entry (tree_of member.now) (expr_in (scope_in env.entry ++ (names, code_in env.entry definition.now) ∷ []) body.now)) }
+    ensures { Answers (λ b. b) result
+        (has_in env.entry (tree_of member.now)
+        (expr_in (scope_in env.entry ++ (names, code_in env.entry definition.now) ∷ [])
+        body.now)) }
 {
     if names != env.names {
         return Err(Stop::Unknown);
@@ -157,7 +174,11 @@ fn has_under<'m: 'a, 'a>(
     env: Environment<'m, 'a>,
 ) -> Result<bool, Stop>
     requires { IsKnown known (value_in env (code_in env definition.now)) }
-    ensures { Answers (λ b. b) result (has_in env.entry (tree_of member.now) (expr_in (scope_in env.entry ++ (env.entry.names, code_in env.entry definition.now) ∷ []) body.now)) }
+    ensures { Answers (λ b. b) result
+        (has_in env.entry (tree_of member.now)
+        (expr_in
+        (scope_in env.entry ++ (env.entry.names, code_in env.entry definition.now) ∷ [])
+        body.now)) }
 {
     let frame = Frame::Defined(env.frame, env.definitions, env.names, definition, known);
     let inner = Environment {

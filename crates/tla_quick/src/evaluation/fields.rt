@@ -37,7 +37,9 @@ pub(super) fn value_of_fields<'m: 'a, 'a>(
     fields: &'a [(&'m Text, Code<'m>)],
     env: Environment<'m, 'a>,
 ) -> Result<Evaluated<'a>, Stop>
-    ensures { Answers tree_of_evaluated result (value_in env.entry (field_expr form place.now (fields_of_codes (scope_in env.entry) fields.now))) }
+    ensures { Answers tree_of_evaluated result
+        (value_in env.entry
+        (field_expr form place.now (fields_of_codes (scope_in env.entry) fields.now))) }
 {
     match form {
         FieldForm::Record => {
@@ -55,7 +57,10 @@ fn named_values<'m: 'a, 'a>(
     fields: &'a [(&'m Text, Code<'m>)],
     env: Environment<'m, 'a>,
 ) -> Result<Vec<(Value, Value)>, Stop>
-    ensures { Answers (λ v. map pair_of v.items) result (each (λ (f : List ℕ × Meaning). named_value f (bound_in env.entry) (present_in env.entry) (next_in env.entry)) (mean_fields (fields_of_codes (scope_in env.entry) fields.now))) }
+    ensures { Answers (λ v. map pair_of v.items) result
+        (each (λ (f : List ℕ × Meaning).
+        named_value f (bound_in env.entry) (present_in env.entry) (next_in env.entry))
+        (mean_fields (fields_of_codes (scope_in env.entry) fields.now))) }
 {
     let mut pairs = Vec::with_capacity(alloc, fields.len())?;
     for field in fields {
@@ -74,7 +79,10 @@ pub(super) fn has_in_fields<'m: 'a, 'a>(
     member: &'a Value,
     env: Environment<'m, 'a>,
 ) -> Result<bool, Stop>
-    ensures { (p : AnyPlace) → Answers (λ b. b) result (has_in env.entry (tree_of member.now) (field_expr form p (fields_of_codes (scope_in env.entry) fields.now))) }
+    ensures { (p : AnyPlace)
+        → Answers (λ b. b) result
+        (has_in env.entry (tree_of member.now)
+        (field_expr form p (fields_of_codes (scope_in env.entry) fields.now))) }
 {
     match form {
         FieldForm::Records => is_record_of(alloc, fields, member, env),
@@ -90,7 +98,10 @@ fn is_record_of<'m: 'a, 'a>(
     member: &'a Value,
     env: Environment<'m, 'a>,
 ) -> Result<bool, Stop>
-    ensures { (p : AnyPlace) → Answers (λ b. b) result (has_in env.entry (tree_of member.now) (records p (fields_of_codes (scope_in env.entry) fields.now))) }
+    ensures { (p : AnyPlace)
+        → Answers (λ b. b) result
+        (has_in env.entry (tree_of member.now)
+        (records p (fields_of_codes (scope_in env.entry) fields.now))) }
 {
     match if_function(member) {
         Some(function) => {
@@ -112,7 +123,11 @@ fn fields_have<'m: 'a, 'a>(
     function: &'a FunValue,
     env: Environment<'m, 'a>,
 ) -> Result<bool, Stop>
-    ensures { Answers (λ b. b) result (all_hold (field_has function.now (bound_in env.entry) (present_in env.entry) (next_in env.entry)) (mean_fields (fields_of_codes (scope_in env.entry) fields.now))) }
+    ensures { Answers (λ b. b) result
+        (all_hold
+        (field_has function.now (bound_in env.entry) (present_in env.entry)
+        (next_in env.entry))
+        (mean_fields (fields_of_codes (scope_in env.entry) fields.now))) }
 {
     for field in fields {
         match field_in(function, field.0) {

@@ -30,7 +30,9 @@ pub(super) fn value_of_list<'m: 'a, 'a>(
     parts: &'a [Code<'m>],
     env: Environment<'m, 'a>,
 ) -> Result<Evaluated<'a>, Stop>
-    ensures { Answers tree_of_evaluated result (value_in env.entry (list_expr form place.now (exprs_of_codes (scope_in env.entry) parts.now))) }
+    ensures { Answers tree_of_evaluated result
+        (value_in env.entry
+        (list_expr form place.now (exprs_of_codes (scope_in env.entry) parts.now))) }
 {
     match form {
         ListForm::Conjunction | ListForm::Disjunction => Ok(Evaluated::truth(truth_of_list(
@@ -54,7 +56,10 @@ fn values_of<'m: 'a, 'a>(
     codes: &'a [Code<'m>],
     env: Environment<'m, 'a>,
 ) -> Result<Vec<Value>, Stop>
-    ensures { Answers (λ v. map tree_of v.items) result (each (λ (m : Meaning). m.value (bound_in env.entry) (present_in env.entry) (next_in env.entry)) (mean_all (exprs_of_codes (scope_in env.entry) codes.now))) }
+    ensures { Answers (λ v. map tree_of v.items) result
+        (each (λ (m : Meaning).
+        m.value (bound_in env.entry) (present_in env.entry) (next_in env.entry))
+        (mean_all (exprs_of_codes (scope_in env.entry) codes.now))) }
 {
     let mut values = Vec::with_capacity(alloc, codes.len())?;
     for code in codes {
@@ -70,7 +75,10 @@ pub(super) fn evaluated_each<'m: 'a, 'a>(
     codes: &'a [Code<'m>],
     env: Environment<'m, 'a>,
 ) -> Result<Vec<Evaluated<'a>>, Stop>
-    ensures { Answers (λ v. map tree_of_evaluated v.items) result (each (λ (m : Meaning). m.value (bound_in env.entry) (present_in env.entry) (next_in env.entry)) (mean_all (exprs_of_codes (scope_in env.entry) codes.now))) }
+    ensures { Answers (λ v. map tree_of_evaluated v.items) result
+        (each (λ (m : Meaning).
+        m.value (bound_in env.entry) (present_in env.entry) (next_in env.entry))
+        (mean_all (exprs_of_codes (scope_in env.entry) codes.now))) }
 {
     let mut values = Vec::with_capacity(alloc, codes.len())?;
     for code in codes {

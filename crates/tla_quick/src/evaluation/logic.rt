@@ -27,7 +27,9 @@ pub(super) fn truth_of_one<'m: 'a, 'a>(
     operand: &'a Code<'m>,
     env: Environment<'m, 'a>,
 ) -> Result<bool, Stop>
-    ensures { (p : AnyPlace) → Answers truth result (value_in env.entry (one_expr form.entry p (code_in env.entry operand.now))) }
+    ensures { (p : AnyPlace)
+        → Answers truth result
+        (value_in env.entry (one_expr form.entry p (code_in env.entry operand.now))) }
 {
     match form {
         OneForm::Operator(operator) => match operator {
@@ -48,7 +50,9 @@ pub(super) fn truth_of_two<'m: 'a, 'a>(
     right: &'a Code<'m>,
     env: Environment<'m, 'a>,
 ) -> Result<bool, Stop>
-    ensures { Answers truth result (value_in env.entry (two_expr form place.now (code_in env.entry left.now) (code_in env.entry right.now))) }
+    ensures { Answers truth result
+        (value_in env.entry
+        (two_expr form place.now (code_in env.entry left.now) (code_in env.entry right.now))) }
 {
     match form {
         TwoForm::Implies => {
@@ -89,7 +93,11 @@ pub(super) fn truth_of_three<'m: 'a, 'a>(
     third: &'a Code<'m>,
     env: Environment<'m, 'a>,
 ) -> Result<bool, Stop>
-    ensures { (p : AnyPlace) → Answers truth result (value_in env.entry (three_expr form p (code_in env.entry first.now) (code_in env.entry second.now) (code_in env.entry third.now))) }
+    ensures { (p : AnyPlace)
+        → Answers truth result
+        (value_in env.entry
+        (three_expr form p (code_in env.entry first.now) (code_in env.entry second.now)
+        (code_in env.entry third.now))) }
 {
     match form {
         ThreeForm::If => {
@@ -111,7 +119,10 @@ pub(super) fn truth_of_list<'m: 'a, 'a>(
     parts: &'a [Code<'m>],
     env: Environment<'m, 'a>,
 ) -> Result<bool, Stop>
-    ensures { (p : AnyPlace) → Answers truth result (value_in env.entry (list_expr form p (exprs_of_codes (scope_in env.entry) parts.now))) }
+    ensures { (p : AnyPlace)
+        → Answers truth result
+        (value_in env.entry
+        (list_expr form p (exprs_of_codes (scope_in env.entry) parts.now))) }
 {
     match form {
         ListForm::Conjunction => all_are_true(alloc, parts, env),
@@ -127,7 +138,9 @@ fn all_are_true<'m: 'a, 'a>(
     parts: &'a [Code<'m>],
     env: Environment<'m, 'a>,
 ) -> Result<bool, Stop>
-    ensures { (p : AnyPlace) → Answers truth result (value_in env.entry (conjunction p (exprs_of_codes (scope_in env.entry) parts.now))) }
+    ensures { (p : AnyPlace)
+        → Answers truth result
+        (value_in env.entry (conjunction p (exprs_of_codes (scope_in env.entry) parts.now))) }
 {
     for part in parts {
         if !truth(alloc, part, env)? {
@@ -144,7 +157,9 @@ fn some_is_true<'m: 'a, 'a>(
     parts: &'a [Code<'m>],
     env: Environment<'m, 'a>,
 ) -> Result<bool, Stop>
-    ensures { (p : AnyPlace) → Answers truth result (value_in env.entry (disjunction p (exprs_of_codes (scope_in env.entry) parts.now))) }
+    ensures { (p : AnyPlace)
+        → Answers truth result
+        (value_in env.entry (disjunction p (exprs_of_codes (scope_in env.entry) parts.now))) }
 {
     for part in parts {
         if truth(alloc, part, env)? {
@@ -162,7 +177,9 @@ pub(super) fn has_all<'m: 'a, 'a>(
     values: &'a [Value],
     env: Environment<'m, 'a>,
 ) -> Result<bool, Stop>
-    ensures { Answers (λ b. b) result (all_hold (λ v. has_in env.entry v (code_in env.entry code.now)) (map tree_of values.now)) }
+    ensures { Answers (λ b. b) result
+        (all_hold (λ v. has_in env.entry v (code_in env.entry code.now))
+        (map tree_of values.now)) }
 {
     for value in values {
         if !has(alloc, code, value, env)? {

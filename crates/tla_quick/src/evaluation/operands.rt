@@ -23,7 +23,8 @@ pub(super) fn value_of_one<'m: 'a, 'a>(
     operand: &'a Code<'m>,
     env: Environment<'m, 'a>,
 ) -> Result<Evaluated<'a>, Stop>
-    ensures { Answers tree_of_evaluated result (value_in env.entry (one_expr form.entry place.now (code_in env.entry operand.now))) }
+    ensures { Answers tree_of_evaluated result
+        (value_in env.entry (one_expr form.entry place.now (code_in env.entry operand.now))) }
 {
     let operand = value(alloc, operand, env)?;
     made_of_one(alloc, place, form, operand)
@@ -39,7 +40,9 @@ pub(super) fn value_of_two<'m: 'a, 'a>(
     right: &'a Code<'m>,
     env: Environment<'m, 'a>,
 ) -> Result<Evaluated<'a>, Stop>
-    ensures { Answers tree_of_evaluated result (value_in env.entry (two_expr form place.now (code_in env.entry left.now) (code_in env.entry right.now))) }
+    ensures { Answers tree_of_evaluated result
+        (value_in env.entry
+        (two_expr form place.now (code_in env.entry left.now) (code_in env.entry right.now))) }
 {
     if compares(form) {
         return Ok(Evaluated::truth(truth_of_two(alloc, place, form, left, right, env)?));
@@ -60,7 +63,10 @@ pub(super) fn value_of_three<'m: 'a, 'a>(
     third: &'a Code<'m>,
     env: Environment<'m, 'a>,
 ) -> Result<Evaluated<'a>, Stop>
-    ensures { Answers tree_of_evaluated result (value_in env.entry (three_expr form place.now (code_in env.entry first.now) (code_in env.entry second.now) (code_in env.entry third.now))) }
+    ensures { Answers tree_of_evaluated result
+        (value_in env.entry
+        (three_expr form place.now (code_in env.entry first.now) (code_in env.entry second.now)
+        (code_in env.entry third.now))) }
 {
     match form {
         ThreeForm::If => {

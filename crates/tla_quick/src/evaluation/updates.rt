@@ -32,7 +32,10 @@ pub(super) fn value_of_except<'m: 'a, 'a>(
     base: &'a Code<'m>,
     env: Environment<'m, 'a>,
 ) -> Result<Evaluated<'a>, Stop>
-    ensures { Answers tree_of_evaluated result (value_in env.entry (except place.now (code_in env.entry base.now) (updates_of_codes (scope_in env.entry) updates.now))) }
+    ensures { Answers tree_of_evaluated result
+        (value_in env.entry
+        (except place.now (code_in env.entry base.now)
+        (updates_of_codes (scope_in env.entry) updates.now))) }
 {
     let base = value(alloc, base, env)?;
     updated_by_all(alloc, place, updates, base, env)
@@ -47,7 +50,10 @@ fn updated_by_all<'m: 'a, 'a>(
     base: Evaluated<'a>,
     env: Environment<'m, 'a>,
 ) -> Result<Evaluated<'a>, Stop>
-    ensures { Answers tree_of_evaluated result (update_all place.now (mean_updates (updates_of_codes (scope_in env.entry) updates.now)) (bound_in env.entry) (present_in env.entry) (next_in env.entry) (tree_of_evaluated base.entry)) }
+    ensures { Answers tree_of_evaluated result
+        (update_all place.now (mean_updates (updates_of_codes (scope_in env.entry) updates.now))
+        (bound_in env.entry) (present_in env.entry) (next_in env.entry)
+        (tree_of_evaluated base.entry)) }
 {
     let mut value = base;
     for update in updates {
@@ -67,7 +73,10 @@ fn updated<'m: 'a, 'a>(
     value: Evaluated<'a>,
     env: Environment<'m, 'a>,
 ) -> Result<Value, Stop>
-    ensures { Answers tree_of result (update place.now (mean_all (exprs_of_codes (scope_in env.entry) keys.now)) (means (code_in env.entry body.now)) (bound_in env.entry) (present_in env.entry) (next_in env.entry) (tree_of_evaluated value.entry)) }
+    ensures { Answers tree_of result
+        (update place.now (mean_all (exprs_of_codes (scope_in env.entry) keys.now))
+        (means (code_in env.entry body.now)) (bound_in env.entry) (present_in env.entry)
+        (next_in env.entry) (tree_of_evaluated value.entry)) }
 {
     match keys.split_first() {
         None => value_with(alloc, &*body, value.value(), env),
@@ -86,7 +95,12 @@ fn updated_at<'m: 'a, 'a>(
     base: Evaluated<'a>,
     env: Environment<'m, 'a>,
 ) -> Result<Value, Stop>
-    ensures { Answers tree_of result (update place.now (means (code_in env.entry key.now) ∷ mean_all (exprs_of_codes (scope_in env.entry) rest.now)) (means (code_in env.entry body.now)) (bound_in env.entry) (present_in env.entry) (next_in env.entry) (tree_of_evaluated base.entry)) }
+    ensures { Answers tree_of result
+        (update place.now
+        (means (code_in env.entry key.now) ∷ mean_all
+        (exprs_of_codes (scope_in env.entry) rest.now)) (means (code_in env.entry body.now))
+        (bound_in env.entry) (present_in env.entry) (next_in env.entry)
+        (tree_of_evaluated base.entry)) }
 {
     let function = known_function(alloc, place, base)?;
     let key = value(alloc, key, env)?;
@@ -108,7 +122,9 @@ pub(super) fn opened<'m: 'a, 'a>(
     body: &'a Code<'m>,
     env: Environment<'m, 'a>,
 ) -> Result<Evaluated<'a>, Stop>
-    ensures { (p : AnyPlace) → Answers tree_of_evaluated result (value_in env.entry (opened p openings.now (code_in env.entry body.now))) }
+    ensures { (p : AnyPlace)
+        → Answers tree_of_evaluated result
+        (value_in env.entry (opened p openings.now (code_in env.entry body.now))) }
 {
     let items = open_items(alloc, openings, env)?;
     Ok(Evaluated::Owned(value_with_all(alloc, body, items.as_slice(), env)?))
