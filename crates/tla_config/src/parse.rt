@@ -22,8 +22,12 @@ use tla_value::Text;
 /// The refusal of the text at a place.
 fn refused(place: Place) -> DefsError
     ensures { result
-        ≡ record
-        { code = DefsCode.ConfigurationText; source = Source.Configuration; place = Some place; name = None } }
+        ≡ record {
+          code = DefsCode.ConfigurationText;
+          source = Source.Configuration;
+          place = Some place;
+          name = None;
+        } }
 {
     DefsError::at(DefsCode::ConfigurationText, Source::Configuration, place)
 }

@@ -13,7 +13,7 @@ use Rattle.tla_tree.specs.declared.tree.Bullet.TheVariants as b
 use Rattle.tla_grammar.specs.Operators.{low, infix_of, bullet_of, same_bullet}
 use Rattle.tla_tree.specs.Words.{written}
 use Rattle.tla_grammar.specs.Tokens.{right_of, seen, is_bullet_at, Has, Writes, KindAt, Commas}
-use Rattle.tla_grammar.specs.LeftOut.{Underscores, IsParameter, Parameters}
+use Rattle.tla_grammar.specs.OperatorParameters.{Underscores, IsParameter, Parameters}
 use Rattle.tla_grammar.specs.Kinds.{kind_at}
 use Rattle.tla_grammar.specs.Ending.{above, infix_at}
 use Rattle.tla_grammar.specs.Outcome.{Outcome, ◌>>=◌, need, room, at_op}

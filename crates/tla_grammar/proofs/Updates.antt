@@ -4,7 +4,7 @@ use Rattle.std.specs.List.{slice_get}
 use Rattle.std.proofs.lemmas.Option.{same_Some}
 use Rattle.tla_lex.specs.declared.token.Token.{Token}
 use Rattle.tla_lex.specs.declared.token.Kind.TheVariants as k
-use Rattle.tla_grammar.specs.LeftOut.{behind_role, open_behind, IsInExcept, IsUnderExcept}
+use Rattle.tla_grammar.specs.LeftOut.{after_role, open_after, IsInExcept, IsUnderExcept}
 use Rattle.tla_grammar.specs.Kinds.{role_of}
 use Rattle.tla_grammar.specs.Private.Open.{least_before}
 use Rattle.tla_grammar.specs.declared.ahead.Role.{Role}
@@ -21,7 +21,7 @@ module _ (ts : List Token) where
   pub within_none : (least : ℕ) → IsWithin 0 least → ⊥
   within_none least h = h.2
 
-needed : (r : Role) (least m n : ℕ) → behind_role r m ≡ Some n → least ≤ n → least_before r least ≤ m
+needed : (r : Role) (least m n : ℕ) → after_role r m ≡ Some n → least ≤ n → least_before r least ≤ m
 needed role.Opens least m n h l = let e : suc m ≡ n = same_Some (suc m) n h in omega (arith, e, l)
 needed role.Closes least zero n h l = absurd (let z : ⊥ = cc in z)
 needed role.Closes least (suc m) n h l = let e : m ≡ n = same_Some m n h in omega (arith, e, l)
@@ -30,7 +30,7 @@ needed role.Binds least m n h l = let e : m ≡ n = same_Some m n h in omega (ar
 needed role.Colon least m n h l = let e : m ≡ n = same_Some m n h in omega (arith, e, l)
 needed role.Separates least m n h l = let e : m ≡ n = same_Some m n h in omega (arith, e, l)
 
-enough : (r : Role) (least m : ℕ) → least_before r least ≤ m → (n : ℕ) × (behind_role r m ≡ Some n) × (least ≤ n)
+enough : (r : Role) (least m : ℕ) → least_before r least ≤ m → (n : ℕ) × (after_role r m ≡ Some n) × (least ≤ n)
 enough role.Opens least m l = (suc m, refl, omega (arith, l))
 enough role.Closes least zero l = absurd (omega (arith, l))
 enough role.Closes least (suc m) l = (m, refl, omega (arith, l))
@@ -50,4 +50,4 @@ module _ (ts : List Token) (at least : ℕ) where
     where
       to : (m : ℕ) → least ≤ m → IsUnderExcept ts (suc at) m → IsWithin ts at (least_before (role_of t.kind) least)
       to m l (inl ((u, there, e), z)) = absurd (other (ap (λ x. x.kind) (same_Some t u (sym here ∙ there)) ∙ e, omega (arith, l, z)))
-      to m l (inr (n, h, u, there, e)) = (n, needed (role_of t.kind) least n m (ap (λ x. open_behind x.kind n) (same_Some t u (sym here ∙ there)) ∙ e) l, h)
+      to m l (inr (n, h, u, there, e)) = (n, needed (role_of t.kind) least n m (ap (λ x. open_after x.kind n) (same_Some t u (sym here ∙ there)) ∙ e) l, h)

@@ -1,5 +1,5 @@
 -- The forms of the book's language that this one leaves out.
-use Rattle.std.specs.Prelude.{◌≡◌, ◌≤◌, ◌<◌, ◌⊎◌, ℕ, zero, suc, ◌+◌, Bool, true, false, not, IsTrue, IsSome, List, Option, None, Some, slice_get, take, drop, length, ◌-◌}
+use Rattle.std.specs.Prelude.{◌≡◌, ◌≤◌, ◌<◌, ◌⊎◌, ℕ, zero, suc, ◌+◌, Bool, true, false, not, IsTrue, List, Option, None, Some, slice_get, take, drop, length, ◌-◌}
 use Rattle.std.specs.List.{list_all}
 use Rattle.tla_lex.specs.Bytes.{is_space_or_tab}
 use Rattle.tla_lex.specs.declared.token.Token.{Token}
@@ -10,7 +10,7 @@ use Rattle.tla_grammar.specs.declared.ahead.Role.TheVariants as role
 use Rattle.tla_tree.specs.Words.{word_of}
 use Rattle.tla_grammar.specs.Kinds.{role_of}
 use Rattle.tla_grammar.specs.Modules.{is_module}
-use Rattle.tla_grammar.specs.Operators.{infix_of, prefix_of}
+use Rattle.tla_grammar.specs.OperatorParameters.{HasOperatorParameter}
 use Rattle.tla_grammar.specs.Tokens.{KindAt, Commas}
 
 abbrev pub is_quantifier : Kind → Bool
@@ -41,13 +41,13 @@ one_less zero = None
 one_less (suc n) = Some n
 
 -- how many brackets are open after a token, given how many are open before it: None if it closes one that isn't open
-abbrev pub behind_role : Role → ℕ → Option ℕ
-behind_role role.Opens n = Some (suc n)
-behind_role role.Closes n = one_less n
-behind_role _ n = Some n
+abbrev pub after_role : Role → ℕ → Option ℕ
+after_role role.Opens n = Some (suc n)
+after_role role.Closes n = one_less n
+after_role _ n = Some n
 
-abbrev pub open_behind : Kind → ℕ → Option ℕ
-open_behind kind n = behind_role (role_of kind) n
+abbrev pub open_after : Kind → ℕ → Option ℕ
+open_after kind n = after_role (role_of kind) n
 
 -- there are spaces or tabs between these bytes, one or more
 abbrev pub AreApart : List ℕ → ℕ → ℕ → Type 0
@@ -62,7 +62,7 @@ module _ (ts : List Token) where
   -- open, and none was closed that was open at it
   abbrev pub IsUnderExcept : ℕ → ℕ → Type 0
   IsUnderExcept zero n = ⊥
-  IsUnderExcept (suc at) n = (KindAt ts at k.Except × (n ≡ 0)) ⊎ ((m : ℕ) × IsUnderExcept at m × (t : Token) × (slice_get ts at ≡ Some t) × (open_behind t.kind m ≡ Some n))
+  IsUnderExcept (suc at) n = (KindAt ts at k.Except × (n ≡ 0)) ⊎ ((m : ℕ) × IsUnderExcept at m × (t : Token) × (slice_get ts at ≡ Some t) × (open_after t.kind m ≡ Some n))
 
   -- inside an EXCEPT, at any depth: the brackets around it are still open
   abbrev pub IsInExcept : ℕ → Type 0
@@ -84,49 +84,6 @@ module _ (ts : List Token) where
   abbrev pub IsUnboundedTuple : ℕ → Type 0
   IsUnboundedTuple at = (n : ℕ) × (last : ℕ) × KindAt ts at k.Choose × KindAt ts (at + 1) k.LeftTuple × Commas ts n (at + 2) last × KindAt ts last k.Name × KindAt ts (last + 1) k.RightTuple × KindAt ts (last + 2) k.Colon
 
-  -- a prefix operator; an infix operator
-  abbrev pub IsPrefix : ℕ → Type 0
-  IsPrefix at = (t : Token) × (slice_get ts at ≡ Some t) × IsSome (prefix_of t.kind)
-
-  abbrev pub IsInfix : ℕ → Type 0
-  IsInfix at = (t : Token) × (slice_get ts at ≡ Some t) × IsSome (infix_of t.kind)
-
-  -- this many underscores between two tokens, each with a comma after it
-  abbrev pub Underscores : ℕ → ℕ → ℕ → Type 0
-  Underscores zero from at = at ≡ from
-  Underscores (suc n) from at = (before : ℕ) × Underscores n from before × KindAt ts before k.Underscore × KindAt ts (before + 1) k.Comma × (at ≡ before + 2)
-
-  -- F(_, ..), up to the token after it
-  abbrev pub IsNamedParameter : ℕ → ℕ → Type 0
-  IsNamedParameter at to = (n : ℕ) × (last : ℕ) × KindAt ts at k.Name × KindAt ts (at + 1) k.LeftParen × Underscores n (at + 2) last × KindAt ts last k.Underscore × KindAt ts (last + 1) k.RightParen × (to ≡ last + 2)
-
-  -- an operator as parameter, up to the token after it: F(_, ..); - _; _ + _
-  abbrev pub IsOperatorParameter : ℕ → ℕ → Type 0
-  IsOperatorParameter at to = IsNamedParameter at to
-      ⊎ (IsPrefix at × KindAt ts (at + 1) k.Underscore × (to ≡ at + 2))
-      ⊎ (KindAt ts at k.Underscore × IsInfix (at + 1) × KindAt ts (at + 2) k.Underscore × (to ≡ at + 3))
-
-  -- a name or an operator as parameter, up to the token after it
-  abbrev pub IsParameter : ℕ → ℕ → Type 0
-  IsParameter at to = (KindAt ts at k.Name × (to ≡ at + 1)) ⊎ IsOperatorParameter at to
-
-  -- this many parameters between two tokens, each with a comma after it
-  abbrev pub Parameters : ℕ → ℕ → ℕ → Type 0
-  Parameters zero from at = at ≡ from
-  Parameters (suc n) from at = (before : ℕ) × (comma : ℕ) × Parameters n from before × IsParameter before comma × KindAt ts comma k.Comma × (at ≡ comma + 1)
-
-  -- the parameters of a definition and its `==`: Op(.., ..) ==
-  abbrev pub IsDefinition : ℕ → Type 0
-  IsDefinition at = (n : ℕ) × (last : ℕ) × (end : ℕ) × KindAt ts at k.Name × KindAt ts (at + 1) k.LeftParen × Parameters n (at + 2) last × IsParameter last end × KindAt ts end k.RightParen × KindAt ts (end + 1) k.Define
-
-  -- an operator among the parameters
-  abbrev pub HasOperator : ℕ → Type 0
-  HasOperator at = (n : ℕ) × (here : ℕ) × (end : ℕ) × Parameters n (at + 2) here × IsOperatorParameter here end
-
-  -- a definition with an operator as parameter, Op(.., F(_), ..) ==
-  abbrev pub HasOperatorParameter : ℕ → Type 0
-  HasOperatorParameter at = IsDefinition at × HasOperator at
-
   -- only separators come before the token: a module's name and a separator come before its units
   abbrev pub OnlySeparators : ℕ → Type 0
   OnlySeparators to = (at : ℕ) → 2 ≤ at → at < to → KindAt ts at k.Separator
@@ -143,9 +100,9 @@ module _ (ts : List Token) where
     unbounded : IsUnbounded at → LeftOut at
     unbounded_choice : IsUnboundedChoice at → LeftOut at
     unbounded_tuple : IsUnboundedTuple at → LeftOut at
-    parameter : HasOperatorParameter at → LeftOut at
+    parameter : HasOperatorParameter ts at → LeftOut at
 
-  -- a form that is left out begins at the token of this number
+  -- one of these begins at the token of this number
   unfoldable pub BeginsLeftOut : ℕ → Type 0
   BeginsLeftOut at = LeftOut at
 

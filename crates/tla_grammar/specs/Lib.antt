@@ -6,6 +6,7 @@ pub mod Entries
 pub mod Grammar
 pub mod Ending
 pub mod Modules
+pub mod OperatorParameters
 pub mod LeftOut
 pub mod Ahead
 pub mod Marks

@@ -9,6 +9,7 @@ ghost use Rattle.tla_grammar.specs.Ending as ending;
 ghost use Rattle.std.specs.List.{list_all};
 ghost use Rattle.tla_lex.specs.Bytes as bytes;
 ghost use Rattle.tla_grammar.specs.LeftOut as left_out;
+ghost use Rattle.tla_grammar.specs.OperatorParameters as parameters;
 ghost use Rattle.tla_grammar.specs.Private.Open as open_brackets;
 ghost use Rattle.tla_grammar.specs.Marks as marks;
 ghost use Rattle.tla_grammar.specs.Refusals.{Refuses, RefusesUnit};
@@ -17,7 +18,7 @@ use crate::ahead::{Role, role_of};
 use crate::operators::{bullet_of, infix_of, low, prefix_of};
 use crate::refusal::Refusal;
 use std::alloc::Global;
-use tla_lex::{Kind, Token, same_kind, string_text};
+use tla_lex::{Kind, Token, is_space_or_tab, same_kind, string_text};
 use tla_tree::{Brackets, Bullet, Infix, Word, slice_of};
 
 /// What separates the items of a list.
@@ -334,7 +335,7 @@ pub fn refused(tokens: &[Token], column: u128, at: usize) -> Refusal
 
 /// Whether there is an infix operator here.
 fn is_infix(tokens: &[Token], at: usize) -> bool
-    ensures { IsTrue result → left_out.IsInfix tokens.now at }
+    ensures { IsTrue result → parameters.IsInfix tokens.now at }
 {
     match tokens.get(at) {
         Some(t) => infix_of(t.kind).is_some(),
@@ -344,7 +345,7 @@ fn is_infix(tokens: &[Token], at: usize) -> bool
 
 /// The token after `F(_, ..)`, if that is here, right of the column.
 fn named_parameter_end(tokens: &[Token], column: u128, from: usize) -> Option<usize>
-    ensures is { IfSome result (λ to. left_out.IsNamedParameter tokens.now from to) }
+    ensures is { IfSome result (λ to. parameters.IsNamedParameter tokens.now from to) }
     ensures within { IfSome result (λ to. to ≤ length tokens.now) }
 {
     if !is_kind(Kind::Name, seen(tokens, column, from))
@@ -370,7 +371,7 @@ fn named_parameter_end(tokens: &[Token], column: u128, from: usize) -> Option<us
 
 /// The token after an operator that is a parameter here, right of the column.
 fn operator_parameter_end(tokens: &[Token], column: u128, at: usize) -> Option<usize>
-    ensures is { IfSome result (λ to. left_out.IsOperatorParameter tokens.now at to) }
+    ensures is { IfSome result (λ to. parameters.IsOperatorParameter tokens.now at to) }
     ensures within { IfSome result (λ to. to ≤ length tokens.now) }
 {
     match seen(tokens, column, at)?.kind {
@@ -396,7 +397,7 @@ fn operator_parameter_end(tokens: &[Token], column: u128, at: usize) -> Option<u
 
 /// The token after a parameter, a name or an operator, right of the column.
 fn parameter_end(tokens: &[Token], column: u128, at: usize) -> Option<usize>
-    ensures is { IfSome result (λ to. left_out.IsParameter tokens.now at to) }
+    ensures is { IfSome result (λ to. parameters.IsParameter tokens.now at to) }
     ensures within { IfSome result (λ to. to ≤ length tokens.now) }
 {
     match operator_parameter_end(tokens, column, at) {
@@ -414,8 +415,7 @@ fn parameter_end(tokens: &[Token], column: u128, at: usize) -> Option<usize>
 /// Whether `Op(` is here, right of the column.
 fn opens_parameters(tokens: &[Token], column: u128, from: usize) -> bool
     ensures is { IsTrue result
-        → spec.KindAt tokens.now from Kind.Name
-        × spec.KindAt tokens.now (from + 1) Kind.LeftParen }
+        → spec.KindAt tokens.now from Kind.Name × spec.KindAt tokens.now (from + 1) Kind.LeftParen }
     ensures within { IsTrue result → from + 2 ≤ length tokens.now }
 {
     is_kind(Kind::Name, seen(tokens, column, from))
@@ -424,7 +424,7 @@ fn opens_parameters(tokens: &[Token], column: u128, from: usize) -> bool
 
 /// Whether there is a definition here, with its parameters and `==`, all right of the column.
 fn is_definition(tokens: &[Token], column: u128, from: usize) -> bool
-    ensures { IsTrue result → left_out.IsDefinition tokens.now from }
+    ensures { IsTrue result → parameters.IsDefinition tokens.now from }
 {
     if !opens_parameters(tokens, column, from) {
         return false;
@@ -448,7 +448,7 @@ fn is_definition(tokens: &[Token], column: u128, from: usize) -> bool
 /// Whether there is an operator among the parameters here, after names alone and right of the column.
 fn has_operator(tokens: &[Token], column: u128, from: usize) -> bool
     requires { from + 2 ≤ length tokens.now }
-    ensures { IsTrue result → left_out.HasOperator tokens.now from }
+    ensures { IsTrue result → parameters.HasOperator tokens.now from }
 {
     let mut at = from + 2;
     for _turn in 0..tokens.len() {
@@ -467,7 +467,7 @@ fn has_operator(tokens: &[Token], column: u128, from: usize) -> bool
 
 /// Whether there is a definition here that has an operator among its parameters.
 fn has_operator_parameter(tokens: &[Token], column: u128, from: usize) -> bool
-    ensures { IsTrue result → left_out.HasOperatorParameter tokens.now from }
+    ensures { IsTrue result → parameters.HasOperatorParameter tokens.now from }
 {
     opens_parameters(tokens, column, from)
         && is_definition(tokens, column, from)
@@ -487,14 +487,8 @@ pub fn refused_parameter(tokens: &[Token], column: u128, from: usize, at: usize)
     }
 }
 
-fn is_space_or_tab(b: u8) -> bool
-    ensures { result ≡ bytes.is_space_or_tab b }
-{
-    b == b' ' || b == b'\t'
-}
-
 /// Whether the bytes are spaces and tabs.
-fn are_blank(text: &[u8]) -> bool
+fn are_spaces_or_tabs(text: &[u8]) -> bool
     ensures { result ≡ list_all bytes.is_space_or_tab text.now }
 {
     text.iter().all(|b| is_space_or_tab(*b))
@@ -504,7 +498,7 @@ fn are_blank(text: &[u8]) -> bool
 fn are_apart(text: &[u8], from: usize, to: usize) -> bool
     ensures { IsTrue result → left_out.AreApart text.now from to }
 {
-    from < to && to <= text.len() && are_blank(&text[from..to])
+    from < to && to <= text.len() && are_spaces_or_tabs(&text[from..to])
 }
 
 /// Whether MODULE is here, after a run of dashes and spaces or tabs.

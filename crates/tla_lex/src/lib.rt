@@ -18,6 +18,7 @@ mod symbol;
 pub mod token;
 mod word;
 
+pub use bytes::is_space_or_tab;
 pub use error::{LexCode, LexError};
 pub use lexeme::Source;
 pub use lexer::{configuration_tokens, tokens};

@@ -30,7 +30,8 @@ pub trait Host {
 
     /// Opens the file of this name for reading from its start.
     fn open(&self, name: &str) -> io::Result<Self::File>
-        ensures { IfOk result (λ f. IfSome (files self.now name.now) (λ bytes. Self.File.remaining f ≡ Some bytes)) };
+        ensures { IfOk result (λ f.
+            IfSome (files self.now name.now) (λ bytes. Self.File.remaining f ≡ Some bytes)) };
 
     /// The names of files in the folder of the file of this name.
     fn files_beside(&self, alloc: Global, name: &str) -> io::Result<Vec<String>>;

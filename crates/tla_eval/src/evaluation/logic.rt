@@ -85,7 +85,8 @@ pub(super) fn assert<'c: 'a, 'a>(
     env: Environment<'a>,
 ) -> Result<Evaluated<'a>, Trouble<'c>>
     ensures { Evaluates result
-        ((means-assert place.now (means (expr_of condition.now)) (means (expr_of condition.now))).value
+        ((means-assert place.now (means (expr_of condition.now))
+        (means (expr_of condition.now))).value
         (bound_in env.entry) (present_in env.entry) (next_in env.entry)) }
 {
     if ask(alloc, place, condition, env)? {
@@ -105,7 +106,8 @@ pub(super) fn cases<'c: 'a, 'a>(
     env: Environment<'a>,
 ) -> Result<Evaluated<'a>, Trouble<'c>>
     ensures { Evaluates result
-        ((means-cases place.now (arms_of_cores arms.now) (option_map (λ c. means (expr_of c.now)) other.entry)).value
+        ((means-cases place.now (arms_of_cores arms.now)
+        (option_map (λ c. means (expr_of c.now)) other.entry)).value
         (bound_in env.entry) (present_in env.entry) (next_in env.entry)) }
 {
     for arm in arms {
@@ -130,7 +132,8 @@ pub(super) fn cases_have<'c: 'a, 'a>(
     env: Environment<'a>,
 ) -> Result<bool, Trouble<'c>>
     ensures { GivesTruth result
-        ((means-cases place.now (arms_of_cores arms.now) (option_map (λ c. means (expr_of c.now)) other.entry)).has
+        ((means-cases place.now (arms_of_cores arms.now)
+        (option_map (λ c. means (expr_of c.now)) other.entry)).has
         (tree_of value.now) (bound_in env.entry) (present_in env.entry) (next_in env.entry)) }
 {
     for arm in arms {

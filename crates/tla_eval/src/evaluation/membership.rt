@@ -32,7 +32,8 @@ pub(super) fn is_member<'c: 'a, 'a>(
     env: Environment<'a>,
 ) -> Result<Evaluated<'a>, Trouble<'c>>
     ensures { Evaluates result
-        ((means-member (means (expr_of set.now)).place (means (expr_of element.now)) (means (expr_of set.now))).value
+        ((means-member (means (expr_of set.now)).place (means (expr_of element.now))
+        (means (expr_of set.now))).value
         (bound_in env.entry) (present_in env.entry) (next_in env.entry)) }
 {
     let element = evaluate(alloc, element, env)?;
@@ -48,7 +49,8 @@ pub(super) fn is_no_member<'c: 'a, 'a>(
     env: Environment<'a>,
 ) -> Result<Evaluated<'a>, Trouble<'c>>
     ensures { Evaluates result
-        ((means-not_member (means (expr_of set.now)).place (means (expr_of element.now)) (means (expr_of set.now))).value
+        ((means-not_member (means (expr_of set.now)).place (means (expr_of element.now))
+        (means (expr_of set.now))).value
         (bound_in env.entry) (present_in env.entry) (next_in env.entry)) }
 {
     let element = evaluate(alloc, element, env)?;
@@ -106,7 +108,8 @@ pub(super) fn two_hold<'c: 'a, 'a>(
     env: Environment<'a>,
 ) -> Result<bool, Trouble<'c>>
     ensures { GivesTruth result
-        ((means-binary place.now (binary_of operator) (means (expr_of left.now)) (means (expr_of right.now))).has
+        ((means-binary place.now (binary_of operator) (means (expr_of left.now))
+        (means (expr_of right.now))).has
         (tree_of value.now) (bound_in env.entry) (present_in env.entry) (next_in env.entry)) }
 {
     let left = evaluate(alloc, left, env)?;

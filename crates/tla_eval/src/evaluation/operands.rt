@@ -52,7 +52,8 @@ pub(super) fn on_two<'c: 'a, 'a>(
     env: Environment<'a>,
 ) -> Result<Evaluated<'a>, Trouble<'c>>
     ensures { Evaluates result
-        ((means-binary place.now (binary_of operator) (means (expr_of left.now)) (means (expr_of right.now))).value
+        ((means-binary place.now (binary_of operator) (means (expr_of left.now))
+        (means (expr_of right.now))).value
         (bound_in env.entry) (present_in env.entry) (next_in env.entry)) }
 {
     let left = evaluate(alloc, left, env)?;
@@ -70,7 +71,8 @@ pub(super) fn applied<'c: 'a, 'a>(
     env: Environment<'a>,
 ) -> Result<Evaluated<'a>, Trouble<'c>>
     ensures { Evaluates result
-        ((means-binary place.now Apply (means (expr_of function.now)) (means (expr_of argument.now))).value
+        ((means-binary place.now Apply (means (expr_of function.now))
+        (means (expr_of argument.now))).value
         (bound_in env.entry) (present_in env.entry) (next_in env.entry)) }
 {
     let function = evaluate(alloc, function, env)?;
@@ -87,7 +89,8 @@ pub(super) fn equal<'c: 'a, 'a>(
     env: Environment<'a>,
 ) -> Result<Evaluated<'a>, Trouble<'c>>
     ensures { Evaluates result
-        ((means-equal (means (expr_of left.now)).place (means (expr_of left.now)) (means (expr_of right.now))).value
+        ((means-equal (means (expr_of left.now)).place (means (expr_of left.now))
+        (means (expr_of right.now))).value
         (bound_in env.entry) (present_in env.entry) (next_in env.entry)) }
 {
     let left = evaluate(alloc, left, env)?;
@@ -123,7 +126,8 @@ pub(super) fn part_of<'c: 'a, 'a>(
     env: Environment<'a>,
 ) -> Result<Evaluated<'a>, Trouble<'c>>
     ensures { Evaluates result
-        ((means-sub_seq place.now (means (expr_of sequence.now)) (means (expr_of low.now)) (means (expr_of high.now))).value
+        ((means-sub_seq place.now (means (expr_of sequence.now)) (means (expr_of low.now))
+        (means (expr_of high.now))).value
         (bound_in env.entry) (present_in env.entry) (next_in env.entry)) }
 {
     let sequence = evaluate(alloc, sequence, env)?;

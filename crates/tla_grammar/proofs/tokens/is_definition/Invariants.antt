@@ -1,5 +1,5 @@
 use Rattle.std.proofs.Common.{◌+◌, ◌≤◌, length}
-use Rattle.tla_grammar.specs.LeftOut.{Parameters}
+use Rattle.tla_grammar.specs.OperatorParameters.{Parameters}
 use Rattle.tla_grammar.proofs.tokens.is_definition.Given as goal
 
 abbrev pub invariant-loop-turn : goal.invariant-loop-turn

@@ -1,5 +1,5 @@
 use Rattle.std.proofs.Common.{◌+◌, ◌≤◌, length}
-use Rattle.tla_grammar.specs.LeftOut.{Underscores}
+use Rattle.tla_grammar.specs.OperatorParameters.{Underscores}
 use Rattle.tla_grammar.proofs.tokens.named_parameter_end.Given as goal
 
 abbrev pub invariant-loop-turn : goal.invariant-loop-turn
