@@ -1,8 +1,9 @@
 -- The values of a body for all choices from some lists.
-use Rattle.std.proofs.Common.{◌≡◌, ℕ, zero, suc, ◌+◌, List, [], ◌∷◌, ◌++◌, length, drop, Option, Some, None, option_map, Ok, Err, ◌⊎◌, inl, inr, ⊎_elim, refl, sym, ap, ◌∙◌, add-one}
+use Rattle.std.proofs.Common.{◌≡◌, ℕ, zero, suc, ◌+◌, ◌<◌, List, [], ◌∷◌, ◌++◌, length, drop, Option, Some, None, IfSome, option_map, Bor, Vec, Global, subst, arith, Ok, Err, ◌⊎◌, inl, inr, ⊎_elim, refl, sym, ap, ◌∙◌, add-one}
 use Rattle.std.specs.Prelude.{slice_get}
 use Rattle.tla_value.specs.Tree.{Tree}
 use Rattle.tla_value.specs.Choices.{choices}
+use Rattle.tla_value.specs.declared.value.Value.{Value}
 use Rattle.tla_core.specs.declared.fault.Place.{Place}
 use Rattle.tla_core.specs.declared.fault.Fault.{Fault}
 use Rattle.tla_core.specs.Fault.{Outcome, ◌>>=◌, out_of_memory}
@@ -14,6 +15,8 @@ use Rattle.tla_eval.specs.Private.Parts.{nothing_of}
 use Rattle.tla_eval.specs.Private.Chosen.{values_for, chosen_rule, image_rule, chosen_function_rule, value_at, function_for_rule}
 use Rattle.tla_operators.specs.Gathered.{then_more}
 use Rattle.tla_sets.specs.Domain.{function_rule, AreForChoices, IsDomain}
+use Rattle.tla_sets.specs.Places.{AreWithin, choices_left}
+use Rattle.tla_sets.proofs.Chosen.{trees_in}
 use Rattle.tla_sets.specs.declared.domain.Domain.TheVariants.{Refused}
 use Rattle.tla_operators.proofs.Members.{bind-ok}
 use Rattle.tla_sets.proofs.Listed.{none_more, drop_from, drop_past, bind_assoc, same_list, each_long}
@@ -65,17 +68,6 @@ module _ (e : Meaning) (b : Bound) (s : Present) (t : Next) where
       some_none : (x : Tree) → (let r : Outcome (Option Tree) = Ok (Some x) in r ≡ Ok None) → ⊥
       some_none x k = cc
 
-  faults : (o : Option (List Tree)) (g : Fault) → value_at e b s t o ≡ Err g → (c : List Tree) × (o ≡ Some c) × (e.value (b ++ c) s t ≡ Err g)
-  faults None g h = absurd (ok_err h)
-    where
-      ok_err : (let r : Outcome (Option Tree) = Ok None in r ≡ Err g) → ⊥
-      ok_err k = cc
-  faults (Some c) g h = (c, refl, go (e.value (b ++ c) s t) h)
-    where
-      go : (r : Outcome Tree) → (r >>= λ x. Ok (Some x)) ≡ Err g → r ≡ Err g
-      go (Ok x) k = cc
-      go (Err f) k = cc
-
   pub value_here : (o : Option (List Tree)) (c : List Tree) (v : Tree) → o ≡ Some c → e.value (b ++ c) s t ≡ Ok v → value_at e b s t o ≡ Ok (Some v)
   value_here o c v h k = ap (λ (u : Option (List Tree)). value_at e b s t u) h ∙ ap (λ (r : Outcome Tree). r >>= λ x. Ok (Some x)) k
 
@@ -84,39 +76,57 @@ module _ (e : Meaning) (b : Bound) (s : Present) (t : Next) where
         → then_more kept (each (λ c. e.value (b ++ c) s t) (drop i all)) ≡ then_more new (each (λ c. e.value (b ++ c) s t) (drop (i + 1) all))
     value_more kept v new h k = let r = there (slice_get all i) v h in chosen_step (λ c. e.value (b ++ c) s t) kept all i r.0 r.1 v new r.2 k
 
-    pub value_stop : (kept : List Tree) (g : Fault) → value_at e b s t (slice_get all i) ≡ Err g → then_more kept (each (λ c. e.value (b ++ c) s t) (drop i all)) ≡ Err g
-    value_stop kept g h =
-        let r = faults (slice_get all i) g h in
-        chosen_from (λ c. e.value (b ++ c) s t) kept all i r.0 r.1 ∙ ap (λ (o : Outcome Tree). o >>= λ y. then_more (kept ++ y ∷ []) (each (λ c. e.value (b ++ c) s t) (drop (suc i) all))) r.2
-
-    pub value_first : (kept : List Tree) → then_more kept (each (λ c. e.value (b ++ c) s t) (drop i all)) ≡ (value_at e b s t (slice_get all i) >>= λ o. then_more kept (each (λ c. e.value (b ++ c) s t) (drop i all)))
-    value_first kept = go (value_at e b s t (slice_get all i)) refl
-      where
-        go : (r : Outcome (Option Tree)) → value_at e b s t (slice_get all i) ≡ r → then_more kept (each (λ c. e.value (b ++ c) s t) (drop i all)) ≡ (r >>= λ o. then_more kept (each (λ c. e.value (b ++ c) s t) (drop i all)))
-        go (Ok o) h = refl
-        go (Err g) h = value_stop kept g h
-
     pub value_end : (kept : List Tree) → value_at e b s t (slice_get all i) ≡ Ok None → then_more kept (each (λ c. e.value (b ++ c) s t) (drop i all)) ≡ Ok kept
     value_end kept h = chosen_end (λ c. e.value (b ++ c) s t) kept all i (gone (slice_get all i) h)
 
-    pub pass_more : (v : Tree) → value_at e b s t (slice_get all i) ≡ Ok (Some v) → nothing_of (each (λ c. e.value (b ++ c) s t) (drop i all)) ≡ nothing_of (each (λ c. e.value (b ++ c) s t) (drop (i + 1) all))
-    pass_more v h =
-        sym (nothing_more [] (each (λ c. e.value (b ++ c) s t) (drop i all)))
-        ∙ ap (λ (o : Outcome (List Tree)). nothing_of o) (value_more [] v (v ∷ []) h refl)
-        ∙ nothing_more (v ∷ []) (each (λ c. e.value (b ++ c) s t) (drop (i + 1) all))
+  -- ---- one choice after another
+  module _ (from : List (List Tree)) (c : List Tree) (rest : List (List Tree)) (are : from ≡ c ∷ rest) where
+    pub choice_more : (kept : List Tree) (v : Tree) (new : List Tree) → e.value (b ++ c) s t ≡ Ok v → new ≡ kept ++ v ∷ []
+        → then_more kept (each (λ d. e.value (b ++ d) s t) from) ≡ then_more new (each (λ d. e.value (b ++ d) s t) rest)
+    choice_more kept v new h k =
+        ap (λ us. then_more kept (each (λ d. e.value (b ++ d) s t) us)) are
+        ∙ each_more (λ d. e.value (b ++ d) s t) kept c rest v h
+        ∙ ap (λ us. then_more us (each (λ d. e.value (b ++ d) s t) rest)) (sym k)
 
-    pub pass_stop : (g : Fault) → value_at e b s t (slice_get all i) ≡ Err g → nothing_of (each (λ c. e.value (b ++ c) s t) (drop i all)) ≡ Err g
-    pass_stop g h = sym (nothing_more [] (each (λ c. e.value (b ++ c) s t) (drop i all))) ∙ ap (λ (o : Outcome (List Tree)). nothing_of o) (value_stop [] g h)
+    choice_stop : (kept : List Tree) (g : Fault) → e.value (b ++ c) s t ≡ Err g → then_more kept (each (λ d. e.value (b ++ d) s t) from) ≡ Err g
+    choice_stop kept g h =
+        ap (λ us. then_more kept (each (λ d. e.value (b ++ d) s t) us)) are
+        ∙ each_stop (λ d. e.value (b ++ d) s t) kept c rest g h
 
-    pub pass_first : nothing_of (each (λ c. e.value (b ++ c) s t) (drop i all)) ≡ (value_at e b s t (slice_get all i) >>= λ o. nothing_of (each (λ c. e.value (b ++ c) s t) (drop i all)))
-    pass_first = go (value_at e b s t (slice_get all i)) refl
+    pub choice_first : (kept : List Tree) → then_more kept (each (λ d. e.value (b ++ d) s t) from) ≡ (e.value (b ++ c) s t >>= λ v. then_more kept (each (λ d. e.value (b ++ d) s t) from))
+    choice_first kept = go (e.value (b ++ c) s t) refl
       where
-        go : (r : Outcome (Option Tree)) → value_at e b s t (slice_get all i) ≡ r → nothing_of (each (λ c. e.value (b ++ c) s t) (drop i all)) ≡ (r >>= λ o. nothing_of (each (λ c. e.value (b ++ c) s t) (drop i all)))
-        go (Ok o) h = refl
-        go (Err g) h = pass_stop g h
+        go : (r : Outcome Tree) → e.value (b ++ c) s t ≡ r → then_more kept (each (λ d. e.value (b ++ d) s t) from) ≡ (r >>= λ v. then_more kept (each (λ d. e.value (b ++ d) s t) from))
+        go (Ok v) h = refl
+        go (Err g) h = choice_stop kept g h
 
-    pub pass_end : value_at e b s t (slice_get all i) ≡ Ok None → nothing_of (each (λ c. e.value (b ++ c) s t) (drop i all)) ≡ Ok tt
-    pass_end h = sym (nothing_more [] (each (λ c. e.value (b ++ c) s t) (drop i all))) ∙ ap (λ (o : Outcome (List Tree)). nothing_of o) (value_end [] h)
+    pub pass_more : (v : Tree) → e.value (b ++ c) s t ≡ Ok v → nothing_of (each (λ d. e.value (b ++ d) s t) from) ≡ nothing_of (each (λ d. e.value (b ++ d) s t) rest)
+    pass_more v h =
+        sym (nothing_more [] (each (λ d. e.value (b ++ d) s t) from))
+        ∙ ap (λ (o : Outcome (List Tree)). nothing_of o) (choice_more [] v (v ∷ []) h refl)
+        ∙ nothing_more (v ∷ []) (each (λ d. e.value (b ++ d) s t) rest)
+
+    pub pass_first : nothing_of (each (λ d. e.value (b ++ d) s t) from) ≡ (e.value (b ++ c) s t >>= λ v. nothing_of (each (λ d. e.value (b ++ d) s t) from))
+    pass_first = go (e.value (b ++ c) s t) refl
+      where
+        go : (r : Outcome Tree) → e.value (b ++ c) s t ≡ r → nothing_of (each (λ d. e.value (b ++ d) s t) from) ≡ (r >>= λ v. nothing_of (each (λ d. e.value (b ++ d) s t) from))
+        go (Ok v) h = refl
+        go (Err g) h =
+            sym (nothing_more [] (each (λ d. e.value (b ++ d) s t) from))
+            ∙ ap (λ (o : Outcome (List Tree)). nothing_of o) (choice_stop [] g h)
+
+-- ---- the choices that are left, from some places on
+abbrev pub left_of : List (Bor (List Value)) → Option (Vec ℕ Global) → List (List Tree)
+left_of lists next = choices_left (trees_in lists) (option_map (λ (v : Vec ℕ Global). v.items) next)
+
+abbrev pub WithinLists : List (Bor (List Value)) → Option (Vec ℕ Global) → Type 0
+WithinLists lists next = IfSome next (λ (v : Vec ℕ Global). AreWithin (trees_in lists) v.items)
+
+pub within_here : (lists : List (Bor (List Value))) (next : Option (Vec ℕ Global)) (v : Vec ℕ Global) (us : List ℕ) → next ≡ Some v → us ≡ v.items → WithinLists lists next → AreWithin (trees_in lists) us
+within_here lists next v us e k h = subst (AreWithin (trees_in lists)) (sym k) (subst (WithinLists lists) e h)
+
+pub fewer : (c : List Tree) (rest from : List (List Tree)) → from ≡ c ∷ rest → length rest < length from
+fewer c rest from e = omega (arith, ap length e)
 
 pub image_is : (p : Place) (ms : List Meaning) (e : Meaning) (b : Bound) (s : Present) (t : Next) → (means-image p ms e).value b s t ≡ image_rule p ms e b s t
 image_is p ms e b s t = go (each (λ (m : Meaning). m.value b s t) ms)

@@ -9,6 +9,7 @@ use Rattle.tla_value.specs.Tree.{Tree, truth}
 use Rattle.tla_value.specs.TreeOf.{tree_of}
 use Rattle.tla_value.specs.declared.value.Value.{Value}
 use Rattle.tla_value.specs.Choices.{choices}
+pub use Rattle.tla_sets.specs.Places.{trees_in}
 
 -- ---- a place in two lists
 get_first : {A : Type 0} (xs ys : List A) (i : ℕ) → i < length xs → slice_get (xs ++ ys) i ≡ slice_get xs i
@@ -101,9 +102,6 @@ no_items [] h = refl
 no_items (v ∷ vs) h = absurd (omega arith)
 
 -- ---- the loop over the lists, from the last one
-abbrev pub trees_in : List (Bor (List Value)) → List (List Tree)
-trees_in lists = map (λ (r : Bor (List Value)). map tree_of r.now) lists
-
 module _ (lists : List (Bor (List Value))) (i : ℕ) (list : Bor (List Value)) (i_in : i < length lists) (is : list ≡ get_or lists (length lists - 1 - i) list) where
   abbrev others : List (List Tree)
   others = trees_in (take (length lists - (i + 1)) lists)

@@ -5,3 +5,4 @@ pub mod Stands
 pub mod Chosen
 pub mod Domains
 pub mod Names
+pub mod Moves

@@ -5,4 +5,5 @@ pub mod asked;
 pub mod domain;
 pub mod elements;
 pub mod fields;
+pub mod places;
 pub mod span;

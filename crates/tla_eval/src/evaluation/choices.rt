@@ -1,17 +1,17 @@
 //! Forms that bind several names.
-ghost use Rattle.std.specs.Prelude.{◌≡◌, ◌++◌, ◌∷◌, [], length, map, option_map, slice_get};
+ghost use Rattle.std.specs.Prelude.{◌≡◌, ◌++◌, length, map};
 ghost use Rattle.tla_value.specs.TreeOf.{tree_of};
-ghost use Rattle.tla_value.specs.Choices.{choices};
 ghost use Rattle.tla_core.specs.Lists.{each};
 ghost use Rattle.tla_core.specs.Meaning.{Meaning};
 ghost use Rattle.tla_core.specs.Value.{means};
 ghost use Rattle.tla_core.specs.ExprOf.{expr_of, parts_of_cores};
 ghost use Rattle.tla_operators.specs.Gives.{Gives, GivesBy};
-ghost use Rattle.tla_eval.specs.Private.Chosen.{image_rule, chosen_function_rule, values_for, value_at, function_for_rule};
+ghost use Rattle.tla_eval.specs.Private.Chosen.{image_rule, chosen_function_rule, values_for, function_for_rule};
 ghost use Rattle.tla_eval.specs.Private.Parts.{nothing_of};
 ghost use Rattle.tla_operators.specs.Evaluated.{Evaluates, tree_of_evaluated};
 ghost use Rattle.tla_eval.specs.Private.Environment.{bound_in, present_in, next_in};
 ghost use Rattle.tla_operators.specs.Gathered.{Gathers};
+ghost use Rattle.tla_sets.specs.Places.{AreWithin, choice_of, trees_in};
 
 use crate::environment::{Environment, Frame};
 use crate::evaluation::binding::value_with;
@@ -21,10 +21,9 @@ use std::alloc::Global;
 use tla_core::{Core, Place};
 use tla_operators::evaluated::Evaluated;
 use tla_operators::gathered::Gathered;
-use tla_operators::trouble::{Trouble, memory};
-use tla_sets::domain::{
-    Domain, choice_at, domain_of, function_on, function_with, lists_of, member_of,
-};
+use tla_operators::trouble::Trouble;
+use tla_sets::domain::{Domain, domain_of, function_on, function_with, lists_of};
+use tla_sets::places::{first_places, moved_on, only_member, picked};
 use tla_value::Value;
 
 /// The set of the values of a body for all choices from some sets.
@@ -156,13 +155,12 @@ fn chosen<'l, 'c: 'a, 'a>(
         (next_in env.entry) (map (λ l. map tree_of l.now) lists.now)) }
 {
     let mut values = Vec::with_capacity(alloc, last_count(lists))?;
-    for number in 0..usize::MAX {
-        match value_for(alloc, body, lists, number, env)? {
-            Some(value) => values.push(value)?,
-            None => return Ok(values),
-        }
+    let mut next = first_places(alloc, lists)?;
+    while let Some(places) = next {
+        values.push(value_for(alloc, body, lists, places.as_slice(), env)?)?;
+        next = moved_on(lists, places);
     }
-    Err(memory())
+    Ok(values)
 }
 
 /// The different values of a body for all choices from some lists.
@@ -178,13 +176,12 @@ fn chosen_once<'l, 'c: 'a, 'a>(
         (next_in env.entry) (map (λ l. map tree_of l.now) lists.now)) }
 {
     let mut values = Gathered::new(alloc);
-    for number in 0..usize::MAX {
-        match value_for(alloc, body, lists, number, env)? {
-            Some(value) => values.add(value)?,
-            None => return Ok(values),
-        }
+    let mut next = first_places(alloc, lists)?;
+    while let Some(places) = next {
+        values.add(value_for(alloc, body, lists, places.as_slice(), env)?)?;
+        next = moved_on(lists, places);
     }
-    Err(memory())
+    Ok(values)
 }
 
 /// Evaluates a body for all choices from some lists, up to its first fault.
@@ -200,73 +197,53 @@ fn pass_over<'l, 'c: 'a, 'a>(
         (values_for (means (expr_of body.now)) (bound_in env.entry) (present_in env.entry)
         (next_in env.entry) (map (λ l. map tree_of l.now) lists.now))) }
 {
-    for number in 0..usize::MAX {
-        match value_for(alloc, body, lists, number, env)? {
-            Some(value) => drop(value),
-            None => return Ok(()),
-        }
+    let mut next = first_places(alloc, lists)?;
+    while let Some(places) = next {
+        drop(value_for(alloc, body, lists, places.as_slice(), env)?);
+        next = moved_on(lists, places);
     }
-    Err(memory())
+    Ok(())
 }
 
-/// The value of a body for the choice with a number; none where there are fewer choices.
+/// The value of a body for the choice at some places.
 #[cycle(evaluate)]
 fn value_for<'l, 'c: 'a, 'a>(
     alloc: Global,
     body: &'c Core,
     lists: &'l [&'l [Value]],
-    number: usize,
+    places: &'l [usize],
     env: Environment<'a>,
-) -> Result<Option<Value>, Trouble<'c>>
-    ensures { GivesBy (λ o. option_map tree_of o) result
-        (value_at (means (expr_of body.now)) (bound_in env.entry) (present_in env.entry)
-        (next_in env.entry)
-        (slice_get (choices (map (λ l. map tree_of l.now) lists.now)) number)) }
+) -> Result<Value, Trouble<'c>>
+    requires { AreWithin (trees_in lists.now) places.now }
+    ensures { Gives result
+        ((means (expr_of body.now)).value
+        (bound_in env.entry ++ choice_of (trees_in lists.now) places.now)
+        (present_in env.entry) (next_in env.entry)) }
 {
     if lists.len() == 1 {
-        value_for_member(alloc, body, lists[0], number, env)
+        value_with(alloc, body, only_member(lists, places), env)
     } else {
-        value_for_choice(alloc, body, lists, number, env)
+        value_for_choice(alloc, body, lists, places, env)
     }
 }
 
-/// The value of a body for the member of a list at a place.
-#[cycle(evaluate)]
-fn value_for_member<'l, 'c: 'a, 'a>(
-    alloc: Global,
-    body: &'c Core,
-    list: &'l [Value],
-    number: usize,
-    env: Environment<'a>,
-) -> Result<Option<Value>, Trouble<'c>>
-    ensures { GivesBy (λ o. option_map tree_of o) result
-        (value_at (means (expr_of body.now)) (bound_in env.entry) (present_in env.entry)
-        (next_in env.entry) (slice_get (choices (map tree_of list.now ∷ [])) number)) }
-{
-    match member_of(list, number) {
-        Some(value) => Ok(Some(value_with(alloc, body, value, env)?)),
-        None => Ok(None),
-    }
-}
-
-/// The value of a body for the choice with a number from several lists.
+/// The value of a body for copies of the members at some places.
 #[cycle(evaluate)]
 fn value_for_choice<'l, 'c: 'a, 'a>(
     alloc: Global,
     body: &'c Core,
     lists: &'l [&'l [Value]],
-    number: usize,
+    places: &'l [usize],
     env: Environment<'a>,
-) -> Result<Option<Value>, Trouble<'c>>
-    ensures { GivesBy (λ o. option_map tree_of o) result
-        (value_at (means (expr_of body.now)) (bound_in env.entry) (present_in env.entry)
-        (next_in env.entry)
-        (slice_get (choices (map (λ l. map tree_of l.now) lists.now)) number)) }
+) -> Result<Value, Trouble<'c>>
+    requires { AreWithin (trees_in lists.now) places.now }
+    ensures { Gives result
+        ((means (expr_of body.now)).value
+        (bound_in env.entry ++ choice_of (trees_in lists.now) places.now)
+        (present_in env.entry) (next_in env.entry)) }
 {
-    match choice_at(alloc, lists, number)? {
-        Some(choice) => Ok(Some(value_with_all(alloc, body, choice.as_slice(), env)?)),
-        None => Ok(None),
-    }
+    let choice = picked(alloc, lists, places)?;
+    value_with_all(alloc, body, choice.as_slice(), env)
 }
 
 /// The value of a body with more bound values.

@@ -28,7 +28,11 @@ use Rattle.std.specs.Prelude.{slice_get}
 use Rattle.tla_core.proofs.Loops.{all_hold_step}
 use Rattle.tla_eval.proofs.Collected.{record_is}
 use Rattle.tla_eval.proofs.Asked.{conjunction_told, disjunction_told, function_into}
-use Rattle.tla_eval.proofs.Choices.{image_is, image_step, function_is, one_choice, value_here, value_more, value_first, value_end, pass_more, pass_first, pass_end, for_choices, function_of_values, function_first, function_passed}
+use Rattle.tla_eval.proofs.Choices.{image_is, image_step, function_is, choice_more, choice_first, pass_more, pass_first, left_of, within_here, fewer, for_choices, function_of_values, function_first, function_passed}
+use Rattle.tla_sets.specs.Places.{choice_of, choices_from}
+use Rattle.tla_sets.proofs.Moves.{first_from}
+use Rattle.tla_sets.proofs.Listed.{none_more}
+use Rattle.tla_operators.specs.Gathered.{then_more}
 use Rattle.tla_sets.proofs.Chosen.{trees_in}
 use Rattle.tla_eval.proofs.Tested.{two_gone, two_asked, tested_told, all_more, all_stop, all_first, all_end, some_more, some_stop, some_first, some_end, least_more, least_stop, least_first, least_end, kept_more, kept_first, kept_end, one_of_is}
 use Rattle.tla_operators.proofs.Different.{more_none}
@@ -345,113 +349,154 @@ choices::function_on_tuples-returns t c =
     function_passed p m (bound_in c.args.env) (present_in c.args.env) (next_in c.args.env) vs lists are c.in_ok-pass_over-in-Refused.field-0 c.in-Refused.fault c.in_ok-pass_over-in-Refused.ensures
     (subst (IsDomain p vs) c.in-Refused.is c.in_ok-tuples.ensures)
 
-pub choices::chosen-loop-number-preserved : goal.choices::chosen-loop-number-preserved
-choices::chosen-loop-number-preserved t c =
-    let m = means (expr_of c.args.body.now) in
-    let v = c.in-Some.value in
-    c.loop-number.invariant
-    ∙ value_more m (bound_in c.args.env) (present_in c.args.env) (next_in c.args.env) (choices (trees_in c.args.lists.now)) c.loop-number.number (map tree_of c.loop-number.values.items) (tree_of v) (map tree_of c.push.new.self.items)
-    (c.in_ok-value.ensures ∙ ap (λ (o : Option Value). Ok (option_map tree_of o)) c.in-Some.is) (ap (map tree_of) c.in_ok-push-in-Some.ensures.items ∙ map-append tree_of c.loop-number.values.items (v ∷ []))
+pub choices::chosen-value_for-requires : goal.choices::chosen-value_for-requires
+choices::chosen-value_for-requires t c = within_here c.args.lists.now c.loop-next.next c.in-Some.places c.as_slice.result.now c.in-Some.is c.as_slice.ensures.value c.loop-next.invariant.0
 
-pub choices::chosen-returns-in_err-value : goal.choices::chosen-returns-in_err-value
-choices::chosen-returns-in_err-value t c =
-    let m = means (expr_of c.args.body.now) in
-    let e = c.loop-number.invariant ∙ value_first m (bound_in c.args.env) (present_in c.args.env) (next_in c.args.env) (choices (trees_in c.args.lists.now)) c.loop-number.number (map tree_of c.loop-number.values.items) in
-    subst (λ (o : Outcome (List Tree)). GivesBy (λ (v : Vec Value Global). map tree_of v.items) c.from_residual-in_err-value.result o) (sym e) (search rules)
+pub choices::chosen-moved_on-requires : goal.choices::chosen-moved_on-requires
+choices::chosen-moved_on-requires t c = within_here c.args.lists.now c.loop-next.next c.in-Some.places c.in-Some.places.items c.in-Some.is refl c.loop-next.invariant.0
 
-pub choices::chosen-returns-in-None : goal.choices::chosen-returns-in-None
-choices::chosen-returns-in-None t c =
-    let m = means (expr_of c.args.body.now) in
-    c.loop-number.invariant
-    ∙ value_end m (bound_in c.args.env) (present_in c.args.env) (next_in c.args.env) (choices (trees_in c.args.lists.now)) c.loop-number.number (map tree_of c.loop-number.values.items)
-    (c.in_ok-value.ensures ∙ ap (λ (o : Option Value). Ok (option_map tree_of o)) c.in-None.is)
+pub choices::chosen-loop-next-smaller : goal.choices::chosen-loop-next-smaller
+choices::chosen-loop-next-smaller t c = fewer (choice_of (trees_in c.args.lists.now) c.in-Some.places.items) (left_of c.args.lists.now c.moved_on.result) (left_of c.args.lists.now c.loop-next.next) (ap (left_of c.args.lists.now) c.in-Some.is ∙ c.moved_on.ensures.next)
 
-pub choices::chosen_once-loop-number-init : goal.choices::chosen_once-loop-number-init
-choices::chosen_once-loop-number-init t c = ([], c.new-values.ensures, more_none _)
+pub choices::chosen_once-value_for-requires : goal.choices::chosen_once-value_for-requires
+choices::chosen_once-value_for-requires t c = within_here c.args.lists.now c.loop-next.next c.in-Some.places c.as_slice.result.now c.in-Some.is c.as_slice.ensures.value c.loop-next.invariant.2
 
-pub choices::chosen_once-loop-number-preserved : goal.choices::chosen_once-loop-number-preserved
-choices::chosen_once-loop-number-preserved t c =
+pub choices::chosen_once-moved_on-requires : goal.choices::chosen_once-moved_on-requires
+choices::chosen_once-moved_on-requires t c = within_here c.args.lists.now c.loop-next.next c.in-Some.places c.in-Some.places.items c.in-Some.is refl c.loop-next.invariant.2
+
+pub choices::chosen_once-loop-next-smaller : goal.choices::chosen_once-loop-next-smaller
+choices::chosen_once-loop-next-smaller t c = fewer (choice_of (trees_in c.args.lists.now) c.in-Some.places.items) (left_of c.args.lists.now c.moved_on.result) (left_of c.args.lists.now c.loop-next.next) (ap (left_of c.args.lists.now) c.in-Some.is ∙ c.moved_on.ensures.next)
+
+pub choices::pass_over-value_for-requires : goal.choices::pass_over-value_for-requires
+choices::pass_over-value_for-requires t c = within_here c.args.lists.now c.loop-next.next c.in-Some.places c.as_slice.result.now c.in-Some.is c.as_slice.ensures.value c.loop-next.invariant.0
+
+pub choices::pass_over-moved_on-requires : goal.choices::pass_over-moved_on-requires
+choices::pass_over-moved_on-requires t c = within_here c.args.lists.now c.loop-next.next c.in-Some.places c.in-Some.places.items c.in-Some.is refl c.loop-next.invariant.0
+
+pub choices::pass_over-loop-next-smaller : goal.choices::pass_over-loop-next-smaller
+choices::pass_over-loop-next-smaller t c = fewer (choice_of (trees_in c.args.lists.now) c.in-Some.places.items) (left_of c.args.lists.now c.moved_on.result) (left_of c.args.lists.now c.loop-next.next) (ap (left_of c.args.lists.now) c.in-Some.is ∙ c.moved_on.ensures.next)
+
+pub choices::chosen-loop-next-init : goal.choices::chosen-loop-next-init
+choices::chosen-loop-next-init t c =
     let m = means (expr_of c.args.body.now) in
-    let v = tree_of c.in-Some.value in
-    let kept = c.loop-number.invariant.0 in (
+    (c.in_ok-next.ensures.within, ap (each (λ d. m.value (bound_in c.args.env ++ d) (present_in c.args.env) (next_in c.args.env))) (sym c.in_ok-next.ensures.all) ∙ more_none _)
+
+pub choices::chosen-loop-next-preserved : goal.choices::chosen-loop-next-preserved
+choices::chosen-loop-next-preserved t c =
+    let m = means (expr_of c.args.body.now) in
+    let lists = trees_in c.args.lists.now in
+    let places = c.in-Some.places.items in
+    let are : left_of c.args.lists.now c.loop-next.next ≡ choice_of lists places ∷ left_of c.args.lists.now c.moved_on.result = ap (left_of c.args.lists.now) c.in-Some.is ∙ c.moved_on.ensures.next in
+    let here = ap (λ us. m.value (bound_in c.args.env ++ choice_of lists us) (present_in c.args.env) (next_in c.args.env)) (sym c.as_slice.ensures.value) ∙ c.in_ok-value_for.ensures in
+    let v = c.in_ok-value_for.field-0 in (
+      c.moved_on.ensures.within,
+      c.loop-next.invariant.1
+          ∙ choice_more m (bound_in c.args.env) (present_in c.args.env) (next_in c.args.env) (left_of c.args.lists.now c.loop-next.next) (choice_of lists places) (left_of c.args.lists.now c.moved_on.result) are (map tree_of c.loop-next.values.items) (tree_of v) (map tree_of c.push.new.self.items)
+          here (ap (map tree_of) c.in_ok-push.ensures.items ∙ map-append tree_of c.loop-next.values.items (v ∷ [])),
+    )
+
+pub choices::chosen_once-loop-next-init : goal.choices::chosen_once-loop-next-init
+choices::chosen_once-loop-next-init t c =
+    let m = means (expr_of c.args.body.now) in
+    ([], c.new-values.ensures, c.in_ok-next.ensures.within, ap (each (λ d. m.value (bound_in c.args.env ++ d) (present_in c.args.env) (next_in c.args.env))) (sym c.in_ok-next.ensures.all) ∙ more_none _)
+
+pub choices::chosen_once-loop-next-preserved : goal.choices::chosen_once-loop-next-preserved
+choices::chosen_once-loop-next-preserved t c =
+    let m = means (expr_of c.args.body.now) in
+    let lists = trees_in c.args.lists.now in
+    let places = c.in-Some.places.items in
+    let are : left_of c.args.lists.now c.loop-next.next ≡ choice_of lists places ∷ left_of c.args.lists.now c.moved_on.result = ap (left_of c.args.lists.now) c.in-Some.is ∙ c.moved_on.ensures.next in
+    let here = ap (λ us. m.value (bound_in c.args.env ++ choice_of lists us) (present_in c.args.env) (next_in c.args.env)) (sym c.as_slice.ensures.value) ∙ c.in_ok-value_for.ensures in
+    let v = tree_of c.in_ok-value_for.field-0 in
+    let kept = c.loop-next.invariant.0 in (
       kept ++ v ∷ [],
-      c.in_ok-add-in-Some.ensures.ok kept c.loop-number.invariant.1,
-      c.loop-number.invariant.2
-          ∙ value_more m (bound_in c.args.env) (present_in c.args.env) (next_in c.args.env) (choices (trees_in c.args.lists.now)) c.loop-number.number kept v (kept ++ v ∷ [])
-          (c.in_ok-value.ensures ∙ ap (λ (o : Option Value). Ok (option_map tree_of o)) c.in-Some.is) refl,
+      c.in_ok-add.ensures.ok kept c.loop-next.invariant.1,
+      c.moved_on.ensures.within,
+      c.loop-next.invariant.3
+          ∙ choice_more m (bound_in c.args.env) (present_in c.args.env) (next_in c.args.env) (left_of c.args.lists.now c.loop-next.next) (choice_of lists places) (left_of c.args.lists.now c.moved_on.result) are kept v (kept ++ v ∷ []) here refl,
     )
 
-pub choices::chosen_once-returns-in_err-value : goal.choices::chosen_once-returns-in_err-value
-choices::chosen_once-returns-in_err-value t c =
+pub choices::pass_over-loop-next-init : goal.choices::pass_over-loop-next-init
+choices::pass_over-loop-next-init t c =
     let m = means (expr_of c.args.body.now) in
-    let e = c.loop-number.invariant.2 ∙ value_first m (bound_in c.args.env) (present_in c.args.env) (next_in c.args.env) (choices (trees_in c.args.lists.now)) c.loop-number.number c.loop-number.invariant.0 in
-    subst (λ (o : Outcome (List Tree)). Gathers c.from_residual.result o) (sym e) (search rules)
+    (c.in_ok-next.ensures.within, ap (λ us. nothing_of (each (λ d. m.value (bound_in c.args.env ++ d) (present_in c.args.env) (next_in c.args.env)) us)) (sym c.in_ok-next.ensures.all))
 
-pub choices::chosen_once-returns-in-None : goal.choices::chosen_once-returns-in-None
-choices::chosen_once-returns-in-None t c =
+pub choices::pass_over-loop-next-preserved : goal.choices::pass_over-loop-next-preserved
+choices::pass_over-loop-next-preserved t c =
     let m = means (expr_of c.args.body.now) in
-    let kept = c.loop-number.invariant.0 in (
+    let lists = trees_in c.args.lists.now in
+    let places = c.in-Some.places.items in
+    let are : left_of c.args.lists.now c.loop-next.next ≡ choice_of lists places ∷ left_of c.args.lists.now c.moved_on.result = ap (left_of c.args.lists.now) c.in-Some.is ∙ c.moved_on.ensures.next in
+    let here = ap (λ us. m.value (bound_in c.args.env ++ choice_of lists us) (present_in c.args.env) (next_in c.args.env)) (sym c.as_slice.ensures.value) ∙ c.in_ok-value_for.ensures in (
+      c.moved_on.ensures.within,
+      c.loop-next.invariant.1 ∙ pass_more m (bound_in c.args.env) (present_in c.args.env) (next_in c.args.env) (left_of c.args.lists.now c.loop-next.next) (choice_of lists places) (left_of c.args.lists.now c.moved_on.result) are (tree_of c.in_ok-value_for.field-0) here,
+    )
+
+pub choices::chosen-returns-in_err-value_for : goal.choices::chosen-returns-in_err-value_for
+choices::chosen-returns-in_err-value_for t c =
+    let m = means (expr_of c.args.body.now) in
+    let lists = trees_in c.args.lists.now in
+    let us = c.as_slice.result.now in
+    let from = left_of c.args.lists.now c.loop-next.next in
+    let r = first_from lists us (within_here c.args.lists.now c.loop-next.next c.in-Some.places us c.in-Some.is c.as_slice.ensures.value c.loop-next.invariant.0) in
+    let are : from ≡ choice_of lists us ∷ r.0 = ap (left_of c.args.lists.now) c.in-Some.is ∙ ap (choices_from lists) (sym c.as_slice.ensures.value) ∙ r.1 in
+    let e = c.loop-next.invariant.1 ∙ choice_first m (bound_in c.args.env) (present_in c.args.env) (next_in c.args.env) from (choice_of lists us) r.0 are (map tree_of c.loop-next.values.items) in
+    subst (λ (o : Outcome (List Tree)). GivesBy (λ (v : Vec Value Global). map tree_of v.items) c.from_residual-in_err-value_for.result o) (sym e) (search rules)
+
+pub choices::chosen-returns : goal.choices::chosen-returns
+choices::chosen-returns t c =
+    let m = means (expr_of c.args.body.now) in
+    c.loop-next.invariant.1
+    ∙ ap (λ next. then_more (map tree_of c.loop-next.values.items) (each (λ d. m.value (bound_in c.args.env ++ d) (present_in c.args.env) (next_in c.args.env)) (left_of c.args.lists.now next))) c.in-None.is
+    ∙ ap (λ us. Ok us) (none_more (map tree_of c.loop-next.values.items))
+
+pub choices::chosen_once-returns-in_err-value_for : goal.choices::chosen_once-returns-in_err-value_for
+choices::chosen_once-returns-in_err-value_for t c =
+    let m = means (expr_of c.args.body.now) in
+    let lists = trees_in c.args.lists.now in
+    let us = c.as_slice.result.now in
+    let from = left_of c.args.lists.now c.loop-next.next in
+    let r = first_from lists us (within_here c.args.lists.now c.loop-next.next c.in-Some.places us c.in-Some.is c.as_slice.ensures.value c.loop-next.invariant.2) in
+    let are : from ≡ choice_of lists us ∷ r.0 = ap (left_of c.args.lists.now) c.in-Some.is ∙ ap (choices_from lists) (sym c.as_slice.ensures.value) ∙ r.1 in
+    let e = c.loop-next.invariant.3 ∙ choice_first m (bound_in c.args.env) (present_in c.args.env) (next_in c.args.env) from (choice_of lists us) r.0 are c.loop-next.invariant.0 in
+    subst (λ (o : Outcome (List Tree)). Gathers c.from_residual-in_err-value_for.result o) (sym e) (search rules)
+
+pub choices::chosen_once-returns : goal.choices::chosen_once-returns
+choices::chosen_once-returns t c =
+    let m = means (expr_of c.args.body.now) in
+    let kept = c.loop-next.invariant.0 in (
       kept,
-      c.loop-number.invariant.2
-          ∙ value_end m (bound_in c.args.env) (present_in c.args.env) (next_in c.args.env) (choices (trees_in c.args.lists.now)) c.loop-number.number kept
-          (c.in_ok-value.ensures ∙ ap (λ (o : Option Value). Ok (option_map tree_of o)) c.in-None.is),
-      c.loop-number.invariant.1,
+      c.loop-next.invariant.3
+          ∙ ap (λ next. then_more kept (each (λ d. m.value (bound_in c.args.env ++ d) (present_in c.args.env) (next_in c.args.env)) (left_of c.args.lists.now next))) c.in-None.is
+          ∙ ap (λ us. Ok us) (none_more kept),
+      c.loop-next.invariant.1,
     )
 
-pub choices::pass_over-loop-number-preserved : goal.choices::pass_over-loop-number-preserved
-choices::pass_over-loop-number-preserved t c =
+pub choices::pass_over-returns-in_err-value_for : goal.choices::pass_over-returns-in_err-value_for
+choices::pass_over-returns-in_err-value_for t c =
     let m = means (expr_of c.args.body.now) in
-    c.loop-number.invariant
-    ∙ pass_more m (bound_in c.args.env) (present_in c.args.env) (next_in c.args.env) (choices (trees_in c.args.lists.now)) c.loop-number.number (tree_of c.in-Some.value)
-    (c.in_ok-value.ensures ∙ ap (λ (o : Option Value). Ok (option_map tree_of o)) c.in-Some.is)
+    let lists = trees_in c.args.lists.now in
+    let us = c.as_slice.result.now in
+    let from = left_of c.args.lists.now c.loop-next.next in
+    let r = first_from lists us (within_here c.args.lists.now c.loop-next.next c.in-Some.places us c.in-Some.is c.as_slice.ensures.value c.loop-next.invariant.0) in
+    let are : from ≡ choice_of lists us ∷ r.0 = ap (left_of c.args.lists.now) c.in-Some.is ∙ ap (choices_from lists) (sym c.as_slice.ensures.value) ∙ r.1 in
+    let e = c.loop-next.invariant.1 ∙ pass_first m (bound_in c.args.env) (present_in c.args.env) (next_in c.args.env) from (choice_of lists us) r.0 are in
+    subst (λ (o : Outcome (Unit {0})). GivesBy (λ (u : Unit {0}). u) c.from_residual-in_err-value_for.result o) (sym e) (search rules)
 
-pub choices::pass_over-returns-in_err-value : goal.choices::pass_over-returns-in_err-value
-choices::pass_over-returns-in_err-value t c =
+pub choices::pass_over-returns : goal.choices::pass_over-returns
+choices::pass_over-returns t c =
     let m = means (expr_of c.args.body.now) in
-    let e = c.loop-number.invariant ∙ pass_first m (bound_in c.args.env) (present_in c.args.env) (next_in c.args.env) (choices (trees_in c.args.lists.now)) c.loop-number.number in
-    subst (λ (o : Outcome (Unit {0})). GivesBy (λ (u : Unit {0}). u) c.from_residual.result o) (sym e) (search rules)
+    c.loop-next.invariant.1 ∙ ap (λ next. nothing_of (each (λ d. m.value (bound_in c.args.env ++ d) (present_in c.args.env) (next_in c.args.env)) (left_of c.args.lists.now next))) c.in-None.is
 
-pub choices::pass_over-returns-in-None : goal.choices::pass_over-returns-in-None
-choices::pass_over-returns-in-None t c =
+pub choices::value_for-returns-then-lists : goal.choices::value_for-returns-then-lists
+choices::value_for-returns-then-lists t c =
     let m = means (expr_of c.args.body.now) in
-    c.loop-number.invariant
-    ∙ pass_end m (bound_in c.args.env) (present_in c.args.env) (next_in c.args.env) (choices (trees_in c.args.lists.now)) c.loop-number.number
-    (c.in_ok-value.ensures ∙ ap (λ (o : Option Value). Ok (option_map tree_of o)) c.in-None.is)
+    subst (λ us. Gives c.value_with.result (m.value (bound_in c.args.env ++ us) (present_in c.args.env) (next_in c.args.env))) (sym c.only_member.ensures) c.value_with.ensures
 
-pub choices::value_for_member-returns-in_ok-value_with-in-Some : goal.choices::value_for_member-returns-in_ok-value_with-in-Some
-choices::value_for_member-returns-in_ok-value_with-in-Some t c =
+pub choices::value_for_choice-returns : goal.choices::value_for_choice-returns
+choices::value_for_choice-returns t c =
     let m = means (expr_of c.args.body.now) in
-    let at = one_choice (map tree_of c.args.list.now) c.args.number ∙ ap (option_map (λ (x : Tree). x ∷ [])) (sym c.member_of.ensures ∙ ap (option_map (λ (v : Bor Value). tree_of v.now)) c.in-Some.is) in
-    value_here m (bound_in c.args.env) (present_in c.args.env) (next_in c.args.env) _ (tree_of c.in-Some.value.now ∷ []) (tree_of c.in_ok-value_with-in-Some.field-0) at c.in_ok-value_with-in-Some.ensures
-
-pub choices::value_for_member-returns-in_err-value_with-in-Some : goal.choices::value_for_member-returns-in_err-value_with-in-Some
-choices::value_for_member-returns-in_err-value_with-in-Some t c =
-    let m = means (expr_of c.args.body.now) in
-    let at = one_choice (map tree_of c.args.list.now) c.args.number ∙ ap (option_map (λ (x : Tree). x ∷ [])) (sym c.member_of.ensures ∙ ap (option_map (λ (v : Bor Value). tree_of v.now)) c.in-Some.is) in
-    subst (λ (o : Outcome (Option Tree)). GivesBy (λ (v : Option Value). option_map tree_of v) c.from_residual.result o) (sym (ap (λ (o : Option (List Tree)). value_at m (bound_in c.args.env) (present_in c.args.env) (next_in c.args.env) o) at)) (search rules)
-
-pub choices::value_for_member-returns-in-None : goal.choices::value_for_member-returns-in-None
-choices::value_for_member-returns-in-None t c =
-    let m = means (expr_of c.args.body.now) in
-    let at = one_choice (map tree_of c.args.list.now) c.args.number ∙ ap (option_map (λ (x : Tree). x ∷ [])) (sym c.member_of.ensures ∙ ap (option_map (λ (v : Bor Value). tree_of v.now)) c.in-None.is) in
-    ap (λ (o : Option (List Tree)). value_at m (bound_in c.args.env) (present_in c.args.env) (next_in c.args.env) o) at
-
-pub choices::value_for_choice-returns-in_ok-value_with_all-in-Some : goal.choices::value_for_choice-returns-in_ok-value_with_all-in-Some
-choices::value_for_choice-returns-in_ok-value_with_all-in-Some t c =
-    let m = means (expr_of c.args.body.now) in
-    let at = sym c.in_ok-choice.ensures.ok ∙ ap (option_map (λ (v : Vec Value Global). map tree_of v.items)) c.in-Some.is ∙ ap (λ us. Some (map tree_of us)) (sym c.as_slice.ensures.value) in
-    value_here m (bound_in c.args.env) (present_in c.args.env) (next_in c.args.env) _ (map tree_of c.as_slice.result.now) (tree_of c.in_ok-value_with_all-in-Some.field-0) at c.in_ok-value_with_all-in-Some.ensures
-
-pub choices::value_for_choice-returns-in_err-value_with_all-in-Some : goal.choices::value_for_choice-returns-in_err-value_with_all-in-Some
-choices::value_for_choice-returns-in_err-value_with_all-in-Some t c =
-    let m = means (expr_of c.args.body.now) in
-    let at = sym c.in_ok-choice.ensures.ok ∙ ap (option_map (λ (v : Vec Value Global). map tree_of v.items)) c.in-Some.is ∙ ap (λ us. Some (map tree_of us)) (sym c.as_slice.ensures.value) in
-    subst (λ (o : Outcome (Option Tree)). GivesBy (λ (v : Option Value). option_map tree_of v) c.from_residual-in_err-value_with_all-in-Some.result o) (sym (ap (λ (o : Option (List Tree)). value_at m (bound_in c.args.env) (present_in c.args.env) (next_in c.args.env) o) at)) (search rules)
-
-pub choices::value_for_choice-returns-in-None : goal.choices::value_for_choice-returns-in-None
-choices::value_for_choice-returns-in-None t c =
-    let m = means (expr_of c.args.body.now) in
-    ap (λ (o : Option (List Tree)). value_at m (bound_in c.args.env) (present_in c.args.env) (next_in c.args.env) o) (sym c.in_ok-choice.ensures.ok ∙ ap (option_map (λ (v : Vec Value Global). map tree_of v.items)) c.in-None.is)
+    subst (λ us. Gives c.value_with_all.result (m.value (bound_in c.args.env ++ us) (present_in c.args.env) (next_in c.args.env))) (ap (map tree_of) c.as_slice.ensures.value ∙ c.in_ok-choice.ensures.ok) c.value_with_all.ensures
 
 pub products::records-records_with-requires : goal.products::records-records_with-requires
 products::records-records_with-requires t c =

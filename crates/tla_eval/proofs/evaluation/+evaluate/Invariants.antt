@@ -16,6 +16,8 @@ use Rattle.tla_core.specs.ExprOf.{expr_of, parts_of_cores, fields_of_cores, arms
 use Rattle.tla_operators.specs.Evaluated.{tree_of_evaluated}
 use Rattle.tla_eval.specs.Private.Environment.{bound_in, present_in, next_in}
 use Rattle.tla_sets.specs.Elements.{elements_of}
+use Rattle.tla_sets.proofs.Chosen.{trees_in}
+use Rattle.tla_eval.proofs.Choices.{left_of, WithinLists}
 use Rattle.tla_core.specs.declared.expression.Core.{Core, size-Core}
 use Rattle.tla_eval.proofs.evaluation.+evaluate.Given as goal
 
@@ -196,9 +198,6 @@ decreases-choices::pass_over l = 2 ^ 66 * size-Core l.body.now + 10
 abbrev pub decreases-choices::value_for : goal.decreases-choices::value_for
 decreases-choices::value_for l = 2 ^ 66 * size-Core l.body.now + 9
 
-abbrev pub decreases-choices::value_for_member : goal.decreases-choices::value_for_member
-decreases-choices::value_for_member l = 2 ^ 66 * size-Core l.body.now + 8
-
 abbrev pub decreases-choices::value_for_choice : goal.decreases-choices::value_for_choice
 decreases-choices::value_for_choice l = 2 ^ 66 * size-Core l.body.now + 8
 
@@ -282,23 +281,29 @@ invariant-choices::evaluated_each-loop-core l =
     each (λ (m : Meaning). m.value (bound_in l.env) (present_in l.env) (next_in l.env)) (parts_of_cores l.cores)
     ≡ (each (λ (m : Meaning). m.value (bound_in l.env) (present_in l.env) (next_in l.env)) (parts_of_cores (drop l.core-index l.cores)) >>= λ ys. Ok (map tree_of_evaluated l.values.items ++ ys))
 
-abbrev pub invariant-choices::chosen-loop-number : goal.invariant-choices::chosen-loop-number
-invariant-choices::chosen-loop-number l =
+abbrev pub invariant-choices::chosen-loop-next : goal.invariant-choices::chosen-loop-next
+invariant-choices::chosen-loop-next l =
     let f : List Tree → Outcome Tree = λ c. (means (expr_of l.body)).value (bound_in l.env ++ c) (present_in l.env) (next_in l.env) in
-    let all = choices (map (λ (r : Bor (List Value)). map tree_of r.now) l.lists) in
-    each f all ≡ then_more (map tree_of l.values.items) (each f (drop l.number all))
+    WithinLists l.lists l.next × (each f (choices (trees_in l.lists)) ≡ then_more (map tree_of l.values.items) (each f (left_of l.lists l.next)))
 
-abbrev pub invariant-choices::chosen_once-loop-number : goal.invariant-choices::chosen_once-loop-number
-invariant-choices::chosen_once-loop-number l =
-    let f : List Tree → Outcome Tree = λ c. (means (expr_of l.body)).value (bound_in l.env ++ c) (present_in l.env) (next_in l.env) in
-    let all = choices (map (λ (r : Bor (List Value)). map tree_of r.now) l.lists) in
-    (kept : List Tree) × IsGathered kept l.values × (each f all ≡ then_more kept (each f (drop l.number all)))
+abbrev pub decreases-choices::chosen-loop-next : goal.decreases-choices::chosen-loop-next
+decreases-choices::chosen-loop-next l = length (left_of l.lists l.next)
 
-abbrev pub invariant-choices::pass_over-loop-number : goal.invariant-choices::pass_over-loop-number
-invariant-choices::pass_over-loop-number l =
+abbrev pub invariant-choices::chosen_once-loop-next : goal.invariant-choices::chosen_once-loop-next
+invariant-choices::chosen_once-loop-next l =
     let f : List Tree → Outcome Tree = λ c. (means (expr_of l.body)).value (bound_in l.env ++ c) (present_in l.env) (next_in l.env) in
-    let all = choices (map (λ (r : Bor (List Value)). map tree_of r.now) l.lists) in
-    nothing_of (each f all) ≡ nothing_of (each f (drop l.number all))
+    (kept : List Tree) × IsGathered kept l.values × WithinLists l.lists l.next × (each f (choices (trees_in l.lists)) ≡ then_more kept (each f (left_of l.lists l.next)))
+
+abbrev pub decreases-choices::chosen_once-loop-next : goal.decreases-choices::chosen_once-loop-next
+decreases-choices::chosen_once-loop-next l = length (left_of l.lists l.next)
+
+abbrev pub invariant-choices::pass_over-loop-next : goal.invariant-choices::pass_over-loop-next
+invariant-choices::pass_over-loop-next l =
+    let f : List Tree → Outcome Tree = λ c. (means (expr_of l.body)).value (bound_in l.env ++ c) (present_in l.env) (next_in l.env) in
+    WithinLists l.lists l.next × (nothing_of (each f (choices (trees_in l.lists))) ≡ nothing_of (each f (left_of l.lists l.next)))
+
+abbrev pub decreases-choices::pass_over-loop-next : goal.decreases-choices::pass_over-loop-next
+decreases-choices::pass_over-loop-next l = length (left_of l.lists l.next)
 
 abbrev pub invariant-updates::updated_by_all-loop-update : goal.invariant-updates::updated_by_all-loop-update
 invariant-updates::updated_by_all-loop-update l =
