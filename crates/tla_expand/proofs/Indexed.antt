@@ -51,7 +51,7 @@ found_behind_entry es k e x b g r =
     rw p at (found_entry es (nowhere ∷ []) k e x b g (omega arith))
 
 -- ---- what is found is what a name means
-entry_there : (es : List Entry) (k : ℕ) → k < length es → (e : Entry) × (e ≡ get_or es k e)
+pub entry_there : (es : List Entry) (k : ℕ) → k < length es → (e : Entry) × (e ≡ get_or es k e)
 entry_there [] k h = absurd (omega arith)
 entry_there (e ∷ es) zero h = (e, refl)
 entry_there (e ∷ es) (suc k) h = entry_there es k (omega arith)

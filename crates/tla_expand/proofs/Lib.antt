@@ -33,3 +33,8 @@ pub mod Walking
 pub mod Hashes
 pub mod Indexed
 pub mod OwnForms
+pub mod Weighing
+pub mod Bounding
+pub mod TreeSizes
+pub mod Lighter
+pub mod WalkWeights

@@ -50,7 +50,7 @@ use Rattle.tla_expand.proofs.Lists.{each_in}
 use Rattle.tla_expand.proofs.Made.{many_shown}
 
 -- ---- lists
-each_append : {A : Type 0} (P : A → Type 0) (xs ys : List A) → EachIs P xs → EachIs P ys → EachIs P (xs ++ ys)
+pub each_append : {A : Type 0} (P : A → Type 0) (xs ys : List A) → EachIs P xs → EachIs P ys → EachIs P (xs ++ ys)
 each_append P [] ys h k = k
 each_append P (x ∷ xs) ys h k = (h.0, each_append P xs ys h.1 k)
 

@@ -3,6 +3,8 @@ pub mod Forms
 pub mod Parameters
 pub mod Known
 pub mod Binders
+pub mod Weights
+pub mod Bounds
 pub mod Gives
 pub mod Walks
 pub mod Index

@@ -1,10 +1,12 @@
 //! Scopes in memory.
 
-ghost use Rattle.std.specs.Prelude.{◌≡◌, ◌≤◌, ◌<◌, length, get_or, IfSome, IfNone, IfOk, OnOk, IfErr, Some, ◌++◌, ◌∷◌, []};
+ghost use Rattle.std.specs.Prelude.{◌≡◌, ◌≤◌, ◌<◌, ◌+◌, ℕ, length, get_or, IfSome, IfNone, IfOk, OnOk, IfErr, Some, ◌++◌, ◌∷◌, []};
 ghost use Rattle.tla_expand.specs.declared.arena.Entry as arena_entry;
 ghost use Rattle.tla_expand.specs.Meanings.{standard, with_parameters};
 ghost use Rattle.tla_expand.specs.Scopes.{AreLinked, IsBelow, Extends, scope_at, entry_scope, meaning_of, arguments_in};
 ghost use Rattle.tla_expand.specs.Listed.{listed, lent_count};
+ghost use Rattle.tla_expand.specs.Private.Weights.{weight};
+ghost use Rattle.tla_expand.specs.Private.Bounds.{bound_of, entry_bound, bound_at, size_all};
 
 use crate::entries::Entries;
 use crate::failure::Failure;
@@ -62,6 +64,11 @@ pub(crate) fn position(entries: &Entries<'_, '_>, scope: usize, name: &[u8]) -> 
         → scope_at (listed entries.now) scope name.now
         ≡ meaning_of (scope_at (listed entries.now)) e.what) }
     ensures there { IfSome result (λ k. k < length (listed entries.now)) }
+    ensures bound { IfSome result (λ k.
+        (e : arena_entry.Entry) (m : ℕ)
+        → e ≡ get_or (listed entries.now) k e
+        → bound_of (bound_at (listed entries.now)) e.what m
+        ≤ bound_at (listed entries.now) scope m) }
     ensures none { IfNone result
         (scope_at (listed entries.now) scope name.now ≡ standard name.now) }
 {
@@ -85,6 +92,10 @@ pub(crate) fn find<'a>(entries: &Entries<'_, 'a>, scope: usize, name: &[u8]) -> 
         scope_at (listed entries.now) scope name.now
         ≡ meaning_of (scope_at (listed entries.now)) e.what) }
     ensures below { IfSome result (λ e. IsBelow (length (listed entries.now)) e.what e.rest) }
+    ensures bound { IfSome result (λ e.
+        (m : ℕ)
+        → bound_of (bound_at (listed entries.now)) e.what m
+        ≤ bound_at (listed entries.now) scope m) }
     ensures none { IfNone result
         (scope_at (listed entries.now) scope name.now ≡ standard name.now) }
 {
@@ -104,6 +115,9 @@ pub(crate) fn enter<'a>(entries: &mut Entries<'_, 'a>, entry: Entry<'a>) -> Resu
         scope_at (listed entries.new) s
         ≡ entry_scope (scope_at (listed entries.old)) entry.entry) }
     ensures end { IfOk result (λ s. s ≡ length (listed entries.new)) }
+    ensures bound { IfOk result (λ s.
+        bound_at (listed entries.new) s
+        ≡ entry_bound (bound_at (listed entries.old)) entry.entry) }
     ensures own { OnOk result (lent_count entries.new ≡ lent_count entries.old) }
     ensures err { IfErr result (λ e. e ≡ Failure.Memory) }
 {
@@ -131,6 +145,11 @@ pub(crate) fn bind<'a>(
         (arguments_in arguments.now (scope_at (listed entries.old) scope))
         (scope_at (listed entries.old) home)
         ≡ Some (scope_at (listed entries.new) s)) }
+    ensures weight { IfOk result (λ s.
+        (m : ℕ)
+        → bound_at (listed entries.new) s m
+        ≤ bound_at (listed entries.old) home m
+        + weight (size_all arguments.now) (bound_at (listed entries.old) scope)) }
     ensures err { IfErr result (λ e. e ≡ Failure.Memory) }
 {
     let mut at = home;

@@ -1,7 +1,7 @@
 //! Whether an expression is a nested tuple that covers the variables. It is examined part by part, without making the
 //! tuple, which may be large. A name's meaning is examined once.
 
-ghost use Rattle.std.specs.Prelude.{◌≡◌, ◌≤◌, ◌++◌, ◌∷◌, [], length, true, false, nat_eq, Option, IfOk, OnOk, IfErr, IfSome, IfNone, Some};
+ghost use Rattle.std.specs.Prelude.{◌≡◌, ◌≤◌, ◌+◌, ◌++◌, ◌∷◌, [], length, true, false, nat_eq, Option, IfOk, OnOk, IfErr, IfSome, IfNone, Some};
 ghost use Rattle.indexmap.specs.IndexSet.{insert_key};
 ghost use Rattle.tla_core.specs.Expr as expr;
 ghost use Rattle.tla_tree.specs.View.{view};
@@ -10,9 +10,10 @@ ghost use Rattle.tla_expand.specs.Expand as expansion;
 ghost use Rattle.tla_expand.specs.Primes.{with_primes};
 ghost use Rattle.tla_expand.specs.Private.Gives.{head_gives, reduction_gives, IsWithin};
 ghost use Rattle.tla_expand.specs.Private.Walks as walks;
-ghost use Rattle.tla_expand.specs.Private.Walks.{IsNamed, IsAmong, IsAdded, IsInside, ArePushed, IsWalkTo, IsWalk, GoesOn, HasEach};
+ghost use Rattle.tla_expand.specs.Private.Walks.{EachIs, IsNamed, IsAmong, IsAdded, IsInside, ArePushed, IsWalkTo, IsWalk, GoesOn, HasEach};
 ghost use Rattle.tla_expand.specs.Scopes.{AreLinked, scope_at};
 ghost use Rattle.tla_expand.specs.Listed.{listed};
+ghost use Rattle.tla_expand.specs.Private.Bounds.{head_weight, reduction_weight, weight_at, visits_weight, HasLess};
 
 use crate::arena::position;
 use crate::entries::Entries;
@@ -135,6 +136,10 @@ fn go_into<'a>(walk: &mut Walk<'_, 'a>, head: Head<'a>) -> Result<bool, Failure>
         walk.old.met.keys (head_gives (listed walk.old.entries) head.entry 0)
         → GoesOn whole (listed walk.new.entries) walk.new.left.items walk.new.gone.keys
         walk.new.met.keys b) }
+    ensures weight { IfOk result (λ b.
+        visits_weight (listed walk.new.entries) walk.new.left.items
+        ≤ visits_weight (listed walk.old.entries) walk.old.left.items
+        + head_weight (listed walk.old.entries) head.entry) }
     ensures err { IfErr result (λ f. f ≡ Failure.Memory) }
 {
     match piece_of(head) {
@@ -159,6 +164,10 @@ fn go_along<'a>(walk: &mut Walk<'_, 'a>, reduction: Reduction<'a>) -> Result<boo
         walk.old.met.keys (reduction_gives (listed walk.old.entries) reduction.entry 0)
         → GoesOn whole (listed walk.new.entries) walk.new.left.items walk.new.gone.keys
         walk.new.met.keys b) }
+    ensures weight { IfOk result (λ b.
+        visits_weight (listed walk.new.entries) walk.new.left.items
+        ≤ visits_weight (listed walk.old.entries) walk.old.left.items
+        + reduction_weight (listed walk.old.entries) reduction.entry) }
     ensures err { IfErr result (λ f. f ≡ Failure.Memory) }
 {
     match reduction {
@@ -188,6 +197,11 @@ fn go_from<'a>(
         (scope_at (listed walk.old.entries) scope) 0))
         → GoesOn whole (listed walk.new.entries) walk.new.left.items walk.new.gone.keys
         walk.new.met.keys b) }
+    ensures less { EachIs (IsInside (listed walk.old.entries)) walk.old.left.items
+        → IfOk result (λ b.
+        HasLess (listed walk.new.entries) walk.new.left.items 1
+        (visits_weight (listed walk.old.entries) walk.old.left.items
+        + weight_at (listed walk.old.entries) tree.entry.now scope) b) }
     ensures err { IfErr result (λ f. f ≡ Failure.Memory) }
 {
     match next_reduction(&mut walk.entries, tree, scope, primes) {
@@ -218,6 +232,11 @@ fn look_at_name<'a>(
         (scope_at (listed walk.old.entries) scope) 0))
         → GoesOn whole (listed walk.new.entries) walk.new.left.items walk.new.gone.keys
         walk.new.met.keys b) }
+    ensures less { EachIs (IsInside (listed walk.old.entries)) walk.old.left.items
+        → IfOk result (λ b.
+        HasLess (listed walk.new.entries) walk.new.left.items 0
+        (visits_weight (listed walk.old.entries) walk.old.left.items
+        + weight_at (listed walk.old.entries) tree.entry.now scope) b) }
     ensures err { IfErr result (λ f. f ≡ Failure.Memory) }
 {
     let gone = Gone { entry, primes };
@@ -246,6 +265,11 @@ fn look_at<'a>(
         (scope_at (listed walk.old.entries) scope) 0))
         → GoesOn whole (listed walk.new.entries) walk.new.left.items walk.new.gone.keys
         walk.new.met.keys b) }
+    ensures less { EachIs (IsInside (listed walk.old.entries)) walk.old.left.items
+        → IfOk result (λ b.
+        HasLess (listed walk.new.entries) walk.new.left.items 0
+        (visits_weight (listed walk.old.entries) walk.old.left.items
+        + weight_at (listed walk.old.entries) tree.entry.now scope) b) }
     ensures err { IfErr result (λ f. f ≡ Failure.Memory) }
 {
     match named(&walk.entries, tree, scope) {
@@ -265,6 +289,10 @@ fn go_on<'a>(walk: &mut Walk<'_, 'a>, left: Visit<'a>) -> Result<bool, Failure>
         walk.old.gone.keys walk.old.met.keys
         → GoesOn whole (listed walk.new.entries) walk.new.left.items walk.new.gone.keys
         walk.new.met.keys b) }
+    ensures less { EachIs (IsInside (listed walk.old.entries)) walk.old.left.items
+        → IfOk result (λ b.
+        HasLess (listed walk.new.entries) walk.new.left.items 0
+        (visits_weight (listed walk.old.entries) (walk.old.left.items ++ left.entry ∷ [])) b) }
     ensures err { IfErr result (λ f. f ≡ Failure.Memory) }
 {
     match left {
@@ -319,7 +347,7 @@ fn go_through<'a>(
     ensures err { IfErr result (λ f. f ≡ Failure.Memory) }
 {
     push(&mut walk.left, Visit::Part(tree, scope, Primes::Never))?;
-    for _turn in 0..u64::MAX {
+    loop {
         let Some(left) = walk.left.pop() else {
             return Ok(has_each(&walk.met, variables));
         };
@@ -328,7 +356,6 @@ fn go_through<'a>(
             return Ok(false);
         }
     }
-    Err(Failure::Memory)
 }
 
 /// Whether an expression in a scope is a variable or a nested tuple of variables that covers the first `variables`. The

@@ -8,6 +8,8 @@ ghost use Rattle.tla_expand.specs.Expand.{of_quantifier};
 ghost use Rattle.tla_expand.specs.Private.Forms.{GivesForm, GivesPrefix};
 ghost use Rattle.tla_expand.specs.Private.Forms as spec;
 ghost use Rattle.tla_expand.specs.Scopes.{arguments_in};
+ghost use Rattle.tla_expand.specs.Private.Bounds.{HasFewer};
+ghost use Rattle.tla_tree.specs.Tree.{Tree};
 
 use crate::builders::place_of;
 use crate::nodes::{
@@ -47,7 +49,8 @@ fn of_quantifier(quantifier: Quantifier) -> Binding
 
 /// The form of a constant, a list, a junction, a field, an infix operator or an IF.
 fn plain_form<'a>(tree: &'a Expr) -> OwnForm<'a>
-    ensures { GivesForm (λ e. spec.is_plain e ≡ false) result (view tree.now) }
+    ensures form { GivesForm (λ e. spec.is_plain e ≡ false) result (view tree.now) }
+    ensures parts { HasFewer result (view tree.now) }
 {
     match tree {
         Expr::Number(at, number) => OwnForm::Form(Form::Leaf(place_of(*at), Leaf::Number(*number))),
@@ -77,7 +80,8 @@ fn plain_form<'a>(tree: &'a Expr) -> OwnForm<'a>
 
 /// What a prefix operator makes of its operand.
 fn prefix_form<'a>(at: Place, operator: Prefix, operand: &'a Box<Expr>) -> OwnForm<'a>
-    ensures { GivesPrefix result at operator (view operand.now.value) }
+    ensures form { GivesPrefix result at operator (view operand.now.value) }
+    ensures parts { (e : Tree) → HasFewer result e }
 {
     if let Prefix::Unchanged = operator {
         return OwnForm::Form(Form::Unchanged(at, operand));
@@ -90,7 +94,8 @@ fn prefix_form<'a>(at: Place, operator: Prefix, operand: &'a Box<Expr>) -> OwnFo
 
 /// The form of an expression that binds names, an application, a CASE or a prefix operator.
 fn other_form<'a>(tree: &'a Expr) -> OwnForm<'a>
-    ensures { GivesForm (λ e. spec.is_other e ≡ false) result (view tree.now) }
+    ensures form { GivesForm (λ e. spec.is_other e ≡ false) result (view tree.now) }
+    ensures parts { HasFewer result (view tree.now) }
 {
     match tree {
         Expr::Unary(at, operator, operand) => prefix_form(place_of(*at), *operator, operand),
@@ -125,7 +130,8 @@ fn other_form<'a>(tree: &'a Expr) -> OwnForm<'a>
 
 /// The form of a set of functions, a record, a set of records, a product, an EXCEPT, or an action with a subscript.
 fn made_form<'a>(tree: &'a Expr) -> OwnForm<'a>
-    ensures { GivesForm (λ e. spec.is_made e ≡ false) result (view tree.now) }
+    ensures form { GivesForm (λ e. spec.is_made e ≡ false) result (view tree.now) }
+    ensures parts { HasFewer result (view tree.now) }
 {
     match tree {
         Expr::FunctionSet(at, domain, range) => {
@@ -154,7 +160,8 @@ fn made_form<'a>(tree: &'a Expr) -> OwnForm<'a>
 
 /// The form of an expression.
 pub(crate) fn form_of<'a>(tree: &'a Expr) -> OwnForm<'a>
-    ensures { GivesForm (λ e. spec.means_another e ≡ true) result (view tree.now) }
+    ensures form { GivesForm (λ e. spec.means_another e ≡ true) result (view tree.now) }
+    ensures parts { HasFewer result (view tree.now) }
 {
     match plain_form(tree) {
         OwnForm::Goes => match other_form(tree) {

@@ -13,6 +13,8 @@ ghost use Rattle.tla_expand.specs.Arguments.{argument_at};
 ghost use Rattle.tla_expand.specs.Private.Known.{Layers, Means, IsRound, IsFound, IsGiven, IsSummary, IsOperator, IsTurn, IsUse, GivesBack, depth, with_layer, with_count, reached_in, defined_name};
 ghost use Rattle.tla_expand.specs.Scopes.{AreLinked, scope_at, arguments_in};
 ghost use Rattle.tla_expand.specs.Listed.{listed};
+ghost use Rattle.tla_expand.specs.Private.Weights.{size};
+ghost use Rattle.tla_expand.specs.Private.Bounds.{size_all};
 
 use crate::arena::{Projection, What, find};
 use crate::builders::place_of;
@@ -92,6 +94,7 @@ pub(crate) fn given_argument<'a>(
         (σ : Scope) (p : Place) (d : ℕ)
         → backs.given count given p (arguments_in arguments.now σ) d
         ≡ with_primes given.primes (expand (view e.now) σ d)) }
+    ensures size { IfSome result (λ e. size (view e.now) ≤ size_all arguments.now) }
     ensures none { IfNone result
         ((σ : Scope) (p : Place) (d : ℕ)
         → backs.given count given p (arguments_in arguments.now σ) d ≡ None) }

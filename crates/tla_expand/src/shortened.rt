@@ -9,6 +9,8 @@ ghost use Rattle.tla_expand.specs.Expand.{expand};
 ghost use Rattle.tla_expand.specs.Private.Parameters.{IsAbsent, IsLast};
 ghost use Rattle.tla_expand.specs.Scopes.{AreLinked, scope_at, arguments_in};
 ghost use Rattle.tla_expand.specs.Listed.{listed};
+ghost use Rattle.tla_expand.specs.Private.Weights.{size};
+ghost use Rattle.tla_expand.specs.Private.Bounds.{size_all};
 
 use crate::arena::{What, find};
 use crate::entries::Entries;
@@ -41,7 +43,8 @@ fn chosen<'a>(
 ) -> Option<&'a Expr>
     requires linked { AreLinked (listed entries.now) }
     requires within { scope ≤ length (listed entries.now) }
-    ensures { IfSome result (λ e.
+    ensures size { IfSome result (λ e. size (view e.now) ≤ size_all arguments.now) }
+    ensures same { IfSome result (λ e.
         (σ : Scope) (p : Place) (d : ℕ)
         → scope_at (listed entries.now) scope name.now p (arguments_in arguments.now σ) d
         ≡ expand (view e.now) σ d) }
@@ -65,7 +68,8 @@ fn part_of<'a>(
 ) -> Option<&'a Expr>
     requires linked { AreLinked (listed entries.now) }
     requires within { scope ≤ length (listed entries.now) }
-    ensures { IfSome result (λ e.
+    ensures size { IfSome result (λ e. size (view e.now) ≤ size (view body.now)) }
+    ensures same { IfSome result (λ e.
         (args : List Argument) (σ : Scope) (d : ℕ)
         → with_parameters parameters.now args (scope_at (listed entries.now) scope) ≡ Some σ
         → expand (view e.now) σ d ≡ expand (view body.now) σ d) }
@@ -92,7 +96,8 @@ pub(crate) fn shortened<'a>(
 ) -> &'a Expr
     requires linked { AreLinked (listed entries.now) }
     requires within { scope ≤ length (listed entries.now) }
-    ensures { operator parameters.now (expand (view result.now))
+    ensures size { size (view result.now) ≤ size (view body.now) }
+    ensures same { operator parameters.now (expand (view result.now))
         (scope_at (listed entries.now) scope)
         ≡ operator parameters.now (expand (view body.now)) (scope_at (listed entries.now) scope) }
 {

@@ -1,6 +1,6 @@
 //! From an expression to the form that it means.
 
-ghost use Rattle.std.specs.Prelude.{◌≡◌, ◌≤◌, length, ℕ, true, List, map, IfOk, OnOk, IfErr};
+ghost use Rattle.std.specs.Prelude.{◌≡◌, ◌≤◌, ◌<◌, ◌+◌, length, ℕ, true, List, map, IfOk, OnOk, IfErr};
 ghost use Rattle.tla_tree.specs.View.{view, definition_view};
 ghost use Rattle.tla_tree.specs.Tree.{definitions as definitions_of};
 ghost use Rattle.tla_expand.specs.declared.arena.Entry as arena_entry;
@@ -9,6 +9,8 @@ ghost use Rattle.tla_expand.specs.Expand.{expand, definitions_in, definition_in}
 ghost use Rattle.tla_expand.specs.Scopes.{AreLinked, IsBelow, Extends, scope_at, entry_scope, meaning_of, arguments_in};
 ghost use Rattle.tla_expand.specs.Private.Gives.{reduction_gives, head_gives, IsAlone, IsWithin, Explains};
 ghost use Rattle.tla_expand.specs.Private.Forms.{means_another};
+ghost use Rattle.tla_expand.specs.Private.Weights.{size, size_definition, size_definitions, weight, with_arguments, with_definition, with_definitions, IsUnder};
+ghost use Rattle.tla_expand.specs.Private.Bounds.{bound_of, entry_bound, bound_at, size_all, weight_at, form_size, reduction_weight};
 ghost use Rattle.tla_expand.specs.Primes.{with_primes};
 ghost use Rattle.tla_expand.specs.Listed.{listed};
 
@@ -51,6 +53,7 @@ fn use_of_module<'a>(
     primes: Primes,
 ) -> Result<Head<'a>, Failure>
     ensures scope { IfOk result (λ h. h.scope ≡ scope) }
+    ensures alone { IfOk result (λ h. form_size h.form ≡ 0) }
     ensures same { IfOk result (λ h.
         (es : List arena_entry.Entry) (d : ℕ)
         → with_primes primes
@@ -75,6 +78,7 @@ fn use_of_builtin<'a>(
     primes: Primes,
 ) -> Result<Head<'a>, Failure>
     ensures scope { IfOk result (λ h. h.scope ≡ scope) }
+    ensures alone { IfOk result (λ h. form_size h.form ≡ 0) }
     ensures same { IfOk result (λ h.
         (es : List arena_entry.Entry) (d : ℕ)
         → with_primes primes
@@ -115,6 +119,9 @@ fn use_alone<'a>(
         (meaning_of (scope_at es) what.entry place
         (arguments_in arguments.now (scope_at es scope)) d)
         ≡ reduction_gives es s d) }
+    ensures bound { IfOk result (λ s.
+        (es : List arena_entry.Entry) (m : ℕ)
+        → reduction_weight es s ≤ bound_of (bound_at es) what.entry m) }
     ensures err { IfErr result (λ e.
         (at : ℕ → Scope) (σ : Scope)
         → Explains e (λ d. meaning_of at what.entry place (arguments_in arguments.now σ) d)) }
@@ -166,6 +173,11 @@ pub(crate) fn use_of<'a>(
         (scope_at (listed entries.old) scope name.now place
         (arguments_in arguments.now (scope_at (listed entries.old) scope)) d)
         ≡ reduction_gives (listed entries.new) s d) }
+    ensures less { IfOk result (λ s.
+        (w : ℕ)
+        → w ≡ weight (size_all arguments.now) (bound_at (listed entries.old) scope)
+        → reduction_weight (listed entries.new) s
+        ≤ w + bound_at (listed entries.old) scope w) }
     ensures err { IfErr result (λ e.
         Explains e (λ d.
         scope_at (listed entries.old) scope name.now place
@@ -210,6 +222,12 @@ fn define<'a>(
         definitions_in (definitions_of (map definition_view definitions.now))
         (scope_at (listed entries.old) scope)
         ≡ scope_at (listed entries.new) s) }
+    ensures bound { IfOk result (λ s.
+        (n : ℕ)
+        → size_definitions (definitions_of (map definition_view definitions.now)) ≤ n
+        → IsUnder (bound_at (listed entries.new) s)
+        (with_definitions (weight n) (length definitions.now)
+        (bound_at (listed entries.old) scope))) }
     ensures err { IfErr result (λ e. e ≡ Failure.Memory) }
 {
     let mut at = scope;
@@ -232,6 +250,10 @@ fn operator_of<'a>(
     ensures below { IsBelow scope result scope }
     ensures same { meaning_of (scope_at (listed entries.now)) result
         ≡ operator parameters.now (expand (view body.now)) (scope_at (listed entries.now) scope) }
+    ensures bound { (n m : ℕ)
+        → size (view body.now) ≤ n
+        → bound_of (bound_at (listed entries.now)) result m
+        ≤ weight n (with_arguments m (bound_at (listed entries.now) scope)) }
 {
     match gives(entries, scope, parameters, body) {
         Some(given) => What::Gives(parameters.len(), given),
@@ -254,6 +276,10 @@ pub(crate) fn entry_of<'a>(
     ensures below { IsBelow scope result.what result.rest }
     ensures scope { entry_scope (scope_at (listed entries.now)) result
         ≡ definition_in (definition_view definition.now) (scope_at (listed entries.now) scope) }
+    ensures bound { (n : ℕ)
+        → size_definition (definition_view definition.now) ≤ n
+        → IsUnder (entry_bound (bound_at (listed entries.now)) result)
+        (with_definition (weight n) (bound_at (listed entries.now) scope)) }
 {
     match definition {
         Definition::Operator(name, parameters, body) => {
@@ -289,6 +315,8 @@ fn go<'a>(
         (d : ℕ)
         → with_primes primes (expand (view tree.now) (scope_at (listed entries.old) scope) d)
         ≡ reduction_gives (listed entries.new) s d) }
+    ensures less { IfOk result (λ s.
+        reduction_weight (listed entries.new) s + 1 < weight_at (listed entries.old) tree.now scope) }
     ensures err { IfErr result (λ e.
         Explains e (λ d. expand (view tree.now) (scope_at (listed entries.old) scope) d)) }
 {
@@ -329,6 +357,8 @@ pub(crate) fn next_reduction<'a>(
         (d : ℕ)
         → with_primes primes (expand (view tree.now) (scope_at (listed entries.old) scope) d)
         ≡ reduction_gives (listed entries.new) s d) }
+    ensures less { IfOk result (λ s.
+        reduction_weight (listed entries.new) s + 1 < weight_at (listed entries.old) tree.now scope) }
     ensures err { IfErr result (λ e.
         Explains e (λ d. expand (view tree.now) (scope_at (listed entries.old) scope) d)) }
 {
@@ -362,6 +392,7 @@ fn give_back<'a>(entries: &mut Entries<'_, 'a>, kept: usize, scope: usize)
     ensures linked { AreLinked (listed entries.new) }
     ensures within { scope ≤ length (listed entries.new) }
     ensures same { scope_at (listed entries.new) scope ≡ scope_at (listed entries.old) scope }
+    ensures bound { bound_at (listed entries.new) scope ≡ bound_at (listed entries.old) scope }
     ensures extends { (es : List arena_entry.Entry)
         → length es ≤ kept
         → Extends (listed entries.old) es
@@ -438,7 +469,7 @@ pub(crate) fn find_head<'a>(
     let mut at = scope;
     let mut with = primes;
     let mut primed = None;
-    for _turn in 0..u64::MAX {
+    loop {
         match next_reduction(entries, tree, at, with)? {
             Reduction::Ends(head) => return Ok(Head { primed, ..head }),
             Reduction::Goes(next, inner, more) => {
@@ -450,5 +481,4 @@ pub(crate) fn find_head<'a>(
             }
         }
     }
-    Err(Failure::Memory)
 }

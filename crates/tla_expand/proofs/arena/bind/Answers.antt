@@ -2,6 +2,7 @@ use Rattle.std.proofs.Common.{arith, ◌∙◌, ap, sym}
 use Rattle.tla_tree.specs.declared.word.Written.{Written}
 use Rattle.tla_expand.proofs.Binds.{bind_more, extends_more}
 use Rattle.tla_expand.specs.Listed.{listed}
+use Rattle.tla_expand.proofs.Lighter.{bind_bound}
 use Rattle.tla_expand.proofs.arena.bind.Goals as goal
 
 pub loop-i-preserved : goal.loop-i-preserved
@@ -12,4 +13,8 @@ loop-i-preserved c =
       extends = extends_more (listed c.args.entries.now) (listed c.loop-i.entries) (listed c.enter.new.entries) _ c.loop-i.invariant.extends e.added;
       within = omega arith;
       same = bind_more (listed c.args.entries.now) (listed c.loop-i.entries) (listed c.enter.new.entries) c.args.parameters.now c.args.arguments.now c.loop-i.i c.loop-i.at c.in_ok-at.at c.args.scope c.index-parameters-i.result c.as_bytes.result.now c.index-arguments-i.result (omega arith) c.requires.same c.index-parameters-i.is (c.as_bytes.ensures ∙ ap (λ (w : Written). w.word) (sym c.index-parameters-i.is)) c.index-arguments-i.is c.loop-i.invariant.extends c.requires.scope e.scope ∙ c.loop-i.invariant.same;
+      weight = λ m. bind_bound (listed c.args.entries.now) (listed c.loop-i.entries) (listed c.enter.new.entries) c.args.arguments.now c.loop-i.i c.loop-i.at c.in_ok-at.at c.args.scope m _ c.index-arguments-i.result (omega arith) c.index-arguments-i.is c.loop-i.invariant.extends c.requires.scope e.bound (c.loop-i.invariant.weight m);
     }
+
+pub returns-clause-weight : goal.returns-clause-weight
+returns-clause-weight c = λ m. omega (arith, c.loop-i.invariant.weight m)

@@ -1,6 +1,7 @@
 use Rattle.std.proofs.Common.{◌≡◌, ◌∙◌, ap, length-append, length, ◌+◌, ◌++◌, ◌∷◌, []}
 use Rattle.tla_expand.specs.Listed.{listed}
 use Rattle.tla_expand.proofs.Links.{are_linked_append, below_rest, scope_new}
+use Rattle.tla_expand.proofs.Bounding.{bound_new}
 use Rattle.tla_expand.proofs.arena.enter.Goals as goal
 
 pub push-requires : goal.push-requires
@@ -15,3 +16,9 @@ returns-clause-scope c =
     let p = c.in_ok-push.ensures.ok in
     let r : c.len.result ≡ length (listed c.args.entries.now) + 1 = c.len.ensures ∙ ap length p ∙ length-append (listed c.args.entries.now) (c.args.entry ∷ []) in
     rw (p, r) (scope_new (listed c.args.entries.now) c.args.entry)
+
+pub returns-clause-bound : goal.returns-clause-bound
+returns-clause-bound c =
+    let p = c.in_ok-push.ensures.ok in
+    let r : c.len.result ≡ length (listed c.args.entries.now) + 1 = c.len.ensures ∙ ap length p ∙ length-append (listed c.args.entries.now) (c.args.entry ∷ []) in
+    rw (p, r) (bound_new (listed c.args.entries.now) c.args.entry)

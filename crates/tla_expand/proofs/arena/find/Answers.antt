@@ -11,3 +11,6 @@ returns-in-Some-clause-below c =
     let e = c.node.result.now.entry in
     below_more c.in-Some.at (length (listed c.args.entries.now)) e.what e.rest (omega (arith, c.in-Some.ensures.there))
     (below_at (listed c.args.entries.now) c.in-Some.at e c.requires.linked c.in-Some.ensures.there c.node.ensures.entry)
+
+pub returns-in-Some-clause-bound : goal.returns-in-Some-clause-bound
+returns-in-Some-clause-bound c = λ m. c.in-Some.ensures.bound c.node.result.now.entry m c.node.ensures.entry

@@ -5,6 +5,7 @@ use Rattle.tla_expand.specs.Private.Index.{found_at, hash_of, slot_of}
 use Rattle.tla_expand.specs.Listed.{listed}
 use Rattle.tla_expand.proofs.Indexed.{jump_from, scope_same}
 use Rattle.tla_expand.proofs.Links.{find_hit, same_entry, scope_zero}
+use Rattle.tla_expand.proofs.Bounding.{entry_under}
 use Rattle.tla_expand.proofs.arena.position.Goals as goal
 
 pub returns-then-eq-clause-found : goal.returns-then-eq-clause-found
@@ -45,3 +46,14 @@ returns-clause-none c =
     let x = c.args.name.now in
     let z : c.loop-at.at ≡ 0 = omega arith in
     scope_same es c.args.scope c.loop-at.at x c.requires.linked c.requires.within c.loop-at.invariant.within (sym c.loop-at.invariant.same) ∙ rw z (ap (λ (σ : Scope). σ x) (scope_zero es))
+
+pub returns-then-eq-clause-bound : goal.returns-then-eq-clause-bound
+returns-then-eq-clause-bound c = λ e m h.
+    let es = listed c.args.entries.now in
+    let n = c.node-node.result.now in
+    let at = c.loop-at.at in
+    let x = c.args.name.now in
+    let p : (at - 1) + 1 ≡ at = omega arith in
+    let q : bytes_eq n.entry.name.now x ≡ true = search rules in
+    let same : e ≡ n.entry = same_entry es (at - 1) e n.entry (omega arith) h c.node-node.ensures.entry in
+    rw same (entry_under es c.args.scope (at - 1) x n.entry m c.requires.linked c.requires.within (omega arith) c.node-node.ensures.entry q (ap (λ (k : ℕ). found_at es k x) p ∙ c.loop-at.invariant.same))

@@ -7,6 +7,9 @@ use Rattle.tla_expand.specs.Private.Walks.{IsWalkTo, GoesOn}
 use Rattle.tla_expand.specs.Scopes.{scope_at}
 use Rattle.tla_expand.proofs.Walking.{walk_grown, walk_same, put_nothing, goes_by}
 use Rattle.tla_expand.specs.Listed.{listed}
+use Rattle.std.proofs.Common.{arith}
+use Rattle.tla_expand.proofs.Levels.{if_made}
+use Rattle.tla_expand.proofs.WalkWeights.{visits_grown, less_than}
 use Rattle.tla_expand.proofs.cover.go_from.Goals as goal
 
 pub returns-in-Ok-clause-goes : goal.returns-in-Ok-clause-goes
@@ -32,3 +35,11 @@ returns-in-Err-NoExpansion-clause-goes c = λ whole w.
     let f = rw c.in-Err-NoExpansion.field-0-is at c.in-Err-NoExpansion.ensures.err in
     let h : o ≡ None = f 0 in
     put_nothing whole (listed walk.entries) walk.left.items walk.gone.keys walk.met.keys c.args.primes o h w
+
+pub returns-in-Ok-clause-less : goal.returns-in-Ok-clause-less
+returns-in-Ok-clause-less c = λ inside.
+    let walk = c.args.walk.now in
+    let e = c.in-Ok.ensures in
+    let same = visits_grown (listed walk.entries) (listed c.next_reduction.new.entries) walk.left.items e.extends inside in
+    let less = e.less in
+    if_made c.go_along.result c.go_along.ensures.weight (λ b h. less_than _ _ 1 _ b (omega (arith, h, same, less)))

@@ -4,6 +4,8 @@ use Rattle.tla_expand.specs.Scopes.{scope_at}
 use Rattle.tla_expand.proofs.Nameless.{form_nameless}
 use Rattle.tla_expand.proofs.Walking.{variable_piece, tuple_piece, put_variable, put_tuple, put_other}
 use Rattle.tla_expand.specs.Listed.{listed}
+use Rattle.std.proofs.Common.{arith}
+use Rattle.tla_expand.proofs.WalkWeights.{tuple_weight}
 use Rattle.tla_expand.proofs.cover.go_into.Goals as goal
 
 pub returns-in_ok-meet-in-Variable-clause-goes : goal.returns-in_ok-meet-in-Variable-clause-goes
@@ -28,3 +30,8 @@ returns-in-Other-clause-goes c = λ whole w.
     let walk = c.args.walk.now in
     let es = listed walk.entries in
     put_other whole es walk.left.items walk.gone.keys walk.met.keys (head_gives es h 0) w (form_nameless h.form (scope_at es h.scope) 0 h.primes (sym c.piece_of.ensures ∙ c.in-Other.is))
+
+pub returns-in_ok-push_parts-in-Tuple-clause-weight : goal.returns-in_ok-push_parts-in-Tuple-clause-weight
+returns-in_ok-push_parts-in-Tuple-clause-weight c =
+    let walk = c.args.walk.now in
+    tuple_weight (listed walk.entries) c.args.head walk.left.items c.push_parts.new.left.items c.in-Tuple.items (sym c.piece_of.ensures ∙ c.in-Tuple.is) (rw c.as_slice.ensures.value at c.in_ok-push_parts-in-Tuple.ensures.ok)

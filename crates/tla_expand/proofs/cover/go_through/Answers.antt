@@ -8,6 +8,9 @@ use Rattle.tla_expand.specs.Scopes.{scope_at}
 use Rattle.tla_expand.specs.Private.Walks.{IsInside}
 use Rattle.tla_expand.proofs.Walking.{walk_starts, walk_over, covered, uncovered, no_cover, each_back}
 use Rattle.tla_expand.specs.Listed.{listed}
+use Rattle.std.proofs.Common.{arith, true}
+use Rattle.tla_expand.specs.Private.Bounds.{HasLess}
+use Rattle.tla_expand.proofs.Walking.{each_front}
 use Rattle.tla_expand.proofs.cover.go_through.Goals as goal
 
 pub loop-turn-init : goal.loop-turn-init
@@ -51,3 +54,11 @@ pub go_on-requires-clause-inside : goal.go_on-requires-clause-inside
 go_on-requires-clause-inside c =
     let w = rw c.in-Some.ensures.items at c.loop-turn.invariant.goes in
     (each_back (IsInside (listed c.loop-turn.walk.entries)) c.pop.new.self.items (c.in-Some.left ∷ []) w.inside).0
+
+pub loop-turn-smaller : goal.loop-turn-smaller
+loop-turn-smaller c =
+    let es = listed c.loop-turn.walk.entries in
+    let w = rw c.in-Some.ensures.items at c.loop-turn.invariant.goes in
+    let inside = each_front (IsInside es) c.pop.new.self.items (c.in-Some.left ∷ []) w.inside in
+    let less = rw c.if-not-goes.false at (c.in_ok-goes.ensures.less inside) in
+    rw c.in-Some.ensures.items (omega (arith, less))

@@ -4,8 +4,8 @@ use Rattle.tla_expand.proofs.GivenBack.{use_never}
 use Rattle.tla_expand.specs.Listed.{listed}
 use Rattle.tla_expand.proofs.shortened.chosen.Goals as goal
 
-pub returns-in-Never : goal.returns-in-Never
-returns-in-Never c =
+pub returns-in-Never-clause-same : goal.returns-in-Never-clause-same
+returns-in-Never-clause-same c =
     let e = c.in_ok-entry in
     let m = c.in-Gives in
     some_map c.given_argument.result _ _ (λ x h. use_never (scope_at (listed c.args.entries.now)) (scope_at (listed c.args.entries.now) c.args.scope c.args.name.now) e.entry m.count m.given c.args.arguments.now x.now e.ensures.found m.is c.in-Never.is h) c.given_argument.ensures.some

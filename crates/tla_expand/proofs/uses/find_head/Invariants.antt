@@ -4,6 +4,7 @@ use Rattle.tla_expand.specs.Expand.{expand}
 use Rattle.tla_expand.specs.Primes.{with_primes}
 use Rattle.tla_tree.specs.View.{view}
 use Rattle.tla_expand.specs.Listed.{listed}
+use Rattle.tla_expand.specs.Private.Bounds.{weight_at}
 use Rattle.tla_expand.proofs.uses.find_head.Given as goal
 
 abbrev pub invariant-loop-turn : goal.invariant-loop-turn
@@ -13,3 +14,6 @@ invariant-loop-turn l = record {
   within : l.at ≤ length (listed l.entries);
   same : (d : ℕ) → with_primes l.fn.primes (expand (view l.fn.start) (scope_at (listed l.fn.entries) l.fn.scope) d) ≡ with_primes l.with (expand (view l.tree) (scope_at (listed l.entries) l.at) d);
 }
+
+abbrev pub decreases-loop-turn : goal.decreases-loop-turn
+decreases-loop-turn l = weight_at (listed l.entries) l.tree l.at

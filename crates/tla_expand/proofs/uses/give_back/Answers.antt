@@ -1,6 +1,7 @@
 use Rattle.std.proofs.Common.{arith, length}
 use Rattle.tla_expand.proofs.Cuts.{linked_cut, length_cut, scope_cut, extends_cut}
 use Rattle.tla_expand.specs.Listed.{listed}
+use Rattle.tla_expand.proofs.Bounding.{bound_cut}
 use Rattle.tla_expand.proofs.uses.give_back.Goals as goal
 
 pub returns-clause-linked : goal.returns-clause-linked
@@ -20,3 +21,8 @@ returns-clause-same c =
 pub returns-clause-extends : goal.returns-clause-extends
 returns-clause-extends c = λ es h x.
     extends_cut es (listed c.args.entries.now) (listed c.truncate.new.self) c.larger-end.result c.truncate.ensures.items x (omega (arith, h, c.larger-end.ensures.first))
+
+pub returns-clause-bound : goal.returns-clause-bound
+returns-clause-bound c =
+    let end = c.larger-end.ensures.least (length (listed c.args.entries.now)) c.requires.kept c.requires.scope in
+    bound_cut (listed c.args.entries.now) (listed c.truncate.new.self) c.larger-end.result c.args.scope c.truncate.ensures.items c.larger-end.ensures.second end

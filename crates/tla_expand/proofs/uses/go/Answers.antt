@@ -1,4 +1,4 @@
-use Rattle.std.proofs.Common.{◌≡◌, ◌∙◌, ℕ, map, ap, sym, subst, true≢false, IfOk, IfErr, refl}
+use Rattle.std.proofs.Common.{◌≡◌, ◌∙◌, ℕ, suc, length, map, ap, sym, subst, arith, true≢false, IfOk, IfErr, refl}
 use Rattle.tla_tree.specs.Tree as t
 use Rattle.tla_tree.specs.View.{view, views_items, definition_view, definition_views_items}
 use Rattle.tla_expand.specs.Meanings.{Argument}
@@ -9,6 +9,13 @@ use Rattle.tla_expand.specs.Primes.{with_primes}
 use Rattle.tla_expand.proofs.Steps.{expand_call, shown_once}
 use Rattle.tla_expand.proofs.OwnForms.{means_none}
 use Rattle.tla_expand.specs.Listed.{listed}
+use Rattle.tla_expand.specs.Private.Weights.{size, size_definitions}
+use Rattle.tla_expand.specs.Private.Bounds.{size_all, bound_at}
+use Rattle.tla_expand.proofs.Levels.{if_made}
+use Rattle.tla_expand.proofs.Bounding.{bound_rises}
+use Rattle.tla_expand.proofs.Lighter.{from_use, from_let}
+use Rattle.tla_expand.proofs.TreeSizes.{definitions_count}
+use Rattle.tla_expand.proofs.Weighing.{less_part}
 use Rattle.tla_expand.proofs.uses.go.Goals as goal
 
 pub returns-in-Call-clause-same : goal.returns-in-Call-clause-same
@@ -45,3 +52,39 @@ unreachable-requires c =
     let d = c.in_default in
     let none = means_none c.args.tree.now (record { no_name = d.not-Name; no_call = d.not-Call; no_at = d.not-At; no_paren = d.not-Paren; no_prime = d.not-Prime; no_let = d.not-Let }) in
     true≢false (sym c.requires.another ∙ none)
+
+pub returns-in-Name-clause-less : goal.returns-in-Name-clause-less
+returns-in-Name-clause-less c =
+    let is : size (view c.args.tree.now) ≡ suc 0 = rw c.in-Name.is refl in
+    if_made c.use_of.result c.use_of.ensures.less (λ s h. from_use (listed c.args.entries.now) c.args.scope 0 (size (view c.args.tree.now)) _ is h)
+
+pub returns-in-At-clause-less : goal.returns-in-At-clause-less
+returns-in-At-clause-less c =
+    let is : size (view c.args.tree.now) ≡ suc 0 = rw c.in-At.is refl in
+    if_made c.use_of-in-At.result c.use_of-in-At.ensures.less (λ s h. from_use (listed c.args.entries.now) c.args.scope 0 (size (view c.args.tree.now)) _ is h)
+
+pub returns-in-Call-clause-less : goal.returns-in-Call-clause-less
+returns-in-Call-clause-less c =
+    let m = c.in-Call in
+    let same : view c.args.tree.now ≡ t.Call m.name (t.trees (map view c.as_slice-arguments.result.now)) = rw (m.is, c.as_slice-arguments.ensures.value) (ap (λ x. t.Call m.name x) (views_items m.arguments)) in
+    if_made c.use_of-in-Call.result c.use_of-in-Call.ensures.less (λ s h. from_use (listed c.args.entries.now) c.args.scope (size_all c.as_slice-arguments.result.now) (size (view c.args.tree.now)) _ (ap size same) h)
+
+pub returns-in-Paren-clause-less : goal.returns-in-Paren-clause-less
+returns-in-Paren-clause-less c =
+    let es = listed c.args.entries.now in
+    let k = size (view c.in-Paren.inner.value) in
+    rw (c.deref.ensures, c.in-Paren.is) (less_part k k (bound_at es c.args.scope) (bound_rises es c.args.scope) (omega arith))
+
+pub returns-in-Prime-clause-less : goal.returns-in-Prime-clause-less
+returns-in-Prime-clause-less c =
+    let es = listed c.args.entries.now in
+    let k = size (view c.in-Prime.inner.value) in
+    rw (c.deref-in-Prime.ensures, c.in-Prime.is) (less_part k k (bound_at es c.args.scope) (bound_rises es c.args.scope) (omega arith))
+
+pub returns-in_ok-inside-in-Let-clause-less : goal.returns-in_ok-inside-in-Let-clause-less
+returns-in_ok-inside-in-Let-clause-less c =
+    let m = c.in-Let in
+    let ds = c.as_slice-in-Let.result.now in
+    let same : view c.args.tree.now ≡ t.Let m.field-0 (t.definitions (map definition_view ds)) (view c.deref-in-Let.result.now) =
+    rw (m.is, c.as_slice-in-Let.ensures.value, c.deref-in-Let.ensures) (ap (λ x. t.Let m.field-0 x (view m.inner.value)) (definition_views_items m.definitions)) in
+    from_let (listed c.args.entries.now) _ c.args.scope c.in_ok-inside-in-Let.inside (size (view c.deref-in-Let.result.now)) (length ds) (size_definitions (t.definitions (map definition_view ds))) (size (view c.args.tree.now)) (ap size same) (definitions_count ds) c.in_ok-inside-in-Let.ensures.bound

@@ -3,6 +3,11 @@ use Rattle.tla_expand.proofs.Binds.{mismatch}
 use Rattle.tla_expand.proofs.GivenBack.{use_gives, use_gives_none}
 use Rattle.tla_expand.proofs.Levels.{if_made, if_fails}
 use Rattle.tla_expand.specs.Listed.{listed}
+use Rattle.tla_expand.proofs.Lighter.{ends_alone, use_bound, argument_bound}
+use Rattle.std.proofs.Common.{arith}
+use Rattle.tla_tree.specs.View.{view}
+use Rattle.tla_expand.specs.Private.Weights.{size}
+use Rattle.tla_expand.specs.Private.Bounds.{size_all, bound_at}
 use Rattle.tla_expand.proofs.uses.use_of.Goals as goal
 
 pub returns-then-parameters-arguments-clause-err :
@@ -38,3 +43,19 @@ pub returns-clause-err : goal.returns-clause-err
 returns-clause-err c =
     let at = scope_at (listed c.args.entries.now) in
     if_fails c.use_alone.result c.use_alone.ensures.err (λ e h. rw c.in-Some.ensures.found (h at (at c.args.scope)))
+
+pub returns-in_ok-head-clause-less : goal.returns-in_ok-head-clause-less
+returns-in_ok-head-clause-less c = λ w e. ends_alone (listed c.args.entries.now) c.in_ok-head.head _ c.in_ok-head.ensures.alone
+
+pub returns-in_ok-inner-clause-less : goal.returns-in_ok-inner-clause-less
+returns-in_ok-inner-clause-less c = λ w e.
+    let m = c.in-Definition in
+    use_bound (listed c.args.entries.now) (listed c.bind.new.entries) c.in-Some.entry.what m.parameters m.body m.home c.in_ok-inner.inner c.args.scope w m.is (c.in-Some.ensures.bound w) (rw (sym e) at c.in_ok-inner.ensures.weight)
+
+pub returns-in-Some-given_argument-clause-less : goal.returns-in-Some-given_argument-clause-less
+returns-in-Some-given_argument-clause-less c = λ w e.
+    argument_bound (listed c.args.entries.now) c.args.scope (size (view c.in-Some-given_argument.argument.now)) (size_all c.args.arguments.now) w _ c.in-Some-given_argument.ensures.size e
+
+pub returns-clause-less : goal.returns-clause-less
+returns-clause-less c =
+    if_made c.use_alone.result c.use_alone.ensures.bound (λ s h w e. let x = h (listed c.args.entries.now) w in let y = c.in-Some.ensures.bound w in omega (arith, x, y))
