@@ -1,6 +1,7 @@
 //! The command line, the input files, reports, signs of life, and whole runs: words and files of memory in, bytes and a
 //! status out.
 
+mod beside;
 mod codes;
 mod input;
 mod line;

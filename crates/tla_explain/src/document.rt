@@ -25,38 +25,87 @@ pub fn write_document<'a, W: Write>(
     names: &FileNames<'a>,
     module: &'a [u8],
     configuration: &'a [u8],
-    checked: &Checked,
+    checked: &'a Checked,
 ) -> io::Result<()> {
-    let style = Style {
-        full: true,
-        coverage: false,
-    };
-    let mut report = Vec::new(alloc);
-    if write_report(checked, &mut report).is_err() {
-        return Err(io::Error::from(AllocError));
-    }
-    let mut explanation = Vec::new(alloc);
-    explain(
-        alloc,
-        &mut explanation,
-        names,
-        module,
-        configuration,
-        checked,
-        style,
-    )?;
-    let texts = Texts {
-        report: text_of(&report),
-        explanation: text_of(&explanation),
-    };
     let sources = Sources {
         names: *names,
         module,
         configuration,
     };
-    let document = document_of(alloc, &sources, checked, &texts)?;
-    writer.write_all(&document.to_vec_pretty(alloc)?)?;
-    writer.write_all(b"\n")
+    let told = Told {
+        sources,
+        checked,
+        coverage: false,
+    };
+    told.write_document(alloc, writer)
+}
+
+/// The same, with the steps of each part of Next in the explanation.
+pub fn write_counted_document<'a, W: Write>(
+    alloc: Global,
+    writer: &mut W,
+    names: &FileNames<'a>,
+    module: &'a [u8],
+    configuration: &'a [u8],
+    checked: &'a Checked,
+) -> io::Result<()> {
+    let sources = Sources {
+        names: *names,
+        module,
+        configuration,
+    };
+    let told = Told {
+        sources,
+        checked,
+        coverage: true,
+    };
+    told.write_document(alloc, writer)
+}
+
+/// What a document tells.
+#[derive(Clone, Copy)]
+struct Told<'a> {
+    sources: Sources<'a>,
+    checked: &'a Checked,
+    /// Whether its explanation has the steps of each part of Next.
+    coverage: bool,
+}
+
+impl Told<'_> {
+    fn write_document<W: Write>(&self, alloc: Global, writer: &mut W) -> io::Result<()> {
+        let mut report = Vec::new(alloc);
+        if write_report(self.checked, &mut report).is_err() {
+            return Err(io::Error::from(AllocError));
+        }
+        let mut explanation = Vec::new(alloc);
+        self.write_explanation(alloc, &mut explanation)?;
+        let texts = Texts {
+            report: text_of(&report),
+            explanation: text_of(&explanation),
+        };
+        let document = document_of(alloc, &self.sources, self.checked, &texts)?;
+        writer.write_all(&document.to_vec_pretty(alloc)?)?;
+        writer.write_all(b"\n")
+    }
+
+    /// Writes the explanation, with values shown whole.
+    fn write_explanation(&self, alloc: Global, explanation: &mut Vec<u8>) -> io::Result<()> {
+        let style = Style {
+            full: true,
+            coverage: self.coverage,
+        };
+        let names = &self.sources.names;
+        let (module, configuration) = (self.sources.module, self.sources.configuration);
+        explain(
+            alloc,
+            explanation,
+            names,
+            module,
+            configuration,
+            self.checked,
+            style,
+        )
+    }
 }
 
 /// What a run prints.

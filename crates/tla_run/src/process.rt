@@ -14,7 +14,7 @@ use std::thread::Threads;
 use std::time::{Clock, Instant};
 use std::{env, fs, io};
 use tla_check::{Checked, Gate, GatePlace, Line, LineFault};
-use tla_explain::{FileNames, Style, explain, write_document, write_graph};
+use tla_explain::{FileNames, Style, explain, write_counted_document, write_document, write_graph};
 use tla_progress::{GreatestLevel, Memory, Progress, Took};
 
 /// How many files of a folder are looked at for a near name.
@@ -139,15 +139,14 @@ impl<'a, R: AllocGlobal + Clock + Eprint + Files + Sync, M: Memory + Sync> Host
         inputs: &Inputs<'_>,
         checked: &Checked,
     ) -> io::Result<()> {
+        let alloc = self.rt.alloc();
         let names = names(inputs.line);
-        write_document(
-            self.rt.alloc(),
-            file,
-            &names,
-            inputs.module,
-            inputs.config,
-            checked,
-        )
+        let (module, config) = (inputs.module, inputs.config);
+        if inputs.line.coverage {
+            write_counted_document(alloc, file, &names, module, config, checked)
+        } else {
+            write_document(alloc, file, &names, module, config, checked)
+        }
     }
 
     fn write_graph(

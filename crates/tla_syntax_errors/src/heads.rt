@@ -284,6 +284,9 @@ pub(crate) fn say_backslash(finding: &mut Finding, spot: &Spot<'_>, at: usize) -
     if !spot.is(sign, Kind::Difference) || !spot.touches_before(word) {
         return false;
     }
+    if spot.begins_line(sign.saturating_sub(1)) && defines_later(spot, spot.place(sign).line) {
+        return false;
+    }
     let name = spot.word(word);
     let near = match meant(finding.alloc(), name, &BACKSLASHED) {
         Ok(near) => near,
