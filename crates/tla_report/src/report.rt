@@ -3,8 +3,8 @@ ghost use Rattle.std.specs.Prelude.{◌≡◌, ◌++◌, ◌<◌, length, map, c
 ghost use Rattle.std.specs.Io.KnownBytes.{Appends};
 ghost use Rattle.counted_writer.specs.Puts.{Puts, AddsFirst};
 ghost use Rattle.tla_value.specs.TreeOf.{tree_of};
-ghost use Rattle.tla_search.specs.Answers.{trace_of};
-ghost use Rattle.tla_search.specs.IsNamed.{AreWhole, IsAboutOne, IsNamedPart};
+ghost use Rattle.tla_verdict.specs.Answers.{trace_of};
+ghost use Rattle.tla_verdict.specs.IsNamed.{AreWhole, IsAboutOne, IsNamedPart};
 ghost use Rattle.tla_report.specs.Codes.{refusal_code};
 ghost use Rattle.tla_report.specs.Private.Pieces.{piece_text, pieces_text};
 ghost use Rattle.tla_report.specs.Report.{report, line, first_line, fault_line, site_text, part_line, place_text, trace_lines, state_lines, value_line, value_lines, counts_line, answer_report, refusal_line, ending, source_text};
@@ -14,8 +14,8 @@ use counted_writer::{ShortWrite, put, put_number};
 use std::io::Write;
 use tla_config::Source;
 use tla_core::{Fault, Place};
-use tla_search::{Answer, Counts, Part};
 use tla_value::{State, Text, Value};
+use tla_verdict::{Answer, Counts, Part};
 
 /// A write failed or took no byte.
 #[derive(Clone, Copy, Debug, PartialEq, Eq)]
