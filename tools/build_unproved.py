@@ -22,6 +22,10 @@ sys.dont_write_bytecode = True
 
 from programs import TOP
 
+# What `--version` says, and what it says in the program that this makes: texts of the same length.
+VERSION = b"proved with rattle-kit-13f when built by rt run; a build by rt try is not proved"
+UNPROVED = b"UNPROVED: built by tools/build_unproved.py, with no proof, from what rt try made"
+
 COMPILER = """#!{python} -IS
 import os, sys
 words = [it for it in sys.argv[1:] if not it.startswith("-fsanitize=")]
@@ -88,6 +92,9 @@ def main():
         ran = subprocess.run(words, cwd=TOP / "crates" / said.crate, capture_output=True, text=True, errors="replace", check=False)
     if not out.is_file():
         sys.exit(f"{ran.stdout}{ran.stderr}nothing was built")
+    out.write_bytes(out.read_bytes().replace(VERSION, UNPROVED))
+    if said.crate == "tlacheck" and UNPROVED not in out.read_bytes():
+        sys.exit(f"{out} says that it is proved, which it is not: mend VERSION in this file")
     print(f"{out} is UNPROVED: use it to look, and the program that rt run proves to rely on")
     return 0
 

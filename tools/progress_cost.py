@@ -4,8 +4,7 @@
     tools/progress_cost.py [--program FILE]
 
 It compares a run with progress lines and the same run with --quiet, in pieces of 1,024 states and of one; then a run with
---coverage and the same run without; and a run of fewer than 2,000 states, whose steps are counted without the option, and
-the same run with --quiet.
+--coverage and the same run without; and a short run and the same run with --quiet.
 
 The program is crates/tlacheck/out/tlacheck, which is proved and built if it is not there. valgrind counts; under it the
 run takes long enough for a line every few seconds.
@@ -67,7 +66,7 @@ def main():
             words = [program, *large, "--cut", cut]
             compared(f"progress lines, in pieces of {cut}", [*words, "--quiet"], words)
         compared("--coverage of 90,000 states", [program, *large], [program, *large, "--coverage"])
-        compared("1,936 states, counted without the option", [program, *small, "--quiet"], [program, *small])
+        compared("1,936 states", [program, *small, "--quiet"], [program, *small])
 
 
 if __name__ == "__main__":

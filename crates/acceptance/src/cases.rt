@@ -22,8 +22,8 @@
 //!   configuration, with a form feed between each two texts, and `report` has the reports of all;
 //! - `told`: the folder has `module.tla`, `model.cfg` and `told`, the explanation that is wanted;
 //!   `whole` and `counted` are the same with values shown whole and with the steps of each part of
-//!   Next, and `graph` and `document` compare the graph of the states and the document of the run;
-//!   `swapped` checks the two files in the wrong order;
+//!   Next, and `graph` and `document` compare the graph of the states and the document of the run,
+//!   `counted-document` one with these steps; `swapped` checks the two files in the wrong order;
 //! - `told-texts`: the folder has `texts` and `told`, which has the explanation of each module and
 //!   configuration, with a form feed between each two.
 

@@ -32,7 +32,7 @@ pub struct TwoNumbers {
 /// The numbers 1 and 3.
 pub fn two_numbers(alloc: Global) -> Result<TwoNumbers, Refusal> {
     let list = numbers(alloc, &[1, 3])?;
-    let set = SetValue::from_values(numbers(alloc, &[1, 3])?)?;
+    let set = SetValue::from_values(alloc, numbers(alloc, &[1, 3])?)?;
     Ok(TwoNumbers { list, set })
 }
 
@@ -42,7 +42,7 @@ pub fn deepest(alloc: Global) -> Result<Value, Refusal> {
     for _ in 0..NESTING {
         let mut values = Vec::new(alloc);
         values.push(value)?;
-        value = Value::Set(SetValue::from_values(values)?);
+        value = Value::Set(SetValue::from_values(alloc, values)?);
     }
     Ok(value)
 }

@@ -19,6 +19,8 @@ pub enum Form {
     Swapped,
     Graph,
     Document,
+    /// A document with the steps of each part of Next.
+    CountedDocument,
 }
 
 impl Form {
@@ -31,6 +33,7 @@ impl Form {
             "swapped" => Some(Form::Swapped),
             "graph" => Some(Form::Graph),
             "document" => Some(Form::Document),
+            "counted-document" => Some(Form::CountedDocument),
             _ => None,
         }
     }
@@ -86,7 +89,18 @@ fn write_form<'a>(
             explain(alloc, told, &names, module, configuration, checked, style)
         }
         Form::Graph => write_graph(alloc, told, module, configuration, checked),
-        Form::Document => write_document(alloc, told, &names, module, configuration, checked),
+        Form::Document | Form::CountedDocument => {
+            let coverage = matches!(form, Form::CountedDocument);
+            write_document(
+                alloc,
+                told,
+                &names,
+                module,
+                configuration,
+                checked,
+                coverage,
+            )
+        }
     }
 }
 

@@ -5,6 +5,8 @@
 #![tactic(auto)]
 
 #[cfg(test)]
+mod cores;
+#[cfg(test)]
 mod hashing;
 #[cfg(test)]
 mod quick;
@@ -12,6 +14,8 @@ mod quick;
 mod runs;
 #[cfg(test)]
 mod specifications;
+#[cfg(test)]
+mod successors;
 #[cfg(test)]
 mod texts;
 #[cfg(test)]

@@ -2,6 +2,7 @@
 //! status out.
 
 mod codes;
+mod graph;
 mod input;
 mod line;
 mod line_texts;

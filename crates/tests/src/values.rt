@@ -14,7 +14,7 @@ fn nested(alloc: Global, braces: u64) -> Result<Value, ValueError> {
     for _ in 0..braces {
         let mut values = Vec::new(alloc);
         values.push(value)?;
-        value = Value::Set(SetValue::from_values(values)?);
+        value = Value::Set(SetValue::from_values(alloc, values)?);
     }
     Ok(value)
 }
@@ -56,7 +56,7 @@ fn refuses_a_member(alloc: Global, largest: i64) -> Result<bool, ValueError> {
 
 // Whether this many pairs of different numbers are refused.
 fn refuses_pairs(alloc: Global, count: i64) -> Result<bool, ValueError> {
-    let made = FunValue::from_pairs(numbered_pairs(alloc, count)?);
+    let made = FunValue::from_pairs(alloc, numbered_pairs(alloc, count)?);
     Ok(matches!(made, Err(ValueError::TooMany)))
 }
 
@@ -77,12 +77,40 @@ fn beyond_the_limits(rt: HostRuntime) -> Result<(), Fail> {
     Ok(())
 }
 
-// A product of no sets, and records without fields.
+// The sequence of these numbers.
+fn sequence(alloc: Global, numbers: &[i64]) -> Result<Value, ValueError> {
+    let mut values = Vec::new(alloc);
+    for number in numbers {
+        values.push(Value::Int(*number))?;
+    }
+    Ok(Value::Fun(FunValue::sequence(alloc, values)?))
+}
+
+// A product of no sets, and records without fields, are the set of the empty sequence.
 #[test]
 fn one_choice_of_nothing(rt: HostRuntime) -> Result<(), Fail> {
     let alloc = rt.alloc();
-    assert!(rt; SetValue::product(alloc, &[])?.len() == 1);
-    assert!(rt; SetValue::record_set(alloc, &[])?.len() == 1);
+    let nothing = [sequence(alloc, &[])?];
+    assert!(rt; SetValue::product(alloc, &[])?.items() == nothing.as_slice());
+    assert!(rt; SetValue::record_set(alloc, &[])?.items() == nothing.as_slice());
+    Ok(())
+}
+
+#[test]
+fn a_second_number(rt: HostRuntime) -> Result<(), Fail> {
+    let alloc = rt.alloc();
+    let one = SetValue::range(alloc, 1, 1)?;
+    let mut two = SetValue::range(alloc, 1, 1)?;
+    assert!(rt; two.insert(Value::Int(2))?);
+    assert!(rt; two.items() == [Value::Int(1), Value::Int(2)].as_slice());
+    assert!(rt; one.is_subset(&two) && !two.is_subset(&one) && two.is_subset(&two));
+    Ok(())
+}
+
+#[test]
+fn a_copy_equals_its_source(rt: HostRuntime) -> Result<(), Fail> {
+    let source = sequence(rt.alloc(), &[1])?;
+    assert!(rt; source.copy(rt.alloc())? == source);
     Ok(())
 }
 
@@ -125,7 +153,7 @@ fn numbered_pairs(alloc: Global, count: i64) -> Result<Vec<(Value, Value)>, Valu
 fn one_pair(alloc: Global) -> Result<FunValue, ValueError> {
     let mut pairs = Vec::new(alloc);
     pairs.push((Value::Int(1), Value::Int(7)))?;
-    FunValue::from_pairs(pairs)
+    FunValue::from_pairs(alloc, pairs)
 }
 
 // Whether a function is that from 1 to this value.
@@ -199,7 +227,7 @@ fn backwards(alloc: Global) -> Result<SetValue, ValueError> {
     for number in 0..1_000_000 {
         values.push(Value::Int(1_000_000_i64.wrapping_sub(number)))?;
     }
-    SetValue::from_values(values)
+    SetValue::from_values(alloc, values)
 }
 
 fn text_length(alloc: Global, value: &Value) -> Option<usize> {

@@ -8,11 +8,11 @@ use tla_page::page::Page;
 use tla_page::places::{Sources, core_place};
 use tla_page::units::put_assumption;
 use tla_report::Answered;
-use tla_search::{Answer, Part};
 use tla_traces::formulas::{Formula, formula_of};
 use tla_traces::models::Telling;
 use tla_traces::named::Named;
 use tla_traces::trace::tell as tell_trace;
+use tla_verdict::{Answer, Part};
 
 /// Explains an answer. If there is no error, it writes only notes.
 pub fn tell(page: &mut Page, sources: &Sources<'_>, answered: &Answered) {

@@ -11,9 +11,9 @@ use tla_page::places::{token_place, word};
 use tla_page::units::put_assumption;
 use tla_page::values::put_state;
 use tla_report::Answered;
-use tla_search::Part;
 use tla_traces::models::Telling;
 use tla_value::Text;
+use tla_verdict::Part;
 
 /// Tells a fault: where it is, in which definitions, and what values the variables had.
 pub(crate) fn tell(

@@ -6,9 +6,9 @@ use tla_core::{Fault, FaultCode};
 use tla_page::page::Page;
 use tla_page::places::put_at;
 use tla_page::units::text_of;
-use tla_search::Part;
 use tla_traces::formulas::{Formula, name_alone, name_of_item};
 use tla_traces::models::Telling;
+use tla_verdict::Part;
 
 /// Explains a fault of such a formula. Answers whether it is one.
 pub(crate) fn tell(page: &mut Page, telling: &Telling<'_>, fault: &Fault, part: Part) -> bool {

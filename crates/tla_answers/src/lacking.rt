@@ -6,13 +6,13 @@ use crate::why::put_expression;
 use tla_core::{Core, FaultCode, Place};
 use tla_page::page::Page;
 use tla_report::Answered;
-use tla_search::Part;
 use tla_steps::{LackingPart, lacking_part, lacking_parts};
 use tla_traces::binders::put_choices;
 use tla_traces::expressions::expression_of;
 use tla_traces::models::Telling;
 use tla_traces::trace::put_part;
 use tla_value::State;
+use tla_verdict::Part;
 
 /// How many expressions are evaluated to find the part.
 const BUDGET: u64 = 300_000;

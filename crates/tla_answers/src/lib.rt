@@ -3,6 +3,8 @@
 
 pub mod answer;
 mod arguments;
+mod bounds;
+mod counts;
 mod cures;
 mod extents;
 mod faults;

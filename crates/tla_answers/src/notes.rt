@@ -2,17 +2,18 @@
 
 use crate::why::{tell_blocked, tell_reasons};
 use crate::{given, missed};
+use std::alloc::{AllocError, Global};
 use tla_config::Statement;
 use tla_lex::{Kind, Token};
 use tla_model::StatePredicate;
 use tla_page::definitions::definition_at;
 use tla_page::page::Page;
 use tla_page::places::{core_place, word};
-use tla_search::{Counts, Part};
 use tla_steps::{initial_states, is_false_in_all};
 use tla_traces::models::Telling;
 use tla_traces::trace::put_part;
 use tla_value::State;
+use tla_verdict::{Counts, Part};
 
 /// The most states of a level whose constraints are evaluated again.
 const MOST_STATES: u64 = 10_000;
@@ -99,23 +100,56 @@ fn note_fairness(page: &mut Page, telling: &Telling<'_>) {
 
 fn note_fairness_of(page: &mut Page, telling: &Telling<'_>, specification: &str) {
     for token in telling.tokens {
-        let is_fairness = matches!(token.kind, Kind::WeakFairness | Kind::StrongFairness);
-        if is_fairness && is_part_of(telling, token, specification) {
-            page.put_text("note: fairness is passed over, in ");
-            put_part(page, telling, core_place(token.place));
-            page.put_text(": only safety is checked\n");
-            return;
+        if !matches!(token.kind, Kind::WeakFairness | Kind::StrongFairness) {
+            continue;
+        }
+        match is_part_of(page.alloc(), telling, token, specification) {
+            Ok(true) => {
+                page.put_text("note: fairness is passed over, in ");
+                put_part(page, telling, core_place(token.place));
+                page.put_text(": only safety is checked\n");
+                return;
+            }
+            Ok(false) => {}
+            Err(_) => return page.refuse(),
         }
     }
 }
 
-/// Whether a token is in a definition, or in one that this definition names.
-fn is_part_of(telling: &Telling<'_>, token: &Token, specification: &str) -> bool {
-    let name = definition_at(telling.units, token.place);
-    name == specification
-        || telling.tokens.iter().any(|user| {
-            user.kind == Kind::Name
-                && word(telling.sources.module, user) == name
-                && definition_at(telling.units, user.place) == specification
-        })
+/// Whether a token is in a definition, or in one to which this definition leads. The only error is that memory ran out.
+fn is_part_of(
+    alloc: Global,
+    telling: &Telling<'_>,
+    token: &Token,
+    specification: &str,
+) -> Result<bool, AllocError> {
+    let mut met = Vec::new(alloc);
+    met.push(definition_at(telling.units, token.place))?;
+    for index in 0..telling.tokens.len() {
+        let Some(name) = met.get(index).copied() else {
+            break;
+        };
+        if name == specification {
+            return Ok(true);
+        }
+        add_users(&mut met, telling, name)?;
+    }
+    Ok(false)
+}
+
+/// Adds the definitions that use a name and that were not met before.
+fn add_users<'a>(
+    met: &mut Vec<&'a str>,
+    telling: &Telling<'a>,
+    name: &str,
+) -> Result<(), AllocError> {
+    for token in telling.tokens {
+        if token.kind == Kind::Name && word(telling.sources.module, token) == name {
+            let user = definition_at(telling.units, token.place);
+            if !met.contains(&user) {
+                met.push(user)?;
+            }
+        }
+    }
+    Ok(())
 }

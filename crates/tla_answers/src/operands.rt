@@ -1,5 +1,7 @@
 //! What the operands were where an expression faults.
 
+use crate::bounds::{hint_finite, hint_flat};
+use crate::counts::{count_of, most_of};
 use crate::cures::{hint_field, hint_kind, wrong_operand};
 use crate::extents::text_of;
 use crate::kinds::{Wanted, is_record, put_domain, put_fields, put_kind};
@@ -7,7 +9,6 @@ use crate::unset::hint_next;
 use crate::why::{put_expression, put_operands, written};
 use tla_core::{Binary, Core, Fault, FaultCode};
 use tla_page::page::Page;
-use tla_search::Part;
 use tla_steps::{Culprit, Operand, culprit_in, culprit_of_reading};
 use tla_traces::binders::put_choices;
 use tla_traces::expressions::expression_of;
@@ -15,6 +16,7 @@ use tla_traces::models::Telling;
 use tla_traces::signs::sign_of;
 use tla_tree::Expr;
 use tla_value::{State, Value};
+use tla_verdict::Part;
 
 /// How many expressions are evaluated to find the node of a fault.
 const BUDGET: u64 = 300_000;
@@ -102,6 +104,8 @@ fn tell_culprit(
         FaultCode::WrongKind => hint_kind(page, telling, &scene),
         FaultCode::NotSet => hint_next(page, telling, &scene),
         FaultCode::NoField => hint_field(page, &scene),
+        FaultCode::Endless => hint_finite(page, &scene),
+        FaultCode::TooDeep => hint_flat(page, &scene),
         _ => {}
     }
 }
@@ -366,67 +370,30 @@ fn tell_not_set<'a>(page: &mut Page, telling: &Telling<'a>, scene: &Scene<'a, '_
 
 /// Tells how many elements a set would have.
 fn tell_too_many<'a>(page: &mut Page, telling: &Telling<'a>, scene: &Scene<'a, '_>) {
-    let Some(count) = count_of(scene.node, &scene.culprit.operands) else {
-        return;
-    };
+    let operands = scene.culprit.operands.as_slice();
+    if let Some(count) = count_of(scene.node, operands) {
+        put_count(page, telling, scene, " would have ", count);
+    } else if let Some(count) = most_of(scene.node, operands) {
+        put_count(page, telling, scene, " would have up to ", count);
+    }
+}
+
+fn put_count<'a>(
+    page: &mut Page,
+    telling: &Telling<'a>,
+    scene: &Scene<'a, '_>,
+    words: &str,
+    count: u128,
+) {
     match scene.expr {
         Some(expr) => put_expression(page, telling, expr),
         None => page.put_text("the set"),
     }
-    page.put_text(" would have ");
+    page.put_text(words);
     if count == u128::MAX {
         page.put_text("more than 10^38");
     } else {
         page.put_number(count);
     }
     page.put_text(" parts\n");
-}
-
-/// How many elements the set of a node has, if its operands are known.
-fn count_of(node: &Core, operands: &[Operand<'_>]) -> Option<u128> {
-    match (node, operands) {
-        (Core::Binary(_, Binary::Range, _, _), [low, high]) => {
-            range_size(&low.value, &high.value)
-        }
-        (Core::Power(_, _), [set]) => Some(power_of(2, size_of(&set.value)?)),
-        (Core::Functions(_, _, _), [domain, range]) => {
-            Some(power_of(size_of(&range.value)?, size_of(&domain.value)?))
-        }
-        (Core::Product(_, _) | Core::Records(_, _) | Core::Function(_, _, _), _) => {
-            product_of(operands)
-        }
-        _ => None,
-    }
-}
-
-/// How many numbers a range has that isn't empty.
-fn range_size(low: &Value, high: &Value) -> Option<u128> {
-    match (low, high) {
-        (Value::Int(low), Value::Int(high)) => {
-            Some(u128::from(high.abs_diff(*low)).saturating_add(1))
-        }
-        (_, _) => None,
-    }
-}
-
-/// How many elements a set has.
-fn size_of(value: &Value) -> Option<u128> {
-    match value {
-        Value::Set(set) => Some(set.len() as u128),
-        _ => None,
-    }
-}
-
-/// A power, or the greatest number.
-fn power_of(base: u128, exponent: u128) -> u128 {
-    base.saturating_pow(u32::try_from(exponent).unwrap_or(u32::MAX))
-}
-
-/// The product of the sizes of sets, or the greatest number.
-fn product_of(operands: &[Operand<'_>]) -> Option<u128> {
-    let mut count: u128 = 1;
-    for operand in operands {
-        count = count.saturating_mul(size_of(&operand.value)?);
-    }
-    Some(count)
 }

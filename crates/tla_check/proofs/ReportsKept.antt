@@ -1,8 +1,8 @@
 -- The report says `No error.` exactly where the model that the texts name is kept.
 use Rattle.std.proofs.Common.{◌≡◌, ◌↔◌, ℕ, List, refl, sym, subst, arith}
 use Rattle.tla_model.specs.ModelTree.{ModelTree}
-use Rattle.tla_search.specs.declared.answer.Answer.{Answer}
-use Rattle.tla_search.specs.declared.answer.Answer.TheVariants.{NoError, InvariantFalse, Deadlock, Faulted, AssumptionFalse, Limit}
+use Rattle.tla_verdict.specs.declared.answer.Answer.{Answer}
+use Rattle.tla_verdict.specs.declared.answer.Answer.TheVariants.{NoError, InvariantFalse, Deadlock, Faulted, AssumptionFalse, Limit}
 use Rattle.tla_search.specs.Kept as kept
 use Rattle.tla_search.proofs.Kept.{means-kept}
 use Rattle.tla_report.specs.declared.checked.Checked.TheVariants.{Answered, Refused, NoMemory, NoWorker}

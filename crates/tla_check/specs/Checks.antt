@@ -20,7 +20,7 @@ use Rattle.tla_defs.specs.Refused as defs
 use Rattle.tla_levels.specs.Meaning.{IsWithinLimit, SaysExactly}
 use Rattle.tla_model.specs.ModelTree.{ModelTree}
 use Rattle.tla_core.specs.Expr.{Expr}
-use Rattle.tla_search.specs.Answers.{HasNoReadingFault, IsAnswerOf, outcome_of}
+use Rattle.tla_verdict.specs.Answers.{HasNoReadingFault, IsAnswerOf, outcome_of}
 use Rattle.tla_search.specs.Systems.{read_system, true_system}
 use Rattle.tla_report.specs.declared.checked.Answered.{Answered as AnsweredCheck}
 use Rattle.tla_report.specs.declared.checked.Checked.{Checked}
@@ -106,7 +106,7 @@ IsStopped text config NoMemory = ⊤
 IsStopped text config _ = ⊥
 
 -- What is right of two texts within a limit: the answer to the search of the one model that they name, or why they name
--- none. Want of memory promises nothing; where a worker could not be started, the texts name one model.
+-- none. If memory ran out, nothing is promised; if a worker could not be started, the texts name one model.
 abbrev pub IsChecked : List ℕ → List ℕ → ℕ → Checked → Type 0
 IsChecked text config limit (Answered a) = (m : ModelTree) × NameOnly text config m × IsAnswered m limit a × IsExact m limit a
 IsChecked text config limit (Refused r) = AreRefused text config r

@@ -10,7 +10,7 @@ use Rattle.tla_config.specs.declared.refusal.Refusal.{Refusal}
 use Rattle.tla_config.specs.declared.refusal.Refusal.TheVariants as refusal
 use Rattle.tla_config.specs.Configuration.{Has, SpellsStatement}
 use Rattle.tla_config.specs.Private.Fronts.{keyword_of}
-use Rattle.tla_config.specs.Private.Gives.{Because, Fails, NoStatement, LeftOutBehind, TooLargeBehind, ClearItems, LeftOutIn, TooLargeIn, ClearStatement}
+use Rattle.tla_config.specs.Private.Gives.{Because, Fails, NoStatement, LeftOutAfter, TooLargeAfter, ClearItems, LeftOutIn, TooLargeIn, ClearStatement}
 use Rattle.tla_config.specs.Refusals.{IsLeftOutWord}
 use Rattle.tla_config.specs.Statements.{Statement, Specification, Init, Next, Invariants, Constraints, Constants, CheckDeadlock}
 use Rattle.tla_config.proofs.Fronts.{Opens, same_pair, keyword_found, begins_is, constants_is}
@@ -125,7 +125,7 @@ module _ (text : List ℕ) (ts : List Token) (at : ℕ) where
   pub clear_constants : (p : Place) → keyword_of text (slice_get ts at) ≡ Some (word.Constants, p) → ClearItems text ts (at + 1) → ClearStatement text ts at
   clear_constants p h f = clear_statement (λ w. constants_not_left (one_word word.Constants word.LeftOut p w.0.place h (left_out_front w))) (λ x. f)
 
-  pub constants_because : (r : Refusal) (p : Place) → keyword_of text (slice_get ts at) ≡ Some (word.Constants, p) → Because r (LeftOutBehind text ts (at + 1)) (TooLargeBehind text ts (at + 1)) (ClearItems text ts (at + 1))
+  pub constants_because : (r : Refusal) (p : Place) → keyword_of text (slice_get ts at) ≡ Some (word.Constants, p) → Because r (LeftOutAfter text ts (at + 1)) (TooLargeAfter text ts (at + 1)) (ClearItems text ts (at + 1))
       → Because r (LeftOutIn text ts at) (TooLargeIn text ts at) (ClearStatement text ts at)
-  constants_because r p h x = let b = constant_found p h in because_map r (LeftOutBehind text ts (at + 1)) (TooLargeBehind text ts (at + 1)) (LeftOutIn text ts at) (TooLargeIn text ts at) (ClearItems text ts (at + 1)) (ClearStatement text ts at)
+  constants_because r p h x = let b = constant_found p h in because_map r (LeftOutAfter text ts (at + 1)) (TooLargeAfter text ts (at + 1)) (LeftOutIn text ts at) (TooLargeIn text ts at) (ClearItems text ts (at + 1)) (ClearStatement text ts at)
       (λ n y. inr (b, y)) (λ n y. (b, y)) (clear_constants p h) x

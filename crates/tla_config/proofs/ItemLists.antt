@@ -10,7 +10,7 @@ use Rattle.tla_config.specs.declared.refusal.Refusal.TheVariants as refusal
 use Rattle.tla_config.specs.Beyond.{IsWrittenBeyond}
 use Rattle.tla_config.specs.Configuration.{Has, IsName, SpellsItem, Items}
 use Rattle.tla_config.specs.Private.Fronts.{kind_at}
-use Rattle.tla_config.specs.Private.Gives.{Because, Nowhere, Anything, Fails, Ends, GoesOn, LeftOutHere, TooLargeHere, ClearItem, LeftOutBehind, TooLargeBehind, ClearItems}
+use Rattle.tla_config.specs.Private.Gives.{Because, Nowhere, Anything, Fails, Ends, GoesOn, LeftOutHere, TooLargeHere, ClearItem, LeftOutAfter, TooLargeAfter, ClearItems}
 use Rattle.tla_config.specs.Refusals.{IsLeftOutItem, IsTooLargeItem, ItemsUpTo}
 use Rattle.tla_config.specs.Private.GivesValues.{NoValue, NoItem, AreItems, NoItems, TooLargeValue, IsValueAt}
 use Rattle.tla_config.specs.Private.LiteralEnds.{EndsAt, NoneEnds}
@@ -258,8 +258,8 @@ module _ (source : List ℕ) (ts : List Token) where
   items_fail front from at so fails = λ is to x e. let r = so.rest is to x e in none_rest r.0 at to fails r.2
 
   pub items_because : (r : Refusal) (front : List Item) (from at : ℕ) → ItemsSoFar front from at → Onward from at → Fails source ts r (NoItem source ts at)
-      → Because r (LeftOutHere source ts at) (TooLargeHere source ts at) (ClearItem source ts at) → Because r (LeftOutBehind source ts from) (TooLargeBehind source ts from) (ClearItems source ts from)
+      → Because r (LeftOutHere source ts at) (TooLargeHere source ts at) (ClearItem source ts at) → Because r (LeftOutAfter source ts from) (TooLargeAfter source ts from) (ClearItems source ts from)
   items_because (refusal.Unexpected n) front from at so on fails x = clear_items from (λ r. let o = on r in none_reaches at fails x o.0 o.1 o.2 o.3)
   items_because (refusal.LeftOut n) front from at so on fails x = (at, (front, so.before), x.0, x.1)
-  items_because (refusal.TooLarge n) front from at so on fails x = subst (λ m. TooLargeBehind source ts from m) (sym x.1) ((front, so.before), x.0)
+  items_because (refusal.TooLarge n) front from at so on fails x = subst (λ m. TooLargeAfter source ts from m) (sym x.1) ((front, so.before), x.0)
   items_because refusal.NoMemory front from at so on fails x = tt

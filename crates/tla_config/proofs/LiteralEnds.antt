@@ -100,16 +100,16 @@ module _ (text : List ℕ) (ts : List Token) where
     λ c. past n at to c.0 c.1 close c.2 c.3,
   )
 
-  -- a comma, behind which a member begins
-  behind : (n at to : ℕ) (ls : Literals) (mid : ℕ) → Has text ts k.Comma at → SpellsMembers text ts ls at mid → Completes text ts n mid to → Begun text ts (suc n) (at + 1) to
-  behind n at to no_literals mid comma x c = absurd (comma_no_brace at comma x.0)
-  behind n at to (more_literals l ls) mid comma x c = (l, x.1, x.2, (ls, mid, x.3, c))
+  -- a comma, after which a member begins
+  after_comma : (n at to : ℕ) (ls : Literals) (mid : ℕ) → Has text ts k.Comma at → SpellsMembers text ts ls at mid → Completes text ts n mid to → Begun text ts (suc n) (at + 1) to
+  after_comma n at to no_literals mid comma x c = absurd (comma_no_brace at comma x.0)
+  after_comma n at to (more_literals l ls) mid comma x c = (l, x.1, x.2, (ls, mid, x.3, c))
 
   pub completes_comma : (n at to : ℕ) → 0 < n → Has text ts k.Comma at → Begun text ts n (at + 1) to ↔ Completes text ts n at to
   completes_comma zero at to l comma = absurd (omega arith)
   completes_comma (suc n) at to l comma = (
     λ g. (more_literals g.0 g.3.0, g.3.1, (comma, g.1, g.2, g.3.2), g.3.3),
-    λ c. behind n at to c.0 c.1 comma c.2 c.3,
+    λ c. after_comma n at to c.0 c.1 comma c.2 c.3,
   )
 
   -- neither
@@ -128,7 +128,7 @@ module _ (text : List ℕ) (ts : List Token) where
   past_none at h (braces no_literals) to a = let e = a.0.1 in (let z : ⊥ = cc in z)
   past_none at h (braces (more_literals l ls)) to a = let e = a.0.1 in (let z : ⊥ = cc in z)
 
-  -- a value of one token, or behind a minus sign
+  -- a value of one token, or after a minus sign
   pub minus_ends : (at : ℕ) (t : Token) → kind_at k.Minus (slice_get ts at) ≡ true → digits_of (slice_get ts (at + 1)) ≡ Some t → EndsAt text ts at (at + 2)
   minus_ends at t m h =
       let d = digits_found (slice_get ts (at + 1)) t h in

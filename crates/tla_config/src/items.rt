@@ -3,7 +3,7 @@
 ghost use Rattle.std.specs.Prelude.{◌≤◌, ◌<◌, ◌+◌, length, IfOk, IfErr, OnOk};
 ghost use Rattle.tla_config.specs.Beyond.{IsWrittenBeyond};
 ghost use Rattle.tla_config.specs.Private.LiteralEnds.{NoneEnds};
-ghost use Rattle.tla_config.specs.Private.Gives.{Because, Nowhere, Fails, LeftOutHere, TooLargeHere, ClearItem, LeftOutBehind, TooLargeBehind, ClearItems};
+ghost use Rattle.tla_config.specs.Private.Gives.{Because, Nowhere, Fails, LeftOutHere, TooLargeHere, ClearItem, LeftOutAfter, TooLargeAfter, ClearItems};
 ghost use Rattle.tla_config.specs.Private.GivesValues as spec;
 
 use crate::names::{name, next_name};
@@ -115,8 +115,8 @@ pub fn items(
 ) -> Result<ParsedItems, Refusal>
     ensures gives { spec.GivesItems text.now tokens.now from result }
     ensures because { IfErr result (λ e.
-        Because e (LeftOutBehind text.now tokens.now from)
-        (TooLargeBehind text.now tokens.now from) (ClearItems text.now tokens.now from)) }
+        Because e (LeftOutAfter text.now tokens.now from) (TooLargeAfter text.now tokens.now from)
+        (ClearItems text.now tokens.now from)) }
     ensures clear { OnOk result (ClearItems text.now tokens.now from) }
     ensures within { IfOk result (λ x. (from < x.end) × (x.end ≤ length tokens.now)) }
 {

@@ -189,12 +189,12 @@ fn atom(
 }
 
 /// The set of these values.
-fn set(values: Vec<Value>, item: usize) -> Result<Value, Refusal>
+fn set(alloc: Global, values: Vec<Value>, item: usize) -> Result<Value, Refusal>
     ensures gives { (text : List ℕ) (ts : List lexed.Token)
         → spec.GivesSet text ts (map tree_of values.items) result }
     ensures because { IfErr result (λ e. Because e Nowhere (λ n. n ≡ item) ⊥) }
 {
-    match SetValue::from_values(values) {
+    match SetValue::from_values(alloc, values) {
         Ok(set) => Ok(Value::Set(set)),
         Err(ValueError::Memory) => Err(Refusal::NoMemory),
         Err(ValueError::TooMany) => Err(Refusal::TooLarge(item)),
@@ -280,14 +280,14 @@ fn members(
     let mut values = Vec::new(alloc);
     let mut at = from + 1;
     if is_kind(Kind::RightBrace, tokens, at) {
-        let value = set(values, item)?;
+        let value = set(alloc, values, item)?;
         return Ok(ParsedValue { value, end: at + 1 });
     }
     loop {
         let found = value(alloc, text, tokens, item, room, at)?;
         push(&mut values, found.value)?;
         if is_kind(Kind::RightBrace, tokens, found.end) {
-            let value = set(values, item)?;
+            let value = set(alloc, values, item)?;
             return Ok(ParsedValue {
                 value,
                 end: found.end + 1,

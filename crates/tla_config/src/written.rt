@@ -112,15 +112,15 @@ pub fn literal_end(text: &[u8], tokens: &[Token], from: usize) -> Result<usize, 
             at += 1;
         } else {
             let end = part_end(text, tokens, at)?;
-            let behind = closed(tokens, Inside { at: end, deep });
-            if behind.deep == 0 {
-                return Ok(behind.at);
+            let after = closed(tokens, Inside { at: end, deep });
+            if after.deep == 0 {
+                return Ok(after.at);
             }
-            if !is_kind(Kind::Comma, tokens, behind.at) {
-                return Err(behind.at);
+            if !is_kind(Kind::Comma, tokens, after.at) {
+                return Err(after.at);
             }
-            deep = behind.deep;
-            at = behind.at + 1;
+            deep = after.deep;
+            at = after.at + 1;
         }
     }
     Err(at)

@@ -1,6 +1,6 @@
 -- Parts whose values are known: one more of them, and what a node of such parts is.
 use Rattle.std.proofs.Common.{◌≡◌, ℕ, ◌+◌, ◌<◌, ◌≤◌, List, [], ◌∷◌, ◌++◌, length, take, get_or, zip, map, Option, Some, None, Result, Ok, Err, IfOk, IfSome, refl, ap, sym, subst, ◌∙◌, arith, Vec, Global}
-use Rattle.std.specs.List.{AllZip}
+use Rattle.std.specs.List.{AllZip, AllByRecursion}
 use Rattle.std.proofs.lemmas.List.{take_more}
 use Rattle.std.proofs.lemmas.Slice.Zip.{all_zipped_more}
 use Rattle.std.proofs.lemmas.Bool.Decides.{nat_tests}
@@ -18,7 +18,7 @@ use Rattle.tla_core.specs.Meaning.{Meaning, Bound, Present, Next, means-enumerat
 use Rattle.tla_core.specs.Value.{means}
 use Rattle.tla_core.specs.ExprOf.{expr_of, parts_of_cores, fields_of_cores}
 use Rattle.tla_core.specs.Always.{IsAlways}
-use Rattle.tla_core.specs.Private.Known.{HasValue, HasField, named_core, named_fixed}
+use Rattle.tla_core.specs.Private.Known.{IsKnown, IsKnownField, HasValue, HasField, named_core, named_fixed}
 use Rattle.tla_core.specs.Expr.{Expr}
 use Rattle.tla_core.specs.FixedOf.{fixed_of}
 use Rattle.tla_core.specs.declared.fixed.Fixed.{Fixed}
@@ -52,7 +52,7 @@ each_known [] [] h b s t = refl
 each_known [] (v ∷ vs) h b s t = absurd h
 each_known (c ∷ cs) [] h b s t = absurd h
 each_known (c ∷ cs) (v ∷ vs) h b s t =
-    ap (λ (o : Outcome Tree). o >>= λ y. each (λ (m : Meaning). m.value b s t) (parts_of_cores cs) >>= λ ys. Ok (y ∷ ys)) (h.0 b s t)
+    ap (λ (o : Outcome Tree). o >>= λ y. each (λ (m : Meaning). m.value b s t) (parts_of_cores cs) >>= λ ys. Ok (y ∷ ys)) (h.0.1 b s t)
     ∙ ap (λ (o : Outcome (List Tree)). o >>= λ ys. Ok (tree_of v ∷ ys)) (each_known cs vs h.1 b s t)
 
 pub enumerated_known : (p : Place) (cores : List Core) (vs : List Value) (x : Tree) → AllZip HasValue cores vs → make_set p (map tree_of vs) ≡ Ok x → IsAlways (means-enumerated p (parts_of_cores cores)) x
@@ -69,7 +69,7 @@ each_field [] [] h b s t = refl
 each_field [] (p ∷ ps) h b s t = absurd h
 each_field (f ∷ fs) [] h b s t = absurd h
 each_field (f ∷ fs) (p ∷ ps) h b s t =
-    ap (λ (o : Outcome Tree). o >>= λ y. each (λ (m : Meaning). m.value b s t) (parts_of (fields_of_cores fs)) >>= λ ys. Ok (y ∷ ys)) (h.0.1 b s t)
+    ap (λ (o : Outcome Tree). o >>= λ y. each (λ (m : Meaning). m.value b s t) (parts_of (fields_of_cores fs)) >>= λ ys. Ok (y ∷ ys)) (h.0.1.1 b s t)
     ∙ ap (λ (o : Outcome (List Tree)). o >>= λ ys. Ok (tree_of p.1 ∷ ys)) (each_field fs ps h.1 b s t)
 
 keys_beside : (fields : List (List ℕ × Core)) (ps : List (Value × Value)) → AllZip HasField fields ps → zip (keys_of (fields_of_cores fields)) (values_beside ps) ≡ map pair_of ps
@@ -85,6 +85,25 @@ record_known p fields ps x h e = λ b s t.
     ap (λ (o : Outcome (List Tree)). o >>= λ vs. make_fun p (zip (keys_of (fields_of_cores fields)) vs)) (each_field fields ps h b s t)
     ∙ ap (make_fun p) (keys_beside fields ps h)
     ∙ e
+
+-- ---- parts whose values are there are known
+pub parts_known : (cores : List Core) (vs : List Value) → AllZip HasValue cores vs → AllByRecursion IsKnown cores
+parts_known [] [] h = tt
+parts_known [] (v ∷ vs) h = absurd h
+parts_known (c ∷ cs) [] h = absurd h
+parts_known (c ∷ cs) (v ∷ vs) h = (h.0.0, parts_known cs vs h.1)
+
+pub fields_known : (fields : List (List ℕ × Core)) (ps : List (Value × Value)) → AllZip HasField fields ps → AllByRecursion IsKnownField fields
+fields_known [] [] h = tt
+fields_known [] (p ∷ ps) h = absurd h
+fields_known (f ∷ fs) [] h = absurd h
+fields_known (f ∷ fs) (p ∷ ps) h = (h.0.1.0, fields_known fs ps h.1)
+
+-- what is so, whatever is kept
+pub in_any : {E : Type 0} (P : Type 0) (r : Result (Option Value) E) → P → IfOk r (λ o. IfSome o (λ (v : Value). P))
+in_any P (Ok (Some v)) h = h
+in_any P (Ok None) h = tt
+in_any P (Err e) h = tt
 
 -- what is kept, where there is something
 pub if_kept : {E : Type 0} (P Q : Value → Type 0) (r : Result (Option Value) E) → ((v : Value) → P v → Q v) → IfOk r (λ o. IfSome o P) → IfOk r (λ o. IfSome o Q)

@@ -3,3 +3,4 @@ pub mod Parts
 pub mod FixedTrees
 pub mod KnownParts
 pub mod SameTrees
+pub mod Next

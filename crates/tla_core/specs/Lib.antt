@@ -16,4 +16,5 @@ pub mod FixedOf
 pub mod LiteralOf
 pub mod ExprOf
 pub mod Fits
+pub mod Next
 pub mod Private

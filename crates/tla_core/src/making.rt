@@ -1,6 +1,6 @@
 //! Nodes whose value is kept, where the values of all their parts are known.
-ghost use Rattle.std.specs.Prelude.{◌≡◌, IfSome, IfOk, Ok, List, map};
-ghost use Rattle.std.specs.List.{AllZip};
+ghost use Rattle.std.specs.Prelude.{◌≡◌, IfSome, IfOk, Ok, List, true, map};
+ghost use Rattle.std.specs.List.{AllZip, AllByRecursion};
 ghost use Rattle.tla_value.specs.Tree.{Tree, text};
 ghost use Rattle.tla_value.specs.TreeOf.{tree_of};
 ghost use Rattle.tla_value.specs.Sets.{MakesSet};
@@ -11,7 +11,7 @@ ghost use Rattle.tla_core.specs.Meaning.{means-enumerated, means-tuple, means-re
 ghost use Rattle.tla_core.specs.ExprOf.{expr_of, parts_of_cores, fields_of_cores};
 ghost use Rattle.tla_core.specs.FixedOf.{fixed_of};
 ghost use Rattle.tla_core.specs.Always.{IsAlways};
-ghost use Rattle.tla_core.specs.Private.Known.{HasValue, HasField, named_core, named_fixed};
+ghost use Rattle.tla_core.specs.Private.Known.{is_known, IsKnown, IsKnownField, HasValue, HasField, named_core, named_fixed};
 
 use crate::expression::Core;
 use crate::fault::Place;
@@ -110,75 +110,75 @@ fn fun_within(made: Result<FunValue, ValueError>) -> Result<Option<Value>, Alloc
 
 /// The set of some parts, where it is known.
 fn known_set(alloc: Global, parts: &[Core]) -> Result<Option<Value>, AllocError>
-    ensures { IfOk result (λ o.
+    ensures known { IfOk result (λ o. IfSome o (λ _. AllByRecursion IsKnown parts.now)) }
+    ensures value { IfOk result (λ o.
         IfSome o (λ v.
         (p : Place) → IsAlways (means-enumerated p (parts_of_cores parts.now)) (tree_of v))) }
 {
     match known_values(alloc, parts)? {
-        Some(values) => set_within(SetValue::from_values(values)),
+        Some(values) => set_within(SetValue::from_values(alloc, values)),
         None => Ok(None),
     }
 }
 
 /// The sequence of some parts, where it is known.
 fn known_tuple(alloc: Global, parts: &[Core]) -> Result<Option<Value>, AllocError>
-    ensures { IfOk result (λ o.
+    ensures known { IfOk result (λ o. IfSome o (λ _. AllByRecursion IsKnown parts.now)) }
+    ensures value { IfOk result (λ o.
         IfSome o (λ v.
         (p : Place) → IsAlways (means-tuple p (parts_of_cores parts.now)) (tree_of v))) }
 {
     match known_values(alloc, parts)? {
-        Some(values) => fun_within(FunValue::sequence(values)),
+        Some(values) => fun_within(FunValue::sequence(alloc, values)),
         None => Ok(None),
     }
 }
 
 /// The record of some fields, where it is known.
 fn known_record(alloc: Global, fields: &[(Text, Core)]) -> Result<Option<Value>, AllocError>
-    ensures { IfOk result (λ o.
+    ensures known { IfOk result (λ o. IfSome o (λ _. AllByRecursion IsKnownField fields.now)) }
+    ensures value { IfOk result (λ o.
         IfSome o (λ v.
         (p : Place) → IsAlways (means-record_of p (fields_of_cores fields.now)) (tree_of v))) }
 {
     match known_fields(alloc, fields)? {
-        Some(pairs) => fun_within(FunValue::from_pairs(pairs)),
+        Some(pairs) => fun_within(FunValue::from_pairs(alloc, pairs)),
         None => Ok(None),
     }
 }
 
 /// An expression whose value is known, as a tree of constants.
-fn fixed_part(core: Core) -> Option<Fixed>
-    ensures { IfSome result (λ f. fixed_of f ≡ expr_of core) }
+fn fixed_part(core: Core) -> Fixed
+    requires { is_known core ≡ true }
+    ensures { fixed_of result ≡ expr_of core }
 {
     match core {
-        Core::Constant(place, value) => Some(Fixed::Constant(place, value)),
-        Core::Literal(literal) => Some(literal.into_tree()),
-        _ => None,
+        Core::Constant(place, value) => Fixed::Constant(place, value),
+        Core::Literal(literal) => literal.into_tree(),
+        _ => unreachable!(),
     }
 }
 
 /// The trees of parts whose values are known. The only error is that memory ran out.
 fn fixed_parts(alloc: Global, parts: Vec<Core>) -> Result<Vec<Fixed>, AllocError>
+    requires { AllByRecursion IsKnown parts.items }
     ensures { IfOk result (λ v. map fixed_of v.items ≡ map expr_of parts.items) }
 {
     let mut trees = Vec::with_capacity(alloc, parts.len())?;
     for part in parts {
-        let Some(tree) = fixed_part(part) else {
-            return Err(AllocError);
-        };
-        trees.push(tree)?;
+        trees.push(fixed_part(part))?;
     }
     Ok(trees)
 }
 
 /// The trees of fields whose values are known. The only error is that memory ran out.
 fn fixed_fields(alloc: Global, fields: Vec<(Text, Core)>) -> Result<Vec<(Text, Fixed)>, AllocError>
+    requires { AllByRecursion IsKnownField fields.items }
     ensures { IfOk result (λ v. map named_fixed v.items ≡ map named_core fields.items) }
 {
     let mut trees = Vec::with_capacity(alloc, fields.len())?;
     for field in fields {
-        let Some(tree) = fixed_part(field.1) else {
-            return Err(AllocError);
-        };
-        trees.push((field.0, tree))?;
+        trees.push((field.0, fixed_part(field.1)))?;
     }
     Ok(trees)
 }

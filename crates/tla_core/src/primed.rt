@@ -11,9 +11,12 @@ use crate::expression::Core;
 use tla_value::Text;
 
 impl Core {
+    ghost use Rattle.tla_core.specs.Next.{has_next};
+
     /// Whether the next value of a variable occurs in the expression.
     pub fn is_primed(&self) -> bool
-        ensures { result ≡ (means (expr_of self.now)).primed }
+        ensures primed { result ≡ (means (expr_of self.now)).primed }
+        ensures next { result ≡ has_next (expr_of self.now) }
     {
         has_next(self)
     }

@@ -1,5 +1,5 @@
 -- The behaviour of a configuration, and the names of its INIT, NEXT and SPECIFICATION.
-use Rattle.std.proofs.Common.{◌≡◌, refl, ap, sym, inl, inr, List, [], ◌∷◌, ◌++◌, Option, Some, None, Result, Ok, Err}
+use Rattle.std.proofs.Common.{◌≡◌, ◌∙◌, refl, ap, sym, inl, inr, List, [], ◌∷◌, ◌++◌, Option, Some, None, Result, Ok, Err}
 use Rattle.tla_lex.specs.declared.token.Place.{Place}
 use Rattle.tla_tree.specs.declared.word.Written.{Written}
 use Rattle.tla_tree.specs.Tree.{Tree}
@@ -7,6 +7,7 @@ use Rattle.tla_tree.specs.Units.{UnitTree}
 use Rattle.tla_config.specs.Statements.{Statement, Specification, Init, Next, Invariants, Constraints, Constants, CheckDeadlock}
 use Rattle.tla_defs.specs.Model.{IsBehaviour, initials_named, nexts_named, specifications_named}
 use Rattle.tla_defs.specs.Refused.{Behaviour, Named, Specified, alone, behaviour}
+use Rattle.tla_defs.specs.Laws.{NamesInitAndNext, NamesSpecification}
 use Rattle.tla_defs.specs.Private.Specified.{IsOnly, init_names, next_names, specification_names}
 
 -- a name that was found before
@@ -110,3 +111,38 @@ specified_found (Constants at is ∷ cs) end v i n s = specified_found cs end v 
 pub behaviour_found : (us : List UnitTree) (cs : List Statement) (end : Place) (i a : Tree) → IsBehaviour us cs i a → IsFound (behaviour cs end None None)
 behaviour_found us cs end i a (inl h) = named_found None None cs end h.init_name h.next_name h.one_init h.one_next h.no_specification
 behaviour_found us cs end i a (inr h) = specified_found cs end h.name h.no_init h.no_next h.one_specification
+
+-- ---- found exactly where it is named
+abbrev found : Behaviour → Result Behaviour Place
+found b = Ok b
+
+heads : (x y : Written) (xs ys : List Written) → x ∷ xs ≡ y ∷ ys → x ≡ y
+heads x y xs ys p = cc
+
+pub named_only : (cs : List Statement) (end : Place) (x y : Written) → behaviour cs end None None ≡ Ok (Named x y) → NamesInitAndNext cs x y
+named_only cs end x y p = let h = behaviour_only cs end (Named x y) p in (h.init, h.next, h.specification)
+
+named_same : (cs : List Statement) (b : Behaviour) (x y : Written) → IsOnly cs b → NamesInitAndNext cs x y → b ≡ Named x y
+named_same cs (Named i n) x y h q =
+    let first = heads i x [] [] (sym h.init ∙ q.0) in
+    let second = heads n y [] [] (sym h.next ∙ q.1) in
+    λ k. Named (first k) (second k)
+named_same cs (Specified p v) x y h q = let a = h.init in let b = q.0 in (let z : ⊥ = cc in absurd z)
+
+pub named_exactly : (cs : List Statement) (end : Place) (x y : Written) → NamesInitAndNext cs x y → behaviour cs end None None ≡ Ok (Named x y)
+named_exactly cs end x y q =
+    let f = named_found None None cs end x y q.0 q.1 q.2 in
+    f.1 ∙ ap found (named_same cs f.0 x y (behaviour_only cs end f.0 f.1) q)
+
+pub specified_only : (cs : List Statement) (end : Place) (v : Written) (p : Place) → behaviour cs end None None ≡ Ok (Specified p v) → NamesSpecification cs v
+specified_only cs end v p e = let h = behaviour_only cs end (Specified p v) e in (h.init, h.next, h.specification)
+
+specified_same : (cs : List Statement) (b : Behaviour) (v : Written) → IsOnly cs b → NamesSpecification cs v → (p : Place) × (b ≡ Specified p v)
+specified_same cs (Named i n) v h q = let a = h.init in let b = q.0 in (let z : ⊥ = cc in absurd z)
+specified_same cs (Specified p w) v h q = let same = heads w v [] [] (sym h.specification ∙ q.2) in (p, λ k. Specified p (same k))
+
+pub specified_exactly : (cs : List Statement) (end : Place) (v : Written) → NamesSpecification cs v → (p : Place) × (behaviour cs end None None ≡ Ok (Specified p v))
+specified_exactly cs end v q =
+    let f = specified_found cs end v q.0 q.1 q.2 in
+    let s = specified_same cs f.0 v (behaviour_only cs end f.0 f.1) q in
+    (s.0, f.1 ∙ ap found s.1)

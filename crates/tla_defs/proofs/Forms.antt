@@ -1,5 +1,5 @@
 -- The formula that SPECIFICATION names, as the code finds it.
-use Rattle.std.proofs.Common.{◌≡◌, ◌≤◌, ℕ, refl, ap, sym, ◌∙◌, subst, length, get_or, arith, inl, inr, Bool, true, false, ◌||◌, Option, List, [], ◌∷◌, Some, None}
+use Rattle.std.proofs.Common.{◌≡◌, ◌≤◌, ◌<◌, ℕ, refl, ap, sym, ◌∙◌, subst, length, get_or, arith, inl, inr, Bool, true, false, ◌||◌, Option, List, [], ◌∷◌, Some, None}
 use Rattle.std.specs.Borrow.{Bor}
 use Rattle.tla_tree.specs.declared.tree.Expr as s
 use Rattle.tla_tree.specs.declared.word.Written.{Written}
@@ -44,14 +44,18 @@ some_seen [] n = absurd (n refl)
 some_seen (t ∷ []) n = (tree_at t, refl)
 some_seen (t ∷ u ∷ ts) n = (_, refl)
 
+pub has_items : (ts : List (Bor s.Expr)) (i : Tree) → conjunction_of (seen ts) ≡ Some i → 0 < length ts
+has_items [] i p = let z : ⊥ = cc in absurd z
+has_items (t ∷ ts) i p = omega arith
+
 -- the conjunction of the one conjunct, and of several
 pub of_one_item : (ts : List (Bor s.Expr)) (t : Bor s.Expr) (i : Tree) → length ts ≡ 1 → t ≡ get_or ts 0 t → conjunction_of (seen ts) ≡ Some i → tree_at t ≡ i
 of_one_item ts t i n e p = same_some (conjunction_of (seen ts)) (tree_at t) i (ap (λ us. conjunction_of (seen us)) (one_item ts t n e)) p
 
-pub of_items : (ts : List (Bor s.Expr)) (t : Bor s.Expr) (i : Tree) → (length ts ≡ 0 → ⊥) → (length ts ≡ 1 → ⊥) → t ≡ get_or ts 0 t → conjunction_of (seen ts) ≡ Some i → Junction (place (tree_at t)) bullet.And (trees (seen ts)) ≡ i
-of_items [] t i n m e p = absurd (n refl)
-of_items (u ∷ []) t i n m e p = absurd (m refl)
-of_items (u ∷ v ∷ ts) t i n m e p = same_some (conjunction_of (seen (u ∷ v ∷ ts))) _ i (ap (λ (x : Bor s.Expr). Some (Junction (place (tree_at x)) bullet.And (trees (seen (u ∷ v ∷ ts))))) (sym e)) p
+pub of_items : (ts : List (Bor s.Expr)) (t : Bor s.Expr) (i : Tree) → (length ts ≡ 1 → ⊥) → t ≡ get_or ts 0 t → conjunction_of (seen ts) ≡ Some i → Junction (place (tree_at t)) bullet.And (trees (seen ts)) ≡ i
+of_items [] t i m e p = let z : ⊥ = cc in absurd z
+of_items (u ∷ []) t i m e p = absurd (m refl)
+of_items (u ∷ v ∷ ts) t i m e p = same_some (conjunction_of (seen (u ∷ v ∷ ts))) _ i (ap (λ (x : Bor s.Expr). Some (Junction (place (tree_at x)) bullet.And (trees (seen (u ∷ v ∷ ts))))) (sym e)) p
 
 body_replaced : (τ : Name → Bool) (b : Bodies) (x : Name) (e : Tree) → replaced_by τ b x ≡ Some e → b x ≡ Some e
 body_replaced τ b x e h = at (b x) refl

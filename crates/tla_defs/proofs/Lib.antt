@@ -18,3 +18,4 @@ pub mod Found
 pub mod Locating
 pub mod Alike
 pub mod Passes
+pub mod Visits

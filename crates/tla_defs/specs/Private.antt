@@ -6,4 +6,5 @@ pub mod Parts
 pub mod Table
 pub mod Conjuncts
 pub mod Splits
+pub mod Visits
 pub mod Specified

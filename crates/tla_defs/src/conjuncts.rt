@@ -1,6 +1,6 @@
 //! The conjuncts of the formula that SPECIFICATION names.
 
-ghost use Rattle.std.specs.Prelude.{◌≡◌, ◌≢◌, ◌++◌, ◌∷◌, [], List, Some, map, option_map, OnOk, IfOk, IfErr};
+ghost use Rattle.std.specs.Prelude.{◌≡◌, ◌≢◌, ◌<◌, ◌+◌, ℕ, ◌++◌, ◌∷◌, [], List, Some, map, option_map, OnOk, IfOk, IfErr};
 ghost use Rattle.tla_config.specs.declared.error.DefsCode.TheVariants.{Memory};
 ghost use Rattle.tla_tree.specs.Tree.{Tree, trees as trees_of};
 ghost use Rattle.tla_tree.specs.View.{view};
@@ -9,13 +9,15 @@ ghost use Rattle.tla_defs.specs.Private.Conjuncts.{replaced_in, fair_names, conj
 ghost use Rattle.tla_defs.specs.Private.Parts.{steps_in, IsOfMany};
 ghost use Rattle.tla_defs.specs.Private.Seen.{tree_at, seen};
 ghost use Rattle.tla_defs.specs.Private.Splits.{conjuncts_by};
+ghost use Rattle.tla_defs.specs.Private.Visits.{visits_in, visits_each, visits_of, visits_for, visits_left, visits_by};
+ghost use Rattle.tla_config.specs.Names.{Name};
 ghost use Rattle.tla_defs.specs.Specification as spec;
 
 use crate::fairness::is_fair;
 use crate::parts::Parts;
 use crate::table::Definitions;
 use std::alloc::Global;
-use tla_config::{DefsError, Source};
+use tla_config::DefsError;
 use tla_lex::Place;
 use tla_tree::{Bullet, Expr, Infix, Word, push};
 
@@ -38,6 +40,11 @@ fn push_each<'a>(
         ≡ spec.conjuncts_each (spec.conjuncts_of names b)
         (trees_of (map view trees.entry.now))
         ++ conjuncts_left b formulas.old.items) }
+    ensures visits { (b : bodies.Bodies)
+        → OnOk result
+        (visits_left b formulas.new.items
+        ≡ visits_each (visits_of names b) (trees_of (map view trees.entry.now))
+        + visits_left b formulas.old.items) }
     ensures err { IfErr result (λ e. e.code ≡ Memory) }
 {
     for i in 0..trees.len() {
@@ -60,9 +67,10 @@ pub(crate) enum Split<'a> {
 }
 
 fn split_of<'a>(tree: &'a Expr) -> Split<'a>
-    ensures { (ρ : _)
+    ensures conjuncts { (ρ : _)
         → spec.conjuncts_in ρ (view tree.entry.now)
         ≡ conjuncts_by ρ (view tree.entry.now) result }
+    ensures visits { (ρ : Name → ℕ) → visits_in ρ (view tree.entry.now) ≡ visits_by ρ result }
 {
     match tree {
         Expr::Paren(_, inner) => Split::Same(inner),
@@ -114,8 +122,10 @@ impl<'t, 'a> Classes<'t, 'a> {
 
     /// The formula that replaces a name, if names are replaced `names` definitions deep.
     fn formula(&self, name: &[u8], names: usize) -> Option<Formula<'a>>
-        ensures { option_map (conjuncts_from (replaced_in self.now)) result
+        ensures conjuncts { option_map (conjuncts_from (replaced_in self.now)) result
             ≡ spec.conjuncts_of names (replaced_in self.now) name.now }
+        ensures visits { visits_for (replaced_in self.now) result
+            ≡ visits_of names (replaced_in self.now) name.now }
     {
         if names == 0 {
             return None;
@@ -152,6 +162,10 @@ fn go_on<'a>(
         (walk.old.left.items ++ formula.entry ∷ []) walk.old.parts ss es
         → AreFoundOrLeft (fair_names classes.now) (replaced_in classes.now) walk.new.left.items
         walk.new.parts ss es) }
+    ensures less { OnOk result
+        (visits_left (replaced_in classes.now) walk.new.left.items
+        < visits_left (replaced_in classes.now)
+        (walk.old.left.items ++ formula.entry ∷ [])) }
     ensures err { IfErr result (λ e. e.code ≡ Memory) }
 {
     let Formula { tree, names } = formula;
@@ -213,7 +227,7 @@ pub(crate) fn parts_of<'a>(
         parts: Parts::new(alloc),
     };
     push(&mut walk.left, Formula { tree: whole, names })?;
-    for _turn in 0..u64::MAX {
+    loop {
         if let Some(error) = walk.parts.too_many(place) {
             return Err(error);
         }
@@ -222,5 +236,4 @@ pub(crate) fn parts_of<'a>(
         };
         go_on(alloc, classes, formula, &mut walk)?;
     }
-    Err(DefsError::no_memory(Source::Module))
 }

@@ -1,12 +1,12 @@
 //! What the names of a module mean.
 
-ghost use Rattle.std.specs.Prelude.{◌≡◌, ◌+◌, ◌∷◌, length, List, IfOk, IfErr, map};
+ghost use Rattle.std.specs.Prelude.{◌≡◌, ◌≤◌, ◌<◌, ◌+◌, ◌∷◌, length, List, IfOk, IfErr, map};
 ghost use Rattle.tla_config.specs.declared.error.DefsCode.TheVariants.{Memory};
 ghost use Rattle.tla_config.specs.Names.{is_among};
 ghost use Rattle.tla_config.specs.View.{item_view};
 ghost use Rattle.tla_expand.specs.Expand.{definition_in};
 ghost use Rattle.tla_expand.specs.Meanings.{standard};
-ghost use Rattle.tla_expand.specs.Names.{scope_of, outer_of};
+ghost use Rattle.tla_expand.specs.Names.{scope_of, outer_of, size_of};
 ghost use Rattle.tla_tree.specs.Units.{UnitTree};
 ghost use Rattle.tla_tree.specs.UnitsView.{unit_view};
 ghost use Rattle.tla_tree.specs.View.{view, definition_view};
@@ -22,11 +22,26 @@ use tla_items::{Items, name_of, still_open, with_operators};
 use tla_names::Names;
 use tla_tree::{Definition, Expr, Unit, Word, Written};
 
-/// A scope, and how many variables are in it.
+/// A scope, and how many of its names are variables.
 #[derive(Drop)]
 struct Counted<'a> {
     scopes: Scopes<'a>,
     variables: usize,
+    ghost few: { variables ≤ size_of scopes },
+}
+
+/// A scope with one more variable than this. The sum is a `usize`, as the number of its names is.
+fn one_more<'a>(scopes: Scopes<'a>, variables: usize) -> Counted<'a>
+    requires { variables < size_of scopes }
+    ensures scope { scope_of result.scopes ≡ scope_of scopes.entry }
+    ensures next { result.variables ≡ variables + 1 }
+{
+    let size = scopes.size();
+    prove!(variables < size);
+    Counted {
+        scopes,
+        variables: variables + 1,
+    }
 }
 
 /// Adds a variable.
@@ -39,11 +54,8 @@ fn with_variable<'a>(counted: Counted<'a>, name: &'a Word) -> Result<Counted<'a>
     ensures err { IfErr result (λ e. e.code ≡ Memory) }
 {
     let number = counted.variables;
-    let Some(variables) = number.checked_add(1) else {
-        return Err(DefsError::no_memory(Source::Module));
-    };
     match counted.scopes.with_variable(name, number) {
-        Ok(scopes) => Ok(Counted { scopes, variables }),
+        Ok(scopes) => Ok(one_more(scopes, number)),
         Err(_) => Err(DefsError::no_memory(Source::Module)),
     }
 }

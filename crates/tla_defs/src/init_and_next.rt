@@ -20,7 +20,7 @@ ghost use Rattle.tla_defs.specs.Private.Specified.{initial_in, initial_tree, act
 use crate::behaviour::Behaviour;
 use crate::specification::{Specified, specification};
 use std::alloc::Global;
-use tla_config::{DefsCode, DefsError, Source};
+use tla_config::{DefsCode, DefsError};
 use tla_core::Core;
 use tla_expand::{Primes, Scopes};
 use tla_formulas::{Places, action, initial, refusal};
@@ -113,12 +113,13 @@ fn several_conjuncts<'a>(
     }
 }
 
-/// The initial predicate of a specification, over the next values of variables.
+/// The initial predicate of a specification that has one, over the next values of variables.
 fn specified_initial<'a>(
     alloc: Global,
     scopes: &Scopes<'a>,
     specified: &Specified<'a>,
 ) -> Result<Core, DefsError>
+    requires { (i : Tree) × (initial_in specified.now ≡ Some i) }
     ensures found { (i : Tree)
         → initial_in specified.now ≡ Some i
         → IfOk result (λ c. formulas.IsInitial (scope_of scopes.now) i (expr_of c)) }
@@ -135,9 +136,6 @@ fn specified_initial<'a>(
         → formulas.IsInitial (scope_of scopes.now) i x
         → ⊥) }
 {
-    if specified.initial.len() == 0 {
-        return Err(DefsError::no_memory(Source::Module));
-    }
     let first = specified.initial[0];
     if specified.initial.len() == 1 {
         return one_conjunct(alloc, scopes, first);
@@ -176,6 +174,7 @@ pub(crate) fn initial_predicate<'a>(
     scopes: &Scopes<'a>,
     meant: &InitAndNext<'a>,
 ) -> Result<Core, DefsError>
+    requires { (i : Tree) × (initial_tree «meant».now ≡ Some i) }
     ensures found { (i : Tree)
         → initial_tree «meant».now ≡ Some i
         → IfOk result (λ c. formulas.IsInitial (scope_of scopes.now) i (expr_of c)) }

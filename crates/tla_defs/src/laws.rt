@@ -1,6 +1,6 @@
 //! Laws of models, over their definitions alone.
 
-ghost use Rattle.tla_defs.specs.Laws.{OnlyModel, NoneRefused, IsAlwaysSound};
+ghost use Rattle.tla_defs.specs.Laws.{OnlyModel, NoneRefused, IsAlwaysSound, FindsBehaviour};
 ghost use Rattle.tla_defs.specs.Rows.{CounterOfThree, CounterOfFive, BoundedSteps, BoundedStepsMayEnd, CountsWithin, LargestNumber};
 ghost use Rattle.tla_defs.specs.GivenRows.{WithValue, WithReplacement, Cycle, TwoVariables};
 ghost use Rattle.tla_defs.specs.SpecificationRows.{Specified, SpecifiedInParts, SpecifiedByNames};
@@ -19,6 +19,11 @@ pub fn none_refused()
 /// What a model names exists, and its expressions are no deeper than the limit.
 pub fn always_sound()
     ensures { IsAlwaysSound }
+{}
+
+/// INIT and NEXT, or SPECIFICATION, are found exactly if they alone name the behaviour.
+pub fn finds_behaviour()
+    ensures { FindsBehaviour }
 {}
 
 /// The models that some modules and configurations name.

@@ -1,5 +1,5 @@
 -- A test of each element of a set, one by one.
-use Rattle.std.proofs.Common.{◌≡◌, ℕ, suc, ◌+◌, Bool, true, false, cond, List, [], ◌∷◌, ◌++◌, drop, Option, Some, None, Ok, Err, refl, sym, ap, ◌∙◌, add-one}
+use Rattle.std.proofs.Common.{◌≡◌, ℕ, suc, ◌+◌, ◌≤◌, Bool, true, false, cond, List, [], ◌∷◌, ◌++◌, length, drop, Option, Some, None, Result, Ok, Err, inl, inr, refl, sym, ap, ◌∙◌, add-one}
 use Rattle.std.specs.Prelude.{slice_get}
 use Rattle.std.specs.Option.{option_to_list}
 use Rattle.tla_value.specs.Tree.{Tree, set}
@@ -11,11 +11,12 @@ use Rattle.tla_core.specs.Fault.{Outcome, ◌>>=◌, fault}
 use Rattle.tla_core.specs.Kinds.{as_set, or_fault, make_set}
 use Rattle.tla_core.specs.Lists.{each, all_hold, some_hold, first_passing, passing}
 use Rattle.tla_core.specs.Meaning.{Meaning, Bound, Present, Next, means-enumerated}
+use Rattle.tla_operators.specs.Gives.{GivesBy, GivesTruth}
 use Rattle.tla_sets.specs.Elements.{elements_rule, has_rule, stands_rule}
 use Rattle.tla_eval.specs.Private.Parts.{tested, one_of_rule}
 use Rattle.tla_operators.proofs.Members.{bind-ok}
 use Rattle.tla_eval.proofs.Collected.{passing_more}
-use Rattle.tla_sets.proofs.Listed.{drop_from, drop_past, none_more}
+use Rattle.tla_sets.proofs.Listed.{drop_from, drop_past, get_past, none_more}
 
 -- ---- an operator on two values that are known
 module _ (p : Place) (rule : Tree → Tree → Outcome Tree) (o o' : Outcome Tree) (x y x' y' : Tree) (e : o ≡ Ok x) (e' : o' ≡ Ok y) (f : x' ≡ x) (f' : y' ≡ y) where
@@ -46,13 +47,6 @@ there test (Some v) b h =
     same : (x : Bool) → (let r : Outcome (Option Bool) = Ok (Some x) in r ≡ Ok (Some b)) → x ≡ b
     same x k = cc
 
-gone : (test : Tree → Outcome Bool) (o : Option Tree) → tested test o ≡ Ok None → o ≡ None
-gone test None h = refl
-gone test (Some v) h = let r = bind-ok (test v) (λ x. Ok (Some x)) None h in absurd (some_none r.0 r.2)
-  where
-    some_none : (x : Bool) → (let r : Outcome (Option Bool) = Ok (Some x) in r ≡ Ok None) → ⊥
-    some_none x k = cc
-
 faults : (test : Tree → Outcome Bool) (o : Option Tree) (g : Fault) → tested test o ≡ Err g → (v : Tree) × (o ≡ Some v) × (test v ≡ Err g)
 faults test None g h = absurd (ok_err h)
   where
@@ -66,6 +60,12 @@ faults test (Some v) g h = (v, refl, go (test v) h)
 
 pub tested_there : (test : Tree → Outcome Bool) (o : Option Tree) (v : Tree) (b : Bool) → o ≡ Some v → test v ≡ Ok b → tested test o ≡ Ok (Some b)
 tested_there test o v b h k = ap (tested test) h ∙ ap (λ (r : Outcome Bool). r >>= λ x. Ok (Some x)) k
+
+-- what a test says of an element that is there
+pub tested_told : (test : Tree → Outcome Bool) (o : Option Tree) (v : Tree) (r : Result Bool Fault) → o ≡ Some v → GivesTruth r (test v) → GivesBy (λ (b : Bool). Some b) r (tested test o)
+tested_told test o v (Ok b) h k = tested_there test o v b h k
+tested_told test o v (Err f) h (inl m) = inl m
+tested_told test o v (Err f) h (inr e) = inr (ap (tested test) h ∙ ap (λ (r : Outcome Bool). r >>= λ x. Ok (Some x)) e)
 
 -- ---- what goes over elements one by one, from one of them on
 module _ {A : Type 0} (test : Tree → Outcome Bool) (over : List Tree → Outcome A) (next : Tree → Bool → Outcome A → Outcome A) (turn : (v : Tree) (vs : List Tree) → over (v ∷ vs) ≡ (test v >>= λ b. next v b (over vs))) (xs : List Tree) (i : ℕ) where
@@ -86,8 +86,8 @@ module _ {A : Type 0} (test : Tree → Outcome Bool) (over : List Tree → Outco
       go (Err g) h = over_stopped g h
 
 module _ (test : Tree → Outcome Bool) (xs : List Tree) (i : ℕ) where
-  past : tested test (slice_get xs i) ≡ Ok None → drop i xs ≡ []
-  past h = drop_past xs i (gone test (slice_get xs i) h)
+  past : length xs ≤ i → drop i xs ≡ []
+  past h = drop_past xs i (get_past xs i h)
 
   -- up to the first that is FALSE
   pub all_more : (b : Bool) → tested test (slice_get xs i) ≡ Ok (Some b) → b ≡ true → all_hold test (drop i xs) ≡ all_hold test (drop (i + 1) xs)
@@ -99,7 +99,7 @@ module _ (test : Tree → Outcome Bool) (xs : List Tree) (i : ℕ) where
   pub all_first : all_hold test (drop i xs) ≡ (tested test (slice_get xs i) >>= λ o. all_hold test (drop i xs))
   all_first = over_first test (all_hold test) (λ v b o. cond b o (Ok false)) (λ v vs. refl) xs i
 
-  pub all_end : tested test (slice_get xs i) ≡ Ok None → all_hold test (drop i xs) ≡ Ok true
+  pub all_end : length xs ≤ i → all_hold test (drop i xs) ≡ Ok true
   all_end h = ap (all_hold test) (past h)
 
   -- up to the first that is TRUE
@@ -112,7 +112,7 @@ module _ (test : Tree → Outcome Bool) (xs : List Tree) (i : ℕ) where
   pub some_first : some_hold test (drop i xs) ≡ (tested test (slice_get xs i) >>= λ o. some_hold test (drop i xs))
   some_first = over_first test (some_hold test) (λ v b o. cond b (Ok true) o) (λ v vs. refl) xs i
 
-  pub some_end : tested test (slice_get xs i) ≡ Ok None → some_hold test (drop i xs) ≡ Ok false
+  pub some_end : length xs ≤ i → some_hold test (drop i xs) ≡ Ok false
   some_end h = ap (some_hold test) (past h)
 
   -- the first that is TRUE
@@ -128,7 +128,7 @@ module _ (test : Tree → Outcome Bool) (xs : List Tree) (i : ℕ) where
   pub least_first : (p : Place) → first_passing p test (drop i xs) ≡ (tested test (slice_get xs i) >>= λ o. first_passing p test (drop i xs))
   least_first p = over_first test (first_passing p test) (λ v b o. cond b (Ok v) o) (λ v vs. refl) xs i
 
-  pub least_end : (p : Place) → tested test (slice_get xs i) ≡ Ok None → first_passing p test (drop i xs) ≡ fault NoChoice p
+  pub least_end : (p : Place) → length xs ≤ i → first_passing p test (drop i xs) ≡ fault NoChoice p
   least_end p h = ap (first_passing p test) (past h)
 
   -- those that are TRUE, behind those that are kept
@@ -148,7 +148,7 @@ module _ (test : Tree → Outcome Bool) (xs : List Tree) (i : ℕ) where
       go (Ok x) = refl
       go (Err g) = refl
 
-  pub kept_end : (old : List Tree) → tested test (slice_get xs i) ≡ Ok None → (passing test (drop i xs) >>= λ ys. Ok (old ++ ys)) ≡ Ok old
+  pub kept_end : (old : List Tree) → length xs ≤ i → (passing test (drop i xs) >>= λ ys. Ok (old ++ ys)) ≡ Ok old
   kept_end old h = ap (λ us. passing test us >>= λ ys. Ok (old ++ ys)) (past h) ∙ ap (λ us. Ok us) (none_more old)
 
 -- ---- whether a value is one of those of some parts

@@ -32,3 +32,4 @@ pub mod Nameless
 pub mod Walking
 pub mod Hashes
 pub mod Indexed
+pub mod OwnForms

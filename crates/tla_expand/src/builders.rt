@@ -121,36 +121,31 @@ pub(crate) fn two_core(
         }
         _ => {
             let (second, first) = box_beside(alloc, second, first)?;
-            two_boxed(place, node, first, second)
+            Ok(two_boxed(place, node, first, second))
         }
     }
 }
 
 /// A node of two parts that isn't a list.
-fn two_boxed(
-    place: Place,
-    node: BinaryNode,
-    first: Box<Core>,
-    second: Box<Core>,
-) -> Result<Core, Failure>
-    ensures ok { IfOk result (λ c.
-        expr_of c ≡ nodes.two node place (expr_of first.value) (expr_of second.value)) }
-    ensures err { IfErr result (λ e. e ≡ Failure.Memory) }
+fn two_boxed(place: Place, node: BinaryNode, first: Box<Core>, second: Box<Core>) -> Core
+    requires and { node ≡ BinaryNode.And → ⊥ }
+    requires or { node ≡ BinaryNode.Or → ⊥ }
+    ensures { expr_of result ≡ nodes.two node place (expr_of first.value) (expr_of second.value) }
 {
     match node {
-        BinaryNode::Binary(operator) => Ok(Core::Binary(place, operator, first, second)),
-        BinaryNode::Apply => Ok(Core::Apply(place, first, second)),
-        BinaryNode::Equal => Ok(Core::Equal(place, first, second)),
-        BinaryNode::Implies => Ok(Core::Implies(place, first, second)),
-        BinaryNode::Member => Ok(Core::Member(place, first, second)),
-        BinaryNode::NotMember => Ok(Core::NotMember(place, first, second)),
-        BinaryNode::Subset => Ok(Core::Subset(place, first, second)),
-        BinaryNode::Cup => Ok(Core::Cup(place, first, second)),
-        BinaryNode::Cap => Ok(Core::Cap(place, first, second)),
-        BinaryNode::Minus => Ok(Core::Minus(place, first, second)),
-        BinaryNode::Assert => Ok(Core::Assert(place, first, second)),
-        BinaryNode::Functions => Ok(Core::Functions(place, first, second)),
-        BinaryNode::And | BinaryNode::Or => Err(Failure::Memory),
+        BinaryNode::Binary(operator) => Core::Binary(place, operator, first, second),
+        BinaryNode::Apply => Core::Apply(place, first, second),
+        BinaryNode::Equal => Core::Equal(place, first, second),
+        BinaryNode::Implies => Core::Implies(place, first, second),
+        BinaryNode::Member => Core::Member(place, first, second),
+        BinaryNode::NotMember => Core::NotMember(place, first, second),
+        BinaryNode::Subset => Core::Subset(place, first, second),
+        BinaryNode::Cup => Core::Cup(place, first, second),
+        BinaryNode::Cap => Core::Cap(place, first, second),
+        BinaryNode::Minus => Core::Minus(place, first, second),
+        BinaryNode::Assert => Core::Assert(place, first, second),
+        BinaryNode::Functions => Core::Functions(place, first, second),
+        BinaryNode::And | BinaryNode::Or => unreachable!(),
     }
 }
 

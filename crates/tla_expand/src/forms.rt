@@ -1,6 +1,6 @@
 //! Forms with their parts.
 
-ghost use Rattle.std.specs.Prelude.{◌≡◌, ℕ, false, None};
+ghost use Rattle.std.specs.Prelude.{◌≡◌, ℕ, true, false, None};
 ghost use Rattle.tla_core.specs.declared.fault.Place.{Place};
 ghost use Rattle.tla_tree.specs.View.{view};
 ghost use Rattle.tla_expand.specs.Meanings.{Scope, builtin_meaning};
@@ -45,9 +45,9 @@ fn of_quantifier(quantifier: Quantifier) -> Binding
     }
 }
 
-/// The form of an expression that isn't one of the forms that bind names.
+/// The form of a constant, a list, a junction, a field, an infix operator or an IF.
 fn plain_form<'a>(tree: &'a Expr) -> OwnForm<'a>
-    ensures { GivesForm result (view tree.now) }
+    ensures { GivesForm (λ e. spec.is_plain e ≡ false) result (view tree.now) }
 {
     match tree {
         Expr::Number(at, number) => OwnForm::Form(Form::Leaf(place_of(*at), Leaf::Number(*number))),
@@ -88,9 +88,9 @@ fn prefix_form<'a>(at: Place, operator: Prefix, operand: &'a Box<Expr>) -> OwnFo
     }
 }
 
-/// The form of an expression that binds names, has arguments or a prefix operator.
+/// The form of an expression that binds names, an application, a CASE or a prefix operator.
 fn other_form<'a>(tree: &'a Expr) -> OwnForm<'a>
-    ensures { GivesForm result (view tree.now) }
+    ensures { GivesForm (λ e. spec.is_other e ≡ false) result (view tree.now) }
 {
     match tree {
         Expr::Unary(at, operator, operand) => prefix_form(place_of(*at), *operator, operand),
@@ -125,7 +125,7 @@ fn other_form<'a>(tree: &'a Expr) -> OwnForm<'a>
 
 /// The form of a set of functions, a record, a set of records, a product, an EXCEPT, or an action with a subscript.
 fn made_form<'a>(tree: &'a Expr) -> OwnForm<'a>
-    ensures { GivesForm result (view tree.now) }
+    ensures { GivesForm (λ e. spec.is_made e ≡ false) result (view tree.now) }
 {
     match tree {
         Expr::FunctionSet(at, domain, range) => {
@@ -154,7 +154,7 @@ fn made_form<'a>(tree: &'a Expr) -> OwnForm<'a>
 
 /// The form of an expression.
 pub(crate) fn form_of<'a>(tree: &'a Expr) -> OwnForm<'a>
-    ensures { GivesForm result (view tree.now) }
+    ensures { GivesForm (λ e. spec.means_another e ≡ true) result (view tree.now) }
 {
     match plain_form(tree) {
         OwnForm::Goes => match other_form(tree) {

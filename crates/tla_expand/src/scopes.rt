@@ -1,6 +1,6 @@
 //! The names of a module, with what they mean.
 
-ghost use Rattle.std.specs.Prelude.{◌≡◌, ◌≢◌, ◌≤◌, [], length, map, IfOk, IfErr, Ok, Err, Some, None, true, false};
+ghost use Rattle.std.specs.Prelude.{◌≡◌, ◌≢◌, ◌≤◌, ◌+◌, [], length, map, IfOk, IfErr, Ok, Err, Some, None, true, false};
 ghost use Rattle.std.specs.Borrow.{Bor};
 ghost use Rattle.tla_core.specs.declared.fault.Place.{Place};
 ghost use Rattle.tla_core.specs.declared.expression.Core as core;
@@ -69,7 +69,7 @@ pub struct Scopes<'a> {
 }
 
 impl<'a> Scopes<'a> {
-    ghost use Rattle.tla_expand.specs.Names.{scope_of, outer_of};
+    ghost use Rattle.tla_expand.specs.Names.{scope_of, outer_of, size_of};
 
     /// The scope around a module, and no names before it.
     pub fn new(alloc: Global) -> Scopes<'a>
@@ -95,12 +95,20 @@ impl<'a> Scopes<'a> {
         }
     }
 
+    /// How many names were added, to this scope and to those before it.
+    pub fn size(&self) -> usize
+        ensures { result ≡ size_of self.now }
+    {
+        self.entries.len()
+    }
+
     /// With one more entry. The only error is that memory ran out.
     fn with_entry(self, entry: Entry<'a>) -> Result<Scopes<'a>, Failure>
         requires { IsBelow (length (listed self.entries)) entry.what entry.rest }
         ensures ok { IfOk result (λ s.
             scope_of s ≡ entry_scope (scope_at (listed self.entry.entries)) entry.entry) }
         ensures outer { IfOk result (λ s. outer_of s ≡ outer_of self.entry) }
+        ensures size { IfOk result (λ s. size_of s ≡ size_of self.entry + 1) }
         ensures err { IfErr result (λ e. e ≡ Failure.Memory) }
     {
         let outer = self.outer;
@@ -118,6 +126,7 @@ impl<'a> Scopes<'a> {
         ensures ok { IfOk result (λ s.
             scope_of s ≡ with_name name.now (variable number) (scope_of self.entry)) }
         ensures outer { IfOk result (λ s. outer_of s ≡ outer_of self.entry) }
+        ensures size { IfOk result (λ s. size_of s ≡ size_of self.entry + 1) }
         ensures err { IfErr result (λ e. e ≡ Failure.Memory) }
     {
         let rest = self.current;
@@ -133,6 +142,7 @@ impl<'a> Scopes<'a> {
         ensures ok { IfOk result (λ s.
             scope_of s ≡ with_name name.now (value_name value.now) (scope_of self.entry)) }
         ensures outer { IfOk result (λ s. outer_of s ≡ outer_of self.entry) }
+        ensures size { IfOk result (λ s. size_of s ≡ size_of self.entry + 1) }
         ensures err { IfErr result (λ e. e ≡ Failure.Memory) }
     {
         let rest = self.current;
@@ -149,6 +159,7 @@ impl<'a> Scopes<'a> {
             scope_of s
             ≡ with_name name.now (outer_of self.entry operator.now) (scope_of self.entry)) }
         ensures outer { IfOk result (λ s. outer_of s ≡ outer_of self.entry) }
+        ensures size { IfOk result (λ s. size_of s ≡ size_of self.entry + 1) }
         ensures err { IfErr result (λ e. e ≡ Failure.Memory) }
     {
         let what = match find(&self.entries, self.outer, operator.as_bytes()) {
@@ -173,6 +184,7 @@ impl<'a> Scopes<'a> {
             ≡ with_name name.now (operator [] (expand (view body.now)) (scope_of self.entry))
             (scope_of self.entry)) }
         ensures outer { IfOk result (λ s. outer_of s ≡ outer_of self.entry) }
+        ensures size { IfOk result (λ s. size_of s ≡ size_of self.entry + 1) }
         ensures err { IfErr result (λ e. e ≡ Failure.Memory) }
     {
         let rest = self.current;
@@ -188,6 +200,7 @@ impl<'a> Scopes<'a> {
         ensures ok { IfOk result (λ s.
             scope_of s ≡ definition_in (definition_view definition.now) (scope_of self.entry)) }
         ensures outer { IfOk result (λ s. outer_of s ≡ outer_of self.entry) }
+        ensures size { IfOk result (λ s. size_of s ≡ size_of self.entry + 1) }
         ensures err { IfErr result (λ e. e ≡ Failure.Memory) }
     {
         let rest = self.current;

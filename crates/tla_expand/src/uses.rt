@@ -1,6 +1,6 @@
 //! From an expression to the form that it means.
 
-ghost use Rattle.std.specs.Prelude.{◌≡◌, ◌≤◌, length, ℕ, List, map, IfOk, OnOk, IfErr};
+ghost use Rattle.std.specs.Prelude.{◌≡◌, ◌≤◌, length, ℕ, true, List, map, IfOk, OnOk, IfErr};
 ghost use Rattle.tla_tree.specs.View.{view, definition_view};
 ghost use Rattle.tla_tree.specs.Tree.{definitions as definitions_of};
 ghost use Rattle.tla_expand.specs.declared.arena.Entry as arena_entry;
@@ -8,6 +8,7 @@ ghost use Rattle.tla_expand.specs.Meanings.{Scope, standard, operator, builtin_m
 ghost use Rattle.tla_expand.specs.Expand.{expand, definitions_in, definition_in};
 ghost use Rattle.tla_expand.specs.Scopes.{AreLinked, IsBelow, Extends, scope_at, entry_scope, meaning_of, arguments_in};
 ghost use Rattle.tla_expand.specs.Private.Gives.{reduction_gives, head_gives, IsAlone, IsWithin, Explains};
+ghost use Rattle.tla_expand.specs.Private.Forms.{means_another};
 ghost use Rattle.tla_expand.specs.Primes.{with_primes};
 ghost use Rattle.tla_expand.specs.Listed.{listed};
 
@@ -278,6 +279,7 @@ fn go<'a>(
     scope: usize,
     primes: Primes,
 ) -> Result<Reduction<'a>, Failure>
+    requires another { means_another (view tree.now) ≡ true }
     requires linked { AreLinked (listed entries.old) }
     requires scope { scope ≤ length (listed entries.old) }
     ensures linked { OnOk result (AreLinked (listed entries.new)) }
@@ -307,7 +309,7 @@ fn go<'a>(
             let inside = define(entries, definitions.as_slice(), scope)?;
             Ok(Reduction::Goes(inner, inside, primes))
         }
-        _ => Err(Failure::Memory),
+        _ => unreachable!(),
     }
 }
 
@@ -411,7 +413,7 @@ fn last_prime(
     }
 }
 
-/// The form of an expression.
+/// The form of an expression, after a chain of reductions.
 pub(crate) fn find_head<'a>(
     entries: &mut Entries<'_, 'a>,
     start: &'a Expr,
@@ -431,32 +433,7 @@ pub(crate) fn find_head<'a>(
         Explains e (λ d.
         with_primes primes (expand (view start.now) (scope_at (listed entries.old) scope) d))) }
 {
-    let mark = entries.len();
-    head_behind(entries, start, scope, primes, mark)
-}
-
-/// The form of an expression. There are `mark` entries.
-fn head_behind<'a>(
-    entries: &mut Entries<'_, 'a>,
-    start: &'a Expr,
-    scope: usize,
-    primes: Primes,
-    mark: usize,
-) -> Result<Head<'a>, Failure>
-    requires mark { mark ≡ length (listed entries.old) }
-    requires linked { AreLinked (listed entries.old) }
-    requires scope { scope ≤ length (listed entries.old) }
-    ensures linked { OnOk result (AreLinked (listed entries.new)) }
-    ensures extends { OnOk result (Extends (listed entries.new) (listed entries.old)) }
-    ensures within { IfOk result (λ h. h.scope ≤ length (listed entries.new)) }
-    ensures same { IfOk result (λ h.
-        (d : ℕ)
-        → with_primes primes (expand (view start.now) (scope_at (listed entries.old) scope) d)
-        ≡ head_gives (listed entries.new) h d) }
-    ensures err { IfErr result (λ e.
-        Explains e (λ d.
-        with_primes primes (expand (view start.now) (scope_at (listed entries.old) scope) d))) }
-{
+    let kept = entries.len();
     let mut tree = start;
     let mut at = scope;
     let mut with = primes;
@@ -466,7 +443,7 @@ fn head_behind<'a>(
             Reduction::Ends(head) => return Ok(Head { primed, ..head }),
             Reduction::Goes(next, inner, more) => {
                 primed = last_prime(entries, at, tree, more, primed);
-                give_back(entries, mark, inner);
+                give_back(entries, kept, inner);
                 tree = next;
                 at = inner;
                 with = more;

@@ -10,15 +10,15 @@ use tla_core::{Fault, Place};
 use tla_page::places::{FileNames, Sources, source_name};
 use tla_page::style::Style;
 use tla_report::{Answered, Checked, Names, Refusal, refusal_code_text, write_report};
-use tla_search::{Answer, Part};
 use tla_traces::formulas::name_alone;
 use tla_traces::named::Named;
 use tla_value::State;
+use tla_verdict::{Answer, Part};
 
 /// Writes the report and its explanation as one JSON object: `status`, `first_line`, `report`,
 /// `code` and `place` of a refusal or a fault, `trace`, each state with the texts of its values,
-/// `counts`, and `explanation`, in which values are shown whole. An error means that memory ran out, or a
-/// write failed.
+/// `counts`, and `explanation`, in which values are shown whole, with `coverage` also the steps of each
+/// part of Next. An error means that memory ran out, or a write failed.
 pub fn write_document<'a, W: Write>(
     alloc: Global,
     writer: &mut W,
@@ -26,10 +26,11 @@ pub fn write_document<'a, W: Write>(
     module: &'a [u8],
     configuration: &'a [u8],
     checked: &Checked,
+    coverage: bool,
 ) -> io::Result<()> {
     let style = Style {
         full: true,
-        coverage: false,
+        coverage,
     };
     let mut report = Vec::new(alloc);
     if write_report(checked, &mut report).is_err() {

@@ -23,9 +23,8 @@ use tla_report::Checked;
 use tla_traces::coverage::put_coverage;
 
 /// Writes what a check of these two texts answered, for a reader at a terminal or an editor. Where
-/// there is no error, only the parts of Next that never made a step are named, and with
-/// `style.coverage` the steps of each part are counted. An error means that memory ran out, or a write
-/// failed.
+/// there is no error, there are only notes, and with `style.coverage` the steps of each part of Next.
+/// An error means that memory ran out, or a write failed.
 pub fn explain<'a, W: Write>(
     alloc: Global,
     writer: &mut W,

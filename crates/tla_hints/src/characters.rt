@@ -143,7 +143,7 @@ static WORDS: [Entry; 40] = [
 ];
 
 /// Words of LaTeX, without the backslash.
-static LATEX: [Entry; 17] = [
+static LATEX: [Entry; 19] = [
     ("cross", "\\X"),
     ("nin", "\\notin"),
     ("iff", "<=>"),
@@ -163,6 +163,14 @@ static LATEX: [Entry; 17] = [
     (
         "sqsubseteq",
         "\\A x \\in DOMAIN a : x \\in DOMAIN b /\\ a[x] <= b[x], where a and b are bags",
+    ),
+    (
+        "oplus",
+        "[x \\in DOMAIN a \\cup DOMAIN b |-> Count(a, x) + Count(b, x)], where a and b are bags, with Count(f, x) == IF x \\in DOMAIN f THEN f[x] ELSE 0",
+    ),
+    (
+        "ominus",
+        "[x \\in {y \\in DOMAIN a : a[y] > Count(b, y)} |-> a[x] - Count(b, x)], where a and b are bags, with Count(f, x) == IF x \\in DOMAIN f THEN f[x] ELSE 0",
     ),
 ];
 

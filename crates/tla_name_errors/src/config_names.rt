@@ -253,7 +253,8 @@ pub fn find_large(finding: &mut Finding, spot: &Spot<'_>) {
     ]);
 }
 
-fn has_word(spot: &Spot<'_>, word: &str) -> bool {
+/// Whether a word is among the tokens.
+pub(crate) fn has_word(spot: &Spot<'_>, word: &str) -> bool {
     for index in 0..spot.tokens.len() {
         if spot.word(index) == word {
             return true;

@@ -1,7 +1,8 @@
 //! Refusals of a configuration's text.
 
-use crate::config_names::{statement_before, statement_index};
+use crate::config_names::{has_word, statement_before, statement_index};
 use crate::items;
+use std::alloc::{AllocError, Global};
 use tla_finding::characters;
 use tla_finding::finding::Finding;
 use tla_finding::spot::Spot;
@@ -233,38 +234,90 @@ fn is_upper(word: &str) -> bool {
     !word.as_bytes().iter().any(|b| b.is_ascii_lowercase())
 }
 
+/// Where the misspelt words of statements are that begin a line and have a name behind them. The only error is out of memory.
+pub fn misspelt_places(
+    alloc: Global,
+    spot: &Spot<'_>,
+    names: &[&str],
+) -> Result<Vec<Place>, AllocError> {
+    let mut places = Vec::new(alloc);
+    for index in 0..spot.tokens.len() {
+        let word = spot.word(index);
+        let is_name = (&*names).contains(&word) || is_first_name(spot, index);
+        if !is_name
+            && begins_names(spot, index)
+            && statement_near(alloc, word, MOST_EDITS)?.is_some()
+        {
+            places.push(spot.place(index))?;
+        }
+    }
+    Ok(places)
+}
+
+/// Whether a word in capital letters begins a line, and a name or a truth value is behind it.
+fn begins_names(spot: &Spot<'_>, index: usize) -> bool {
+    let is_before_name = matches!(
+        spot.kind(index.saturating_add(1)),
+        Some(Kind::Name | Kind::True | Kind::False)
+    );
+    let is_word = spot.is(index, Kind::Name) && is_upper(spot.word(index));
+    is_before_name && is_word && spot.begins_line(index)
+}
+
 /// Says which statement was meant by a word, if it is near to one.
 fn say_misspelt(finding: &mut Finding, spot: &Spot<'_>, index: usize, most: usize) -> bool {
     let word = spot.word(index);
-    let Some(statement) = statement_near(finding, word, most) else {
-        return false;
-    };
-    finding.say(spot.place(index), &["unknown statement '", word, "'"]);
-    finding.hint(&["did you mean ", statement, "?"]);
-    if let Some(cure) = statement_cure(statement) {
+    match statement_near(finding.alloc(), word, most) {
+        Ok(Some(statement)) => {
+            finding.say(spot.place(index), &["unknown statement '", word, "'"]);
+            finding.hint(&["did you mean ", statement, "?"]);
+            hint_left_out(finding, spot, statement);
+            true
+        }
+        Ok(None) => false,
+        Err(_) => {
+            finding.refuse();
+            false
+        }
+    }
+}
+
+/// Hints what to do about a statement that is left out.
+pub fn hint_left_out(finding: &mut Finding, spot: &Spot<'_>, word: &str) {
+    if word.starts_with("ACTION_CONSTRAINT") && has_word(spot, "SPECIFICATION") {
+        finding.hint(&[
+            "make it a conjunct: define Bounded == Next /\\ Limit, and write INIT Init and NEXT Bounded in place of SPECIFICATION",
+        ]);
+    } else if let Some(cure) = statement_cure(word) {
         finding.hint(&[cure]);
     }
-    true
 }
 
 /// The statement that is near to a word, in letters of either case. Up to `most` edits are allowed,
-/// and more for a long word.
-fn statement_near(finding: &mut Finding, word: &str, most: usize) -> Option<&'static str> {
+/// and more for a long word. The only error is out of memory.
+fn statement_near(
+    alloc: Global,
+    word: &str,
+    most: usize,
+) -> Result<Option<&'static str>, AllocError> {
     if is_statement(word) || word.len() < SHORTEST_WORD {
-        return None;
+        return Ok(None);
     }
     for statement in STATEMENTS.iter().chain(LEFT_OUT.iter()) {
         if statement.eq_ignore_ascii_case(word) {
-            return Some(*statement);
+            return Ok(Some(*statement));
         }
     }
     if most > 0
         && let Some(statement) = begun_by(word)
     {
-        return Some(statement);
+        return Ok(Some(statement));
     }
     let most = most.min(word.len() / 2);
-    near_in(finding, word, &STATEMENTS, most).or(near_in(finding, word, &LEFT_OUT, most))
+    match meant_within(alloc, word, &STATEMENTS, most)? {
+        Some(statement) => Ok(Some(statement)),
+        None => meant_within(alloc, word, &LEFT_OUT, most),
+    }
 }
 
 /// The first statement that begins with a word.
@@ -275,19 +328,4 @@ fn begun_by(word: &str) -> Option<&'static str> {
         }
     }
     None
-}
-
-fn near_in(
-    finding: &mut Finding,
-    word: &str,
-    statements: &[&'static str],
-    most: usize,
-) -> Option<&'static str> {
-    match meant_within(finding.alloc(), word, statements, most) {
-        Ok(near) => near,
-        Err(_) => {
-            finding.refuse();
-            None
-        }
-    }
 }

@@ -12,11 +12,11 @@ use tla_page::page::Page;
 use tla_page::units::{Known, Role, known_name, known_names, text_of};
 use tla_tree::{Declaration, Unit, Word, Written};
 
-/// How many names are looked for beside the first.
-const MOST_NAMES: usize = 9;
+/// How many names are told beside the first.
+pub const MOST_NAMES: usize = 9;
 
 /// Where names are that are unknown in a module, each once, if the one at the first place were
-/// known. The only error is out of memory.
+/// known: at most one more than are told. The only error is out of memory.
 pub fn unknown_places(
     alloc: Global,
     spot: &Spot<'_>,
@@ -25,7 +25,7 @@ pub fn unknown_places(
     let mut places = Vec::new(alloc);
     let mut left = units;
     let mut last = *spot;
-    for _ in 0..MOST_NAMES {
+    for _ in 0..MOST_NAMES.saturating_add(1) {
         left = with_known(alloc, left, &last)?;
         let Some(place) = unknown_place(alloc, &left) else {
             break;
@@ -41,16 +41,17 @@ pub fn unknown_places(
 }
 
 /// Where the names are that statements of a configuration give to no definition of these units,
-/// each once, but for the name at the first place. The only error is out of memory.
+/// each once, but for those that were told. The only error is out of memory.
 pub fn unknown_statements(
     alloc: Global,
-    spot: &Spot<'_>,
+    configuration: &[u8],
     units: &[Unit],
+    told: &[&str],
 ) -> Result<Vec<Place>, AllocError> {
-    let Some(config) = config_of(alloc, spot.text) else {
+    let Some(config) = config_of(alloc, configuration) else {
         return Ok(Vec::new(alloc));
     };
-    let places = unknown_among(alloc, spot, units, config.statements());
+    let places = unknown_among(alloc, told, units, config.statements());
     drop(config);
     places
 }
@@ -58,14 +59,13 @@ pub fn unknown_statements(
 /// Where the names are that these statements give to no definition of these units.
 fn unknown_among(
     alloc: Global,
-    spot: &Spot<'_>,
+    told: &[&str],
     units: &[Unit],
     statements: &[Statement],
 ) -> Result<Vec<Place>, AllocError> {
-    let first = spot.word(spot.at);
     let known = known_names(alloc, units)?;
-    let mut places = unknown_items(alloc, first, &known, statements)?;
-    for one in unknown_formulas(alloc, first, &known, statements)? {
+    let mut places = unknown_items(alloc, told, &known, statements)?;
+    for one in unknown_formulas(alloc, told, &known, statements)? {
         places.push(one)?;
     }
     Ok(places)
@@ -74,7 +74,7 @@ fn unknown_among(
 /// Where the items are of names that the module doesn't have, each once.
 fn unknown_items(
     alloc: Global,
-    first: &str,
+    told: &[&str],
     known: &[Known<'_>],
     statements: &[Statement],
 ) -> Result<Vec<Place>, AllocError> {
@@ -83,7 +83,7 @@ fn unknown_items(
     for item in items_of(alloc, statements)? {
         let written = item_name(item);
         let name = text_of(written);
-        let is_met = name == first || met.contains(&name);
+        let is_met = (&*told).contains(&name) || met.contains(&name);
         let is_known = known_name(known, name).is_some() || module_with(name.as_bytes()).is_some();
         if !is_met && !is_known {
             met.push(name)?;
@@ -96,14 +96,14 @@ fn unknown_items(
 /// Where the names are that statements give to no definition, each once.
 fn unknown_formulas(
     alloc: Global,
-    first: &str,
+    told: &[&str],
     known: &[Known<'_>],
     statements: &[Statement],
 ) -> Result<Vec<Place>, AllocError> {
     let mut places = Vec::new(alloc);
     let mut met = Vec::new(alloc);
     for one in formulas_named(alloc, statements)? {
-        let is_met = one.name == first || met.contains(&one.name);
+        let is_met = (&*told).contains(&one.name) || met.contains(&one.name);
         if !is_met && !is_definition(known, one.name) {
             met.push(one.name)?;
             places.push(one.place)?;

@@ -1,6 +1,6 @@
 //! Functions and records.
-ghost use Rattle.std.specs.Prelude.{◌≡◌, ℕ, List, Ok, option_map};
-ghost use Rattle.tla_value.specs.Tree.{Tree, text, fun, pairs};
+ghost use Rattle.std.specs.Prelude.{◌≡◌, ℕ, List, option_map};
+ghost use Rattle.tla_value.specs.Tree.{Tree, text};
 ghost use Rattle.tla_value.specs.TreeOf.{tree_of};
 ghost use Rattle.tla_value.specs.Funs.{MakesFun};
 ghost use Rattle.tla_core.specs.Expr.{Apply, Domain, Field, Single, Override};
@@ -71,13 +71,6 @@ fn owned_function(place: &Place, value: Value) -> Result<FunValue, Trouble<'_>>
         Value::Fun(fun) => Ok(fun),
         _ => Err(fault_at(FaultCode::WrongKind, place)),
     }
-}
-
-/// A function as EXCEPT leaves it where a key is outside the domain.
-pub fn unchanged<'p>(function: FunValue) -> Result<Value, Trouble<'p>>
-    ensures { Gives result (Ok (fun (pairs function))) }
-{
-    Ok(Value::Fun(function))
 }
 
 /// The function that a value is, if it is one.
@@ -200,7 +193,10 @@ pub(crate) fn single<'p>(
         (binary_rule Single place.now (tree_of argument.now) (tree_of value.now)) }
 {
     let pair = (copied(alloc, argument)?, copied(alloc, value)?);
-    made_fun(place, FunValue::from_pairs(Vec::from_array(alloc, [pair])?))
+    made_fun(
+        place,
+        FunValue::from_pairs(alloc, Vec::from_array(alloc, [pair])?),
+    )
 }
 
 /// `@@`.

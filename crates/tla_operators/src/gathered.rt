@@ -86,12 +86,12 @@ impl Gathered {
     }
 
     /// The set of the values.
-    pub fn into_set(self, place: &Place) -> Result<Value, Trouble<'_>>
+    pub fn into_set(self, alloc: Global, place: &Place) -> Result<Value, Trouble<'_>>
         ensures { (o : Outcome (List Tree))
             → Gathers (Ok self) o
             → Gives result (set_rule place.now o) }
     {
-        made_set(place, SetValue::from_values(self.values))
+        made_set(place, SetValue::from_values(alloc, self.values))
     }
 }
 

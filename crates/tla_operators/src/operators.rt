@@ -1,5 +1,5 @@
 //! What an operator gives of the values of its operands.
-ghost use Rattle.std.specs.Prelude.{◌≡◌, ℤ, pos, length, Ok};
+ghost use Rattle.std.specs.Prelude.{◌≡◌, ℤ, pos, length};
 ghost use Rattle.tla_value.specs.TreeOf.{tree_of};
 ghost use Rattle.tla_core.specs.Expr.{IsFinite, Cardinality, Iff};
 ghost use Rattle.tla_core.specs.Kinds.{as_int};
@@ -7,7 +7,7 @@ ghost use Rattle.tla_core.specs.Operators.{unary_rule, binary_rule};
 ghost use Rattle.tla_core.specs.ExprOf.{unary_of, binary_of, kind_of};
 ghost use Rattle.tla_operators.specs.Evaluated.{Evaluates, tree_of_evaluated};
 ghost use Rattle.tla_core.specs.Membership.{is_of_kind, is_truth};
-ghost use Rattle.tla_operators.specs.Gives.{Gives, GivesBy, GivesTruth, two_ints};
+ghost use Rattle.tla_operators.specs.Gives.{Gives, GivesBy, two_ints};
 
 use crate::arithmetic::{add, divide, modulo, multiply, negate, power, subtract};
 use crate::evaluated::Evaluated;
@@ -184,14 +184,7 @@ fn iff<'p>(place: &'p Place, left: &Value, right: &Value) -> Result<Value, Troub
 }
 
 /// Whether a value is a member of Nat, Int or STRING. These sets have no value themselves.
-pub fn kind_has<'p>(kind: Kind, value: &Value) -> Result<bool, Trouble<'p>>
-    ensures { GivesTruth result (Ok (is_of_kind (kind_of kind) (tree_of value.now))) }
-{
-    Ok(is_of_kind(kind, value))
-}
-
-/// Whether a value is of a kind.
-fn is_of_kind(kind: Kind, value: &Value) -> bool
+pub fn kind_has(kind: Kind, value: &Value) -> bool
     ensures { result ≡ is_of_kind (kind_of kind) (tree_of value.now) }
 {
     match (kind, value) {

@@ -71,10 +71,10 @@ pub fn add_items<'p>(
 }
 
 /// The sequence of some values.
-pub fn sequence_of(place: &Place, values: Vec<Value>) -> Result<Value, Trouble<'_>>
+pub fn sequence_of(alloc: Global, place: &Place, values: Vec<Value>) -> Result<Value, Trouble<'_>>
     ensures { Gives result (make_sequence place.now (map tree_of values.items)) }
 {
-    made_fun(place, FunValue::sequence(values))
+    made_fun(place, FunValue::sequence(alloc, values))
 }
 
 /// The sequence of the items from one place up to another, counted from 0.
@@ -93,7 +93,7 @@ fn part<'p>(
 {
     let mut values = Vec::with_capacity(alloc, to - from)?;
     add_items(alloc, &mut values, &items[from..to])?;
-    sequence_of(place, values)
+    sequence_of(alloc, place, values)
 }
 
 /// `Len`.
@@ -164,7 +164,7 @@ pub(crate) fn concat<'p>(
     let mut values = Vec::with_capacity(alloc, left.len() + right.len())?;
     add_items(alloc, &mut values, left)?;
     add_items(alloc, &mut values, right)?;
-    sequence_of(place, values)
+    sequence_of(alloc, place, values)
 }
 
 /// `Append`.
@@ -181,7 +181,7 @@ pub(crate) fn append<'p>(
     let mut values = Vec::with_capacity(alloc, items.len() + 1)?;
     add_items(alloc, &mut values, items)?;
     values.push(copied(alloc, item)?)?;
-    sequence_of(place, values)
+    sequence_of(alloc, place, values)
 }
 
 /// `SubSeq`.

@@ -241,7 +241,7 @@ pub(crate) fn union_all<'p>(
     ensures { Gives result (unary_rule Union place.now (tree_of sets.now)) }
 {
     let sets = members(place, sets)?;
-    joined(alloc, place, sets)?.into_set(place)
+    joined(alloc, place, sets)?.into_set(alloc, place)
 }
 
 /// The different members of some sets.
@@ -256,17 +256,18 @@ fn joined<'p>(alloc: Global, place: &'p Place, sets: &[Value]) -> Result<Gathere
 }
 
 /// `BOOLEAN`.
-pub fn booleans<'p, 'a>(alloc: Global) -> Result<Evaluated<'a>, Trouble<'p>>
+pub fn booleans<'p, 'a>(alloc: Global, place: &'p Place) -> Result<Evaluated<'a>, Trouble<'p>>
     ensures { Evaluates result (Ok (set (trees (truth false ∷ truth true ∷ [])))) }
 {
-    let values = match Vec::from_array(alloc, [Value::Truth(false), Value::Truth(true)]) {
-        Ok(values) => values,
-        Err(_) => return Err(memory()),
-    };
-    match SetValue::from_values(values) {
-        Ok(set) => Ok(Evaluated::Owned(Value::Set(set))),
-        Err(_) => Err(memory()),
-    }
+    Ok(Evaluated::Owned(truth_values(alloc, place)?))
+}
+
+/// The set of FALSE and TRUE.
+fn truth_values(alloc: Global, place: &Place) -> Result<Value, Trouble<'_>>
+    ensures { Gives result (Ok (set (trees (truth false ∷ truth true ∷ [])))) }
+{
+    let values = Vec::from_array(alloc, [Value::Truth(false), Value::Truth(true)])?;
+    made_set(place, SetValue::from_values(alloc, values))
 }
 
 /// Whether a value is a number.

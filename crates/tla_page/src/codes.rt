@@ -20,21 +20,21 @@ const L1: CodeText = CodeText {
 
 const L2: CodeText = CodeText {
     code: "L2",
-    rule: "A character or escape that the language hasn't, outside comments and strings.",
+    rule: "A character or escape that the language doesn't have, outside comments and strings.",
     example: "`Init == x = 0 ? 1` → `Module refused: L2 at line 4, column 15.`",
     cure: "Remove it. Operators are written in ASCII: `/\\`, not `∧`. In strings the escapes are `\\\"` `\\\\` `\\t` `\\n` `\\f` `\\r`.",
 };
 
 const L3: CodeText = CodeText {
     code: "L3",
-    rule: "A string that its line doesn't close; the place is its quote.",
+    rule: "A string that isn't closed on its line; the place is its opening quote.",
     example: "`Init == x = \"zero` → `Module refused: L3 at line 4, column 13.`",
     cure: "Close it on the same line.",
 };
 
 const L4: CodeText = CodeText {
     code: "L4",
-    rule: "A comment that nothing closes; the place is where it opens.",
+    rule: "A comment that is never closed; the place is where it opens.",
     example: "`(* not closed` → `Module refused: L4 at line 6, column 1.`",
     cure: "Close it. Comments nest, so each `(*` inside needs a `*)` too.",
 };
@@ -76,7 +76,7 @@ const P1: CodeText = CodeText {
 
 const P2: CodeText = CodeText {
     code: "P2",
-    rule: "Two operators beside one another of which neither binds tighter.",
+    rule: "Two neighbouring operators, neither of which binds tighter.",
     example: "`Inv == x = 0 \\/ x = 1 /\\ x < 2` → `Module refused: P2 at line 6, column 23.`",
     cure: "Write parentheses.",
 };
@@ -97,7 +97,7 @@ const P4: CodeText = CodeText {
 
 const P5: CodeText = CodeText {
     code: "P5",
-    rule: "A form that is left out, named after the colon.",
+    rule: "A form that tlacheck doesn't support; its name follows the colon.",
     example: "`Least == CHOOSE n : n > x` → `Module refused: P5 at line 6, column 10: CHOOSE.`",
     cure: "The explanation says what to write in its place.",
 };
@@ -111,7 +111,7 @@ const P6: CodeText = CodeText {
 
 const C1: CodeText = CodeText {
     code: "C1",
-    rule: "The configuration's text can't be read: a token or its order, a list of names that is empty, or a second CHECK_DEADLOCK.",
+    rule: "A syntax error in the configuration: an unexpected token, an empty list of names, or a second CHECK_DEADLOCK.",
     example: "Configuration: `CHECK_DEADLOCK FALSE` and again `CHECK_DEADLOCK TRUE` → `Configuration refused: C1 at line 4, column 1.`",
     cure: "Look at this token and the one before it.",
 };
@@ -139,9 +139,9 @@ const C4: CodeText = CodeText {
 
 const C5: CodeText = CodeText {
     code: "C5",
-    rule: "A level that is too high: a prime in an invariant, a constraint or on what is primed already, a variable in an assumption, or a formula of time.",
+    rule: "A level that is too high: a prime in Init, an invariant or a constraint, or on what is primed already; a variable in an assumption; or a temporal formula.",
     example: "`Inv == x' = x` → `Module refused: C5 at line 6, column 8.`",
-    cure: "Only Next may speak of next values, and with one prime; an ASSUME speaks of no variable.",
+    cure: "Only Next may use next values, with one prime; an ASSUME may use no variable.",
 };
 
 const C6: CodeText = CodeText {
@@ -167,23 +167,23 @@ const C8: CodeText = CodeText {
 
 const C9: CodeText = CodeText {
     code: "C9",
-    rule: "No behaviour or two.",
+    rule: "INIT and NEXT, or SPECIFICATION, missing or given too often.",
     example: "Configuration: `INIT Init` alone → `Configuration refused: C9 at line 2, column 1.`",
     cure: "Give INIT and NEXT, or SPECIFICATION alone.",
 };
 
 const C10: CodeText = CodeText {
     code: "C10",
-    rule: "A statement that is left out, named after the colon, where a statement may begin, or the `[` of `c <- [`; such a word or bracket elsewhere is C1.",
+    rule: "An unsupported statement where a statement may begin, or the `[` of `c <- [`; the word or `[` follows the colon. Such a word or bracket elsewhere is C1.",
     example: "Configuration: `PROPERTY Live` → `Configuration refused: C10 at line 3, column 1: PROPERTY.`",
     cure: "Remove it, or write what the explanation says.",
 };
 
 const C11: CodeText = CodeText {
     code: "C11",
-    rule: "A formula of more than 200,000 nodes, or more than 300 on a path, once its definitions are put in (reported at its first token); or a value in the configuration beyond the limits of values.",
+    rule: "A formula of more than 200,000 nodes, or more than 300 on a path, once its definitions are expanded (reported at its first token); or a value in the configuration beyond the limits of values.",
     example: "`CONSTANT N`; configuration: `CONSTANT N = 9223372036854775808` → `Configuration refused: C11 at line 3, column 10.`",
-    cure: "Definitions and LET are put in as text, so definitions that use the one before twice double each time: bind what is used twice, as in `\\E v \\in {e} : p`.",
+    cure: "Definitions and LET are expanded at each use, so a chain in which each definition uses the one before twice doubles at each link: bind what is used twice, as in `\\E v \\in {e} : p`.",
 };
 
 const C12: CodeText = CodeText {
@@ -197,7 +197,7 @@ const E1: CodeText = CodeText {
     code: "E1",
     rule: "A value of the wrong kind, or an element that doesn't fit its tuple pattern; also an assumption, Init, Next, an invariant or a constraint that is no truth value.",
     example: "`Init == x = 1 + \"a\"` → `Fault E1 at line 4, column 13 in the initial predicate.`; `Inv == x + 1` → `Fault E1 at line 6, column 8 in invariant Inv.`",
-    cure: "Read the trace: its last state has the value that was met.",
+    cure: "Read the trace: its last state has the value in question.",
 };
 
 const E2: CodeText = CodeText {
@@ -225,14 +225,14 @@ const E5: CodeText = CodeText {
     code: "E5",
     rule: "An argument outside a function's domain, or items of a sequence that aren't there.",
     example: "`Init == x = <<7, 8>>[3]` → `Fault E5 at line 4, column 13 in the initial predicate.`",
-    cure: "Ask `\\in DOMAIN f` first.",
+    cure: "Check `\\in DOMAIN f` first.",
 };
 
 const E6: CodeText = CodeText {
     code: "E6",
-    rule: "A field that the record hasn't.",
+    rule: "A field that the record doesn't have.",
     example: "`Init == x = [a |-> 1].b` → `Fault E6 at line 4, column 13 in the initial predicate.`",
-    cure: "Look for the field's spelling, or ask `\"b\" \\in DOMAIN r` first.",
+    cure: "Look for the field's spelling, or check `\"b\" \\in DOMAIN r` first.",
 };
 
 const E7: CodeText = CodeText {
@@ -253,7 +253,7 @@ const E9: CodeText = CodeText {
     code: "E9",
     rule: "A set that can't be enumerated: Nat, Int, STRING, `Seq(S)`.",
     example: "`Init == x \\in Nat` → `Fault E9 at line 4, column 15 in the initial predicate.`",
-    cure: "Give a finite set, or in the configuration `CONSTANT Nat <- Small`. To ask `x \\in Nat` in an invariant is fine.",
+    cure: "Give a finite set, or in the configuration `CONSTANT Nat <- Small`. `x \\in Nat` in an invariant is fine.",
 };
 
 const E10: CodeText = CodeText {

@@ -37,16 +37,16 @@ module _ (text : List ℕ) (ts : List Token) where
 
 module _ (ts : List Token) where
   -- The place of a token that is no word or symbol left out, or of the last token, which is a module's closing line.
-  abbrev pub StandsAtNoWord : Option Place → Type 0
-  StandsAtNoWord p = ((at : ℕ) × (t : Token) × (slice_get ts at ≡ Some t) × (p ≡ Some t.place) × (is_left_out t.kind ≡ false))
+  abbrev pub IsAtNoWordLeftOut : Option Place → Type 0
+  IsAtNoWordLeftOut p = ((at : ℕ) × (t : Token) × (slice_get ts at ≡ Some t) × (p ≡ Some t.place) × (is_left_out t.kind ≡ false))
       ⊎ ((t : Token) × (slice_get ts (length ts - 1) ≡ Some t) × (p ≡ Some t.place))
       ⊎ (length ts ≡ 0)
 
   -- a token that is unexpected or too far left is no word or symbol that is left out
-  abbrev pub PassesNoWord : ParseCode → Option Place → Type 0
-  PassesNoWord code.Unexpected p = StandsAtNoWord p
-  PassesNoWord code.Column p = StandsAtNoWord p
-  PassesNoWord _ p = Unit {0}
+  abbrev pub IsNoWordLeftOut : ParseCode → Option Place → Type 0
+  IsNoWordLeftOut code.Unexpected p = IsAtNoWordLeftOut p
+  IsNoWordLeftOut code.Column p = IsAtNoWordLeftOut p
+  IsNoWordLeftOut _ p = Unit {0}
 
 -- there is a place unless memory ran out, and a name only for a form that is left out
 abbrev pub IsLocated : ParseCode → Option Place → Option (List ℕ) → Type 0

@@ -32,7 +32,7 @@ pub struct ParseError {
 }
 
 impl ParseError {
-    /// Want of memory.
+    /// Memory ran out.
     pub(crate) const NO_MEMORY: ParseError = ParseError {
         code: ParseCode::NoMemory,
         place: None,

@@ -9,6 +9,6 @@ pub use error::{ParseCode, ParseError};
 pub use parse::parse_module;
 pub use tla_expressions::laws;
 pub use tla_tree::{
-    Arm, Binder, Bullet, Constant, Declaration, Definition, Expr, Fairness, Field, Infix, Key,
-    Module, Pattern, Prefix, Quantifier, Step, Unit, Update, Word, Written,
+    Arm, Binder, Brackets, Bullet, Constant, Declaration, Definition, Expr, Fairness, Field, Infix,
+    Key, Module, Pattern, Prefix, Quantifier, Step, Unit, Update, Word, Written,
 };

@@ -7,7 +7,7 @@ ghost use Rattle.tla_parse.specs.Units.{units_depth, SpellsModule};
 ghost use Rattle.tla_tree.specs.UnitsView.{unit_view};
 ghost use Rattle.tla_tree.specs.declared.tree.TheConstants.{MAX_DEPTH};
 ghost use Rattle.tla_parse.specs.Private.UnitsReading.{whole};
-ghost use Rattle.tla_parse.specs.Parsing.{NoneSpells, Justified, IsLocated, IsFormLeftOut, PassesNoWord};
+ghost use Rattle.tla_parse.specs.Parsing.{NoneSpells, Justified, IsLocated, IsFormLeftOut, IsNoWordLeftOut};
 ghost use Rattle.tla_grammar.specs.Refusals.{Fails};
 
 use crate::error::{ParseCode, ParseError};
@@ -40,7 +40,7 @@ fn left_out(alloc: Global, text: &[u8], tokens: &[Token], at: usize) -> ParseErr
     requires form { IsFormLeftOut text.now tokens.now at }
     ensures justified { Justified text.now tokens.now result.code result.place result.name }
     ensures located { IsLocated result.code result.place result.name }
-    ensures passes { PassesNoWord tokens.now result.code result.place }
+    ensures no_word { IsNoWordLeftOut tokens.now result.code result.place }
 {
     let Some(t) = tokens.get(at) else {
         return ParseError::at(ParseCode::Unexpected, place_of(tokens, at));
@@ -60,7 +60,7 @@ fn error_of(alloc: Global, text: &[u8], tokens: &[Token], refusal: Refusal) -> P
     requires { Fails text.now tokens.now refusal (whole text.now tokens.now MAX_DEPTH) }
     ensures justified { Justified text.now tokens.now result.code result.place result.name }
     ensures located { IsLocated result.code result.place result.name }
-    ensures passes { PassesNoWord tokens.now result.code result.place }
+    ensures no_word { IsNoWordLeftOut tokens.now result.code result.place }
 {
     match refusal {
         Refusal::Unexpected(at) => ParseError::at(ParseCode::Unexpected, place_of(tokens, at)),
@@ -90,7 +90,7 @@ pub fn parse_module(alloc: Global, text: &[u8], tokens: &[Token]) -> Result<Modu
     ensures justified { IfErr result (λ e. Justified text.now tokens.now e.code e.place e.name) }
     ensures located { IfErr result (λ e. IsLocated e.code e.place e.name) }
     // A token that is unexpected or too far left is no word or symbol that is left out.
-    ensures passes { IfErr result (λ e. PassesNoWord tokens.now e.code e.place) }
+    ensures no_word { IfErr result (λ e. IsNoWordLeftOut tokens.now e.code e.place) }
 {
     match module_units(alloc, text, tokens) {
         Ok(found) => Ok(Module { units: found.units }),

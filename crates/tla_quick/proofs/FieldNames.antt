@@ -1,5 +1,5 @@
 -- The names of fields, one by one.
-use Rattle.std.proofs.Common.{◌≡◌, ℕ, zero, suc, ℤ, pos, ◌+ℤ◌, ◌+◌, ◌<◌, add-one, arith, Bool, true, false, ◌&&◌, ◌||◌, List, [], ◌∷◌, length, drop, drop-cons, get_or, Bor, refl, sym, ap, ◌∙◌}
+use Rattle.std.proofs.Common.{◌≡◌, ℕ, zero, suc, ℤ, pos, ◌+ℤ◌, ◌+◌, ◌<◌, add-one, arith, Bool, true, false, ◌&&◌, List, [], ◌∷◌, length, drop, drop-cons, get_or, Bor, refl, sym, ap, ◌∙◌}
 use Rattle.std.specs.List.{list_all}
 use Rattle.tla_value.specs.Tree.{Tree, text}
 use Rattle.tla_value.specs.TreeOf.{tree_of}

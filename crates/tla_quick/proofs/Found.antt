@@ -11,9 +11,8 @@ use Rattle.tla_code.specs.declared.code.Code.{Code}
 use Rattle.tla_quick.specs.declared.constant.Constant.{Constant}
 use Rattle.tla_quick.specs.Private.Kept.{definition_of, scope_with}
 use Rattle.tla_quick.specs.declared.frame.Frame.{Frame}
-use Rattle.tla_quick.specs.declared.frame.Frame.TheViews as views
 use Rattle.tla_quick.specs.declared.frame.Found.{Found}
-use Rattle.tla_quick.specs.Private.Frames.{bound_of, scope_of, Knows, IsKnown, IsDefinition}
+use Rattle.tla_quick.specs.Private.Frames.{bound_of, scope_of, IsKnown, IsDefinition}
 
 none_some : {A : Type 0} (x : A) → (let r : Option A = None in r ≡ Some x) → ⊥
 none_some x k = cc

@@ -1,10 +1,9 @@
 -- Closed parts that are kept: their scope, and that their values last.
-use Rattle.std.proofs.Common.{◌≡◌, ℕ, List, [], ◌∷◌, ◌++◌, length, map, replicate, Option, Some, None, Result, Ok, Err, IfOk, IfSome, Vec, Global, refl, ap, sym, ◌∙◌}
+use Rattle.std.proofs.Common.{◌≡◌, ℕ, List, [], ◌∷◌, ◌++◌, length, replicate, Option, Some, None, Result, Ok, Err, IfOk, IfSome, Vec, Global, refl, ap, sym, ◌∙◌}
 use Rattle.std.specs.Result.{result_ok}
 use Rattle.tla_value.specs.TreeOf.{tree_of}
 use Rattle.tla_value.specs.declared.value.Value.{Value}
 use Rattle.tla_core.specs.Expr.{Expr}
-use Rattle.tla_core.specs.Meaning.{Present, Next}
 use Rattle.tla_core.specs.Value.{val}
 use Rattle.tla_code.specs.CodeExpr.{Scope, code_expr, expr_in}
 use Rattle.tla_code.specs.NoVariables.{IsClosed}

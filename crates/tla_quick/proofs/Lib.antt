@@ -2,5 +2,6 @@ mod Found
 mod Tried
 mod Used
 mod Forms
+mod Grouped
 mod FieldNames
 pub mod KeptParts

@@ -1,3 +1,3 @@
 pub mod SameMeaning
-pub mod ExpressionOf
+pub mod Groups
 pub mod Private

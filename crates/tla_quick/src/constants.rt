@@ -28,7 +28,7 @@ const MOST_CONSTANTS: usize = 16;
 /// A set or a function with more parts isn't kept.
 const MOST_PARTS: usize = 100_000;
 
-/// The code of an expression under so many bound names, with closed parts and definitions if some are found.
+/// An expression under `names` bound names, prepared.
 pub(crate) fn arranged<'m>(
     alloc: Global,
     core: &'m Core,
@@ -37,8 +37,20 @@ pub(crate) fn arranged<'m>(
     ensures { IfOk result (λ p. prepared_expr p ≡ expr_of core.now) }
 {
     let code = code_of(alloc, core)?;
+    Ok(prepared(alloc, code, names))
+}
+
+/// A code under `names` bound names, with closed parts and definitions if some are found.
+pub(crate) fn prepared<'m>(alloc: Global, code: Code<'m>, names: usize) -> Prepared<'m>
+    ensures { prepared_expr result ≡ code_expr code.entry }
+{
     let kept = with_constants(alloc, code, names);
-    Ok(with_definitions(alloc, kept, names))
+    with_definitions(alloc, kept, names)
+}
+
+/// Whether the whole of a code gets a definition.
+pub(crate) fn is_shared(alloc: Global, code: &Code<'_>, names: usize) -> bool {
+    matches!(shared(alloc, code, names, &[]), Some(Code::Let(_, _, _, _)))
 }
 
 /// A code in which closed parts are replaced by uses of their values. It stops at the first closed part without a

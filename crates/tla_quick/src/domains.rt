@@ -52,12 +52,12 @@ pub(crate) fn gather(values: &mut Gathered, value: Value) -> Result<(), Stop>
 }
 
 /// The set of the gathered values.
-pub(crate) fn gathered_set(place: &Place, values: Gathered) -> Result<Value, Stop>
+pub(crate) fn gathered_set(alloc: Global, place: &Place, values: Gathered) -> Result<Value, Stop>
     ensures { (ts : List Tree)
         → IsGathered ts values
         → Answers tree_of result (make_set place.now ts) }
 {
-    Ok(values.into_set(place)?)
+    Ok(values.into_set(alloc, place)?)
 }
 
 /// The domain of a function over all choices from these sets.

@@ -11,17 +11,31 @@ use crate::made::{all_values, owned};
 use crate::prepared::Prepared;
 use crate::stop::Stop;
 use std::alloc::{AllocError, Global};
+use std::marker::Model;
+use tla_code::Code;
 use tla_core::{Core, Place};
 use tla_eval::Partial;
 use tla_value::{State, Value};
 
 /// An expression, with the code by which it is evaluated, and the values of closed parts that this uses.
+/// Contracts see the expression as it was given.
 #[derive(Drop)]
 pub struct Expression<'m> {
     core: &'m Core,
     prepared: Box<Prepared<'m>>,
     ghost same_value: { HasSameValue (prepared_expr prepared.value) (expr_of core.now) } by { HasSameValue-prop (prepared_expr prepared.value) (expr_of core.now) },
     ghost same_members: { HasSameMembers (prepared_expr prepared.value) (expr_of core.now) } by { HasSameMembers-prop (prepared_expr prepared.value) (expr_of core.now) },
+}
+
+impl<'m> Model for Expression<'m> {
+    ghost use Rattle.tla_core.specs.declared.expression.Core.{Core};
+    ghost use Rattle.tla_core.specs.contracts.expression.Core.{the_row};
+
+    ghost Value = { Core };
+
+    ghost coded = { the_row.coded };
+
+    ghost view = { λ e. e.core.now };
 }
 
 impl<'m> Expression<'m> {
@@ -33,15 +47,27 @@ impl<'m> Expression<'m> {
 
     /// An expression under `names` bound names. The only error is that memory ran out.
     pub fn new(alloc: Global, core: &'m Core, names: usize) -> Result<Expression<'m>, AllocError>
-        ensures { IfOk result (λ e. e.core.now ≡ core.now) }
+        ensures { IfOk result (λ e. e ≡ core.now) }
     {
         let prepared = Box::new(alloc, arranged(alloc, core, names)?)?;
         Ok(Expression { core, prepared })
     }
 
+    /// An expression that is evaluated by its definition, as often as it is asked for. The only error is that memory ran out.
+    pub fn plain(alloc: Global, core: &'m Core) -> Result<Expression<'m>, AllocError>
+        ensures { IfOk result (λ e. e ≡ core.now) }
+    {
+        let prepared = Prepared {
+            constants: Vec::new(alloc),
+            code: Code::Plain(core),
+        };
+        let prepared = Box::new(alloc, prepared)?;
+        Ok(Expression { core, prepared })
+    }
+
     /// The expression as it was given.
     pub fn core(&self) -> &'m Core
-        ensures { result.now ≡ self.now.core.now }
+        ensures { result.now ≡ self.now }
     {
         self.core
     }
@@ -56,8 +82,8 @@ impl<'m> Expression<'m> {
         partial: &'x Partial,
     ) -> Option<Value>
         ensures { IfSome result (λ v.
-            val (expr_of self.now.core.now) (map tree_of bound.now)
-            (option_map (λ s. s.now) now.entry) partial.now
+            val (expr_of self.now) (map tree_of bound.now) (option_map (λ s. s.now) now.entry)
+            partial.now
             ≡ Ok (tree_of v)) }
     {
         let outer = Frame::Outer(&self.prepared.constants);
@@ -85,7 +111,7 @@ impl<'m> Expression<'m> {
         partial: &'x Partial,
     ) -> Option<bool>
         ensures { IfSome result (λ b.
-            asks place (means (expr_of self.now.core.now)) (map tree_of bound.now)
+            asks place (means (expr_of self.now)) (map tree_of bound.now)
             (option_map (λ s. s.now) now.entry) partial.now
             ≡ Ok b) }
     {
@@ -111,7 +137,7 @@ impl<'m> Expression<'m> {
         partial: &'x Partial,
     ) -> Option<bool>
         ensures { IfSome result (λ b.
-            mem (tree_of member.now) (expr_of self.now.core.now) (map tree_of bound.now)
+            mem (tree_of member.now) (expr_of self.now) (map tree_of bound.now)
             (option_map (λ s. s.now) now.entry) partial.now
             ≡ Ok b) }
     {
@@ -138,7 +164,7 @@ impl<'m> Expression<'m> {
         partial: &'x Partial,
     ) -> Option<Vec<Value>>
         ensures { IfSome result (λ v.
-            elements place.now (means (expr_of self.now.core.now)) (map tree_of bound.now)
+            elements place.now (means (expr_of self.now)) (map tree_of bound.now)
             (option_map (λ s. s.now) now.entry) partial.now
             ≡ Ok (map tree_of v.items)) }
     {

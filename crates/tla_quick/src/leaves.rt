@@ -168,7 +168,7 @@ pub(crate) fn plain_value<'m: 'a, 'a>(
         Core::Now(_, variable) => Ok(Evaluated::Borrowed(now_value(env.now, *variable)?)),
         Core::Next(_, variable) => Ok(Evaluated::Borrowed(next_value(env.next, *variable)?)),
         Core::Literal(literal) => Ok(Evaluated::Borrowed(literal.value())),
-        Core::Booleans(_) => Ok(booleans(alloc)?),
+        Core::Booleans(place) => Ok(booleans(alloc, place)?),
         _ => Ok(Evaluated::Owned(exact_value(alloc, core, env)?)),
     }
 }
@@ -183,7 +183,7 @@ pub(crate) fn plain_has<'m: 'a, 'a>(
     ensures { Answers (λ b. b) result (has_in env.entry (tree_of value.now) (expr_of core.now)) }
 {
     match core {
-        Core::KindSet(_, kind) => Ok(kind_has(*kind, value)?),
+        Core::KindSet(_, kind) => Ok(kind_has(*kind, value)),
         Core::Booleans(_) => Ok(is_truth(value)),
         Core::Cases(_, _, _) | Core::Assert(_, _, _) => exact_has(alloc, core, value, env),
         _ => has_known(plain_value(alloc, core, env)?.value(), value),

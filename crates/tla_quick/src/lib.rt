@@ -8,6 +8,7 @@ mod environment;
 mod evaluation;
 mod expression;
 mod frame;
+mod group;
 mod leaves;
 mod made;
 mod names;
@@ -16,3 +17,4 @@ mod prepared;
 mod stop;
 
 pub use expression::Expression;
+pub use group::Group;

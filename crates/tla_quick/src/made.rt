@@ -1,5 +1,5 @@
 //! What forms make of values that are known.
-ghost use Rattle.std.specs.Prelude.{◌≡◌, ◌+◌, ◌++◌, Ok, IfOk, OnOk, List, cond, map, slice_get};
+ghost use Rattle.std.specs.Prelude.{◌≡◌, ◌<◌, ◌+◌, ◌++◌, Ok, IfOk, OnOk, List, length, cond, map, slice_get};
 ghost use Rattle.std.specs.Option.{option_to_list};
 ghost use Rattle.tla_value.specs.Tree.{Tree, truth, fun, pairs};
 ghost use Rattle.tla_value.specs.TreeOf.{tree_of, pair_of};
@@ -267,14 +267,19 @@ pub(crate) fn made_of_three(
 }
 
 /// What a form with a list of operands makes of their values.
-pub(crate) fn made_of_list(place: &Place, form: ListForm, values: Vec<Value>) -> Result<Value, Stop>
+pub(crate) fn made_of_list(
+    alloc: Global,
+    place: &Place,
+    form: ListForm,
+    values: Vec<Value>,
+) -> Result<Value, Stop>
     ensures { (es : Exprs) (b : Bound) (s : Present) (t : Next)
         → each (λ (m : Meaning). m.value b s t) (mean_all es) ≡ Ok (map tree_of values.items)
         → Answers tree_of result (val (list_expr form place.now es) b s t) }
 {
     match form {
-        ListForm::Enumerated => Ok(made_set(place, SetValue::from_values(values))?),
-        ListForm::Tuple => Ok(sequence_of(place, values)?),
+        ListForm::Enumerated => Ok(made_set(place, SetValue::from_values(alloc, values))?),
+        ListForm::Tuple => Ok(sequence_of(alloc, place, values)?),
         _ => Err(Stop::Unknown),
     }
 }
@@ -309,23 +314,24 @@ pub(crate) fn one_of_known(
 }
 
 /// The set of some values.
-pub(crate) fn set_of(place: &Place, values: Vec<Value>) -> Result<Value, Stop>
+pub(crate) fn set_of(alloc: Global, place: &Place, values: Vec<Value>) -> Result<Value, Stop>
     ensures { Answers tree_of result (make_set place.now (map tree_of values.items)) }
 {
-    Ok(made_set(place, SetValue::from_values(values))?)
+    Ok(made_set(place, SetValue::from_values(alloc, values))?)
 }
 
 /// The element with a number, as a value of its own.
 pub(crate) fn chosen<'a>(
     alloc: Global,
-    place: &Place,
     elements: &'a Elements<'a>,
     number: usize,
 ) -> Result<Value, Stop>
-    ensures { Answers tree_of result
-        (or_fault NoChoice place.now (slice_get (elements_of elements.now) number)) }
+    requires { number < length (elements_of elements.now) }
+    ensures { (p : AnyPlace)
+        → Answers tree_of result
+        (or_fault NoChoice p (slice_get (elements_of elements.now) number)) }
 {
-    Ok(chosen_at(alloc, place, elements, number)?)
+    Ok(chosen_at(alloc, elements, number)?)
 }
 
 /// Adds the element with a number at the end, if it is to be kept.
@@ -336,6 +342,7 @@ pub(crate) fn keep<'a>(
     number: usize,
     keep: bool,
 ) -> Result<(), Stop>
+    requires { number < length (elements_of elements.now) }
     ensures { OnOk result
         (map tree_of kept.new.items
         ≡ cond keep
@@ -359,10 +366,14 @@ pub(crate) fn known_members(set: &Value) -> Result<&[Value], Stop>
 }
 
 /// The record of some fields.
-pub(crate) fn made_record(place: &Place, pairs: Vec<(Value, Value)>) -> Result<Value, Stop>
+pub(crate) fn made_record(
+    alloc: Global,
+    place: &Place,
+    pairs: Vec<(Value, Value)>,
+) -> Result<Value, Stop>
     ensures { Answers tree_of result (make_fun place.now (map pair_of pairs.items)) }
 {
-    Ok(made_fun(place, FunValue::from_pairs(pairs))?)
+    Ok(made_fun(place, FunValue::from_pairs(alloc, pairs))?)
 }
 
 /// An owned function: a borrowed one is copied.

@@ -6,12 +6,12 @@ use tla_config::{Source, Statement};
 use tla_finding::characters;
 use tla_finding::finding::{Finding, put_beside, put_page};
 use tla_finding::spot::Spot;
-use tla_hints::statement_cure;
 use tla_lex::{Kind, Place, Token};
 use tla_name_errors::config_names::{
     find_arguments, find_behaviour, find_circle, find_large, find_unknown,
 };
-use tla_name_errors::more::{other_constants, unknown_places, unknown_statements};
+use tla_name_errors::configuration::{hint_left_out, misspelt_places};
+use tla_name_errors::more::{MOST_NAMES, other_constants, unknown_places, unknown_statements};
 use tla_name_errors::reach::Definitions;
 use tla_name_errors::statements::{config_of, replaced, value_place};
 use tla_name_errors::{arguments, configuration, levels, specification, twice, unknown};
@@ -44,9 +44,7 @@ pub fn tell(page: &mut Page, sources: &Sources<'_>, refusal: &Refusal) {
     let tokens = tokens_of(page.alloc(), text, refused.source);
     let finding = found(page.alloc(), sources, &tokens, refused);
     put(page, sources, refused, &finding);
-    if finding.title.is_empty() && refused.code == RefusalCode::UnknownName {
-        put_others(page, sources, &tokens, refused);
-    }
+    put_more(page, sources, &tokens, refused, &finding);
 }
 
 /// What is found about a refusal.
@@ -59,51 +57,172 @@ fn found(alloc: Global, sources: &Sources<'_>, tokens: &[Token], refused: Refuse
     finding
 }
 
-/// Adds the other names that are unknown, each once.
-fn put_others(page: &mut Page, sources: &Sources<'_>, tokens: &[Token], refused: Refused<'_>) {
-    let text = source_text(sources, refused.source);
-    let Some(spot) = Spot::of(text, tokens, refused.place) else {
-        return;
+/// Adds what else is certainly wrong: unknown names, and misspelt statements.
+fn put_more(
+    page: &mut Page,
+    sources: &Sources<'_>,
+    tokens: &[Token],
+    refused: Refused<'_>,
+    finding: &Finding,
+) {
+    let spot = Spot::of(source_text(sources, refused.source), tokens, refused.place);
+    match (refused.source, refused.code, spot) {
+        (Source::Module, RefusalCode::UnknownName, Some(spot)) if finding.title.is_empty() => {
+            put_names(page, sources, &spot, refused);
+        }
+        (Source::Configuration, RefusalCode::UnknownName, Some(spot)) => {
+            put_statements(
+                page,
+                sources,
+                tokens,
+                &[spot.word(spot.at)],
+                Some(finding.place),
+            );
+        }
+        (Source::Configuration, RefusalCode::ConfigurationText, _) => {
+            put_misspelt(page, sources, tokens, finding.place);
+        }
+        _ => {}
+    }
+}
+
+/// Adds the other names that are unknown in the module, and those in the configuration.
+fn put_names(page: &mut Page, sources: &Sources<'_>, spot: &Spot<'_>, refused: Refused<'_>) {
+    let alloc = page.alloc();
+    let units = units_of(alloc, sources.module);
+    let Ok(places) = unknown_places(alloc, spot, units) else {
+        return page.refuse();
     };
-    let units = units_of(page.alloc(), sources.module);
-    let places = match refused.source {
-        Source::Module => unknown_places(page.alloc(), &spot, units),
-        Source::Configuration => unknown_by_statements(page.alloc(), &spot, units),
-    };
-    match places {
-        Ok(places) => put_each(page, sources, &spot, &places, refused),
+    let all = places.as_slice();
+    let shown = all.get(..MOST_NAMES).unwrap_or(all);
+    put_each(page, sources, spot, shown, refused, Some(refused.place));
+    if all.len() > MOST_NAMES {
+        page.put(&["note: ", sources.names.module]);
+        page.put_text(" has more unknown names than these\n");
+    }
+    match words_at(alloc, spot, all) {
+        Ok(told) => {
+            let tokens = tokens_of(alloc, sources.configuration, Source::Configuration);
+            put_statements(page, sources, &tokens, &told, None);
+        }
         Err(_) => page.refuse(),
     }
 }
 
-/// Where the names of statements are that these units don't define. The only error is out of memory.
-fn unknown_by_statements(
+/// The words of a token and of those at places. The only error is out of memory.
+fn words_at<'a>(
     alloc: Global,
-    spot: &Spot<'_>,
-    units: Vec<Unit>,
-) -> Result<Vec<Place>, AllocError> {
-    let places = unknown_statements(alloc, spot, &units);
-    drop(units);
-    places
+    spot: &Spot<'a>,
+    places: &[Place],
+) -> Result<Vec<&'a str>, AllocError> {
+    let mut words = Vec::new(alloc);
+    words.push(spot.word(spot.at))?;
+    for place in places {
+        if let Some(index) = spot.index_at(*place) {
+            words.push(spot.word(index))?;
+        }
+    }
+    Ok(words)
 }
 
-/// Adds what is found about the unknown names at places, each place once.
+/// Adds the names in statements of the configuration that are unknown, but for those that were told.
+fn put_statements(
+    page: &mut Page,
+    sources: &Sources<'_>,
+    tokens: &[Token],
+    told: &[&str],
+    first: Option<Place>,
+) {
+    let units = units_of(page.alloc(), sources.module);
+    let places = unknown_statements(page.alloc(), sources.configuration, &units, told);
+    drop(units);
+    put_of_configuration(
+        page,
+        sources,
+        tokens,
+        RefusalCode::UnknownName,
+        places,
+        first,
+    );
+}
+
+/// Adds the other misspelt statements, if one is at the place of what was told.
+fn put_misspelt(page: &mut Page, sources: &Sources<'_>, tokens: &[Token], first: Place) {
+    let units = units_of(page.alloc(), sources.module);
+    let places = misspelt_beside(page.alloc(), sources, tokens, &units, first);
+    drop(units);
+    let code = RefusalCode::ConfigurationText;
+    put_of_configuration(page, sources, tokens, code, places, Some(first));
+}
+
+/// Where misspelt statements are, with these units, if one is at a place. The only error is out of memory.
+fn misspelt_beside(
+    alloc: Global,
+    sources: &Sources<'_>,
+    tokens: &[Token],
+    units: &[Unit],
+    place: Place,
+) -> Result<Vec<Place>, AllocError> {
+    let known = known_names(alloc, units)?;
+    let names = words_of(alloc, &known)?;
+    let spot = Spot {
+        text: sources.configuration,
+        tokens,
+        at: 0,
+    };
+    let places = misspelt_places(alloc, &spot, &names)?;
+    if places.contains(&place) {
+        Ok(places)
+    } else {
+        Ok(Vec::new(alloc))
+    }
+}
+
+/// Adds what is found about places of the configuration, but for the one that was told first.
+fn put_of_configuration(
+    page: &mut Page,
+    sources: &Sources<'_>,
+    tokens: &[Token],
+    code: RefusalCode,
+    places: Result<Vec<Place>, AllocError>,
+    first: Option<Place>,
+) {
+    let spot = Spot {
+        text: sources.configuration,
+        tokens,
+        at: 0,
+    };
+    let refused = Refused {
+        source: Source::Configuration,
+        code,
+        place: Place::FIRST,
+        name: "",
+    };
+    match places {
+        Ok(places) => put_each(page, sources, &spot, &places, refused, first),
+        Err(_) => page.refuse(),
+    }
+}
+
+/// Adds what is found about refusals at places, each place once, but for the one that was told first.
 fn put_each(
     page: &mut Page,
     sources: &Sources<'_>,
     spot: &Spot<'_>,
     places: &[Place],
     refused: Refused<'_>,
+    first: Option<Place>,
 ) {
-    let mut last = refused.place;
+    let mut last = first;
     for place in places {
-        if let Some(one) = refused_at(spot, *place, refused.source, refused.code) {
-            let finding = found(page.alloc(), sources, spot.tokens, one);
-            if finding.place != last {
-                put(page, sources, one, &finding);
-            }
-            last = finding.place;
+        let Some(one) = refused_at(spot, *place, refused.source, refused.code) else {
+            continue;
+        };
+        let finding = found(page.alloc(), sources, spot.tokens, one);
+        if Some(finding.place) != first && Some(finding.place) != last {
+            put(page, sources, one, &finding);
         }
+        last = Some(finding.place);
     }
 }
 
@@ -339,7 +458,7 @@ fn find_at(
             Ok(names) => configuration::find(finding, spot, &names),
             Err(_) => finding.refuse(),
         },
-        RefusalCode::StatementLeftOut => find_statement(finding, refused.name),
+        RefusalCode::StatementLeftOut => hint_left_out(finding, spot, refused.name),
         RefusalCode::UnknownName => find_unknown(finding, spot, known),
         RefusalCode::ArgumentCount => find_arguments(finding, spot, known),
         RefusalCode::DefinedTwice => twice::find_item(finding, spot),
@@ -360,12 +479,6 @@ fn find_at_end(finding: &mut Finding, spot: &Spot<'_>, known: &[Known<'_>], refu
             Err(_) => finding.refuse(),
         },
         _ => {}
-    }
-}
-
-fn find_statement(finding: &mut Finding, word: &str) {
-    if let Some(cure) = statement_cure(word) {
-        finding.hint(&[cure]);
     }
 }
 

@@ -4,14 +4,14 @@ use Rattle.std.specs.Fmt.{digits}
 use Rattle.std.proofs.Common.{lit<}
 use Rattle.tla_value.specs.Tree.{int}
 use Rattle.tla_core.specs.declared.fault.FaultCode.TheVariants.{Overflow, SmallDivisor, Lacking, TooMany}
-use Rattle.tla_search.specs.declared.answer.Answer.{Answer}
-use Rattle.tla_search.specs.declared.answer.Answer.TheVariants.{NoError, InvariantFalse, Deadlock, Faulted, AssumptionFalse, Limit}
-use Rattle.tla_search.specs.declared.finding.Part.TheVariants.{Assumption, NextAction, Constraint}
+use Rattle.tla_verdict.specs.declared.answer.Answer.{Answer}
+use Rattle.tla_verdict.specs.declared.answer.Answer.TheVariants.{NoError, InvariantFalse, Deadlock, Faulted, AssumptionFalse, Limit}
+use Rattle.tla_verdict.specs.declared.finding.Part.TheVariants.{Assumption, NextAction, Constraint}
 use Rattle.tla_config.specs.declared.error.Source.TheVariants.{Module, Configuration}
 use Rattle.tla_report.specs.declared.checked.RefusalCode.TheVariants.{NumberTooLarge, StatementLeftOut}
 use Rattle.tla_report.specs.declared.checked.Checked.{Checked}
 use Rattle.tla_report.specs.declared.checked.Checked.TheVariants.{Answered, Refused, NoMemory, NoWorker}
-use Rattle.tla_search.specs.IsNamed.{IsNamed}
+use Rattle.tla_verdict.specs.IsNamed.{IsNamed}
 use Rattle.tla_report.specs.Report.{report}
 
 -- an answer about the variable x, the invariant Inv and the constraint Con

@@ -3,7 +3,7 @@ use Rattle.std.proofs.Common.{◌≡◌, ℕ, zero, suc, ◌+◌, ◌<◌, List,
 use Rattle.tla_value.specs.Tree.{Tree}
 use Rattle.tla_value.specs.TreeOf.{tree_of}
 use Rattle.tla_value.specs.declared.value.Value.{Value}
-use Rattle.tla_search.specs.IsNamed.{AreWhole}
+use Rattle.tla_verdict.specs.IsNamed.{AreWhole}
 use Rattle.tla_report.specs.Report.{value_line, value_lines, state_lines, trace_lines}
 
 pub pieces_more : {A : Type 0} (f : A → List ℕ) (xs : List A) (i : ℕ) (d : A) → i < length xs

@@ -3,9 +3,9 @@ use Rattle.std.proofs.Common.{◌≡◌, ◌↔◌, ℕ, List, [], ◌∷◌, �
 use Rattle.std.specs.Prelude.{codes}
 use Rattle.tla_config.specs.declared.error.Source.{Source}
 use Rattle.tla_config.specs.declared.error.Source.TheVariants.{Module, Configuration}
-use Rattle.tla_search.specs.Answers.{trace_of, counts_of}
-use Rattle.tla_search.specs.declared.answer.Answer.{Answer}
-use Rattle.tla_search.specs.declared.answer.Answer.TheVariants.{NoError, InvariantFalse, Deadlock, Faulted, AssumptionFalse, Limit}
+use Rattle.tla_verdict.specs.Answers.{trace_of, counts_of}
+use Rattle.tla_verdict.specs.declared.answer.Answer.{Answer}
+use Rattle.tla_verdict.specs.declared.answer.Answer.TheVariants.{NoError, InvariantFalse, Deadlock, Faulted, AssumptionFalse, Limit}
 use Rattle.tla_report.specs.declared.checked.Checked.{Checked}
 use Rattle.tla_report.specs.declared.checked.Checked.TheVariants.{Answered, Refused, NoMemory, NoWorker}
 use Rattle.tla_report.specs.Laws.{SaysNoError, TellsStatus}

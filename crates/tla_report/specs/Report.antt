@@ -7,12 +7,12 @@ use Rattle.tla_value.specs.Text.{text_of}
 use Rattle.tla_core.specs.declared.fault.Place.{Place}
 use Rattle.tla_core.specs.declared.fault.Fault.{Fault}
 use Rattle.tla_core.specs.Fault.{code_text}
-use Rattle.tla_search.specs.Answers.{trace_of, counts_of}
-use Rattle.tla_search.specs.declared.finding.Part.{Part}
-use Rattle.tla_search.specs.declared.finding.Part.TheVariants.{Assumption, Initial, NextAction, Invariant, Constraint}
+use Rattle.tla_verdict.specs.Answers.{trace_of, counts_of}
+use Rattle.tla_verdict.specs.declared.finding.Part.{Part}
+use Rattle.tla_verdict.specs.declared.finding.Part.TheVariants.{Assumption, Initial, NextAction, Invariant, Constraint}
 use Rattle.tla_levels.specs.declared.answer.Counts.{Counts}
-use Rattle.tla_search.specs.declared.answer.Answer.{Answer}
-use Rattle.tla_search.specs.declared.answer.Answer.TheVariants.{NoError, InvariantFalse, Deadlock, Faulted, AssumptionFalse, Limit}
+use Rattle.tla_verdict.specs.declared.answer.Answer.{Answer}
+use Rattle.tla_verdict.specs.declared.answer.Answer.TheVariants.{NoError, InvariantFalse, Deadlock, Faulted, AssumptionFalse, Limit}
 use Rattle.tla_report.specs.declared.checked.Answered.{Answered as AnsweredCheck}
 use Rattle.tla_config.specs.declared.error.Source.{Source}
 use Rattle.tla_config.specs.declared.error.Source.TheVariants.{Module, Configuration}

@@ -1,7 +1,7 @@
 -- The status with which the program ends. The numbers are this project's own choice.
 use Rattle.std.specs.Prelude.{ℕ}
-use Rattle.tla_search.specs.declared.answer.Answer.{Answer}
-use Rattle.tla_search.specs.declared.answer.Answer.TheVariants.{NoError, InvariantFalse, Deadlock, Faulted, AssumptionFalse, Limit}
+use Rattle.tla_verdict.specs.declared.answer.Answer.{Answer}
+use Rattle.tla_verdict.specs.declared.answer.Answer.TheVariants.{NoError, InvariantFalse, Deadlock, Faulted, AssumptionFalse, Limit}
 use Rattle.tla_report.specs.declared.checked.Checked.{Checked}
 use Rattle.tla_report.specs.declared.checked.Checked.TheVariants.{Answered, Refused, NoMemory, NoWorker}
 

@@ -3,19 +3,20 @@ ghost use Rattle.std.specs.Prelude.{◌≡◌, ◌++◌, ◌<◌, length, map, c
 ghost use Rattle.std.specs.Io.KnownBytes.{Appends};
 ghost use Rattle.counted_writer.specs.Puts.{Puts, AddsFirst};
 ghost use Rattle.tla_value.specs.TreeOf.{tree_of};
-ghost use Rattle.tla_search.specs.Answers.{trace_of};
-ghost use Rattle.tla_search.specs.IsNamed.{AreWhole, IsAboutOne, IsNamedPart};
+ghost use Rattle.tla_verdict.specs.Answers.{trace_of};
+ghost use Rattle.tla_verdict.specs.IsNamed.{AreWhole, IsAboutOne, IsNamedPart};
 ghost use Rattle.tla_report.specs.Codes.{refusal_code};
 ghost use Rattle.tla_report.specs.Private.Pieces.{piece_text, pieces_text};
 ghost use Rattle.tla_report.specs.Report.{report, line, first_line, fault_line, site_text, part_line, place_text, trace_lines, state_lines, value_line, value_lines, counts_line, answer_report, refusal_line, ending, source_text};
 
 use crate::checked::{Answered, Checked, Names, Refusal, RefusalCode};
+use block_writer::{Document, put_in_blocks};
 use counted_writer::{ShortWrite, put, put_number};
 use std::io::Write;
 use tla_config::Source;
 use tla_core::{Fault, Place};
-use tla_search::{Answer, Counts, Part};
 use tla_value::{State, Text, Value};
+use tla_verdict::{Answer, Counts, Part};
 
 /// A write failed or took no byte.
 #[derive(Clone, Copy, Debug, PartialEq, Eq)]
@@ -24,18 +25,26 @@ pub struct WriteFault {
     pub written: u64,
 }
 
-/// Writes the report. The first write that fails or takes no byte ends it. Takes no memory.
+/// Writes the report, in blocks. The first write that fails or takes no byte ends it. Takes no memory.
 pub fn write_report<W: Write>(checked: &Checked, out: &mut W) -> Result<(), WriteFault>
     ensures ok { OnOk result
         (Appends (W.contents out.old) (W.contents out.new) (report checked.now)) }
     ensures fault { IfErr result (λ e.
         AddsFirst (W.contents out.old) (W.contents out.new) (report checked.now) e.written) }
 {
-    match put_report(checked, out) {
-        Ok(_) => Ok(()),
+    match put_in_blocks(checked, out) {
+        Ok(()) => Ok(()),
         Err(short) => Err(WriteFault {
             written: short.written,
         }),
+    }
+}
+
+impl Document for Checked {
+    ghost bytes = { report };
+
+    fn put_on<W: Write>(&self, out: &mut W) -> Result<u64, ShortWrite> {
+        put_report(self, out)
     }
 }
 

@@ -3,7 +3,7 @@ ghost use Rattle.std.specs.Prelude.{◌≡◌};
 ghost use Rattle.tla_report.specs.Status.{answer_status, status_of};
 
 use crate::checked::Checked;
-use tla_search::Answer;
+use tla_verdict::Answer;
 
 impl Checked {
     /// The status with which the program ends.

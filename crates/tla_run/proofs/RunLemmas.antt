@@ -40,14 +40,15 @@ write_done P (Ok x) failed same is h = h
 write_done P (Err e) failed same is h = let bad : true ≡ false = sym same ∙ is in cc
 
 -- what is right of the texts is right of the files
-pub check_of : (files : Files) (inputs : Inputs) (checked : Checked) → HoldsBoth files inputs
-    → IsChecked inputs.module.now inputs.config.now inputs.line.now.options.limit checked → IsCheckOf files inputs.line.now checked
-check_of files inputs checked reads right = record {
+pub check_of : (files : Files) (inputs : Inputs) (limit : ℕ) (checked : Checked) → HoldsBoth files inputs
+    → limit ≡ inputs.line.now.options.limit → IsChecked inputs.module.now inputs.config.now limit checked
+    → IsCheckOf files inputs.line.now checked
+check_of files inputs limit checked reads same right = record {
   text = inputs.module.now;
   config = inputs.config.now;
   reads_text = reads.text;
   reads_config = reads.config;
-  right = right;
+  right = subst (λ n. IsChecked inputs.module.now inputs.config.now n checked) same right;
 }
 
 -- the texts are those of both files

@@ -14,5 +14,6 @@ pub use host::{Host, Inputs};
 pub use process::run_process;
 pub use running::run;
 pub use tla_check::{Checked, Gate, Line, LineFault, NoGate};
+pub use tla_explain::write_graph;
 pub use tla_progress::{Memory, NoMemory, ProcessMemory};
 pub use unread::Unread;

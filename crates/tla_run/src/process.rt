@@ -147,6 +147,7 @@ impl<'a, R: AllocGlobal + Clock + Eprint + Files + Sync, M: Memory + Sync> Host
             inputs.module,
             inputs.config,
             checked,
+            inputs.line.coverage,
         )
     }
 

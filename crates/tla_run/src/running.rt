@@ -137,8 +137,8 @@ fn run_quietly<H: Host, O: Write, R: Threads + Wait + Sync>(
     ensures { (err : Writing) → GetsNothing err → ComesTo (H.files host.now) inputs.now.line.now
         (record { old = O.contents out.old; new = O.contents out.new }) err result }
 {
-    let options = &inputs.line.options;
-    let checked = check(rt, alloc, inputs.module, inputs.config, options, &NoGate);
+    let options = inputs.line.options.leaving_table();
+    let checked = check(rt, alloc, inputs.module, inputs.config, &options, &NoGate);
     if write_report(&checked, out).is_err() {
         return NO_REPORT;
     }
@@ -163,8 +163,8 @@ fn run_openly<H: Host, O: Write, E: Write, R: Threads + Wait + Sync>(
         (record { old = E.contents err.old; new = E.contents err.new }) result }
 {
     let gate = host.gate(inputs.line);
-    let options = &inputs.line.options;
-    let checked = check(rt, alloc, inputs.module, inputs.config, options, &gate);
+    let options = inputs.line.options.leaving_table();
+    let checked = check(rt, alloc, inputs.module, inputs.config, &options, &gate);
     if write_report(&checked, out).is_err() {
         tell_unwritten_report(err);
         return NO_REPORT;

@@ -1,7 +1,10 @@
 -- Lists that are gone over one by one.
-use Rattle.std.proofs.Common.{◌≡◌, ℕ, zero, suc, ◌+◌, List, [], ◌∷◌, ◌++◌, length, drop, Option, Some, None, Ok, Err, refl, sym, ap, ◌∙◌, add-one, append_assoc}
+use Rattle.std.proofs.Common.{◌≡◌, ℕ, zero, suc, ◌+◌, ◌<◌, ◌≤◌, List, [], ◌∷◌, ◌++◌, length, map, drop, get_or, Option, Some, None, Ok, Err, refl, sym, ap, ◌∙◌, add-one, append_assoc, arith}
 use Rattle.std.specs.Prelude.{slice_get}
+use Rattle.std.proofs.lemmas.List.{length-map}
 use Rattle.tla_value.specs.Tree.{Tree}
+use Rattle.tla_value.specs.TreeOf.{tree_of}
+use Rattle.tla_value.specs.declared.value.Value.{Value}
 use Rattle.tla_core.specs.Fault.{Outcome, ◌>>=◌}
 use Rattle.tla_core.specs.Lists.{each}
 use Rattle.tla_operators.proofs.Members.{bind-ok}
@@ -29,6 +32,20 @@ drop_past {A} (y ∷ xs) zero h = absurd (none_some h)
     none_some : (let o : Option A = Some y in o ≡ None) → ⊥
     none_some e = cc
 drop_past (y ∷ xs) (suc i) h = drop_past xs i h
+
+pub get_past : {A : Type 0} (xs : List A) (i : ℕ) → length xs ≤ i → slice_get xs i ≡ None
+get_past [] i h = refl
+get_past (y ∷ xs) zero h = absurd (omega arith)
+get_past (y ∷ xs) (suc i) h = get_past xs i (omega arith)
+
+-- ---- values, as trees
+pub within_values : (vs : List Value) (i : ℕ) → i < length (map tree_of vs) → i < length vs
+within_values vs i h = omega (arith, length-map vs tree_of)
+
+pub value_there : (vs : List Value) (i : ℕ) (v : Value) → i < length vs → v ≡ get_or vs i v → Some (tree_of v) ≡ slice_get (map tree_of vs) i
+value_there [] i v l e = absurd (omega arith)
+value_there (w ∷ vs) zero v l e = ap (λ u. Some (tree_of u)) e
+value_there (w ∷ vs) (suc i) v l e = value_there vs i v (omega arith) e
 
 -- ---- what is listed, one by one
 behind : (old : List Tree) (x : Tree) (rest : List Tree) → old ++ x ∷ rest ≡ (old ++ x ∷ []) ++ rest

@@ -1,7 +1,6 @@
 -- Ranges: what stands at a place, who is a member, and where their set can be made.
-use Rattle.std.proofs.Common.{◌≡◌, ℕ, zero, suc, ◌<◌, ◌≤◌, ℤ, pos, ◌+ℤ◌, ◌-ℤ◌, ◌<ℤ◌, ◌≤ℤ◌, unsigned_abs, Bool, true, false, ◌||◌, List, length, Some, None, Ok, ◌⊎◌, ⊎_elim, FitsSigned, refl, sym, ap, ◌∙◌, arith, Ordering, Equal, Greater}
+use Rattle.std.proofs.Common.{◌≡◌, ℕ, zero, suc, ◌<◌, ◌≤◌, ℤ, pos, ◌+ℤ◌, ◌-ℤ◌, ◌<ℤ◌, ◌≤ℤ◌, unsigned_abs, Bool, true, false, ◌||◌, List, length, Some, Ok, ◌⊎◌, ⊎_elim, refl, sym, ap, ◌∙◌, arith, Ordering, Equal, Greater}
 use Rattle.std.specs.Prelude.{slice_get}
-use Rattle.std.specs.Int.{w64}
 use Rattle.std.specs.Ordering.{int_cmp, is_eq}
 use Rattle.std.proofs.lemmas.Int.{ints}
 use Rattle.tla_value.specs.Tree.{Tree, truth, int, text, model, set, fun, trees, pairs, deepest}
@@ -21,27 +20,22 @@ use Rattle.tla_operators.proofs.Made.{within_ok, within_many}
 up_or_down : (a b : ℤ) → (a ≤ℤ b) ⊎ (b <ℤ a)
 up_or_down a b = grind (arith, ints)
 
--- ---- what stands at a place
-counted_past : (n k : ℕ) (z : ℤ) → k ≤ n → slice_get (counted_up k z) n ≡ None
-counted_past n zero z h = refl
-counted_past zero (suc k) z h = absurd (omega arith)
-counted_past (suc n) (suc k) z h = counted_past n k (z +ℤ pos 1) (omega arith)
+-- ---- how many there are, and what stands at a place
+pub range_empty : (a b : ℤ) → b <ℤ a → length (range_of a b) ≡ 0
+range_empty a b h = ap length (range_none a b h)
+
+pub range_length : (a b : ℤ) → a ≤ℤ b → length (range_of a b) ≡ suc (unsigned_abs (b -ℤ a))
+range_length a b h = ap length (range_is a b h) ∙ length-counted_up (suc (unsigned_abs (b -ℤ a))) a
+
+pub below_last : (a b : ℤ) (n : ℕ) → n < length (range_of a b) → (a +ℤ pos n) ≤ℤ b
+below_last a b n h =
+    ⊎_elim
+    (λ (k : a ≤ℤ b). let count = range_length a b k in omega (arith, ints))
+    (λ (k : b <ℤ a). let none = range_empty a b k in absurd (omega arith))
+    (up_or_down a b)
 
 pub range_at : (a b : ℤ) (n : ℕ) → (a +ℤ pos n) ≤ℤ b → slice_get (range_of a b) n ≡ Some (int (a +ℤ pos n))
 range_at a b n h = ap (λ ts. slice_get ts n) (range_is a b (omega (arith, ints))) ∙ get-counted_up (suc (unsigned_abs (b -ℤ a))) a n (a +ℤ pos n) (omega (arith, ints)) refl
-
-past_last : (a b : ℤ) (n : ℕ) → a ≤ℤ b → b <ℤ (a +ℤ pos n) → slice_get (range_of a b) n ≡ None
-past_last a b n k h = ap (λ ts. slice_get ts n) (range_is a b k) ∙ counted_past n (suc (unsigned_abs (b -ℤ a))) a (omega (arith, ints))
-
-pub range_past : (a b : ℤ) (n : ℕ) → b <ℤ (a +ℤ pos n) → slice_get (range_of a b) n ≡ None
-range_past a b n h = ⊎_elim (λ k. past_last a b n k h) (λ k. ap (λ ts. slice_get ts n) (range_none a b k)) (up_or_down a b)
-
--- a sum beyond 64 bits is beyond the last number
-beyond : (a b z : ℤ) → FitsSigned w64 a → FitsSigned w64 b → a ≤ℤ z → (FitsSigned w64 z → ⊥) → b <ℤ z
-beyond a b z fa fb h out = ⊎_elim (λ k. absurd (out (omega (arith, ints)))) (λ k. k) (up_or_down z b)
-
-pub range_beyond : (a b : ℤ) (n : ℕ) → FitsSigned w64 a → FitsSigned w64 b → (FitsSigned w64 (a +ℤ pos n) → ⊥) → slice_get (range_of a b) n ≡ None
-range_beyond a b n fa fb out = range_past a b n (beyond a b (a +ℤ pos n) fa fb (omega (arith, ints)) out)
 
 -- ---- members
 int_same : (x : ℤ) → int_cmp x x ≡ Equal

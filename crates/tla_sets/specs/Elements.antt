@@ -15,7 +15,7 @@ use Rattle.tla_sets.specs.declared.elements.Elements.TheVariants.{Lent, Made, Nu
 abbrev pub elements_of : Elements → List Tree
 elements_of (Lent values) = map tree_of values.now
 elements_of (Made set) = set
-elements_of (Numbers low high) = range_of low high
+elements_of (Numbers span) = range_of span.low span.high
 
 abbrev pub GivesElements : Result Elements Fault → Outcome (List Tree) → Type 0
 GivesElements r o = GivesBy elements_of r o

@@ -172,7 +172,7 @@ fn set_of_copies<'p>(
 ) -> Result<Value, Trouble<'p>>
     ensures { Gives result (make_set place.now (map tree_of_evaluated values.now)) }
 {
-    made_set(place, SetValue::from_values(copies(alloc, values)?))
+    made_set(place, SetValue::from_values(alloc, copies(alloc, values)?))
 }
 
 /// Copies of some values.

@@ -1,12 +1,13 @@
 //! The elements of a set that is only visited. A range is not built.
-ghost use Rattle.std.specs.Prelude.{◌≡◌, ◌++◌, Ok, map, cond, option_map, slice_get, IfOk, IfErr, OnOk};
+ghost use Rattle.std.specs.Prelude.{◌≡◌, ◌<◌, ◌≤◌, ◌++◌, Ok, Some, length, map, cond, slice_get, IfOk, IfErr, OnOk};
 ghost use Rattle.std.specs.Option.{option_to_list};
-ghost use Rattle.tla_value.specs.Tree.{int, set, trees};
+ghost use Rattle.tla_value.specs.Tree.{set, trees};
 ghost use Rattle.tla_value.specs.TreeOf.{tree_of};
 ghost use Rattle.tla_value.specs.Choices.{range_of};
 ghost use Rattle.tla_core.specs.Expr.{Range};
 ghost use Rattle.tla_core.specs.ExprOf.{binary_of};
 ghost use Rattle.tla_core.specs.declared.fault.FaultCode.TheVariants.{NoChoice};
+ghost use Rattle.tla_core.specs.declared.fault.Place.{Place};
 ghost use Rattle.tla_core.specs.Fault.{out_of_memory};
 ghost use Rattle.tla_core.specs.Kinds.{as_set, or_fault, rising_set};
 ghost use Rattle.tla_core.specs.Operators.{binary_rule};
@@ -14,6 +15,7 @@ ghost use Rattle.tla_operators.specs.Gives.{Gives, GivesBy};
 ghost use Rattle.tla_operators.specs.Evaluated.{tree_of_evaluated};
 ghost use Rattle.tla_sets.specs.Elements.{elements_of, GivesElements, elements_rule};
 
+use crate::span::Span;
 use std::alloc::Global;
 use tla_core::{Binary, FaultCode, Place};
 use tla_operators::evaluated::Evaluated;
@@ -28,7 +30,7 @@ use tla_value::{MAX_ELEMENTS, SetValue, Value};
 pub enum Elements<'a> {
     Lent(&'a [Value]),
     Made(SetValue),
-    Numbers(i64, i64),
+    Numbers(Span),
 }
 
 /// The members of a value that is a set.
@@ -98,13 +100,14 @@ fn numbers_between<'p, 'a>(
         (elements_rule place.now (rising_set at.now (range_of low high))) }
 {
     fits_range(at, low, high)?;
-    Ok(Elements::Numbers(low, high))
+    Ok(Elements::Numbers(Span::new(low, high)))
 }
 
 /// Whether the set of the numbers from `low` to `high` is within the limits.
 pub(crate) fn fits_range(place: &Place, low: i64, high: i64) -> Result<(), Trouble<'_>>
-    ensures { GivesBy (λ _. set (trees (range_of low high))) result
+    ensures gives { GivesBy (λ _. set (trees (range_of low high))) result
         (rising_set place.now (range_of low high)) }
+    ensures few { IfOk result (λ _. length (range_of low high) ≤ MAX_ELEMENTS) }
 {
     if high < low {
         return Ok(());
@@ -116,71 +119,57 @@ pub(crate) fn fits_range(place: &Place, low: i64, high: i64) -> Result<(), Troub
     Ok(())
 }
 
-/// The element with a number, counted from 0, where there is one.
-pub fn element_at<'e>(elements: &'e Elements<'e>, number: usize) -> Option<Evaluated<'e>>
-    ensures { option_map tree_of_evaluated result ≡ slice_get (elements_of elements.now) number }
+/// How many elements there are.
+pub fn count_of(elements: &Elements<'_>) -> usize
+    ensures { result ≡ length (elements_of elements.now) }
+{
+    match elements {
+        Elements::Lent(values) => values.len(),
+        Elements::Made(set) => set.len(),
+        Elements::Numbers(span) => span.count(),
+    }
+}
+
+/// The element with a number, counted from 0.
+pub fn element_at<'e>(elements: &'e Elements<'e>, number: usize) -> Evaluated<'e>
+    requires { number < length (elements_of elements.now) }
+    ensures { Some (tree_of_evaluated result) ≡ slice_get (elements_of elements.now) number }
 {
     match elements {
         Elements::Lent(values) => lent_at(values, number),
         Elements::Made(set) => lent_at(set.items(), number),
-        Elements::Numbers(low, high) => made_at(*low, *high, number),
+        Elements::Numbers(span) => Evaluated::Owned(value_at(*span, number)),
     }
 }
 
 /// The value at an index, borrowed, if there is one.
-fn lent_at<'e>(values: &'e [Value], number: usize) -> Option<Evaluated<'e>>
-    ensures { option_map tree_of_evaluated result ≡ slice_get (map tree_of values.now) number }
+#[tactic(auto, using(crate::proofs::Listed::within_values, crate::proofs::Listed::value_there))]
+fn lent_at<'e>(values: &'e [Value], number: usize) -> Evaluated<'e>
+    requires { number < length (map tree_of values.now) }
+    ensures { Some (tree_of_evaluated result) ≡ slice_get (map tree_of values.now) number }
 {
-    match values.get(number) {
-        Some(value) => Some(Evaluated::Borrowed(value)),
-        None => None,
-    }
+    Evaluated::Borrowed(&values[number])
 }
 
-/// One of the numbers from `low` to `high`, made, counted from 0, where there is one.
-fn made_at<'e>(low: i64, high: i64, number: usize) -> Option<Evaluated<'e>>
-    ensures { option_map tree_of_evaluated result ≡ slice_get (range_of low high) number }
+/// One of some numbers as a value, counted from 0.
+fn value_at(span: Span, number: usize) -> Value
+    requires { number < length (range_of span.low span.high) }
+    ensures { Some (tree_of result) ≡ slice_get (range_of span.low span.high) number }
 {
-    match value_at(low, high, number) {
-        Some(value) => Some(Evaluated::Owned(value)),
-        None => None,
-    }
+    Value::Int(span.number_at(number))
 }
 
-/// One of the numbers from `low` to `high` as a value, counted from 0, where there is one.
-fn value_at(low: i64, high: i64, number: usize) -> Option<Value>
-    ensures { option_map tree_of result ≡ slice_get (range_of low high) number }
-{
-    match number_at(low, high, number) {
-        Some(number) => Some(Value::Int(number)),
-        None => None,
-    }
-}
-
-/// One of the numbers from `low` to `high`, counted from 0, where there is one.
-fn number_at(low: i64, high: i64, number: usize) -> Option<i64>
-    ensures { option_map int result ≡ slice_get (range_of low high) number }
-{
-    match low.checked_add_unsigned(number as u64) {
-        Some(sum) => { if sum <= high { Some(sum) } else { None } }
-        None => None,
-    }
-}
-
-/// The element with a number, as a value of its own. If there is none, that is the fault of CHOOSE.
+/// The element with a number, as a value of its own.
 pub fn chosen_at<'p, 'e>(
     alloc: Global,
-    place: &'p Place,
     elements: &'e Elements<'e>,
     number: usize,
 ) -> Result<Value, Trouble<'p>>
-    ensures { Gives result
-        (or_fault NoChoice place.now (slice_get (elements_of elements.now) number)) }
+    requires { number < length (elements_of elements.now) }
+    ensures { (p : Place)
+        → Gives result (or_fault NoChoice p (slice_get (elements_of elements.now) number)) }
 {
-    match element_at(elements, number) {
-        Some(element) => element.into_value(alloc),
-        None => Err(fault_at(FaultCode::NoChoice, place)),
-    }
+    element_at(elements, number).into_value(alloc)
 }
 
 /// Adds the element with a number at the end, if it is to be kept.
@@ -191,6 +180,7 @@ pub fn keep_at<'p, 'e>(
     number: usize,
     keep: bool,
 ) -> Result<(), Trouble<'p>>
+    requires { number < length (elements_of elements.now) }
     ensures ok { OnOk result
         (map tree_of kept.new.items
         ≡ cond keep
@@ -199,16 +189,10 @@ pub fn keep_at<'p, 'e>(
         (map tree_of kept.old.items)) }
     ensures err { IfErr result (λ f. f ≡ out_of_memory) }
 {
-    if !keep {
-        return Ok(());
+    if keep {
+        kept.push(element_at(elements, number).into_value(alloc)?)?;
     }
-    match element_at(elements, number) {
-        Some(element) => {
-            kept.push(element.into_value(alloc)?)?;
-            Ok(())
-        }
-        None => Ok(()),
-    }
+    Ok(())
 }
 
 /// The elements, as values of their own.
@@ -221,7 +205,7 @@ pub fn into_values<'p>(alloc: Global, elements: Elements<'_>) -> Result<Vec<Valu
             Ok(values) => Ok(values),
             Err(_) => Err(memory()),
         },
-        Elements::Numbers(low, high) => listed(alloc, low, high),
+        Elements::Numbers(span) => listed(alloc, span),
     }
 }
 
@@ -237,21 +221,15 @@ fn copies_of<'p>(alloc: Global, values: &[Value]) -> Result<Vec<Value>, Trouble<
     Ok(copies)
 }
 
-/// The numbers from `low` to `high`.
-fn listed<'p>(alloc: Global, low: i64, high: i64) -> Result<Vec<Value>, Trouble<'p>>
-    ensures ok { IfOk result (λ v. map tree_of v.items ≡ range_of low high) }
+/// Numbers that follow one another, as values.
+fn listed<'p>(alloc: Global, span: Span) -> Result<Vec<Value>, Trouble<'p>>
+    ensures ok { IfOk result (λ v. map tree_of v.items ≡ range_of span.low span.high) }
     ensures err { IfErr result (λ f. f ≡ out_of_memory) }
 {
-    if high < low {
-        return Ok(Vec::new(alloc));
+    let count = span.count();
+    let mut numbers = Vec::with_capacity(alloc, count)?;
+    for place in 0..count {
+        numbers.push(value_at(span, place))?;
     }
-    let room = high.abs_diff(low).saturating_add(1);
-    let mut numbers = Vec::with_capacity(alloc, room as usize)?;
-    for place in 0..usize::MAX {
-        match value_at(low, high, place) {
-            Some(number) => numbers.push(number)?,
-            None => return Ok(numbers),
-        }
-    }
-    Err(memory())
+    Ok(numbers)
 }

@@ -5,3 +5,4 @@ pub mod asked;
 pub mod domain;
 pub mod elements;
 pub mod fields;
+pub mod span;

@@ -16,12 +16,17 @@ pub(crate) fn items_of(openings: &[Opening]) -> Option<usize> {
     Some(count)
 }
 
-/// Up to this size of an expression, copies are looked for in all of it.
+/// From this size of an expression on, copies aren't looked for in all of it.
 const LEAST_LARGE: usize = 4_000;
 
-/// Whether copies are looked for in all of an expression.
+/// The same if parts are inside one another this many times.
+const LEAST_DEEP: usize = 100;
+
+/// Whether copies are looked for in all of an expression. Each part is compared with each other one, and two parts may
+/// first differ at their innermost parts.
 pub(crate) fn is_small(code: &Code<'_>) -> bool {
-    size(code, LEAST_LARGE) < LEAST_LARGE
+    let near = size(code, LEAST_DEEP);
+    near < LEAST_LARGE && near == size(code, LEAST_LARGE)
 }
 
 /// Whether an expression is worth a definition: it makes a set or a function, or is large.
@@ -43,7 +48,7 @@ pub(crate) fn makes_much(code: &Code<'_>) -> bool {
     }
 }
 
-/// How many nodes an expression has, up to a number.
+/// How many nodes an expression has, without those inside `most` others or more.
 #[cycle(count)]
 pub(crate) fn size(code: &Code<'_>, most: usize) -> usize {
     if most == 0 {

@@ -4,7 +4,7 @@ use crate::chosen::{Chosen, Path};
 use std::alloc::Global;
 use tla_core::{Core, Fault, FaultCode, Opening, Place, memory};
 use tla_eval::{Partial, eval, member, opened, set_members};
-use tla_reading::{part_of, read};
+use tla_reading::{plain_part_of, read};
 use tla_value::{State, Value};
 
 /// The present state, the values of the bound names, and how many evaluations are left.
@@ -149,7 +149,7 @@ impl<'a> Walk<'a> {
             return Ok(None);
         }
         let from = from.copy(self.alloc)?;
-        let part = part_of(self.alloc, part)?;
+        let part = plain_part_of(self.alloc, part)?;
         unless_faulty(read(self.alloc, &part, self.path.values(), self.now, from))
     }
 
@@ -174,7 +174,7 @@ impl<'a> Walk<'a> {
             return Ok(None);
         }
         let from = from.copy(self.alloc)?;
-        let part = part_of(self.alloc, part)?;
+        let part = plain_part_of(self.alloc, part)?;
         match read(self.alloc, &part, self.path.values(), self.now, from) {
             Ok(_) => Ok(None),
             Err(fault) => unless_memory(fault),

@@ -277,11 +277,19 @@ fn is_definition(spot: &Spot<'_>, head: Head) -> bool {
     is_own_line || (head.from > FIRST_UNIT && spot.is(spot.at, Kind::Equal))
 }
 
+/// Whether an operator is defined between its operands: the first is all that its line has before the sign.
+pub(crate) fn is_infix_definition(spot: &Spot<'_>, sign: usize) -> bool {
+    spot.begins_line(sign.saturating_sub(1)) && defines_later(spot, spot.place(sign).line)
+}
+
 /// Says that the operator before a name, with its backslash, is unknown.
 pub(crate) fn say_backslash(finding: &mut Finding, spot: &Spot<'_>, at: usize) -> bool {
     let word = at.saturating_sub(1);
     let sign = at.saturating_sub(2);
     if !spot.is(sign, Kind::Difference) || !spot.touches_before(word) {
+        return false;
+    }
+    if is_infix_definition(spot, sign) {
         return false;
     }
     let name = spot.word(word);

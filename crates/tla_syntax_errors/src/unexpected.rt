@@ -77,6 +77,9 @@ fn find_word(finding: &mut Finding, spot: &Spot<'_>) -> bool {
     } else {
         (spot.word(spot.at), "")
     };
+    if !sign.is_empty() && heads::is_infix_definition(spot, spot.at) {
+        return false;
+    }
     let is_name = spot.is(spot.at, Kind::Name) || !sign.is_empty();
     let meant = if sign.is_empty() {
         word_meant(word)

@@ -6,8 +6,8 @@ use tla_config::{Item, Statement};
 use tla_core::Place;
 use tla_page::places::core_place;
 use tla_page::units::{Known, known_name, known_names, text_of};
-use tla_search::Part;
 use tla_tree::Written;
+use tla_verdict::Part;
 
 /// A formula, by the statement that names it.
 #[derive(Clone, Copy)]

@@ -4,6 +4,7 @@
 
 pub mod binders;
 mod changes;
+mod constraints;
 pub mod coverage;
 mod differences;
 pub mod expressions;

@@ -125,7 +125,7 @@ fn functions(
     let mut functions = Vec::with_capacity(alloc, count)?;
     for number in 0..count {
         let pairs = choice_at(alloc, arguments, sets, count, number)?;
-        functions.push(Value::Fun(fun_within(pairs)?))?;
+        functions.push(Value::Fun(fun_within(alloc, pairs)?))?;
     }
     Ok(functions)
 }
@@ -176,7 +176,7 @@ fn set_of_functions(
     ensures { MakesSet
         (set_of (functions_by (map tree_of arguments.now) (map (λ s. s.now) sets.now))) result }
 {
-    set_from_rising(functions(alloc, arguments, sets, count)?)
+    set_from_rising(alloc, functions(alloc, arguments, sets, count)?)
 }
 
 // The tuples with one part of each set, in their order.
@@ -231,7 +231,7 @@ fn subsets(alloc: Global, items: &[Value], count: usize) -> Result<Vec<Value>, V
     let mut subsets = Vec::with_capacity(alloc, count)?;
     for number in 0..count {
         let items = sublist_at(alloc, items, count, number)?;
-        subsets.push(Value::Set(set_within(items)?))?;
+        subsets.push(Value::Set(set_within(alloc, items)?))?;
     }
     Ok(subsets)
 }
@@ -328,7 +328,7 @@ impl SetValue {
         if items.len() > MAX_POWER {
             return Err(ValueError::TooMany);
         }
-        SetValue::from_values(subsets(alloc, items, 1 << items.len())?)
+        SetValue::from_values(alloc, subsets(alloc, items, 1 << items.len())?)
     }
 
     /// The functions from `domain` to `range`: `[domain -> range]`.

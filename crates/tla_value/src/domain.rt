@@ -45,15 +45,14 @@ fn first_number(arguments: &[Value]) -> Option<i64>
     Some(first)
 }
 
-// The domain of a sequence of these values.
-pub(crate) fn first_numbers(values: &Vec<Value>) -> Domain
-    requires { length values.now.items ≤ MAX_ELEMENTS }
-    ensures numbers { domain_trees (length values.now.items) result
-        ≡ counted_up (length values.now.items) (pos 1) }
-    ensures fits { FitsDomain (length values.now.items) result }
+// The domain of a sequence of so many values.
+pub(crate) fn first_numbers(alloc: Global, count: usize) -> Domain
+    requires { count ≤ MAX_ELEMENTS }
+    ensures numbers { domain_trees count result ≡ counted_up count (pos 1) }
+    ensures fits { FitsDomain count result }
 {
-    if values.is_empty() {
-        Domain::Listed(SetValue::empty(*values.allocator()))
+    if count == 0 {
+        Domain::Listed(SetValue::empty(alloc))
     } else {
         Domain::Numbers(1)
     }
@@ -120,7 +119,7 @@ pub(crate) fn deepest_after(
 
 impl Domain {
     // The domain of a rising list of arguments.
-    pub(crate) fn from_rising(arguments: Vec<Value>) -> Result<Domain, ValueError>
+    pub(crate) fn from_rising(alloc: Global, arguments: Vec<Value>) -> Result<Domain, ValueError>
         requires { IsSetList (map tree_of arguments.items) }
         ensures ok { IfOk result (λ d.
             domain_trees (length arguments.items) d ≡ map tree_of arguments.items) }
@@ -129,7 +128,7 @@ impl Domain {
     {
         match first_number(arguments.as_slice()) {
             Some(first) => Ok(Domain::Numbers(first)),
-            None => Ok(Domain::Listed(set_within(arguments)?)),
+            None => Ok(Domain::Listed(set_within(alloc, arguments)?)),
         }
     }
 
@@ -164,7 +163,7 @@ impl Domain {
         ensures err { IfErr result (λ e. e ≡ Memory) }
     {
         match self {
-            Domain::Numbers(first) => set_within(count_up(alloc, *first, count as u64)?),
+            Domain::Numbers(first) => set_within(alloc, count_up(alloc, *first, count as u64)?),
             Domain::Listed(set) => set.copy(alloc),
         }
     }

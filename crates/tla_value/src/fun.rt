@@ -58,14 +58,13 @@ pub(crate) fn deepest_part_of(pairs: &[(Value, Value)]) -> u64
 }
 
 // Arguments and values of some pairs, each in a list.
-fn split(pairs: Vec<(Value, Value)>) -> Result<(Vec<Value>, Vec<Value>), ValueError>
+fn split(alloc: Global, pairs: Vec<(Value, Value)>) -> Result<(Vec<Value>, Vec<Value>), ValueError>
     ensures arguments { IfOk result (λ r.
         map tree_of r.0.items ≡ arguments (map pair_of pairs.items)) }
     ensures values { IfOk result (λ r.
         map tree_of r.1.items ≡ values_of (map pair_of pairs.items)) }
     ensures err { IfErr result (λ e. e ≡ Memory) }
 {
-    let alloc = *pairs.allocator();
     let mut arguments = Vec::with_capacity(alloc, pairs.len())?;
     let mut values = Vec::with_capacity(alloc, pairs.len())?;
     for (argument, value) in pairs {
@@ -76,28 +75,32 @@ fn split(pairs: Vec<(Value, Value)>) -> Result<(Vec<Value>, Vec<Value>), ValueEr
 }
 
 // The function of pairs that rise by argument. `nesting` is how deep it is nested.
-fn from_parts(pairs: Vec<(Value, Value)>, nesting: u64) -> Result<FunValue, ValueError>
+fn from_parts(
+    alloc: Global,
+    pairs: Vec<(Value, Value)>,
+    nesting: u64,
+) -> Result<FunValue, ValueError>
     requires { IsFunValue (map pair_of pairs.items) nesting }
     ensures ok { IfOk result (λ f. f ≡ map pair_of pairs.items) }
     ensures err { IfErr result (λ e. e ≡ Memory) }
 {
-    let (arguments, values) = split(pairs)?;
-    let domain = Domain::from_rising(arguments)?;
-    FunValue::from_parts(domain, values, nesting)
+    let (arguments, values) = split(alloc, pairs)?;
+    let domain = Domain::from_rising(alloc, arguments)?;
+    FunValue::from_parts(alloc, domain, values, nesting)
 }
 
 // The function of pairs that rise by argument, within the limits.
-pub(crate) fn fun_within(pairs: Vec<(Value, Value)>) -> Result<FunValue, ValueError>
+pub(crate) fn fun_within(alloc: Global, pairs: Vec<(Value, Value)>) -> Result<FunValue, ValueError>
     requires { IsFunList (map pair_of pairs.items) }
     ensures ok { IfOk result (λ f. f ≡ map pair_of pairs.items) }
     ensures err { IfErr result (λ e. e ≡ Memory) }
 {
     let deepest = deepest_part_of(&pairs);
-    from_parts(pairs, deepest + 1)
+    from_parts(alloc, pairs, deepest + 1)
 }
 
 // The function of pairs that rise by argument.
-fn fun_from_rising(pairs: Vec<(Value, Value)>) -> Result<FunValue, ValueError>
+fn fun_from_rising(alloc: Global, pairs: Vec<(Value, Value)>) -> Result<FunValue, ValueError>
     requires { IsStrictlySortedBy tree_cmp
         (map (λ (p : Tree × Tree). p.0) (map pair_of pairs.items)) }
     ensures { MakesFun (map pair_of pairs.items) result }
@@ -109,7 +112,7 @@ fn fun_from_rising(pairs: Vec<(Value, Value)>) -> Result<FunValue, ValueError>
     if deepest >= MAX_NESTING {
         return Err(ValueError::TooDeep);
     }
-    from_parts(pairs, deepest + 1)
+    from_parts(alloc, pairs, deepest + 1)
 }
 
 // Whether some values are 1, 2, and so on.
@@ -179,7 +182,7 @@ impl FunValue {
         let left = copy_pairs(alloc, self)?;
         let right = copy_pairs(alloc, other)?;
         let pairs = merged_pairs(alloc, left.as_slice(), right.as_slice())?;
-        fun_from_rising(pairs)
+        fun_from_rising(alloc, pairs)
     }
 
     /// The length, where the arguments are 1 to that length.
@@ -194,17 +197,17 @@ impl FunValue {
     }
 
     /// The function of these pairs. Of two with one argument the first counts.
-    pub fn from_pairs(pairs: Vec<(Value, Value)>) -> Result<FunValue, ValueError>
+    pub fn from_pairs(alloc: Global, pairs: Vec<(Value, Value)>) -> Result<FunValue, ValueError>
         ensures { MakesFun (fun_of (map pair_of pairs.items)) result }
     {
         let mut pairs = pairs;
         sort_pairs(&mut pairs)?;
         drop_repeats(&mut pairs);
-        fun_from_rising(pairs)
+        fun_from_rising(alloc, pairs)
     }
 
     /// The sequence of these values.
-    pub fn sequence(values: Vec<Value>) -> Result<FunValue, ValueError>
+    pub fn sequence(alloc: Global, values: Vec<Value>) -> Result<FunValue, ValueError>
         ensures { MakesFun (numbered 1 (map tree_of values.items)) result }
     {
         if values.as_slice().len() > MAX_ELEMENTS {
@@ -214,8 +217,8 @@ impl FunValue {
         if deepest >= MAX_NESTING {
             return Err(ValueError::TooDeep);
         }
-        let domain = first_numbers(&values);
-        FunValue::from_parts(domain, values, deepest + 1)
+        let domain = first_numbers(alloc, values.len());
+        FunValue::from_parts(alloc, domain, values, deepest + 1)
     }
 
     /// The function on the members of a set, in their order, with these values. It shares the members.
@@ -228,7 +231,7 @@ impl FunValue {
             return Err(ValueError::TooDeep);
         }
         let domain = Domain::from_set(alloc, domain)?;
-        FunValue::from_parts(domain, values, deepest + 1)
+        FunValue::from_parts(alloc, domain, values, deepest + 1)
     }
 
     /// The value of the function at an argument.

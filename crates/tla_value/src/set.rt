@@ -34,17 +34,17 @@ pub(crate) fn deepest_of(values: &[Value]) -> u64
 }
 
 // The set of a rising list, within the limits.
-pub(crate) fn set_within(items: Vec<Value>) -> Result<SetValue, ValueError>
+pub(crate) fn set_within(alloc: Global, items: Vec<Value>) -> Result<SetValue, ValueError>
     requires { IsSetList (map tree_of items.items) }
     ensures ok { IfOk result (λ s. s ≡ map tree_of items.items) }
     ensures err { IfErr result (λ e. e ≡ Memory) }
 {
     let deepest = deepest_of(&items);
-    SetValue::from_parts(items, deepest + 1)
+    SetValue::from_parts(alloc, items, deepest + 1)
 }
 
 // The set of a rising list.
-pub(crate) fn set_from_rising(items: Vec<Value>) -> Result<SetValue, ValueError>
+pub(crate) fn set_from_rising(alloc: Global, items: Vec<Value>) -> Result<SetValue, ValueError>
     requires { IsStrictlySortedBy tree_cmp (map tree_of items.items) }
     ensures { MakesSet (map tree_of items.items) result }
 {
@@ -55,7 +55,7 @@ pub(crate) fn set_from_rising(items: Vec<Value>) -> Result<SetValue, ValueError>
     if deepest >= MAX_NESTING {
         return Err(ValueError::TooDeep);
     }
-    SetValue::from_parts(items, deepest + 1)
+    SetValue::from_parts(alloc, items, deepest + 1)
 }
 
 // The values in rising order, each once.
@@ -84,10 +84,10 @@ pub(crate) fn count_up(alloc: Global, low: i64, count: u64) -> Result<Vec<Value>
 
 impl SetValue {
     /// The set of these values.
-    pub fn from_values(values: Vec<Value>) -> Result<SetValue, ValueError>
+    pub fn from_values(alloc: Global, values: Vec<Value>) -> Result<SetValue, ValueError>
         ensures { MakesSet (set_of (map tree_of values.items)) result }
     {
-        set_from_rising(sort_values(values))
+        set_from_rising(alloc, sort_values(values))
     }
 
     /// The member at a place of the rising list.
@@ -122,7 +122,7 @@ impl SetValue {
         ensures { MakesSet (set_of (self.now ++ other.now)) result }
     {
         let items = merged(alloc, self.items(), other.items())?;
-        set_from_rising(items)
+        set_from_rising(alloc, items)
     }
 
     /// The members that are members of the other set too.
@@ -130,7 +130,7 @@ impl SetValue {
         ensures { MakesSet (filter (λ t. is_member t other.now) self.now) result }
     {
         let items = chosen(alloc, self.items(), other.items(), true)?;
-        set_from_rising(items)
+        set_from_rising(alloc, items)
     }
 
     /// The members that are no members of the other set.
@@ -138,7 +138,7 @@ impl SetValue {
         ensures { MakesSet (filter (λ t. not (is_member t other.now)) self.now) result }
     {
         let items = chosen(alloc, self.items(), other.items(), false)?;
-        set_from_rising(items)
+        set_from_rising(alloc, items)
     }
 
     /// Whether each member is a member of the other set.
@@ -159,7 +159,7 @@ impl SetValue {
         if steps >= MAX_ELEMENTS as u64 {
             return Err(ValueError::TooMany);
         }
-        set_from_rising(count_up(alloc, low, steps + 1)?)
+        set_from_rising(alloc, count_up(alloc, low, steps + 1)?)
     }
 
     /// Adds a value, and answers whether it is new.

@@ -1,6 +1,6 @@
 //! Reports of answers that no text has.
 ghost use Rattle.std.specs.Prelude.{◌≡◌, length, IfOk};
-ghost use Rattle.tla_search.specs.IsNamed.{AreWhole, IsNamed};
+ghost use Rattle.tla_verdict.specs.IsNamed.{AreWhole, IsNamed};
 
 use std::alloc::{AllocError, Global};
 use std::test::Fail;

@@ -14,7 +14,7 @@ fn steps(alloc: Global) -> Result<Value, ValueError> {
     for (key, name) in [(1, "Done"), (0, "A")] {
         pairs.push((Value::Int(key), Value::Text(Text::new(alloc, name)?)))?;
     }
-    Ok(Value::Fun(FunValue::from_pairs(pairs)?))
+    Ok(Value::Fun(FunValue::from_pairs(alloc, pairs)?))
 }
 
 // Whether this many bytes of the text are written, and it ends at the first refusal.

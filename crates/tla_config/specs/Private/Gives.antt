@@ -98,22 +98,22 @@ module _ (text : Bytes) (ts : List Token) where
   ClearItem at = Neither (LeftOutHere at) (TooLargeHere at)
 
   -- after items a replacement is left out, whose bracket is at a token; or an item is too large
-  abbrev pub LeftOutBehind : ℕ → ℕ → Type 0
-  LeftOutBehind from at = (item : ℕ) × ((is : List Item) × ItemsUpTo text ts is from item) × IsLeftOutItem text ts item × (at ≡ item + 2)
+  abbrev pub LeftOutAfter : ℕ → ℕ → Type 0
+  LeftOutAfter from at = (item : ℕ) × ((is : List Item) × ItemsUpTo text ts is from item) × IsLeftOutItem text ts item × (at ≡ item + 2)
 
-  abbrev pub TooLargeBehind : ℕ → ℕ → Type 0
-  TooLargeBehind from at = ((is : List Item) × ItemsUpTo text ts is from at) × IsTooLargeItem text ts at
+  abbrev pub TooLargeAfter : ℕ → ℕ → Type 0
+  TooLargeAfter from at = ((is : List Item) × ItemsUpTo text ts is from at) × IsTooLargeItem text ts at
 
   -- neither is after items from a token on
   abbrev pub ClearItems : ℕ → Type 0
-  ClearItems from = Neither (LeftOutBehind from) (TooLargeBehind from)
+  ClearItems from = Neither (LeftOutAfter from) (TooLargeAfter from)
 
   -- in the statement that begins at a token
   abbrev pub LeftOutIn : ℕ → ℕ → Type 0
-  LeftOutIn begin at = (IsLeftOutWord text ts begin × (at ≡ begin)) ⊎ (Has text ts k.Constant begin × LeftOutBehind (begin + 1) at)
+  LeftOutIn begin at = (IsLeftOutWord text ts begin × (at ≡ begin)) ⊎ (Has text ts k.Constant begin × LeftOutAfter (begin + 1) at)
 
   abbrev pub TooLargeIn : ℕ → ℕ → Type 0
-  TooLargeIn begin at = Has text ts k.Constant begin × TooLargeBehind (begin + 1) at
+  TooLargeIn begin at = Has text ts k.Constant begin × TooLargeAfter (begin + 1) at
 
   -- neither is in it
   abbrev pub ClearStatement : ℕ → Type 0

@@ -1,5 +1,5 @@
 -- Parts whose values are known. Private contracts alone cite this.
-use Rattle.std.specs.Prelude.{◌≡◌, ℕ, List, [], ◌∷◌}
+use Rattle.std.specs.Prelude.{◌≡◌, ℕ, Bool, true, false, List, [], ◌∷◌}
 use Rattle.tla_value.specs.Tree.{text}
 use Rattle.tla_value.specs.TreeOf.{tree_of}
 use Rattle.tla_value.specs.declared.value.Value.{Value}
@@ -9,14 +9,27 @@ use Rattle.tla_core.specs.ExprOf.{expr_of}
 use Rattle.tla_core.specs.FixedOf.{fixed_of}
 use Rattle.tla_core.specs.Always.{IsAlways}
 use Rattle.tla_core.specs.declared.expression.Core.{Core}
+use Rattle.tla_core.specs.declared.expression.Core.TheVariants.{Constant, Literal}
 use Rattle.tla_core.specs.declared.fixed.Fixed.{Fixed}
 
+-- a constant, or an expression that is kept with its value
+abbrev pub is_known : Core → Bool
+is_known (Constant at v) = true
+is_known (Literal l) = true
+is_known c = false
+
+abbrev pub IsKnown : Core → Type 0
+IsKnown c = is_known c ≡ true
+
+abbrev pub IsKnownField : List ℕ × Core → Type 0
+IsKnownField f = IsKnown f.1
+
 abbrev pub HasValue : Core → Value → Type 0
-HasValue c v = IsAlways (means (expr_of c)) (tree_of v)
+HasValue c v = IsKnown c × IsAlways (means (expr_of c)) (tree_of v)
 
 -- a field with its name and its value
 abbrev pub HasField : List ℕ × Core → Value × Value → Type 0
-HasField f p = (tree_of p.0 ≡ text f.0) × IsAlways (means (expr_of f.1)) (tree_of p.1)
+HasField f p = (tree_of p.0 ≡ text f.0) × HasValue f.1 p.1
 
 -- the expression of a field in memory
 abbrev pub named_core : List ℕ × Core → List ℕ × Expr

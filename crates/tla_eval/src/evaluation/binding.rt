@@ -1,5 +1,5 @@
 //! Forms that bind names.
-ghost use Rattle.std.specs.Prelude.{◌++◌, ◌∷◌, [], map, slice_get};
+ghost use Rattle.std.specs.Prelude.{◌<◌, ◌++◌, ◌∷◌, [], Bool, Some, length, map, slice_get};
 ghost use Rattle.tla_value.specs.TreeOf.{tree_of};
 ghost use Rattle.tla_core.specs.Lists.{all_hold, some_hold, first_passing, passing};
 ghost use Rattle.tla_core.specs.Meaning.{asks, elements};
@@ -20,8 +20,10 @@ use std::alloc::Global;
 use tla_core::{Core, FaultCode, Place};
 use tla_operators::evaluated::Evaluated;
 use tla_operators::sets::made_set;
-use tla_operators::trouble::{Trouble, fault_at, memory};
-use tla_sets::elements::{Elements, chosen_at, element_at, elements_of_two, keep_at, members_of};
+use tla_operators::trouble::{Trouble, fault_at};
+use tla_sets::elements::{
+    Elements, chosen_at, count_of, element_at, elements_of_two, keep_at, members_of,
+};
 use tla_value::{SetValue, Value};
 
 /// Whether a body is TRUE of each element of a set.
@@ -97,7 +99,7 @@ pub(super) fn elements_in<'c: 'a, 'a>(
     }
 }
 
-/// Whether a body is TRUE of the element with a number; none where there are fewer elements.
+/// Whether a body is TRUE of the element with a number.
 #[cycle(evaluate)]
 fn holds_at<'e, 'c: 'a, 'a>(
     alloc: Global,
@@ -106,17 +108,16 @@ fn holds_at<'e, 'c: 'a, 'a>(
     elements: &'e Elements<'e>,
     number: usize,
     env: Environment<'a>,
-) -> Result<Option<bool>, Trouble<'c>>
-    ensures { GivesBy (λ o. o) result
+) -> Result<bool, Trouble<'c>>
+    requires { number < length (elements_of elements.now) }
+    ensures { GivesBy (λ (b : Bool). Some b) result
         (tested (λ v.
         asks place.now (means (expr_of body.now)) (bound_in env.entry ++ v ∷ [])
         (present_in env.entry) (next_in env.entry))
         (slice_get (elements_of elements.now) number)) }
 {
-    match element_at(elements, number) {
-        Some(element) => Ok(Some(ask_with(alloc, place, body, element.value(), env)?)),
-        None => Ok(None),
-    }
+    let element = element_at(elements, number);
+    ask_with(alloc, place, body, element.value(), env)
 }
 
 /// Whether a body is TRUE of each of these elements, up to the first of which it is not.
@@ -133,17 +134,13 @@ fn each_holds<'e, 'c: 'a, 'a>(
         asks place.now (means (expr_of body.now)) (bound_in env.entry ++ v ∷ [])
         (present_in env.entry) (next_in env.entry)) (elements_of elements.now)) }
 {
-    for number in 0..usize::MAX {
-        match holds_at(alloc, place, body, elements, number, env)? {
-            Some(holds) => {
-                if !holds {
-                    return Ok(false);
-                }
-            }
-            None => return Ok(true),
+    for number in 0..count_of(elements) {
+        let holds = holds_at(alloc, place, body, elements, number, env)?;
+        if !holds {
+            return Ok(false);
         }
     }
-    Err(memory())
+    Ok(true)
 }
 
 /// Whether a body is TRUE of some of these elements, up to the first of which it is.
@@ -160,17 +157,13 @@ fn some_holds<'e, 'c: 'a, 'a>(
         asks place.now (means (expr_of body.now)) (bound_in env.entry ++ v ∷ [])
         (present_in env.entry) (next_in env.entry)) (elements_of elements.now)) }
 {
-    for number in 0..usize::MAX {
-        match holds_at(alloc, place, body, elements, number, env)? {
-            Some(holds) => {
-                if holds {
-                    return Ok(true);
-                }
-            }
-            None => return Ok(false),
+    for number in 0..count_of(elements) {
+        let holds = holds_at(alloc, place, body, elements, number, env)?;
+        if holds {
+            return Ok(true);
         }
     }
-    Err(memory())
+    Ok(false)
 }
 
 /// The first of these elements of which a body is TRUE.
@@ -187,17 +180,13 @@ fn first_passing<'e, 'c: 'a, 'a>(
         asks place.now (means (expr_of body.now)) (bound_in env.entry ++ v ∷ [])
         (present_in env.entry) (next_in env.entry)) (elements_of elements.now)) }
 {
-    for number in 0..usize::MAX {
-        match holds_at(alloc, place, body, elements, number, env)? {
-            Some(holds) => {
-                if holds {
-                    return chosen_at(alloc, place, elements, number);
-                }
-            }
-            None => return Err(fault_at(FaultCode::NoChoice, place)),
+    for number in 0..count_of(elements) {
+        let holds = holds_at(alloc, place, body, elements, number, env)?;
+        if holds {
+            return chosen_at(alloc, elements, number);
         }
     }
-    Err(memory())
+    Err(fault_at(FaultCode::NoChoice, place))
 }
 
 /// Whether a body is TRUE with one more bound value.
@@ -258,7 +247,7 @@ pub(super) fn filter<'c: 'a, 'a>(
 {
     let elements = elements_in(alloc, place, set, env)?;
     let kept = passing(alloc, place, body, &elements, env)?;
-    Ok(Evaluated::Owned(made_set(place, SetValue::from_values(kept))?))
+    Ok(Evaluated::Owned(made_set(place, SetValue::from_values(alloc, kept))?))
 }
 
 /// Copies of those of these elements of which a body is TRUE.
@@ -276,11 +265,9 @@ fn passing<'e, 'c: 'a, 'a>(
         (present_in env.entry) (next_in env.entry)) (elements_of elements.now)) }
 {
     let mut kept = Vec::new(alloc);
-    for number in 0..usize::MAX {
-        match holds_at(alloc, place, body, elements, number, env)? {
-            Some(holds) => keep_at(alloc, &mut kept, elements, number, holds)?,
-            None => return Ok(kept),
-        }
+    for number in 0..count_of(elements) {
+        let holds = holds_at(alloc, place, body, elements, number, env)?;
+        keep_at(alloc, &mut kept, elements, number, holds)?;
     }
-    Err(memory())
+    Ok(kept)
 }

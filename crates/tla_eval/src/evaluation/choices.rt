@@ -43,7 +43,7 @@ pub(super) fn image<'c: 'a, 'a>(
     let sets = evaluated_each(alloc, sets, env)?;
     let lists = lists_of(alloc, place, sets.as_slice())?;
     let values = chosen_once(alloc, body, lists.as_slice(), env)?;
-    Ok(Evaluated::Owned(values.into_set(place)?))
+    Ok(Evaluated::Owned(values.into_set(alloc, place)?))
 }
 
 /// The function on all choices from some sets with the values of a body for them.

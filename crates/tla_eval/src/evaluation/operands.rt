@@ -188,7 +188,7 @@ pub(super) fn enumerated<'c: 'a, 'a>(
         (present_in env.entry) (next_in env.entry)) }
 {
     let values = values_of(alloc, parts, env)?;
-    Ok(Evaluated::Owned(made_set(place, SetValue::from_values(values))?))
+    Ok(Evaluated::Owned(made_set(place, SetValue::from_values(alloc, values))?))
 }
 
 /// The sequence of the values of its parts.
@@ -204,7 +204,7 @@ pub(super) fn tuple<'c: 'a, 'a>(
         (present_in env.entry) (next_in env.entry)) }
 {
     let values = values_of(alloc, parts, env)?;
-    Ok(Evaluated::Owned(sequence_of(place, values)?))
+    Ok(Evaluated::Owned(sequence_of(alloc, place, values)?))
 }
 
 /// The record of the values of its fields.
@@ -220,5 +220,5 @@ pub(super) fn record_of<'c: 'a, 'a>(
         (present_in env.entry) (next_in env.entry)) }
 {
     let pairs = named_values(alloc, fields, env)?;
-    Ok(Evaluated::Owned(made_fun(place, FunValue::from_pairs(pairs))?))
+    Ok(Evaluated::Owned(made_fun(place, FunValue::from_pairs(alloc, pairs))?))
 }

@@ -13,7 +13,7 @@ use crate::evaluation::evaluate;
 use std::alloc::Global;
 use tla_core::{Core, Place};
 use tla_operators::evaluated::Evaluated;
-use tla_operators::functions::{into_function, made_fun, unchanged};
+use tla_operators::functions::{into_function, made_fun};
 use tla_operators::trouble::Trouble;
 use tla_value::Value;
 
@@ -95,7 +95,7 @@ fn updated_at<'c: 'a, 'a>(
     let function = into_function(alloc, place, value)?;
     let key = evaluate(alloc, key, env)?;
     match function.apply(key.value()) {
-        None => unchanged(function),
+        None => Ok(Value::Fun(function)),
         Some(old) => {
             let new = updated(alloc, place, rest, body, Evaluated::Borrowed(old), env)?;
             made_fun(place, function.with_value(key.value(), new))

@@ -1,5 +1,5 @@
 -- What a form with its parts means, under a scope. Private contracts alone cite this.
-use Rattle.std.specs.Prelude.{◌≡◌, ℕ, ◌+◌, List, [], map, Option, Some, None, Vec, Box}
+use Rattle.std.specs.Prelude.{◌≡◌, ℕ, ◌+◌, Bool, true, false, List, [], map, Option, Some, None, Vec, Box}
 use Rattle.std.specs.declared.alloc.Global.{Global}
 use Rattle.std.specs.Borrow.{Bor}
 use Rattle.tla_core.specs.Expr.{Arms, now, cases, product, except, more_exprs, no_arms, other}
@@ -13,6 +13,7 @@ use Rattle.tla_tree.specs.declared.tree.Brackets.TheVariants as brackets
 use Rattle.tla_expand.specs.declared.nodes.ListNode.{ListNode}
 use Rattle.tla_expand.specs.declared.nodes.ListNode.TheVariants as manies
 use Rattle.tla_tree.specs.Tree.{Tree, trees, binders, arms, fields, updates}
+use Rattle.tla_tree.specs.Tree as tree
 use Rattle.tla_tree.specs.View.{view, pattern_view, group_view, choice_view, field_view, update_view}
 use Rattle.tla_expand.specs.declared.nodes.BinaryNode.TheVariants as twos
 use Rattle.tla_expand.specs.declared.nodes.Headed.TheVariants as headed
@@ -55,15 +56,59 @@ form_in (form.Binders p (under.Nested f) bs t) σ d = nested f p (binds_of (bind
 form_in (form.Binders p (under.Gathered f) bs t) σ d = gathered f p (binds_of (binders (map group_view bs.now.items)) σ) (expand (view t.now)) σ d
 form_in (form.Binds p f w s t) σ d = nested f p (bind_entry (pattern_view w.now) (expand (view s.now.value) σ) []) (expand (view t.now.value)) σ d
 
-abbrev pub GivesForm : OwnForm → Tree → Type 0
-GivesForm (own_form.Form f) t = (σ : Scope) (d : ℕ) → expand t σ d ≡ form_in f σ d
-GivesForm (own_form.Nothing p) t = (σ : Scope) (d : ℕ) → expand t σ d ≡ None
-GivesForm own_form.Goes t = Unit {0}
+-- what an answer says of an expression: `goes` is what `Goes` says
+abbrev pub GivesForm : (Tree → Type 0) → OwnForm → Tree → Type 0
+GivesForm goes (own_form.Form f) e = (σ : Scope) (d : ℕ) → expand e σ d ≡ form_in f σ d
+GivesForm goes (own_form.Nothing p) e = (σ : Scope) (d : ℕ) → expand e σ d ≡ None
+GivesForm goes own_form.Goes e = goes e
 
 abbrev pub GivesPrefix : OwnForm → Place → Prefix → Tree → Type 0
 GivesPrefix (own_form.Form f) p op t = (σ : Scope) (d : ℕ) → (expand t σ d >>= prefixed op p) ≡ form_in f σ d
 GivesPrefix (own_form.Nothing q) p op t = (σ : Scope) (d : ℕ) → (expand t σ d >>= prefixed op p) ≡ None
 GivesPrefix own_form.Goes p op t = ⊥
+
+-- whether `plain_form`, `other_form` and `made_form` have a form for an expression
+abbrev pub is_plain : Tree → Bool
+is_plain (tree.Number p n) = true
+is_plain (tree.Text p cs) = true
+is_plain (tree.Word p c) = true
+is_plain (tree.Listing p q es) = true
+is_plain (tree.Junction p q es) = true
+is_plain (tree.Field p a w) = true
+is_plain (tree.Binary p op w a b) = true
+is_plain (tree.If p a b c) = true
+is_plain _ = false
+
+abbrev pub is_other : Tree → Bool
+is_other (tree.Unary p op a) = true
+is_other (tree.Index p f es) = true
+is_other (tree.Quantified p q bs a) = true
+is_other (tree.Choose p w s a) = true
+is_other (tree.Filter p w s a) = true
+is_other (tree.Image p a bs) = true
+is_other (tree.Function p bs a) = true
+is_other (tree.Case p as' o) = true
+is_other _ = false
+
+abbrev pub is_made : Tree → Bool
+is_made (tree.FunctionSet p s a) = true
+is_made (tree.Record p fs) = true
+is_made (tree.RecordSet p fs) = true
+is_made (tree.Product p a es) = true
+is_made (tree.Except p a us) = true
+is_made (tree.Action p q a v) = true
+is_made (tree.Fair p q v a) = true
+is_made _ = false
+
+-- whether an expression means another one, so that it has no form of its own
+abbrev pub means_another : Tree → Bool
+means_another (tree.Name w) = true
+means_another (tree.Call w es) = true
+means_another (tree.At p) = true
+means_another (tree.Paren p a) = true
+means_another (tree.Prime p a) = true
+means_another (tree.Let p ds a) = true
+means_another _ = false
 
 abbrev pub of_brackets : Brackets → ListNode
 of_brackets brackets.Set = manies.Set

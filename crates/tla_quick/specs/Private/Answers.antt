@@ -1,6 +1,5 @@
 -- What a call answers that may give up: where it answers, the value that the definition gives. (This project's own choice.)
-use Rattle.std.specs.Prelude.{◌≡◌, Bool, Option, Some, None, Result, Ok, Err}
-use Rattle.tla_value.specs.Tree.{Tree}
+use Rattle.std.specs.Prelude.{◌≡◌, Result, Ok, Err}
 use Rattle.tla_core.specs.Fault.{Outcome, ◌>>=◌}
 
 abbrev pub Answers : {X A E : Type 0} → (X → A) → Result X E → Outcome A → Type 0

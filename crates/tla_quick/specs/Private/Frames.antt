@@ -1,5 +1,5 @@
 -- What the code keeps of what is around an expression: the values of the bound names, and the definitions.
-use Rattle.std.specs.Prelude.{◌≡◌, ℕ, [], ◌∷◌, ◌++◌, List, length, map, Option, Some, None, Ok, option_map, slice_get}
+use Rattle.std.specs.Prelude.{◌≡◌, ℕ, [], ◌∷◌, ◌++◌, length, map, Option, Some, None, Ok, slice_get}
 use Rattle.std.specs.Coded.{Coded-set}
 use Rattle.std.proofs.Props.{props}
 use Rattle.std.proofs.Common.{Bor}
@@ -14,7 +14,6 @@ use Rattle.tla_core.specs.Expr.{Expr}
 use Rattle.tla_core.specs.Meaning.{Bound, Present, Next}
 use Rattle.tla_core.specs.Value.{val}
 use Rattle.tla_code.specs.CodeExpr.{Scope, expr_in}
-use Rattle.tla_code.specs.declared.code.Code.{Code}
 use Rattle.tla_quick.specs.Private.Kept.{scope_with}
 use Rattle.tla_quick.specs.declared.frame.Frame.{Frame}
 use Rattle.tla_quick.specs.declared.frame.Frame.TheVariants.{Outer, One', Many', Defined'}

@@ -1,5 +1,5 @@
 //! Forms that bind one name.
-ghost use Rattle.std.specs.Prelude.{◌++◌, ◌∷◌, [], map, slice_get};
+ghost use Rattle.std.specs.Prelude.{◌<◌, ◌++◌, ◌∷◌, [], Bool, Some, length, map, slice_get};
 ghost use Rattle.tla_value.specs.Tree.{truth};
 ghost use Rattle.tla_value.specs.TreeOf.{tree_of};
 ghost use Rattle.tla_core.specs.Lists.{all_hold, some_hold, first_passing, passing};
@@ -21,7 +21,7 @@ use std::alloc::Global;
 use tla_code::{BinderForm, Code};
 use tla_core::Place;
 use tla_operators::evaluated::Evaluated;
-use tla_sets::elements::{Elements, element_at};
+use tla_sets::elements::{Elements, count_of, element_at};
 use tla_value::Value;
 
 /// Whether a body is TRUE of each element of a set, or of some.
@@ -72,7 +72,7 @@ pub(super) fn value_of_binder<'m: 'a, 'a>(
         }
         BinderForm::Filter => {
             let found = elements(alloc, place, set, env)?;
-            Ok(Evaluated::Owned(set_of(place, passing(alloc, place, body, &found, env)?)?))
+            Ok(Evaluated::Owned(set_of(alloc, place, passing(alloc, place, body, &found, env)?)?))
         }
     }
 }
@@ -130,17 +130,16 @@ fn holds_at<'e, 'm: 'a, 'a>(
     elements: &'e Elements<'e>,
     number: usize,
     env: Environment<'m, 'a>,
-) -> Result<Option<bool>, Stop>
-    ensures { Answers (λ o. o) result
+) -> Result<bool, Stop>
+    requires { number < length (elements_of elements.now) }
+    ensures { Answers (λ (b : Bool). Some b) result
         (tested (λ v.
         asks place.now (means (code_in env.entry body.now)) (bound_in env.entry ++ v ∷ [])
         (present_in env.entry) (next_in env.entry))
         (slice_get (elements_of elements.now) number)) }
 {
-    match element_at(elements, number) {
-        Some(element) => Ok(Some(truth_with(alloc, body, element.value(), env)?)),
-        None => Ok(None),
-    }
+    let element = element_at(elements, number);
+    truth_with(alloc, &*body, element.value(), env)
 }
 
 /// Whether a body is TRUE of each of these elements, up to the first of which it is not.
@@ -157,17 +156,13 @@ fn each_holds<'e, 'm: 'a, 'a>(
         asks place.now (means (code_in env.entry body.now)) (bound_in env.entry ++ v ∷ [])
         (present_in env.entry) (next_in env.entry)) (elements_of elements.now)) }
 {
-    for number in 0..usize::MAX {
-        match holds_at(alloc, place, body, elements, number, env)? {
-            Some(holds) => {
-                if !holds {
-                    return Ok(false);
-                }
-            }
-            None => return Ok(true),
+    for number in 0..count_of(elements) {
+        let holds = holds_at(alloc, place, body, elements, number, env)?;
+        if !holds {
+            return Ok(false);
         }
     }
-    Err(Stop::Unknown)
+    Ok(true)
 }
 
 /// Whether a body is TRUE of some of these elements, up to the first of which it is.
@@ -184,17 +179,13 @@ fn some_holds<'e, 'm: 'a, 'a>(
         asks place.now (means (code_in env.entry body.now)) (bound_in env.entry ++ v ∷ [])
         (present_in env.entry) (next_in env.entry)) (elements_of elements.now)) }
 {
-    for number in 0..usize::MAX {
-        match holds_at(alloc, place, body, elements, number, env)? {
-            Some(holds) => {
-                if holds {
-                    return Ok(true);
-                }
-            }
-            None => return Ok(false),
+    for number in 0..count_of(elements) {
+        let holds = holds_at(alloc, place, body, elements, number, env)?;
+        if holds {
+            return Ok(true);
         }
     }
-    Err(Stop::Unknown)
+    Ok(false)
 }
 
 /// The first of these elements of which a body is TRUE.
@@ -211,14 +202,10 @@ fn first_passing<'e, 'm: 'a, 'a>(
         asks place.now (means (code_in env.entry body.now)) (bound_in env.entry ++ v ∷ [])
         (present_in env.entry) (next_in env.entry)) (elements_of elements.now)) }
 {
-    for number in 0..usize::MAX {
-        match holds_at(alloc, place, body, elements, number, env)? {
-            Some(holds) => {
-                if holds {
-                    return chosen(alloc, place, elements, number);
-                }
-            }
-            None => return Err(Stop::Unknown),
+    for number in 0..count_of(elements) {
+        let holds = holds_at(alloc, place, body, elements, number, env)?;
+        if holds {
+            return chosen(alloc, elements, number);
         }
     }
     Err(Stop::Unknown)
@@ -239,11 +226,9 @@ fn passing<'e, 'm: 'a, 'a>(
         (present_in env.entry) (next_in env.entry)) (elements_of elements.now)) }
 {
     let mut kept = Vec::new(alloc);
-    for number in 0..usize::MAX {
-        match holds_at(alloc, place, body, elements, number, env)? {
-            Some(holds) => keep(alloc, &mut kept, elements, number, holds)?,
-            None => return Ok(kept),
-        }
+    for number in 0..count_of(elements) {
+        let holds = holds_at(alloc, place, body, elements, number, env)?;
+        keep(alloc, &mut kept, elements, number, holds)?;
     }
-    Err(Stop::Unknown)
+    Ok(kept)
 }

@@ -68,7 +68,7 @@ fn image<'m: 'a, 'a>(
     let sets = evaluated_each(alloc, sets, env)?;
     let lists = known_lists(alloc, place, sets.as_slice())?;
     let values = chosen_once(alloc, body, lists.as_slice(), env)?;
-    gathered_set(place, values)
+    gathered_set(alloc, place, values)
 }
 
 /// The function on all choices from some sets with the values of a body for them.

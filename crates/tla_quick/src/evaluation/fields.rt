@@ -44,7 +44,7 @@ pub(super) fn value_of_fields<'m: 'a, 'a>(
     match form {
         FieldForm::Record => {
             let pairs = named_values(alloc, fields, env)?;
-            Ok(Evaluated::Owned(made_record(place, pairs)?))
+            Ok(Evaluated::Owned(made_record(alloc, place, pairs)?))
         }
         FieldForm::Records => Err(Stop::Unknown),
     }

@@ -40,7 +40,7 @@ pub(super) fn value_of_list<'m: 'a, 'a>(
         )?)),
         ListForm::Enumerated | ListForm::Tuple => {
             let values = values_of(alloc, parts, env)?;
-            Ok(Evaluated::Owned(made_of_list(place, form, values)?))
+            Ok(Evaluated::Owned(made_of_list(alloc, place, form, values)?))
         }
         ListForm::Product => {
             let sets = evaluated_each(alloc, parts, env)?;

@@ -1,4 +1,5 @@
 use Rattle.std.proofs.Common.{◌≡◌, Ok, map}
+use Rattle.std.specs.List.{AllByRecursion}
 use Rattle.tla_value.specs.TreeOf.{tree_of}
 use Rattle.tla_value.specs.declared.value.Value.{Value}
 use Rattle.tla_value.specs.Sets.{set_of}
@@ -7,11 +8,17 @@ use Rattle.tla_core.specs.Always.{IsAlways}
 use Rattle.tla_core.specs.ExprOf.{parts_of_cores}
 use Rattle.tla_core.specs.Kinds.{rising_set}
 use Rattle.tla_core.specs.Meaning.{means-enumerated}
-use Rattle.tla_core.proofs.KnownParts.{enumerated_known, if_kept}
+use Rattle.tla_core.specs.Private.Known.{IsKnown}
+use Rattle.tla_core.proofs.KnownParts.{parts_known, enumerated_known, in_any, if_kept}
 use Rattle.tla_core.proofs.making.known_set.Goals as goal
 
-pub returns-in-Some : goal.returns-in-Some
-returns-in-Some c =
+pub returns-in-Some-clause-known : goal.returns-in-Some-clause-known
+returns-in-Some-clause-known c =
+    let each = rw c.in-Some.is at c.in_ok-values.ensures in
+    in_any (AllByRecursion IsKnown c.args.parts.now) c.set_within.result (parts_known c.args.parts.now c.in-Some.values.items each)
+
+pub returns-in-Some-clause-value : goal.returns-in-Some-clause-value
+returns-in-Some-clause-value c =
     let values = c.in-Some.values.items in
     let made = set_of (map tree_of values) in
     let each = rw c.in-Some.is at c.in_ok-values.ensures in

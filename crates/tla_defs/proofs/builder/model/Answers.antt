@@ -30,6 +30,15 @@ new-requires c =
     at c.requires.known (rw c.requires.items at c.requires.given) (rw c.requires.items at c.requires.valued) c.requires.named (rw c.requires.items at c.requires.straight) means.2 (c.in_ok-names.ensures.ok ∙ c.requires.variables)
     c.in_ok-assumptions.ensures.found (rw c.in_ok-init.ensures.ok at (c.initial_predicate.ensures.found means.0 means.1)) (rw c.in_ok-next.ensures.ok at c.next_action.ensures.found) c.in_ok-invariants.ensures.found c.in_ok-constraints.ensures.found c.looks_for_deadlock-check.ensures)
 
+pub initial_predicate-requires : goal.initial_predicate-requires
+initial_predicate-requires c =
+    let us = map unit_view c.args.units.now in
+    let cs = map statement_view c.args.statements.now in
+    let at = ap (λ s. scope_of s) c.deref-scopes.ensures ∙ c.in_ok-global.ensures.ok ∙ ap (λ is. global us is) c.requires.items in
+    let counted = sym (length-map c.words-count.result.now (λ (w : Bor (List ℕ)). w.now)) ∙ ap (λ (xs : List (List ℕ)). length xs) c.words-count.ensures ∙ ap (λ (xs : List (List ℕ)). length xs) c.requires.variables in
+    let means = meaning_behaviour us cs c.args.items.now (scope_of c.deref-scopes.result.now) (length c.words-count.result.now) (behaviour_of c.args.behaviour) c.in_ok-meant.meant c.requires.items at counted c.requires.only c.in_ok-meant.ensures.found in
+    (means.0, means.1)
+
 pub returns-clause-found : goal.returns-clause-found
 returns-clause-found c =
     let us = map unit_view c.args.units.now in

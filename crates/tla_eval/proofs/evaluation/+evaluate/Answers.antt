@@ -1,4 +1,4 @@
-use Rattle.std.proofs.Common.{◌≡◌, rules, arith, Vec, Global, map, zip, length, option_map, Option, Bor, List, ◌++◌, ◌∷◌, [], Bool, Some, None, Ok, Err, inr, ap, sym, ◌∙◌, refl, subst}
+use Rattle.std.proofs.Common.{◌≡◌, ◌≤◌, rules, arith, Vec, Global, map, zip, length, option_map, Option, Bor, List, ◌++◌, ◌∷◌, [], Bool, Some, None, Ok, Err, inr, ap, sym, ◌∙◌, refl, subst}
 use Rattle.std.proofs.lemmas.List.{map-append, length-map}
 use Rattle.tla_value.specs.Choices.{choices}
 use Rattle.tla_core.specs.Logic.{means-conjunction, means-disjunction, means-cases}
@@ -30,7 +30,7 @@ use Rattle.tla_eval.proofs.Collected.{record_is}
 use Rattle.tla_eval.proofs.Asked.{conjunction_told, disjunction_told, function_into}
 use Rattle.tla_eval.proofs.Choices.{image_is, image_step, function_is, one_choice, value_here, value_more, value_first, value_end, pass_more, pass_first, pass_end, for_choices, function_of_values, function_first, function_passed}
 use Rattle.tla_sets.proofs.Chosen.{trees_in}
-use Rattle.tla_eval.proofs.Tested.{two_gone, two_asked, tested_there, all_more, all_stop, all_first, all_end, some_more, some_stop, some_first, some_end, least_more, least_stop, least_first, least_end, kept_more, kept_first, kept_end, one_of_is}
+use Rattle.tla_eval.proofs.Tested.{two_gone, two_asked, tested_told, all_more, all_stop, all_first, all_end, some_more, some_stop, some_first, some_end, least_more, least_stop, least_first, least_end, kept_more, kept_first, kept_end, one_of_is}
 use Rattle.tla_operators.proofs.Different.{more_none}
 use Rattle.tla_core.proofs.Parts.{means_conjunction, means_disjunction, means_enumerated, means_tuple, means_record, means_image, means_function, means_except, means_cases, means_cases_or, means_records, means_product}
 use Rattle.tla_eval.proofs.RecordSets.{product_is, record_set_is, fields_long, tuple_long, tuple_other, same_number, number_same}
@@ -57,35 +57,20 @@ evaluate_other-returns-in-Disjunction t c =
 abbrev body_of : Place → Core → Environment → Tree → Outcome Bool
 body_of p body env v = asks p (means (expr_of body)) (bound_in env ++ v ∷ []) (present_in env) (next_in env)
 
-pub binding::holds_at-returns-in_ok-ask_with-in-Some : goal.binding::holds_at-returns-in_ok-ask_with-in-Some
-binding::holds_at-returns-in_ok-ask_with-in-Some t c =
-    let at : Some (tree_of_evaluated c.in-Some.element) ≡ slice_get (elements_of c.args.elements.now) c.args.number = sym (ap (option_map tree_of_evaluated) c.in-Some.is) ∙ c.element_at.ensures in
-    let e : slice_get (elements_of c.args.elements.now) c.args.number ≡ Some (tree_of c.value.result.now) = sym at ∙ ap (λ v. Some v) (sym c.value.ensures) in
-    tested_there (body_of c.args.place.now c.args.body.now c.args.env) (slice_get (elements_of c.args.elements.now) c.args.number) (tree_of c.value.result.now) c.in_ok-ask_with-in-Some.field-0 e c.in_ok-ask_with-in-Some.ensures
-
-pub binding::holds_at-returns-in_err-ask_with-in-Some : goal.binding::holds_at-returns-in_err-ask_with-in-Some
-binding::holds_at-returns-in_err-ask_with-in-Some t c =
-    let at : Some (tree_of_evaluated c.in-Some.element) ≡ slice_get (elements_of c.args.elements.now) c.args.number = sym (ap (option_map tree_of_evaluated) c.in-Some.is) ∙ c.element_at.ensures in
-    let e : slice_get (elements_of c.args.elements.now) c.args.number ≡ Some (tree_of c.value.result.now) = sym at ∙ ap (λ v. Some v) (sym c.value.ensures) in
-    subst (λ o. GivesBy (λ (r : Option Bool). r) c.from_residual.result o) (sym (ap (tested (body_of c.args.place.now c.args.body.now c.args.env)) e)) (search rules)
-
-pub binding::holds_at-returns-in-None : goal.binding::holds_at-returns-in-None
-binding::holds_at-returns-in-None t c =
-    ap (tested (body_of c.args.place.now c.args.body.now c.args.env)) (sym c.element_at.ensures ∙ ap (option_map tree_of_evaluated) c.in-None.is)
+pub binding::holds_at-returns : goal.binding::holds_at-returns
+binding::holds_at-returns t c =
+    tested_told (body_of c.args.place.now c.args.body.now c.args.env) (slice_get (elements_of c.args.elements.now) c.args.number) (tree_of c.value.result.now) c.ask_with.result
+    (sym c.element_at-element.ensures ∙ ap (λ v. Some v) (sym c.value.ensures)) c.ask_with.ensures
 
 pub binding::each_holds-loop-number-preserved : goal.binding::each_holds-loop-number-preserved
-binding::each_holds-loop-number-preserved t c =
-    c.loop-number.invariant
-    ∙ all_more (body_of c.args.place.now c.args.body.now c.args.env) (elements_of c.args.elements.now) c.loop-number.number c.in-Some.holds (c.in_ok-holds.ensures ∙ ap (λ (o : Option Bool). Ok o) c.in-Some.is) c.if-not-holds.false
+binding::each_holds-loop-number-preserved t c = c.loop-number.invariant ∙ all_more (body_of c.args.place.now c.args.body.now c.args.env) (elements_of c.args.elements.now) c.loop-number.number c.in_ok-holds.holds c.in_ok-holds.ensures c.if-not-holds.false
 
 pub binding::each_holds-returns-then-not-holds : goal.binding::each_holds-returns-then-not-holds
 binding::each_holds-returns-then-not-holds t c =
-    c.loop-number.invariant
-    ∙ all_stop (body_of c.args.place.now c.args.body.now c.args.env) (elements_of c.args.elements.now) c.loop-number.number c.in-Some.holds (c.in_ok-holds.ensures ∙ ap (λ (o : Option Bool). Ok o) c.in-Some.is) c.if-not-holds.true
+    c.loop-number.invariant ∙ all_stop (body_of c.args.place.now c.args.body.now c.args.env) (elements_of c.args.elements.now) c.loop-number.number c.in_ok-holds.holds c.in_ok-holds.ensures c.if-not-holds.true
 
-pub binding::each_holds-returns-in-None : goal.binding::each_holds-returns-in-None
-binding::each_holds-returns-in-None t c =
-    c.loop-number.invariant ∙ all_end (body_of c.args.place.now c.args.body.now c.args.env) (elements_of c.args.elements.now) c.loop-number.number (c.in_ok-holds.ensures ∙ ap (λ (o : Option Bool). Ok o) c.in-None.is)
+pub binding::each_holds-returns : goal.binding::each_holds-returns
+binding::each_holds-returns t c = c.loop-number.invariant ∙ all_end (body_of c.args.place.now c.args.body.now c.args.env) (elements_of c.args.elements.now) c.loop-number.number (subst (λ n. n ≤ c.loop-number.number) c.count_of-number-end.ensures c.loop-number-test.false)
 
 pub binding::each_holds-returns-in_err-holds : goal.binding::each_holds-returns-in_err-holds
 binding::each_holds-returns-in_err-holds t c =
@@ -93,18 +78,14 @@ binding::each_holds-returns-in_err-holds t c =
     subst (λ (o : Outcome Bool). GivesTruth c.from_residual.result o) (sym e) (search rules)
 
 pub binding::some_holds-loop-number-preserved : goal.binding::some_holds-loop-number-preserved
-binding::some_holds-loop-number-preserved t c =
-    c.loop-number.invariant
-    ∙ some_more (body_of c.args.place.now c.args.body.now c.args.env) (elements_of c.args.elements.now) c.loop-number.number c.in-Some.holds (c.in_ok-holds.ensures ∙ ap (λ (o : Option Bool). Ok o) c.in-Some.is) c.if-holds.false
+binding::some_holds-loop-number-preserved t c = c.loop-number.invariant ∙ some_more (body_of c.args.place.now c.args.body.now c.args.env) (elements_of c.args.elements.now) c.loop-number.number c.in_ok-holds.holds c.in_ok-holds.ensures c.if-holds.false
 
 pub binding::some_holds-returns-then-holds : goal.binding::some_holds-returns-then-holds
 binding::some_holds-returns-then-holds t c =
-    c.loop-number.invariant
-    ∙ some_stop (body_of c.args.place.now c.args.body.now c.args.env) (elements_of c.args.elements.now) c.loop-number.number c.in-Some.holds (c.in_ok-holds.ensures ∙ ap (λ (o : Option Bool). Ok o) c.in-Some.is) c.if-holds.true
+    c.loop-number.invariant ∙ some_stop (body_of c.args.place.now c.args.body.now c.args.env) (elements_of c.args.elements.now) c.loop-number.number c.in_ok-holds.holds c.in_ok-holds.ensures c.if-holds.true
 
-pub binding::some_holds-returns-in-None : goal.binding::some_holds-returns-in-None
-binding::some_holds-returns-in-None t c =
-    c.loop-number.invariant ∙ some_end (body_of c.args.place.now c.args.body.now c.args.env) (elements_of c.args.elements.now) c.loop-number.number (c.in_ok-holds.ensures ∙ ap (λ (o : Option Bool). Ok o) c.in-None.is)
+pub binding::some_holds-returns : goal.binding::some_holds-returns
+binding::some_holds-returns t c = c.loop-number.invariant ∙ some_end (body_of c.args.place.now c.args.body.now c.args.env) (elements_of c.args.elements.now) c.loop-number.number (subst (λ n. n ≤ c.loop-number.number) c.count_of-number-end.ensures c.loop-number-test.false)
 
 pub binding::some_holds-returns-in_err-holds : goal.binding::some_holds-returns-in_err-holds
 binding::some_holds-returns-in_err-holds t c =
@@ -112,19 +93,15 @@ binding::some_holds-returns-in_err-holds t c =
     subst (λ (o : Outcome Bool). GivesTruth c.from_residual.result o) (sym e) (search rules)
 
 pub binding::first_passing-loop-number-preserved : goal.binding::first_passing-loop-number-preserved
-binding::first_passing-loop-number-preserved t c =
-    c.loop-number.invariant
-    ∙ least_more (body_of c.args.place.now c.args.body.now c.args.env) (elements_of c.args.elements.now) c.loop-number.number c.args.place.now c.in-Some.holds (c.in_ok-holds.ensures ∙ ap (λ (o : Option Bool). Ok o) c.in-Some.is) c.if-holds.false
+binding::first_passing-loop-number-preserved t c = c.loop-number.invariant ∙ least_more (body_of c.args.place.now c.args.body.now c.args.env) (elements_of c.args.elements.now) c.loop-number.number c.args.place.now c.in_ok-holds.holds c.in_ok-holds.ensures c.if-holds.false
 
 pub binding::first_passing-returns-then-holds : goal.binding::first_passing-returns-then-holds
 binding::first_passing-returns-then-holds t c =
-    let e = c.loop-number.invariant
-    ∙ least_stop (body_of c.args.place.now c.args.body.now c.args.env) (elements_of c.args.elements.now) c.loop-number.number c.args.place.now c.in-Some.holds (c.in_ok-holds.ensures ∙ ap (λ (o : Option Bool). Ok o) c.in-Some.is) c.if-holds.true in
-    subst (λ (o : Outcome Tree). Gives c.chosen_at.result o) (sym e) c.chosen_at.ensures
+    let e = c.loop-number.invariant ∙ least_stop (body_of c.args.place.now c.args.body.now c.args.env) (elements_of c.args.elements.now) c.loop-number.number c.args.place.now c.in_ok-holds.holds c.in_ok-holds.ensures c.if-holds.true in
+    subst (λ (o : Outcome Tree). Gives c.chosen_at.result o) (sym e) (c.chosen_at.ensures c.args.place.now)
 
-pub binding::first_passing-returns-in-None : goal.binding::first_passing-returns-in-None
-binding::first_passing-returns-in-None t c =
-    inr (c.loop-number.invariant ∙ least_end (body_of c.args.place.now c.args.body.now c.args.env) (elements_of c.args.elements.now) c.loop-number.number c.args.place.now (c.in_ok-holds.ensures ∙ ap (λ (o : Option Bool). Ok o) c.in-None.is) ∙ ap (λ (f : Fault). Err f) (sym c.fault_at.ensures))
+pub binding::first_passing-returns : goal.binding::first_passing-returns
+binding::first_passing-returns t c = inr (c.loop-number.invariant ∙ least_end (body_of c.args.place.now c.args.body.now c.args.env) (elements_of c.args.elements.now) c.loop-number.number c.args.place.now (subst (λ n. n ≤ c.loop-number.number) c.count_of-number-end.ensures c.loop-number-test.false) ∙ ap (λ (f : Fault). Err f) (sym c.fault_at.ensures))
 
 pub binding::first_passing-returns-in_err-holds : goal.binding::first_passing-returns-in_err-holds
 binding::first_passing-returns-in_err-holds t c =
@@ -134,11 +111,10 @@ binding::first_passing-returns-in_err-holds t c =
 pub binding::passing-loop-number-preserved : goal.binding::passing-loop-number-preserved
 binding::passing-loop-number-preserved t c =
     c.loop-number.invariant
-    ∙ kept_more (body_of c.args.place.now c.args.body.now c.args.env) (elements_of c.args.elements.now) c.loop-number.number (map tree_of c.loop-number.kept.items) (map tree_of c.keep_at.new.kept.items) c.in-Some.holds (c.in_ok-holds.ensures ∙ ap (λ (o : Option Bool). Ok o) c.in-Some.is) c.in_ok-keep_at-in-Some.ensures.ok
+    ∙ kept_more (body_of c.args.place.now c.args.body.now c.args.env) (elements_of c.args.elements.now) c.loop-number.number (map tree_of c.loop-number.kept.items) (map tree_of c.keep_at.new.kept.items) c.in_ok-holds.holds c.in_ok-holds.ensures c.in_ok-keep_at.ensures.ok
 
-pub binding::passing-returns-in-None : goal.binding::passing-returns-in-None
-binding::passing-returns-in-None t c =
-    c.loop-number.invariant ∙ kept_end (body_of c.args.place.now c.args.body.now c.args.env) (elements_of c.args.elements.now) c.loop-number.number (map tree_of c.loop-number.kept.items) (c.in_ok-holds.ensures ∙ ap (λ (o : Option Bool). Ok o) c.in-None.is)
+pub binding::passing-returns : goal.binding::passing-returns
+binding::passing-returns t c = c.loop-number.invariant ∙ kept_end (body_of c.args.place.now c.args.body.now c.args.env) (elements_of c.args.elements.now) c.loop-number.number (map tree_of c.loop-number.kept.items) (subst (λ n. n ≤ c.loop-number.number) c.count_of-number-end.ensures c.loop-number-test.false)
 
 pub binding::passing-returns-in_err-holds : goal.binding::passing-returns-in_err-holds
 binding::passing-returns-in_err-holds t c =

@@ -1,4 +1,4 @@
-use Rattle.std.proofs.Common.{◌≡◌, ℕ, map, ap, sym, subst, IfOk, IfErr, refl}
+use Rattle.std.proofs.Common.{◌≡◌, ◌∙◌, ℕ, map, ap, sym, subst, true≢false, IfOk, IfErr, refl}
 use Rattle.tla_tree.specs.Tree as t
 use Rattle.tla_tree.specs.View.{view, views_items, definition_view, definition_views_items}
 use Rattle.tla_expand.specs.Meanings.{Argument}
@@ -7,6 +7,7 @@ use Rattle.tla_expand.specs.Scopes.{scope_at, arguments_in}
 use Rattle.tla_expand.specs.Private.Gives.{reduction_gives, Explains}
 use Rattle.tla_expand.specs.Primes.{with_primes}
 use Rattle.tla_expand.proofs.Steps.{expand_call, shown_once}
+use Rattle.tla_expand.proofs.OwnForms.{means_none}
 use Rattle.tla_expand.specs.Listed.{listed}
 use Rattle.tla_expand.proofs.uses.go.Goals as goal
 
@@ -38,3 +39,9 @@ returns-in_ok-inside-in-Let-clause-same c =
     let same : view c.args.tree.now ≡ t.Let m.field-0 (t.definitions (map definition_view c.as_slice-in-Let.result.now)) (view c.deref-in-Let.result.now) =
     rw (m.is, c.as_slice-in-Let.ensures.value, c.deref-in-Let.ensures) (ap (λ x. t.Let m.field-0 x (view m.inner.value)) (definition_views_items m.definitions)) in
     λ d. rw (same, ← c.in_ok-inside-in-Let.ensures.same) refl
+
+pub unreachable-requires : goal.unreachable-requires
+unreachable-requires c =
+    let d = c.in_default in
+    let none = means_none c.args.tree.now (record { no_name = d.not-Name; no_call = d.not-Call; no_at = d.not-At; no_paren = d.not-Paren; no_prime = d.not-Prime; no_let = d.not-Let }) in
+    true≢false (sym c.requires.another ∙ none)

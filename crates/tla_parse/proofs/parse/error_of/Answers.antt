@@ -1,5 +1,5 @@
 use Rattle.tla_tree.specs.declared.tree.TheConstants.{MAX_DEPTH}
-use Rattle.tla_parse.proofs.NoWords.{stands_at_no_word}
+use Rattle.tla_parse.proofs.NoWords.{at_no_word}
 use Rattle.tla_parse.proofs.Whole.{refused, too_deep}
 use Rattle.tla_parse.proofs.parse.error_of.Goals as goal
 
@@ -24,10 +24,10 @@ left_out-requires-in-UnknownModule-clause-none c = refused c.args.text.now c.arg
 pub left_out-requires-in-SecondHeader-clause-none : goal.left_out-requires-in-SecondHeader-clause-none
 left_out-requires-in-SecondHeader-clause-none c = refused c.args.text.now c.args.tokens.now MAX_DEPTH (rw c.in-SecondHeader.is at c.requires).0
 
-pub returns-in-Unexpected-clause-passes : goal.returns-in-Unexpected-clause-passes
-returns-in-Unexpected-clause-passes c =
-    rw c.at.ensures (stands_at_no_word c.args.tokens.now c.in-Unexpected.at c.place_of.result (rw c.in-Unexpected.is at c.requires).1 c.place_of.ensures.here c.place_of.ensures.last)
+pub returns-in-Unexpected-clause-no_word : goal.returns-in-Unexpected-clause-no_word
+returns-in-Unexpected-clause-no_word c =
+    rw c.at.ensures (at_no_word c.args.tokens.now c.in-Unexpected.at c.place_of.result (rw c.in-Unexpected.is at c.requires).1 c.place_of.ensures.here c.place_of.ensures.last)
 
-pub returns-in-Column-clause-passes : goal.returns-in-Column-clause-passes
-returns-in-Column-clause-passes c =
-    rw c.at-in-Column.ensures (stands_at_no_word c.args.tokens.now c.in-Column.at c.place_of-in-Column.result (rw c.in-Column.is at c.requires).1 c.place_of-in-Column.ensures.here c.place_of-in-Column.ensures.last)
+pub returns-in-Column-clause-no_word : goal.returns-in-Column-clause-no_word
+returns-in-Column-clause-no_word c =
+    rw c.at-in-Column.ensures (at_no_word c.args.tokens.now c.in-Column.at c.place_of-in-Column.result (rw c.in-Column.is at c.requires).1 c.place_of-in-Column.ensures.here c.place_of-in-Column.ensures.last)

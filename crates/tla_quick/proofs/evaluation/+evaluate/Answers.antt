@@ -1,17 +1,17 @@
-use Rattle.std.proofs.Common.{◌≡◌, rules, arith, Vec, Global, map, zip, length, option_map, Option, Bor, List, ◌++◌, ◌∷◌, [], Bool, Some, None, Ok, Err, ap, sym, ◌∙◌, refl, subst}
+use Rattle.std.proofs.Common.{◌≡◌, ◌≤◌, rules, arith, Vec, Global, map, zip, length, option_map, Option, Bor, List, ◌++◌, ◌∷◌, [], Bool, Some, None, Result, Ok, Err, ap, sym, ◌∙◌, refl, subst}
 use Rattle.std.specs.Prelude.{slice_get}
 use Rattle.std.proofs.lemmas.List.{map-append, length-map}
 use Rattle.tla_value.specs.Tree.{Tree, truth}
-use Rattle.tla_value.specs.TreeOf.{tree_of, pair_of}
+use Rattle.tla_value.specs.TreeOf.{tree_of}
 use Rattle.tla_value.specs.Choices.{choices}
 use Rattle.tla_value.specs.declared.value.Value.{Value}
 use Rattle.tla_core.specs.declared.fault.Place.{Place}
 use Rattle.tla_core.specs.Fault.{Outcome, ◌>>=◌}
-use Rattle.tla_core.specs.Expr.{except}
-use Rattle.tla_core.specs.Kinds.{as_set, items, make_fun}
+use Rattle.tla_core.specs.Expr.{Expr, except}
+use Rattle.tla_core.specs.Kinds.{as_set, as_truth, items, make_fun}
 use Rattle.tla_core.specs.Lists.{each}
-use Rattle.tla_core.specs.Meaning.{asks, as_tree, elements}
-use Rattle.tla_core.specs.Value.{means, mean_all, mean_fields}
+use Rattle.tla_core.specs.Meaning.{Bound, Present, Next, asks, as_tree, elements}
+use Rattle.tla_core.specs.Value.{val, means, mean_all, mean_fields}
 use Rattle.tla_code.specs.CodeExpr.{expr_in}
 use Rattle.tla_code.specs.Forms.{two_expr, list_expr, field_expr, map_expr}
 use Rattle.tla_code.specs.Private.Listed.{exprs_of_codes, fields_of_codes, updates_of_codes}
@@ -24,10 +24,13 @@ use Rattle.tla_operators.specs.Evaluated.{tree_of_evaluated}
 use Rattle.tla_sets.specs.Elements.{elements_of}
 use Rattle.tla_sets.proofs.Chosen.{trees_in}
 use Rattle.tla_eval.specs.Private.Chosen.{value_at}
+use Rattle.tla_eval.specs.Private.Parts.{tested}
 use Rattle.tla_eval.proofs.Tested.{all_more, all_stop, all_end, some_more, some_stop, some_end, least_more, least_stop, kept_more, kept_end}
 use Rattle.tla_eval.proofs.Collected.{record_is}
 use Rattle.tla_eval.proofs.Choices.{one_choice, value_here, value_more, value_end, for_choices, function_of_values}
 use Rattle.tla_quick.specs.declared.environment.Environment.{Environment}
+use Rattle.tla_quick.specs.declared.stop.Stop.{Stop}
+use Rattle.tla_quick.specs.Private.Answers.{Answers}
 use Rattle.tla_quick.specs.Private.Environment.{bound_in, present_in, next_in, scope_in, code_in, value_in, has_in}
 use Rattle.tla_eval.proofs.Asked.{function_into}
 use Rattle.tla_eval.proofs.RecordSets.{tuple_long, tuple_other}
@@ -101,53 +104,54 @@ fields::value_of_fields-returns-in_ok-made_record-in-Record t c =
 abbrev body_of : Place → Code → Environment → Tree → Outcome Bool
 body_of p body env v = asks p (means (code_in env body)) (bound_in env ++ v ∷ []) (present_in env) (next_in env)
 
+-- what is told of an element that is there
+told : (p : Place) (e : Expr) (b : Bound) (s : Present) (t : Next) (o : Option Tree) (v : Tree) (r : Result Bool Stop) → o ≡ Some v → Answers truth r (val e (b ++ v ∷ []) s t)
+    → Answers (λ (x : Bool). Some x) r (tested (λ u. asks p (means e) (b ++ u ∷ []) s t) o)
+told p e b s t o v (Ok x) h k =
+    ap (tested (λ u. asks p (means e) (b ++ u ∷ []) s t)) h
+    ∙ ap (λ (q : Outcome Tree). (q >>= as_truth p) >>= λ y. Ok (Some y)) k
+told p e b s t o v (Err f) h k = tt
+
+pub binding::holds_at-returns : goal.binding::holds_at-returns
+binding::holds_at-returns t c =
+    told c.args.place.now (code_in c.args.env c.args.body.now) (bound_in c.args.env) (present_in c.args.env) (next_in c.args.env) (slice_get (elements_of c.args.elements.now) c.args.number) (tree_of c.value.result.now) c.truth_with.result
+    (sym c.element_at-element.ensures ∙ ap (λ v. Some v) (sym c.value.ensures)) c.truth_with.ensures
+
 pub binding::each_holds-loop-number-preserved : goal.binding::each_holds-loop-number-preserved
-binding::each_holds-loop-number-preserved t c =
-    c.loop-number.invariant
-    ∙ all_more (body_of c.args.place.now c.args.body.now c.args.env) (elements_of c.args.elements.now) c.loop-number.number c.in-Some.holds (c.in_ok-holds.ensures ∙ ap (λ (o : Option Bool). Ok o) c.in-Some.is) c.if-not-holds.false
+binding::each_holds-loop-number-preserved t c = c.loop-number.invariant ∙ all_more (body_of c.args.place.now c.args.body.now c.args.env) (elements_of c.args.elements.now) c.loop-number.number c.in_ok-holds.holds c.in_ok-holds.ensures c.if-not-holds.false
 
 pub binding::each_holds-returns-then-not-holds : goal.binding::each_holds-returns-then-not-holds
 binding::each_holds-returns-then-not-holds t c =
-    c.loop-number.invariant
-    ∙ all_stop (body_of c.args.place.now c.args.body.now c.args.env) (elements_of c.args.elements.now) c.loop-number.number c.in-Some.holds (c.in_ok-holds.ensures ∙ ap (λ (o : Option Bool). Ok o) c.in-Some.is) c.if-not-holds.true
+    c.loop-number.invariant ∙ all_stop (body_of c.args.place.now c.args.body.now c.args.env) (elements_of c.args.elements.now) c.loop-number.number c.in_ok-holds.holds c.in_ok-holds.ensures c.if-not-holds.true
 
-pub binding::each_holds-returns-in-None : goal.binding::each_holds-returns-in-None
-binding::each_holds-returns-in-None t c =
-    c.loop-number.invariant ∙ all_end (body_of c.args.place.now c.args.body.now c.args.env) (elements_of c.args.elements.now) c.loop-number.number (c.in_ok-holds.ensures ∙ ap (λ (o : Option Bool). Ok o) c.in-None.is)
+pub binding::each_holds-returns : goal.binding::each_holds-returns
+binding::each_holds-returns t c = c.loop-number.invariant ∙ all_end (body_of c.args.place.now c.args.body.now c.args.env) (elements_of c.args.elements.now) c.loop-number.number (subst (λ n. n ≤ c.loop-number.number) c.count_of-number-end.ensures c.loop-number-test.false)
 
 pub binding::some_holds-loop-number-preserved : goal.binding::some_holds-loop-number-preserved
-binding::some_holds-loop-number-preserved t c =
-    c.loop-number.invariant
-    ∙ some_more (body_of c.args.place.now c.args.body.now c.args.env) (elements_of c.args.elements.now) c.loop-number.number c.in-Some.holds (c.in_ok-holds.ensures ∙ ap (λ (o : Option Bool). Ok o) c.in-Some.is) c.if-holds.false
+binding::some_holds-loop-number-preserved t c = c.loop-number.invariant ∙ some_more (body_of c.args.place.now c.args.body.now c.args.env) (elements_of c.args.elements.now) c.loop-number.number c.in_ok-holds.holds c.in_ok-holds.ensures c.if-holds.false
 
 pub binding::some_holds-returns-then-holds : goal.binding::some_holds-returns-then-holds
 binding::some_holds-returns-then-holds t c =
-    c.loop-number.invariant
-    ∙ some_stop (body_of c.args.place.now c.args.body.now c.args.env) (elements_of c.args.elements.now) c.loop-number.number c.in-Some.holds (c.in_ok-holds.ensures ∙ ap (λ (o : Option Bool). Ok o) c.in-Some.is) c.if-holds.true
+    c.loop-number.invariant ∙ some_stop (body_of c.args.place.now c.args.body.now c.args.env) (elements_of c.args.elements.now) c.loop-number.number c.in_ok-holds.holds c.in_ok-holds.ensures c.if-holds.true
 
-pub binding::some_holds-returns-in-None : goal.binding::some_holds-returns-in-None
-binding::some_holds-returns-in-None t c =
-    c.loop-number.invariant ∙ some_end (body_of c.args.place.now c.args.body.now c.args.env) (elements_of c.args.elements.now) c.loop-number.number (c.in_ok-holds.ensures ∙ ap (λ (o : Option Bool). Ok o) c.in-None.is)
+pub binding::some_holds-returns : goal.binding::some_holds-returns
+binding::some_holds-returns t c = c.loop-number.invariant ∙ some_end (body_of c.args.place.now c.args.body.now c.args.env) (elements_of c.args.elements.now) c.loop-number.number (subst (λ n. n ≤ c.loop-number.number) c.count_of-number-end.ensures c.loop-number-test.false)
 
 pub binding::first_passing-loop-number-preserved : goal.binding::first_passing-loop-number-preserved
-binding::first_passing-loop-number-preserved t c =
-    c.loop-number.invariant
-    ∙ least_more (body_of c.args.place.now c.args.body.now c.args.env) (elements_of c.args.elements.now) c.loop-number.number c.args.place.now c.in-Some.holds (c.in_ok-holds.ensures ∙ ap (λ (o : Option Bool). Ok o) c.in-Some.is) c.if-holds.false
+binding::first_passing-loop-number-preserved t c = c.loop-number.invariant ∙ least_more (body_of c.args.place.now c.args.body.now c.args.env) (elements_of c.args.elements.now) c.loop-number.number c.args.place.now c.in_ok-holds.holds c.in_ok-holds.ensures c.if-holds.false
 
 pub binding::first_passing-returns-then-holds : goal.binding::first_passing-returns-then-holds
 binding::first_passing-returns-then-holds t c =
-    let e = c.loop-number.invariant
-    ∙ least_stop (body_of c.args.place.now c.args.body.now c.args.env) (elements_of c.args.elements.now) c.loop-number.number c.args.place.now c.in-Some.holds (c.in_ok-holds.ensures ∙ ap (λ (o : Option Bool). Ok o) c.in-Some.is) c.if-holds.true in
-    same_answer tree_of c.chosen.result _ _ e c.chosen.ensures
+    let e = c.loop-number.invariant ∙ least_stop (body_of c.args.place.now c.args.body.now c.args.env) (elements_of c.args.elements.now) c.loop-number.number c.args.place.now c.in_ok-holds.holds c.in_ok-holds.ensures c.if-holds.true in
+    same_answer tree_of c.chosen.result _ _ e (c.chosen.ensures c.args.place.now)
 
 pub binding::passing-loop-number-preserved : goal.binding::passing-loop-number-preserved
 binding::passing-loop-number-preserved t c =
     c.loop-number.invariant
-    ∙ kept_more (body_of c.args.place.now c.args.body.now c.args.env) (elements_of c.args.elements.now) c.loop-number.number (map tree_of c.loop-number.kept.items) (map tree_of c.keep.new.kept.items) c.in-Some.holds (c.in_ok-holds.ensures ∙ ap (λ (o : Option Bool). Ok o) c.in-Some.is) c.in_ok-keep-in-Some.ensures
+    ∙ kept_more (body_of c.args.place.now c.args.body.now c.args.env) (elements_of c.args.elements.now) c.loop-number.number (map tree_of c.loop-number.kept.items) (map tree_of c.keep.new.kept.items) c.in_ok-holds.holds c.in_ok-holds.ensures c.in_ok-keep.ensures
 
-pub binding::passing-returns-in-None : goal.binding::passing-returns-in-None
-binding::passing-returns-in-None t c =
-    c.loop-number.invariant ∙ kept_end (body_of c.args.place.now c.args.body.now c.args.env) (elements_of c.args.elements.now) c.loop-number.number (map tree_of c.loop-number.kept.items) (c.in_ok-holds.ensures ∙ ap (λ (o : Option Bool). Ok o) c.in-None.is)
+pub binding::passing-returns : goal.binding::passing-returns
+binding::passing-returns t c = c.loop-number.invariant ∙ kept_end (body_of c.args.place.now c.args.body.now c.args.env) (elements_of c.args.elements.now) c.loop-number.number (map tree_of c.loop-number.kept.items) (subst (λ n. n ≤ c.loop-number.number) c.count_of-number-end.ensures c.loop-number-test.false)
 
 -- ---- choices
 pub choices::function_for-made_function_with-requires : goal.choices::function_for-made_function_with-requires

@@ -1,4 +1,4 @@
-use Rattle.std.proofs.Common.{rules, arith, ◌≡◌, [], ◌∷◌, map, refl, ap, sym, subst, ◌∙◌}
+use Rattle.std.proofs.Common.{arith, [], ◌∷◌, map, ap, subst}
 use Rattle.tla_value.specs.TreeOf.{tree_of}
 use Rattle.tla_quick.specs.declared.frame.Frame.{Frame}
 use Rattle.tla_quick.specs.Private.Frames.{bound_of, scope_of, Knows}

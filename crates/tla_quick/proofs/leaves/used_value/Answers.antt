@@ -1,5 +1,4 @@
-use Rattle.std.proofs.Common.{◌≡◌, ◌+◌, OnOk, length, ap, sym, subst, ◌∙◌}
-use Rattle.tla_quick.specs.Private.Frames.{bound_of}
+use Rattle.std.proofs.Common.{◌≡◌, ◌+◌, OnOk, subst}
 use Rattle.tla_quick.specs.Private.Environment.{present_in, next_in}
 use Rattle.tla_quick.proofs.Used.{used_ok}
 use Rattle.tla_quick.proofs.leaves.used_value.Goals as goal

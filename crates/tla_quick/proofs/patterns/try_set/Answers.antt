@@ -1,5 +1,4 @@
-use Rattle.std.proofs.Common.{subst, refl}
-use Rattle.tla_core.specs.declared.fault.Place.{Place}
+use Rattle.std.proofs.Common.{subst}
 use Rattle.tla_core.specs.Lists.{each}
 use Rattle.tla_core.specs.Patterns.{fitting}
 use Rattle.tla_quick.specs.Private.Answers.{Answers, nothing_of}

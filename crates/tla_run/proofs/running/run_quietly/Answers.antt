@@ -12,7 +12,7 @@ returns-then-is_err g c err nothing =
     let fault = write_failed
     (λ (e : WriteFault). AddsFirst (g.O.Write.contents c.args.out.now) (g.O.Write.contents c.write_report.new.out) (report c.check-checked.result) e.written)
     c.write_report.result c.is_err.result c.is_err.ensures.value c.if-is_err.true c.write_report.ensures.fault in
-    let right = check_of (g.H.Host.files c.args.host.now) c.args.inputs.now c.check-checked.result c.requires.reads c.check-checked.ensures in
+    let right = check_of (g.H.Host.files c.args.host.now) c.args.inputs.now c.leaving_table-options.result.limit c.check-checked.result c.requires.reads c.leaving_table-options.ensures.limit c.check-checked.ensures in
     cut_short c.check-checked.result fault.0.written right fault.1 (λ _. nothing)
     (λ other. let bad : true ≡ false = sym c.requires.quiet ∙ other in cc) refl
 
@@ -20,5 +20,5 @@ pub returns : goal.returns
 returns g c err nothing =
     let whole = write_done (Appends (g.O.Write.contents c.args.out.now) (g.O.Write.contents c.write_report.new.out) (report c.check-checked.result))
     c.write_report.result c.is_err.result c.is_err.ensures.value c.if-is_err.false c.write_report.ensures.ok in
-    let right = check_of (g.H.Host.files c.args.host.now) c.args.inputs.now c.check-checked.result c.requires.reads c.check-checked.ensures in
+    let right = check_of (g.H.Host.files c.args.host.now) c.args.inputs.now c.leaving_table-options.result.limit c.check-checked.result c.requires.reads c.leaving_table-options.ensures.limit c.check-checked.ensures in
     reported c.check-checked.result right whole (λ _. nothing) c.status.ensures
