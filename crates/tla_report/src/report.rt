@@ -10,6 +10,7 @@ ghost use Rattle.tla_report.specs.Private.Pieces.{piece_text, pieces_text};
 ghost use Rattle.tla_report.specs.Report.{report, line, first_line, fault_line, site_text, part_line, place_text, trace_lines, state_lines, value_line, value_lines, counts_line, answer_report, refusal_line, ending, source_text};
 
 use crate::checked::{Answered, Checked, Names, Refusal, RefusalCode};
+use block_writer::{Document, put_in_blocks};
 use counted_writer::{ShortWrite, put, put_number};
 use std::io::Write;
 use tla_config::Source;
@@ -24,18 +25,26 @@ pub struct WriteFault {
     pub written: u64,
 }
 
-/// Writes the report. The first write that fails or takes no byte ends it. Takes no memory.
+/// Writes the report, in blocks. The first write that fails or takes no byte ends it. Takes no memory.
 pub fn write_report<W: Write>(checked: &Checked, out: &mut W) -> Result<(), WriteFault>
     ensures ok { OnOk result
         (Appends (W.contents out.old) (W.contents out.new) (report checked.now)) }
     ensures fault { IfErr result (λ e.
         AddsFirst (W.contents out.old) (W.contents out.new) (report checked.now) e.written) }
 {
-    match put_report(checked, out) {
-        Ok(_) => Ok(()),
+    match put_in_blocks(checked, out) {
+        Ok(()) => Ok(()),
         Err(short) => Err(WriteFault {
             written: short.written,
         }),
+    }
+}
+
+impl Document for Checked {
+    ghost bytes = { report };
+
+    fn put_on<W: Write>(&self, out: &mut W) -> Result<u64, ShortWrite> {
+        put_report(self, out)
     }
 }
 

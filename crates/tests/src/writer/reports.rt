@@ -4,6 +4,8 @@
 use crate::specifications::{COUNTER, JUGS, Specification, TWO};
 use crate::writer::{ENDS, Narrow};
 use std::alloc::Global;
+use std::io;
+use std::io::Write;
 use std::process::Abort;
 use tla_check::{Checked, NoGate, Options, WriteFault, check, write_report};
 
@@ -49,5 +51,50 @@ fn a_report_ends_where_its_writer_does(rt: HostRuntime) {
             assert!(rt; checked.status() == specification.status);
             assert_cuts(&rt, rt.alloc(), &checked, specification.report.as_bytes());
         }
+    }
+}
+
+/// Takes all bytes, and counts them and the writes.
+#[derive(Drop)]
+struct Tally {
+    bytes: usize,
+    writes: usize,
+}
+
+impl Write for Tally {
+    fn write(&mut self, buf: &[u8]) -> io::Result<usize> {
+        self.bytes = self.bytes.saturating_add(buf.len());
+        self.writes = self.writes.saturating_add(1);
+        Ok(buf.len())
+    }
+
+    fn flush(&mut self) -> io::Result<()> {
+        Ok(())
+    }
+}
+
+/// Its trace has 15,001 states.
+static CHAIN: &str = "---- MODULE Chain ----
+EXTENDS Naturals
+VARIABLE x
+Init == x = 0
+Next == x' = x + 1
+Inv == x < 15000
+====
+";
+
+#[test]
+fn a_long_report_takes_few_writes(rt: HostRuntime) {
+    let options = Options::new(1, 1024, 100_000);
+    assert!(rt; options.is_some());
+    if let Some(options) = options {
+        let config = b"INIT Init NEXT Next INVARIANT Inv";
+        let checked = check(&rt, rt.alloc(), CHAIN.as_bytes(), config, &options, &NoGate);
+        let mut out = Tally {
+            bytes: 0,
+            writes: 0,
+        };
+        assert!(rt; write_report(&checked, &mut out) == Ok(()));
+        assert!(rt; out.bytes > 300_000 && out.writes <= 100);
     }
 }

@@ -1,0 +1,3 @@
+pub mod Waiting
+pub mod Blocks
+pub mod Sends

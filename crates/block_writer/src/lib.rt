@@ -1,0 +1,114 @@
+//! Writing in blocks: many small writes become few large ones, and the number of written bytes stays exact.
+#![tactic(auto)]
+
+ghost use Rattle.std.specs.Prelude.{◌≡◌, List, ℕ, OnOk, IfErr};
+ghost use Rattle.std.specs.Io.KnownBytes.{Appends};
+ghost use Rattle.counted_writer.specs.Puts.{Puts, AddsFirst, count_of};
+ghost use Rattle.block_writer.specs.Waiting.{waiting};
+ghost use Rattle.block_writer.specs.Sends.{Sends};
+
+use crate::buffer::Block;
+use crate::passing::Blocks;
+use counted_writer::{ShortWrite, put};
+use std::io;
+use std::io::Write;
+
+mod buffer;
+mod passing;
+
+/// Bytes that can be put on any writer, by counted writes.
+pub trait Document {
+    ghost bytes: { Self → List ℕ };
+
+    /// Writes all the bytes. The first write that fails or takes no byte ends the call.
+    fn put_on<W: Write>(&self, out: &mut W) -> Result<u64, ShortWrite>
+        ensures { Puts (W.contents out.old) (W.contents out.new) 0 (bytes self.now) result };
+}
+
+/// Writes the document in blocks of 4,096 bytes. Only the last block may be shorter.
+///
+/// A write that takes fewer bytes than it was given is continued. The first write that fails or takes no byte ends the
+/// call, and nothing is written after it. The document is made twice, the first time only to count its bytes: with
+/// `u64::MAX` of them or more, it is written piece by piece. Allocates nothing.
+pub fn put_in_blocks<D: Document, W: Write>(document: &D, out: &mut W) -> Result<(), ShortWrite>
+    ensures ok { OnOk result
+        (Appends (W.contents out.old) (W.contents out.new) (D.bytes document.now)) }
+    ensures fault { IfErr result (λ e.
+        AddsFirst (W.contents out.old) (W.contents out.new) (D.bytes document.now) e.written) }
+{
+    if is_countable(document) {
+        return put_blocks(document, out);
+    }
+    match document.put_on(out) {
+        Ok(_) => Ok(()),
+        Err(short) => Err(short),
+    }
+}
+
+/// Whether the document has fewer than `u64::MAX` bytes, so that a count of them is exact.
+fn is_countable<D: Document>(document: &D) -> bool {
+    matches!(document.put_on(&mut io::sink()), Ok(length) if length < u64::MAX)
+}
+
+/// Writes a document of fewer than `u64::MAX` bytes.
+fn put_blocks<D: Document, W: Write>(document: &D, out: &mut W) -> Result<(), ShortWrite>
+    ensures ok { OnOk result
+        (Appends (W.contents out.old) (W.contents out.new) (D.bytes document.now)) }
+    ensures fault { IfErr result (λ e.
+        AddsFirst (W.contents out.old) (W.contents out.new) (D.bytes document.now) e.written) }
+{
+    let Sent {
+        given,
+        block,
+        failed,
+    } = put_full_blocks(document, out);
+    let rest = block.as_slice();
+    let before = count_of(given) - rest.len() as u64;
+    if given.is_err() || failed && !rest.is_empty() {
+        return Err(ShortWrite { written: before });
+    }
+    put(out, before, rest)?;
+    Ok(())
+}
+
+/// What a document left behind.
+#[derive(Drop)]
+struct Sent {
+    /// What its call answered.
+    given: Result<u64, ShortWrite>,
+    /// Its last bytes wait here.
+    block: Block,
+    /// A write failed or took no byte.
+    failed: bool,
+}
+
+/// Writes all but the last block.
+fn put_full_blocks<D: Document, W: Write>(document: &D, out: &mut W) -> Sent
+    ensures { Sends (W.contents out.old) (W.contents out.new) (D.bytes document.now)
+        (waiting result.block) result.given }
+{
+    let mut blocks = Blocks::new(out);
+    let given = document.put_on(&mut blocks);
+    let Blocks {
+        out: _,
+        mut block,
+        failed,
+    } = blocks;
+    // This changes nothing: the block holds no more. A proof knows that only where the bytes of `out` are known.
+    block.keep_last(count_of(given));
+    Sent {
+        given,
+        block,
+        failed,
+    }
+}
+
+/// The number of bytes that were taken.
+fn count_of(given: Result<u64, ShortWrite>) -> u64
+    ensures { result ≡ count_of given }
+{
+    match given {
+        Ok(count) => count,
+        Err(short) => short.written,
+    }
+}
