@@ -1,11 +1,14 @@
 #!/usr/bin/env python3
 """Builds a program without proving anything, for daily use, from what `rt try` compiles.
 
-    tools/build_unproved.py [--crate NAME] OUT
+    tools/build_unproved.py [--crate NAME] [--measure] OUT
 
 NAME is tlacheck if left out. The program at OUT is UNPROVED: nothing says that it does what the contracts say. It stops at
 an index out of bounds and at an overflow, as under `rt try`, but it has no limit of time or output. The proved program is
 crates/tlacheck/out/tlacheck, after `rt run`.
+
+With --measure the program has no checks either, so it is about as fast as the proved one, which takes long to build. Use it
+only to measure: what a wrong program does then is undefined.
 
 `rt try` runs over a folder of links to the kit's, in which the compiler and the linker are replaced by two short scripts. They
 leave out the address sanitizer, which would make the program several times slower, optimise, and keep what is linked.
@@ -27,11 +30,21 @@ VERSION = b"proved with rattle-kit-13f when built by rt run; a build by rt try i
 UNPROVED = b"UNPROVED: built by tools/build_unproved.py, with no proof, from what rt try made"
 
 COMPILER = """#!{python} -IS
-import os, sys
+import os, re, subprocess, sys
 words = [it for it in sys.argv[1:] if not it.startswith("-fsanitize=")]
-words = ["-O3" if it == "-O0" else it for it in words]
+words = [("-O2" if {measure} else "-O3") if it == "-O0" else it for it in words]
+if {measure} and "ir" in words:
+    at = words.index("ir") + 1
+    checked, plain = words[at] + ".checked.ll", words[at] + ".plain.ll"
+    subprocess.run([{real!r}, words[0], "-S", "-emit-llvm", "-O0", "-x", "ir", words[at], "-o", checked], check=True)
+    with open(checked) as lines, open(plain, "w") as kept:
+        kept.writelines(it for it in lines if not re.match({check!r}, it))
+    words[at] = plain
 os.execv({real!r}, [{real!r}, *words])
 """
+
+# A line of LLVM's code that only checks, or that fills a variable which has no value yet.
+CHECK = r'\s*call void (@llvm\.memset\.\S+\(ptr \S+, i8 -86,|@"rattle-(llvm-checks|try)::)'
 
 LINKER = """#!{python} -IS
 import shutil, subprocess, sys
@@ -61,7 +74,7 @@ def link_all(source, target, but=()):
             (target / it.name).symlink_to(it)
 
 
-def copied(real, folder, out):
+def copied(real, folder, out, measure):
     """A copy of the kit's folder, with the compiler and the linker replaced, and without the prover, which only gives hints."""
     link_all(real, folder, ("bin", "toolchain"))
     link_all(real / "bin", folder / "bin", ("rt", "rtlib.py", "rattle"))
@@ -72,7 +85,7 @@ def copied(real, folder, out):
     tools = real / "toolchain" / "bin"
     link_all(tools, folder / "toolchain" / "bin", ("clang", "ld.lld"))
     for name, text in (("clang", COMPILER), ("ld.lld", LINKER)):
-        words = {"python": sys.executable, "real": str(tools / name), "out": str(out)}
+        words = {"python": sys.executable, "real": str(tools / name), "out": str(out), "measure": measure, "check": CHECK}
         script = folder / "toolchain" / "bin" / name
         script.write_text(text.format(**words))
         script.chmod(0o755)
@@ -82,12 +95,13 @@ def copied(real, folder, out):
 def main():
     parser = argparse.ArgumentParser(description=__doc__, formatter_class=argparse.RawDescriptionHelpFormatter)
     parser.add_argument("--crate", default="tlacheck")
+    parser.add_argument("--measure", action="store_true", help="leave out all checks: only to measure")
     parser.add_argument("out")
     said = parser.parse_args()
     out = pathlib.Path(said.out).resolve()
     out.unlink(missing_ok=True)
     with tempfile.TemporaryDirectory(prefix="unproved-") as folder:
-        copied(kit(), pathlib.Path(folder), out)
+        copied(kit(), pathlib.Path(folder), out, said.measure)
         words = [f"{folder}/bin/rt", "try", "--steps", "1", "--seconds", "1", "--", "--help"]
         ran = subprocess.run(words, cwd=TOP / "crates" / said.crate, capture_output=True, text=True, errors="replace", check=False)
     if not out.is_file():

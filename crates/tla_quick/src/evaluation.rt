@@ -14,6 +14,7 @@ mod binding;
 mod choices;
 mod definitions;
 mod fields;
+mod held;
 mod lists;
 mod logic;
 mod operands;
@@ -25,6 +26,7 @@ use crate::evaluation::binding::{truth_of_binder, value_of_binder};
 use crate::evaluation::choices::value_of_map;
 use crate::evaluation::definitions::{has_of_let, truth_of_let, value_of_let};
 use crate::evaluation::fields::{has_in_fields, value_of_fields};
+use crate::evaluation::held::held;
 use crate::evaluation::lists::value_of_list;
 use crate::evaluation::logic::{truth_of_list, truth_of_one, truth_of_three, truth_of_two};
 use crate::evaluation::operands::{value_of_one, value_of_three, value_of_two};
@@ -48,10 +50,26 @@ pub(crate) fn value<'m: 'a, 'a>(
 ) -> Result<Evaluated<'a>, Stop>
     ensures { Answers tree_of_evaluated result (value_in env.entry (code_in env.entry code.now)) }
 {
+    match held(alloc, code, &env) {
+        Some(value) => Ok(Evaluated::Borrowed(value)),
+        None => value_of_form(alloc, code, env),
+    }
+}
+
+/// The value of a code, by its form.
+#[cycle(evaluate)]
+#[inline(never)]
+pub(crate) fn value_of_form<'m: 'a, 'a>(
+    alloc: Global,
+    code: &'a Code<'m>,
+    env: Environment<'m, 'a>,
+) -> Result<Evaluated<'a>, Stop>
+    ensures { Answers tree_of_evaluated result (value_in env.entry (code_in env.entry code.now)) }
+{
     match code {
-        Code::Bound(_, index) => Ok(Evaluated::Borrowed(bound_value(*index, env)?)),
+        Code::Bound(_, index) => Ok(Evaluated::Borrowed(bound_value(*index, &env)?)),
         Code::Plain(core) => plain_value(alloc, core, env),
-        Code::Use(_, number, by) => Ok(Evaluated::Borrowed(used_value(*number, *by, env)?)),
+        Code::Use(_, number, by) => Ok(Evaluated::Borrowed(used_value(*number, *by, &env)?)),
         Code::One(place, form, a) => value_of_one(alloc, place, *form, a, env),
         Code::Two(place, form, a, b) => value_of_two(alloc, place, *form, a, b, env),
         Code::Three(place, form, a, b, c) => value_of_three(alloc, place, *form, a, b, c, env),
@@ -62,6 +80,7 @@ pub(crate) fn value<'m: 'a, 'a>(
 
 /// The value of a code of any other form.
 #[cycle(evaluate)]
+#[inline(never)]
 fn value_of_other<'m: 'a, 'a>(
     alloc: Global,
     code: &'a Code<'m>,
@@ -96,7 +115,10 @@ pub(crate) fn truth<'m: 'a, 'a>(
     ensures { Answers truth result (value_in env.entry (code_in env.entry code.now)) }
 {
     if !is_logical(code) {
-        return known_truth(value(alloc, code, env)?.value());
+        return match held(alloc, code, &env) {
+            Some(value) => known_truth(value),
+            None => known_truth(value_of_form(alloc, code, env)?.value()),
+        };
     }
     match code {
         Code::Let(names, is_used, definition, body) => {

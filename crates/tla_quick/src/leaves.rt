@@ -1,5 +1,5 @@
 //! Names, variables, constants and uses of definitions.
-ghost use Rattle.std.specs.Prelude.{◌≡◌, ◌+◌, Ok, IfOk, OnOk, Some, false, get_or, map, option_map, slice_get};
+ghost use Rattle.std.specs.Prelude.{◌≡◌, ◌+◌, Ok, IfOk, OnOk, Some, IfSome, false, get_or, map, option_map, slice_get};
 ghost use Rattle.tla_value.specs.Tree.{truth};
 ghost use Rattle.tla_value.specs.TreeOf.{tree_of};
 ghost use Rattle.tla_core.specs.declared.fault.Place.{Place};
@@ -30,9 +30,10 @@ use tla_value::{State, Value};
 /// The value of a bound name.
 pub(crate) fn bound_value<'m: 'a, 'a>(
     index: usize,
-    env: Environment<'m, 'a>,
+    env: &Environment<'m, 'a>,
 ) -> Result<&'a Value, Stop>
-    ensures { IfOk result (λ v. get_or (bound_in env.entry) index (truth false) ≡ tree_of v.now) }
+    ensures { IfOk result (λ v.
+        get_or (bound_in env.entry.now) index (truth false) ≡ tree_of v.now) }
 {
     match bound_name(env.frame, index) {
         Some(value) => Ok(value),
@@ -72,11 +73,11 @@ fn next_value<'a>(next: &'a Partial, variable: usize) -> Result<&'a Value, Stop>
 pub(crate) fn used_value<'m: 'a, 'a>(
     number: usize,
     by: usize,
-    env: Environment<'m, 'a>,
+    env: &Environment<'m, 'a>,
 ) -> Result<&'a Value, Stop>
     ensures { (place : Place)
         → IfOk result (λ v.
-        value_in env.entry (used place by (slice_get (scope_in env.entry) number))
+        value_in env.entry.now (used place by (slice_get (scope_in env.entry.now) number))
         ≡ Ok (tree_of v.now)) }
 {
     match definition(env.frame, number) {
@@ -173,6 +174,19 @@ pub(crate) fn plain_value<'m: 'a, 'a>(
     }
 }
 
+/// The value of a constant or a variable.
+pub(crate) fn held_leaf<'m: 'a, 'a>(core: &'a Core, env: &Environment<'m, 'a>) -> Option<&'a Value>
+    ensures { IfSome result (λ v. value_in env.entry.now (expr_of core.now) ≡ Ok (tree_of v.now)) }
+{
+    match core {
+        Core::Constant(_, value) => Some(value),
+        Core::Now(_, variable) => now_value(env.now, *variable).ok(),
+        Core::Next(_, variable) => next_value(env.next, *variable).ok(),
+        Core::Literal(literal) => Some(literal.value()),
+        _ => None,
+    }
+}
+
 /// Whether a value is a member of an expression in which nothing is shared.
 pub(crate) fn plain_has<'m: 'a, 'a>(
     alloc: Global,
@@ -202,7 +216,7 @@ pub(crate) fn open_items<'m: 'a, 'a>(
 {
     let mut items = Vec::new(alloc);
     for opening in openings {
-        let element = bound_value(opening.name, env)?;
+        let element = bound_value(opening.name, &env)?;
         add_items(alloc, &mut items, fitting(opening.items, element)?)?;
     }
     Ok(items)

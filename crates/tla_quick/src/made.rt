@@ -1,5 +1,5 @@
 //! What forms make of values that are known.
-ghost use Rattle.std.specs.Prelude.{◌≡◌, ◌<◌, ◌+◌, ◌++◌, Ok, IfOk, OnOk, List, length, cond, map, slice_get};
+ghost use Rattle.std.specs.Prelude.{◌≡◌, ◌<◌, ◌+◌, ◌++◌, Ok, IfOk, IfSome, OnOk, List, length, cond, map, slice_get};
 ghost use Rattle.std.specs.Option.{option_to_list};
 ghost use Rattle.tla_value.specs.Tree.{Tree, truth, fun, pairs};
 ghost use Rattle.tla_value.specs.TreeOf.{tree_of, pair_of};
@@ -15,7 +15,8 @@ ghost use Rattle.tla_core.specs.Lists.{each};
 ghost use Rattle.tla_core.specs.Meaning.{Meaning, Bound, Present, Next, elements};
 ghost use Rattle.tla_core.specs.Value.{val, mem, means, mean_all};
 ghost use Rattle.tla_code.specs.Forms.{one_expr, two_expr, list_expr};
-ghost use Rattle.tla_code.specs.declared.code.TwoForm.TheVariants.{Operator as of_two};
+ghost use Rattle.tla_code.specs.declared.code.OneForm.TheVariants.{Field};
+ghost use Rattle.tla_code.specs.declared.code.TwoForm.TheVariants.{Apply, Operator as of_two};
 ghost use Rattle.tla_operators.specs.Evaluated.{tree_of_evaluated};
 ghost use Rattle.tla_sets.specs.Elements.{elements_of};
 ghost use Rattle.tla_quick.specs.Private.Answers.{Answers};
@@ -35,7 +36,7 @@ use tla_operators::sets::{
 };
 use tla_sets::asked::{set_has, two_have};
 use tla_sets::elements::{Elements, chosen_at, elements_of_two, into_values, keep_at, members_of};
-use tla_value::{FunValue, SetValue, Value, ValueError};
+use tla_value::{FunValue, SetValue, Text, Value, ValueError};
 
 /// An owned value: a borrowed one is copied.
 pub(crate) fn owned(alloc: Global, value: Evaluated<'_>) -> Result<Value, Stop>
@@ -120,6 +121,42 @@ pub(crate) fn made_of_two<'a>(
     match form {
         TwoForm::Apply => Ok(apply(alloc, place, left, right.value())?),
         _ => Ok(Evaluated::Owned(made_of_values(alloc, place, form, left.value(), right.value())?)),
+    }
+}
+
+/// The value of a function at an argument, borrowed from the function.
+pub(crate) fn held_at<'a>(
+    alloc: Global,
+    place: &Place,
+    function: &'a Value,
+    argument: &Value,
+) -> Option<&'a Value>
+    ensures { (e d : Expr) (b : Bound) (s : Present) (t : Next)
+        → val e b s t ≡ Ok (tree_of function.now)
+        → val d b s t ≡ Ok (tree_of argument.now)
+        → IfSome result (λ v. val (two_expr Apply place.now e d) b s t ≡ Ok (tree_of v.now)) }
+{
+    match apply(alloc, place, Evaluated::Borrowed(function), argument) {
+        Ok(Evaluated::Borrowed(value)) => Some(value),
+        _ => None,
+    }
+}
+
+/// The value of a record's field, borrowed from the record.
+pub(crate) fn held_field<'a>(
+    alloc: Global,
+    place: &Place,
+    name: &Text,
+    base: &'a Value,
+) -> Option<&'a Value>
+    ensures { (e : Expr) (b : Bound) (s : Present) (t : Next)
+        → val e b s t ≡ Ok (tree_of base.now)
+        → IfSome result (λ v.
+        val (one_expr (Field name.entry) place.now e) b s t ≡ Ok (tree_of v.now)) }
+{
+    match field(alloc, place, name, Evaluated::Borrowed(base)) {
+        Ok(Evaluated::Borrowed(value)) => Some(value),
+        _ => None,
     }
 }
 

@@ -1,7 +1,7 @@
 -- An environment: the values of the bound names and of the variables, and the definitions around an expression.
 use Rattle.std.specs.Prelude.{◌++◌, Bool, List, option_map}
 use Rattle.tla_value.specs.Tree.{Tree}
-use Rattle.tla_core.specs.Fault.{Outcome}
+use Rattle.tla_core.specs.Fault.{Outcome, ◌>>=◌}
 use Rattle.tla_core.specs.Expr.{Expr}
 use Rattle.tla_core.specs.Meaning.{Bound, Present, Next}
 use Rattle.tla_core.specs.Value.{val, mem}
@@ -31,6 +31,10 @@ value_in env e = val e (bound_in env) (present_in env) (next_in env)
 
 abbrev pub has_in : Environment → Tree → Expr → Outcome Bool
 has_in env v e = mem v e (bound_in env) (present_in env) (next_in env)
+
+-- whether the value of one expression is a member of another
+abbrev pub member_in : Environment → Expr → Expr → Outcome Bool
+member_in env e d = value_in env e >>= λ v. has_in env v d
 
 abbrev pub value_with : Environment → List Tree → Expr → Outcome Tree
 value_with env vs e = val e (bound_in env ++ vs) (present_in env) (next_in env)

@@ -23,6 +23,7 @@ use tla_value::Value;
 
 /// The value of a form with a list of operands.
 #[cycle(evaluate)]
+#[inline(never)]
 pub(super) fn value_of_list<'m: 'a, 'a>(
     alloc: Global,
     place: &'a Place,

@@ -1,17 +1,18 @@
 //! Truth values of forms.
-ghost use Rattle.std.specs.Prelude.{map};
+ghost use Rattle.std.specs.Prelude.{◌≡◌, Ok, map};
 ghost use Rattle.tla_value.specs.Tree.{truth};
 ghost use Rattle.tla_value.specs.TreeOf.{tree_of};
 ghost use Rattle.tla_core.specs.declared.fault.Place.{Place as AnyPlace};
 ghost use Rattle.tla_core.specs.Lists.{all_hold};
-ghost use Rattle.tla_core.specs.Expr.{conjunction, disjunction};
+ghost use Rattle.tla_core.specs.Expr.{Expr, conjunction, disjunction};
 ghost use Rattle.tla_code.specs.Forms.{one_expr, two_expr, three_expr, list_expr};
 ghost use Rattle.tla_code.specs.Private.Listed.{exprs_of_codes};
 ghost use Rattle.tla_quick.specs.Private.Answers.{Answers};
-ghost use Rattle.tla_quick.specs.Private.Environment.{code_in, value_in, has_in, scope_in};
+ghost use Rattle.tla_quick.specs.Private.Environment.{code_in, value_in, has_in, member_in, scope_in};
 
 use crate::environment::Environment;
-use crate::evaluation::{has, truth, value};
+use crate::evaluation::held::held;
+use crate::evaluation::{has, truth, value, value_of_form};
 use crate::made::{compared, known_members};
 use crate::stop::Stop;
 use std::alloc::Global;
@@ -62,23 +63,63 @@ pub(super) fn truth_of_two<'m: 'a, 'a>(
                 Ok(true)
             }
         }
-        TwoForm::Member => {
-            let element = value(alloc, left, env)?;
-            Ok(has(alloc, right, element.value(), env)?)
-        }
-        TwoForm::NotMember => {
-            let element = value(alloc, left, env)?;
-            Ok(!has(alloc, right, element.value(), env)?)
-        }
+        TwoForm::Member => is_member(alloc, left, right, env),
+        TwoForm::NotMember => Ok(!is_member(alloc, left, right, env)?),
         TwoForm::Subset => {
             let set = value(alloc, left, env)?;
             let members = known_members(set.value())?;
             Ok(has_all(alloc, right, members, env)?)
         }
-        _ => {
-            let left = value(alloc, left, env)?;
-            let right = value(alloc, right, env)?;
-            compared(place, form, left.value(), right.value())
+        _ => match held(alloc, left, &env) {
+            Some(value) => compared_with(alloc, place, form, value, right, env),
+            None => {
+                let left = value_of_form(alloc, left, env)?;
+                compared_with(alloc, place, form, left.value(), right, env)
+            }
+        },
+    }
+}
+
+/// Whether the value of a code is a member of another code.
+#[cycle(evaluate)]
+fn is_member<'m: 'a, 'a>(
+    alloc: Global,
+    left: &'a Code<'m>,
+    right: &'a Code<'m>,
+    env: Environment<'m, 'a>,
+) -> Result<bool, Stop>
+    ensures { Answers (λ b. b) result
+        (member_in env.entry (code_in env.entry left.now) (code_in env.entry right.now)) }
+{
+    match held(alloc, left, &env) {
+        Some(element) => has(alloc, right, element, env),
+        None => {
+            let element = value_of_form(alloc, left, env)?;
+            has(alloc, &*right, element.value(), env)
+        }
+    }
+}
+
+/// Whether a form that compares values is TRUE, where the left value is known.
+#[cycle(evaluate)]
+fn compared_with<'m: 'a, 'a>(
+    alloc: Global,
+    place: &'a Place,
+    form: TwoForm,
+    left: &Value,
+    right: &'a Code<'m>,
+    env: Environment<'m, 'a>,
+) -> Result<bool, Stop>
+    ensures { (e : Expr)
+        → value_in env.entry e ≡ Ok (tree_of left.now)
+        → Answers truth result
+        (value_in env.entry (two_expr form place.now e (code_in env.entry right.now))) }
+{
+    match held(alloc, right, &env) {
+        Some(value) => compared(place, form, left, value),
+        None => {
+            let right = value_of_form(alloc, right, env)?;
+            compared(place, form, left, right.value())
         }
     }
 }

@@ -16,6 +16,7 @@ use tla_operators::evaluated::Evaluated;
 
 /// The value of a form with one operand.
 #[cycle(evaluate)]
+#[inline(never)]
 pub(super) fn value_of_one<'m: 'a, 'a>(
     alloc: Global,
     place: &'a Place,
@@ -54,6 +55,7 @@ pub(super) fn value_of_two<'m: 'a, 'a>(
 
 /// The value of a form with three operands.
 #[cycle(evaluate)]
+#[inline(never)]
 pub(super) fn value_of_three<'m: 'a, 'a>(
     alloc: Global,
     place: &'a Place,

@@ -38,8 +38,8 @@ use Rattle.tla_quick.proofs.Forms.{same_answer, parts_more, parts_stop, parts_en
 use Rattle.tla_quick.proofs.evaluation.+evaluate.Goals as goal
 
 -- ---- forms with lists
-pub value-returns-in-List : goal.value-returns-in-List
-value-returns-in-List t c =
+pub value_of_form-returns-in-List : goal.value_of_form-returns-in-List
+value_of_form-returns-in-List t c =
     let n = c.in-List in
     let scope = scope_in c.args.env in
     let e = ap (expr_in scope) n.is ∙ list_in scope n.place n.form n.parts ∙ ap (λ us. list_expr n.form n.place (exprs_of_codes scope us)) (sym c.deref-in-List.ensures.value) in

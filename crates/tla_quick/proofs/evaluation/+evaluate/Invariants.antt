@@ -21,19 +21,22 @@ use Rattle.tla_quick.proofs.evaluation.+evaluate.Given as goal
 
 -- ---- how deep what is left is, and then which function comes before which
 abbrev pub decreases-value : goal.decreases-value
-decreases-value l = 2 ^ 66 * size-Code l.code.now + 1
+decreases-value l = 2 ^ 66 * size-Code l.code.now + 2
+
+abbrev pub decreases-value_of_form : goal.decreases-value_of_form
+decreases-value_of_form l = 2 ^ 66 * size-Code l.code.now + 1
 
 abbrev pub decreases-value_of_other : goal.decreases-value_of_other
 decreases-value_of_other l = 2 ^ 66 * size-Code l.code.now
 
 abbrev pub decreases-truth : goal.decreases-truth
-decreases-truth l = 2 ^ 66 * size-Code l.code.now + 2
+decreases-truth l = 2 ^ 66 * size-Code l.code.now + 3
 
 abbrev pub decreases-has : goal.decreases-has
-decreases-has l = 2 ^ 66 * size-Code l.code.now + 2
+decreases-has l = 2 ^ 66 * size-Code l.code.now + 3
 
 abbrev pub decreases-elements : goal.decreases-elements
-decreases-elements l = 2 ^ 66 * size-Code l.code.now + 2
+decreases-elements l = 2 ^ 66 * size-Code l.code.now + 3
 
 abbrev pub decreases-elements_of_two : goal.decreases-elements_of_two
 decreases-elements_of_two l = 2 ^ 66 * max (size-Code l.left.now) (size-Code l.right.now) + 22
@@ -52,6 +55,12 @@ decreases-logic::truth_of_one l = 2 ^ 66 * size-Code l.operand.now + 10
 
 abbrev pub decreases-logic::truth_of_two : goal.decreases-logic::truth_of_two
 decreases-logic::truth_of_two l = 2 ^ 66 * max (size-Code l.left.now) (size-Code l.right.now) + 20
+
+abbrev pub decreases-logic::is_member : goal.decreases-logic::is_member
+decreases-logic::is_member l = 2 ^ 66 * max (size-Code l.left.now) (size-Code l.right.now) + 12
+
+abbrev pub decreases-logic::compared_with : goal.decreases-logic::compared_with
+decreases-logic::compared_with l = 2 ^ 66 * size-Code l.right.now + 10
 
 abbrev pub decreases-logic::truth_of_three : goal.decreases-logic::truth_of_three
 decreases-logic::truth_of_three l = 2 ^ 66 * max (size-Code l.first.now) (max (size-Code l.second.now) (size-Code l.third.now)) + 10

@@ -7,5 +7,5 @@ use Rattle.tla_quick.proofs.leaves.bound_value.Goals as goal
 
 pub returns-in-Some : goal.returns-in-Some
 returns-in-Some c =
-    let env = c.args.env in
+    let env = c.args.env.now in
     sym (found_or (bound_in env) c.args.index (tree_of c.in-Some.value.now) (truth false) (c.in-Some.ensures (present_in env) (next_in env) env.knows))
