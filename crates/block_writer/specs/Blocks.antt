@@ -12,5 +12,5 @@ named_contents name known waits given = option_map
     (λ held. let all = held ++ waits in name ∷ (length all + (2 ^ 64 - 1 - given)) ∷ all) known
 
 abbrev pub blocks_contents : {T : Type 0} → (T → Option (List ℕ)) → Blocks T → Option (List ℕ)
-blocks_contents contents blocks =
-    named_contents blocks.out.ghost_name (contents blocks.out.now) (waiting blocks.block) blocks.block.given
+blocks_contents contents blocks = named_contents
+    blocks.out.ghost_name (contents blocks.out.now) (waiting blocks.block) blocks.block.given
