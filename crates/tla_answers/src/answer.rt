@@ -1,149 +1,151 @@
 //! Answers of a search.
 
-use crate::why::{tell_blocked, tell_reasons};
+use crate::why::{explain_blocked, explain_reasons};
 use crate::{faults, given, missed, notes};
 use tla_config::Source;
 use tla_core::Place;
-use tla_page::page::Page;
+use tla_page::output::Output;
 use tla_page::places::{Sources, core_place};
 use tla_page::units::put_assumption;
 use tla_report::Answered;
+use tla_traces::context::ExplainContext;
 use tla_traces::formulas::{Formula, formula_of};
-use tla_traces::models::Telling;
 use tla_traces::named::Named;
-use tla_traces::trace::tell as tell_trace;
+use tla_traces::trace::explain_trace;
 use tla_verdict::{Answer, Part};
 
 /// Explains an answer. If there is no error, it writes only notes.
-pub fn tell(page: &mut Page, sources: &Sources<'_>, answered: &Answered) {
+pub fn explain_answer(output: &mut Output, sources: &Sources<'_>, answered: &Answered) {
     match &answered.answer {
-        Answer::Limit { .. } => tell_limit(page, answered.limit),
-        _ => tell_found(page, sources, answered),
+        Answer::Limit { .. } => explain_limit(output, answered.limit),
+        _ => explain_with_model(output, sources, answered),
     }
 }
 
-fn tell_limit(page: &mut Page, limit: u64) {
-    page.put_text("more than ");
-    page.put_number(u128::from(limit));
-    page.put_text(" states: --max-states takes 1 to 16777216\n");
-    page.hint(&["where a variable grows without end, bound it by a CONSTRAINT"]);
+fn explain_limit(output: &mut Output, limit: u64) {
+    output.put_text("more than ");
+    output.put_number(u128::from(limit));
+    output.put_text(" states: --max-states takes 1 to 16777216\n");
+    output.hint(&["where a variable grows without end, bound it by a CONSTRAINT"]);
 }
 
-/// Tells an answer by what the two texts name.
-fn tell_found(page: &mut Page, sources: &Sources<'_>, answered: &Answered) {
-    let Some(named) = Named::read(page.alloc(), sources) else {
-        return page.refuse();
+/// Explains an answer by the model that the two texts denote.
+fn explain_with_model(output: &mut Output, sources: &Sources<'_>, answered: &Answered) {
+    let Some(named) = Named::read(output.alloc(), sources) else {
+        return output.refuse();
     };
-    let telling = named.telling(sources);
+    let context = named.context(sources);
     match &answered.answer {
-        Answer::NoError { counts } => notes::tell(page, &telling, counts),
+        Answer::NoError { counts } => notes::put_notes(output, &context, counts),
         _ => {
-            tell_wrong(page, &telling, answered);
-            missed::tell_of_trace(page, &telling, answered.answer.states());
-            tell_trace(page, &telling, answered);
+            explain_error(output, &context, answered);
+            missed::explain_missed_in_trace(output, &context, answered.answer.states());
+            explain_trace(output, &context, answered);
         }
     }
 }
 
-/// Tells what is wrong.
-fn tell_wrong(page: &mut Page, telling: &Telling<'_>, answered: &Answered) {
+/// Explains the error that an answer reports.
+fn explain_error(output: &mut Output, context: &ExplainContext<'_>, answered: &Answered) {
     match &answered.answer {
         Answer::InvariantFalse { invariant, .. } => {
-            match formula_of(page.alloc(), telling, Part::Invariant(*invariant)) {
-                Ok(Some(formula)) => tell_false(page, telling, answered, *invariant, &formula),
+            match formula_of(output.alloc(), context, Part::Invariant(*invariant)) {
+                Ok(Some(formula)) => explain_false_invariant(
+                    output, context, answered, *invariant, &formula,
+                ),
                 Ok(None) => {}
-                Err(_) => page.refuse(),
+                Err(_) => output.refuse(),
             }
         }
-        Answer::Deadlock { .. } => tell_deadlock(page, telling, answered),
+        Answer::Deadlock { .. } => explain_deadlock(output, context, answered),
         Answer::Faulted { fault, part, .. } => {
-            faults::tell(page, telling, answered, fault, *part);
+            faults::explain_fault(output, context, answered, fault, *part);
         }
-        Answer::AssumptionFalse { number } => tell_assumption(page, telling, *number),
+        Answer::AssumptionFalse { number } => explain_false_assumption(output, context, *number),
         Answer::NoError { .. } | Answer::Limit { .. } => {}
     }
 }
 
 /// Begins an explanation at a place of the module.
-pub fn begin_at(page: &mut Page, sources: &Sources<'_>, place: Option<Place>) {
+pub fn begin_at(output: &mut Output, sources: &Sources<'_>, place: Option<Place>) {
     match place {
-        Some(place) => page.put_place(sources, Source::Module, place),
-        None => page.put(&[sources.names.module, ": "]),
+        Some(place) => output.put_place(sources, Source::Module, place),
+        None => output.put(&[sources.names.module, ": "]),
     }
 }
 
 /// Ends an explanation at a place of the module, and shows the place.
-pub fn end_at(page: &mut Page, sources: &Sources<'_>, place: Option<Place>) {
-    page.put_text("\n");
+pub fn end_at(output: &mut Output, sources: &Sources<'_>, place: Option<Place>) {
+    output.put_text("\n");
     if let Some(place) = place {
-        page.show(sources, Source::Module, place);
+        output.show(sources, Source::Module, place);
     }
 }
 
-/// Tells that an invariant is FALSE, and why.
-fn tell_false(
-    page: &mut Page,
-    telling: &Telling<'_>,
+/// Explains why an invariant is FALSE.
+fn explain_false_invariant(
+    output: &mut Output,
+    context: &ExplainContext<'_>,
     answered: &Answered,
     invariant: usize,
     formula: &Formula<'_>,
 ) {
     let states = answered.answer.states();
     let Some(known) = formula.meant else {
-        given::begin(page, telling, formula);
-        put_false(page, formula, states.len());
-        given::end(page, telling, formula);
-        return given::hint(page, telling, formula);
+        given::begin(output, context, formula);
+        put_false(output, formula, states.len());
+        given::end(output, context, formula);
+        return given::hint(output, context, formula);
     };
     let place = Some(core_place(known.place));
-    begin_at(page, telling.sources, place);
-    put_false(page, formula, states.len());
-    end_at(page, telling.sources, place);
-    if let Some(predicate) = telling.model.invariants().get(invariant) {
-        tell_reasons(page, telling, "", &predicate.core, states.last());
+    begin_at(output, context.sources, place);
+    put_false(output, formula, states.len());
+    end_at(output, context.sources, place);
+    if let Some(predicate) = context.model.invariants().get(invariant) {
+        explain_reasons(output, context, "", &predicate.core, states.last());
     }
-    given::hint_meaning(page, telling, formula);
+    given::hint_meaning(output, context, formula);
 }
 
-fn put_false(page: &mut Page, formula: &Formula<'_>, count: usize) {
-    page.put(&["invariant '", formula.name, "' is false in state "]);
-    page.put_number(count as u128);
+fn put_false(output: &mut Output, formula: &Formula<'_>, count: usize) {
+    output.put(&["invariant '", formula.name, "' is false in state "]);
+    output.put_number(count as u128);
 }
 
-fn tell_deadlock(page: &mut Page, telling: &Telling<'_>, answered: &Answered) {
+fn explain_deadlock(output: &mut Output, context: &ExplainContext<'_>, answered: &Answered) {
     let states = answered.answer.states();
-    if let Some(formula) = given::formula_alone(page, telling, Part::NextAction) {
-        given::begin(page, telling, &formula);
-        put_deadlock(page, states.len());
-        given::end(page, telling, &formula);
-        return given::hint(page, telling, &formula);
+    if let Some(formula) = given::formula_alone(output, context, Part::NextAction) {
+        given::begin(output, context, &formula);
+        put_deadlock(output, states.len());
+        given::end(output, context, &formula);
+        return given::hint(output, context, &formula);
     }
-    let next = telling.model.next();
+    let next = context.model.next();
     let place = Some(next.place());
-    begin_at(page, telling.sources, place);
-    put_deadlock(page, states.len());
-    end_at(page, telling.sources, place);
-    tell_blocked(page, telling, "", next, states.last());
-    page.hint(&["CHECK_DEADLOCK FALSE in the configuration, if the specification may end there"]);
+    begin_at(output, context.sources, place);
+    put_deadlock(output, states.len());
+    end_at(output, context.sources, place);
+    explain_blocked(output, context, "", next, states.last());
+    output.hint(&["CHECK_DEADLOCK FALSE in the configuration, if the specification may end there"]);
 }
 
-fn put_deadlock(page: &mut Page, count: usize) {
-    page.put_text("deadlock: no step leads on from state ");
-    page.put_number(count as u128);
+fn put_deadlock(output: &mut Output, count: usize) {
+    output.put_text("deadlock: no step leads on from state ");
+    output.put_number(count as u128);
 }
 
-fn tell_assumption(page: &mut Page, telling: &Telling<'_>, number: u64) {
+fn explain_false_assumption(output: &mut Output, context: &ExplainContext<'_>, number: u64) {
     let index = number.saturating_sub(1) as usize;
-    let assumption = telling.model.assumptions().get(index);
+    let assumption = context.model.assumptions().get(index);
     let place = match assumption {
         Some(assumption) => Some(assumption.place()),
         None => None,
     };
-    begin_at(page, telling.sources, place);
-    put_assumption(page, telling.units, number);
-    page.put_text(" is false");
-    end_at(page, telling.sources, place);
+    begin_at(output, context.sources, place);
+    put_assumption(output, context.units, number);
+    output.put_text(" is false");
+    end_at(output, context.sources, place);
     if let Some(assumption) = assumption {
-        tell_reasons(page, telling, "", assumption, None);
+        explain_reasons(output, context, "", assumption, None);
     }
 }

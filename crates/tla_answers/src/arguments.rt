@@ -4,11 +4,11 @@ use crate::extents::text_of;
 use std::alloc::AllocError;
 use tla_core::Core;
 use tla_page::definitions::parameters_at;
-use tla_page::page::Page;
+use tla_page::output::Output;
 use tla_page::places::token_place;
 use tla_steps::Reason;
+use tla_traces::context::ExplainContext;
 use tla_traces::expressions::{expression_of, operand_of};
-use tla_traces::models::Telling;
 use tla_traces::signs::{sign_of, written_sign};
 use tla_tree::{Expr, Unit, Written};
 
@@ -22,14 +22,14 @@ struct Argument<'a, 'c> {
 /// Adds the arguments of the parameters in an expression, if they are written differently: `; r is r1`. An operand
 /// whose value is shown isn't shown again.
 pub(crate) fn put_arguments(
-    page: &mut Page,
-    telling: &Telling<'_>,
+    output: &mut Output,
+    context: &ExplainContext<'_>,
     expr: &Expr,
     reason: &Reason<'_>,
 ) {
-    let mut found = Vec::new(page.alloc());
+    let mut found = Vec::new(output.alloc());
     if gather(expr, reason.part, &mut found).is_err() {
-        return page.refuse();
+        return output.refuse();
     }
     for (index, argument) in found.iter().enumerate() {
         let name = argument.name;
@@ -37,8 +37,8 @@ pub(crate) fn put_arguments(
             .iter()
             .take(index)
             .all(|other| !is_same(other.name, name));
-        if is_new && is_parameter(telling.units, name) && !is_shown(expr, reason, name) {
-            put_argument(page, telling, argument);
+        if is_new && is_parameter(context.units, name) && !is_shown(expr, reason, name) {
+            put_argument(output, context, argument);
         }
     }
 }
@@ -55,21 +55,21 @@ fn is_same(name: &Written, other: &Written) -> bool {
     name.word.as_bytes() == other.word.as_bytes()
 }
 
-fn put_argument(page: &mut Page, telling: &Telling<'_>, argument: &Argument<'_, '_>) {
-    let Some(expr) = expression_of(telling.units, argument.core) else {
+fn put_argument(output: &mut Output, context: &ExplainContext<'_>, argument: &Argument<'_, '_>) {
+    let Some(expr) = expression_of(context.units, argument.core) else {
         return;
     };
-    match text_of(page.alloc(), telling.sources, telling.tokens, expr) {
+    match text_of(output.alloc(), context.sources, context.tokens, expr) {
         Ok(text) => {
             let name = argument.name.word.as_bytes();
             if text.as_slice() != name {
-                page.put_text("; ");
-                page.put_bytes(name);
-                page.put_text(" is ");
-                page.put_bytes(&text);
+                output.put_text("; ");
+                output.put_bytes(name);
+                output.put_text(" is ");
+                output.put_bytes(&text);
             }
         }
-        Err(_) => page.refuse(),
+        Err(_) => output.refuse(),
     }
 }
 

@@ -1,11 +1,11 @@
-//! What to write in place of a set without an end, and of a value that grows inwards.
+//! What to write in place of an infinite set, and of a value that nests deeper with each step.
 
 use crate::operands::Scene;
 use tla_core::{Core, Kind};
-use tla_page::page::Page;
+use tla_page::output::Output;
 
 /// Hints a finite set in place of one that can't be enumerated.
-pub(crate) fn hint_finite(page: &mut Page, scene: &Scene<'_, '_>) {
+pub(crate) fn hint_finite(output: &mut Output, scene: &Scene<'_, '_>) {
     let cure = match scene.node {
         Core::KindSet(_, Kind::Naturals) => {
             "write a range in place of Nat, as 0..3: each of its numbers is tried"
@@ -21,11 +21,11 @@ pub(crate) fn hint_finite(page: &mut Page, scene: &Scene<'_, '_>) {
         }
         _ => return,
     };
-    page.hint(&[cure]);
+    output.hint(&[cure]);
 }
 
 /// Hints what adds to a sequence or a set, where one is put into another.
-pub(crate) fn hint_flat(page: &mut Page, scene: &Scene<'_, '_>) {
+pub(crate) fn hint_flat(output: &mut Output, scene: &Scene<'_, '_>) {
     let cure = match scene.node {
         Core::Tuple(_, _) => {
             "<<s, e>> has s itself as an item: Append(s, e) adds e to s, and s \\o t joins two sequences"
@@ -33,5 +33,5 @@ pub(crate) fn hint_flat(page: &mut Page, scene: &Scene<'_, '_>) {
         Core::Enumerated(_, _) => { "{S, e} has S itself as an element: S \\cup {e} adds e to S" }
         _ => "each step puts the old value into the new one: keep its parts in a sequence or a set",
     };
-    page.hint(&[cure]);
+    output.hint(&[cure]);
 }

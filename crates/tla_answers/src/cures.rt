@@ -2,15 +2,15 @@
 
 use crate::kinds::{Wanted, wanted_of};
 use crate::operands::Scene;
-use crate::why::{put_expression, written};
+use crate::why::{operand_expr, put_expression};
 use std::alloc::{AllocError, Global};
 use tla_core::{Binary, Core, Unary};
 use tla_hints::meant;
-use tla_page::page::Page;
+use tla_page::output::Output;
 use tla_page::units::{Role, known_name, known_names, text_of};
 use tla_steps::Operand;
+use tla_traces::context::ExplainContext;
 use tla_traces::expressions::expression_at;
-use tla_traces::models::Telling;
 use tla_tree::{Expr, Field, Unit};
 use tla_value::{Arguments, FunValue, Value};
 
@@ -18,35 +18,39 @@ use tla_value::{Arguments, FunValue, Value};
 const LENGTHS: [&str; 4] = ["length", "Length", "len", "size"];
 
 /// Hints what was probably meant where an operand is of the wrong kind.
-pub(crate) fn hint_kind<'a>(page: &mut Page, telling: &Telling<'a>, scene: &Scene<'a, '_>) {
+pub(crate) fn hint_kind<'a>(
+    output: &mut Output,
+    context: &ExplainContext<'a>,
+    scene: &Scene<'a, '_>,
+) {
     let Some((operand, wanted)) = wrong_operand(scene) else {
         return;
     };
     if let Value::Model(name) = &operand.value
         && !matches!(operand.core, Core::Bound(_, _))
     {
-        return hint_model_value(page, telling, name.as_str(), wanted);
+        return hint_model_value(output, context, name.as_str(), wanted);
     }
     let meant = operator_meant(scene.node, scene.culprit.operands.as_slice());
     if !meant.is_empty() {
-        return page.hint(&["did you mean ", meant, " ?"]);
+        return output.hint(&["did you mean ", meant, " ?"]);
     }
-    let is_told = match scene.node {
+    let is_hinted = match scene.node {
         Core::Member(_, _, set) | Core::NotMember(_, _, set) => {
-            hint_member(page, telling, set, operand)
+            hint_member(output, context, set, operand)
         }
         Core::Cup(_, _, _) | Core::Cap(_, _, _) | Core::Minus(_, _, _) => {
-            hint_brackets(page, telling, scene, operand, ("{", "}"));
+            hint_brackets(output, context, scene, operand, ("{", "}"));
             true
         }
         Core::Binary(_, Binary::Concat, _, _) => {
-            hint_brackets(page, telling, scene, operand, ("<<", ">>"));
+            hint_brackets(output, context, scene, operand, ("<<", ">>"));
             true
         }
         _ => false,
     };
-    if !is_told && wanted == Wanted::Set {
-        hint_items(page, telling, scene, operand);
+    if !is_hinted && wanted == Wanted::Set {
+        hint_items(output, context, scene, operand);
     }
 }
 
@@ -63,30 +67,30 @@ pub(crate) fn wrong_operand<'c>(scene: &Scene<'_, 'c>) -> Option<(&'c Operand<'c
 }
 
 /// Hints at the configuration, if a model value is used as a number or a set.
-fn hint_model_value(page: &mut Page, telling: &Telling<'_>, name: &str, wanted: Wanted) {
-    let sources = telling.sources;
+fn hint_model_value(output: &mut Output, context: &ExplainContext<'_>, name: &str, wanted: Wanted) {
+    let sources = context.sources;
     let configuration = sources.names.configuration;
-    match is_definition(page.alloc(), telling.units, name) {
+    match is_definition(output.alloc(), context.units, name) {
         Ok(true) => {
-            page.put(&[
+            output.put(&[
                 "hint: = makes ",
                 name,
                 " a model value: write <- ",
                 name,
                 " in ",
             ]);
-            page.put(&[configuration, " for the definition\n"]);
+            output.put(&[configuration, " for the definition\n"]);
         }
         Ok(false) => {
-            page.put(&[
+            output.put(&[
                 "hint: ",
                 name,
                 " is a model value, equal to itself alone: write ",
             ]);
-            page.put(&[wanted.text(), " in its place in "]);
-            page.put(&[configuration, "\n"]);
+            output.put(&[wanted.text(), " in its place in "]);
+            output.put(&[configuration, "\n"]);
         }
-        Err(_) => page.refuse(),
+        Err(_) => output.refuse(),
     }
 }
 
@@ -101,17 +105,17 @@ fn is_definition(alloc: Global, units: &[Unit], name: &str) -> Result<bool, Allo
 
 /// Hints at the items of a function that is used as a set.
 fn hint_items<'a>(
-    page: &mut Page,
-    telling: &Telling<'a>,
+    output: &mut Output,
+    context: &ExplainContext<'a>,
     scene: &Scene<'a, '_>,
     operand: &Operand<'_>,
 ) {
     if !matches!(operand.value, Value::Fun(_)) {
         return;
     }
-    if let Some(Expr::Name(name)) = written(telling, scene.expr, operand) {
+    if let Some(Expr::Name(name)) = operand_expr(context, scene.expr, operand) {
         let name = text_of(name);
-        page.hint(&[
+        output.hint(&[
             "the values of ",
             name,
             " are {",
@@ -170,36 +174,41 @@ fn function_meant(operands: &[Operand<'_>]) -> &'static str {
 
 /// Hints what was meant if a record or a function is used as a set of functions or of records; false if it is something
 /// else.
-fn hint_member(page: &mut Page, telling: &Telling<'_>, set: &Core, operand: &Operand<'_>) -> bool {
-    match expression_at(telling.units, set.place(), "[ |-> ]") {
+fn hint_member(
+    output: &mut Output,
+    context: &ExplainContext<'_>,
+    set: &Core,
+    operand: &Operand<'_>,
+) -> bool {
+    match expression_at(context.units, set.place(), "[ |-> ]") {
         Some(Expr::Record(_, fields)) => {
-            hint_record(page, telling.units, fields);
+            hint_record(output, context.units, fields);
             return true;
         }
         Some(_) | None => {}
     }
-    if expression_at(telling.units, set.place(), "[ \\in |-> ]").is_none() {
+    if expression_at(context.units, set.place(), "[ \\in |-> ]").is_none() {
         return false;
     }
     match &operand.value {
-        Value::Fun(function) if has_sets(function) => page.hint(&[
+        Value::Fun(function) if has_sets(function) => output.hint(&[
             "did you mean -> ? [S -> T] is the set of functions from S to T",
         ]),
-        _ => page.hint(&["did you mean = in place of \\in ?"]),
+        _ => output.hint(&["did you mean = in place of \\in ?"]),
     }
     true
 }
 
 /// Hints `->` where the only field has the name of a set, and else `:`.
-fn hint_record(page: &mut Page, units: &[Unit], fields: &[Field]) {
-    match is_known(page.alloc(), units, fields) {
-        Ok(true) => page.hint(&[
+fn hint_record(output: &mut Output, units: &[Unit], fields: &[Field]) {
+    match is_known(output.alloc(), units, fields) {
+        Ok(true) => output.hint(&[
             "did you mean -> in place of |-> ? [S -> T] is the set of functions from S to T",
         ]),
-        Ok(false) => page.hint(&[
+        Ok(false) => output.hint(&[
             "did you mean : in place of |-> ? [a : S, b : T] is a set of records",
         ]),
-        Err(_) => page.refuse(),
+        Err(_) => output.refuse(),
     }
 }
 
@@ -219,21 +228,21 @@ fn has_sets(function: &FunValue) -> bool {
 
 /// Hints brackets round an element.
 fn hint_brackets<'a>(
-    page: &mut Page,
-    telling: &Telling<'a>,
+    output: &mut Output,
+    context: &ExplainContext<'a>,
     scene: &Scene<'a, '_>,
     operand: &Operand<'_>,
     brackets: (&str, &str),
 ) {
-    if let Some(expr) = written(telling, scene.expr, operand) {
-        page.put(&["hint: did you mean ", brackets.0]);
-        put_expression(page, telling, expr);
-        page.put(&[brackets.1, " ?\n"]);
+    if let Some(expr) = operand_expr(context, scene.expr, operand) {
+        output.put(&["hint: did you mean ", brackets.0]);
+        put_expression(output, context, expr);
+        output.put(&[brackets.1, " ?\n"]);
     }
 }
 
 /// Hints the field that was probably meant.
-pub(crate) fn hint_field(page: &mut Page, scene: &Scene<'_, '_>) {
+pub(crate) fn hint_field(output: &mut Output, scene: &Scene<'_, '_>) {
     let Core::Field(_, name, _) = scene.node else {
         return;
     };
@@ -241,10 +250,10 @@ pub(crate) fn hint_field(page: &mut Page, scene: &Scene<'_, '_>) {
         if let Value::Fun(function) = &operand.value
             && let Arguments::Listed(keys) = function.arguments()
         {
-            hint_near(page, name.as_str(), keys);
+            hint_near(output, name.as_str(), keys);
         }
         if is_sequence(&operand.value) && LENGTHS.contains(&name.as_str()) {
-            page.hint(&["write Len(s) for the length of a sequence"]);
+            output.hint(&["write Len(s) for the length of a sequence"]);
         }
     }
 }
@@ -256,11 +265,11 @@ fn is_sequence(value: &Value) -> bool {
     }
 }
 
-fn hint_near(page: &mut Page, name: &str, keys: &[Value]) {
-    match near_key(page.alloc(), name, keys) {
-        Ok(Some(near)) => page.hint(&["did you mean ", near, "?"]),
+fn hint_near(output: &mut Output, name: &str, keys: &[Value]) {
+    match near_key(output.alloc(), name, keys) {
+        Ok(Some(near)) => output.hint(&["did you mean ", near, "?"]),
         Ok(None) => {}
-        Err(_) => page.refuse(),
+        Err(_) => output.refuse(),
     }
 }
 

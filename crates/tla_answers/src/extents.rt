@@ -6,7 +6,7 @@ use tla_lex::{Place, Token};
 use tla_page::places::Sources;
 use tla_tree::{Arm, Expr, slice_of};
 
-/// Behind how many bytes the text of an expression is cut.
+/// The length in bytes after which the text of an expression is cut.
 const LONGEST_TEXT: usize = 80;
 
 /// The number of the token at which an expression begins.
@@ -28,10 +28,16 @@ pub(crate) fn last_token(tokens: &[Token], expr: &Expr) -> Option<usize> {
         | Expr::Constant(place, _)
         | Expr::At(place) => token_at(tokens, *place),
         Expr::Field(_, _, name) => token_at(tokens, name.place),
-        Expr::Call(name, _) => closing_of(tokens, after(token_at(tokens, name.place))),
-        Expr::Index(_, function, _) => closing_of(tokens, after(last_token(tokens, function))),
-        Expr::Fair(_, _, subscript, _) => closing_of(tokens, after(last_token(tokens, subscript))),
-        Expr::Prime(_, inner) => after(last_token(tokens, inner)),
+        Expr::Call(name, _) => closing_of(tokens, number_after(token_at(tokens, name.place))),
+        Expr::Index(_, function, _) => closing_of(
+            tokens,
+            number_after(last_token(tokens, function)),
+        ),
+        Expr::Fair(_, _, subscript, _) => closing_of(
+            tokens,
+            number_after(last_token(tokens, subscript)),
+        ),
+        Expr::Prime(_, inner) => number_after(last_token(tokens, inner)),
         Expr::Unary(_, _, last)
         | Expr::Binary(_, _, _, _, last)
         | Expr::Quantified(_, _, _, last)
@@ -67,7 +73,7 @@ fn last_of_arms(tokens: &[Token], arms: &[Arm]) -> Option<usize> {
 }
 
 /// The number after a token's.
-fn after(number: Option<usize>) -> Option<usize> {
+fn number_after(number: Option<usize>) -> Option<usize> {
     match number {
         Some(number) => number.checked_add(1),
         None => None,

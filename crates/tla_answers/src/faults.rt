@@ -1,78 +1,84 @@
 //! Faults of evaluation.
 
 use crate::answer::{begin_at, end_at};
-use crate::operands::tell_operands;
+use crate::operands::explain_operands;
 use crate::{given, lacking};
 use tla_core::{Fault, FaultCode, Place};
 use tla_lex::{Kind, Token};
 use tla_page::definitions::definition_at;
-use tla_page::page::Page;
+use tla_page::output::Output;
 use tla_page::places::{token_place, word};
 use tla_page::units::put_assumption;
 use tla_page::values::put_state;
 use tla_report::Answered;
-use tla_traces::models::Telling;
+use tla_traces::context::ExplainContext;
 use tla_value::Text;
 use tla_verdict::Part;
 
-/// Tells a fault: where it is, in which definitions, and what values the variables had.
-pub(crate) fn tell(
-    page: &mut Page,
-    telling: &Telling<'_>,
+/// Explains a fault: where it is, in which definitions, and what values the variables had.
+pub(crate) fn explain_fault(
+    output: &mut Output,
+    context: &ExplainContext<'_>,
     answered: &Answered,
     fault: &Fault,
     part: Part,
 ) {
-    if given::tell(page, telling, fault, part) {
+    if given::explain_fault(output, context, fault, part) {
         return;
     }
     match fault.variable {
-        Some(variable) => lacking::tell(page, telling, answered, part, variable),
-        None => tell_at_place(page, telling, answered, fault, part),
+        Some(variable) => lacking::explain_unset(output, context, answered, part, variable),
+        None => explain_at_place(output, context, answered, fault, part),
     }
-    tell_values(page, answered);
+    put_fault_state(output, answered);
 }
 
-/// Tells a fault of the expression at a place.
-fn tell_at_place(
-    page: &mut Page,
-    telling: &Telling<'_>,
+/// Explains a fault of the expression at a place.
+fn explain_at_place(
+    output: &mut Output,
+    context: &ExplainContext<'_>,
     answered: &Answered,
     fault: &Fault,
     part: Part,
 ) {
-    begin_at(page, telling.sources, fault.place);
-    page.put(&[code_title(fault.code), " (", fault.code.name(), "), in "]);
-    put_part_name(page, telling, answered, part);
-    end_at(page, telling.sources, fault.place);
-    tell_operands(page, telling, fault, part, answered.answer.states().last());
+    begin_at(output, context.sources, fault.place);
+    output.put(&[code_title(fault.code), " (", fault.code.name(), "), in "]);
+    put_part_name(output, context, answered, part);
+    end_at(output, context.sources, fault.place);
+    explain_operands(
+        output,
+        context,
+        fault,
+        part,
+        answered.answer.states().last(),
+    );
     if let Some(place) = fault.place {
-        tell_definitions(page, telling, place);
+        put_definitions(output, context, place);
     }
 }
 
 /// Adds the name of the part in which the fault occurred.
 pub(crate) fn put_part_name(
-    page: &mut Page,
-    telling: &Telling<'_>,
+    output: &mut Output,
+    context: &ExplainContext<'_>,
     answered: &Answered,
     part: Part,
 ) {
     match part {
-        Part::Assumption(number) => put_assumption(page, telling.units, number),
-        Part::Initial => page.put_text("the initial predicate"),
-        Part::NextAction => page.put_text("the next-state action"),
+        Part::Assumption(number) => put_assumption(output, context.units, number),
+        Part::Initial => output.put_text("the initial predicate"),
+        Part::NextAction => output.put_text("the next-state action"),
         Part::Invariant(index) => {
-            put_named(page, "invariant", answered.invariants.as_slice(), index);
+            put_named(output, "invariant", answered.invariants.as_slice(), index);
         }
         Part::Constraint(index) => {
-            put_named(page, "constraint", answered.constraints.as_slice(), index);
+            put_named(output, "constraint", answered.constraints.as_slice(), index);
         }
     }
 }
 
-pub(crate) fn put_named(page: &mut Page, kind: &str, names: &[Text], index: usize) {
-    page.put(&[kind, " '", name_at(names, index), "'"]);
+pub(crate) fn put_named(output: &mut Output, kind: &str, names: &[Text], index: usize) {
+    output.put(&[kind, " '", name_at(names, index), "'"]);
 }
 
 pub(crate) fn name_at(names: &[Text], index: usize) -> &str {
@@ -104,36 +110,36 @@ fn code_title(code: FaultCode) -> &'static str {
 }
 
 /// Names the definitions that have a place in them.
-fn tell_definitions(page: &mut Page, telling: &Telling<'_>, place: Place) {
-    let units = telling.units;
+fn put_definitions(output: &mut Output, context: &ExplainContext<'_>, place: Place) {
+    let units = context.units;
     let mut name = definition_at(units, token_place(place));
     if name.is_empty() {
         return;
     }
-    page.put(&["in the definition of ", name]);
+    output.put(&["in the definition of ", name]);
     for _ in 0..units.len() {
-        let Some(user) = put_users(page, telling, name) else {
+        let Some(user) = put_users(output, context, name) else {
             break;
         };
         name = user;
     }
-    page.put_text("\n");
+    output.put_text("\n");
 }
 
 /// Adds the definitions that use a name, in the order of the text, except its own. Returns the only one of them.
-fn put_users<'a>(page: &mut Page, telling: &Telling<'a>, name: &str) -> Option<&'a str> {
+fn put_users<'a>(output: &mut Output, context: &ExplainContext<'a>, name: &str) -> Option<&'a str> {
     let mut last = "";
     let mut only = None;
-    for token in telling.tokens {
-        let user = user_at(telling, token, name);
+    for token in context.tokens {
+        let user = user_at(context, token, name);
         if user.is_empty() || user == name || user == last {
             continue;
         }
         if last.is_empty() {
-            page.put(&[", used by ", user]);
+            output.put(&[", used by ", user]);
             only = Some(user);
         } else {
-            page.put(&[" and ", user]);
+            output.put(&[" and ", user]);
             only = None;
         }
         last = user;
@@ -142,21 +148,21 @@ fn put_users<'a>(page: &mut Page, telling: &Telling<'a>, name: &str) -> Option<&
 }
 
 /// The definition in which a token uses a name; no text where it is another token.
-fn user_at<'a>(telling: &Telling<'a>, token: &Token, name: &str) -> &'a str {
-    if token.kind == Kind::Name && word(telling.sources.module, token) == name {
-        definition_at(telling.units, token.place)
+fn user_at<'a>(context: &ExplainContext<'a>, token: &Token, name: &str) -> &'a str {
+    if token.kind == Kind::Name && word(context.sources.module, token) == name {
+        definition_at(context.units, token.place)
     } else {
         ""
     }
 }
 
 /// Adds the values of the variables at which the fault occurred.
-fn tell_values(page: &mut Page, answered: &Answered) {
+fn put_fault_state(output: &mut Output, answered: &Answered) {
     let states = answered.answer.states();
     if let Some(last) = states.last() {
-        page.put_text("met in state ");
-        page.put_number(states.len() as u128);
-        page.put_text(":\n");
-        put_state(page, answered.variables.as_slice(), last);
+        output.put_text("met in state ");
+        output.put_number(states.len() as u128);
+        output.put_text(":\n");
+        put_state(output, answered.variables.as_slice(), last);
     }
 }

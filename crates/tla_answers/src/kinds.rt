@@ -1,7 +1,7 @@
 //! What kinds of values operands have to be, and what they are.
 
 use tla_core::{Binary, Core, Unary};
-use tla_page::page::Page;
+use tla_page::output::Output;
 use tla_value::{Arguments, FunValue, Value};
 
 /// A kind of value that an operand has to be.
@@ -102,8 +102,8 @@ fn wanted_of_binary(operator: Binary, number: usize) -> Option<Wanted> {
 }
 
 /// Adds a value with its kind: `the set {1, 2}`.
-pub(crate) fn put_kind(page: &mut Page, value: &Value) {
-    page.put_text(match value {
+pub(crate) fn put_kind(output: &mut Output, value: &Value) {
+    output.put_text(match value {
         Value::Truth(_) => "",
         Value::Int(_) => "the number ",
         Value::Text(_) => "the string ",
@@ -114,7 +114,7 @@ pub(crate) fn put_kind(page: &mut Page, value: &Value) {
         Value::Fun(function) if is_record(function) => "the record ",
         Value::Fun(_) => "the function ",
     });
-    page.put_value(value);
+    output.put_value(value);
 }
 
 /// Whether each argument of a function is a string, and there is one.
@@ -128,30 +128,33 @@ pub(crate) fn is_record(function: &FunValue) -> bool {
 }
 
 /// Adds the fields of a record.
-pub(crate) fn put_fields(page: &mut Page, function: &FunValue) {
+pub(crate) fn put_fields(output: &mut Output, function: &FunValue) {
     let Arguments::Listed(keys) = function.arguments() else {
         return;
     };
     for (index, key) in keys.iter().enumerate() {
         if let Value::Text(name) = key {
-            page.put(&[if index > 0 { ", " } else { "" }, name.as_str()]);
+            output.put(&[if index > 0 { ", " } else { "" }, name.as_str()]);
         }
     }
 }
 
 /// Adds the domain of a function.
-pub(crate) fn put_domain(page: &mut Page, function: &FunValue) {
+pub(crate) fn put_domain(output: &mut Output, function: &FunValue) {
     match function.arguments() {
-        Arguments::Numbers(first) if function.len() == 1 => put_listed(page, &[Value::Int(first)]),
+        Arguments::Numbers(first) if function.len() == 1 => put_listed(
+            output,
+            &[Value::Int(first)],
+        ),
         Arguments::Numbers(first) => {
             let more = i64::try_from(function.len())
                 .unwrap_or(i64::MAX)
                 .saturating_sub(1);
-            page.put_value(&Value::Int(first));
-            page.put_text("..");
-            page.put_value(&Value::Int(first.saturating_add(more)));
+            output.put_value(&Value::Int(first));
+            output.put_text("..");
+            output.put_value(&Value::Int(first.saturating_add(more)));
         }
-        Arguments::Listed(keys) => put_listed(page, keys),
+        Arguments::Listed(keys) => put_listed(output, keys),
     }
 }
 
@@ -159,11 +162,11 @@ pub(crate) fn put_domain(page: &mut Page, function: &FunValue) {
 const MOST_KEYS: usize = 20;
 
 /// Adds a set of these values.
-fn put_listed(page: &mut Page, keys: &[Value]) {
-    page.put_text("{");
+fn put_listed(output: &mut Output, keys: &[Value]) {
+    output.put_text("{");
     for (index, key) in keys.iter().take(MOST_KEYS).enumerate() {
-        page.put_text(if index > 0 { ", " } else { "" });
-        page.put_value(key);
+        output.put_text(if index > 0 { ", " } else { "" });
+        output.put_value(key);
     }
-    page.put_text(if keys.len() > MOST_KEYS { ", ..}" } else { "}" });
+    output.put_text(if keys.len() > MOST_KEYS { ", ..}" } else { "}" });
 }

@@ -4,12 +4,12 @@ use crate::answer::{begin_at, end_at};
 use crate::faults::{name_at, put_named, put_part_name};
 use crate::why::put_expression;
 use tla_core::{Core, FaultCode, Place};
-use tla_page::page::Page;
+use tla_page::output::Output;
 use tla_report::Answered;
 use tla_steps::{LackingPart, lacking_part, lacking_parts};
 use tla_traces::binders::put_choices;
+use tla_traces::context::ExplainContext;
 use tla_traces::expressions::expression_of;
-use tla_traces::models::Telling;
 use tla_traces::trace::put_part;
 use tla_value::State;
 use tla_verdict::Part;
@@ -17,33 +17,33 @@ use tla_verdict::Part;
 /// How many expressions are evaluated to find the part.
 const BUDGET: u64 = 300_000;
 
-/// Tells which part leaves a variable without a value, and what to write.
-pub(crate) fn tell(
-    page: &mut Page,
-    telling: &Telling<'_>,
+/// Explains which part leaves a variable without a value, and what to write.
+pub(crate) fn explain_unset(
+    output: &mut Output,
+    context: &ExplainContext<'_>,
     answered: &Answered,
     part: Part,
     variable: usize,
 ) {
-    let action = action_of(telling, part);
+    let action = action_of(context, part);
     let state = answered.answer.states().last();
-    let found = found_part(page, telling, action, variable, state);
+    let found = found_part(output, context, action, variable, state);
     let place = match &found {
         Some(found) => Some(found.part.place()),
         None => Some(action.place()),
     };
     let names = answered.variables.as_slice();
-    begin_at(page, telling.sources, place);
-    put_named(page, "variable", names, variable);
-    page.put(&[
+    begin_at(output, context.sources, place);
+    put_named(output, "variable", names, variable);
+    output.put(&[
         " is left without a value (",
         FaultCode::Lacking.name(),
         "), in ",
     ]);
-    put_part_name(page, telling, answered, part);
-    end_at(page, telling.sources, place);
+    put_part_name(output, context, answered, part);
+    end_at(output, context.sources, place);
     if found.is_none() {
-        page.put_rule(FaultCode::Lacking.name());
+        output.put_rule(FaultCode::Lacking.name());
     }
     let lack = Lack {
         action,
@@ -51,7 +51,7 @@ pub(crate) fn tell(
         name: name_at(names, variable),
         is_initial: matches!(part, Part::Initial),
     };
-    tell_parts(page, telling, &lack, found.as_ref());
+    explain_parts(output, context, &lack, found.as_ref());
 }
 
 /// A variable that an action leaves without a value.
@@ -63,93 +63,93 @@ struct Lack<'a> {
     is_initial: bool,
 }
 
-/// What is read.
-fn action_of<'a>(telling: &Telling<'a>, part: Part) -> &'a Core {
+/// The initial predicate, or the next-state action.
+fn action_of<'a>(context: &ExplainContext<'a>, part: Part) -> &'a Core {
     match part {
-        Part::Initial => telling.model.init(),
-        _ => telling.model.next(),
+        Part::Initial => context.model.init(),
+        _ => context.model.next(),
     }
 }
 
 /// The first part that leaves the variable without a value.
 fn found_part<'a>(
-    page: &mut Page,
-    telling: &Telling<'_>,
+    output: &mut Output,
+    context: &ExplainContext<'_>,
     action: &'a Core,
     variable: usize,
     state: Option<&State>,
 ) -> Option<LackingPart<'a>> {
-    let variables = telling.model.variables().len();
-    match lacking_part(page.alloc(), action, variable, variables, state, BUDGET) {
+    let variables = context.model.variables().len();
+    match lacking_part(output.alloc(), action, variable, variables, state, BUDGET) {
         Ok(found) => found,
         Err(_) => {
-            page.refuse();
+            output.refuse();
             None
         }
     }
 }
 
-/// Tells the part that was found, and the others that may leave the variable without a value.
-fn tell_parts(
-    page: &mut Page,
-    telling: &Telling<'_>,
+/// Explains the part that was found, and names the others that may leave the variable without a value.
+fn explain_parts(
+    output: &mut Output,
+    context: &ExplainContext<'_>,
     lack: &Lack<'_>,
     found: Option<&LackingPart<'_>>,
 ) {
     if let Some(found) = found {
-        put_lack(page, telling, lack, found.part.place());
+        put_lack(output, context, lack, found.part.place());
         if !found.chosen.is_empty() {
-            page.put_text(" ");
-            put_choices(page, telling, &found.chosen);
+            output.put_text(" ");
+            put_choices(output, context, &found.chosen);
         }
-        put_cure(page, lack);
+        put_cure(output, lack);
         if !lack.is_initial {
-            hint_prime(page, telling, lack, found.part);
+            hint_prime(output, context, lack, found.part);
         }
     }
-    match lacking_parts(page.alloc(), lack.action, lack.variable) {
-        Ok(places) => tell_others(page, telling, lack, found, &places),
-        Err(_) => page.refuse(),
+    match lacking_parts(output.alloc(), lack.action, lack.variable) {
+        Ok(places) => explain_other_parts(output, context, lack, found, &places),
+        Err(_) => output.refuse(),
     }
 }
 
-fn tell_others(
-    page: &mut Page,
-    telling: &Telling<'_>,
+fn explain_other_parts(
+    output: &mut Output,
+    context: &ExplainContext<'_>,
     lack: &Lack<'_>,
     found: Option<&LackingPart<'_>>,
     places: &[Place],
 ) {
     for place in places {
         if found.is_none_or(|found| found.part.place() != *place) {
-            put_lack(page, telling, lack, *place);
-            put_cure(page, lack);
+            put_lack(output, context, lack, *place);
+            put_cure(output, lack);
         }
     }
 }
 
-fn put_lack(page: &mut Page, telling: &Telling<'_>, lack: &Lack<'_>, place: Place) {
-    page.put(&["no value for ", lack.name, " in "]);
-    put_part(page, telling, place);
+fn put_lack(output: &mut Output, context: &ExplainContext<'_>, lack: &Lack<'_>, place: Place) {
+    output.put(&["no value for ", lack.name, " in "]);
+    put_part(output, context, place);
 }
 
-fn put_cure(page: &mut Page, lack: &Lack<'_>) {
+fn put_cure(output: &mut Output, lack: &Lack<'_>) {
     if lack.is_initial {
-        page.put(&[": write ", lack.name, " = .. or ", lack.name, " \\in ..\n"]);
+        output.put(&[": write ", lack.name, " = .. or ", lack.name, " \\in ..\n"]);
     } else {
-        page.put(&[": write UNCHANGED ", lack.name, "\n"]);
+        output.put(&[": write UNCHANGED ", lack.name, "\n"]);
     }
 }
 
 /// Hints at a prime, if a conjunct after the first one that sets a variable compares the one that has no value.
-fn hint_prime(page: &mut Page, telling: &Telling<'_>, lack: &Lack<'_>, part: &Core) {
+fn hint_prime(output: &mut Output, context: &ExplainContext<'_>, lack: &Lack<'_>, part: &Core) {
     let Core::Conjunction(_, parts) = part else {
         return;
     };
     let mut sets = false;
     for part in parts {
         if sets && compares(part, lack.variable) {
-            return put_prime_hint(page, telling, lack.name, part);
+            return put_prime_hint(output, context, lack.name, part);
         }
         sets = sets || part.is_primed();
     }
@@ -165,11 +165,11 @@ fn compares(part: &Core, variable: usize) -> bool {
     }
 }
 
-fn put_prime_hint(page: &mut Page, telling: &Telling<'_>, name: &str, part: &Core) {
-    page.put_text("hint: ");
-    match expression_of(telling.units, part) {
-        Some(expr) => put_expression(page, telling, expr),
-        None => page.put_text("a conjunct"),
+fn put_prime_hint(output: &mut Output, context: &ExplainContext<'_>, name: &str, part: &Core) {
+    output.put_text("hint: ");
+    match expression_of(context.units, part) {
+        Some(expr) => put_expression(output, context, expr),
+        None => output.put_text("a conjunct"),
     }
-    page.put(&[" is about the present value: did you mean ", name, "' ?\n"]);
+    output.put(&[" is about the present value: did you mean ", name, "' ?\n"]);
 }

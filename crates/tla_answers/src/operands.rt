@@ -6,13 +6,13 @@ use crate::cures::{hint_field, hint_kind, wrong_operand};
 use crate::extents::text_of;
 use crate::kinds::{Wanted, is_record, put_domain, put_fields, put_kind};
 use crate::unset::hint_next;
-use crate::why::{put_expression, put_operands, written};
+use crate::why::{operand_expr, put_expression, put_operands};
 use tla_core::{Binary, Core, Fault, FaultCode};
-use tla_page::page::Page;
+use tla_page::output::Output;
 use tla_steps::{Culprit, Operand, culprit_in, culprit_of_reading};
 use tla_traces::binders::put_choices;
+use tla_traces::context::ExplainContext;
 use tla_traces::expressions::expression_of;
-use tla_traces::models::Telling;
 use tla_traces::signs::sign_of;
 use tla_tree::Expr;
 use tla_value::{State, Value};
@@ -30,38 +30,37 @@ pub(crate) struct Scene<'a, 'c> {
     pub(crate) is_initial: bool,
 }
 
-/// Tells what the operands were where a formula faults, and the values of the names that are bound
-/// there.
-pub(crate) fn tell_operands(
-    page: &mut Page,
-    telling: &Telling<'_>,
+/// Adds the operands where a formula faults, and the values of the names that are bound there.
+pub(crate) fn explain_operands(
+    output: &mut Output,
+    context: &ExplainContext<'_>,
     fault: &Fault,
     part: Part,
     state: Option<&State>,
 ) {
-    let model = telling.model;
-    let alloc = page.alloc();
+    let model = context.model;
+    let alloc = output.alloc();
     let variables = model.variables().len();
     let found = match part {
         Part::Initial => { culprit_of_reading(alloc, model.init(), fault, variables, None, BUDGET) }
         Part::NextAction => {
             culprit_of_reading(alloc, model.next(), fault, variables, state, BUDGET)
         }
-        _ => match predicate_of(telling, part) {
+        _ => match predicate_of(context, part) {
             Some(predicate) => culprit_in(alloc, predicate, fault, state, BUDGET),
             None => Ok(None),
         },
     };
     match found {
-        Ok(Some(culprit)) => tell_culprit(page, telling, fault.code, &culprit, part),
-        Ok(None) => page.put_rule(fault.code.name()),
-        Err(_) => page.refuse(),
+        Ok(Some(culprit)) => explain_culprit(output, context, fault.code, &culprit, part),
+        Ok(None) => output.put_rule(fault.code.name()),
+        Err(_) => output.refuse(),
     }
 }
 
 /// The expression of an assumption, an invariant or a constraint.
-fn predicate_of<'a>(telling: &Telling<'a>, part: Part) -> Option<&'a Core> {
-    let model = telling.model;
+fn predicate_of<'a>(context: &ExplainContext<'a>, part: Part) -> Option<&'a Core> {
+    let model = context.model;
     match part {
         Part::Assumption(number) => { model.assumptions().get(number.saturating_sub(1) as usize) }
         Part::Invariant(index) => match model.invariants().get(index) {
@@ -76,36 +75,36 @@ fn predicate_of<'a>(telling: &Telling<'a>, part: Part) -> Option<&'a Core> {
     }
 }
 
-fn tell_culprit(
-    page: &mut Page,
-    telling: &Telling<'_>,
+fn explain_culprit(
+    output: &mut Output,
+    context: &ExplainContext<'_>,
     code: FaultCode,
     culprit: &Culprit<'_>,
     part: Part,
 ) {
     let Some(&node) = culprit.nodes.last() else {
-        return page.put_rule(code.name());
+        return output.put_rule(code.name());
     };
     let scene = Scene {
         node,
-        expr: expression_of(telling.units, node),
+        expr: expression_of(context.units, node),
         culprit,
         is_initial: matches!(part, Part::Initial),
     };
     if !has_own_text(code, &scene) {
-        page.put_rule(code.name());
+        output.put_rule(code.name());
     }
-    tell_cause(page, telling, code, &scene);
+    explain_cause(output, context, code, &scene);
     if !culprit.chosen.is_empty() && misfit(&scene).is_none() {
-        put_choices(page, telling, &culprit.chosen);
-        page.put_text("\n");
+        put_choices(output, context, &culprit.chosen);
+        output.put_text("\n");
     }
     match code {
-        FaultCode::WrongKind => hint_kind(page, telling, &scene),
-        FaultCode::NotSet => hint_next(page, telling, &scene),
-        FaultCode::NoField => hint_field(page, &scene),
-        FaultCode::Endless => hint_finite(page, &scene),
-        FaultCode::TooDeep => hint_flat(page, &scene),
+        FaultCode::WrongKind => hint_kind(output, context, &scene),
+        FaultCode::NotSet => hint_next(output, context, &scene),
+        FaultCode::NoField => hint_field(output, &scene),
+        FaultCode::Endless => hint_finite(output, &scene),
+        FaultCode::TooDeep => hint_flat(output, &scene),
         _ => {}
     }
 }
@@ -123,19 +122,24 @@ fn has_own_text(code: FaultCode, scene: &Scene<'_, '_>) -> bool {
     }
 }
 
-/// Tells what the operands were, as the code asks for it.
-fn tell_cause<'a>(page: &mut Page, telling: &Telling<'a>, code: FaultCode, scene: &Scene<'a, '_>) {
+/// Adds the operands that the code is about.
+fn explain_cause<'a>(
+    output: &mut Output,
+    context: &ExplainContext<'a>,
+    code: FaultCode,
+    scene: &Scene<'a, '_>,
+) {
     let operands = scene.culprit.operands.as_slice();
     match (code, operands) {
-        (FaultCode::WrongKind, _) => tell_wrong_kind(page, telling, scene),
+        (FaultCode::WrongKind, _) => explain_wrong_kind(output, context, scene),
         (FaultCode::OutsideDomain, [function, argument]) => {
-            tell_outside(page, telling, scene, function, argument);
+            explain_outside_domain(output, context, scene, function, argument);
         }
-        (FaultCode::NoField, [record]) => tell_fields(page, telling, scene, record),
-        (FaultCode::NoChoice, [set]) => tell_no_choice(page, telling, scene, set),
-        (FaultCode::TooMany, _) => tell_too_many(page, telling, scene),
-        (FaultCode::AssertFalse, _) => tell_assert(page, telling, scene),
-        (FaultCode::NotSet, _) => tell_not_set(page, telling, scene),
+        (FaultCode::NoField, [record]) => explain_missing_field(output, context, scene, record),
+        (FaultCode::NoChoice, [set]) => explain_no_choice(output, context, scene, set),
+        (FaultCode::TooMany, _) => explain_too_many(output, context, scene),
+        (FaultCode::AssertFalse, _) => explain_assert(output, context, scene),
+        (FaultCode::NotSet, _) => explain_not_set(output, context, scene),
         (
             FaultCode::Overflow
             | FaultCode::SmallDivisor
@@ -143,35 +147,39 @@ fn tell_cause<'a>(page: &mut Page, telling: &Telling<'a>, code: FaultCode, scene
             | FaultCode::EmptySequence
             | FaultCode::OutsideDomain,
             _,
-        ) => tell_values(page, telling, scene),
+        ) => explain_values(output, context, scene),
         _ => {}
     }
 }
 
-/// Tells the first operand that isn't of the kind that is wanted, the element that doesn't fit its
-/// pattern, or the value that is no truth value.
-fn tell_wrong_kind<'a>(page: &mut Page, telling: &Telling<'a>, scene: &Scene<'a, '_>) {
+/// Adds the first operand that isn't of the wanted kind, the element that doesn't fit its pattern, or
+/// the value that is no truth value.
+fn explain_wrong_kind<'a>(
+    output: &mut Output,
+    context: &ExplainContext<'a>,
+    scene: &Scene<'a, '_>,
+) {
     if let Some((operand, wanted)) = wrong_operand(scene) {
-        put_position(page, scene, operand.number);
-        put_name_of(page, telling, scene, operand);
-        put_wanted(page, &operand.value, wanted);
+        put_position(output, scene, operand.number);
+        put_name_of(output, context, scene, operand);
+        put_wanted(output, &operand.value, wanted);
     } else if let Some((element, items)) = misfit(scene) {
-        page.put_text("the element is ");
-        put_kind(page, element);
-        page.put_text("; a sequence of ");
-        page.put_number(items as u128);
-        page.put_text(" items is wanted, for its pattern\n");
+        output.put_text("the element is ");
+        put_kind(output, element);
+        output.put_text("; a sequence of ");
+        output.put_number(items as u128);
+        output.put_text(" items is wanted, for its pattern\n");
     } else if let (Some(value), Some(expr)) = (&scene.culprit.value, scene.expr) {
-        put_expression(page, telling, expr);
-        put_wanted(page, value, Wanted::Truth);
+        put_expression(output, context, expr);
+        put_wanted(output, value, Wanted::Truth);
     }
 }
 
 /// Ends the text about a value that isn't of the wanted kind.
-fn put_wanted(page: &mut Page, value: &Value, wanted: Wanted) {
-    page.put_text(" is ");
-    put_kind(page, value);
-    page.put(&["; ", wanted.text(), " is wanted\n"]);
+fn put_wanted(output: &mut Output, value: &Value, wanted: Wanted) {
+    output.put_text(" is ");
+    put_kind(output, value);
+    output.put(&["; ", wanted.text(), " is wanted\n"]);
 }
 
 /// The element that doesn't fit its pattern, and how many names that has.
@@ -188,44 +196,44 @@ fn misfit<'c>(scene: &Scene<'_, 'c>) -> Option<(&'c Value, usize)> {
 
 /// Adds the text of an operand after a comma, unless it is its value.
 fn put_name_of<'a>(
-    page: &mut Page,
-    telling: &Telling<'a>,
+    output: &mut Output,
+    context: &ExplainContext<'a>,
     scene: &Scene<'a, '_>,
     operand: &Operand<'_>,
 ) {
-    let Some(expr) = written(telling, scene.expr, operand) else {
+    let Some(expr) = operand_expr(context, scene.expr, operand) else {
         return;
     };
-    match text_of(page.alloc(), telling.sources, telling.tokens, expr) {
+    match text_of(output.alloc(), context.sources, context.tokens, expr) {
         Ok(text) => {
-            if !page.is_text_of(&operand.value, &text) {
-                page.put_text(", ");
-                page.put_bytes(&text);
-                page.put_text(",");
+            if !output.is_text_of(&operand.value, &text) {
+                output.put_text(", ");
+                output.put_bytes(&text);
+                output.put_text(",");
             }
         }
-        Err(_) => page.refuse(),
+        Err(_) => output.refuse(),
     }
 }
 
 /// Adds which operand of a node it is: `left of \X`.
-fn put_position(page: &mut Page, scene: &Scene<'_, '_>, number: usize) {
+fn put_position(output: &mut Output, scene: &Scene<'_, '_>, number: usize) {
     let sign = sign_of(scene.node);
     match scene.node {
         Core::Unary(_, _, _) | Core::Power(_, _) | Core::Sequences(_, _) => {
-            page.put(&["the operand of ", sign]);
+            output.put(&["the operand of ", sign]);
         }
         Core::Binary(_, Binary::Append, _, _) | Core::SubSeq(_, _, _, _) | Core::Assert(_, _, _) =>
             {
-                page.put_text("argument ");
-                page.put_number(number.saturating_add(1) as u128);
-                page.put(&[" of ", sign]);
+                output.put_text("argument ");
+                output.put_number(number.saturating_add(1) as u128);
+                output.put(&[" of ", sign]);
             }
-        Core::Apply(_, _, _) => page.put_text("before [ ]"),
-        Core::Field(_, name, _) => page.put(&["before .", name.as_str()]),
-        Core::Except(_, _, _) => page.put_text("before EXCEPT"),
-        Core::If(_, _, _, _) => page.put_text("the condition of IF"),
-        Core::Functions(_, _, _) => page.put_text(if number == 0 {
+        Core::Apply(_, _, _) => output.put_text("before [ ]"),
+        Core::Field(_, name, _) => output.put(&["before .", name.as_str()]),
+        Core::Except(_, _, _) => output.put_text("before EXCEPT"),
+        Core::If(_, _, _, _) => output.put_text("the condition of IF"),
+        Core::Functions(_, _, _) => output.put_text(if number == 0 {
             "left of ->"
         } else {
             "right of ->"
@@ -236,122 +244,122 @@ fn put_position(page: &mut Page, scene: &Scene<'_, '_>, number: usize) {
         | Core::Filter(_, _, _)
         | Core::Image(_, _, _)
         | Core::Function(_, _, _)
-        | Core::Records(_, _) => page.put(&["the set in ", sign]),
+        | Core::Records(_, _) => output.put(&["the set in ", sign]),
         Core::Conjunction(_, parts) | Core::Disjunction(_, parts) | Core::Product(_, parts)
             if parts.len() > 2 => {
-            page.put_text("part ");
-            page.put_number(number.saturating_add(1) as u128);
-            page.put(&[" of ", sign]);
+            output.put_text("part ");
+            output.put_number(number.saturating_add(1) as u128);
+            output.put(&[" of ", sign]);
         }
-        _ => page.put(&[if number == 0 { "left of " } else { "right of " }, sign]),
+        _ => output.put(&[if number == 0 { "left of " } else { "right of " }, sign]),
     }
 }
 
-/// Tells an argument and the domain that it isn't in.
-fn tell_outside<'a>(
-    page: &mut Page,
-    telling: &Telling<'a>,
+/// Adds an argument and the domain that it isn't in.
+fn explain_outside_domain<'a>(
+    output: &mut Output,
+    context: &ExplainContext<'a>,
     scene: &Scene<'a, '_>,
     function: &Operand<'_>,
     argument: &Operand<'_>,
 ) {
     let Value::Fun(value) = &function.value else {
-        return tell_values(page, telling, scene);
+        return explain_values(output, context, scene);
     };
-    page.put_text("the argument");
-    put_name_of(page, telling, scene, argument);
-    page.put_text(" is ");
-    page.put_value(&argument.value);
-    page.put_text("; the domain of ");
-    match written(telling, scene.expr, function) {
-        Some(expr) => put_expression(page, telling, expr),
-        None => page.put_text("the function"),
+    output.put_text("the argument");
+    put_name_of(output, context, scene, argument);
+    output.put_text(" is ");
+    output.put_value(&argument.value);
+    output.put_text("; the domain of ");
+    match operand_expr(context, scene.expr, function) {
+        Some(expr) => put_expression(output, context, expr),
+        None => output.put_text("the function"),
     }
-    page.put_text(" is ");
-    put_domain(page, value);
-    page.put_text("\n");
+    output.put_text(" is ");
+    put_domain(output, value);
+    output.put_text("\n");
 }
 
-/// Tells the fields that a record has.
-fn tell_fields<'a>(
-    page: &mut Page,
-    telling: &Telling<'a>,
+/// Adds the fields that a record has.
+fn explain_missing_field<'a>(
+    output: &mut Output,
+    context: &ExplainContext<'a>,
     scene: &Scene<'a, '_>,
     record: &Operand<'_>,
 ) {
     let Value::Fun(function) = &record.value else {
         return;
     };
-    match written(telling, scene.expr, record) {
-        Some(expr) => put_expression(page, telling, expr),
-        None => page.put_text("the record"),
+    match operand_expr(context, scene.expr, record) {
+        Some(expr) => put_expression(output, context, expr),
+        None => output.put_text("the record"),
     }
     if is_record(function) {
-        page.put_text(" has the fields ");
-        put_fields(page, function);
+        output.put_text(" has the fields ");
+        put_fields(output, function);
     } else {
-        page.put_text(" is ");
-        put_kind(page, &record.value);
+        output.put_text(" is ");
+        put_kind(output, &record.value);
     }
-    page.put_text("\n");
+    output.put_text("\n");
 }
 
-/// Tells the set from which nothing could be chosen.
-fn tell_no_choice<'a>(
-    page: &mut Page,
-    telling: &Telling<'a>,
+/// Adds the set from which nothing could be chosen.
+fn explain_no_choice<'a>(
+    output: &mut Output,
+    context: &ExplainContext<'a>,
     scene: &Scene<'a, '_>,
     set: &Operand<'_>,
 ) {
-    page.put_text("no element of ");
-    match written(telling, scene.expr, set) {
-        Some(expr) => put_expression(page, telling, expr),
-        None => page.put_value(&set.value),
+    output.put_text("no element of ");
+    match operand_expr(context, scene.expr, set) {
+        Some(expr) => put_expression(output, context, expr),
+        None => output.put_value(&set.value),
     }
-    page.put_text(" makes the condition TRUE");
-    put_values(page, telling, scene);
-    page.put_text("\n");
+    output.put_text(" makes the condition TRUE");
+    put_values(output, context, scene);
+    output.put_text("\n");
 }
 
-/// Tells the operands with their values.
-fn tell_values<'a>(page: &mut Page, telling: &Telling<'a>, scene: &Scene<'a, '_>) {
+/// Adds an expression, and its operands with their values.
+fn explain_values<'a>(output: &mut Output, context: &ExplainContext<'a>, scene: &Scene<'a, '_>) {
     let Some(expr) = scene.expr else {
         return;
     };
-    page.put_text("in ");
-    put_expression(page, telling, expr);
-    put_values(page, telling, scene);
-    page.put_text("\n");
+    output.put_text("in ");
+    put_expression(output, context, expr);
+    put_values(output, context, scene);
+    output.put_text("\n");
 }
 
-fn put_values<'a>(page: &mut Page, telling: &Telling<'a>, scene: &Scene<'a, '_>) {
+fn put_values<'a>(output: &mut Output, context: &ExplainContext<'a>, scene: &Scene<'a, '_>) {
     let culprit = scene.culprit;
     put_operands(
-        page,
-        telling,
+        output,
+        context,
         scene.expr,
         &culprit.operands,
         &culprit.chosen,
     );
 }
 
-/// Tells the condition and the text of Assert.
-fn tell_assert<'a>(page: &mut Page, telling: &Telling<'a>, scene: &Scene<'a, '_>) {
+/// Adds the condition and the text of Assert.
+fn explain_assert<'a>(output: &mut Output, context: &ExplainContext<'a>, scene: &Scene<'a, '_>) {
     let operands = scene.culprit.operands.as_slice();
     if let Some(condition) = operand_at(operands, 0)
-        && let Some(expr) = written(telling, scene.expr, condition)
+        && let Some(expr) = operand_expr(context, scene.expr, condition)
     {
-        put_expression(page, telling, expr);
-        page.put_text(" is FALSE");
+        put_expression(output, context, expr);
+        output.put_text(" is FALSE");
         let count = operands.iter().filter(|operand| operand.number < 2).count();
         let sides = operands.get(count..).unwrap_or(&[]);
-        put_operands(page, telling, None, sides, &scene.culprit.chosen);
-        page.put_text("\n");
+        put_operands(output, context, None, sides, &scene.culprit.chosen);
+        output.put_text("\n");
     }
     if let Some(text) = operand_at(operands, 1) {
-        page.put_text("Assert says ");
-        page.put_value(&text.value);
-        page.put_text("\n");
+        output.put_text("Assert says ");
+        output.put_value(&text.value);
+        output.put_text("\n");
     }
 }
 
@@ -360,40 +368,40 @@ fn operand_at<'o, 'c>(operands: &'o [Operand<'c>], number: usize) -> Option<&'o 
     operands.iter().find(|operand| operand.number == number)
 }
 
-/// Tells which variable has no value yet.
-fn tell_not_set<'a>(page: &mut Page, telling: &Telling<'a>, scene: &Scene<'a, '_>) {
+/// Adds which variable has no value yet.
+fn explain_not_set<'a>(output: &mut Output, context: &ExplainContext<'a>, scene: &Scene<'a, '_>) {
     if let Some(expr) = scene.expr {
-        put_expression(page, telling, expr);
-        page.put_text(" has no value yet\n");
+        put_expression(output, context, expr);
+        output.put_text(" has no value yet\n");
     }
 }
 
-/// Tells how many elements a set would have.
-fn tell_too_many<'a>(page: &mut Page, telling: &Telling<'a>, scene: &Scene<'a, '_>) {
+/// Adds how many elements a set would have.
+fn explain_too_many<'a>(output: &mut Output, context: &ExplainContext<'a>, scene: &Scene<'a, '_>) {
     let operands = scene.culprit.operands.as_slice();
     if let Some(count) = count_of(scene.node, operands) {
-        put_count(page, telling, scene, " would have ", count);
+        put_count(output, context, scene, " would have ", count);
     } else if let Some(count) = most_of(scene.node, operands) {
-        put_count(page, telling, scene, " would have up to ", count);
+        put_count(output, context, scene, " would have up to ", count);
     }
 }
 
 fn put_count<'a>(
-    page: &mut Page,
-    telling: &Telling<'a>,
+    output: &mut Output,
+    context: &ExplainContext<'a>,
     scene: &Scene<'a, '_>,
     words: &str,
     count: u128,
 ) {
     match scene.expr {
-        Some(expr) => put_expression(page, telling, expr),
-        None => page.put_text("the set"),
+        Some(expr) => put_expression(output, context, expr),
+        None => output.put_text("the set"),
     }
-    page.put_text(words);
+    output.put_text(words);
     if count == u128::MAX {
-        page.put_text("more than 10^38");
+        output.put_text("more than 10^38");
     } else {
-        page.put_number(count);
+        output.put_number(count);
     }
-    page.put_text(" parts\n");
+    output.put_text(" parts\n");
 }

@@ -6,47 +6,51 @@ use crate::why::{put_expression, variable_name};
 use std::alloc::{AllocError, Global};
 use tla_core::{Binary, Core, Unary};
 use tla_lex::Kind;
-use tla_page::page::Page;
+use tla_page::output::Output;
+use tla_traces::context::ExplainContext;
 use tla_traces::expressions::expression_of;
-use tla_traces::models::Telling;
 use tla_traces::signs::sign_of;
 use tla_tree::Expr;
 
 /// Hints what to write where a next value is read that isn't set.
-pub(crate) fn hint_next<'a>(page: &mut Page, telling: &Telling<'a>, scene: &Scene<'a, '_>) {
+pub(crate) fn hint_next<'a>(
+    output: &mut Output,
+    context: &ExplainContext<'a>,
+    scene: &Scene<'a, '_>,
+) {
     let Core::Next(_, variable) = scene.node else {
         return;
     };
-    let name = variable_name(telling, *variable);
+    let name = variable_name(context, *variable);
     let nodes = scene.culprit.nodes.as_slice();
     if let Some(equality) = part_equality(nodes) {
-        hint_part(page, telling, nodes, equality, name);
+        hint_part(output, context, nodes, equality, name);
     } else if nodes
         .iter()
         .any(|node| matches!(node, Core::Implies(_, _, _)))
     {
-        page.hint(&[
+        output.hint(&[
             "=> gives no steps and sets no variable: ",
             "write IF .. THEN .. ELSE, or /\\ after the condition",
         ]);
     } else if scene.is_initial {
-        page.hint(&["put ", name, " = .. or ", name, " \\in .. before it"]);
+        output.hint(&["put ", name, " = .. or ", name, " \\in .. before it"]);
     } else {
-        hint_primed(page, telling, scene, *variable, name);
+        hint_primed(output, context, scene, *variable, name);
     }
 }
 
 /// Hints what to write in an action, by the form in which the next value occurs.
 fn hint_primed<'a>(
-    page: &mut Page,
-    telling: &Telling<'a>,
+    output: &mut Output,
+    context: &ExplainContext<'a>,
     scene: &Scene<'a, '_>,
     variable: usize,
     name: &str,
 ) {
     let nodes = scene.culprit.nodes.as_slice();
     if is_own_value(nodes, variable) {
-        page.hint(&[
+        output.hint(&[
             "did you mean ",
             name,
             " without the prime, right of ",
@@ -57,9 +61,9 @@ fn hint_primed<'a>(
         .iter()
         .any(|node| matches!(node, Core::Unary(_, Unary::Not, _)))
     {
-        page.hint(&["~ sets no variable: put ", name, "' \\in .. before it"]);
-    } else if !hint_side(page, telling, nodes, name) {
-        page.hint(&["put ", name, "' = .. or ", name, "' \\in .. before it"]);
+        output.hint(&["~ sets no variable: put ", name, "' \\in .. before it"]);
+    } else if !hint_side(output, context, nodes, name) {
+        output.hint(&["put ", name, "' = .. or ", name, "' \\in .. before it"]);
     }
 }
 
@@ -94,7 +98,12 @@ fn gives_value(whole: &Core, part: &Core, variable: usize) -> bool {
 
 /// Hints how to write an equality, an inclusion or an equivalence of which the next value is a side;
 /// false where it is none.
-fn hint_side(page: &mut Page, telling: &Telling<'_>, nodes: &[&Core], name: &str) -> bool {
+fn hint_side(
+    output: &mut Output,
+    context: &ExplainContext<'_>,
+    nodes: &[&Core],
+    name: &str,
+) -> bool {
     let [.., whole, side] = nodes else {
         return false;
     };
@@ -107,12 +116,12 @@ fn hint_side(page: &mut Page, telling: &Telling<'_>, nodes: &[&Core], name: &str
         }
         _ => return false,
     };
-    let Some(expr) = expression_of(telling.units, other) else {
+    let Some(expr) = expression_of(context.units, other) else {
         return false;
     };
-    page.put(&["hint: write ", name, "'", start]);
-    put_expression(page, telling, expr);
-    page.put(&[end, "\n"]);
+    output.put(&["hint: write ", name, "'", start]);
+    put_expression(output, context, expr);
+    output.put(&[end, "\n"]);
     true
 }
 
@@ -147,29 +156,35 @@ fn is_next(core: &Core) -> bool {
 }
 
 /// Hints how to set a part of a function.
-fn hint_part(page: &mut Page, telling: &Telling<'_>, nodes: &[&Core], equality: &Core, name: &str) {
-    let Some(Expr::Binary(_, _, _, left, right)) = expression_of(telling.units, equality) else {
+fn hint_part(
+    output: &mut Output,
+    context: &ExplainContext<'_>,
+    nodes: &[&Core],
+    equality: &Core,
+    name: &str,
+) {
+    let Some(Expr::Binary(_, _, _, left, right)) = expression_of(context.units, equality) else {
         return;
     };
-    match path_of(page.alloc(), telling, left) {
+    match path_of(output.alloc(), context, left) {
         Ok(Some(_)) if is_for_all(nodes) => {
-            page.hint(&["set all of it at once: ", name, "' = [i \\in S |-> e]"]);
+            output.hint(&["set all of it at once: ", name, "' = [i \\in S |-> e]"]);
         }
         Ok(Some(path)) => {
-            page.put(&["hint: write ", name, "' = [", name, " EXCEPT !"]);
-            page.put_bytes(&path);
-            page.put_text(" = ");
-            put_expression(page, telling, right);
-            page.put_text("]\n");
+            output.put(&["hint: write ", name, "' = [", name, " EXCEPT !"]);
+            output.put_bytes(&path);
+            output.put_text(" = ");
+            put_expression(output, context, right);
+            output.put_text("]\n");
         }
-        Ok(None) => page.hint(&[
+        Ok(None) => output.hint(&[
             "give ",
             name,
             " its whole value, as ",
             name,
             " = [i \\in S |-> e]",
         ]),
-        Err(_) => page.refuse(),
+        Err(_) => output.refuse(),
     }
 }
 
@@ -183,15 +198,15 @@ fn is_for_all(nodes: &[&Core]) -> bool {
 /// no prime.
 fn path_of(
     alloc: Global,
-    telling: &Telling<'_>,
+    context: &ExplainContext<'_>,
     left: &Expr,
 ) -> Result<Option<Vec<u8>>, AllocError> {
-    let tokens = telling.tokens;
+    let tokens = context.tokens;
     let (Some(first), Some(last)) = (first_token(tokens, left), last_token(tokens, left)) else {
         return Ok(None);
     };
     let second = first.saturating_add(1);
-    let module = telling.sources.module;
+    let module = context.sources.module;
     if tokens
         .get(second)
         .is_some_and(|token| token.kind == Kind::Prime)

@@ -4,13 +4,13 @@ use crate::arguments::put_arguments;
 use crate::extents::{first_token, text_between, text_of};
 use tla_core::Core;
 use tla_lex::Kind;
-use tla_page::page::Page;
+use tla_page::output::Output;
 use tla_steps::{
     Blocked, Chosen, Operand, Reason, Stray, Verdict, blocked_parts, may_set, reasons_against,
 };
 use tla_traces::binders::{is_choice, put_choices};
+use tla_traces::context::ExplainContext;
 use tla_traces::expressions::{expression_of, operand_of};
-use tla_traces::models::Telling;
 use tla_traces::trace::put_part;
 use tla_tree::Expr;
 use tla_value::State;
@@ -18,17 +18,17 @@ use tla_value::State;
 /// How many expressions are evaluated to find why something is FALSE.
 const BUDGET: u64 = 300_000;
 
-/// From which number on the operands of a reason are sets that its first operands count.
+/// The operands of a reason with this number or a greater one are sets that its first operands count.
 const COUNTED: usize = 2;
 
 /// How many parts are shown that are FALSE.
 const MOST_REASONS: usize = 8;
 
-/// Tells which parts of a state predicate make it FALSE, a line for each, which begins with this
-/// text.
-pub(crate) fn tell_reasons(
-    page: &mut Page,
-    telling: &Telling<'_>,
+/// Explains which parts of a state predicate make it FALSE. There is a line for each, and each line
+/// begins with `start`.
+pub(crate) fn explain_reasons(
+    output: &mut Output,
+    context: &ExplainContext<'_>,
     start: &str,
     predicate: &Core,
     state: Option<&State>,
@@ -36,135 +36,150 @@ pub(crate) fn tell_reasons(
     if let Core::Constant(_, _) = predicate {
         return;
     }
-    match reasons_against(page.alloc(), predicate, state, BUDGET) {
-        Ok(reasons) => put_reasons(page, telling, start, &reasons),
-        Err(_) => page.refuse(),
+    match reasons_against(output.alloc(), predicate, state, BUDGET) {
+        Ok(reasons) => put_reasons(output, context, start, &reasons),
+        Err(_) => output.refuse(),
     }
 }
 
-fn put_reasons(page: &mut Page, telling: &Telling<'_>, start: &str, reasons: &[Reason<'_>]) {
+fn put_reasons(
+    output: &mut Output,
+    context: &ExplainContext<'_>,
+    start: &str,
+    reasons: &[Reason<'_>],
+) {
     for reason in reasons.iter().take(MOST_REASONS) {
-        page.put_text(start);
-        put_reason(page, telling, reason);
+        output.put_text(start);
+        put_reason(output, context, reason);
     }
     let more = reasons.len().saturating_sub(MOST_REASONS);
     if more > 0 {
-        page.put_text("and ");
-        page.put_number(more as u128);
-        page.put_text(" more parts\n");
+        output.put_text("and ");
+        output.put_number(more as u128);
+        output.put_text(" more parts\n");
     }
 }
 
 /// Adds a line about a part that decides: `line 14, /\ Len(queue) <= Max is FALSE; Len(queue) is 4,
 /// Max is 3`.
-fn put_reason(page: &mut Page, telling: &Telling<'_>, reason: &Reason<'_>) {
-    let expr = expression_of(telling.units, reason.part);
-    page.put_text("line ");
-    page.put_number(u128::from(reason.part.place().line));
-    page.put_text(", ");
+fn put_reason(output: &mut Output, context: &ExplainContext<'_>, reason: &Reason<'_>) {
+    let expr = expression_of(context.units, reason.part);
+    output.put_text("line ");
+    output.put_number(u128::from(reason.part.place().line));
+    output.put_text(", ");
     if !reason.chosen.is_empty() {
-        put_choices(page, telling, &reason.chosen);
-        page.put_text(": ");
+        put_choices(output, context, &reason.chosen);
+        output.put_text(": ");
     }
     if let Some(expr) = expr {
-        put_bullet(page, telling, expr);
+        put_bullet(output, context, expr);
     }
-    put_verdict(page, telling, expr, reason);
-    page.put_text("\n");
+    put_verdict(output, context, expr, reason);
+    output.put_text("\n");
 }
 
 /// Adds the `/\` or `\/` before an expression.
-fn put_bullet(page: &mut Page, telling: &Telling<'_>, expr: &Expr) {
-    let before = first_token(telling.tokens, expr).and_then(|at| at.checked_sub(1));
-    let Some(before) = before.and_then(|at| telling.tokens.get(at)) else {
+fn put_bullet(output: &mut Output, context: &ExplainContext<'_>, expr: &Expr) {
+    let before = first_token(context.tokens, expr).and_then(|at| at.checked_sub(1));
+    let Some(before) = before.and_then(|at| context.tokens.get(at)) else {
         return;
     };
     match before.kind {
-        Kind::And => page.put_text("/\\ "),
-        Kind::Or => page.put_text("\\/ "),
+        Kind::And => output.put_text("/\\ "),
+        Kind::Or => output.put_text("\\/ "),
         _ => {}
     }
 }
 
 /// Adds the text of a part, its value and those of its operands.
-fn put_verdict(page: &mut Page, telling: &Telling<'_>, expr: Option<&Expr>, reason: &Reason<'_>) {
+fn put_verdict(
+    output: &mut Output,
+    context: &ExplainContext<'_>,
+    expr: Option<&Expr>,
+    reason: &Reason<'_>,
+) {
     match expr {
         Some(Expr::Quantified(_, _, _, body)) if reason.verdict == Verdict::NoElement => {
-            put_binders(page, telling, expr, body);
+            put_binders(output, context, expr, body);
         }
-        Some(expr) => put_expression(page, telling, expr),
-        None => put_unwritten(page, telling, reason.part),
+        Some(expr) => put_expression(output, context, expr),
+        None => put_unwritten(output, context, reason.part),
     }
-    page.put_text(match reason.verdict {
+    output.put_text(match reason.verdict {
         Verdict::True => " is TRUE",
         Verdict::False => " is FALSE",
         Verdict::NoElement => " has nothing to choose",
     });
-    if !shows_its_operands(telling, expr, reason) {
-        put_operands(page, telling, expr, &reason.operands, &reason.chosen);
+    if !shows_its_operands(context, expr, reason) {
+        put_operands(output, context, expr, &reason.operands, &reason.chosen);
     }
     if let Some(stray) = &reason.stray {
-        put_stray(page, telling, stray);
+        put_stray(output, context, stray);
     }
     if let Some(expr) = expr {
-        put_arguments(page, telling, expr, reason);
+        put_arguments(output, context, expr, reason);
     }
 }
 
 /// Adds what keeps a value out of a set: `; at 2 it is "x", not in {"a", "b"}`.
-fn put_stray(page: &mut Page, telling: &Telling<'_>, stray: &Stray<'_>) {
-    page.put_text("; ");
+fn put_stray(output: &mut Output, context: &ExplainContext<'_>, stray: &Stray<'_>) {
+    output.put_text("; ");
     if let Some(at) = &stray.at {
-        page.put_text("at ");
-        page.put_value(at);
-        page.put_text(" it is ");
+        output.put_text("at ");
+        output.put_value(at);
+        output.put_text(" it is ");
     }
-    page.put_value(&stray.value);
-    page.put_text(if stray.at.is_some() {
+    output.put_value(&stray.value);
+    output.put_text(if stray.at.is_some() {
         ", not in "
     } else {
         " is not in "
     });
-    match expression_of(telling.units, stray.set) {
-        Some(expr) => put_expression(page, telling, expr),
-        None => page.put_text("the set"),
+    match expression_of(context.units, stray.set) {
+        Some(expr) => put_expression(output, context, expr),
+        None => output.put_text("the set"),
     }
 }
 
 /// Adds what a quantifier has before the colon.
-fn put_binders<'a>(page: &mut Page, telling: &Telling<'a>, whole: Option<&'a Expr>, body: &Expr) {
-    let first = whole.and_then(|whole| first_token(telling.tokens, whole));
-    let last = first_token(telling.tokens, body).and_then(|at| at.checked_sub(2));
+fn put_binders<'a>(
+    output: &mut Output,
+    context: &ExplainContext<'a>,
+    whole: Option<&'a Expr>,
+    body: &Expr,
+) {
+    let first = whole.and_then(|whole| first_token(context.tokens, whole));
+    let last = first_token(context.tokens, body).and_then(|at| at.checked_sub(2));
     if let (Some(first), Some(last)) = (first, last) {
         match text_between(
-            page.alloc(),
-            telling.sources.module,
-            telling.tokens,
+            output.alloc(),
+            context.sources.module,
+            context.tokens,
             first,
             last,
         ) {
-            Ok(text) => page.put_bytes(&text),
-            Err(_) => page.refuse(),
+            Ok(text) => output.put_bytes(&text),
+            Err(_) => output.refuse(),
         }
     }
 }
 
 /// Adds a part that isn't written as such: `UNCHANGED <<x, y>>` is UNCHANGED of each.
-fn put_unwritten(page: &mut Page, telling: &Telling<'_>, part: &Core) {
+fn put_unwritten(output: &mut Output, context: &ExplainContext<'_>, part: &Core) {
     match part {
         Core::Equal(_, left, _) => match left.as_ref() {
             Core::Next(_, variable) => {
-                page.put(&["UNCHANGED ", variable_name(telling, *variable)]);
+                output.put(&["UNCHANGED ", variable_name(context, *variable)]);
             }
-            _ => page.put_text("a part"),
+            _ => output.put_text("a part"),
         },
-        _ => page.put_text("a part"),
+        _ => output.put_text("a part"),
     }
 }
 
 /// The name of a variable.
-pub(crate) fn variable_name<'a>(telling: &Telling<'a>, variable: usize) -> &'a str {
-    match telling.model.variables().get(variable) {
+pub(crate) fn variable_name<'a>(context: &ExplainContext<'a>, variable: usize) -> &'a str {
+    match context.model.variables().get(variable) {
         Some(name) => name.as_str(),
         None => "",
     }
@@ -172,14 +187,18 @@ pub(crate) fn variable_name<'a>(telling: &Telling<'a>, variable: usize) -> &'a s
 
 /// Whether an equality that is TRUE has a side that is its own value, so that nothing more is to be
 /// shown.
-fn shows_its_operands(telling: &Telling<'_>, expr: Option<&Expr>, reason: &Reason<'_>) -> bool {
+fn shows_its_operands(
+    context: &ExplainContext<'_>,
+    expr: Option<&Expr>,
+    reason: &Reason<'_>,
+) -> bool {
     let is_equality = matches!(reason.part, Core::Equal(_, _, _));
     is_equality
         && reason.verdict == Verdict::True
         && reason
             .operands
             .iter()
-            .any(|operand| is_literal(written(telling, expr, operand)))
+            .any(|operand| is_literal(operand_expr(context, expr, operand)))
 }
 
 /// Whether an expression is written as a value.
@@ -190,9 +209,9 @@ fn is_literal(expr: Option<&Expr>) -> bool {
     }
 }
 
-/// The text of an operand.
-pub(crate) fn written<'a>(
-    telling: &Telling<'a>,
+/// The expression of an operand in the text.
+pub(crate) fn operand_expr<'a>(
+    context: &ExplainContext<'a>,
     whole: Option<&'a Expr>,
     operand: &Operand<'_>,
 ) -> Option<&'a Expr> {
@@ -206,7 +225,7 @@ pub(crate) fn written<'a>(
     };
     match written {
         Some(expr) => Some(expr),
-        None => expression_of(telling.units, operand.core),
+        None => expression_of(context.units, operand.core),
     }
 }
 
@@ -221,18 +240,18 @@ fn counted_in(whole: &Expr, number: usize) -> Option<&Expr> {
 }
 
 /// Adds the text of an expression.
-pub(crate) fn put_expression(page: &mut Page, telling: &Telling<'_>, expr: &Expr) {
-    match text_of(page.alloc(), telling.sources, telling.tokens, expr) {
-        Ok(text) => page.put_bytes(&text),
-        Err(_) => page.refuse(),
+pub(crate) fn put_expression(output: &mut Output, context: &ExplainContext<'_>, expr: &Expr) {
+    match text_of(output.alloc(), context.sources, context.tokens, expr) {
+        Ok(text) => output.put_bytes(&text),
+        Err(_) => output.refuse(),
     }
 }
 
 /// Adds the operands with their values, but for those that are written as values and for names that
 /// were chosen: `; Len(queue) is 4, Max is 3`.
 pub(crate) fn put_operands<'a>(
-    page: &mut Page,
-    telling: &Telling<'a>,
+    output: &mut Output,
+    context: &ExplainContext<'a>,
     whole: Option<&'a Expr>,
     operands: &[Operand<'_>],
     chosen: &[Chosen],
@@ -240,14 +259,16 @@ pub(crate) fn put_operands<'a>(
     let mut before = "; ";
     for operand in operands {
         if let (None, Core::Next(_, variable)) = (whole, operand.core) {
-            put_next(page, telling, *variable, operand, before);
+            put_next(output, context, *variable, operand, before);
             before = ", ";
             continue;
         }
-        let Some(expr) = written(telling, whole, operand) else {
+        let Some(expr) = operand_expr(context, whole, operand) else {
             continue;
         };
-        if !is_choice(telling, chosen, expr) && put_operand(page, telling, expr, operand, before) {
+        if !is_choice(context, chosen, expr)
+            && put_operand(output, context, expr, operand, before)
+        {
             before = ", ";
         }
     }
@@ -255,102 +276,107 @@ pub(crate) fn put_operands<'a>(
 
 /// Adds the next value of a variable, where the text doesn't write it.
 fn put_next(
-    page: &mut Page,
-    telling: &Telling<'_>,
+    output: &mut Output,
+    context: &ExplainContext<'_>,
     variable: usize,
     operand: &Operand<'_>,
     before: &str,
 ) {
-    page.put(&[before, variable_name(telling, variable), "' is "]);
-    page.put_value(&operand.value);
+    output.put(&[before, variable_name(context, variable), "' is "]);
+    output.put_value(&operand.value);
 }
 
 /// Adds an operand with its value; false where its text is its value.
 fn put_operand(
-    page: &mut Page,
-    telling: &Telling<'_>,
+    output: &mut Output,
+    context: &ExplainContext<'_>,
     expr: &Expr,
     operand: &Operand<'_>,
     before: &str,
 ) -> bool {
-    let Ok(text) = text_of(page.alloc(), telling.sources, telling.tokens, expr) else {
-        page.refuse();
+    let Ok(text) = text_of(output.alloc(), context.sources, context.tokens, expr) else {
+        output.refuse();
         return false;
     };
-    if page.is_text_of(&operand.value, &text) {
+    if output.is_text_of(&operand.value, &text) {
         return false;
     }
-    page.put_text(before);
-    page.put_bytes(&text);
-    page.put_text(" is ");
-    page.put_value(&operand.value);
+    output.put_text(before);
+    output.put_bytes(&text);
+    output.put_text(" is ");
+    output.put_value(&operand.value);
     true
 }
 
-/// Tells why an action makes no step: for each of its parts the first conjunct that is FALSE. Each
-/// line begins with this text.
-pub(crate) fn tell_blocked(
-    page: &mut Page,
-    telling: &Telling<'_>,
+/// Explains why an action makes no step: for each of its parts the first conjunct that is FALSE. Each
+/// line begins with `start`.
+pub(crate) fn explain_blocked(
+    output: &mut Output,
+    context: &ExplainContext<'_>,
     start: &str,
     action: &Core,
     state: Option<&State>,
 ) {
-    let variables = telling.model.variables().len();
-    match blocked_parts(page.alloc(), action, variables, state, BUDGET) {
+    let variables = context.model.variables().len();
+    match blocked_parts(output.alloc(), action, variables, state, BUDGET) {
         Ok(parts) => {
             for blocked in parts.iter() {
-                put_blocked(page, telling, start, blocked);
+                put_blocked(output, context, start, blocked);
             }
-            hint_prime(page, telling, &parts);
+            hint_prime(output, context, &parts);
         }
-        Err(_) => page.refuse(),
+        Err(_) => output.refuse(),
     }
 }
 
 /// Adds a line for each reason for which a part makes no step: `SendNew (line 16): Len(sent) < 3 is
 /// FALSE`.
-fn put_blocked(page: &mut Page, telling: &Telling<'_>, start: &str, blocked: &Blocked<'_>) {
+fn put_blocked(
+    output: &mut Output,
+    context: &ExplainContext<'_>,
+    start: &str,
+    blocked: &Blocked<'_>,
+) {
     for reason in blocked.reasons.iter() {
-        page.put_text(start);
-        put_part(page, telling, blocked.part.place());
+        output.put_text(start);
+        put_part(output, context, blocked.part.place());
         if !reason.chosen.is_empty() {
-            page.put_text(" ");
-            put_choices(page, telling, &reason.chosen);
+            output.put_text(" ");
+            put_choices(output, context, &reason.chosen);
         }
-        page.put_text(": ");
+        output.put_text(": ");
         put_verdict(
-            page,
-            telling,
-            expression_of(telling.units, reason.part),
+            output,
+            context,
+            expression_of(context.units, reason.part),
             reason,
         );
-        page.put_text("\n");
+        output.put_text("\n");
     }
     if blocked.reasons.is_empty() {
-        page.put_text(start);
-        put_part(page, telling, blocked.part.place());
-        page.put_text(": no step, and no conjunct was found to be FALSE\n");
+        output.put_text(start);
+        put_part(output, context, blocked.part.place());
+        output.put_text(": no step, and no conjunct was found to be FALSE\n");
     }
     if blocked.more > 0 {
-        page.put_text(start);
-        put_part(page, telling, blocked.part.place());
-        page.put_text(": and ");
-        page.put_number(blocked.more as u128);
-        page.put_text(" more choices\n");
+        output.put_text(start);
+        put_part(output, context, blocked.part.place());
+        output.put_text(": and ");
+        output.put_number(blocked.more as u128);
+        output.put_text(" more choices\n");
     }
 }
 
 /// Adds a hint where an action compares a variable with what it is made of, as in `x = x + 1`.
-fn hint_prime(page: &mut Page, telling: &Telling<'_>, parts: &[Blocked<'_>]) {
+fn hint_prime(output: &mut Output, context: &ExplainContext<'_>, parts: &[Blocked<'_>]) {
     for blocked in parts {
         for reason in blocked.reasons.iter() {
             let line = reason.part.place().line;
             if let Some(variable) = compared_with_itself(reason.part) {
-                return put_prime_hint(page, variable_name(telling, variable), line);
+                return put_prime_hint(output, variable_name(context, variable), line);
             }
             if let Some(variable) = compared_only(reason.part, blocked.part) {
-                return put_unset_hint(page, variable_name(telling, variable), line);
+                return put_unset_hint(output, variable_name(context, variable), line);
             }
         }
     }
@@ -370,10 +396,10 @@ fn compared_only(conjunct: &Core, part: &Core) -> Option<usize> {
     }
 }
 
-fn put_unset_hint(page: &mut Page, name: &str, line: u64) {
-    page.put_text("hint: line ");
-    page.put_number(u128::from(line));
-    page.put(&[
+fn put_unset_hint(output: &mut Output, name: &str, line: u64) {
+    output.put_text("hint: line ");
+    output.put_number(u128::from(line));
+    output.put(&[
         " asks for the present value of ",
         name,
         ", and nothing there sets it: did you mean ",
@@ -382,10 +408,10 @@ fn put_unset_hint(page: &mut Page, name: &str, line: u64) {
     ]);
 }
 
-fn put_prime_hint(page: &mut Page, name: &str, line: u64) {
-    page.put_text("hint: line ");
-    page.put_number(u128::from(line));
-    page.put(&[
+fn put_prime_hint(output: &mut Output, name: &str, line: u64) {
+    output.put_text("hint: line ");
+    output.put_number(u128::from(line));
+    output.put(&[
         " compares ",
         name,
         " with a value made of ",

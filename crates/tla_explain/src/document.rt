@@ -154,7 +154,7 @@ fn source_of(alloc: Global, sources: &Sources<'_>, part: Part) -> Result<Source,
     let Some(named) = Named::read(alloc, sources) else {
         return Ok(Source::Module);
     };
-    match name_alone(alloc, &named.telling(sources), part)? {
+    match name_alone(alloc, &named.context(sources), part)? {
         Some(_) => Ok(Source::Configuration),
         None => Ok(Source::Module),
     }

@@ -15,7 +15,7 @@ use std::alloc::Global;
 use std::io;
 use std::io::Write;
 pub use tla_page::codes::{CodeText, code_tables, text_of};
-use tla_page::page::Page;
+use tla_page::output::Output;
 pub use tla_page::places::FileNames;
 use tla_page::places::Sources;
 pub use tla_page::style::Style;
@@ -34,37 +34,41 @@ pub fn explain<'a, W: Write>(
     checked: &Checked,
     style: Style,
 ) -> io::Result<()> {
-    let mut page = Page::new(alloc, style.full);
+    let mut output = Output::new(alloc, style.full);
     let sources = Sources {
         names: *names,
         module,
         configuration,
     };
-    tell(&mut page, &sources, checked);
+    explain_checked(&mut output, &sources, checked);
     if let Checked::Answered(answered) = checked {
-        put_coverage(&mut page, &sources, answered, style.coverage);
+        put_coverage(&mut output, &sources, answered, style.coverage);
     }
-    writer.write_all(page.told()?)
+    writer.write_all(output.bytes()?)
 }
 
-fn tell(page: &mut Page, sources: &Sources<'_>, checked: &Checked) {
+fn explain_checked(output: &mut Output, sources: &Sources<'_>, checked: &Checked) {
     match checked {
         Checked::Refused(refused) => {
-            tla_refusals::refusal::tell(page, sources, refused);
-            hint_order(page, &sources.names);
+            tla_refusals::refusal::explain_refusal(output, sources, refused);
+            hint_order(output, &sources.names);
         }
-        Checked::Answered(answered) => tla_answers::answer::tell(page, sources, answered),
-        Checked::NoMemory => page.put_text("out of memory: allow more, or check a smaller model\n"),
+        Checked::Answered(answered) => tla_answers::answer::explain_answer(
+            output, sources, answered,
+        ),
+        Checked::NoMemory => output.put_text(
+            "out of memory: allow more, or check a smaller model\n",
+        ),
         Checked::NoWorker => {
-            page.put_text("a worker could not be started: ask for fewer, by --workers\n");
+            output.put_text("a worker could not be started: ask for fewer, by --workers\n");
         },
     }
 }
 
 /// Hints at the order of the two files, where their names have each other's endings.
-fn hint_order(page: &mut Page, names: &FileNames<'_>) {
+fn hint_order(output: &mut Output, names: &FileNames<'_>) {
     if names.module.ends_with(".cfg") || names.configuration.ends_with(".tla") {
-        page.hint(&[
+        output.hint(&[
             "name the module first and then the configuration: tlacheck Lock.tla Lock.cfg",
         ]);
     }

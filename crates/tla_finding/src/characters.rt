@@ -12,7 +12,7 @@ pub fn find(finding: &mut Finding, text: &[u8], place: Place) {
     }
     if let Some((sign, cure)) = sign_cure(rest) {
         say_sign(finding, place, sign, cure);
-    } else if let Some(letter) = foreign(rest) {
+    } else if let Some(letter) = first_non_ascii(rest) {
         finding.say(place, &["'", letter, "' is not ASCII"]);
         finding.hint(&["a name has the letters a to z and A to Z, digits and _"]);
     } else if rest.as_bytes().first().is_some_and(|b| b.is_ascii_digit()) {
@@ -34,8 +34,8 @@ fn say_sign(finding: &mut Finding, place: Place, sign: &str, cure: &str) {
     finding.hint(&[cure]);
 }
 
-/// The first character of a text, if it isn't ASCII.
-fn foreign(text: &str) -> Option<&str> {
+/// The first character of a text, unless it is ASCII.
+fn first_non_ascii(text: &str) -> Option<&str> {
     let first = *text.as_bytes().first()?;
     if first < 192 {
         None
@@ -48,8 +48,7 @@ fn foreign(text: &str) -> Option<&str> {
     }
 }
 
-/// Finds why the text of a configuration can't be read at a place, if it is no token that is
-/// missing there.
+/// Finds why the text of a configuration can't be read at a place, unless a token is missing there.
 pub fn find_unread(finding: &mut Finding, text: &[u8], place: Place) -> bool {
     let rest = rest_of(text, place);
     if str::from_utf8(text).is_err() {
@@ -70,7 +69,7 @@ pub fn find_unread(finding: &mut Finding, text: &[u8], place: Place) -> bool {
     !finding.title.is_empty()
 }
 
-/// Finds the characters of Unicode that a line has, of which the first is here.
+/// Finds the Unicode characters of a line, if one is at this place.
 fn find_symbols(finding: &mut Finding, rest: &str, place: Place) -> bool {
     let [symbols, more] = symbols();
     find_first(finding, rest, place, symbols);
@@ -107,7 +106,7 @@ fn hint_others(finding: &mut Finding, rest: &str, table: &'static [(&'static str
     }
 }
 
-/// What a line has from a place on.
+/// The rest of a line from a place.
 fn rest_of(text: &[u8], place: Place) -> &str {
     let Some(line) = line_of(text, place.line) else {
         return "";

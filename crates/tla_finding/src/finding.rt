@@ -1,9 +1,9 @@
-//! What is found out about a refusal.
+//! What is found about a refusal.
 
 use std::alloc::Global;
 use tla_config::Source;
 use tla_lex::Place;
-use tla_page::page::Page;
+use tla_page::output::Output;
 use tla_page::places::{Sources, core_place};
 
 /// A second place that is shown, and what is there.
@@ -11,7 +11,7 @@ use tla_page::places::{Sources, core_place};
 pub struct Beside {
     pub source: Source,
     pub place: Place,
-    pub title: Page,
+    pub title: Output,
 }
 
 /// Where an explanation points, what it says is wrong there, another place that has to do with it,
@@ -19,9 +19,9 @@ pub struct Beside {
 #[derive(Drop)]
 pub struct Finding {
     pub place: Place,
-    pub title: Page,
+    pub title: Output,
     pub beside: Option<Beside>,
-    pub help: Page,
+    pub help: Output,
 }
 
 impl Finding {
@@ -29,9 +29,9 @@ impl Finding {
     pub fn at(alloc: Global, place: Place) -> Finding {
         Finding {
             place,
-            title: Page::new(alloc, false),
+            title: Output::new(alloc, false),
             beside: None,
-            help: Page::new(alloc, false),
+            help: Output::new(alloc, false),
         }
     }
 
@@ -47,7 +47,7 @@ impl Finding {
 
     /// Shows another place, with these texts.
     pub fn show_beside(&mut self, source: Source, place: Place, texts: &[&str]) {
-        let mut title = Page::new(self.alloc(), false);
+        let mut title = Output::new(self.alloc(), false);
         title.put(texts);
         self.beside = Some(Beside {
             source,
@@ -79,7 +79,7 @@ impl Finding {
 
     /// Shows where a name is declared or defined.
     pub fn show_name(&mut self, place: Place, name: &str, how: &str, rest: &str) {
-        let mut title = Page::new(self.alloc(), false);
+        let mut title = Output::new(self.alloc(), false);
         title.put(&["'", name, "' is "]);
         title.put_text(how);
         title.put_text(rest);
@@ -103,19 +103,19 @@ impl Finding {
     }
 }
 
-/// Adds what another page says.
-pub fn put_page(page: &mut Page, other: &Page) {
-    match other.told() {
-        Ok(bytes) => page.put_bytes(bytes),
-        Err(_) => page.refuse(),
+/// Adds another output.
+pub fn put_output(output: &mut Output, other: &Output) {
+    match other.bytes() {
+        Ok(bytes) => output.put_bytes(bytes),
+        Err(_) => output.refuse(),
     }
 }
 
 /// Adds the other place of a finding, with its line.
-pub fn put_beside(page: &mut Page, sources: &Sources<'_>, beside: &Beside) {
+pub fn put_beside(output: &mut Output, sources: &Sources<'_>, beside: &Beside) {
     let place = core_place(beside.place);
-    page.put_place(sources, beside.source, place);
-    put_page(page, &beside.title);
-    page.put_text("\n");
-    page.show(sources, beside.source, place);
+    output.put_place(sources, beside.source, place);
+    put_output(output, &beside.title);
+    output.put_text("\n");
+    output.show(sources, beside.source, place);
 }

@@ -1,4 +1,4 @@
-//! What is found out about a refusal: where it points, what is wrong there, and what helps. Also
+//! What is found about a refusal: where it points, what is wrong there, and what helps. Also
 //! the token at a place, and characters that begin no token.
 #![tactic(auto)]
 

@@ -1,10 +1,10 @@
-//! A token among the tokens of a text.
+//! A position among the tokens of a text.
 
 use tla_hints::{closes_bracket, opens_bracket};
 use tla_lex::{Kind, Place, Token};
 use tla_page::places::word;
 
-/// The token of a number among the tokens of a text.
+/// An index among the tokens of a text.
 #[derive(Clone, Copy)]
 pub struct Spot<'a> {
     pub text: &'a [u8],
@@ -13,13 +13,13 @@ pub struct Spot<'a> {
 }
 
 impl<'a> Spot<'a> {
-    /// The token at a place, or none.
+    /// The spot of the token at a place, if there is one.
     pub fn of(text: &'a [u8], tokens: &'a [Token], place: Place) -> Option<Spot<'a>> {
         let at = tokens.iter().position(|token| token.place == place)?;
         Some(Spot { text, tokens, at })
     }
 
-    /// The number of the token at a place.
+    /// The index of the token at a place.
     pub fn index_at(&self, place: Place) -> Option<usize> {
         self.tokens.iter().position(|token| token.place == place)
     }
@@ -28,7 +28,7 @@ impl<'a> Spot<'a> {
         self.tokens.get(index).copied()
     }
 
-    /// The kind of the token of a number.
+    /// The kind of the token at an index.
     pub fn kind(&self, index: usize) -> Option<Kind> {
         match self.tokens.get(index) {
             Some(token) => Some(token.kind),
@@ -36,7 +36,7 @@ impl<'a> Spot<'a> {
         }
     }
 
-    /// Whether the token of a number is of a kind.
+    /// Whether the token at an index is of a kind.
     pub fn is(&self, index: usize, kind: Kind) -> bool {
         self.kind(index) == Some(kind)
     }
@@ -51,7 +51,7 @@ impl<'a> Spot<'a> {
         self.kind(self.at.checked_add(count)?)
     }
 
-    /// How the token of a number is written; no text where there is none.
+    /// The text of the token at an index; empty if there is none.
     pub fn word(&self, index: usize) -> &'a str {
         match self.tokens.get(index) {
             Some(token) => word(self.text, token),
@@ -66,12 +66,12 @@ impl<'a> Spot<'a> {
         }
     }
 
-    /// The token before the one of a number.
+    /// The token before the one at an index.
     fn before(&self, index: usize) -> Option<Token> {
         self.token(index.checked_sub(1)?)
     }
 
-    /// Whether nothing is between this token and the one before.
+    /// Whether the token at an index touches the one before it.
     pub fn touches_before(&self, index: usize) -> bool {
         match (self.before(index), self.token(index)) {
             (Some(before), Some(token)) => before.end == token.start,
@@ -79,7 +79,7 @@ impl<'a> Spot<'a> {
         }
     }
 
-    /// What a line has from the token of a number on, without what is behind its last token.
+    /// The rest of a line from the token at an index, up to the end of its last token.
     pub fn rest_of_line(&self, first: usize) -> &'a str {
         let rest = self.tokens.get(first..).unwrap_or(&[]);
         let Some(begin) = rest.first() else {
@@ -102,7 +102,7 @@ impl<'a> Spot<'a> {
         }
     }
 
-    /// Whether the name of a number is defined there: `x ==`, `Op(..) ==` or `f[..] ==`.
+    /// Whether the name at an index is defined there: `x ==`, `Op(..) ==` or `f[..] ==`.
     pub fn is_head(&self, index: usize) -> bool {
         let mut deep: usize = 0;
         let rest = self.tokens.get(index.saturating_add(1)..).unwrap_or(&[]);

@@ -4,7 +4,7 @@ use tla_finding::finding::Finding;
 use tla_finding::spot::Spot;
 use tla_hints::{closes_bracket, library_arity, library_form, opens_bracket};
 use tla_lex::Kind;
-use tla_page::page::Page;
+use tla_page::output::Output;
 use tla_page::units::{Known, Role, known_name};
 
 /// Finds what a name takes that has the wrong number of arguments in a module.
@@ -70,7 +70,7 @@ fn hint_function(finding: &mut Finding, spot: &Spot<'_>) {
 
 fn say_count(finding: &mut Finding, spot: &Spot<'_>, arity: usize, given: usize) {
     let name = spot.word(spot.at);
-    let mut title = Page::new(finding.alloc(), false);
+    let mut title = Output::new(finding.alloc(), false);
     put_count(&mut title, name, arity, given);
     finding.title = title;
     if given == 0 && spot.ahead(1) == Some(Kind::LeftBracket) {
@@ -85,7 +85,7 @@ fn say_count(finding: &mut Finding, spot: &Spot<'_>, arity: usize, given: usize)
 }
 
 /// Says how many arguments a name takes, and how many it has.
-fn put_count(title: &mut Page, name: &str, arity: usize, given: usize) {
+fn put_count(title: &mut Output, name: &str, arity: usize, given: usize) {
     title.put(&["'", name, "' takes "]);
     put_arguments(title, arity);
     title.put_text(", and has ");
@@ -94,9 +94,9 @@ fn put_count(title: &mut Page, name: &str, arity: usize, given: usize) {
 }
 
 /// Adds `1 argument`, or how many there are.
-pub(crate) fn put_arguments(page: &mut Page, count: usize) {
-    page.put_number(count as u128);
-    page.put_text(if count == 1 {
+pub(crate) fn put_arguments(output: &mut Output, count: usize) {
+    output.put_number(count as u128);
+    output.put_text(if count == 1 {
         " argument"
     } else {
         " arguments"
@@ -104,7 +104,7 @@ pub(crate) fn put_arguments(page: &mut Page, count: usize) {
 }
 
 fn hint_given(finding: &mut Finding, given: usize) {
-    let mut help = Page::new(finding.alloc(), false);
+    let mut help = Output::new(finding.alloc(), false);
     help.put_text("hint: it has ");
     put_arguments(&mut help, given);
     help.put_text(" here\n");

@@ -8,7 +8,7 @@ use tla_finding::finding::Finding;
 use tla_finding::spot::Spot;
 use tla_hints::{STATEMENTS, meant, module_with};
 use tla_lex::Kind;
-use tla_page::page::Page;
+use tla_page::output::Output;
 use tla_page::units::{Known, Role, known_name, words_of};
 
 /// Finds what was meant by a name of a configuration that the module doesn't define.
@@ -156,7 +156,7 @@ pub fn find_arguments(finding: &mut Finding, spot: &Spot<'_>, known: &[Known<'_>
     let Some(one) = known_name(known, name) else {
         return;
     };
-    let mut title = Page::new(finding.alloc(), false);
+    let mut title = Output::new(finding.alloc(), false);
     if is_item(spot) {
         title.put(&["'", name, "' takes "]);
         put_arguments(&mut title, one.arity);
@@ -177,7 +177,7 @@ pub fn find_arguments(finding: &mut Finding, spot: &Spot<'_>, known: &[Known<'_>
 }
 
 /// Adds how many arguments the operator takes that an item puts in place of a name.
-fn put_other(title: &mut Page, spot: &Spot<'_>, known: &[Known<'_>]) {
+fn put_other(title: &mut Output, spot: &Spot<'_>, known: &[Known<'_>]) {
     let other = spot.word(spot.at.saturating_add(2));
     if spot.ahead(1) == Some(Kind::Substitute)
         && let Some(other) = known_name(known, other)

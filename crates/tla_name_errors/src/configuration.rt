@@ -96,7 +96,7 @@ fn find_formula(finding: &mut Finding, spot: &Spot<'_>) -> bool {
     true
 }
 
-/// Says how a statement is given a formula.
+/// Says how to name a formula in a statement.
 fn hint_formula(finding: &mut Finding, spot: &Spot<'_>, word: &str) {
     let name = if word == "INIT" {
         "Init"
@@ -139,12 +139,12 @@ fn find_unfinished(finding: &mut Finding, spot: &Spot<'_>) -> bool {
     items::find_open(finding, spot, spot.place(spot.at))
 }
 
-/// The word of the statement with a formula of which the line has a name before a token.
+/// The word of the statement that takes a formula, if a name is before the token in its line.
 fn formula_word<'a>(spot: &Spot<'a>) -> Option<&'a str> {
     let word = statement_before(spot);
     let is_formula = FORMULAS.contains(&word);
-    let is_behind_name = matches!(spot.back(1), Some(Kind::Name | Kind::Prime));
-    let goes_on = is_behind_name && !spot.begins_line(spot.at);
+    let is_after_name = matches!(spot.back(1), Some(Kind::Name | Kind::Prime));
+    let goes_on = is_after_name && !spot.begins_line(spot.at);
     (is_formula && goes_on).then_some(word)
 }
 
@@ -234,7 +234,8 @@ fn is_upper(word: &str) -> bool {
     !word.as_bytes().iter().any(|b| b.is_ascii_lowercase())
 }
 
-/// Where the misspelt words of statements are that begin a line and have a name behind them. The only error is out of memory.
+/// The places of misspelt words of statements: each begins a line, and a name follows it. The only
+/// error is out of memory.
 pub fn misspelt_places(
     alloc: Global,
     spot: &Spot<'_>,
@@ -254,7 +255,7 @@ pub fn misspelt_places(
     Ok(places)
 }
 
-/// Whether a word in capital letters begins a line, and a name or a truth value is behind it.
+/// Whether a word in capital letters begins a line, and a name or a truth value follows it.
 fn begins_names(spot: &Spot<'_>, index: usize) -> bool {
     let is_before_name = matches!(
         spot.kind(index.saturating_add(1)),

@@ -1,7 +1,7 @@
 //! Expressions of too high a level.
 
 use crate::reach::Definitions;
-use crate::statements::{Named, formulas_named, replaced};
+use crate::statements::{Named, formulas_named, replacement_of};
 use std::alloc::{AllocError, Global};
 use tla_config::{Source, Statement};
 use tla_finding::finding::Finding;
@@ -9,7 +9,7 @@ use tla_finding::spot::Spot;
 use tla_hints::is_before;
 use tla_lex::{Kind, Place, Token};
 use tla_page::definitions::definition_at;
-use tla_page::page::Page;
+use tla_page::output::Output;
 use tla_page::places::{Sources, put_at, word};
 use tla_page::units::{Role, known_name};
 use tla_tree::{Definition, Unit};
@@ -158,7 +158,7 @@ fn begins_temporal(kind: Option<Kind>) -> bool {
     )
 }
 
-/// Whether `~>` is the first token of time or of a next value behind this one.
+/// Whether `~>` is the first token of time or of a next value after this one.
 fn leads_on(spot: &Spot<'_>, tokens: &[Token]) -> bool {
     let place = spot.place(spot.at);
     for token in tokens {
@@ -187,8 +187,11 @@ fn statement_of<'a>(
     for one in formulas_named(finding.alloc(), statements)? {
         let asks = temporal || one.statement != "NEXT";
         if asks && one.statement != "SPECIFICATION" {
-            let name = replaced(statements, one.name);
-            if definitions.reached(finding.alloc(), name)?.contains(&own) {
+            let name = replacement_of(statements, one.name);
+            if definitions
+                .definitions_reached(finding.alloc(), name)?
+                .contains(&own)
+            {
                 return Ok(Some(one));
             }
         }
@@ -196,7 +199,7 @@ fn statement_of<'a>(
     Ok(None)
 }
 
-/// Says which statement names what formula: `INVARIANT names Next (Lock.cfg:5:19), which is an
+/// Says which statement names which formula: `INVARIANT names Next (Lock.cfg:5:19), which is an
 /// action`.
 fn say_named(
     finding: &mut Finding,
@@ -205,7 +208,7 @@ fn say_named(
     own: &str,
     temporal: bool,
 ) {
-    let mut title = Page::new(finding.alloc(), false);
+    let mut title = Output::new(finding.alloc(), false);
     title.put_text(one.statement);
     title.put(&[" names ", one.name, " ("]);
     put_at(&mut title, sources, Source::Configuration, one.place);

@@ -8,7 +8,7 @@ use tla_finding::spot::Spot;
 use tla_hints::module_with;
 use tla_lex::Place;
 use tla_names::variables;
-use tla_page::page::Page;
+use tla_page::output::Output;
 use tla_page::units::{Known, Role, known_name, known_names, text_of};
 use tla_tree::{Declaration, Unit, Word, Written};
 
@@ -119,8 +119,8 @@ pub fn other_constants(
     known: &[Known<'_>],
     configuration: &[u8],
     first: &str,
-) -> Result<Page, AllocError> {
-    let mut list = Page::new(alloc, false);
+) -> Result<Output, AllocError> {
+    let mut list = Output::new(alloc, false);
     let Some(config) = config_of(alloc, configuration) else {
         return Ok(list);
     };
@@ -163,14 +163,14 @@ fn unknown_place(alloc: Global, units: &[Unit]) -> Option<Place> {
     }
 }
 
-/// These units, in which the name at a token is known: its module is extended, or it is declared,
-/// and defined no more.
+/// These units, changed so that the name at a token is known: its module is extended, or it is declared
+/// and no longer defined.
 fn with_known(alloc: Global, units: Vec<Unit>, spot: &Spot<'_>) -> Result<Vec<Unit>, AllocError> {
     let name = spot.word(spot.at);
     let mut all = Vec::new(alloc);
     match module_with(name.as_bytes()) {
-        Some(module) => all.push(extending(alloc, spot, module)?)?,
-        None => all.push(declaring(alloc, spot)?)?,
+        Some(module) => all.push(extends_unit(alloc, spot, module)?)?,
+        None => all.push(constant_unit(alloc, spot)?)?,
     }
     for unit in units {
         if brings_in(alloc, &unit, name)? {
@@ -189,25 +189,25 @@ fn brings_in(alloc: Global, unit: &Unit, name: &str) -> Result<bool, AllocError>
 }
 
 /// A unit that extends a module.
-fn extending(alloc: Global, spot: &Spot<'_>, module: &str) -> Result<Unit, AllocError> {
+fn extends_unit(alloc: Global, spot: &Spot<'_>, module: &str) -> Result<Unit, AllocError> {
     let place = spot.place(spot.at);
     let mut names = Vec::new(alloc);
-    names.push(written(alloc, place, module)?)?;
+    names.push(written_at(alloc, place, module)?)?;
     Ok(Unit::Extends(place, names))
 }
 
 /// A unit that declares the name at a token, with as many arguments as it has there.
-fn declaring(alloc: Global, spot: &Spot<'_>) -> Result<Unit, AllocError> {
+fn constant_unit(alloc: Global, spot: &Spot<'_>) -> Result<Unit, AllocError> {
     let place = spot.place(spot.at);
     let mut declarations = Vec::new(alloc);
     declarations.push(Declaration {
-        name: written(alloc, place, spot.word(spot.at))?,
+        name: written_at(alloc, place, spot.word(spot.at))?,
         arity: given_arguments(spot),
     })?;
     Ok(Unit::Constants(place, declarations))
 }
 
-fn written(alloc: Global, place: Place, name: &str) -> Result<Written, AllocError> {
+fn written_at(alloc: Global, place: Place, name: &str) -> Result<Written, AllocError> {
     Ok(Written {
         place,
         word: Word::new(name.as_bytes().to_vec(alloc)?),

@@ -1,6 +1,6 @@
 //! Which definitions use which.
 
-use crate::statements::replaced;
+use crate::statements::replacement_of;
 use std::alloc::{AllocError, Global};
 use tla_config::Statement;
 use tla_hints::is_before;
@@ -30,7 +30,7 @@ impl<'a> Definitions<'a> {
             .take_while(|t| is_before(t.place, one.place))
             .count();
         let rest = tokens.get(start..).unwrap_or(&[]);
-        let Some(next) = self.after(&one) else {
+        let Some(next) = self.name_after(&one) else {
             return rest;
         };
         let len = rest
@@ -41,7 +41,7 @@ impl<'a> Definitions<'a> {
     }
 
     /// The name that is brought in next after this one.
-    fn after(&self, one: &Known<'_>) -> Option<Known<'a>> {
+    fn name_after(&self, one: &Known<'_>) -> Option<Known<'a>> {
         for other in self.known {
             if is_before(one.place, other.place) {
                 return Some(*other);
@@ -50,8 +50,12 @@ impl<'a> Definitions<'a> {
         None
     }
 
-    /// The definitions that one leads to, itself first. The only error is out of memory.
-    pub(crate) fn reached(&self, alloc: Global, name: &'a str) -> Result<Vec<&'a str>, AllocError> {
+    /// The definitions that a definition reaches, itself first. The only error is out of memory.
+    pub(crate) fn definitions_reached(
+        &self,
+        alloc: Global,
+        name: &'a str,
+    ) -> Result<Vec<&'a str>, AllocError> {
         let mut met = Vec::new(alloc);
         met.push(name)?;
         for index in 0..self.known.len() {
@@ -66,7 +70,7 @@ impl<'a> Definitions<'a> {
     /// Adds the definitions that one uses and that were not met before.
     fn add_used(&self, met: &mut Vec<&'a str>, name: &str) -> Result<(), AllocError> {
         for token in self.tokens_of(name) {
-            let used = replaced(self.statements, word(self.text, token));
+            let used = replacement_of(self.statements, word(self.text, token));
             if token.kind == Kind::Name && self.is_defined(used) && !met.contains(&used) {
                 met.push(used)?;
             }
@@ -81,7 +85,7 @@ impl<'a> Definitions<'a> {
         name: &'a str,
         other: &str,
     ) -> Result<bool, AllocError> {
-        Ok(self.reached(alloc, name)?.contains(&other))
+        Ok(self.definitions_reached(alloc, name)?.contains(&other))
     }
 
     pub(crate) fn is_defined(&self, name: &str) -> bool {

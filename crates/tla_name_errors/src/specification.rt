@@ -6,7 +6,7 @@ use tla_config::Source;
 use tla_finding::finding::Finding;
 use tla_hints::{closes_bracket, opens_bracket};
 use tla_lex::{Kind, Place, Token};
-use tla_page::page::Page;
+use tla_page::output::Output;
 use tla_page::places::word;
 use tla_page::units::Role;
 
@@ -43,7 +43,7 @@ fn steps_of<'a>(
     name: &'a str,
 ) -> Result<Vec<Step<'a>>, AllocError> {
     let mut steps = Vec::new(alloc);
-    for reached in definitions.reached(alloc, name)? {
+    for reached in definitions.definitions_reached(alloc, name)? {
         let tokens = definitions.tokens_of(reached);
         for (index, pair) in tokens.windows(2).enumerate() {
             if let [token, next] = pair
@@ -167,7 +167,7 @@ fn has_step(tokens: &[Token]) -> bool {
 
 /// Says which variables the subscript lacks, or which conjunct isn't of the form.
 fn find_in_step(finding: &mut Finding, definitions: &Definitions<'_>, name: &str, step: &Step<'_>) {
-    match lacking(finding.alloc(), definitions, step.subscript) {
+    match uncovered_variables(finding.alloc(), definitions, step.subscript) {
         Ok(names) if names.is_empty() => find_conjunct(finding, definitions, name),
         Ok(names) => say_lacking(finding, name, step, &names),
         Err(_) => finding.refuse(),
@@ -175,7 +175,7 @@ fn find_in_step(finding: &mut Finding, definitions: &Definitions<'_>, name: &str
 }
 
 /// The variables that a subscript doesn't cover. The only error is out of memory.
-fn lacking<'a>(
+fn uncovered_variables<'a>(
     alloc: Global,
     definitions: &Definitions<'a>,
     subscript: &[Token],
@@ -184,7 +184,7 @@ fn lacking<'a>(
     for token in subscript {
         let name = word(definitions.text, token);
         covered.push(name)?;
-        for reached in definitions.reached(alloc, name)? {
+        for reached in definitions.definitions_reached(alloc, name)? {
             add_words(&mut covered, definitions, reached)?;
         }
     }
@@ -212,12 +212,12 @@ fn add_words<'a>(
 }
 
 fn say_lacking(finding: &mut Finding, name: &str, step: &Step<'_>, names: &[&str]) {
-    let mut list = Page::new(finding.alloc(), false);
+    let mut list = Output::new(finding.alloc(), false);
     for (index, lacking) in names.iter().enumerate() {
         list.put_text(if index == 0 { "" } else { ", " });
         list.put_text(lacking);
     }
-    let Ok(bytes) = list.told() else {
+    let Ok(bytes) = list.bytes() else {
         return finding.refuse();
     };
     let lacked = str::from_utf8(bytes).unwrap_or("");
@@ -261,7 +261,7 @@ fn find_conjunct(finding: &mut Finding, definitions: &Definitions<'_>, name: &st
     }
 }
 
-/// Where the first prime or UNCHANGED is that no bracket has in it.
+/// The place of the first prime or UNCHANGED outside of brackets.
 fn primed_alone(tokens: &[Token]) -> Option<Place> {
     let mut deep: usize = 0;
     for token in tokens {

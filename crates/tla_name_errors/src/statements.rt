@@ -129,10 +129,10 @@ pub(crate) fn item_name(item: &Item) -> &Written {
 }
 
 /// What a name means by the items `c <- Op` of a configuration.
-pub fn replaced<'a>(statements: &'a [Statement], name: &'a str) -> &'a str {
+pub fn replacement_of<'a>(statements: &'a [Statement], name: &'a str) -> &'a str {
     for statement in statements {
         if let Statement::Constants(_, items) = statement
-            && let Some(other) = replacement(items, name)
+            && let Some(other) = replacement_in(items, name)
         {
             return other;
         }
@@ -140,7 +140,7 @@ pub fn replaced<'a>(statements: &'a [Statement], name: &'a str) -> &'a str {
     name
 }
 
-fn replacement<'a>(items: &'a [Item], name: &str) -> Option<&'a str> {
+fn replacement_in<'a>(items: &'a [Item], name: &str) -> Option<&'a str> {
     for item in items {
         if let Item::Replaces(written, other) = item
             && text_of(written) == name

@@ -178,7 +178,7 @@ fn find_later_in_let(finding: &mut Finding, spot: &Spot<'_>, units: &[Unit]) -> 
     true
 }
 
-/// Where a name is defined behind a token, in the same definition.
+/// Where a name is defined after a token, in the same definition.
 fn defined_later(spot: &Spot<'_>, units: &[Unit], name: &str, own: &str) -> Option<Place> {
     let first = spot.at.saturating_add(1);
     for (index, token) in spot.tokens.iter().enumerate().skip(first) {

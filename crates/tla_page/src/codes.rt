@@ -1,6 +1,7 @@
 //! What the codes of a report mean.
 
-/// What a code means: its rule, an example with the first line of its report, and the cure. `crates/acceptance/data/CODES.md` has these texts.
+/// What a code means: its rule, an example with the first line of its report, and the cure.
+/// `crates/acceptance/data/CODES.md` has these texts.
 #[derive(Clone, Copy, Debug)]
 pub struct CodeText {
     pub code: &'static str,

@@ -1,6 +1,6 @@
 //! The two texts, their names, and places in them.
 
-use crate::page::Page;
+use crate::output::Output;
 use std::alloc::Global;
 use tla_config::Source;
 use tla_lex::{Place, Scan, Token, configuration_tokens, tokens};
@@ -68,11 +68,11 @@ pub fn core_place(place: Place) -> tla_core::Place {
 }
 
 /// Adds a place within a line: `Lock.tla:12:5`.
-pub fn put_at(page: &mut Page, sources: &Sources<'_>, source: Source, place: Place) {
-    page.put(&[source_name(sources, source), ":"]);
-    page.put_number(u128::from(place.line));
-    page.put_text(":");
-    page.put_number(place.column);
+pub fn put_at(output: &mut Output, sources: &Sources<'_>, source: Source, place: Place) {
+    output.put(&[source_name(sources, source), ":"]);
+    output.put_number(u128::from(place.line));
+    output.put_text(":");
+    output.put_number(place.column);
 }
 
 /// The text of a token.

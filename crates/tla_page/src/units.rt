@@ -1,6 +1,6 @@
 //! What the units of a module bring in.
 
-use crate::page::Page;
+use crate::output::Output;
 use std::alloc::{AllocError, Global};
 use tla_lex::Place;
 use tla_tree::{Definition, Unit, Written};
@@ -75,7 +75,7 @@ pub fn words_of<'a>(alloc: Global, known: &[Known<'a>]) -> Result<Vec<&'a str>, 
     Ok(names)
 }
 
-/// The one of these names, if it is among them.
+/// What is known of a name, if it is among these.
 pub fn known_name<'a>(known: &[Known<'a>], name: &str) -> Option<Known<'a>> {
     for one in known {
         if one.name == name {
@@ -144,15 +144,15 @@ pub fn text_of(written: &Written) -> &str {
 }
 
 /// Adds what an assumption is called, by its number from 1: `assumption 2`, or with its name.
-pub fn put_assumption(page: &mut Page, units: &[Unit], number: u64) {
-    page.put_text("assumption ");
+pub fn put_assumption(output: &mut Output, units: &[Unit], number: u64) {
+    output.put_text("assumption ");
     let name = assumption_name(units, number);
     if name.is_empty() {
-        page.put_number(u128::from(number));
+        output.put_number(u128::from(number));
     } else {
-        page.put(&["'", name, "' ("]);
-        page.put_number(u128::from(number));
-        page.put_text(")");
+        output.put(&["'", name, "' ("]);
+        output.put_number(u128::from(number));
+        output.put_text(")");
     }
 }
 

@@ -1,32 +1,32 @@
 //! Values of variables, and keys on the way into them.
 
-use crate::page::Page;
+use crate::output::Output;
 use tla_hints::word_of;
 use tla_value::{State, Text, Value};
 
 /// Adds the values of the variables, a line each.
-pub fn put_state(page: &mut Page, variables: &[Text], state: &State) {
+pub fn put_state(output: &mut Output, variables: &[Text], state: &State) {
     for (name, value) in variables.iter().zip(state.values().iter()) {
-        put_variable(page, name.as_str(), value);
+        put_variable(output, name.as_str(), value);
     }
 }
 
-fn put_variable(page: &mut Page, name: &str, value: &Value) {
-    page.put(&["    ", name, " = "]);
-    page.put_value(value);
-    page.put_text("\n");
+fn put_variable(output: &mut Output, name: &str, value: &Value) {
+    output.put(&["    ", name, " = "]);
+    output.put_value(value);
+    output.put_text("\n");
 }
 
 /// Adds an argument after a function, as `.field` or `[argument]`.
-pub fn put_key(page: &mut Page, key: &Value) {
+pub fn put_key(output: &mut Output, key: &Value) {
     match key {
         Value::Text(field) if is_word(field.as_str().as_bytes()) => {
-            page.put(&[".", field.as_str()]);
+            output.put(&[".", field.as_str()]);
         }
         _ => {
-            page.put_text("[");
-            page.put_value(key);
-            page.put_text("]");
+            output.put_text("[");
+            output.put_value(key);
+            output.put_text("]");
         }
     }
 }
@@ -36,10 +36,10 @@ fn is_word(bytes: &[u8]) -> bool {
 }
 
 /// Adds the values before and after a step.
-pub fn put_from_to(page: &mut Page, old: &Value, new: &Value) {
-    page.put_text(": ");
-    page.put_value(old);
-    page.put_text(" -> ");
-    page.put_value(new);
-    page.put_text("\n");
+pub fn put_from_to(output: &mut Output, old: &Value, new: &Value) {
+    output.put_text(": ");
+    output.put_value(old);
+    output.put_text(" -> ");
+    output.put_value(new);
+    output.put_text("\n");
 }

@@ -4,7 +4,7 @@ use crate::refusal_text::title_of;
 use std::alloc::{AllocError, Global};
 use tla_config::{Source, Statement};
 use tla_finding::characters;
-use tla_finding::finding::{Finding, put_beside, put_page};
+use tla_finding::finding::{Finding, put_beside, put_output};
 use tla_finding::spot::Spot;
 use tla_lex::{Kind, Place, Token};
 use tla_name_errors::config_names::{
@@ -13,9 +13,9 @@ use tla_name_errors::config_names::{
 use tla_name_errors::configuration::{hint_left_out, misspelt_places};
 use tla_name_errors::more::{MOST_NAMES, other_constants, unknown_places, unknown_statements};
 use tla_name_errors::reach::Definitions;
-use tla_name_errors::statements::{config_of, replaced, value_place};
+use tla_name_errors::statements::{config_of, replacement_of, value_place};
 use tla_name_errors::{arguments, configuration, levels, specification, twice, unknown};
-use tla_page::page::Page;
+use tla_page::output::Output;
 use tla_page::places::{Sources, core_place, source_text, token_place, tokens_of};
 use tla_page::units::{Known, known_names, words_of};
 use tla_parse::parse_module;
@@ -33,7 +33,7 @@ struct Refused<'a> {
 }
 
 /// Explains a refusal.
-pub fn tell(page: &mut Page, sources: &Sources<'_>, refusal: &Refusal) {
+pub fn explain_refusal(output: &mut Output, sources: &Sources<'_>, refusal: &Refusal) {
     let refused = Refused {
         source: refusal.source,
         code: refusal.code,
@@ -41,14 +41,19 @@ pub fn tell(page: &mut Page, sources: &Sources<'_>, refusal: &Refusal) {
         name: name_of(refusal),
     };
     let text = source_text(sources, refused.source);
-    let tokens = tokens_of(page.alloc(), text, refused.source);
-    let finding = found(page.alloc(), sources, &tokens, refused);
-    put(page, sources, refused, &finding);
-    put_more(page, sources, &tokens, refused, &finding);
+    let tokens = tokens_of(output.alloc(), text, refused.source);
+    let finding = finding_of(output.alloc(), sources, &tokens, refused);
+    put(output, sources, refused, &finding);
+    put_more(output, sources, &tokens, refused, &finding);
 }
 
-/// What is found about a refusal.
-fn found(alloc: Global, sources: &Sources<'_>, tokens: &[Token], refused: Refused<'_>) -> Finding {
+/// Finds what is wrong at a refusal, and what helps.
+fn finding_of(
+    alloc: Global,
+    sources: &Sources<'_>,
+    tokens: &[Token],
+    refused: Refused<'_>,
+) -> Finding {
     let mut finding = Finding::at(alloc, refused.place);
     match refused.source {
         Source::Module => find_in_module(&mut finding, sources, tokens, refused),
@@ -59,7 +64,7 @@ fn found(alloc: Global, sources: &Sources<'_>, tokens: &[Token], refused: Refuse
 
 /// Adds what else is certainly wrong: unknown names, and misspelt statements.
 fn put_more(
-    page: &mut Page,
+    output: &mut Output,
     sources: &Sources<'_>,
     tokens: &[Token],
     refused: Refused<'_>,
@@ -68,11 +73,11 @@ fn put_more(
     let spot = Spot::of(source_text(sources, refused.source), tokens, refused.place);
     match (refused.source, refused.code, spot) {
         (Source::Module, RefusalCode::UnknownName, Some(spot)) if finding.title.is_empty() => {
-            put_names(page, sources, &spot, refused);
+            put_names(output, sources, &spot, refused);
         }
         (Source::Configuration, RefusalCode::UnknownName, Some(spot)) => {
             put_statements(
-                page,
+                output,
                 sources,
                 tokens,
                 &[spot.word(spot.at)],
@@ -80,32 +85,32 @@ fn put_more(
             );
         }
         (Source::Configuration, RefusalCode::ConfigurationText, _) => {
-            put_misspelt(page, sources, tokens, finding.place);
+            put_misspelt(output, sources, tokens, finding.place);
         }
         _ => {}
     }
 }
 
 /// Adds the other names that are unknown in the module, and those in the configuration.
-fn put_names(page: &mut Page, sources: &Sources<'_>, spot: &Spot<'_>, refused: Refused<'_>) {
-    let alloc = page.alloc();
+fn put_names(output: &mut Output, sources: &Sources<'_>, spot: &Spot<'_>, refused: Refused<'_>) {
+    let alloc = output.alloc();
     let units = units_of(alloc, sources.module);
     let Ok(places) = unknown_places(alloc, spot, units) else {
-        return page.refuse();
+        return output.refuse();
     };
     let all = places.as_slice();
     let shown = all.get(..MOST_NAMES).unwrap_or(all);
-    put_each(page, sources, spot, shown, refused, Some(refused.place));
+    put_each(output, sources, spot, shown, refused, Some(refused.place));
     if all.len() > MOST_NAMES {
-        page.put(&["note: ", sources.names.module]);
-        page.put_text(" has more unknown names than these\n");
+        output.put(&["note: ", sources.names.module]);
+        output.put_text(" has more unknown names than these\n");
     }
     match words_at(alloc, spot, all) {
         Ok(reported) => {
             let tokens = tokens_of(alloc, sources.configuration, Source::Configuration);
-            put_statements(page, sources, &tokens, &reported, None);
+            put_statements(output, sources, &tokens, &reported, None);
         }
-        Err(_) => page.refuse(),
+        Err(_) => output.refuse(),
     }
 }
 
@@ -127,17 +132,17 @@ fn words_at<'a>(
 
 /// Adds the names in statements of the configuration that are unknown, but for those that were reported.
 fn put_statements(
-    page: &mut Page,
+    output: &mut Output,
     sources: &Sources<'_>,
     tokens: &[Token],
     reported: &[&str],
     first: Option<Place>,
 ) {
-    let units = units_of(page.alloc(), sources.module);
-    let places = unknown_statements(page.alloc(), sources.configuration, &units, reported);
+    let units = units_of(output.alloc(), sources.module);
+    let places = unknown_statements(output.alloc(), sources.configuration, &units, reported);
     drop(units);
     put_of_configuration(
-        page,
+        output,
         sources,
         tokens,
         RefusalCode::UnknownName,
@@ -147,12 +152,12 @@ fn put_statements(
 }
 
 /// Adds the other misspelt statements, if one is at the place of what was reported.
-fn put_misspelt(page: &mut Page, sources: &Sources<'_>, tokens: &[Token], first: Place) {
-    let units = units_of(page.alloc(), sources.module);
-    let places = misspelt_beside(page.alloc(), sources, tokens, &units, first);
+fn put_misspelt(output: &mut Output, sources: &Sources<'_>, tokens: &[Token], first: Place) {
+    let units = units_of(output.alloc(), sources.module);
+    let places = misspelt_beside(output.alloc(), sources, tokens, &units, first);
     drop(units);
     let code = RefusalCode::ConfigurationText;
-    put_of_configuration(page, sources, tokens, code, places, Some(first));
+    put_of_configuration(output, sources, tokens, code, places, Some(first));
 }
 
 /// Where misspelt statements are, with these units, if one is at a place. The only error is out of memory.
@@ -180,7 +185,7 @@ fn misspelt_beside(
 
 /// Adds what is found about places of the configuration, but for the one that was reported first.
 fn put_of_configuration(
-    page: &mut Page,
+    output: &mut Output,
     sources: &Sources<'_>,
     tokens: &[Token],
     code: RefusalCode,
@@ -199,14 +204,14 @@ fn put_of_configuration(
         name: "",
     };
     match places {
-        Ok(places) => put_each(page, sources, &spot, &places, refused, first),
-        Err(_) => page.refuse(),
+        Ok(places) => put_each(output, sources, &spot, &places, refused, first),
+        Err(_) => output.refuse(),
     }
 }
 
 /// Adds what is found about refusals at places, each place once, but for the one that was reported first.
 fn put_each(
-    page: &mut Page,
+    output: &mut Output,
     sources: &Sources<'_>,
     spot: &Spot<'_>,
     places: &[Place],
@@ -218,9 +223,9 @@ fn put_each(
         let Some(one) = refused_at(spot, *place, refused.source, refused.code) else {
             continue;
         };
-        let finding = found(page.alloc(), sources, spot.tokens, one);
+        let finding = finding_of(output.alloc(), sources, spot.tokens, one);
         if Some(finding.place) != first && Some(finding.place) != last {
-            put(page, sources, one, &finding);
+            put(output, sources, one, &finding);
         }
         last = Some(finding.place);
     }
@@ -251,27 +256,27 @@ fn name_of(refusal: &Refusal) -> &str {
 }
 
 /// Adds what was found: the place, what is wrong there, the line, the other place, and what helps.
-fn put(page: &mut Page, sources: &Sources<'_>, refused: Refused<'_>, finding: &Finding) {
+fn put(output: &mut Output, sources: &Sources<'_>, refused: Refused<'_>, finding: &Finding) {
     let code = refusal_code_text(refused.code);
     let place = core_place(finding.place);
-    page.put_place(sources, refused.source, place);
+    output.put_place(sources, refused.source, place);
     if finding.title.is_empty() {
-        page.put_text(title_of(refused.code));
+        output.put_text(title_of(refused.code));
         if !refused.name.is_empty() {
-            page.put(&[" '", refused.name, "'"]);
+            output.put(&[" '", refused.name, "'"]);
         }
     } else {
-        put_page(page, &finding.title);
+        put_output(output, &finding.title);
     }
-    page.put(&[" (", code, ")\n"]);
-    page.show(sources, refused.source, place);
+    output.put(&[" (", code, ")\n"]);
+    output.show(sources, refused.source, place);
     if let Some(beside) = &finding.beside {
-        put_beside(page, sources, beside);
+        put_beside(output, sources, beside);
     }
     if finding.help.is_empty() && finding.beside.is_none() {
-        page.put_rule(code);
+        output.put_rule(code);
     }
-    put_page(page, &finding.help);
+    put_output(output, &finding.help);
 }
 
 /// Finds what is wrong in a module.
@@ -394,7 +399,7 @@ fn hint_others(finding: &mut Finding, sources: &Sources<'_>, spot: &Spot<'_>, kn
         Ok(list) => {
             if !list.is_empty() {
                 finding.help.put_text("hint: without a value, too: ");
-                put_page(&mut finding.help, &list);
+                put_output(&mut finding.help, &list);
                 finding.help.put_text("\n");
             }
         }
@@ -504,7 +509,7 @@ fn find_form(
     statements: &[Statement],
     name: &str,
 ) {
-    let meant = replaced(statements, name);
+    let meant = replacement_of(statements, name);
     if let Some(place) = value_place(statements, meant) {
         return specification::say_value(finding, name, meant, place);
     }

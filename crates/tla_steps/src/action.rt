@@ -40,7 +40,7 @@ fn gather(
         Core::ForSome(_, _, body) | Core::Opened(_, _, body) => {
             gather(body, within, starts, parts)
         }
-        Core::Conjunction(place, conjuncts) => match leading(*place, conjuncts, starts) {
+        Core::Conjunction(place, conjuncts) => match leading_conjunct(*place, conjuncts, starts) {
             Some(index) => gather_at(conjuncts, index, *place, starts, parts),
             None => add(*place, within, parts),
         },
@@ -88,11 +88,15 @@ fn add(place: Place, within: Option<Place>, parts: &mut Vec<ActionPart>) -> Resu
 /// Which conjunct of a conjunction has the parts: the only one with next values that is a disjunction or a `\E`, or
 /// that contains such a conjunct. If there is none, it is the only one with next values, if that belongs to another
 /// definition.
-pub(crate) fn leading(place: Place, conjuncts: &[Core], starts: &[Place]) -> Option<usize> {
-    match only(conjuncts, true) {
+pub(crate) fn leading_conjunct(
+    place: Place,
+    conjuncts: &[Core],
+    starts: &[Place],
+) -> Option<usize> {
+    match only_conjunct(conjuncts, true) {
         Found::One(index) => Some(index),
         Found::Many => None,
-        Found::None => match only(conjuncts, false) {
+        Found::None => match only_conjunct(conjuncts, false) {
             Found::One(index) => {
                 let called = conjuncts.get(index)?.place();
                 if definition(called, starts) == definition(place, starts) {
@@ -115,8 +119,8 @@ enum Found {
 }
 
 /// The only conjunct with next values, or the only one of those that branch.
-#[cycle(leading)]
-fn only(conjuncts: &[Core], branch: bool) -> Found {
+#[cycle(leading_conjunct)]
+fn only_conjunct(conjuncts: &[Core], branch: bool) -> Found {
     let mut found = Found::None;
     let mut index = 0usize;
     for conjunct in conjuncts {
@@ -132,11 +136,11 @@ fn only(conjuncts: &[Core], branch: bool) -> Found {
 }
 
 /// Whether a part has parts of its own, in a conjunct that branches.
-#[cycle(leading)]
+#[cycle(leading_conjunct)]
 fn branches(core: &Core) -> bool {
     match core {
         Core::Disjunction(_, _) | Core::ForSome(_, _, _) => true,
-        Core::Conjunction(_, conjuncts) => matches!(only(conjuncts, true), Found::One(_)),
+        Core::Conjunction(_, conjuncts) => matches!(only_conjunct(conjuncts, true), Found::One(_)),
         _ => false,
     }
 }

@@ -251,7 +251,7 @@ pub(crate) fn reached_from_all(
 ) -> Result<Option<Vec<Partial>>, Fault> {
     let mut all = Vec::new(walk.alloc());
     for state in states {
-        match walk.reached(part, state)? {
+        match walk.states_of(part, state)? {
             Some(reached) => {
                 let mut more = reached;
                 all.append(&mut more)?;

@@ -78,7 +78,7 @@ impl Path {
     }
 
     /// The choices that have a name. The only error is that memory ran out.
-    pub(crate) fn chosen(&self, alloc: Global) -> Result<Vec<Chosen>, Fault> {
+    pub(crate) fn named_choices(&self, alloc: Global) -> Result<Vec<Chosen>, Fault> {
         let mut chosen = Vec::new(alloc);
         let mut last = None;
         let mut name = 0usize;

@@ -416,7 +416,7 @@ pub(crate) fn accuse<'a>(
     let value = hunt.walk.value(core, next)?;
     let culprit = Culprit {
         nodes: mem::replace(&mut hunt.nodes, Vec::new(alloc)),
-        chosen: hunt.walk.chosen()?,
+        chosen: hunt.walk.bound_choices()?,
         operands,
         value,
     };

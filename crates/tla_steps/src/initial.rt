@@ -12,7 +12,7 @@ pub fn initial_states(alloc: Global, init: &Core, variables: usize) -> Result<Ve
     let mut walk = Walk::new(alloc, None, 1);
     let unset = Partial::unset(alloc, variables)?;
     let mut states = Vec::new(alloc);
-    let Some(reached) = walk.reached(init, &unset)? else {
+    let Some(reached) = walk.states_of(init, &unset)? else {
         return Ok(states);
     };
     for partial in reached {

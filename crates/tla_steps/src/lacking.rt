@@ -253,7 +253,7 @@ fn find_in_part<'a>(
     if lack.found.is_none() {
         lack.found = Some(LackingPart {
             part,
-            chosen: walk.chosen()?,
+            chosen: walk.bound_choices()?,
         });
     }
     Ok(())
@@ -266,7 +266,7 @@ fn leads_to_lack(
     variable: usize,
     walk: &mut Walk<'_>,
 ) -> Result<bool, Fault> {
-    match walk.reached(part, from)? {
+    match walk.states_of(part, from)? {
         Some(states) => Ok(states.iter().any(|state| is_unset(state, variable))),
         None => Ok(false),
     }

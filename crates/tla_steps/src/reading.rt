@@ -151,7 +151,7 @@ fn hunt_or_read<'a>(
 ) -> Result<Option<Vec<Partial>>, Fault> {
     let mut all = Vec::new(hunt.walk.alloc());
     for state in states {
-        match hunt.walk.reached(part, state)? {
+        match hunt.walk.states_of(part, state)? {
             Some(reached) => {
                 let mut more = reached;
                 all.append(&mut more)?;

@@ -301,7 +301,7 @@ pub(crate) fn reason_at<'a>(
     Ok(Reason {
         part,
         verdict,
-        chosen: walk.chosen()?,
+        chosen: walk.bound_choices()?,
         operands,
         stray,
     })

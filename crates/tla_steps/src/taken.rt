@@ -1,6 +1,6 @@
 //! The parts that a step makes true.
 
-use crate::action::{Action, ActionPart, leading};
+use crate::action::{Action, ActionPart, leading_conjunct};
 use crate::chosen::Taken;
 use crate::walk::Walk;
 use std::alloc::Global;
@@ -27,7 +27,7 @@ impl<'a> Step<'a> {
         }
     }
 
-    /// Whether nobody asks for a part.
+    /// Whether a part isn't looked for.
     fn skips(&self, part: &Core) -> bool {
         self.action.skipped.contains(&ActionPart {
             place: part.place(),
@@ -89,7 +89,7 @@ fn find_taken(
             find_by_items(body, openings, *place, step, walk, found)
         }
         Core::Conjunction(place, conjuncts) => {
-            let Some(index) = leading(*place, conjuncts, step.action.starts) else {
+            let Some(index) = leading_conjunct(*place, conjuncts, step.action.starts) else {
                 return add_if_true(part, step, walk, found);
             };
             let count = found.len();
@@ -188,7 +188,7 @@ fn add(part: &Core, step: &Step<'_>, walk: &Walk<'_>, found: &mut Vec<Taken>) ->
     found.push(Taken {
         place: part.place(),
         within: step.within,
-        chosen: walk.chosen()?,
+        chosen: walk.bound_choices()?,
     })?;
     Ok(())
 }

@@ -92,8 +92,8 @@ impl<'a> Walk<'a> {
     }
 
     /// The bound names that occur in the text, the outermost first.
-    pub(crate) fn chosen(&self) -> Result<Vec<Chosen>, Fault> {
-        self.path.chosen(self.alloc)
+    pub(crate) fn bound_choices(&self) -> Result<Vec<Chosen>, Fault> {
+        self.path.named_choices(self.alloc)
     }
 
     /// The value of an expression.
@@ -139,8 +139,8 @@ impl<'a> Walk<'a> {
         unless_faulty(set_members(self.alloc, set.place(), set, bound, self.now, next))
     }
 
-    /// The states that a part of an action leads to.
-    pub(crate) fn reached(
+    /// The states that a part of an action leads to from a state.
+    pub(crate) fn states_of(
         &mut self,
         part: &Core,
         from: &Partial,

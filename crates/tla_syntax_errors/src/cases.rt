@@ -18,7 +18,7 @@ pub(crate) fn find(finding: &mut Finding, spot: &Spot<'_>) -> bool {
         Some(Kind::Else) if is_first => "'ELSE' in a CASE",
         Some(Kind::Colon) if !has_arrow => "':' where an arm of CASE has '->'",
         Some(Kind::Comma) if has_arrow => "',' where a CASE has '[]'",
-        Some(kind) if !has_arrow && (kind == Kind::Box || is_behind(spot, kind)) => {
+        Some(kind) if !has_arrow && (kind == Kind::Box || ends_before(spot, kind)) => {
             "'->' is missing in the arm of a CASE before this"
         }
         _ => return false,
@@ -29,7 +29,7 @@ pub(crate) fn find(finding: &mut Finding, spot: &Spot<'_>) -> bool {
 }
 
 /// Whether the definition of a CASE ends before a token.
-fn is_behind(spot: &Spot<'_>, kind: Kind) -> bool {
+fn ends_before(spot: &Spot<'_>, kind: Kind) -> bool {
     begins_unit(kind) || (spot.begins_line(spot.at) && spot.is_head(spot.at))
 }
 
@@ -46,7 +46,7 @@ pub(crate) fn find_arm(finding: &mut Finding, spot: &Spot<'_>) -> bool {
     is_arm
 }
 
-/// Whether `->` is in the line of a token, behind it.
+/// Whether `->` follows a token in its line.
 fn arrow_follows(spot: &Spot<'_>) -> bool {
     let line = spot.place(spot.at).line;
     let rest = spot.tokens.get(spot.at..).unwrap_or(&[]);

@@ -33,7 +33,7 @@ pub(crate) fn find(finding: &mut Finding, spot: &Spot<'_>, open: Option<Open>) -
     true
 }
 
-/// Whether EXCEPT is behind the bracket that is open.
+/// Whether EXCEPT follows the open bracket.
 fn has_except(spot: &Spot<'_>, open: Open) -> bool {
     let before = spot.tokens.get(..spot.at).unwrap_or(&[]);
     let mut inside = before.iter().filter(|token| token.start > open.token.start);

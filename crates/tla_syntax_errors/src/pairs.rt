@@ -30,11 +30,11 @@ pub(crate) fn find(finding: &mut Finding, spot: &Spot<'_>, open: Option<Open>) -
     let by_tokens = joined_before(spot)
         .or(joined_after(spot))
         .or(bag_operator(spot))
-        .or(misplaced(spot));
+        .or(cure_misplaced(spot));
     let cure = match open {
-        Some(open) if opens_bracket(open.token.kind) => by_tokens.or(inside(spot, open)),
-        Some(open) => by_tokens.or(outside(spot)).or(inside(spot, open)),
-        None => by_tokens.or(outside(spot)),
+        Some(open) if opens_bracket(open.token.kind) => by_tokens.or(cure_inside(spot, open)),
+        Some(open) => by_tokens.or(cure_outside(spot)).or(cure_inside(spot, open)),
+        None => by_tokens.or(cure_outside(spot)),
     };
     if let Some((title, hint)) = cure {
         finding.say(spot.place(spot.at), &[title]);
@@ -43,7 +43,7 @@ pub(crate) fn find(finding: &mut Finding, spot: &Spot<'_>, open: Option<Open>) -
     cure.is_some()
 }
 
-/// What to write for a token and the one that it touches before it.
+/// What to write for a token and the one directly before it.
 fn joined_before(spot: &Spot<'_>) -> Option<Cure> {
     let before = spot.back(1)?;
     if !spot.touches_before(spot.at) {
@@ -68,7 +68,7 @@ fn joined_before(spot: &Spot<'_>) -> Option<Cure> {
     }
 }
 
-/// What to write for a token and the one that touches it behind.
+/// What to write for a token and the one that directly follows it.
 fn joined_after(spot: &Spot<'_>) -> Option<Cure> {
     let next = spot.ahead(1)?;
     if !spot.touches_before(spot.at.saturating_add(1)) {
@@ -87,7 +87,7 @@ fn joined_after(spot: &Spot<'_>) -> Option<Cure> {
     }
 }
 
-/// Whether the word behind a backslash is the rest of `\hFF`, `\o17` or `\b101`.
+/// Whether the word after a backslash is the rest of `\hFF`, `\o17` or `\b101`.
 fn is_coded(spot: &Spot<'_>) -> bool {
     let word = spot.word(spot.at.saturating_add(1)).as_bytes();
     match word {
@@ -123,22 +123,22 @@ fn bag_operator(spot: &Spot<'_>) -> Option<Cure> {
     }
 }
 
-/// What to write for an operator that has its operands on other sides.
-fn misplaced(spot: &Spot<'_>) -> Option<Cure> {
-    let is_behind = spot.back(1).is_some_and(ends_operand);
+/// What to write for an operator whose operands are on the wrong side.
+fn cure_misplaced(spot: &Spot<'_>) -> Option<Cure> {
+    let has_left = spot.back(1).is_some_and(ends_operand);
     match spot.kind(spot.at)? {
-        Kind::Union if is_behind => Some((
+        Kind::Union if has_left => Some((
             "UNION between two operands",
             "write a \\cup b; UNION S is the union of the sets in S",
         )),
-        Kind::Subset if is_behind => Some((
+        Kind::Subset if has_left => Some((
             "SUBSET between two operands",
             "write a \\subseteq b; SUBSET S is the set of all subsets of S",
         )),
-        Kind::Diamond if is_behind => {
+        Kind::Diamond if has_left => {
             Some(("'<>' is no comparison", "write a # b; <> is for time"))
         }
-        Kind::Less if !is_behind => Some((
+        Kind::Less if !has_left => Some((
             "'<' with nothing on its left",
             "a tuple is written <<a, b>>",
         )),
@@ -151,7 +151,7 @@ fn misplaced(spot: &Spot<'_>) -> Option<Cure> {
 }
 
 /// What to write for an operator that is no part of a bracket.
-fn outside(spot: &Spot<'_>) -> Option<Cure> {
+fn cure_outside(spot: &Spot<'_>) -> Option<Cure> {
     match spot.kind(spot.at)? {
         Kind::Arrow => Some(("'->' is no operator", "write a => b for implies")),
         Kind::MapsTo => Some(MAPPED),
@@ -164,7 +164,7 @@ fn outside(spot: &Spot<'_>) -> Option<Cure> {
 }
 
 /// What to write inside a bracket, or before the colon of a quantifier.
-fn inside(spot: &Spot<'_>, open: Open) -> Option<Cure> {
+fn cure_inside(spot: &Spot<'_>, open: Open) -> Option<Cure> {
     let kind = spot.kind(spot.at)?;
     let opening = open.token.kind;
     if kind == Kind::In && opening != Kind::Let && opening != Kind::If {

@@ -1,37 +1,37 @@
 //! The names that a quantifier binds.
 
+use crate::context::ExplainContext;
 use crate::expressions::binder_at;
-use crate::models::Telling;
 use tla_hints::{closes_bracket, opens_bracket};
 use tla_lex::{Kind, Place, Token};
-use tla_page::page::Page;
+use tla_page::output::Output;
 use tla_page::places::word;
 use tla_steps::Chosen;
 use tla_tree::{Binder, Expr, Pattern, Written};
 
 /// Adds the values of bound names: `with i = 1, j = 4`.
-pub fn put_choices(page: &mut Page, telling: &Telling<'_>, chosen: &[Chosen]) {
+pub fn put_choices(output: &mut Output, context: &ExplainContext<'_>, chosen: &[Chosen]) {
     for (index, choice) in chosen.iter().enumerate() {
-        page.put_text(if index == 0 { "with " } else { ", " });
-        let name = name_of(telling, choice).unwrap_or("it");
-        page.put(&[name, " = "]);
-        page.put_value(&choice.value);
+        output.put_text(if index == 0 { "with " } else { ", " });
+        let name = name_of(context, choice).unwrap_or("it");
+        output.put(&[name, " = "]);
+        output.put_value(&choice.value);
     }
 }
 
 /// Whether an expression is one of the names that were chosen.
-pub fn is_choice(telling: &Telling<'_>, chosen: &[Chosen], expr: &Expr) -> bool {
+pub fn is_choice(context: &ExplainContext<'_>, chosen: &[Chosen], expr: &Expr) -> bool {
     let Expr::Name(name) = expr else {
         return false;
     };
     chosen.iter().any(|choice| {
-        name_of(telling, choice).is_some_and(|other| other.as_bytes() == name.word.as_bytes())
+        name_of(context, choice).is_some_and(|other| other.as_bytes() == name.word.as_bytes())
     })
 }
 
 /// The name of a value that was chosen.
-fn name_of<'a>(telling: &Telling<'a>, choice: &Chosen) -> Option<&'a str> {
-    let written = match binder_at(telling.units, choice.place)? {
+fn name_of<'a>(context: &ExplainContext<'a>, choice: &Chosen) -> Option<&'a str> {
+    let written = match binder_at(context.units, choice.place)? {
         Expr::Quantified(_, _, binders, _) => nth_in_turn(binders, choice.name),
         Expr::Choose(_, pattern, _, _) | Expr::Filter(_, pattern, _, _) => {
             pattern.names().get(choice.name)
@@ -91,17 +91,17 @@ pub fn bound_name<'a>(
     let mut in_pattern = false;
     let mut left = nth;
     for three in tokens.get(from..)?.windows(3) {
-        let [before, token, behind] = three else {
+        let [before, token, after] = three else {
             return None;
         };
-        depth = depth_behind(depth, before.kind);
+        depth = depth_after(depth, before.kind);
         if depth == 0 {
             if before.kind == Kind::Colon {
                 return None;
             }
             in_pattern = begins_pattern(before.kind, token.kind);
         }
-        let is_plain = depth == 0 && stands_alone(before.kind, behind.kind);
+        let is_plain = depth == 0 && is_bound_alone(before.kind, after.kind);
         if token.kind == Kind::Name && (in_pattern || is_plain) {
             if left == 0 {
                 return Some(word(text, token));
@@ -112,8 +112,8 @@ pub fn bound_name<'a>(
     None
 }
 
-/// How deep in brackets a token leads.
-fn depth_behind(depth: usize, kind: Kind) -> usize {
+/// The depth of brackets after a token.
+fn depth_after(depth: usize, kind: Kind) -> usize {
     if opens_bracket(kind) {
         depth.saturating_add(1)
     } else if closes_bracket(kind) {
@@ -129,8 +129,8 @@ fn begins_pattern(before: Kind, kind: Kind) -> bool {
 }
 
 /// Whether a name between these is bound by itself.
-fn stands_alone(before: Kind, behind: Kind) -> bool {
-    begins_entry(before) && ends_name(behind)
+fn is_bound_alone(before: Kind, after: Kind) -> bool {
+    begins_entry(before) && ends_name(after)
 }
 
 /// Whether a bound name, or a pattern, may follow a token.
@@ -139,6 +139,6 @@ fn begins_entry(before: Kind) -> bool {
 }
 
 /// Whether a token may follow a bound name.
-fn ends_name(behind: Kind) -> bool {
-    behind == Kind::Comma || behind == Kind::Member
+fn ends_name(after: Kind) -> bool {
+    after == Kind::Comma || after == Kind::Member
 }

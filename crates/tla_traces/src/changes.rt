@@ -3,7 +3,7 @@
 use crate::differences::{Change, Difference, Key, Path, Spot};
 use crate::parts::parts_of;
 use std::alloc::{AllocError, Global};
-use tla_page::page::Page;
+use tla_page::output::Output;
 use tla_page::values::{put_from_to, put_key};
 use tla_report::Names;
 use tla_value::{State, Value};
@@ -12,14 +12,14 @@ use tla_value::{State, Value};
 const MOST_LINES: usize = 60;
 
 /// Adds what changes between two states, a line for each part that changes.
-pub(crate) fn put_changes(page: &mut Page, variables: &Names, before: &State, after: &State) {
-    let Ok(changed) = changed_variables(page.alloc(), variables, before, after) else {
-        return page.refuse();
+pub(crate) fn put_changes(output: &mut Output, variables: &Names, before: &State, after: &State) {
+    let Ok(changed) = changed_variables(output.alloc(), variables, before, after) else {
+        return output.refuse();
     };
     if changed.is_empty() {
-        page.put_text("    nothing changes\n");
+        output.put_text("    nothing changes\n");
     } else {
-        put_all(page, changed);
+        put_all(output, changed);
     }
 }
 
@@ -46,30 +46,30 @@ fn changed_variables<'a>(
 }
 
 /// Adds differences. One that has parts is shown by them.
-fn put_all(page: &mut Page, differences: Vec<Difference<'_>>) {
-    let mut left = Vec::new(page.alloc());
+fn put_all(output: &mut Output, differences: Vec<Difference<'_>>) {
+    let mut left = Vec::new(output.alloc());
     if push_all(&mut left, differences).is_err() {
-        return page.refuse();
+        return output.refuse();
     }
     let mut lines = 0usize;
     for _ in 0..u64::MAX {
         let Some(difference) = left.pop() else {
             return;
         };
-        if lines >= MOST_LINES && !page.is_full() {
-            return page.put_text("    and more\n");
+        if lines >= MOST_LINES && !output.is_full() {
+            return output.put_text("    and more\n");
         }
-        match parts_of(page.alloc(), &difference) {
+        match parts_of(output.alloc(), &difference) {
             Ok(None) => {
-                put_difference(page, &difference);
+                put_difference(output, &difference);
                 lines = lines.saturating_add(1);
             }
             Ok(Some(parts)) => {
                 if push_all(&mut left, parts).is_err() {
-                    return page.refuse();
+                    return output.refuse();
                 }
             }
-            Err(_) => return page.refuse(),
+            Err(_) => return output.refuse(),
         }
     }
 }
@@ -85,49 +85,49 @@ fn push_all<'a>(
     Ok(())
 }
 
-fn put_difference(page: &mut Page, difference: &Difference<'_>) {
-    page.put(&["    ", difference.path.variable]);
+fn put_difference(output: &mut Output, difference: &Difference<'_>) {
+    output.put(&["    ", difference.path.variable]);
     for key in &difference.path.keys {
-        put_step(page, *key);
+        put_step(output, *key);
     }
-    put_change(page, difference.change);
+    put_change(output, difference.change);
 }
 
-fn put_step(page: &mut Page, key: Key<'_>) {
+fn put_step(output: &mut Output, key: Key<'_>) {
     match key {
-        Key::Number(number) => put_key(page, &Value::Int(number)),
-        Key::Value(value) => put_key(page, value),
+        Key::Number(number) => put_key(output, &Value::Int(number)),
+        Key::Value(value) => put_key(output, value),
     }
 }
 
-fn put_change(page: &mut Page, change: Change<'_>) {
+fn put_change(output: &mut Output, change: Change<'_>) {
     match change {
-        Change::Other(old, new) => put_from_to(page, old, new),
-        Change::Gained(value) => put_line(page, ": + ", value),
-        Change::Lost(value) => put_line(page, ": - ", value),
-        Change::New(value) => put_line(page, ": new, ", value),
-        Change::Gone(value) => put_line(page, ": gone, was ", value),
-        Change::Put(value, spot) => put_at(page, ": + ", value, spot),
-        Change::Taken(value, spot) => put_at(page, ": - ", value, spot),
+        Change::Other(old, new) => put_from_to(output, old, new),
+        Change::Gained(value) => put_line(output, ": + ", value),
+        Change::Lost(value) => put_line(output, ": - ", value),
+        Change::New(value) => put_line(output, ": new, ", value),
+        Change::Gone(value) => put_line(output, ": gone, was ", value),
+        Change::Put(value, spot) => put_at(output, ": + ", value, spot),
+        Change::Taken(value, spot) => put_at(output, ": - ", value, spot),
     }
 }
 
-fn put_line(page: &mut Page, sign: &str, value: &Value) {
-    page.put_text(sign);
-    page.put_value(value);
-    page.put_text("\n");
+fn put_line(output: &mut Output, sign: &str, value: &Value) {
+    output.put_text(sign);
+    output.put_value(value);
+    output.put_text("\n");
 }
 
-fn put_at(page: &mut Page, sign: &str, value: &Value, spot: Spot) {
-    page.put_text(sign);
-    page.put_value(value);
+fn put_at(output: &mut Output, sign: &str, value: &Value, spot: Spot) {
+    output.put_text(sign);
+    output.put_value(value);
     match spot {
-        Spot::Front => page.put_text(" at the front\n"),
-        Spot::End => page.put_text(" at the end\n"),
+        Spot::Front => output.put_text(" at the front\n"),
+        Spot::End => output.put_text(" at the end\n"),
         Spot::Between(place) => {
-            page.put_text(" at place ");
-            page.put_number(place as u128);
-            page.put_text("\n");
+            output.put_text(" at place ");
+            output.put_number(place as u128);
+            output.put_text("\n");
         }
     }
 }

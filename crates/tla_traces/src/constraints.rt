@@ -3,7 +3,7 @@
 use std::alloc::Global;
 use tla_core::Fault;
 use tla_model::Model;
-use tla_page::page::Page;
+use tla_page::output::Output;
 use tla_steps::{initial_states, is_false_in_all};
 use tla_value::State;
 use tla_verdict::Counts;
@@ -18,18 +18,18 @@ pub(crate) fn may_stop(counts: &Counts) -> bool {
 
 /// Notes that at every initial state a constraint is FALSE, unless one is FALSE at all of them: that one has a note of
 /// its own.
-pub(crate) fn put_constraints(page: &mut Page, model: &Model, counts: &Counts) {
+pub(crate) fn put_constraints(output: &mut Output, model: &Model, counts: &Counts) {
     if !may_stop(counts) || model.constraints().len() < 2 {
         return;
     }
-    match stop_together(page.alloc(), model) {
+    match stop_together(output.alloc(), model) {
         Ok(true) => {
-            page.put_text(
+            output.put_text(
                 "note: at every initial state a constraint is FALSE, so no step was taken\n",
             );
         }
         Ok(false) => {}
-        Err(_) => page.refuse(),
+        Err(_) => output.refuse(),
     }
 }
 

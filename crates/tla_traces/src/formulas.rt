@@ -1,6 +1,6 @@
 //! The formulas that statements of the configuration name.
 
-use crate::models::Telling;
+use crate::context::ExplainContext;
 use std::alloc::{AllocError, Global};
 use tla_config::{Item, Statement};
 use tla_core::Place;
@@ -29,28 +29,28 @@ pub struct Formula<'a> {
 /// memory.
 pub fn formula_of<'a>(
     alloc: Global,
-    telling: &Telling<'a>,
+    context: &ExplainContext<'a>,
     part: Part,
 ) -> Result<Option<Formula<'a>>, AllocError> {
-    let Some(name) = name_of(telling.statements, part) else {
+    let Some(name) = name_of(context.statements, part) else {
         return Ok(None);
     };
     Ok(Some(Formula {
         statement: word_of(part),
         name: text_of(name),
         place: core_place(name.place),
-        item: item_of(telling.statements, name),
-        meant: meant_by(alloc, telling, name)?,
+        item: item_of(context.statements, name),
+        meant: meant_by(alloc, context, name)?,
     }))
 }
 
 /// The same, if the module has no text for it.
 pub fn name_alone<'a>(
     alloc: Global,
-    telling: &Telling<'a>,
+    context: &ExplainContext<'a>,
     part: Part,
 ) -> Result<Option<Formula<'a>>, AllocError> {
-    match formula_of(alloc, telling, part)? {
+    match formula_of(alloc, context, part)? {
         Some(formula) if formula.meant.is_none() => Ok(Some(formula)),
         _ => Ok(None),
     }
@@ -126,22 +126,22 @@ pub fn name_of_item(item: &Item) -> &Written {
 /// What a name means by the items of the configuration, if the module brings that in.
 fn meant_by<'a>(
     alloc: Global,
-    telling: &Telling<'a>,
+    context: &ExplainContext<'a>,
     name: &'a Written,
 ) -> Result<Option<Known<'a>>, AllocError> {
-    let Some(meant) = meaning_of(telling, name) else {
+    let Some(meant) = meaning_of(context, name) else {
         return Ok(None);
     };
-    let known = known_names(alloc, telling.units)?;
+    let known = known_names(alloc, context.units)?;
     Ok(known_name(&known, text_of(meant)))
 }
 
 /// The name that a name means by items `c <- Op`; none where it means a value. No item leads back to
 /// its own name, so there are fewer of them in a row than tokens.
-fn meaning_of<'a>(telling: &Telling<'a>, name: &'a Written) -> Option<&'a Written> {
+fn meaning_of<'a>(context: &ExplainContext<'a>, name: &'a Written) -> Option<&'a Written> {
     let mut meant = name;
-    for _ in telling.tokens {
-        match item_of(telling.statements, meant) {
+    for _ in context.tokens {
+        match item_of(context.statements, meant) {
             None => return Some(meant),
             Some(Item::Value(_, _)) => return None,
             Some(Item::Replaces(_, other)) => meant = other,

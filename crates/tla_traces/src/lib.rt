@@ -5,11 +5,11 @@
 pub mod binders;
 mod changes;
 mod constraints;
+pub mod context;
 pub mod coverage;
 mod differences;
 pub mod expressions;
 pub mod formulas;
-pub mod models;
 pub mod named;
 mod parts;
 pub mod reachable;

@@ -1,6 +1,6 @@
-//! The model that the two texts name, with what it was read from.
+//! The model that the two texts denote, with what it was read from.
 
-use crate::models::Telling;
+use crate::context::ExplainContext;
 use std::alloc::Global;
 use tla_config::{Config, parse_config};
 use tla_defs::build;
@@ -20,7 +20,7 @@ pub struct Named {
 }
 
 impl Named {
-    /// What the two texts name; nothing where they are refused or memory ran out.
+    /// Reads the two texts. None if they are refused or memory ran out.
     pub fn read(alloc: Global, sources: &Sources<'_>) -> Option<Named> {
         let tokens = tokens(alloc, sources.module).ok()?;
         let module = parse_module(alloc, sources.module, &tokens).ok()?;
@@ -34,9 +34,9 @@ impl Named {
         })
     }
 
-    /// What explanations are written with.
-    pub fn telling<'a>(&'a self, sources: &'a Sources<'a>) -> Telling<'a> {
-        Telling {
+    /// The context of explanations.
+    pub fn context<'a>(&'a self, sources: &'a Sources<'a>) -> ExplainContext<'a> {
+        ExplainContext {
             sources,
             tokens: &self.tokens,
             units: &self.module.units,

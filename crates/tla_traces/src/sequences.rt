@@ -67,8 +67,8 @@ fn different_places(old: &[Value], new: &[Value]) -> usize {
 /// The way of fewer items to make one sequence of another: at the front and at the end, or in one
 /// place.
 fn edit_of(old: &[Value], new: &[Value]) -> Edit {
-    let replacing = replacing(old, new);
-    match shifting(old, new) {
+    let replacing = replace_edit(old, new);
+    match shift_edit(old, new) {
         Some(shifting) if cost(shifting) <= cost(replacing) => shifting,
         _ => replacing,
     }
@@ -76,7 +76,7 @@ fn edit_of(old: &[Value], new: &[Value]) -> Edit {
 
 /// The first items are taken off the front, and others are put on at the end, if some between them
 /// are kept.
-fn shifting(old: &[Value], new: &[Value]) -> Option<Edit> {
+fn shift_edit(old: &[Value], new: &[Value]) -> Option<Edit> {
     for taken in 1..old.len().min(MOST_TAKEN) {
         let kept = old.get(taken..).unwrap_or(&[]);
         if new.starts_with(kept) {
@@ -92,7 +92,7 @@ fn shifting(old: &[Value], new: &[Value]) -> Option<Edit> {
 }
 
 /// What both have at the front and at the end is kept.
-fn replacing(old: &[Value], new: &[Value]) -> Edit {
+fn replace_edit(old: &[Value], new: &[Value]) -> Edit {
     let front = common_start(old, new);
     let shorter = old.len().min(new.len());
     let end = common_end(old, new).min(shorter.saturating_sub(front));

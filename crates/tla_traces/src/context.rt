@@ -1,4 +1,4 @@
-//! What the two texts name.
+//! What explanations of answers are made from.
 
 use tla_config::Statement;
 use tla_lex::Token;
@@ -6,9 +6,10 @@ use tla_model::Model;
 use tla_page::places::Sources;
 use tla_tree::Unit;
 
-/// What the explanation of an answer needs.
+/// The two texts, the tokens and units of the module, the statements of the configuration, and the
+/// model.
 #[derive(Clone, Copy)]
-pub struct Telling<'a> {
+pub struct ExplainContext<'a> {
     pub sources: &'a Sources<'a>,
     pub tokens: &'a [Token],
     pub units: &'a [Unit],

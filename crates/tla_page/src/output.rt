@@ -17,7 +17,7 @@ const LONGEST_VALUE: usize = 160;
 
 /// The text of an explanation. Once memory ran out, nothing more is added.
 #[derive(Drop)]
-pub struct Page {
+pub struct Output {
     bytes: Vec<u8>,
     alloc: Global,
     /// Whether values are shown whole.
@@ -25,10 +25,10 @@ pub struct Page {
     refused: bool,
 }
 
-impl Page {
-    /// An empty page, on which values are shown whole, or long ones cut.
-    pub fn new(alloc: Global, full: bool) -> Page {
-        Page {
+impl Output {
+    /// An empty output. With `full` it shows values whole, else it cuts long ones.
+    pub fn new(alloc: Global, full: bool) -> Output {
+        Output {
             bytes: Vec::new(alloc),
             alloc,
             full,
@@ -50,8 +50,8 @@ impl Page {
         self.bytes.is_empty()
     }
 
-    /// What was written. The only error is that memory ran out.
-    pub fn told(&self) -> Result<&[u8], AllocError> {
+    /// What was added. The only error is that memory ran out.
+    pub fn bytes(&self) -> Result<&[u8], AllocError> {
         if self.refused {
             Err(AllocError)
         } else {
