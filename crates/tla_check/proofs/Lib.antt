@@ -1,4 +1,3 @@
-pub mod InputLemmas
 pub mod Told
 pub mod Named
 pub mod Stopped

@@ -1,13 +1,11 @@
-//! A check of a module and its configuration: the input files, the stages, and the answer.
+//! A check of a module and its configuration: the stages, and the answer.
 #![tactic(auto)]
 
 mod carried;
 mod checking;
-mod input;
 pub mod laws;
 
 pub use checking::{check, check_and_report};
-pub use input::{ReadFault, read_whole};
 pub use tla_config::Source;
 pub use tla_line::{Line, LineFault, read_line};
 pub use tla_report::{

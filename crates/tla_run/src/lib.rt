@@ -4,6 +4,7 @@
 mod files;
 mod hints;
 mod host;
+mod input;
 mod messages;
 mod process;
 mod running;
@@ -11,6 +12,7 @@ mod unread;
 mod words;
 
 pub use host::{Host, Inputs};
+pub use input::{ReadFault, read_whole};
 pub use process::run_process;
 pub use running::run;
 pub use tla_check::{Checked, Gate, Line, LineFault, NoGate};

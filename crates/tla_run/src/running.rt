@@ -7,6 +7,7 @@ ghost use Rattle.tla_run.specs.Runs.{ComesTo, Files, GetsNothing, Holds, IsRun, 
 
 use crate::files::{NewFiles, create_files, write_files};
 use crate::host::{Host, Inputs};
+use crate::input::read_whole;
 use crate::messages::{
     complain, tell_no_memory, tell_uncreated, tell_unread, tell_unwritten, tell_unwritten_report,
 };
@@ -16,7 +17,7 @@ use std::alloc::Global;
 use std::io::Write;
 use std::sync::Wait;
 use std::thread::Threads;
-use tla_check::{Line, NoGate, check, read_whole, write_report};
+use tla_check::{Line, NoGate, check, write_report};
 use tla_line::{NoLine, read_words};
 
 /// The status of a run that gives no whole report: for its command line, a file or a failed write.

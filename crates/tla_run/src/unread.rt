@@ -2,8 +2,8 @@
 ghost use Rattle.std.specs.Prelude.{◌≡◌};
 ghost use Rattle.tla_run.specs.Unread.{cause_text};
 
+use crate::input::ReadFault;
 use std::io::ErrorKind;
-use tla_check::ReadFault;
 
 /// A file that is not read.
 #[derive(Clone, Copy)]

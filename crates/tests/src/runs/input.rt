@@ -2,7 +2,7 @@
 
 use std::io;
 use std::io::{ErrorKind, Read};
-use tla_check::{ReadFault, read_whole};
+use tla_run::{ReadFault, read_whole};
 
 /// Gives `left` bytes, at most `most` at a read, and then its end or a failure.
 #[derive(Drop)]

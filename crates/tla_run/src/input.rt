@@ -1,7 +1,7 @@
 //! The input files.
 ghost use Rattle.std.specs.Prelude.{◌≡◌, ◌≤◌, ◌*◌, ◌-◌, length, IfOk, IfSome, OnOk, vec_len};
 ghost use Rattle.std.specs.Io.KnownBytes.{IsAtEnd};
-ghost use Rattle.tla_check.specs.declared.input.ReadFault.TheVariants.{Memory, Endless};
+ghost use Rattle.tla_run.specs.declared.input.ReadFault.TheVariants.{Memory, Endless};
 
 use std::alloc::{AllocError, AllocFailed, Global};
 use std::io::Read;

@@ -1,7 +1,7 @@
 use Rattle.std.proofs.Common.{◌≡◌, ◌∙◌, ◌≤◌, [], arith, length, subst, take}
 use Rattle.std.specs.Io.KnownBytes.{Consumes}
-use Rattle.tla_check.proofs.InputLemmas.{all_given, had_as_many, no_reads, one_more}
-use Rattle.tla_check.proofs.input.read_through.Goals as goal
+use Rattle.tla_run.proofs.InputLemmas.{all_given, had_as_many, no_reads, one_more}
+use Rattle.tla_run.proofs.input.read_through.Goals as goal
 
 pub loop-init : goal.loop-init
 loop-init g c = rw c.new-bytes.ensures.items (no_reads 65536 (g.R.Read.remaining c.args.reader.now))
