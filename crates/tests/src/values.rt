@@ -208,6 +208,40 @@ fn states_and_shards(rt: HostRuntime) {
     assert!(rt; seen == [true; 7]);
 }
 
+// The state whose variables are <<number, <<7>>>> and {{number}}.
+fn nested_state(alloc: Global, number: i64) -> Result<State, ValueError> {
+    let mut parts = Vec::new(alloc);
+    parts.push(Value::Int(number))?;
+    parts.push(sequence(alloc, &[7])?)?;
+    let mut members = Vec::new(alloc);
+    members.push(Value::Set(SetValue::range(alloc, number, number)?))?;
+    let mut values = Vec::new(alloc);
+    values.push(Value::Fun(FunValue::sequence(alloc, parts)?))?;
+    values.push(Value::Set(SetValue::from_values(alloc, members)?))?;
+    Ok(State::new(values))
+}
+
+// Whether a pool answers the states of these numbers, twice each, as they are.
+fn shares(alloc: Global, count: i64) -> Result<bool, ValueError> {
+    let mut pool = Pool::new(alloc);
+    for number in 0..count {
+        let first = pool.share_state(alloc, nested_state(alloc, number)?)?;
+        let second = pool.share_state(alloc, nested_state(alloc, number)?)?;
+        let wanted = nested_state(alloc, number)?;
+        if first != wanted || second != wanted || first.shard(7) != wanted.shard(7) {
+            return Ok(false);
+        }
+    }
+    Ok(true)
+}
+
+// More values than a pool has room for, first or last.
+#[test]
+fn a_pool_answers_equal_states(rt: HostRuntime) -> Result<(), Fail> {
+    assert!(rt; shares(rt.alloc(), 10_000)?);
+    Ok(())
+}
+
 #[test]
 fn strings(rt: HostRuntime) -> Result<(), Fail> {
     let text = Text::new(rt.alloc(), "ab")?.copy(rt.alloc())?;

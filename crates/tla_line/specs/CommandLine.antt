@@ -11,8 +11,8 @@ use Rattle.clap.specs.Words.{App, Kinds, Rule, Text, fault_of, first_of, matches
 use Rattle.clap.specs.Words.{new_rule, one_of, with_rule}
 use Rattle.clap.specs.Simple.{on_top}
 use Rattle.clap.specs.declared.builder.action.ArgAction.TheVariants.{Set, SetTrue}
-use Rattle.tla_search.specs.Options.{IsCount, IsWithinLimits, MAX_PIECE, MAX_WORKERS}
-use Rattle.tla_search.specs.declared.options.TheConstants.{MAX_STATES}
+use Rattle.tla_options.specs.Options.{IsCount, IsWithinLimits, MAX_PIECE, MAX_WORKERS}
+use Rattle.tla_options.specs.declared.options.TheConstants.{MAX_STATES}
 use Rattle.tla_line.specs.declared.line.Line.{Line}
 use Rattle.tla_line.specs.declared.number.NumberOption.{NumberOption}
 use Rattle.tla_line.specs.declared.number.NumberOption.TheVariants.{Workers, Cut, MaxStates}

@@ -2,7 +2,7 @@
 ghost use Rattle.std.specs.Prelude.{◌≡◌, ◌↔◌, [], IsTrue, IfOk, IfErr, None, Some, OnOk, option_map};
 ghost use Rattle.clap.specs.Words.{app_of, found_of, matches_of, rows_of, rule_of};
 ghost use Rattle.clap.specs.Walk.{first_of, one_of, texts};
-ghost use Rattle.tla_search.specs.Options.{IsWithinLimits};
+ghost use Rattle.tla_options.specs.Options.{IsWithinLimits};
 ghost use Rattle.tla_line.specs.CommandLine.{IsSet, MeanLine, Writes, WritesNoCount, faults_of};
 ghost use Rattle.tla_line.specs.CommandLine.{file_option, flag, is_quiet, most_of, number_option};
 ghost use Rattle.tla_line.specs.CommandLine.{required_word, tlacheck};
@@ -16,7 +16,7 @@ use clap::error::ErrorKind;
 use clap::{Arg, ArgAction, ArgMatches, Command};
 use std::alloc::{AllocError, Global};
 use std::fmt;
-use tla_search::Options;
+use tla_options::Options;
 
 /// What `--version` says after the program's name.
 const VERSION: &str =

@@ -3,9 +3,9 @@ ghost use Rattle.std.specs.Prelude.{◌≡◌, IfOk, IfErr, IfSome, IfNone};
 ghost use Rattle.tla_line.specs.CommandLine.{Writes, WritesNoCount, most_of};
 ghost use Rattle.tla_line.specs.LineFault.{hint_of};
 ghost use Rattle.tla_line.specs.Private.Parsing.{WritesNoNumber};
-ghost use Rattle.tla_search.specs.Options.{IsCount};
+ghost use Rattle.tla_options.specs.Options.{IsCount};
 
-use tla_search::MAX_STATES;
+use tla_options::MAX_STATES;
 
 /// An option that takes a number.
 #[derive(Clone, Copy, Debug, PartialEq, Eq)]

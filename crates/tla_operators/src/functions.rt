@@ -1,8 +1,9 @@
 //! Functions and records.
-ghost use Rattle.std.specs.Prelude.{◌≡◌, ℕ, List, option_map};
+ghost use Rattle.std.specs.Prelude.{◌≡◌, List, option_map, IfOk, IfErr};
 ghost use Rattle.tla_value.specs.Tree.{Tree, text};
 ghost use Rattle.tla_value.specs.TreeOf.{tree_of};
-ghost use Rattle.tla_value.specs.Funs.{MakesFun};
+ghost use Rattle.tla_value.specs.Funs.{MakesFun, value_at};
+ghost use Rattle.tla_core.specs.Fault.{out_of_memory};
 ghost use Rattle.tla_core.specs.Expr.{Apply, Domain, Field, Single, Override};
 ghost use Rattle.tla_core.specs.Kinds.{as_fun, pairs_of, rising_fun};
 ghost use Rattle.tla_core.specs.Operators.{unary_rule, binary_rule};
@@ -134,11 +135,10 @@ pub fn field<'p, 'a>(
     ensures { Evaluates result
         (unary_rule (Field name.now) place.now (tree_of_evaluated base.entry)) }
 {
-    let name = Value::Text(copied_text(alloc, name)?);
     match base {
-        Evaluated::Borrowed(base) => Ok(Evaluated::Borrowed(field_at(place, &name, base)?)),
+        Evaluated::Borrowed(base) => Ok(Evaluated::Borrowed(field_at(alloc, place, name, base)?)),
         Evaluated::Owned(base) => {
-            let value = field_at(place, &name, &base)?;
+            let value = field_at(alloc, place, name, &base)?;
             Ok(Evaluated::Owned(copied(alloc, value)?))
         }
     }
@@ -147,21 +147,40 @@ pub fn field<'p, 'a>(
 /// The value of a record's field, borrowed.
 #[tactic(auto, using(crate::proofs::Known::as_fun_known))]
 fn field_at<'p, 'a>(
+    alloc: Global,
     place: &'p Place,
-    name: &Value,
+    name: &Text,
     base: &'a Value,
 ) -> Result<&'a Value, Trouble<'p>>
-    ensures { (s : List ℕ)
-        → tree_of name.now ≡ text s
-        → GivesBorrowed result (unary_rule (Field s) place.now (tree_of base.now)) }
+    ensures { GivesBorrowed result (unary_rule (Field name.now) place.now (tree_of base.now)) }
 {
     match base {
-        Value::Fun(fun) => match fun.apply(name) {
+        Value::Fun(fun) => match found_field(alloc, name, fun)? {
             Some(value) => Ok(value),
             None => Err(fault_at(FaultCode::NoField, place)),
         },
         _ => Err(fault_at(FaultCode::WrongKind, place)),
     }
+}
+
+/// The most fields among which one is sought from the first on.
+const FEW: usize = 16;
+
+/// The value of a function at a string, if it is there.
+fn found_field<'p, 'a>(
+    alloc: Global,
+    name: &Text,
+    fun: &'a FunValue,
+) -> Result<Option<&'a Value>, Trouble<'p>>
+    ensures ok { IfOk result (λ v.
+        option_map (λ t. tree_of t.now) v ≡ value_at (text name.now) fun.now) }
+    ensures err { IfErr result (λ f. f ≡ out_of_memory) }
+{
+    if fun.len() <= FEW {
+        return Ok(fun.field(name));
+    }
+    let name = Value::Text(copied_text(alloc, name)?);
+    Ok(fun.apply(&name))
 }
 
 /// `DOMAIN`.

@@ -1,17 +1,21 @@
 -- Where an argument stands, and what stands beside it.
-use Rattle.std.proofs.Common.{◌≡◌, ℕ, zero, suc, ◌<◌, false, cond, List, [], ◌∷◌, Some, None, length, refl, sym, ap, subst, ◌∙◌, arith, Less}
+use Rattle.std.proofs.Common.{◌≡◌, ℕ, zero, suc, ◌<◌, false, cond, List, [], ◌∷◌, Some, None, length, map, get_or, refl, sym, ap, subst, ◌∙◌, arith, Less}
 use Rattle.std.specs.Prelude.{slice_get}
 use Rattle.std.specs.List.{AllByRecursion}
 use Rattle.std.specs.List.Sorted.{IsStrictlySortedBy}
 use Rattle.std.specs.Ordering.{is_eq}
 use Rattle.std.proofs.lemmas.Cmp.{eq_by_cmp_equiv}
+use Rattle.std.proofs.lemmas.List.{length-map}
 use Rattle.tla_value.specs.Tree.{Tree}
+use Rattle.tla_value.specs.TreeOf.{tree_of}
 use Rattle.tla_value.specs.Order.{tree_cmp, tree_eq}
 use Rattle.tla_value.specs.OrderLaws.{tree_cmp-total}
 use Rattle.tla_value.specs.Sets.{is_member}
 use Rattle.tla_value.specs.Funs.{arguments, values_of, value_at, except_of}
 use Rattle.tla_value.specs.Private.Inner.{with_value_at}
+use Rattle.tla_value.specs.declared.value.Value.{Value}
 use Rattle.tla_value.proofs.TreeTests.{eq-refl, or-none}
+use Rattle.tla_value.proofs.Sorts.{slice-trees}
 
 inside : (a b : Tree) → Some a ≡ Some b → a ≡ b
 inside a b e = cc
@@ -61,3 +65,15 @@ pub slice-within : (ts : List Tree) (i : ℕ) (t : Tree) → slice_get ts i ≡ 
 slice-within [] i t e = cc
 slice-within (u ∷ ts) zero t e = omega arith
 slice-within (u ∷ ts) (suc i) t e = omega (arith, slice-within ts i t e)
+
+-- ---- the value that was read at an argument's place
+pub value_within : (ps : List (Tree × Tree)) (a : Tree) (i : ℕ) (vs : List Value) → map tree_of vs ≡ values_of ps → slice_get (arguments ps) i ≡ Some a → i < length vs
+value_within ps a i vs e there =
+    omega (arith, slice-within (arguments ps) i a there, length-map ps (λ (p : Tree × Tree). p.0), length-map ps (λ (p : Tree × Tree). p.1), ap length e, length-map vs tree_of)
+
+pub value_read : (ps : List (Tree × Tree)) (a : Tree) (i : ℕ) (vs : List Value) (v : Value) → IsStrictlySortedBy tree_cmp (arguments ps) → map tree_of vs ≡ values_of ps → slice_get (arguments ps) i ≡ Some a → v ≡ get_or vs i v → Some (tree_of v) ≡ value_at a ps
+value_read ps a i vs v rising e there is =
+    ap (λ w. Some (tree_of w)) is
+    ∙ sym (slice-trees vs i v (value_within ps a i vs e there))
+    ∙ ap (λ ts. slice_get ts i) e
+    ∙ sym (value_there ps a i rising there)

@@ -23,6 +23,8 @@ fn equal_whole(a: &Value, b: &Value) -> bool
     ensures { result ≡ value_eq a.now b.now }
 {
     match (a, b) {
+        (Value::Text(x), Value::Text(y)) => x.order(y).is_eq(),
+        (Value::Model(x), Value::Model(y)) => x.order(y).is_eq(),
         (Value::Set(x), Value::Set(y)) => x.hash_word() == y.hash_word() && compare(a, b).is_eq(),
         (Value::Fun(x), Value::Fun(y)) => x.hash_word() == y.hash_word() && compare(a, b).is_eq(),
         (_, _) => compare(a, b).is_eq(),

@@ -1,17 +1,18 @@
 // Functions: what is made of them, and of pairs.
-ghost use Rattle.std.specs.Prelude.{◌≡◌, ◌++◌, length, map, zip, option_map, IfOk, IfErr, OnOk};
+ghost use Rattle.std.specs.Prelude.{◌≡◌, ◌++◌, false, length, map, zip, slice_get, option_map, IfSome, IfNone, IfOk, IfErr, OnOk};
 ghost use Rattle.tla_value.specs.Choices.{numbered};
 ghost use Rattle.std.specs.List.{dedup};
 ghost use Rattle.std.specs.List.Sorted.{IsStrictlySortedBy, IsSortedBy, IsStableBy, IsPermutation};
 ghost use Rattle.std.specs.Ordering.{is_lt};
 ghost use Rattle.tla_value.specs.declared.error.ValueError.TheVariants.{Memory};
 ghost use Rattle.tla_value.specs.TreeOf.{tree_of, pair_of};
-ghost use Rattle.tla_value.specs.Tree.{Tree, deepest_pair, fun, pairs as pairs_of};
+ghost use Rattle.tla_value.specs.Tree.{Tree, deepest_pair, fun, text, pairs as pairs_of};
 ghost use Rattle.tla_value.specs.IsValue.{IsValue, ArePairs, IsFunList, IsFunValue};
 ghost use Rattle.tla_value.specs.Arguments.{argument_values, FitArguments};
 ghost use Rattle.tla_value.specs.Order.{tree_cmp};
 ghost use Rattle.tla_value.specs.Funs.{arguments, values_of, value_at, fun_of, except_of, items_of, MakesFun, RefusesFun};
 ghost use Rattle.tla_value.specs.Private.Inner.{counts_from};
+ghost use Rattle.tla_value.specs.Sets.{is_member};
 ghost use Rattle.tla_value.specs.ValueOrder.{value_cmp, value_eq};
 ghost use Rattle.tla_value.specs.declared.value.Value.{Value};
 
@@ -21,6 +22,7 @@ use crate::error::ValueError;
 use crate::merge_pairs::merged_pairs;
 use crate::order::compare;
 use crate::set::{MAX_ELEMENTS, MAX_NESTING, deepest_of};
+use crate::text::Text;
 use crate::value::{Arguments, Domain, FunValue, SetValue, Value};
 use std::alloc::Global;
 use std::cmp::Ordering;
@@ -138,6 +140,23 @@ fn is_sequence(arguments: Arguments<'_>, count: usize) -> bool
     }
 }
 
+// The position of a string among some values, at its first place.
+fn text_place(values: &[Value], name: &Text) -> Option<usize>
+    ensures some { IfSome result (λ i.
+        slice_get (map tree_of values.now) i ≡ Some (text name.now)) }
+    ensures none { IfNone result
+        (is_member (text name.now) (map tree_of values.now) ≡ false) }
+{
+    for i in 0..values.len() {
+        if let Value::Text(value) = &values[i] {
+            if name.order(value).is_eq() {
+                return Some(i);
+            }
+        }
+    }
+    None
+}
+
 impl FunValue {
     // Another value at one argument, if it is there: in place where nobody else holds the values.
     fn put(&mut self, argument: &Value, value: Value) -> Result<(), ValueError>
@@ -243,5 +262,18 @@ impl FunValue {
             Some(index) => Some(&self.values()[index]),
             None => None,
         }
+    }
+
+    /// The value of a record at a field.
+    pub fn field(&self, name: &Text) -> Option<&Value>
+        ensures { option_map (λ v. tree_of v.now) result ≡ value_at (text name.now) self.now }
+    {
+        let Arguments::Listed(names) = self.arguments() else {
+            return None;
+        };
+        let Some(index) = text_place(names, name) else {
+            return None;
+        };
+        Some(&self.values()[index])
     }
 }

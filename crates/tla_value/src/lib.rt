@@ -16,6 +16,7 @@ mod hash;
 mod merge;
 mod merge_pairs;
 mod order;
+mod pool;
 mod set;
 mod show;
 mod state;
@@ -23,6 +24,7 @@ mod text;
 mod value;
 
 pub use error::ValueError;
+pub use pool::Pool;
 pub use set::{MAX_ELEMENTS, MAX_NESTING};
 pub use show::TextFault;
 pub use state::State;

@@ -1,11 +1,14 @@
 // Strings inside values.
 ghost use Rattle.std.specs.Prelude.{◌≡◌, ◌≤◌, length, string_bytes, take, IfOk, IfErr};
+ghost use Rattle.std.specs.Cmp.Lexicographic.{slice_cmp};
+ghost use Rattle.std.specs.Ordering.{nat_cmp};
 ghost use Rattle.std.specs.Str.{IsUtf8};
 ghost use Rattle.tla_value.specs.declared.error.ValueError.TheVariants.{Memory};
 ghost use Rattle.tla_value.specs.Private.HeldText.{held_bytes};
 
 use crate::error::ValueError;
 use std::alloc::Global;
+use std::cmp::Ordering;
 use std::marker::Model;
 use std::str;
 use std::sync::Arc;
@@ -43,6 +46,8 @@ impl Model for Text {
 
     ghost view = { λ t. held_bytes t.held };
 
+    ghost use Rattle.std.specs.Cmp.Lexicographic.{slice_cmp};
+    ghost use Rattle.std.specs.Ordering.{nat_cmp};
     ghost use Rattle.std.specs.Str.{IsUtf8};
 
     ghost invariant = { λ t. FitsHeld t.held × ∥ IsUtf8 (held_bytes t.held) ∥₁ };
@@ -133,5 +138,12 @@ impl Text {
             Held::Short(short) => unsafe { str::from_utf8_unchecked(short_bytes(short)) },
             Held::Long(text) => text.as_str(),
         }
+    }
+
+    /// Compares two strings byte by byte.
+    pub(crate) fn order(&self, other: &Text) -> Ordering
+        ensures { result ≡ slice_cmp nat_cmp self.now other.now }
+    {
+        self.as_str().cmp(&other.as_str())
     }
 }
