@@ -9,14 +9,11 @@ It prints for each size the seconds, the MiB, and the growth of the time from th
 size: 1 is linear. Of N runs (3), by one worker each, the shortest counts. The program is crates/tlacheck/out/tlacheck, which
 is proved and built if it is not there.
 """
-import argparse
-import pathlib
 import sys
-import tempfile
 
 sys.dont_write_bytecode = True
 
-from programs import built, measured
+from programs import print_rows
 
 CONFIGURATION = "INIT Init\nNEXT Next\nINVARIANT Inv\nCHECK_DEADLOCK FALSE\n"
 
@@ -91,37 +88,16 @@ KINDS = {
 }
 
 
-def rows(program, kind, runs, paths):
+def rows(kind, run):
     """A row for each size of a kind."""
     text, parameters, size = KINDS[kind]
     before = None
     for parameter in parameters:
-        paths[0].write_text(text(parameter))
-        paths[1].write_text(CONFIGURATION)
-        tried = [measured([program, *map(str, paths), "--quiet", "--workers", "1"]) for _ in range(runs)]
-        for said, *_ in tried:
-            if not said.startswith("No error."):
-                raise SystemExit(f"WRONG: {kind} {parameter}: {said!r}")
-        _, seconds, _, memory = min(tried, key=lambda it: it[1])
+        _, seconds, _, memory = run(text(parameter), CONFIGURATION, "No error.")
         grown = f"{seconds / before[0] / (size(parameter) / before[1]):.2f}" if before else ""
         before = seconds, size(parameter)
         yield f"| {kind} | {size(parameter):,} | {seconds:.2f} | {memory} | {grown} |"
 
 
-def main():
-    parser = argparse.ArgumentParser(description=__doc__, formatter_class=argparse.RawDescriptionHelpFormatter)
-    parser.add_argument("--program")
-    parser.add_argument("--runs", type=int, default=3)
-    parser.add_argument("kinds", nargs="*", default=list(KINDS), metavar="KIND")
-    said = parser.parse_args()
-    program = built("tlacheck", said.program)
-    print("| number of | size | seconds | MiB | growth |\n|---|---|---|---|---|")
-    with tempfile.TemporaryDirectory() as name:
-        paths = pathlib.Path(name, "M.tla"), pathlib.Path(name, "M.cfg")
-        for kind in said.kinds:
-            for row in rows(program, kind, said.runs, paths):
-                print(row, flush=True)
-
-
 if __name__ == "__main__":
-    main()
+    print_rows(__doc__, KINDS, "| number of | size | seconds | MiB | growth |", rows)

@@ -4,9 +4,10 @@
     tools/house.py [--list]
 
 Words are counted as `wc -w` does. A function's lines are those of its body, and its clauses aren't among them. A clause line
-is a line of a contract that begins with `requires` or `ensures`. With --list, it also names each function of more than 7
-parameters or 40 lines, each file of more than 800 lines and each crate of more than 100 functions. If the command
-`duplicates` is on the path, its first line is printed, too: how many pairs of places share six lines or more.
+is a line of a `requires` or an `ensures`, from that word to the bracket that closes the clause. With --list, it also names
+each clause line of more than 100 columns, each function of more than 7 parameters or 40 lines, each file of more than 800
+lines and each crate of more than 100 functions. If the command `duplicates` is on the path, its first line is printed, too:
+how many pairs of places share six lines or more.
 
 The numbers are printed and not judged, so the status is 0.
 """
@@ -26,7 +27,7 @@ from programs import TOP
 COLUMNS, PARAMETERS, LINES, FILE_LINES, FUNCTIONS = 100, 7, 40, 800, 100
 HIDDEN = re.compile(r"//[^\n]*|b?\"(?:[^\"\\]|\\.)*\"|b?'(?:[^'\\\n]|\\[^'\n]{1,8})'", re.S)
 SIGNATURE = re.compile(r"\bfn\s+(\w+)")
-CLAUSE = re.compile(r"\s*(?:requires|ensures)\b")
+CLAUSE = re.compile(r"^[ \t]*(?:requires|ensures)\b[^{;]*\{", re.M)
 CLOSED_BY = {"(": ")", "{": "}", "<": ">"}
 
 
@@ -105,6 +106,17 @@ def functions_of(crate, file):
             yield Function(crate.name, place, parameters_of(text[at + 1 : close]), max(lines, 1))
 
 
+def clause_lines_of(file):
+    """The lines of the clauses of a file, each with its place."""
+    text = file.read_text()
+    plain, lines = hidden(text), text.splitlines()
+    for match in CLAUSE.finditer(plain):
+        first = plain.count("\n", 0, match.start())
+        last = plain.count("\n", 0, end_of(plain, match.end() - 1))
+        for at in range(first, last + 1):
+            yield f"{file.relative_to(TOP)}:{at + 1}", lines[at]
+
+
 def duplicates(files):
     """What the command `duplicates` counts in these files, if it is there. It knows them under the ending of Rust."""
     if not shutil.which("duplicates"):
@@ -126,21 +138,24 @@ def main():
     files = [(crate, file) for crate in crates for file in sorted((crate / "src").rglob("*.rt"))]
     texts = {file: file.read_text().splitlines() for _, file in files}
     functions = [it for crate, file in files for it in functions_of(crate, file)]
-    clauses = [line for lines in texts.values() for line in lines if CLAUSE.match(line)]
+    clauses = [it for _, file in files for it in clause_lines_of(file)]
     counts = {crate.name: sum(it.crate == crate.name for it in functions) for crate in crates}
+    broad = [(place, line) for place, line in clauses if len(line) > COLUMNS]
     wide = [it for it in functions if it.parameters > PARAMETERS]
     long = [it for it in functions if it.lines > LINES]
     large = {file: len(lines) for file, lines in texts.items() if len(lines) > FILE_LINES}
     full = {name: count for name, count in counts.items() if count > FUNCTIONS}
     print(f"{words(TOP / 'README.md'):>6} words of README.md")
     print(f"{words(*(TOP / 'docs').rglob('*.md')):>6} words of docs")
-    print(f"{sum(len(line) > COLUMNS for line in clauses):>6} clause lines of more than {COLUMNS} columns, of {len(clauses)}")
+    print(f"{len(broad):>6} clause lines of more than {COLUMNS} columns, of {len(clauses)}")
     print(f"{len(wide):>6} functions of more than {PARAMETERS} parameters, of {len(functions)}")
     print(f"{len(long):>6} functions of more than {LINES} lines")
     print(f"{len(large):>6} files of more than {FILE_LINES} lines, of {len(files)}")
     print(f"{len(full):>6} crates of more than {FUNCTIONS} functions, of {len(crates)}")
     print(f"duplicates: {duplicates(texts)}")
     if is_listed:
+        for place, line in broad:
+            print(f"{place}: {len(line)} columns")
         for it in wide:
             print(f"{it.place}: {it.parameters} parameters")
         for it in long:

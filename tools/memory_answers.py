@@ -36,7 +36,7 @@ EXCEPTIONS = {
     ("tla_explain/src/document.rt", "state_value"): "a `Vec` takes all bytes unless memory is refused",
     ("tla_explain/src/document.rt", "write_document"): "a `Vec` takes all bytes unless memory is refused",
     ("tla_names/src/refusal.rt", "text_of"): "no token spells a name that isn't UTF-8",
-    ("tla_page/src/page.rt", "told"): "`refused` is set only where an allocation was refused",
+    ("tla_page/src/output.rt", "bytes"): "`refused` is set only where an allocation was refused",
 }
 
 # Calls of std that fail only where an allocation is refused.

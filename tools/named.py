@@ -6,9 +6,9 @@
 The models are in tools/bench/idioms. Each also has a name in SHORT: one invariant over 4,001 states, in which one kind of
 name is used. Without a NAME it takes all. It prints a row for each: the states, and the processor seconds and MiB of the
 best of N runs (1) by one worker. --other names a program that takes MODULE CONFIG --workers N; its numbers follow, how
-many times as long ours takes, and last the geometric mean and the worst of these, for each of the two groups. If the two
-report other numbers of states, the command ends. The program is crates/tlacheck/out/tlacheck, which is proved and built
-if it is not there.
+many times as long ours takes and how many times as much memory, and last the geometric mean and the worst of each, for
+each of the two groups. If the two report other numbers of states, the command ends. The program is
+crates/tlacheck/out/tlacheck, which is proved and built if it is not there.
 """
 import argparse
 import math
@@ -91,28 +91,32 @@ def states_of(run):
 
 
 def row(said, program, name, folder):
-    """Prints a model's row, and returns how many times as long ours takes."""
+    """Prints a model's row, and returns how many times as long ours takes, and as much memory."""
     files = files_of(name, said.size, folder)
     ours = best(said.runs, [program, *files, "--quiet", "--workers", "1"])
     cells = [name, states_of(ours), f"{ours.processor_seconds:.2f}", ours.memory]
-    times = None
+    ratios = None
     if said.other:
         theirs = best(said.runs, [said.other, *files, "--quiet", "--workers", "1"])
         if states_of(theirs) != states_of(ours):
             raise SystemExit(f"WRONG: {name}: {states_of(ours)} states and {states_of(theirs)}")
         times = ours.processor_seconds / max(theirs.processor_seconds, 0.001)
-        cells += [f"{theirs.processor_seconds:.2f}", theirs.memory, f"{times:.2f}"]
+        memory = ours.kibibytes / theirs.kibibytes
+        ratios = times, memory
+        cells += [f"{theirs.processor_seconds:.2f}", theirs.memory, f"{times:.2f}", f"{memory:.2f}"]
     print("| " + " | ".join(map(str, cells)) + " |", flush=True)
-    return times
+    return ratios
 
 
 def group(said, program, names, folder):
     """Prints the rows of some models, and what they have together."""
-    times = {name: row(said, program, name, folder) for name in names}
-    if said.other and times:
-        mean = math.exp(sum(map(math.log, times.values())) / len(times))
-        worst = max(times, key=times.get)
-        print(f"mean {mean:.2f}, worst {times[worst]:.2f} ({worst})\n", flush=True)
+    rows = {name: row(said, program, name, folder) for name in names}
+    if said.other and rows:
+        for what, ratios in zip(["time", "memory"], zip(*rows.values())):
+            mean = math.exp(sum(map(math.log, ratios)) / len(ratios))
+            worst, name = max(zip(ratios, rows))
+            print(f"{what}: mean {mean:.2f}, worst {worst:.2f} ({name})", flush=True)
+        print(flush=True)
 
 
 def main():

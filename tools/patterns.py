@@ -8,14 +8,11 @@ table of states. The kinds are numbers, pairs, triples, sequences, sets and func
 pattern of a kind is the plainest. Of N runs (3), by one worker each, the shortest counts. The program is crates/tlacheck/out/tlacheck,
 which is proved and built if it is not there.
 """
-import argparse
-import pathlib
 import sys
-import tempfile
 
 sys.dont_write_bytecode = True
 
-from programs import built, measured
+from programs import print_rows
 
 CONFIGURATION = "INIT Init\nNEXT Next\nCHECK_DEADLOCK FALSE\n"
 
@@ -82,33 +79,12 @@ def module(states):
     return f"---- MODULE M ----\nEXTENDS Integers\nVARIABLE s\nInit == s \\in {states}\nNext == s' = s\n====\n"
 
 
-def rows(program, kind, runs, paths):
+def rows(kind, run):
     """A row for each pattern of a kind."""
     for pattern, states in KINDS[kind].items():
-        paths[0].write_text(module(states))
-        paths[1].write_text(CONFIGURATION)
-        tried = [measured([program, *map(str, paths), "--quiet", "--workers", "1"]) for _ in range(runs)]
-        for said, *_ in tried:
-            if said != f"No error.\nLevels 1, states {COUNT}.\n":
-                raise SystemExit(f"WRONG: {kind} {pattern}: {said!r}")
-        seconds = min(seconds for _, seconds, *_ in tried)
+        seconds = run(module(states), CONFIGURATION, f"No error.\nLevels 1, states {COUNT}.\n").seconds
         yield f"| {kind} | {pattern} | {seconds:.2f} | {1e6 * seconds / COUNT:.1f} |"
 
 
-def main():
-    parser = argparse.ArgumentParser(description=__doc__, formatter_class=argparse.RawDescriptionHelpFormatter)
-    parser.add_argument("--program")
-    parser.add_argument("--runs", type=int, default=3)
-    parser.add_argument("kinds", nargs="*", default=list(KINDS), metavar="KIND")
-    said = parser.parse_args()
-    program = built("tlacheck", said.program)
-    print("| kind | pattern | seconds | microseconds a state |\n|---|---|---|---|")
-    with tempfile.TemporaryDirectory() as name:
-        paths = pathlib.Path(name, "M.tla"), pathlib.Path(name, "M.cfg")
-        for kind in said.kinds:
-            for row in rows(program, kind, said.runs, paths):
-                print(row, flush=True)
-
-
 if __name__ == "__main__":
-    main()
+    print_rows(__doc__, KINDS, "| kind | pattern | seconds | microseconds a state |", rows)
