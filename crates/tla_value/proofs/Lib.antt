@@ -1,5 +1,6 @@
 pub mod Lists
 pub mod TreeTests
+pub mod Texts
 pub mod Parts
 pub mod Pairs
 pub mod Places
