@@ -8,7 +8,7 @@ use Rattle.tla_core.specs.Meaning.{Bound, Present, Next}
 use Rattle.tla_core.specs.Value.{val}
 use Rattle.tla_code.specs.CodeExpr.{Scope, code_expr, expr_in}
 use Rattle.tla_code.specs.declared.code.Code.{Code}
-use Rattle.tla_quick.specs.declared.constant.Constant.{Constant}
+use Rattle.tla_quick.specs.declared.closed_part.ClosedPart.{ClosedPart}
 use Rattle.tla_quick.specs.Private.Kept.{definition_of, scope_with}
 use Rattle.tla_quick.specs.declared.frame.Frame.{Frame}
 use Rattle.tla_quick.specs.declared.frame.Found.{Found}
@@ -76,16 +76,16 @@ pub same_bound : (frame outer : Frame) → bound_of frame ≡ bound_of outer →
 same_bound frame outer e = e ∙ sym (unchanged (bound_of outer))
 
 -- a closed part
-scope_at : (ks : List Constant) (i : ℕ) (k : Constant) → slice_get ks i ≡ Some k → slice_get (scope_with ks) i ≡ Some (definition_of k)
+scope_at : (ks : List ClosedPart) (i : ℕ) (k : ClosedPart) → slice_get ks i ≡ Some k → slice_get (scope_with ks) i ≡ Some (definition_of k)
 scope_at ks i k h = slice_get-map definition_of ks i ∙ ap (option_map definition_of) h
 
-pub constant_found : (frame : Frame) (ks : List Constant) (s : Present) (t : Next) → scope_of frame ≡ scope_with ks → bound_of frame ≡ [] → (number : ℕ) (k : Constant) → slice_get ks number ≡ Some k → IsDefinition frame s t number 0 (tree_of k.value)
-constant_found frame ks s t deeper empty number k h = record {
+pub constant_found : (frame : Frame) (ks : List ClosedPart) (s : Present) (t : Next) → scope_of frame ≡ scope_with ks → (number : ℕ) (k : ClosedPart) → slice_get ks number ≡ Some k → IsDefinition frame s t number 0 (tree_of k.value)
+constant_found frame ks s t deeper number k h = record {
   expr = code_expr k.code;
   outer = [];
-  inner = [];
+  inner = bound_of frame;
   there = ap (λ xs. slice_get xs number) deeper ∙ scope_at ks number k h;
-  split = empty;
+  split = refl;
   count = refl;
   value = k.lasting s t;
 }

@@ -10,31 +10,35 @@ use Rattle.tla_code.specs.NoVariables.{IsClosed}
 use Rattle.tla_code.specs.declared.code.Code.{Code}
 use Rattle.tla_code.proofs.SteadyValue.{value_steady}
 use Rattle.tla_sharing.specs.Outside.{HasNames}
-use Rattle.tla_quick.specs.declared.constant.Constant.{Constant}
+use Rattle.tla_quick.specs.declared.closed_part.ClosedPart.{ClosedPart}
 use Rattle.tla_quick.specs.Private.Lasting.{IsLasting}
 use Rattle.tla_quick.specs.Private.Kept.{definition_of, scope_with}
 
 -- no names are bound outside any
-pub all_outside : (ks : List Constant) → HasNames (scope_with ks) (replicate (length ks) 0)
+pub all_outside : (ks : List ClosedPart) → HasNames (scope_with ks) (replicate (length ks) 0)
 all_outside [] = refl
 all_outside (k ∷ ks) = ap (λ (ns : List ℕ). 0 ∷ ns) (all_outside ks)
 
-pub outside_found : {E : Type 0} {C : ℕ → Type 0} (ks : List Constant) (r : Result (Vec ℕ Global) E) → ((y : ℕ) → C y → y ≡ 0) → IfOk r (λ v. ((y : ℕ) → C y → y ≡ 0) → v.items ≡ replicate (length ks) 0) → IfSome (result_ok r) (λ v. HasNames (scope_with ks) v.items)
+pub outside_found : {E : Type 0} {C : ℕ → Type 0} (ks : List ClosedPart) (r : Result (Vec ℕ Global) E) → ((y : ℕ) → C y → y ≡ 0) → IfOk r (λ v. ((y : ℕ) → C y → y ≡ 0) → v.items ≡ replicate (length ks) 0) → IfSome (result_ok r) (λ v. HasNames (scope_with ks) v.items)
 outside_found ks (Ok v) equal h = all_outside ks ∙ sym (h equal)
 outside_found ks (Err e) equal h = tt
 
 -- ---- one more
-scope_more : (ks : List Constant) (k : Constant) → scope_with (ks ++ k ∷ []) ≡ scope_with ks ++ (0, code_expr k.code) ∷ []
+scope_more : (ks : List ClosedPart) (k : ClosedPart) → scope_with (ks ++ k ∷ []) ≡ scope_with ks ++ (0, code_expr k.code) ∷ []
 scope_more [] k = refl
 scope_more (x ∷ ks) k = ap (λ (ds : Scope). definition_of x ∷ ds) (scope_more ks k)
 
 abbrev pub Uses : List ℕ → Code → Code → Code → Type 0
 Uses outside d code next = (scope : Scope) → HasNames scope outside → expr_in (scope ++ (0, expr_in scope d) ∷ []) next ≡ expr_in scope code
 
-pub kept_more : (ks : List Constant) (k : Constant) (outside : List ℕ) (code next : Code) → IsClosed k.code → HasNames (scope_with ks) outside → Uses outside k.code code next → expr_in (scope_with (ks ++ k ∷ [])) next ≡ expr_in (scope_with ks) code
+kept_more : (ks : List ClosedPart) (k : ClosedPart) (outside : List ℕ) (code next : Code) → IsClosed k.code → HasNames (scope_with ks) outside → Uses outside k.code code next → expr_in (scope_with (ks ++ k ∷ [])) next ≡ expr_in (scope_with ks) code
 kept_more ks k outside code next closed names uses =
     ap (λ (sc : Scope). expr_in sc next) (scope_more ks k ∙ sym (ap (λ (e : Expr). scope_with ks ++ (0, e) ∷ []) (closed.1 (scope_with ks))))
     ∙ uses (scope_with ks) names
+
+pub with_part : (ks : List ClosedPart) (k : ClosedPart) (outside : List ℕ) (code : Code) (r : Option Code) → HasNames (scope_with ks) outside → IfSome r (λ next. Uses outside k.code code next) → IfSome r (λ next. IsClosed k.code → expr_in (scope_with (ks ++ k ∷ [])) next ≡ expr_in (scope_with ks) code)
+with_part ks k outside code None names h = h
+with_part ks k outside code (Some next) names uses = λ closed. kept_more ks k outside code next closed names uses
 
 -- ---- the value without a state is the value in each
 pub lasts : (c d : Code) → IsClosed c → code_expr d ≡ code_expr c → (r : Option Value) → IfSome r (λ v. val (code_expr d) [] None [] ≡ Ok (tree_of v)) → IfSome r (λ v. IsLasting c v)

@@ -1,5 +1,5 @@
 //! Closed parts of an expression are evaluated once, without a state.
-ghost use Rattle.std.specs.Prelude.{◌≡◌, [], None, Ok, IfNone, IfOk, IfSome};
+ghost use Rattle.std.specs.Prelude.{◌≡◌, ◌++◌, ◌∷◌, [], None, Ok, IfNone, IfOk, IfSome, cond};
 ghost use Rattle.tla_value.specs.TreeOf.{tree_of};
 ghost use Rattle.tla_core.specs.ExprOf.{expr_of};
 ghost use Rattle.tla_core.specs.Value.{val};
@@ -9,11 +9,11 @@ ghost use Rattle.tla_sharing.specs.Outside.{HasNames};
 ghost use Rattle.tla_quick.specs.Private.Lasting.{IsLasting};
 ghost use Rattle.tla_quick.specs.Private.Kept.{scope_with, prepared_expr};
 
-use crate::constant::Constant;
+use crate::closed_part::ClosedPart;
 use crate::environment::Environment;
 use crate::evaluation::value;
 use crate::frame::Frame;
-use crate::made::owned;
+use crate::made::owned_value;
 use crate::prepared::Prepared;
 use std::alloc::{AllocError, Global};
 use tla_code::{Code, code_of};
@@ -58,7 +58,7 @@ pub(crate) fn is_shared(alloc: Global, code: &Code<'_>, names: usize) -> bool {
 fn with_constants<'m>(alloc: Global, code: Code<'m>, names: usize) -> Prepared<'m>
     ensures { prepared_expr result ≡ code_expr code.entry }
 {
-    let mut constants: Vec<Constant<'m>> = Vec::new(alloc);
+    let mut constants: Vec<ClosedPart<'m>> = Vec::new(alloc);
     let mut rest = code;
     for _ in 0..MOST_CONSTANTS {
         match keep_one(alloc, &mut constants, &rest, names) {
@@ -80,7 +80,7 @@ fn with_constants<'m>(alloc: Global, code: Code<'m>, names: usize) -> Prepared<'
 /// The code with uses of one closed part more, which is kept.
 fn keep_one<'m>(
     alloc: Global,
-    constants: &mut Vec<Constant<'m>>,
+    constants: &mut Vec<ClosedPart<'m>>,
     code: &Code<'m>,
     names: usize,
 ) -> Option<Code<'m>>
@@ -89,25 +89,59 @@ fn keep_one<'m>(
         ≡ expr_in (scope_with constants.old.items) code.now) }
     ensures none { IfNone result (constants.new.items ≡ constants.old.items) }
 {
-    let constant = next_constant(alloc, code, names)?;
-    let outside = outside_of(alloc, constants.as_slice())?;
-    let next = with_constant(alloc, code, &constant.code, names, outside.as_slice())?;
-    match constants.push(constant) {
-        Ok(()) => Some(next),
-        Err(_) => None,
+    let part = next_part(alloc, code, names)?;
+    let next = code_with(alloc, code, &part, names, constants.as_slice())?;
+    if add_part(constants, part) {
+        Some(next)
+    } else {
+        None
+    }
+}
+
+/// A code with uses of one closed part more.
+fn code_with<'m>(
+    alloc: Global,
+    code: &Code<'m>,
+    part: &ClosedPart<'m>,
+    names: usize,
+    constants: &[ClosedPart<'m>],
+) -> Option<Code<'m>>
+    ensures { IfSome result (λ c.
+        IsClosed part.now.code
+        → expr_in (scope_with (constants.now ++ part.now ∷ [])) c
+        ≡ expr_in (scope_with constants.now) code.now) }
+{
+    let outside = outside_of(alloc, constants)?;
+    with_constant(alloc, code, &part.code, names, outside.as_slice())
+}
+
+/// Adds a closed part at the end; false if memory ran out.
+fn add_part<'m>(constants: &mut Vec<ClosedPart<'m>>, part: ClosedPart<'m>) -> bool
+    ensures { constants.new.items
+        ≡ cond result (constants.old.items ++ part.entry ∷ []) constants.old.items }
+{
+    match constants.push(part) {
+        Ok(()) => true,
+        Err(_) => false,
     }
 }
 
 /// A closed part with its value, if there is one that has a value.
-fn next_constant<'m>(alloc: Global, code: &Code<'m>, names: usize) -> Option<Constant<'m>>
+fn next_part<'m>(alloc: Global, code: &Code<'m>, names: usize) -> Option<ClosedPart<'m>>
     ensures { IfSome result (λ k. IsClosed k.code) }
 {
-    let found = constant_in(alloc, code, names)?;
-    let value = constant_value(alloc, &found)?;
-    if is_large(&value) {
-        return None;
-    }
-    Some(Constant { code: found, value })
+    let code = constant_in(alloc, code, names)?;
+    let value = value_to_keep(alloc, &code)?;
+    Some(ClosedPart { code, value })
+}
+
+/// The value of a closed code, if it isn't too large to be kept.
+fn value_to_keep(alloc: Global, code: &Code<'_>) -> Option<Value>
+    requires { IsClosed code.now }
+    ensures { IfSome result (λ v. IsLasting code.now v) }
+{
+    let value = constant_value(alloc, code)?;
+    if is_large(&value) { None } else { Some(value) }
 }
 
 /// Whether a value is too large to be kept for each expression that has it.
@@ -135,8 +169,8 @@ fn value_alone<'m>(alloc: Global, code: &Code<'m>) -> Option<Value>
     ensures { IfSome result (λ v. val (code_expr code.now) [] None [] ≡ Ok (tree_of v)) }
 {
     let partial = Partial::unset(alloc, 0).ok()?;
-    let constants: Vec<Constant<'m>> = Vec::new(alloc);
-    let frame = Frame::Outer(&constants);
+    let constants: Vec<ClosedPart<'m>> = Vec::new(alloc);
+    let frame = Frame::Outer(&constants, &[]);
     let environment = Environment {
         frame: &frame,
         now: None,
@@ -144,14 +178,11 @@ fn value_alone<'m>(alloc: Global, code: &Code<'m>) -> Option<Value>
         names: 0,
         definitions: 0,
     };
-    match value(alloc, code, environment) {
-        Ok(value) => owned(alloc, value).ok(),
-        Err(_) => None,
-    }
+    owned_value(alloc, value(alloc, code, environment)).ok()
 }
 
 /// How many names are bound outside each closed part: none.
-fn outside_of(alloc: Global, constants: &[Constant<'_>]) -> Option<Vec<usize>>
+fn outside_of(alloc: Global, constants: &[ClosedPart<'_>]) -> Option<Vec<usize>>
     ensures { IfSome result (λ v. HasNames (scope_with constants.now) v.items) }
 {
     vec![in alloc; 0usize; constants.len()].ok()

@@ -1,9 +1,12 @@
 //! Values of codes, and membership in them.
+ghost use Rattle.std.specs.Prelude.{◌≡◌, Ok};
 ghost use Rattle.tla_value.specs.Tree.{truth};
 ghost use Rattle.tla_value.specs.TreeOf.{tree_of};
+ghost use Rattle.tla_core.specs.Expr.{Expr};
 ghost use Rattle.tla_core.specs.Meaning.{elements};
 ghost use Rattle.tla_core.specs.Value.{means};
 ghost use Rattle.tla_code.specs.Forms.{two_expr};
+ghost use Rattle.tla_code.specs.declared.code.TwoForm.TheVariants.{Operator as of_two};
 ghost use Rattle.tla_operators.specs.Evaluated.{tree_of_evaluated};
 ghost use Rattle.tla_sets.specs.Elements.{elements_of};
 ghost use Rattle.tla_quick.specs.Private.Answers.{Answers};
@@ -31,8 +34,8 @@ use crate::evaluation::lists::value_of_list;
 use crate::evaluation::logic::{truth_of_list, truth_of_one, truth_of_three, truth_of_two};
 use crate::evaluation::operands::{value_of_one, value_of_three, value_of_two};
 use crate::evaluation::updates::{opened, value_of_except};
-use crate::leaves::{bound_value, plain_has, plain_value, used_value};
-use crate::made::{has_known, known_elements, known_truth, operator_elements};
+use crate::leaves::{decides_plain, plain_has, plain_value, value_of_use};
+use crate::made::{has_in_value, known_elements, known_truth, operator_elements, truth_in_value};
 use crate::stop::Stop;
 use std::alloc::Global;
 use tla_code::{BinderForm, Code, FieldForm, ListForm, OneForm, ThreeForm, TwoForm};
@@ -56,7 +59,7 @@ pub(crate) fn value<'m: 'a, 'a>(
     }
 }
 
-/// The value of a code, by its form.
+/// The value of a code that isn't held, by its form.
 #[cycle(evaluate)]
 #[inline(never)]
 pub(crate) fn value_of_form<'m: 'a, 'a>(
@@ -67,9 +70,7 @@ pub(crate) fn value_of_form<'m: 'a, 'a>(
     ensures { Answers tree_of_evaluated result (value_in env.entry (code_in env.entry code.now)) }
 {
     match code {
-        Code::Bound(_, index) => Ok(Evaluated::Borrowed(bound_value(*index, &env)?)),
         Code::Plain(core) => plain_value(alloc, core, env),
-        Code::Use(_, number, by) => Ok(Evaluated::Borrowed(used_value(*number, *by, &env)?)),
         Code::One(place, form, a) => value_of_one(alloc, place, *form, a, env),
         Code::Two(place, form, a, b) => value_of_two(alloc, place, *form, a, b, env),
         Code::Three(place, form, a, b, c) => value_of_three(alloc, place, *form, a, b, c, env),
@@ -89,6 +90,7 @@ fn value_of_other<'m: 'a, 'a>(
     ensures { Answers tree_of_evaluated result (value_in env.entry (code_in env.entry code.now)) }
 {
     match code {
+        Code::Use(_, number, by) => value_of_use(*number, *by, &env),
         Code::Let(names, is_used, definition, body) => {
             value_of_let(alloc, *names, *is_used, definition, body, env)
         }
@@ -96,9 +98,7 @@ fn value_of_other<'m: 'a, 'a>(
         Code::Binder(place, form, set, body) => value_of_binder(
             alloc, place, *form, set, body, env,
         ),
-        Code::Map(place, form, sets, body) => Ok(Evaluated::Owned(value_of_map(
-            alloc, place, *form, sets, body, env,
-        )?)),
+        Code::Map(place, form, sets, body) => value_of_map(alloc, place, *form, sets, body, env),
         Code::Except(place, base, updates) => value_of_except(alloc, place, updates, base, env),
         Code::Opened(_, openings, body) => opened(alloc, openings, body, env),
         _ => Err(Stop::Unknown),
@@ -115,10 +115,7 @@ pub(crate) fn truth<'m: 'a, 'a>(
     ensures { Answers truth result (value_in env.entry (code_in env.entry code.now)) }
 {
     if !is_logical(code) {
-        return match held(alloc, code, &env) {
-            Some(value) => known_truth(value),
-            None => known_truth(value_of_form(alloc, code, env)?.value()),
-        };
+        return truth_of_value(alloc, code, env);
     }
     match code {
         Code::Let(names, is_used, definition, body) => {
@@ -135,6 +132,21 @@ pub(crate) fn truth<'m: 'a, 'a>(
     }
 }
 
+/// Whether the value of a code is TRUE or FALSE.
+#[cycle(evaluate)]
+fn truth_of_value<'m: 'a, 'a>(
+    alloc: Global,
+    code: &'a Code<'m>,
+    env: Environment<'m, 'a>,
+) -> Result<bool, Stop>
+    ensures { Answers truth result (value_in env.entry (code_in env.entry code.now)) }
+{
+    match held(alloc, code, &env) {
+        Some(value) => known_truth(value),
+        None => truth_in_value(value_of_form(alloc, code, env)),
+    }
+}
+
 /// Whether a value is a member of a code.
 #[cycle(evaluate)]
 pub(crate) fn has<'m: 'a, 'a>(
@@ -146,9 +158,24 @@ pub(crate) fn has<'m: 'a, 'a>(
     ensures { Answers (λ b. b) result
         (has_in env.entry (tree_of member.now) (code_in env.entry code.now)) }
 {
-    if !is_asked(code) {
-        return has_known(value(alloc, code, env)?.value(), member);
+    if decides_members(code) {
+        has_of_form(alloc, code, member, env)
+    } else {
+        has_in_value(value(alloc, code, env), member)
     }
+}
+
+/// Whether a value is a member of a code of a form that decides this.
+#[cycle(evaluate)]
+fn has_of_form<'m: 'a, 'a>(
+    alloc: Global,
+    code: &'a Code<'m>,
+    member: &'a Value,
+    env: Environment<'m, 'a>,
+) -> Result<bool, Stop>
+    ensures { Answers (λ b. b) result
+        (has_in env.entry (tree_of member.now) (code_in env.entry code.now)) }
+{
     match code {
         Code::Plain(core) => plain_has(alloc, core, member, env),
         Code::Let(names, is_used, definition, body) => {
@@ -204,11 +231,32 @@ fn elements_of_two<'m: 'a, 'a>(
     match form {
         TwoForm::Operator(operator) => {
             let left = value(alloc, left, env)?;
-            let right = value(alloc, right, env)?;
-            operator_elements(alloc, place, at, operator, left.value(), right.value())
+            elements_from(alloc, place, at, operator, left.value(), right, env)
         }
         _ => known_elements(place, value_of_two(alloc, at, form, left, right, env)?),
     }
+}
+
+/// The elements of what an operator gives, where the left value is known.
+#[cycle(evaluate)]
+fn elements_from<'m: 'a, 'a>(
+    alloc: Global,
+    place: &'a Place,
+    at: &'a Place,
+    operator: Binary,
+    left: &Value,
+    right: &'a Code<'m>,
+    env: Environment<'m, 'a>,
+) -> Result<Elements<'a>, Stop>
+    ensures { (e : Expr)
+        → value_in env.entry e ≡ Ok (tree_of left.now)
+        → Answers elements_of result
+        (elements place.now
+        (means (two_expr (of_two operator) at.now e (code_in env.entry right.now)))
+        (bound_in env.entry) (present_in env.entry) (next_in env.entry)) }
+{
+    let right = value(alloc, right, env)?;
+    operator_elements(alloc, place, at, operator, left, right.value())
 }
 
 /// Whether a form with two operands gives a truth value.
@@ -254,11 +302,11 @@ fn is_not(form: OneForm<'_>) -> bool {
 }
 
 /// Whether membership in this form is decided without its value.
-fn is_asked(code: &Code<'_>) -> bool {
+fn decides_members(code: &Code<'_>) -> bool {
     match code {
-        Code::Plain(_) => true,
+        Code::Plain(core) => decides_plain(core),
         Code::One(_, form, _) => matches!(form, OneForm::Power | OneForm::Sequences),
-        Code::Two(_, form, _, _) => is_asked_of_two(*form),
+        Code::Two(_, form, _, _) => decides_members_of_two(*form),
         Code::Three(_, form, _, _, _) => matches!(form, ThreeForm::If),
         Code::List(_, form, _) => matches!(form, ListForm::Enumerated | ListForm::Product),
         Code::Fields(_, form, _) => matches!(form, FieldForm::Records),
@@ -269,7 +317,7 @@ fn is_asked(code: &Code<'_>) -> bool {
 }
 
 /// Whether membership in this form with two operands is decided without its value.
-fn is_asked_of_two(form: TwoForm) -> bool {
+fn decides_members_of_two(form: TwoForm) -> bool {
     match form {
         TwoForm::Functions | TwoForm::Cup | TwoForm::Cap | TwoForm::Minus => true,
         TwoForm::Operator(operator) => matches!(operator, Binary::Range),

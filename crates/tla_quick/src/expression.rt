@@ -86,8 +86,7 @@ impl<'m> Expression<'m> {
             partial.now
             ≡ Ok (tree_of v)) }
     {
-        let outer = Frame::Outer(&self.prepared.constants);
-        let frame = Frame::Many(&outer, 0, bound);
+        let frame = Frame::Outer(&self.prepared.constants, bound);
         let environment = Environment {
             frame: &frame,
             now,
@@ -115,8 +114,7 @@ impl<'m> Expression<'m> {
             (option_map (λ s. s.now) now.entry) partial.now
             ≡ Ok b) }
     {
-        let outer = Frame::Outer(&self.prepared.constants);
-        let frame = Frame::Many(&outer, 0, bound);
+        let frame = Frame::Outer(&self.prepared.constants, bound);
         let environment = Environment {
             frame: &frame,
             now,
@@ -141,8 +139,7 @@ impl<'m> Expression<'m> {
             (option_map (λ s. s.now) now.entry) partial.now
             ≡ Ok b) }
     {
-        let outer = Frame::Outer(&self.prepared.constants);
-        let frame = Frame::Many(&outer, 0, bound);
+        let frame = Frame::Outer(&self.prepared.constants, bound);
         let environment = Environment {
             frame: &frame,
             now,
@@ -168,8 +165,7 @@ impl<'m> Expression<'m> {
             (option_map (λ s. s.now) now.entry) partial.now
             ≡ Ok (map tree_of v.items)) }
     {
-        let outer = Frame::Outer(&self.prepared.constants);
-        let frame = Frame::Many(&outer, 0, bound);
+        let frame = Frame::Outer(&self.prepared.constants, bound);
         let environment = Environment {
             frame: &frame,
             now,

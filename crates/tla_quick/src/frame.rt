@@ -1,5 +1,5 @@
 //! What is around an expression: the values of the bound names, and the definitions.
-ghost use Rattle.std.specs.Prelude.{◌≡◌, [], Ok, Some, IfSome, slice_get};
+ghost use Rattle.std.specs.Prelude.{◌≡◌, Ok, Some, IfSome, slice_get};
 ghost use Rattle.tla_value.specs.Tree.{Tree};
 ghost use Rattle.tla_value.specs.TreeOf.{tree_of};
 ghost use Rattle.tla_core.specs.Fault.{Outcome};
@@ -7,15 +7,16 @@ ghost use Rattle.tla_core.specs.Meaning.{Present, Next};
 ghost use Rattle.tla_quick.specs.Private.Kept.{scope_with};
 ghost use Rattle.tla_quick.specs.Private.Frames.{bound_of, scope_of, IsKnown, Knows, IsDefinition};
 
-use crate::constant::Constant;
+use crate::closed_part::ClosedPart;
 use tla_code::Code;
 use tla_value::Value;
 
 /// The environment, a linked list from the innermost frame out: bound names (`One`, `Many`), let-bindings (`Defined`),
-/// and the closed parts (`Outer`). The `usize` of `One` and `Many` is the number of names that outer frames bind.
+/// and at last `Outer`, the closed parts and the names that are bound around the whole expression. The `usize` of `One`
+/// and `Many` is the number of names that outer frames bind.
 #[derive(Clone, Copy)]
 pub(crate) enum Frame<'m, 'a> {
-    Outer(&'a Vec<Constant<'m>>),
+    Outer(&'a Vec<ClosedPart<'m>>, &'a [Value]),
     One(&'a Frame<'m, 'a>, usize, &'a Value),
     Many(&'a Frame<'m, 'a>, usize, &'a [Value]),
     /// The number of a definition, the number of names bound outside it, and its value, if known.
@@ -29,7 +30,7 @@ pub(crate) fn bound_name<'m: 'a, 'a>(frame: &'a Frame<'m, 'a>, index: usize) -> 
         → IfSome result (λ v. slice_get (bound_of frame.entry.now) index ≡ Some (tree_of v.now)) }
 {
     match frame {
-        Frame::Outer(_) => None,
+        Frame::Outer(_, values) => values.get(index),
         Frame::One(outer, names, value) => {
             if index == *names {
                 Some(value)
@@ -56,9 +57,8 @@ pub(crate) struct Found<'a> {
 }
 
 /// The value of the closed part with a number.
-fn kept_value<'m: 'a, 'a>(constants: &'a Vec<Constant<'m>>, number: usize) -> Option<&'a Value>
+fn kept_value<'m: 'a, 'a>(constants: &'a Vec<ClosedPart<'m>>, number: usize) -> Option<&'a Value>
     ensures { (frame : Frame) (s : Present) (t : Next)
-        → bound_of frame ≡ []
         → scope_of frame ≡ scope_with constants.now.items
         → IfSome result (λ v. IsDefinition frame s t number 0 (tree_of v.now)) }
 {
@@ -68,10 +68,9 @@ fn kept_value<'m: 'a, 'a>(constants: &'a Vec<Constant<'m>>, number: usize) -> Op
     }
 }
 
-/// Closed part `number`, as a definition in the empty scope.
-fn found_among<'m: 'a, 'a>(constants: &'a Vec<Constant<'m>>, number: usize) -> Option<Found<'a>>
+/// Closed part `number`, as a definition under no names.
+fn found_among<'m: 'a, 'a>(constants: &'a Vec<ClosedPart<'m>>, number: usize) -> Option<Found<'a>>
     ensures { (frame : Frame) (s : Present) (t : Next)
-        → bound_of frame ≡ []
         → scope_of frame ≡ scope_with constants.now.items
         → IfSome result (λ f.
         IfSome f.value (λ v. IsDefinition frame s t number f.names (tree_of v.now))) }
@@ -94,7 +93,7 @@ pub(crate) fn definition<'m: 'a, 'a>(frame: &'a Frame<'m, 'a>, number: usize) ->
         IsDefinition frame.entry.now s t number f.names (tree_of v.now))) }
 {
     match frame {
-        Frame::Outer(constants) => found_among(constants, number),
+        Frame::Outer(constants, _) => found_among(constants, number),
         Frame::One(outer, _, _) => definition(outer, number),
         Frame::Many(outer, _, _) => definition(outer, number),
         Frame::Defined(outer, found, names, _, value) => {

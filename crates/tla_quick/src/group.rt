@@ -99,8 +99,7 @@ impl<'m> Group<'m> {
             (option_map (λ s. s.now) now.entry) partial.now
             (option_map (λ v. map tree_of v.items) r)) }
     {
-        let outer = Frame::Outer(&self.prepared.constants);
-        let frame = Frame::Many(&outer, 0, bound);
+        let frame = Frame::Outer(&self.prepared.constants, bound);
         let environment = Environment {
             frame: &frame,
             now,

@@ -1,5 +1,5 @@
 //! Names, variables, constants and uses of definitions.
-ghost use Rattle.std.specs.Prelude.{◌≡◌, ◌+◌, Ok, IfOk, OnOk, Some, IfSome, false, get_or, map, option_map, slice_get};
+ghost use Rattle.std.specs.Prelude.{◌≡◌, ◌+◌, ◌++◌, ◌∷◌, [], Ok, IfOk, OnOk, Some, IfSome, false, get_or, map, option_map, slice_get};
 ghost use Rattle.tla_value.specs.Tree.{truth};
 ghost use Rattle.tla_value.specs.TreeOf.{tree_of};
 ghost use Rattle.tla_core.specs.declared.fault.Place.{Place};
@@ -14,7 +14,7 @@ ghost use Rattle.tla_quick.specs.Private.Environment.{bound_in, scope_in, value_
 
 use crate::environment::Environment;
 use crate::frame::{Found, Frame, bound_name, definition};
-use crate::made::{count_more, has_known};
+use crate::made::{as_owned, count_more, or_stop};
 use crate::patterns::fitting;
 use crate::stop::Stop;
 use std::alloc::Global;
@@ -86,6 +86,19 @@ pub(crate) fn used_value<'m: 'a, 'a>(
     }
 }
 
+/// The value of a use of a definition.
+pub(crate) fn value_of_use<'m: 'a, 'a>(
+    number: usize,
+    by: usize,
+    env: &Environment<'m, 'a>,
+) -> Result<Evaluated<'a>, Stop>
+    ensures { (place : Place)
+        → Answers tree_of_evaluated result
+        (value_in env.entry.now (used place by (slice_get (scope_in env.entry.now) number))) }
+{
+    Ok(Evaluated::Borrowed(used_value(number, by, env)?))
+}
+
 /// The value of a definition that was found, if the use is under `by` more names than the definition.
 fn known_value<'a>(
     found: Found<'a>,
@@ -110,19 +123,29 @@ fn bound_values<'m: 'a, 'a>(alloc: Global, frame: &'a Frame<'m, 'a>) -> Result<V
     ensures { IfOk result (λ v. map tree_of v.items ≡ bound_of frame.entry.now) }
 {
     match frame {
-        Frame::Outer(_) => Ok(Vec::new(alloc)),
-        Frame::One(outer, _, value) => {
-            let mut copies = bound_values(alloc, outer)?;
-            copies.push(copied(alloc, value)?)?;
-            Ok(copies)
-        }
-        Frame::Many(outer, _, values) => {
-            let mut copies = bound_values(alloc, outer)?;
-            add_items(alloc, &mut copies, values)?;
-            Ok(copies)
-        }
+        Frame::Outer(_, values) => with_copies(alloc, Vec::new(alloc), values),
+        Frame::One(outer, _, value) => with_copy(alloc, bound_values(alloc, outer)?, value),
+        Frame::Many(outer, _, values) => with_copies(alloc, bound_values(alloc, outer)?, values),
         Frame::Defined(outer, _, _, _, _) => bound_values(alloc, outer),
     }
+}
+
+/// Some values, and then a copy of one more.
+fn with_copy(alloc: Global, mut values: Vec<Value>, value: &Value) -> Result<Vec<Value>, Stop>
+    ensures { IfOk result (λ v.
+        map tree_of v.items ≡ map tree_of values.items ++ tree_of value.now ∷ []) }
+{
+    values.push(copied(alloc, value)?)?;
+    Ok(values)
+}
+
+/// Some values, and then copies of more.
+fn with_copies(alloc: Global, mut values: Vec<Value>, more: &[Value]) -> Result<Vec<Value>, Stop>
+    ensures { IfOk result (λ v.
+        map tree_of v.items ≡ map tree_of values.items ++ map tree_of more.now) }
+{
+    add_items(alloc, &mut values, more)?;
+    Ok(values)
 }
 
 /// The value of an expression, by its definition.
@@ -156,7 +179,7 @@ fn exact_has<'m: 'a, 'a>(
     }
 }
 
-/// The value of an expression in which nothing is shared.
+/// The value of an expression in which nothing is shared and that isn't held.
 pub(crate) fn plain_value<'m: 'a, 'a>(
     alloc: Global,
     core: &'a Core,
@@ -165,12 +188,9 @@ pub(crate) fn plain_value<'m: 'a, 'a>(
     ensures { Answers tree_of_evaluated result (value_in env.entry (expr_of core.now)) }
 {
     match core {
-        Core::Constant(_, value) => Ok(Evaluated::Borrowed(value)),
-        Core::Now(_, variable) => Ok(Evaluated::Borrowed(now_value(env.now, *variable)?)),
-        Core::Next(_, variable) => Ok(Evaluated::Borrowed(next_value(env.next, *variable)?)),
-        Core::Literal(literal) => Ok(Evaluated::Borrowed(literal.value())),
-        Core::Booleans(place) => Ok(booleans(alloc, place)?),
-        _ => Ok(Evaluated::Owned(exact_value(alloc, core, env)?)),
+        Core::Booleans(place) => or_stop(booleans(alloc, place)),
+        Core::Now(_, _) | Core::Next(_, _) => Err(Stop::Unknown),
+        _ => as_owned(exact_value(alloc, core, env)),
     }
 }
 
@@ -187,6 +207,16 @@ pub(crate) fn held_leaf<'m: 'a, 'a>(core: &'a Core, env: &Environment<'m, 'a>) -
     }
 }
 
+/// Whether membership in an expression in which nothing is shared is decided without its value.
+pub(crate) fn decides_plain(core: &Core) -> bool {
+    match core {
+        Core::KindSet(_, _) | Core::Booleans(_) | Core::Cases(_, _, _) | Core::Assert(_, _, _) => {
+            true
+        }
+        _ => false,
+    }
+}
+
 /// Whether a value is a member of an expression in which nothing is shared.
 pub(crate) fn plain_has<'m: 'a, 'a>(
     alloc: Global,
@@ -200,7 +230,7 @@ pub(crate) fn plain_has<'m: 'a, 'a>(
         Core::KindSet(_, kind) => Ok(kind_has(*kind, value)),
         Core::Booleans(_) => Ok(is_truth(value)),
         Core::Cases(_, _, _) | Core::Assert(_, _, _) => exact_has(alloc, core, value, env),
-        _ => has_known(plain_value(alloc, core, env)?.value(), value),
+        _ => Err(Stop::Unknown),
     }
 }
 

@@ -1,7 +1,7 @@
 //! Evaluates expressions quickly, or gives up: where it answers, the value is that of the definition.
 #![tactic(auto)]
 
-mod constant;
+mod closed_part;
 mod constants;
 mod domains;
 mod environment;

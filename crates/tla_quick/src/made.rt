@@ -1,9 +1,9 @@
 //! What forms make of values that are known.
-ghost use Rattle.std.specs.Prelude.{◌≡◌, ◌<◌, ◌+◌, ◌++◌, Ok, IfOk, IfSome, OnOk, List, length, cond, map, slice_get};
+ghost use Rattle.std.specs.Prelude.{◌≡◌, ◌<◌, ◌+◌, ◌++◌, Ok, Some, IfOk, IfSome, OnOk, List, length, cond, map, slice_get};
 ghost use Rattle.std.specs.Option.{option_to_list};
-ghost use Rattle.tla_value.specs.Tree.{Tree, truth, fun, pairs};
+ghost use Rattle.tla_value.specs.Tree.{Tree, truth, text, fun, pairs};
 ghost use Rattle.tla_value.specs.TreeOf.{tree_of, pair_of};
-ghost use Rattle.tla_value.specs.Funs.{MakesFun};
+ghost use Rattle.tla_value.specs.Funs.{MakesFun, value_at};
 ghost use Rattle.tla_core.specs.declared.fault.Place.{Place as AnyPlace};
 ghost use Rattle.tla_core.specs.declared.fault.FaultCode.TheVariants.{NoChoice};
 ghost use Rattle.tla_core.specs.Kinds.{as_fun, as_set, make_fun, make_set, or_fault, rising_fun};
@@ -12,12 +12,14 @@ ghost use Rattle.tla_core.specs.Expr.{Expr, Exprs, Iff, sub_seq, product, enumer
 ghost use Rattle.tla_core.specs.ExprOf.{binary_of};
 ghost use Rattle.tla_core.specs.Operators.{binary_rule};
 ghost use Rattle.tla_core.specs.Lists.{each};
+ghost use Rattle.tla_core.specs.Patterns.{tried_set};
 ghost use Rattle.tla_core.specs.Meaning.{Meaning, Bound, Present, Next, elements};
 ghost use Rattle.tla_core.specs.Value.{val, mem, means, mean_all};
 ghost use Rattle.tla_code.specs.Forms.{one_expr, two_expr, list_expr};
 ghost use Rattle.tla_code.specs.declared.code.OneForm.TheVariants.{Field};
 ghost use Rattle.tla_code.specs.declared.code.TwoForm.TheVariants.{Apply, Operator as of_two};
-ghost use Rattle.tla_operators.specs.Evaluated.{tree_of_evaluated};
+ghost use Rattle.tla_operators.specs.Evaluated.{Evaluates, tree_of_evaluated};
+ghost use Rattle.tla_operators.specs.Gives.{Gives};
 ghost use Rattle.tla_sets.specs.Elements.{elements_of};
 ghost use Rattle.tla_quick.specs.Private.Answers.{Answers};
 
@@ -30,10 +32,12 @@ use tla_eval::laws::sets;
 use tla_operators::evaluated::Evaluated;
 use tla_operators::functions::{apply, field, into_function, made_fun};
 use tla_operators::operators::{binary, two_ints, unary};
+use tla_operators::rules::copied_text;
 use tla_operators::sequences::{sequence_of, sub_seq};
 use tla_operators::sets::{
     difference_of, functions_between, intersection_of, made_set, subsets_of, tuples_with, union_of,
 };
+use tla_operators::trouble::Trouble;
 use tla_sets::asked::{set_has, two_have};
 use tla_sets::elements::{Elements, chosen_at, elements_of_two, into_values, keep_at, members_of};
 use tla_value::{FunValue, SetValue, Text, Value, ValueError};
@@ -48,7 +52,59 @@ pub(crate) fn owned(alloc: Global, value: Evaluated<'_>) -> Result<Value, Stop>
     Ok(value.into_value(alloc)?)
 }
 
+/// What an operation gave. A fault stops the evaluation.
+pub(crate) fn or_stop<'a>(value: Result<Evaluated<'a>, Trouble<'_>>) -> Result<Evaluated<'a>, Stop>
+    ensures { (o : Outcome Tree)
+        → Evaluates value.entry o
+        → Answers tree_of_evaluated result o }
+{
+    Ok(value?)
+}
+
+/// What an operation made. A fault stops the evaluation.
+fn value_or_stop(value: Result<Value, Trouble<'_>>) -> Result<Value, Stop>
+    ensures { (o : Outcome Tree) → Gives value.entry o → Answers tree_of result o }
+{
+    Ok(value?)
+}
+
+/// A value that was made, where one may also be borrowed.
+pub(crate) fn as_owned<'a>(value: Result<Value, Stop>) -> Result<Evaluated<'a>, Stop>
+    ensures { (o : Outcome Tree)
+        → Answers tree_of value o
+        → Answers tree_of_evaluated result o }
+{
+    Ok(Evaluated::Owned(value?))
+}
+
+/// A truth value as a value.
+pub(crate) fn truth_value<'a>(holds: Result<bool, Stop>) -> Result<Evaluated<'a>, Stop>
+    ensures { (o : Outcome Tree)
+        → Answers truth holds o
+        → Answers tree_of_evaluated result o }
+{
+    Ok(Evaluated::truth(holds?))
+}
+
+/// A value that may be borrowed, as an owned one.
+pub(crate) fn owned_value(alloc: Global, value: Result<Evaluated<'_>, Stop>) -> Result<Value, Stop>
+    ensures { (o : Outcome Tree)
+        → Answers tree_of_evaluated value.entry o
+        → Answers tree_of result o }
+{
+    owned(alloc, value?)
+}
+
 /// The truth value that a value is.
+pub(crate) fn truth_in_value(value: Result<Evaluated<'_>, Stop>) -> Result<bool, Stop>
+    ensures { (o : Outcome Tree)
+        → Answers tree_of_evaluated value.entry o
+        → Answers truth result o }
+{
+    known_truth(value?.value())
+}
+
+/// The truth value that a known value is.
 pub(crate) fn known_truth(value: &Value) -> Result<bool, Stop>
     ensures { (o : Outcome Tree) → o ≡ Ok (tree_of value.now) → Answers truth result o }
 {
@@ -69,7 +125,7 @@ pub(crate) fn count_more(count: usize, more: usize) -> Result<usize, Stop>
 }
 
 /// Whether a value is a member of an expression, the value of which is known.
-pub(crate) fn has_known(set: &Value, value: &Value) -> Result<bool, Stop>
+fn has_known(set: &Value, value: &Value) -> Result<bool, Stop>
     ensures { (e : Expr) (b : Bound) (s : Present) (t : Next)
         → val e b s t ≡ Ok (tree_of set.now)
         → Answers (λ x. x) result (mem (tree_of value.now) e b s t) }
@@ -80,6 +136,15 @@ pub(crate) fn has_known(set: &Value, value: &Value) -> Result<bool, Stop>
         Value::Set(set) => Ok(set.contains(value)),
         _ => Err(Stop::Unknown),
     }
+}
+
+/// Whether a value is a member of an expression, by the value of which it is decided.
+pub(crate) fn has_in_value(set: Result<Evaluated<'_>, Stop>, value: &Value) -> Result<bool, Stop>
+    ensures { (e : Expr) (b : Bound) (s : Present) (t : Next)
+        → Answers tree_of_evaluated set.entry (val e b s t)
+        → Answers (λ x. x) result (mem (tree_of value.now) e b s t) }
+{
+    has_known(set?.value(), value)
 }
 
 /// What a form with one operand gives.
@@ -94,14 +159,31 @@ pub(crate) fn made_of_one<'m, 'a>(
         → Answers tree_of_evaluated result (val (one_expr form.entry place.now e) b s t) }
 {
     match form {
-        OneForm::Operator(operator) => Ok(unary(alloc, place, operator, operand)?),
-        OneForm::Field(name) => Ok(field(alloc, place, name, operand)?),
-        OneForm::Power => Ok(Evaluated::Owned(subsets_of(alloc, place, operand.value())?)),
-        OneForm::Tried(count) => {
-            try_set(count, operand.value())?;
-            Ok(operand)
-        }
-        OneForm::Sequences => Err(Stop::Unknown),
+        OneForm::Operator(operator) => or_stop(unary(alloc, place, operator, operand)),
+        OneForm::Field(name) => or_stop(field(alloc, place, name, operand)),
+        OneForm::Tried(count) => tried(count, operand),
+        _ => as_owned(made_of_set(alloc, place, form, operand.value())),
+    }
+}
+
+/// A set, each element of which is a sequence of `count` items.
+fn tried(count: usize, set: Evaluated<'_>) -> Result<Evaluated<'_>, Stop>
+    ensures { (p : AnyPlace)
+        → Answers tree_of_evaluated result (tried_set p count (tree_of_evaluated set.entry)) }
+{
+    try_set(count, set.value())?;
+    Ok(set)
+}
+
+/// What a form makes of the value of its operand, a set.
+fn made_of_set(alloc: Global, place: &Place, form: OneForm<'_>, set: &Value) -> Result<Value, Stop>
+    ensures { (e : Expr) (b : Bound) (s : Present) (t : Next)
+        → val e b s t ≡ Ok (tree_of set.now)
+        → Answers tree_of result (val (one_expr form.entry place.now e) b s t) }
+{
+    match form {
+        OneForm::Power => value_or_stop(subsets_of(alloc, place, set)),
+        _ => Err(Stop::Unknown),
     }
 }
 
@@ -111,52 +193,77 @@ pub(crate) fn made_of_two<'a>(
     place: &Place,
     form: TwoForm,
     left: Evaluated<'a>,
-    right: Evaluated<'a>,
+    right: &Value,
 ) -> Result<Evaluated<'a>, Stop>
     ensures { (e d : Expr) (b : Bound) (s : Present) (t : Next)
         → val e b s t ≡ Ok (tree_of_evaluated left.entry)
-        → val d b s t ≡ Ok (tree_of_evaluated right.entry)
+        → val d b s t ≡ Ok (tree_of right.now)
         → Answers tree_of_evaluated result (val (two_expr form place.now e d) b s t) }
 {
     match form {
-        TwoForm::Apply => Ok(apply(alloc, place, left, right.value())?),
-        _ => Ok(Evaluated::Owned(made_of_values(alloc, place, form, left.value(), right.value())?)),
+        TwoForm::Apply => or_stop(apply(alloc, place, left, right)),
+        _ => as_owned(made_of_values(alloc, place, form, left.value(), right)),
     }
 }
 
 /// The value of a function at an argument, borrowed from the function.
-pub(crate) fn held_at<'a>(
-    alloc: Global,
-    place: &Place,
-    function: &'a Value,
-    argument: &Value,
-) -> Option<&'a Value>
-    ensures { (e d : Expr) (b : Bound) (s : Present) (t : Next)
+#[tactic(auto, using(tla_operators::proofs::Known::as_fun_known))]
+pub(crate) fn held_at<'a>(function: &'a Value, argument: &Value) -> Option<&'a Value>
+    ensures { (p : AnyPlace) (e d : Expr) (b : Bound) (s : Present) (t : Next)
         → val e b s t ≡ Ok (tree_of function.now)
         → val d b s t ≡ Ok (tree_of argument.now)
-        → IfSome result (λ v. val (two_expr Apply place.now e d) b s t ≡ Ok (tree_of v.now)) }
+        → IfSome result (λ v. val (two_expr Apply p e d) b s t ≡ Ok (tree_of v.now)) }
 {
-    match apply(alloc, place, Evaluated::Borrowed(function), argument) {
-        Ok(Evaluated::Borrowed(value)) => Some(value),
+    match function {
+        Value::Fun(function) => match function.apply(argument) {
+            Some(value) => Some(value),
+            None => None,
+        },
         _ => None,
     }
 }
 
 /// The value of a record's field, borrowed from the record.
-pub(crate) fn held_field<'a>(
-    alloc: Global,
-    place: &Place,
-    name: &Text,
-    base: &'a Value,
-) -> Option<&'a Value>
-    ensures { (e : Expr) (b : Bound) (s : Present) (t : Next)
+#[tactic(auto, using(tla_operators::proofs::Known::as_fun_known))]
+pub(crate) fn held_field<'a>(alloc: Global, name: &Text, base: &'a Value) -> Option<&'a Value>
+    ensures { (p : AnyPlace) (e : Expr) (b : Bound) (s : Present) (t : Next)
         → val e b s t ≡ Ok (tree_of base.now)
         → IfSome result (λ v.
-        val (one_expr (Field name.entry) place.now e) b s t ≡ Ok (tree_of v.now)) }
+        val (one_expr (Field name.entry) p e) b s t ≡ Ok (tree_of v.now)) }
 {
-    match field(alloc, place, name, Evaluated::Borrowed(base)) {
-        Ok(Evaluated::Borrowed(value)) => Some(value),
+    match base {
+        Value::Fun(function) => match found_field(alloc, name, function) {
+            Some(value) => Some(value),
+            None => None,
+        },
         _ => None,
+    }
+}
+
+/// The most fields among which one is sought from the first on.
+const FEW: usize = 16;
+
+/// The value of a record at a field.
+fn found_field<'a>(alloc: Global, name: &Text, function: &'a FunValue) -> Option<&'a Value>
+    ensures { IfSome result (λ v. value_at (text name.now) function.now ≡ Some (tree_of v.now)) }
+{
+    if function.len() > FEW {
+        return field_of_many(alloc, name, function);
+    }
+    match function.field(name) {
+        Some(value) => Some(value),
+        None => None,
+    }
+}
+
+/// The same, of a record with many fields.
+fn field_of_many<'a>(alloc: Global, name: &Text, function: &'a FunValue) -> Option<&'a Value>
+    ensures { IfSome result (λ v. value_at (text name.now) function.now ≡ Some (tree_of v.now)) }
+{
+    let name = Value::Text(copied_text(alloc, name).ok()?);
+    match function.apply(&name) {
+        Some(value) => Some(value),
+        None => None,
     }
 }
 
@@ -174,11 +281,11 @@ fn made_of_values(
         → Answers tree_of result (val (two_expr form place.now e d) b s t) }
 {
     match form {
-        TwoForm::Operator(operator) => Ok(binary(alloc, place, operator, left, right)?),
-        TwoForm::Functions => Ok(functions_between(alloc, place, left, right)?),
-        TwoForm::Cup => Ok(union_of(alloc, place, left, right)?),
-        TwoForm::Cap => Ok(intersection_of(alloc, place, left, right)?),
-        TwoForm::Minus => Ok(difference_of(alloc, place, left, right)?),
+        TwoForm::Operator(operator) => value_or_stop(binary(alloc, place, operator, left, right)),
+        TwoForm::Functions => value_or_stop(functions_between(alloc, place, left, right)),
+        TwoForm::Cup => value_or_stop(union_of(alloc, place, left, right)),
+        TwoForm::Cap => value_or_stop(intersection_of(alloc, place, left, right)),
+        TwoForm::Minus => value_or_stop(difference_of(alloc, place, left, right)),
         _ => Err(Stop::Unknown),
     }
 }
@@ -210,22 +317,21 @@ fn compared_by(place: &Place, operator: Binary, left: &Value, right: &Value) -> 
     match operator {
         Binary::Unequal => Ok(left != right),
         Binary::Iff => same_truth(left, right),
-        Binary::LessThan => {
-            let (left, right) = two_ints(place, left, right)?;
-            Ok(left < right)
-        }
-        Binary::GreaterThan => {
-            let (left, right) = two_ints(place, left, right)?;
-            Ok(left > right)
-        }
-        Binary::AtMost => {
-            let (left, right) = two_ints(place, left, right)?;
-            Ok(left <= right)
-        }
-        Binary::AtLeast => {
-            let (left, right) = two_ints(place, left, right)?;
-            Ok(left >= right)
-        }
+        _ => ordered(place, operator, left, right),
+    }
+}
+
+/// Whether an operator that compares two numbers gives TRUE.
+fn ordered(place: &Place, operator: Binary, left: &Value, right: &Value) -> Result<bool, Stop>
+    ensures { Answers truth result
+        (binary_rule (binary_of operator) place.now (tree_of left.now) (tree_of right.now)) }
+{
+    let (left, right) = two_ints(place, left, right)?;
+    match operator {
+        Binary::LessThan => Ok(left < right),
+        Binary::GreaterThan => Ok(left > right),
+        Binary::AtMost => Ok(left <= right),
+        Binary::AtLeast => Ok(left >= right),
         _ => Err(Stop::Unknown),
     }
 }
@@ -315,8 +421,8 @@ pub(crate) fn made_of_list(
         → Answers tree_of result (val (list_expr form place.now es) b s t) }
 {
     match form {
-        ListForm::Enumerated => Ok(made_set(place, SetValue::from_values(alloc, values))?),
-        ListForm::Tuple => Ok(sequence_of(alloc, place, values)?),
+        ListForm::Enumerated => set_of(alloc, place, values),
+        ListForm::Tuple => value_or_stop(sequence_of(alloc, place, values)),
         _ => Err(Stop::Unknown),
     }
 }
@@ -354,7 +460,7 @@ pub(crate) fn one_of_known(
 pub(crate) fn set_of(alloc: Global, place: &Place, values: Vec<Value>) -> Result<Value, Stop>
     ensures { Answers tree_of result (make_set place.now (map tree_of values.items)) }
 {
-    Ok(made_set(place, SetValue::from_values(alloc, values))?)
+    value_or_stop(made_set(place, SetValue::from_values(alloc, values)))
 }
 
 /// The element with a number, as a value of its own.
@@ -400,6 +506,13 @@ pub(crate) fn known_members(set: &Value) -> Result<&[Value], Stop>
         Value::Set(set) => Ok(set.items()),
         _ => Err(Stop::Unknown),
     }
+}
+
+/// A value with its name.
+pub(crate) fn named(alloc: Global, name: &Text, value: Value) -> Result<(Value, Value), Stop>
+    ensures { IfOk result (λ p. pair_of p ≡ (text name.now, tree_of value)) }
+{
+    Ok((Value::Text(copied_text(alloc, name)?), value))
 }
 
 /// The record of some fields.

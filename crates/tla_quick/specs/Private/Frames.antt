@@ -20,14 +20,14 @@ use Rattle.tla_quick.specs.declared.frame.Frame.TheVariants.{Outer, One', Many',
 
 -- the values of the bound names, the outermost first
 abbrev pub bound_of : Frame → Bound
-bound_of (Outer _) = []
+bound_of (Outer _ values) = map tree_of values.now
 bound_of (One' _ outer _ value) = bound_of outer ++ tree_of value.now ∷ []
 bound_of (Many' _ outer _ values) = bound_of outer ++ map tree_of values.now
 bound_of (Defined' _ outer _ _ _ _) = bound_of outer
 
 -- the definitions, the outermost first
 abbrev pub scope_of : Frame → Scope
-scope_of (Outer constants) = scope_with constants.now.items
+scope_of (Outer constants _) = scope_with constants.now.items
 scope_of (One' _ outer _ _) = scope_of outer
 scope_of (Many' _ outer _ _) = scope_of outer
 scope_of (Defined' _ outer _ names d _) = scope_of outer ++ (names, expr_in (scope_of outer) d.now) ∷ []
@@ -39,7 +39,7 @@ IsKnown (Some v) o = o ≡ Ok (tree_of v.now)
 
 -- the numbers count what is around each frame, and each value that is known is the definition's, with the names around it
 abbrev pub Knows : Frame → Present → Next → Type 0
-Knows (Outer _) s t = Unit {0}
+Knows (Outer _ _) s t = Unit {0}
 Knows (One' _ outer names _) s t = (names ≡ length (bound_of outer)) × Knows outer s t
 Knows (Many' _ outer names _) s t = (names ≡ length (bound_of outer)) × Knows outer s t
 Knows (Defined' _ outer number names d v) s t = (number ≡ length (scope_of outer)) × (names ≡ length (bound_of outer)) × IsKnown v (val (expr_in (scope_of outer) d.now) (bound_of outer) s t) × Knows outer s t
@@ -56,7 +56,7 @@ IsKnown-prop None o = hlevel props
 IsKnown-prop (Some v) o = hlevel (props, Fault-set, Tree-set)
 
 pub Knows-prop : (f : Frame) (s : Present) (t : Next) → IsProp (Knows f s t)
-Knows-prop (Outer _) s t = hlevel props
+Knows-prop (Outer _ _) s t = hlevel props
 Knows-prop (One' _ outer names _) s t = hlevel (props, Knows-prop outer s t)
 Knows-prop (Many' _ outer names _) s t = hlevel (props, Knows-prop outer s t)
 Knows-prop (Defined' _ outer number names d v) s t = hlevel (props, IsKnown-prop v (val (expr_in (scope_of outer) d.now) (bound_of outer) s t), Knows-prop outer s t)

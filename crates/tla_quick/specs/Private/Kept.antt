@@ -2,13 +2,13 @@
 use Rattle.std.specs.Prelude.{ℕ, List, map}
 use Rattle.tla_core.specs.Expr.{Expr}
 use Rattle.tla_code.specs.CodeExpr.{Scope, code_expr, expr_in}
-use Rattle.tla_quick.specs.declared.constant.Constant.{Constant}
+use Rattle.tla_quick.specs.declared.closed_part.ClosedPart.{ClosedPart}
 use Rattle.tla_quick.specs.declared.prepared.Prepared.{Prepared}
 
-abbrev pub definition_of : Constant → ℕ × Expr
+abbrev pub definition_of : ClosedPart → ℕ × Expr
 definition_of k = (0, code_expr k.code)
 
-abbrev pub scope_with : List Constant → Scope
+abbrev pub scope_with : List ClosedPart → Scope
 scope_with ks = map definition_of ks
 
 -- what a prepared code stands for

@@ -2,6 +2,7 @@
 ghost use Rattle.std.specs.Prelude.{◌<◌, ◌++◌, ◌∷◌, [], Bool, Some, length, map, slice_get};
 ghost use Rattle.tla_value.specs.Tree.{truth};
 ghost use Rattle.tla_value.specs.TreeOf.{tree_of};
+ghost use Rattle.tla_core.specs.Expr.{choose, filtered, for_all, for_some};
 ghost use Rattle.tla_core.specs.Lists.{all_hold, some_hold, first_passing, passing};
 ghost use Rattle.tla_core.specs.Meaning.{asks};
 ghost use Rattle.tla_core.specs.Value.{means};
@@ -15,7 +16,7 @@ ghost use Rattle.tla_quick.specs.Private.Environment.{bound_in, present_in, next
 use crate::environment::Environment;
 use crate::evaluation::{elements, truth, value};
 use crate::frame::Frame;
-use crate::made::{chosen, count_more, keep, owned, set_of};
+use crate::made::{as_owned, chosen, count_more, keep, owned_value, set_of, truth_value};
 use crate::stop::Stop;
 use std::alloc::Global;
 use tla_code::{BinderForm, Code};
@@ -39,12 +40,45 @@ pub(super) fn truth_of_binder<'m: 'a, 'a>(
         (binder_expr form place.now (code_in env.entry set.now)
         (code_in env.entry body.now))) }
 {
-    let found = elements(alloc, place, set, env)?;
     match form {
-        BinderForm::ForAll => Ok(each_holds(alloc, place, body, &found, env)?),
-        BinderForm::ForSome => Ok(some_holds(alloc, place, body, &found, env)?),
+        BinderForm::ForAll => holds_for_all(alloc, place, set, body, env),
+        BinderForm::ForSome => holds_for_some(alloc, place, set, body, env),
         _ => Err(Stop::Unknown),
     }
+}
+
+/// Whether a body is TRUE of each element of a set.
+#[cycle(evaluate)]
+fn holds_for_all<'m: 'a, 'a>(
+    alloc: Global,
+    place: &'a Place,
+    set: &'a Code<'m>,
+    body: &'a Code<'m>,
+    env: Environment<'m, 'a>,
+) -> Result<bool, Stop>
+    ensures { Answers truth result
+        (value_in env.entry
+        (for_all place.now (code_in env.entry set.now) (code_in env.entry body.now))) }
+{
+    let found = elements(alloc, place, set, env)?;
+    Ok(each_holds(alloc, place, body, &found, env)?)
+}
+
+/// Whether a body is TRUE of some element of a set.
+#[cycle(evaluate)]
+fn holds_for_some<'m: 'a, 'a>(
+    alloc: Global,
+    place: &'a Place,
+    set: &'a Code<'m>,
+    body: &'a Code<'m>,
+    env: Environment<'m, 'a>,
+) -> Result<bool, Stop>
+    ensures { Answers truth result
+        (value_in env.entry
+        (for_some place.now (code_in env.entry set.now) (code_in env.entry body.now))) }
+{
+    let found = elements(alloc, place, set, env)?;
+    Ok(some_holds(alloc, place, body, &found, env)?)
 }
 
 /// The value of a form that binds one name.
@@ -63,18 +97,45 @@ pub(super) fn value_of_binder<'m: 'a, 'a>(
         (code_in env.entry body.now))) }
 {
     match form {
-        BinderForm::ForAll | BinderForm::ForSome => Ok(Evaluated::truth(truth_of_binder(
-            alloc, place, form, set, body, env,
-        )?)),
-        BinderForm::Choose => {
-            let found = elements(alloc, place, set, env)?;
-            Ok(Evaluated::Owned(first_passing(alloc, place, body, &found, env)?))
-        }
-        BinderForm::Filter => {
-            let found = elements(alloc, place, set, env)?;
-            Ok(Evaluated::Owned(set_of(alloc, place, passing(alloc, place, body, &found, env)?)?))
-        }
+        BinderForm::Choose => as_owned(choice(alloc, place, set, body, env)),
+        BinderForm::Filter => as_owned(filtered(alloc, place, set, body, env)),
+        _ => truth_value(truth_of_binder(alloc, place, form, set, body, env)),
     }
+}
+
+/// CHOOSE
+#[cycle(evaluate)]
+fn choice<'m: 'a, 'a>(
+    alloc: Global,
+    place: &'a Place,
+    set: &'a Code<'m>,
+    body: &'a Code<'m>,
+    env: Environment<'m, 'a>,
+) -> Result<Value, Stop>
+    ensures { Answers tree_of result
+        (value_in env.entry
+        (choose place.now (code_in env.entry set.now) (code_in env.entry body.now))) }
+{
+    let found = elements(alloc, place, set, env)?;
+    first_passing(alloc, place, body, &found, env)
+}
+
+/// The set of those elements of a set of which a body is TRUE.
+#[cycle(evaluate)]
+fn filtered<'m: 'a, 'a>(
+    alloc: Global,
+    place: &'a Place,
+    set: &'a Code<'m>,
+    body: &'a Code<'m>,
+    env: Environment<'m, 'a>,
+) -> Result<Value, Stop>
+    ensures { Answers tree_of result
+        (value_in env.entry
+        (filtered place.now (code_in env.entry set.now) (code_in env.entry body.now))) }
+{
+    let found = elements(alloc, place, set, env)?;
+    let kept = passing(alloc, place, body, &found, env)?;
+    set_of(alloc, place, kept)
 }
 
 /// Whether a body is TRUE with one more bound value.
@@ -118,7 +179,7 @@ pub(super) fn value_with<'m: 'a, 'a>(
         names: count_more(env.names, 1)?,
         definitions: env.definitions,
     };
-    owned(alloc, value(alloc, body, inner)?)
+    owned_value(alloc, value(alloc, body, inner))
 }
 
 /// Whether a body is TRUE of element `number`; None if there are fewer elements.

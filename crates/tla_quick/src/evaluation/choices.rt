@@ -20,7 +20,7 @@ use crate::evaluation::binding::value_with;
 use crate::evaluation::lists::evaluated_each;
 use crate::evaluation::value;
 use crate::frame::Frame;
-use crate::made::{count_more, owned};
+use crate::made::{as_owned, count_more, owned_value};
 use crate::stop::Stop;
 use std::alloc::Global;
 use tla_code::{Code, MapForm};
@@ -39,15 +39,15 @@ pub(super) fn value_of_map<'m: 'a, 'a>(
     sets: &'a [Code<'m>],
     body: &'a Code<'m>,
     env: Environment<'m, 'a>,
-) -> Result<Value, Stop>
-    ensures { Answers tree_of result
+) -> Result<Evaluated<'a>, Stop>
+    ensures { Answers tree_of_evaluated result
         (value_in env.entry
         (map_expr form place.now (exprs_of_codes (scope_in env.entry) sets.now)
         (code_in env.entry body.now))) }
 {
     match form {
-        MapForm::Image => image(alloc, place, sets, body, env),
-        MapForm::Function => function(alloc, place, sets, body, env),
+        MapForm::Image => as_owned(image(alloc, place, sets, body, env)),
+        MapForm::Function => as_owned(function(alloc, place, sets, body, env)),
     }
 }
 
@@ -233,5 +233,5 @@ pub(super) fn value_with_all<'m: 'a, 'a>(
         names: count_more(env.names, choice.len())?,
         definitions: env.definitions,
     };
-    owned(alloc, value(alloc, body, inner)?)
+    owned_value(alloc, value(alloc, body, inner))
 }

@@ -11,7 +11,7 @@ ghost use Rattle.tla_quick.specs.Private.Environment.{code_in, value_in, has_in,
 use crate::environment::Environment;
 use crate::evaluation::{has, truth, value};
 use crate::frame::{Frame, just_known, nothing_known};
-use crate::made::{count_more, owned};
+use crate::made::{as_owned, count_more, owned_value};
 use crate::stop::{Stop, needs};
 use std::alloc::Global;
 use tla_code::Code;
@@ -34,18 +34,54 @@ pub(super) fn value_of_let<'m: 'a, 'a>(
         body.now)) }
 {
     if names != env.names {
-        return Err(Stop::Unknown);
+        Err(Stop::Unknown)
+    } else if is_used {
+        as_owned(value_after(alloc, definition, body, env))
+    } else {
+        as_owned(value_before(alloc, definition, body, env))
     }
-    if !is_used {
-        let unknown = nothing_known();
-        match value_under(alloc, definition, unknown, body, env) {
-            Ok(value) => return Ok(Evaluated::Owned(value)),
-            Err(stop) => needs(stop, env.definitions)?,
-        }
-    }
+}
+
+/// The value of a body after its definition was evaluated.
+#[cycle(evaluate)]
+fn value_after<'m: 'a, 'a>(
+    alloc: Global,
+    definition: &'a Code<'m>,
+    body: &'a Code<'m>,
+    env: Environment<'m, 'a>,
+) -> Result<Value, Stop>
+    ensures { Answers tree_of result
+        (value_in env.entry
+        (expr_in
+        (scope_in env.entry ++ (env.entry.names, code_in env.entry definition.now) ∷ [])
+        body.now)) }
+{
     let found = value(alloc, definition, env)?;
     let known = just_known(found.value());
-    Ok(Evaluated::Owned(value_under(alloc, &*definition, known, &*body, env)?))
+    value_under(alloc, &*definition, known, &*body, env)
+}
+
+/// The value of a body before its definition was evaluated, or after, if the body needs it.
+#[cycle(evaluate)]
+fn value_before<'m: 'a, 'a>(
+    alloc: Global,
+    definition: &'a Code<'m>,
+    body: &'a Code<'m>,
+    env: Environment<'m, 'a>,
+) -> Result<Value, Stop>
+    ensures { Answers tree_of result
+        (value_in env.entry
+        (expr_in
+        (scope_in env.entry ++ (env.entry.names, code_in env.entry definition.now) ∷ [])
+        body.now)) }
+{
+    match value_under(alloc, definition, nothing_known(), body, env) {
+        Ok(value) => Ok(value),
+        Err(stop) => {
+            needs(stop, env.definitions)?;
+            value_after(alloc, definition, body, env)
+        }
+    }
 }
 
 /// The value of a body under a definition, the value of which may be known.
@@ -72,7 +108,7 @@ fn value_under<'m: 'a, 'a>(
         names: env.names,
         definitions: count_more(env.definitions, 1)?,
     };
-    owned(alloc, value(alloc, &*body, inner)?)
+    owned_value(alloc, value(alloc, &*body, inner))
 }
 
 /// Whether a body under a definition is TRUE.
@@ -91,18 +127,54 @@ pub(super) fn truth_of_let<'m: 'a, 'a>(
         body.now)) }
 {
     if names != env.names {
-        return Err(Stop::Unknown);
+        Err(Stop::Unknown)
+    } else if is_used {
+        truth_after(alloc, definition, body, env)
+    } else {
+        truth_before(alloc, definition, body, env)
     }
-    if !is_used {
-        let unknown = nothing_known();
-        match truth_under(alloc, definition, unknown, body, env) {
-            Ok(holds) => return Ok(holds),
-            Err(stop) => needs(stop, env.definitions)?,
-        }
-    }
+}
+
+/// Whether a body is TRUE after its definition was evaluated.
+#[cycle(evaluate)]
+fn truth_after<'m: 'a, 'a>(
+    alloc: Global,
+    definition: &'a Code<'m>,
+    body: &'a Code<'m>,
+    env: Environment<'m, 'a>,
+) -> Result<bool, Stop>
+    ensures { Answers truth result
+        (value_in env.entry
+        (expr_in
+        (scope_in env.entry ++ (env.entry.names, code_in env.entry definition.now) ∷ [])
+        body.now)) }
+{
     let found = value(alloc, definition, env)?;
     let known = just_known(found.value());
     truth_under(alloc, &*definition, known, &*body, env)
+}
+
+/// Whether a body is TRUE before its definition was evaluated, or after, if the body needs it.
+#[cycle(evaluate)]
+fn truth_before<'m: 'a, 'a>(
+    alloc: Global,
+    definition: &'a Code<'m>,
+    body: &'a Code<'m>,
+    env: Environment<'m, 'a>,
+) -> Result<bool, Stop>
+    ensures { Answers truth result
+        (value_in env.entry
+        (expr_in
+        (scope_in env.entry ++ (env.entry.names, code_in env.entry definition.now) ∷ [])
+        body.now)) }
+{
+    match truth_under(alloc, definition, nothing_known(), body, env) {
+        Ok(holds) => Ok(holds),
+        Err(stop) => {
+            needs(stop, env.definitions)?;
+            truth_after(alloc, definition, body, env)
+        }
+    }
 }
 
 /// Whether a body is TRUE under a definition, the value of which may be known.
@@ -149,18 +221,56 @@ pub(super) fn has_of_let<'m: 'a, 'a>(
         body.now)) }
 {
     if names != env.names {
-        return Err(Stop::Unknown);
+        Err(Stop::Unknown)
+    } else if is_used {
+        has_after(alloc, definition, body, member, env)
+    } else {
+        has_before(alloc, definition, body, member, env)
     }
-    if !is_used {
-        let unknown = nothing_known();
-        match has_under(alloc, definition, unknown, body, member, env) {
-            Ok(holds) => return Ok(holds),
-            Err(stop) => needs(stop, env.definitions)?,
-        }
-    }
+}
+
+/// Whether a value is a member of a body after its definition was evaluated.
+#[cycle(evaluate)]
+fn has_after<'m: 'a, 'a>(
+    alloc: Global,
+    definition: &'a Code<'m>,
+    body: &'a Code<'m>,
+    member: &'a Value,
+    env: Environment<'m, 'a>,
+) -> Result<bool, Stop>
+    ensures { Answers (λ b. b) result
+        (has_in env.entry (tree_of member.now)
+        (expr_in
+        (scope_in env.entry ++ (env.entry.names, code_in env.entry definition.now) ∷ [])
+        body.now)) }
+{
     let found = value(alloc, definition, env)?;
     let known = just_known(found.value());
     has_under(alloc, &*definition, known, &*body, &*member, env)
+}
+
+/// Whether a value is a member of a body before its definition was evaluated, or after, if this needs it.
+#[cycle(evaluate)]
+fn has_before<'m: 'a, 'a>(
+    alloc: Global,
+    definition: &'a Code<'m>,
+    body: &'a Code<'m>,
+    member: &'a Value,
+    env: Environment<'m, 'a>,
+) -> Result<bool, Stop>
+    ensures { Answers (λ b. b) result
+        (has_in env.entry (tree_of member.now)
+        (expr_in
+        (scope_in env.entry ++ (env.entry.names, code_in env.entry definition.now) ∷ [])
+        body.now)) }
+{
+    match has_under(alloc, definition, nothing_known(), body, member, env) {
+        Ok(holds) => Ok(holds),
+        Err(stop) => {
+            needs(stop, env.definitions)?;
+            has_after(alloc, definition, body, member, env)
+        }
+    }
 }
 
 /// Whether a value is a member of a body under a definition, the value of which may be known.

@@ -4,7 +4,7 @@ ghost use Rattle.tla_value.specs.TreeOf.{tree_of, pair_of};
 ghost use Rattle.tla_core.specs.declared.fault.Place.{Place as AnyPlace};
 ghost use Rattle.tla_core.specs.Lists.{each, all_hold};
 ghost use Rattle.tla_core.specs.Meaning.{Meaning};
-ghost use Rattle.tla_core.specs.Expr.{records};
+ghost use Rattle.tla_core.specs.Expr.{record_of, records};
 ghost use Rattle.tla_core.specs.SetForms.{field_has};
 ghost use Rattle.tla_core.specs.Value.{mean_fields};
 ghost use Rattle.tla_code.specs.Forms.{field_expr};
@@ -16,7 +16,7 @@ ghost use Rattle.tla_quick.specs.Private.Environment.{bound_in, present_in, next
 
 use crate::environment::Environment;
 use crate::evaluation::{has, value};
-use crate::made::{made_record, owned};
+use crate::made::{as_owned, made_record, named, owned_value};
 use crate::names::has_just;
 use crate::stop::Stop;
 use std::alloc::Global;
@@ -24,7 +24,6 @@ use tla_code::{Code, FieldForm};
 use tla_core::Place;
 use tla_operators::evaluated::Evaluated;
 use tla_operators::functions::if_function;
-use tla_operators::rules::copied_text;
 use tla_sets::fields::field_in;
 use tla_value::{FunValue, Text, Value};
 
@@ -42,12 +41,25 @@ pub(super) fn value_of_fields<'m: 'a, 'a>(
         (field_expr form place.now (fields_of_codes (scope_in env.entry) fields.now))) }
 {
     match form {
-        FieldForm::Record => {
-            let pairs = named_values(alloc, fields, env)?;
-            Ok(Evaluated::Owned(made_record(alloc, place, pairs)?))
-        }
+        FieldForm::Record => as_owned(record_of(alloc, place, fields, env)),
         FieldForm::Records => Err(Stop::Unknown),
     }
+}
+
+/// The record with the values of some fields.
+#[cycle(evaluate)]
+fn record_of<'m: 'a, 'a>(
+    alloc: Global,
+    place: &'a Place,
+    fields: &'a [(&'m Text, Code<'m>)],
+    env: Environment<'m, 'a>,
+) -> Result<Value, Stop>
+    ensures { Answers tree_of result
+        (value_in env.entry
+        (record_of place.now (fields_of_codes (scope_in env.entry) fields.now))) }
+{
+    let pairs = named_values(alloc, fields, env)?;
+    made_record(alloc, place, pairs)
 }
 
 /// The values of some fields, from left to right, each with its name.
@@ -64,8 +76,8 @@ fn named_values<'m: 'a, 'a>(
 {
     let mut pairs = Vec::with_capacity(alloc, fields.len())?;
     for field in fields {
-        let value = owned(alloc, value(alloc, &field.1, env)?)?;
-        pairs.push((Value::Text(copied_text(alloc, field.0)?), value))?;
+        let value = owned_value(alloc, value(alloc, &field.1, env))?;
+        pairs.push(named(alloc, field.0, value)?)?;
     }
     Ok(pairs)
 }

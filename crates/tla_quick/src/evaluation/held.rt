@@ -1,7 +1,7 @@
 //! Values that are found, not made.
 ghost use Rattle.std.specs.Prelude.{◌≡◌, Ok, IfSome};
 ghost use Rattle.tla_value.specs.TreeOf.{tree_of};
-ghost use Rattle.tla_core.specs.ExprOf.{expr_of};
+ghost use Rattle.tla_core.specs.declared.fault.Place.{Place as AnyPlace};
 ghost use Rattle.tla_code.specs.Forms.{one_expr, two_expr};
 ghost use Rattle.tla_quick.specs.Private.Environment.{code_in, value_in};
 
@@ -10,7 +10,6 @@ use crate::leaves::{bound_value, held_leaf, used_value};
 use crate::made::{held_at, held_field};
 use std::alloc::Global;
 use tla_code::{Code, OneForm, TwoForm};
-use tla_core::Place;
 use tla_value::Value;
 
 /// The value of a name, a variable, a constant or a definition with a known value, or what a held function or record has
@@ -31,8 +30,8 @@ pub(crate) fn held<'m: 'a, 'a>(
             Ok(value) => Some(value),
             Err(_) => None,
         },
-        Code::One(place, form, operand) => held_of_one(alloc, place, *form, operand, env),
-        Code::Two(place, form, left, right) => held_of_two(alloc, place, *form, left, right, env),
+        Code::One(_, form, operand) => held_of_one(alloc, *form, operand, env),
+        Code::Two(_, form, left, right) => held_of_two(alloc, *form, left, right, env),
         _ => None,
     }
 }
@@ -41,17 +40,17 @@ pub(crate) fn held<'m: 'a, 'a>(
 #[cycle(held)]
 fn held_of_one<'m: 'a, 'a>(
     alloc: Global,
-    place: &'a Place,
     form: OneForm<'m>,
     operand: &'a Code<'m>,
     env: &Environment<'m, 'a>,
 ) -> Option<&'a Value>
-    ensures { IfSome result (λ v.
-        value_in env.entry.now (one_expr form.entry place.now (code_in env.entry.now operand.now))
+    ensures { (p : AnyPlace)
+        → IfSome result (λ v.
+        value_in env.entry.now (one_expr form.entry p (code_in env.entry.now operand.now))
         ≡ Ok (tree_of v.now)) }
 {
     match form {
-        OneForm::Field(name) => held_field(alloc, place, name, held(alloc, operand, env)?),
+        OneForm::Field(name) => held_field(alloc, name, held(alloc, operand, env)?),
         _ => None,
     }
 }
@@ -60,22 +59,22 @@ fn held_of_one<'m: 'a, 'a>(
 #[cycle(held)]
 fn held_of_two<'m: 'a, 'a>(
     alloc: Global,
-    place: &'a Place,
     form: TwoForm,
     left: &'a Code<'m>,
     right: &'a Code<'m>,
     env: &Environment<'m, 'a>,
 ) -> Option<&'a Value>
-    ensures { IfSome result (λ v.
+    ensures { (p : AnyPlace)
+        → IfSome result (λ v.
         value_in env.entry.now
-        (two_expr form place.now (code_in env.entry.now left.now) (code_in env.entry.now right.now))
+        (two_expr form p (code_in env.entry.now left.now) (code_in env.entry.now right.now))
         ≡ Ok (tree_of v.now)) }
 {
     match form {
         TwoForm::Apply => {
             let function = held(alloc, left, env)?;
             let argument = held(alloc, right, env)?;
-            held_at(alloc, place, function, argument)
+            held_at(function, argument)
         }
         _ => None,
     }

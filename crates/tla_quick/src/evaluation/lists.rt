@@ -1,6 +1,7 @@
 //! Forms with a list of operands.
 ghost use Rattle.std.specs.Prelude.{map};
 ghost use Rattle.tla_value.specs.TreeOf.{tree_of};
+ghost use Rattle.tla_core.specs.Expr.{product};
 ghost use Rattle.tla_core.specs.Lists.{each};
 ghost use Rattle.tla_core.specs.Meaning.{Meaning};
 ghost use Rattle.tla_core.specs.Value.{mean_all};
@@ -13,7 +14,7 @@ ghost use Rattle.tla_quick.specs.Private.Environment.{bound_in, present_in, next
 use crate::environment::Environment;
 use crate::evaluation::logic::truth_of_list;
 use crate::evaluation::value;
-use crate::made::{made_of_list, made_product, owned};
+use crate::made::{as_owned, made_of_list, made_product, owned_value, truth_value};
 use crate::stop::Stop;
 use std::alloc::Global;
 use tla_code::{Code, ListForm};
@@ -36,18 +37,45 @@ pub(super) fn value_of_list<'m: 'a, 'a>(
         (list_expr form place.now (exprs_of_codes (scope_in env.entry) parts.now))) }
 {
     match form {
-        ListForm::Conjunction | ListForm::Disjunction => Ok(Evaluated::truth(truth_of_list(
-            alloc, form, parts, env,
-        )?)),
-        ListForm::Enumerated | ListForm::Tuple => {
-            let values = values_of(alloc, parts, env)?;
-            Ok(Evaluated::Owned(made_of_list(alloc, place, form, values)?))
+        ListForm::Conjunction | ListForm::Disjunction => {
+            truth_value(truth_of_list(alloc, form, parts, env))
         }
-        ListForm::Product => {
-            let sets = evaluated_each(alloc, parts, env)?;
-            Ok(Evaluated::Owned(made_product(alloc, place, sets.as_slice())?))
-        }
+        ListForm::Product => as_owned(product_of(alloc, place, parts, env)),
+        _ => as_owned(list_of(alloc, place, form, parts, env)),
     }
+}
+
+/// What a form makes of the values of its operands.
+#[cycle(evaluate)]
+fn list_of<'m: 'a, 'a>(
+    alloc: Global,
+    place: &'a Place,
+    form: ListForm,
+    parts: &'a [Code<'m>],
+    env: Environment<'m, 'a>,
+) -> Result<Value, Stop>
+    ensures { Answers tree_of result
+        (value_in env.entry
+        (list_expr form place.now (exprs_of_codes (scope_in env.entry) parts.now))) }
+{
+    let values = values_of(alloc, parts, env)?;
+    made_of_list(alloc, place, form, values)
+}
+
+/// The tuples with one item of each of some sets.
+#[cycle(evaluate)]
+fn product_of<'m: 'a, 'a>(
+    alloc: Global,
+    place: &'a Place,
+    parts: &'a [Code<'m>],
+    env: Environment<'m, 'a>,
+) -> Result<Value, Stop>
+    ensures { Answers tree_of result
+        (value_in env.entry
+        (product place.now (exprs_of_codes (scope_in env.entry) parts.now))) }
+{
+    let sets = evaluated_each(alloc, parts, env)?;
+    made_product(alloc, place, sets.as_slice())
 }
 
 /// The values of some codes, from left to right.
@@ -64,7 +92,7 @@ fn values_of<'m: 'a, 'a>(
 {
     let mut values = Vec::with_capacity(alloc, codes.len())?;
     for code in codes {
-        values.push(owned(alloc, value(alloc, code, env)?)?)?;
+        values.push(owned_value(alloc, value(alloc, code, env))?)?;
     }
     Ok(values)
 }

@@ -4,7 +4,7 @@ ghost use Rattle.tla_value.specs.Tree.{truth};
 ghost use Rattle.tla_value.specs.TreeOf.{tree_of};
 ghost use Rattle.tla_core.specs.declared.fault.Place.{Place as AnyPlace};
 ghost use Rattle.tla_core.specs.Lists.{all_hold};
-ghost use Rattle.tla_core.specs.Expr.{Expr, conjunction, disjunction};
+ghost use Rattle.tla_core.specs.Expr.{Expr, conjunction, disjunction, implies, not_member, subset};
 ghost use Rattle.tla_code.specs.Forms.{one_expr, two_expr, three_expr, list_expr};
 ghost use Rattle.tla_code.specs.Private.Listed.{exprs_of_codes};
 ghost use Rattle.tla_quick.specs.Private.Answers.{Answers};
@@ -56,27 +56,102 @@ pub(super) fn truth_of_two<'m: 'a, 'a>(
         (two_expr form place.now (code_in env.entry left.now) (code_in env.entry right.now))) }
 {
     match form {
-        TwoForm::Implies => {
-            if truth(alloc, left, env)? {
-                Ok(truth(alloc, right, env)?)
-            } else {
-                Ok(true)
-            }
-        }
+        TwoForm::Implies => is_implied(alloc, left, right, env),
         TwoForm::Member => is_member(alloc, left, right, env),
-        TwoForm::NotMember => Ok(!is_member(alloc, left, right, env)?),
-        TwoForm::Subset => {
-            let set = value(alloc, left, env)?;
-            let members = known_members(set.value())?;
-            Ok(has_all(alloc, right, members, env)?)
+        TwoForm::NotMember => is_no_member(alloc, left, right, env),
+        TwoForm::Subset => is_subset(alloc, left, right, env),
+        _ => compares_to_true(alloc, place, form, left, right, env),
+    }
+}
+
+/// Whether the right code is TRUE if the left one is.
+#[cycle(evaluate)]
+fn is_implied<'m: 'a, 'a>(
+    alloc: Global,
+    left: &'a Code<'m>,
+    right: &'a Code<'m>,
+    env: Environment<'m, 'a>,
+) -> Result<bool, Stop>
+    ensures { (p : AnyPlace)
+        → Answers truth result
+        (value_in env.entry
+        (implies p (code_in env.entry left.now) (code_in env.entry right.now))) }
+{
+    if truth(alloc, left, env)? {
+        Ok(truth(alloc, right, env)?)
+    } else {
+        Ok(true)
+    }
+}
+
+/// Whether the value of a code isn't a member of another code.
+#[cycle(evaluate)]
+fn is_no_member<'m: 'a, 'a>(
+    alloc: Global,
+    left: &'a Code<'m>,
+    right: &'a Code<'m>,
+    env: Environment<'m, 'a>,
+) -> Result<bool, Stop>
+    ensures { (p : AnyPlace)
+        → Answers truth result
+        (value_in env.entry
+        (not_member p (code_in env.entry left.now) (code_in env.entry right.now))) }
+{
+    Ok(!is_member(alloc, left, right, env)?)
+}
+
+/// Whether each member of the value of a code is a member of another code.
+#[cycle(evaluate)]
+fn is_subset<'m: 'a, 'a>(
+    alloc: Global,
+    left: &'a Code<'m>,
+    right: &'a Code<'m>,
+    env: Environment<'m, 'a>,
+) -> Result<bool, Stop>
+    ensures { (p : AnyPlace)
+        → Answers truth result
+        (value_in env.entry (subset p (code_in env.entry left.now) (code_in env.entry right.now))) }
+{
+    let set = value(alloc, left, env)?;
+    has_members(alloc, &*right, set.value(), env)
+}
+
+/// Whether each member of a known set is a member of a code.
+#[cycle(evaluate)]
+fn has_members<'m: 'a, 'a>(
+    alloc: Global,
+    code: &'a Code<'m>,
+    set: &'a Value,
+    env: Environment<'m, 'a>,
+) -> Result<bool, Stop>
+    ensures { (p : AnyPlace) (e : Expr)
+        → value_in env.entry e ≡ Ok (tree_of set.now)
+        → Answers truth result (value_in env.entry (subset p e (code_in env.entry code.now))) }
+{
+    let members = known_members(set)?;
+    Ok(has_all(alloc, code, members, env)?)
+}
+
+/// Whether a form that compares values is TRUE.
+#[cycle(evaluate)]
+fn compares_to_true<'m: 'a, 'a>(
+    alloc: Global,
+    place: &'a Place,
+    form: TwoForm,
+    left: &'a Code<'m>,
+    right: &'a Code<'m>,
+    env: Environment<'m, 'a>,
+) -> Result<bool, Stop>
+    ensures { Answers truth result
+        (value_in env.entry
+        (two_expr form place.now (code_in env.entry left.now) (code_in env.entry right.now))) }
+{
+    match held(alloc, left, &env) {
+        Some(value) => compared_with(alloc, place, form, value, right, env),
+        None => {
+            let left = value_of_form(alloc, left, env)?;
+            compared_with(alloc, place, form, left.value(), right, env)
         }
-        _ => match held(alloc, left, &env) {
-            Some(value) => compared_with(alloc, place, form, value, right, env),
-            None => {
-                let left = value_of_form(alloc, left, env)?;
-                compared_with(alloc, place, form, left.value(), right, env)
-            }
-        },
     }
 }
 

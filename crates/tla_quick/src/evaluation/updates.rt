@@ -1,9 +1,11 @@
 //! EXCEPT, and bodies under tuple patterns.
-ghost use Rattle.std.specs.Prelude.{◌∷◌};
+ghost use Rattle.std.specs.Prelude.{◌≡◌, ◌∷◌, Ok};
+ghost use Rattle.tla_value.specs.Tree.{Tree};
 ghost use Rattle.tla_value.specs.TreeOf.{tree_of};
 ghost use Rattle.tla_core.specs.declared.fault.Place.{Place as AnyPlace};
-ghost use Rattle.tla_core.specs.Expr.{except, opened};
+ghost use Rattle.tla_core.specs.Expr.{Expr, except, opened};
 ghost use Rattle.tla_core.specs.Functions.{update, update_all};
+ghost use Rattle.tla_core.specs.Kinds.{as_fun};
 ghost use Rattle.tla_core.specs.Value.{means, mean_all, mean_updates};
 ghost use Rattle.tla_code.specs.Private.Listed.{exprs_of_codes, updates_of_codes};
 ghost use Rattle.tla_operators.specs.Evaluated.{tree_of_evaluated};
@@ -15,13 +17,13 @@ use crate::evaluation::binding::value_with;
 use crate::evaluation::choices::value_with_all;
 use crate::evaluation::value;
 use crate::leaves::open_items;
-use crate::made::{known_function, made_function, owned_function};
+use crate::made::{as_owned, known_function, made_function, owned_function};
 use crate::stop::Stop;
 use std::alloc::Global;
 use tla_code::Code;
 use tla_core::{Opening, Place};
 use tla_operators::evaluated::Evaluated;
-use tla_value::Value;
+use tla_value::{FunValue, Value};
 
 /// A function with other values: each update on the result of the one before.
 #[cycle(evaluate)]
@@ -104,12 +106,35 @@ fn updated_at<'m: 'a, 'a>(
 {
     let function = known_function(alloc, place, base)?;
     let key = value(alloc, key, env)?;
-    match function.apply(key.value()) {
+    updated_at_known(alloc, place, rest, key.value(), body, function, env)
+}
+
+/// The same for a known function and a known key.
+#[cycle(evaluate)]
+fn updated_at_known<'m: 'a, 'a>(
+    alloc: Global,
+    place: &'a Place,
+    rest: &'a [Code<'m>],
+    key: &Value,
+    body: &'a Code<'m>,
+    function: FunValue,
+    env: Environment<'m, 'a>,
+) -> Result<Value, Stop>
+    ensures { (e : Expr) (x : Tree)
+        → value_in env.entry e ≡ Ok (tree_of key.now)
+        → as_fun place.now x ≡ Ok function
+        → Answers tree_of result
+        (update place.now
+        (means e ∷ mean_all (exprs_of_codes (scope_in env.entry) rest.now))
+        (means (code_in env.entry body.now)) (bound_in env.entry) (present_in env.entry)
+        (next_in env.entry) x) }
+{
+    match function.apply(key) {
         None => Ok(owned_function(function)),
         Some(old) => {
             let lent = Evaluated::Borrowed(old);
             let new = updated(alloc, &*place, &*rest, &*body, lent, env)?;
-            made_function(place, function.with_value(key.value(), new))
+            made_function(place, function.with_value(key, new))
         }
     }
 }
@@ -127,5 +152,5 @@ pub(super) fn opened<'m: 'a, 'a>(
         (value_in env.entry (opened p openings.now (code_in env.entry body.now))) }
 {
     let items = open_items(alloc, openings, env)?;
-    Ok(Evaluated::Owned(value_with_all(alloc, body, items.as_slice(), env)?))
+    as_owned(value_with_all(alloc, &*body, items.as_slice(), env))
 }

@@ -52,14 +52,14 @@ value_of_other-returns-in-Fields t c =
     let e = ap (expr_in scope) n.is ∙ fields_of_in scope n.place n.form n.fields ∙ ap (λ us. field_expr n.form n.place (fields_of_codes scope us)) (sym c.deref-in-Fields.ensures.value) in
     same_answer tree_of_evaluated c.value_of_fields.result _ _ (ap (value_in c.args.env) e) c.value_of_fields.ensures
 
-pub value_of_other-returns-in_ok-value_of_map-in-Map : goal.value_of_other-returns-in_ok-value_of_map-in-Map
-value_of_other-returns-in_ok-value_of_map-in-Map t c =
+pub value_of_other-returns-in-Map : goal.value_of_other-returns-in-Map
+value_of_other-returns-in-Map t c =
     let n = c.in-Map in
     let scope = scope_in c.args.env in
     let e = ap (expr_in scope) n.is ∙ map_in scope n.place n.form n.sets n.body
     ∙ ap (λ us. map_expr n.form n.place (exprs_of_codes scope us) (expr_in scope n.body.value)) (sym c.deref-in-Map.ensures.value)
     ∙ ap (λ (k : Code). map_expr n.form n.place (exprs_of_codes scope c.deref-in-Map.result.now) (expr_in scope k)) (sym c.deref-in-Map-2.ensures) in
-    ap (value_in c.args.env) e ∙ c.in_ok-value_of_map-in-Map.ensures
+    same_answer tree_of_evaluated c.value_of_map.result _ _ (ap (value_in c.args.env) e) c.value_of_map.ensures
 
 pub value_of_other-returns-in-Except : goal.value_of_other-returns-in-Except
 value_of_other-returns-in-Except t c =
@@ -77,27 +77,33 @@ truth-returns-in-List t c =
     let e = ap (expr_in scope) n.is ∙ list_in scope n.field-0 n.form n.parts ∙ ap (λ us. list_expr n.form n.field-0 (exprs_of_codes scope us)) (sym c.deref-in-List.ensures.value) in
     same_answer truth c.truth_of_list.result _ _ (ap (value_in c.args.env) e) (c.truth_of_list.ensures n.field-0)
 
-pub has-returns-in-List : goal.has-returns-in-List
-has-returns-in-List t c =
+pub has_of_form-returns-in-List : goal.has_of_form-returns-in-List
+has_of_form-returns-in-List t c =
     let n = c.in-List in
     let scope = scope_in c.args.env in
     let e = ap (expr_in scope) n.is ∙ list_in scope n.place n.form n.parts ∙ ap (λ us. list_expr n.form n.place (exprs_of_codes scope us)) (sym c.deref-in-List.ensures.value) in
     same_answer (λ (b : Bool). b) c.has_in_list.result _ _ (ap (has_in c.args.env (tree_of c.args.member.now)) e) c.has_in_list.ensures
 
-pub has-returns-in-Fields : goal.has-returns-in-Fields
-has-returns-in-Fields t c =
+pub has_of_form-returns-in-Fields : goal.has_of_form-returns-in-Fields
+has_of_form-returns-in-Fields t c =
     let n = c.in-Fields in
     let scope = scope_in c.args.env in
     let e = ap (expr_in scope) n.is ∙ fields_of_in scope n.field-0 n.form n.fields ∙ ap (λ us. field_expr n.form n.field-0 (fields_of_codes scope us)) (sym c.deref-in-Fields.ensures.value) in
     same_answer (λ (b : Bool). b) c.has_in_fields.result _ _ (ap (has_in c.args.env (tree_of c.args.member.now)) e) (c.has_in_fields.ensures n.field-0)
 
-pub fields::value_of_fields-returns-in_ok-made_record-in-Record : goal.fields::value_of_fields-returns-in_ok-made_record-in-Record
-fields::value_of_fields-returns-in_ok-made_record-in-Record t c =
+pub fields::value_of_fields-returns-in-Record : goal.fields::value_of_fields-returns-in-Record
+fields::value_of_fields-returns-in-Record t c =
+    let env = c.args.env in
+    same_answer tree_of_evaluated c.as_owned.result _ _ (ap (λ (f : FieldForm). value_in env (field_expr f c.args.place.now (fields_of_codes (scope_in env) c.args.fields.now))) c.in-Record.is)
+    (c.as_owned.ensures _ c.record_of.ensures)
+
+pub fields::record_of-returns : goal.fields::record_of-returns
+fields::record_of-returns t c =
     let env = c.args.env in
     let p = c.args.place.now in
-    ap (λ (f : FieldForm). value_in env (field_expr f p (fields_of_codes (scope_in env) c.args.fields.now))) c.in-Record.is
-    ∙ record_is p (mean_fields (fields_of_codes (scope_in env) c.args.fields.now)) (bound_in env) (present_in env) (next_in env)
-    ∙ ap (λ (o : Outcome (List (Tree × Tree))). o >>= make_fun p) c.in_ok-pairs-in-Record.ensures ∙ c.in_ok-made_record-in-Record.ensures
+    let e = record_is p (mean_fields (fields_of_codes (scope_in env) c.args.fields.now)) (bound_in env) (present_in env) (next_in env)
+    ∙ ap (λ (o : Outcome (List (Tree × Tree))). o >>= make_fun p) c.in_ok-pairs.ensures in
+    same_answer tree_of c.made_record.result _ _ e c.made_record.ensures
 
 -- ---- one name
 -- whether a body is TRUE of an element
@@ -290,14 +296,20 @@ fields::has_in_fields-returns-in-Records t c p =
     let env = c.args.env in
     same_answer (λ (x : Bool). x) c.is_record_of.result _ _ (ap (λ (f : FieldForm). has_in env (tree_of c.args.member.now) (field_expr f p (fields_of_codes (scope_in env) c.args.fields.now))) c.in-Records.is) (c.is_record_of.ensures p)
 
-pub asked::is_function_into-returns-then-has_domain : goal.asked::is_function_into-returns-then-has_domain
-asked::is_function_into-returns-then-has_domain t c p =
-    let env = c.args.env in
-    let e = function_into p (means (code_in env c.args.domain.now)) (means (code_in env c.args.range.now)) (bound_in env) (present_in env) (next_in env) (tree_of c.args.member.now)
-    c.in-Some.function.now (map tree_of c.values.result.now) (tree_of_evaluated c.in_ok-set-in-Some.set) (tree_of c.value-in-Some.result.now) (map tree_of c.in_ok-arguments-in-Some.arguments.now) c.has_domain.result
+pub asked::is_function_into-returns-in_ok-set-in-Some : goal.asked::is_function_into-returns-in_ok-set-in-Some
+asked::is_function_into-returns-in_ok-set-in-Some t c p =
+    c.is_on_into.ensures p (tree_of c.args.member.now) (code_in c.args.env c.args.domain.now)
     (sym (ap (option_map (λ (f : Bor (List (Tree × Tree))). f.now)) c.in-Some.is) ∙ c.if_function.ensures)
-    c.in_ok-set-in-Some.ensures c.value-in-Some.ensures (c.in_ok-arguments-in-Some.ensures p) c.has_domain.ensures c.if-has_domain.true c.values.ensures.values in
-    same_answer (λ (x : Bool). x) c.has_all.result _ _ e c.has_all.ensures
+    (c.in_ok-set-in-Some.ensures ∙ ap (λ (v : Tree). let o : Outcome Tree = Ok v in o) (sym c.value-in-Some.ensures))
+
+pub asked::is_on_into-returns-then-has_domain : goal.asked::is_on_into-returns-then-has_domain
+asked::is_on_into-returns-then-has_domain t c p v e is known =
+    let env = c.args.env in
+    let x = tree_of c.args.domain.now in
+    let same = function_into p (means e) (means (code_in env c.args.range.now)) (bound_in env) (present_in env) (next_in env) v
+    c.args.function.now (map tree_of c.values.result.now) x x (map tree_of c.in_ok-arguments.arguments.now) c.has_domain.result
+    is known refl (c.in_ok-arguments.ensures p) c.has_domain.ensures c.if-has_domain.true c.values.ensures.values in
+    same_answer (λ (b : Bool). b) c.has_all.result _ _ same c.has_all.ensures
 
 pub asked::is_tuple_of-returns-then-items-parts : goal.asked::is_tuple_of-returns-then-items-parts
 asked::is_tuple_of-returns-then-items-parts t c p =
@@ -315,8 +327,8 @@ asked::is_tuple_of-returns-else-items-parts t c p =
     tuple_other ms vs (items (tree_of c.args.member.now)) (sym c.sequence_items.ensures ∙ ap (option_map (λ (us : Bor (List Value)). map tree_of us.now)) c.in-Some.is) (bound_in env) (present_in env) (next_in env)
     (λ e. let h = number_same c.in-Some.items.now (scope_in env) c.args.parts.now e in omega (arith, c.if-items-parts.false))
 
-pub elements_of_two-returns-in_ok-right-in-Operator : goal.elements_of_two-returns-in_ok-right-in-Operator
-elements_of_two-returns-in_ok-right-in-Operator t c =
+pub elements_of_two-returns-in_ok-left-in-Operator : goal.elements_of_two-returns-in_ok-left-in-Operator
+elements_of_two-returns-in_ok-left-in-Operator t c =
     let env = c.args.env in
-    same_answer elements_of c.operator_elements.result _ _ (ap (λ (f : TwoForm). elements c.args.place.now (means (two_expr f c.args.at.now (code_in env c.args.left.now) (code_in env c.args.right.now))) (bound_in env) (present_in env) (next_in env)) c.in-Operator.is)
-    (c.operator_elements.ensures (code_in env c.args.left.now) (code_in env c.args.right.now) (bound_in env) (present_in env) (next_in env) (search rules) (search rules))
+    same_answer elements_of c.elements_from.result _ _ (ap (λ (f : TwoForm). elements c.args.place.now (means (two_expr f c.args.at.now (code_in env c.args.left.now) (code_in env c.args.right.now))) (bound_in env) (present_in env) (next_in env)) c.in-Operator.is)
+    (c.elements_from.ensures (code_in env c.args.left.now) (search rules))

@@ -32,8 +32,14 @@ decreases-value_of_other l = 2 ^ 66 * size-Code l.code.now
 abbrev pub decreases-truth : goal.decreases-truth
 decreases-truth l = 2 ^ 66 * size-Code l.code.now + 3
 
+abbrev pub decreases-truth_of_value : goal.decreases-truth_of_value
+decreases-truth_of_value l = 2 ^ 66 * size-Code l.code.now + 2
+
 abbrev pub decreases-has : goal.decreases-has
 decreases-has l = 2 ^ 66 * size-Code l.code.now + 3
+
+abbrev pub decreases-has_of_form : goal.decreases-has_of_form
+decreases-has_of_form l = 2 ^ 66 * size-Code l.code.now + 2
 
 abbrev pub decreases-elements : goal.decreases-elements
 decreases-elements l = 2 ^ 66 * size-Code l.code.now + 3
@@ -41,20 +47,53 @@ decreases-elements l = 2 ^ 66 * size-Code l.code.now + 3
 abbrev pub decreases-elements_of_two : goal.decreases-elements_of_two
 decreases-elements_of_two l = 2 ^ 66 * max (size-Code l.left.now) (size-Code l.right.now) + 22
 
+abbrev pub decreases-elements_from : goal.decreases-elements_from
+decreases-elements_from l = 2 ^ 66 * size-Code l.right.now + 10
+
 abbrev pub decreases-operands::value_of_one : goal.decreases-operands::value_of_one
 decreases-operands::value_of_one l = 2 ^ 66 * size-Code l.operand.now + 10
 
 abbrev pub decreases-operands::value_of_two : goal.decreases-operands::value_of_two
 decreases-operands::value_of_two l = 2 ^ 66 * max (size-Code l.left.now) (size-Code l.right.now) + 21
 
+abbrev pub decreases-operands::value_from : goal.decreases-operands::value_from
+decreases-operands::value_from l = 2 ^ 66 * size-Code l.right.now + 10
+
 abbrev pub decreases-operands::value_of_three : goal.decreases-operands::value_of_three
 decreases-operands::value_of_three l = 2 ^ 66 * max (size-Code l.first.now) (max (size-Code l.second.now) (size-Code l.third.now)) + 10
+
+abbrev pub decreases-operands::value_of_if : goal.decreases-operands::value_of_if
+decreases-operands::value_of_if l = 2 ^ 66 * max (size-Code l.first.now) (max (size-Code l.second.now) (size-Code l.third.now)) + 9
+
+abbrev pub decreases-operands::part_of : goal.decreases-operands::part_of
+decreases-operands::part_of l = 2 ^ 66 * max (size-Code l.first.now) (max (size-Code l.second.now) (size-Code l.third.now)) + 9
+
+abbrev pub decreases-operands::part_of_known : goal.decreases-operands::part_of_known
+decreases-operands::part_of_known l = 2 ^ 66 * max (size-Code l.second.now) (size-Code l.third.now) + 8
+
+abbrev pub decreases-operands::part_from : goal.decreases-operands::part_from
+decreases-operands::part_from l = 2 ^ 66 * size-Code l.third.now + 7
 
 abbrev pub decreases-logic::truth_of_one : goal.decreases-logic::truth_of_one
 decreases-logic::truth_of_one l = 2 ^ 66 * size-Code l.operand.now + 10
 
 abbrev pub decreases-logic::truth_of_two : goal.decreases-logic::truth_of_two
 decreases-logic::truth_of_two l = 2 ^ 66 * max (size-Code l.left.now) (size-Code l.right.now) + 20
+
+abbrev pub decreases-logic::is_implied : goal.decreases-logic::is_implied
+decreases-logic::is_implied l = 2 ^ 66 * max (size-Code l.left.now) (size-Code l.right.now) + 19
+
+abbrev pub decreases-logic::is_no_member : goal.decreases-logic::is_no_member
+decreases-logic::is_no_member l = 2 ^ 66 * max (size-Code l.left.now) (size-Code l.right.now) + 19
+
+abbrev pub decreases-logic::is_subset : goal.decreases-logic::is_subset
+decreases-logic::is_subset l = 2 ^ 66 * max (size-Code l.left.now) (size-Code l.right.now) + 19
+
+abbrev pub decreases-logic::has_members : goal.decreases-logic::has_members
+decreases-logic::has_members l = 2 ^ 66 * size-Code l.code.now + 18
+
+abbrev pub decreases-logic::compares_to_true : goal.decreases-logic::compares_to_true
+decreases-logic::compares_to_true l = 2 ^ 66 * max (size-Code l.left.now) (size-Code l.right.now) + 19
 
 abbrev pub decreases-logic::is_member : goal.decreases-logic::is_member
 decreases-logic::is_member l = 2 ^ 66 * max (size-Code l.left.now) (size-Code l.right.now) + 12
@@ -80,6 +119,12 @@ decreases-logic::has_all l = 2 ^ 66 * size-Code l.code.now + 5
 abbrev pub decreases-lists::value_of_list : goal.decreases-lists::value_of_list
 decreases-lists::value_of_list l = 2 ^ 66 * goal.size-lists::value_of_list l + 13
 
+abbrev pub decreases-lists::list_of : goal.decreases-lists::list_of
+decreases-lists::list_of l = 2 ^ 66 * goal.size-lists::list_of l + 12
+
+abbrev pub decreases-lists::product_of : goal.decreases-lists::product_of
+decreases-lists::product_of l = 2 ^ 66 * goal.size-lists::product_of l + 12
+
 abbrev pub decreases-lists::values_of : goal.decreases-lists::values_of
 decreases-lists::values_of l = 2 ^ 66 * goal.size-lists::values_of l + 5
 
@@ -89,8 +134,20 @@ decreases-lists::evaluated_each l = 2 ^ 66 * goal.size-lists::evaluated_each l +
 abbrev pub decreases-binding::truth_of_binder : goal.decreases-binding::truth_of_binder
 decreases-binding::truth_of_binder l = 2 ^ 66 * max (size-Code l.set.now) (size-Code l.body.now) + 20
 
+abbrev pub decreases-binding::holds_for_all : goal.decreases-binding::holds_for_all
+decreases-binding::holds_for_all l = 2 ^ 66 * max (size-Code l.set.now) (size-Code l.body.now) + 19
+
+abbrev pub decreases-binding::holds_for_some : goal.decreases-binding::holds_for_some
+decreases-binding::holds_for_some l = 2 ^ 66 * max (size-Code l.set.now) (size-Code l.body.now) + 19
+
 abbrev pub decreases-binding::value_of_binder : goal.decreases-binding::value_of_binder
 decreases-binding::value_of_binder l = 2 ^ 66 * max (size-Code l.set.now) (size-Code l.body.now) + 21
+
+abbrev pub decreases-binding::choice : goal.decreases-binding::choice
+decreases-binding::choice l = 2 ^ 66 * max (size-Code l.set.now) (size-Code l.body.now) + 20
+
+abbrev pub decreases-binding::filtered : goal.decreases-binding::filtered
+decreases-binding::filtered l = 2 ^ 66 * max (size-Code l.set.now) (size-Code l.body.now) + 20
 
 abbrev pub decreases-binding::each_holds : goal.decreases-binding::each_holds
 decreases-binding::each_holds l = 2 ^ 66 * size-Code l.body.now + 8
@@ -119,17 +176,35 @@ decreases-choices::value_with_all l = 2 ^ 66 * size-Code l.body.now + 6
 abbrev pub decreases-definitions::value_of_let : goal.decreases-definitions::value_of_let
 decreases-definitions::value_of_let l = 2 ^ 66 * max (size-Code l.definition.now) (size-Code l.body.now) + 20
 
+abbrev pub decreases-definitions::value_before : goal.decreases-definitions::value_before
+decreases-definitions::value_before l = 2 ^ 66 * max (size-Code l.definition.now) (size-Code l.body.now) + 19
+
+abbrev pub decreases-definitions::value_after : goal.decreases-definitions::value_after
+decreases-definitions::value_after l = 2 ^ 66 * max (size-Code l.definition.now) (size-Code l.body.now) + 18
+
 abbrev pub decreases-definitions::value_under : goal.decreases-definitions::value_under
 decreases-definitions::value_under l = 2 ^ 66 * size-Code l.body.now + 6
 
 abbrev pub decreases-definitions::truth_of_let : goal.decreases-definitions::truth_of_let
 decreases-definitions::truth_of_let l = 2 ^ 66 * max (size-Code l.definition.now) (size-Code l.body.now) + 20
 
+abbrev pub decreases-definitions::truth_before : goal.decreases-definitions::truth_before
+decreases-definitions::truth_before l = 2 ^ 66 * max (size-Code l.definition.now) (size-Code l.body.now) + 19
+
+abbrev pub decreases-definitions::truth_after : goal.decreases-definitions::truth_after
+decreases-definitions::truth_after l = 2 ^ 66 * max (size-Code l.definition.now) (size-Code l.body.now) + 18
+
 abbrev pub decreases-definitions::truth_under : goal.decreases-definitions::truth_under
 decreases-definitions::truth_under l = 2 ^ 66 * size-Code l.body.now + 6
 
 abbrev pub decreases-definitions::has_of_let : goal.decreases-definitions::has_of_let
 decreases-definitions::has_of_let l = 2 ^ 66 * max (size-Code l.definition.now) (size-Code l.body.now) + 20
+
+abbrev pub decreases-definitions::has_before : goal.decreases-definitions::has_before
+decreases-definitions::has_before l = 2 ^ 66 * max (size-Code l.definition.now) (size-Code l.body.now) + 19
+
+abbrev pub decreases-definitions::has_after : goal.decreases-definitions::has_after
+decreases-definitions::has_after l = 2 ^ 66 * max (size-Code l.definition.now) (size-Code l.body.now) + 18
 
 abbrev pub decreases-definitions::has_under : goal.decreases-definitions::has_under
 decreases-definitions::has_under l = 2 ^ 66 * size-Code l.body.now + 6
@@ -139,6 +214,18 @@ decreases-asked::has_of_one l = 2 ^ 66 * size-Code l.operand.now + 10
 
 abbrev pub decreases-asked::has_of_two : goal.decreases-asked::has_of_two
 decreases-asked::has_of_two l = 2 ^ 66 * max (size-Code l.left.now) (size-Code l.right.now) + 20
+
+abbrev pub decreases-asked::is_given_from : goal.decreases-asked::is_given_from
+decreases-asked::is_given_from l = 2 ^ 66 * size-Code l.right.now + 10
+
+abbrev pub decreases-asked::is_in_either : goal.decreases-asked::is_in_either
+decreases-asked::is_in_either l = 2 ^ 66 * max (size-Code l.left.now) (size-Code l.right.now) + 19
+
+abbrev pub decreases-asked::is_in_both : goal.decreases-asked::is_in_both
+decreases-asked::is_in_both l = 2 ^ 66 * max (size-Code l.left.now) (size-Code l.right.now) + 19
+
+abbrev pub decreases-asked::is_in_first_alone : goal.decreases-asked::is_in_first_alone
+decreases-asked::is_in_first_alone l = 2 ^ 66 * max (size-Code l.left.now) (size-Code l.right.now) + 19
 
 abbrev pub decreases-asked::has_of_three : goal.decreases-asked::has_of_three
 decreases-asked::has_of_three l = 2 ^ 66 * max (size-Code l.first.now) (max (size-Code l.second.now) (size-Code l.third.now)) + 10
@@ -152,6 +239,9 @@ decreases-asked::has_in_binder l = 2 ^ 66 * max (size-Code l.set.now) (size-Code
 abbrev pub decreases-asked::is_function_into : goal.decreases-asked::is_function_into
 decreases-asked::is_function_into l = 2 ^ 66 * max (size-Code l.domain.now) (size-Code l.range.now) + 12
 
+abbrev pub decreases-asked::is_on_into : goal.decreases-asked::is_on_into
+decreases-asked::is_on_into l = 2 ^ 66 * size-Code l.range.now + 11
+
 abbrev pub decreases-asked::is_tuple_of : goal.decreases-asked::is_tuple_of
 decreases-asked::is_tuple_of l = 2 ^ 66 * goal.size-asked::is_tuple_of l + 9
 
@@ -161,20 +251,26 @@ decreases-asked::parts_have l = 2 ^ 66 * goal.size-asked::parts_have l + 8
 abbrev pub decreases-fields::value_of_fields : goal.decreases-fields::value_of_fields
 decreases-fields::value_of_fields l = 2 ^ 66 * goal.size-fields::value_of_fields l + 12
 
+abbrev pub decreases-fields::record_of : goal.decreases-fields::record_of
+decreases-fields::record_of l = 2 ^ 66 * goal.size-fields::record_of l + 11
+
 abbrev pub decreases-fields::named_values : goal.decreases-fields::named_values
 decreases-fields::named_values l = 2 ^ 66 * goal.size-fields::named_values l + 5
 
 abbrev pub decreases-updates::value_of_except : goal.decreases-updates::value_of_except
-decreases-updates::value_of_except l = 2 ^ 66 * max (size-Code l.base.now) (goal.size-updates::value_of_except l) + 2 ^ 65 + 10
+decreases-updates::value_of_except l = 2 ^ 66 * max (size-Code l.base.now) (goal.size-updates::value_of_except l) + 3 * 2 ^ 64 + 10
 
 abbrev pub decreases-updates::updated_by_all : goal.decreases-updates::updated_by_all
-decreases-updates::updated_by_all l = 2 ^ 66 * goal.size-updates::updated_by_all l + 2 ^ 65 + 9
+decreases-updates::updated_by_all l = 2 ^ 66 * goal.size-updates::updated_by_all l + 3 * 2 ^ 64 + 9
 
 abbrev pub decreases-updates::updated : goal.decreases-updates::updated
-decreases-updates::updated l = 2 ^ 66 * max (goal.size-updates::updated l) (size-Code l.body.now) + 2 * length l.keys.now + 8
+decreases-updates::updated l = 2 ^ 66 * max (goal.size-updates::updated l) (size-Code l.body.now) + 3 * length l.keys.now + 8
 
 abbrev pub decreases-updates::updated_at : goal.decreases-updates::updated_at
-decreases-updates::updated_at l = 2 ^ 66 * max (size-Code l.key.now) (max (goal.size-updates::updated_at l) (size-Code l.body.now)) + 2 * length l.rest.now + 9
+decreases-updates::updated_at l = 2 ^ 66 * max (size-Code l.key.now) (max (goal.size-updates::updated_at l) (size-Code l.body.now)) + 3 * length l.rest.now + 10
+
+abbrev pub decreases-updates::updated_at_known : goal.decreases-updates::updated_at_known
+decreases-updates::updated_at_known l = 2 ^ 66 * max (goal.size-updates::updated_at_known l) (size-Code l.body.now) + 3 * length l.rest.now + 9
 
 abbrev pub decreases-updates::opened : goal.decreases-updates::opened
 decreases-updates::opened l = 2 ^ 66 * size-Code l.body.now + 10

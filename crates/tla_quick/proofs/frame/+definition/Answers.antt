@@ -6,7 +6,7 @@ use Rattle.tla_quick.proofs.Found.{found_wider, found_here, same_scope, same_bou
 use Rattle.tla_quick.proofs.frame.+definition.Goals as goal
 
 pub returns-in-Outer : goal.returns-in-Outer
-returns-in-Outer t c s q k = c.found_among.ensures c.args.frame.now s q (ap bound_of c.in-Outer.is) (ap scope_of c.in-Outer.is)
+returns-in-Outer t c s q k = c.found_among.ensures c.args.frame.now s q (ap scope_of c.in-Outer.is)
 
 pub returns-in-One : goal.returns-in-One
 returns-in-One t c s q k =

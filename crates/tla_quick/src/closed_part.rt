@@ -6,7 +6,7 @@ use tla_value::Value;
 
 /// A code under no names and no definitions, with the value that it has in all states.
 #[derive(Drop)]
-pub(crate) struct Constant<'m> {
+pub(crate) struct ClosedPart<'m> {
     pub(crate) code: Code<'m>,
     pub(crate) value: Value,
     ghost lasting: { IsLasting code value } by { IsLasting-prop code value },
