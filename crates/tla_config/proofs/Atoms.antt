@@ -1,4 +1,4 @@
--- Values of one token, and numbers behind a minus sign.
+-- Values of one token, and numbers after a minus sign.
 use Rattle.std.proofs.Common.{◌≡◌, ◌<◌, ℕ, ◌+◌, true, false, List, [], ◌∷◌, Some, None, ◌⊎◌, inl, inr, slice_get, length, FitsSigned, refl, sym, ap, subst, ◌∙◌, arith}
 use Rattle.std.proofs.lemmas.Grind.{not_there}
 use Rattle.std.specs.Int.{w64}
@@ -76,7 +76,7 @@ module _ (source : List ℕ) (ts : List Token) where
   no_atom room at t h p q f (atom v) to (inr a) x d = kind_none source ts k.Minus at refl q a.0
   no_atom room at t h p q f (braces ls) to a x d = kind_none source ts k.LeftBrace at refl p (opens source ts ls at to a)
 
-  -- a number behind a minus sign
+  -- a number after a minus sign
   only_negated : (at : ℕ) (t : Token) → Has source ts k.Minus at → (l : Literal) (to : ℕ) → SpellsLiteral source ts l at to
       → (u : Token) × (digits_of (slice_get ts (at + 1)) ≡ Some u) × (value_of l ≡ int (number true (word_of source u)))
   only_negated at t m (atom v) to (inl a) = absurd (atom_kind source ts at k.Minus a.0 v (λ s u. refl) m a.1 a.2)
@@ -89,7 +89,7 @@ module _ (source : List ℕ) (ts : List Token) where
       let d = digits_found (slice_get ts (at + 1)) t h in
       record { literal = atom v; spelled = inr (kind_found k.Minus (slice_get ts at) m, t, d.0, d.1, e, refl); meaning = refl; is_value = x }
 
-  -- a value of one token, or behind a minus sign, beyond the limits
+  -- a value of one token, or after a minus sign, beyond the limits
   pub atom_beyond : (room at : ℕ) (t : Token) → slice_get ts at ≡ Some t → AtomBeyond source t → IsBeyond source ts room at
   atom_beyond room at t h b = itself room at (at + 1) (atom b.0) (inl (t, h, b.1, refl)) b.2
 

@@ -37,7 +37,7 @@ module _ (text : List ℕ) (ts : List Token) where
   pub unwritten : (room at : ℕ) → (Has text ts k.LeftBrace at → ⊥) → NoLiteral at → IsUnwritten text ts room at
   unwritten room at none f = record { no_literal = f; within = λ b. let w = beyond_whole room at b none in f w.0 w.1 w.2 }
 
-  -- behind members from here on something begins that is beyond the limits
+  -- after members from here on something begins that is beyond the limits
   abbrev pub Reaches : ℕ → ℕ → Type 0
   Reaches room at = (ls : List Literal) × (m : ℕ) × MembersUpTo text ts ls at m × IsBeyond text ts room m
 
@@ -48,7 +48,7 @@ module _ (text : List ℕ) (ts : List Token) where
       let e = one_literal text ts l found.literal at x.0 end x.1 found.spelled in
       (subst (λ n. Has text ts k.Comma n) e.1 x.2, (ls, m, subst (λ n. MembersUpTo text ts ls (n + 1) m) e.1 x.3, b))
 
-  -- behind a value, which is not beyond them, a comma stands and it begins behind that
+  -- after a value, which is not beyond them, a comma stands and it begins after that
   pub reaches_next : (room at end : ℕ) (v : Tree) → IsValueAt text ts v at end → (IsBeyond text ts room at → ⊥) → Reaches room at → Has text ts k.Comma end × Reaches room (end + 1)
   reaches_next room at end v found within r = next_reaches room at end v found within r.0 r.1 r.2 r.3
 

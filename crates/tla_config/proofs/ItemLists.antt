@@ -124,7 +124,7 @@ module _ (source : List ℕ) (ts : List Token) where
   pub operator_because : (r : Refusal) (at : ℕ) → ClearItem source ts at → Because r Nowhere Nowhere Anything → Because r (LeftOutHere source ts at) (TooLargeHere source ts at) (ClearItem source ts at)
   operator_because r at f x = because_map r Nowhere Nowhere (LeftOutHere source ts at) (TooLargeHere source ts at) Anything (ClearItem source ts at) (λ n y. absurd y) (λ n y. absurd y) (λ y. f) x
 
-  -- behind items from here on something is left out, or too large
+  -- after items from here on something is left out, or too large
   abbrev HasCause : ℕ → Type 0
   HasCause at = IsLeftOutItem source ts at ⊎ IsTooLargeItem source ts at
 
@@ -170,7 +170,7 @@ module _ (source : List ℕ) (ts : List Token) where
   none_reaches at fails clear [] m x h = none_here at clear (subst (λ q. HasCause q) (sym x) h)
   none_reaches at fails clear (i ∷ is) m x h = fails i x.0 x.1
 
-  -- so it is behind each of the items
+  -- so it is after each of the items
   abbrev pub Onward : ℕ → ℕ → Type 0
   Onward from at = Reaches from → Reaches at
 

@@ -25,7 +25,7 @@ pub set_too_deep : (vs : List Tree) → 64 ≤ deepest (trees vs) → IsValue (s
 set_too_deep vs h x = let f = x.1.shallow in let e = ap (λ us. deepest (trees us)) (members-trees vs) in absurd (omega arith)
 
 module _ (text : List ℕ) (ts : List Token) where
-  -- these members stand behind the brace at one token and before another: whatever members follow, they and these are a set, and each set there begins with these
+  -- these members stand after the brace at one token and before another: whatever members follow, they and these are a set, and each set there begins with these
   pub record MembersSoFar (front : List Tree) (from at : ℕ) : Type 0 where
     pub whole : (l : Literal) (ls : Literals) (mid to : ℕ) → SpellsLiteral text ts l at mid → SpellsMembers text ts ls mid to
         → (ms : Literals) × SpellsLiteral text ts (braces ms) from to × (values_of ms ≡ front ++ value_of l ∷ values_of ls)
@@ -64,7 +64,7 @@ module _ (text : List ℕ) (ts : List Token) where
   no_comma_here no_literals end to none x = refl
   no_comma_here (more_literals l ls) end to none x = absurd (none x.0)
 
-  -- behind a comma stands another member
+  -- after a comma stands another member
   next_rest : (v : Tree) (front : List Tree) (ls : Literals) (end to : ℕ) → Has text ts k.Comma end → SpellsMembers text ts ls end to
       → (m : Literal) × (ns : Literals) × (mid : ℕ) × SpellsLiteral text ts m (end + 1) mid × SpellsMembers text ts ns mid to × (front ++ v ∷ values_of ls ≡ (front ++ v ∷ []) ++ value_of m ∷ values_of ns)
   next_rest v front no_literals end to comma x = absurd (two_kinds text ts end k.Comma k.RightBrace (λ e. let z : ⊥ = cc in z) comma x.0)
@@ -138,14 +138,14 @@ module _ (text : List ℕ) (ts : List Token) where
   before_more [] from at mid l x a c = (mid, subst (λ n. SpellsLiteral text ts l n mid) (sym x) a, c, refl)
   before_more (m ∷ front) from at mid l x a c = (x.0, x.1, x.2, before_more front (x.0 + 1) at mid l x.3 a c)
 
-  -- some members stand behind the brace at one token and before another
+  -- some members stand after the brace at one token and before another
   abbrev pub MembersBefore : ℕ → ℕ → Type 0
   MembersBefore from at = (ls : List Literal) × MembersUpTo text ts ls (from + 1) at
 
   pub members_before : (from at end : ℕ) (v : Tree) → MembersBefore from at → IsValueAt text ts v at end → Has text ts k.Comma end → MembersBefore from (end + 1)
   members_before from at end v b found comma = (b.0 ++ found.literal ∷ [], before_more b.0 (from + 1) at end found.literal b.1 found.spelled comma)
 
-  -- what is beyond the limits behind the brace at one token is so behind another too
+  -- what is beyond the limits after the brace at one token is so after another too
   abbrev pub Onward : ℕ → ℕ → ℕ → Type 0
   Onward room from at = Reaches text ts room (from + 1) → Reaches text ts room at
 

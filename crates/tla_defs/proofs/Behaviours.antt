@@ -15,7 +15,7 @@ abbrev pub before : Option Written → List Written
 before None = []
 before (Some w) = w ∷ []
 
--- behind an INIT and a NEXT or not, nothing else names a behaviour
+-- after an INIT and a NEXT or not, nothing else names a behaviour
 pub record IsOnlyBehind (i n : Option Written) (cs : List Statement) (b : Behaviour) : Type 0 where
   pub init : before i ++ initials_named cs ≡ init_names b
   pub next : before n ++ nexts_named cs ≡ next_names b

@@ -161,7 +161,7 @@ next_settled (Value w v ∷ js) xs ys σ τ h k = next_settled js xs ys σ τ h 
 next_settled (Replaces w op ∷ js) xs ys σ τ h k =
     (operator_settled w.word op.word js xs ys σ τ (is_among op.word ys) refl h (k w.word), next_settled js xs ys σ τ h (λ x g. not_behind x w.word (with_operators_of ys js) (is_among op.word ys) (k x g)))
 
--- behind one pass more those are open whose operator leads to what was open
+-- after one pass more those are open whose operator leads to what was open
 pub still_settled : (us : List UnitTree) (is : List Item) (xs : List Name) (β ρ : Scope) → AreSettled xs is β ρ → AreSettled (still_open us is xs) is (meant us is β) (meant us is ρ)
 still_settled us is xs β ρ s = next_settled is (still_open us is xs) (touched xs us) (meant us is β) (meant us is ρ) (meant_outside us is xs β ρ s) (λ x g. g)
 

@@ -44,7 +44,7 @@ tuple_ends : Ends k.RightTuple
 tuple_ends = record { plain = refl; no_comma = refl; same = refl }
 
 module _ (text : List ℕ) (ts : List Token) where
-  -- ---- lists behind a first expression
+  -- ---- lists after a first expression
 
   resumed_read : (e : Tree) (xs : List Tree) (n : ℕ) (s : Context) (at mid : ℕ) → Behind (ReadAt text ts n s) (following ts s.column between.Comma) xs at mid → mid ≤ length ts
       → at_op (following ts s.column between.Comma at) (Ok (e ∷ [], at)) (λ next. exprs text ts (expr text ts n) (length ts) (e ∷ []) s between.Comma next) ≡ Ok (e ∷ xs, mid)
@@ -67,7 +67,7 @@ module _ (text : List ℕ) (ts : List Token) where
       let r = resumed_read e (list es) n s at q.0 q.1 (omega (arith, w)) in
       others_by e es n s close at q.0 to p r q.2 q.3
 
-  -- what stands behind the first is no such mark
+  -- what stands after the first is no such mark
   no_mark : (mark : Kind) (es : Trees) (s : Context) (close : Kind) (from to : ℕ) → same_kind mark k.Comma ≡ false → same_kind mark close ≡ false → Others text ts s close es from to → kind_at mark (seen ts s.column from) ≡ false
   no_mark mark none s close from to a b x = let y = x.0 in rw (y.1, y.2, b) refl
   no_mark mark (more e es) s close from to a b x = let y = x.1 in rw (y.1, y.2, a) refl

@@ -55,7 +55,7 @@ module _ (text : List ℕ) (ts : List Token) (inner : Context → ℕ → ℕ �
     | inr w ↦ (let r = room_ok _ _ z w.2 in ok_to (Field (place t) t (written text w.0), at + 2) z r.1 Under (omega arith))
   ]
 
-  -- the postfix forms behind a tree leave it as it is, or put it under one
+  -- the postfix forms after a tree leave it as it is, or put it under one
   abbrev Kept : Tree → ℕ → Tree × ℕ → Type 0
   Kept t at z = Under z ⊎ ((t ≡ z.0) × (at ≡ z.1))
 

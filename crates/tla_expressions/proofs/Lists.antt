@@ -50,7 +50,7 @@ definitions_list undefined = refl
 definitions_list (defined d ds) = ap (λ x. defined d x) (definitions_list ds)
 
 module _ (text : List ℕ) (ts : List Token) where
-  -- a comma or a bullet, and the token behind it
+  -- a comma or a bullet, and the token after it
   pub comma_is : (column at start : ℕ) → following ts column between.Comma at ≡ Some start → Has ts column k.Comma at × (start ≡ at + 1)
   comma_is column at start h = elim (choice_ok (kind_at k.Comma (seen ts column at)) (Some (at + 1)) None (Some start) h) [
     | inl w ↦ (let e : start ≡ at + 1 = cc in (has_kind ts column at k.Comma w.0, e))
@@ -75,7 +75,7 @@ module _ (text : List ℕ) (ts : List Token) where
   pub no_bullet : (column : ℕ) (b : Bullet) (at : ℕ) → following ts column (between.Bullet b) at ≡ None → is_bullet_at column b (slice_get ts at) ≡ false
   no_bullet column b at h = elim (choice_ok (is_bullet_at column b (slice_get ts at)) (Some (at + 1)) None None h) [ inl w ↦ absurd (let z : ⊥ = cc in z) | inr w ↦ w.0 ]
 
-  -- `[]`, and no OTHER behind it
+  -- `[]`, and no OTHER after it
   pub arm_is : (column at start : ℕ) → following ts column between.Arm at ≡ Some start → Has ts column k.Box at × (start ≡ at + 1)
   arm_is column at start h = elim (choice_ok (kind_at k.Box (seen ts column at) && not (kind_at k.Other (seen ts column (at + 1)))) (Some (at + 1)) None (Some start) h) [
     | inl w ↦ (let e : start ≡ at + 1 = cc in (has_kind ts column at k.Box (and_true (kind_at k.Box (seen ts column at)) (not (kind_at k.Other (seen ts column (at + 1)))) w.0).0, e))
@@ -96,7 +96,7 @@ module _ (text : List ℕ) (ts : List Token) where
     | inr w ↦ absurd (let z : ⊥ = cc in z)
   ]
 
-  -- `\X`, and the token behind it
+  -- `\X`, and the token after it
   pub product_is : (column at start : ℕ) → following ts column between.Product at ≡ Some start → Has ts column k.Product at × (start ≡ at + 1)
   product_is column at start h = elim (choice_ok (kind_at k.Product (seen ts column at)) (Some (at + 1)) None (Some start) h) [
     | inl w ↦ (let e : start ≡ at + 1 = cc in (has_kind ts column at k.Product w.0, e))

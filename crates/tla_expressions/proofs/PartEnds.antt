@@ -28,7 +28,7 @@ module _ (text : List ℕ) (ts : List Token) where
   unfolding ending
   stop column at kind x h = let e : behind 0 0 (role_of x.0.kind) ≡ None = rw x.2 h in rw (drop_get ts at x.0 (seen_is ts column at x.0 x.1), e) refl
 
-  -- what ends the part that an expression begins, behind an entry of one element and `\in`
+  -- what ends the part that an expression begins, after an entry of one element and `\in`
   behind_member : (w : Pattern) (column from m : ℕ) → is_single w ≡ true → Binds text ts column w from m → Has ts column k.Member m → ending 0 0 (drop from ts) ≡ ending 0 0 (drop (m + 1) ts)
   behind_member w column from m h x y = single_passes text ts w column from m h x 0 0 ∙ plain text ts column m k.Member y refl 0 0
 

@@ -36,7 +36,7 @@ module _ (text : List ℕ) (ts : List Token) where
   closes : (column at : ℕ) (kind : Kind) → Has ts column kind at → role_of kind ≡ role.Closes → (d b : ℕ) → ending (suc d) b (drop at ts) ≡ ending d b (drop (at + 1) ts)
   closes column at kind x h d b = moves column at kind role.Closes (suc d) b d b x h refl
 
-  -- inside a bracket, or behind a quantifier, a comma ends no part
+  -- inside a bracket, or after a quantifier, a comma ends no part
   abbrev Open : ℕ → ℕ → Type 0
   Open d b = behind d b role.Separates ≡ Some (d, b)
 

@@ -30,7 +30,7 @@ module _ {A : Type 0} (item : ℕ → Outcome A) (next : ℕ → Option ℕ) whe
       let P : Outcome (List A) → Type 0 = λ y. Fails text ts e y in
       subst P (sym (sequence_is n m front at h)) (fails_bind text ts e (item at) _ f)
 
--- the items stand one behind the other, with what is between them, and nothing goes on behind the last
+-- the items stand one after the other, with what is between them, and nothing goes on after the last
 module _ {A : Type 0} (P : A → ℕ → ℕ → Type 0) (next : ℕ → Option ℕ) where
   abbrev pub Behind : List A → ℕ → ℕ → Type 0
   Behind [] from to = (next from ≡ None) × (to ≡ from)

@@ -1,4 +1,4 @@
--- What a tree spells it spells too where the tokens behind it are cut off.
+-- What a tree spells it spells too where the tokens after it are cut off.
 use Rattle.std.proofs.Common.{◌≡◌, ℕ, zero, suc, ◌+◌, ◌<◌, ◌≤◌, Bool, true, false, not, ◌&&◌, IsTrue, nat_lt, slice_get, take, List, [], ◌∷◌, Some, None, refl, ap, sym, ◌∙◌, arith}
 use Rattle.std.proofs.lemmas.Bool.{ltb-true, ltb-false}
 use Rattle.tla_lex.specs.declared.token.Place.{Place}
@@ -30,7 +30,7 @@ cut_beyond (suc m) [] i h = refl
 cut_beyond (suc m) (x ∷ xs) zero h = absurd (omega (arith, h))
 cut_beyond (suc m) (x ∷ xs) (suc i) h = cut_beyond m xs i (omega (arith, h))
 
--- behind the cut no token is left
+-- after the cut no token is left
 pub seen_past : (ts : List Token) (m column at : ℕ) → m ≤ at → seen (take m ts) column at ≡ None
 seen_past ts m column at l = rw (cut_beyond m ts at l) refl
 
@@ -86,7 +86,7 @@ module _ (text : List ℕ) (ts : List Token) (m : ℕ) where
   no_entry_cut : (column at : ℕ) → (BeginsEntry text ts column at → ⊥) → BeginsEntry text (take m ts) column at → ⊥
   no_entry_cut column at f x = f (x.0, x.1, x.2, pattern_back x.0 column at x.1 x.3, has_back column k.Member x.1 x.4)
 
-  -- what stands behind a list, or an arm of CASE
+  -- what stands after a list, or an arm of CASE
   follow_by : (column : ℕ) (b : Bullet) (to : ℕ) (t : Bool) → nat_lt to m ≡ t → to ≤ m
       → IsTrue (not (is_bullet_at column b (slice_get ts to)) && may_follow column (slice_get ts to)) → IsTrue (not (is_bullet_at column b (slice_get (take m ts) to)) && may_follow column (slice_get (take m ts) to))
   follow_by column b to true e l x = rw (cut_within m ts to (ltb-true to m e)) x

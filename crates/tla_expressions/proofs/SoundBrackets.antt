@@ -32,7 +32,7 @@ use Rattle.tla_expressions.proofs.SoundRecords.{record_sound, record_set_sound, 
 
 module _ (text : List ℕ) (ts : List Token) where
   module _ (inner : Context → ℕ → ℕ → Outcome Tree) (good : (s : Context) (floor at : ℕ) (z : Tree × ℕ) → inner s floor at ≡ Ok z → Good text ts s floor at z) where
-    -- ---- lists behind a first expression
+    -- ---- lists after a first expression
 
     resumed : (s : Context) (from at : ℕ) (e : Tree) (z : List Tree × ℕ) → Spells text ts s e from at
         → at_op (following ts s.column between.Comma at) (Ok (e ∷ [], at)) (λ next. exprs text ts inner (length ts) (e ∷ []) s between.Comma next) ≡ Ok z

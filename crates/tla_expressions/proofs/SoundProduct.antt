@@ -31,7 +31,7 @@ product_kind k.Product h = refl
 product_kind _ h = cc
 
 module _ (text : List ℕ) (ts : List Token) where
-  -- an operand behind the first, and what may follow it
+  -- an operand after the first, and what may follow it
   abbrev FactorAt : Context → Tree → ℕ → ℕ → Type 0
   FactorAt s e from to = Spells text ts s e from to × (top_above (high i.Product) e ≡ true) × ((not (kind_at k.Product (seen ts s.column to)) || edge_allows e i.Product) ≡ true)
 

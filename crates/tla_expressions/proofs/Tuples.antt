@@ -167,7 +167,7 @@ module _ (text : List ℕ) (ts : List Token) where
       let y = single_by column at m x.0 in
       (y.0, y.1, y.2, x.1)
 
-  -- no entry begins where there is no `\in` behind one
+  -- no entry begins where there is no `\in` after one
   pub no_entry : (column at : ℕ) → is_none (binds ts column at) ≡ true → BeginsEntry text ts column at → ⊥
   no_entry column at h x = let e = rw (binds_complete x.0 column at x.1 x.2 x.3 x.4) at h in let z : ⊥ = cc in z
 

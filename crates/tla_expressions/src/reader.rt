@@ -26,7 +26,8 @@ pub trait ExpressionReader {
         at: usize,
     ) -> Result<Parsed, Refusal>
         requires { reads_to self.now depth }
-        ensures { Gives text.now tokens.now depth result (expr text.now tokens.now depth context floor at) };
+        ensures { Gives text.now tokens.now depth result
+            (expr text.now tokens.now depth context floor at) };
 }
 
 impl<

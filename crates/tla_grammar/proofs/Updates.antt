@@ -40,7 +40,7 @@ enough role.Colon least m l = (m, refl, l)
 enough role.Separates least m l = (m, refl, l)
 
 module _ (ts : List Token) (at least : ℕ) where
-  -- behind EXCEPT itself none is open
+  -- after EXCEPT itself none is open
   pub within_itself : (t : Token) → slice_get ts at ≡ Some t → (t.kind ≡ k.Except) × (least ≡ 0) → IsWithin ts (suc at) least
   within_itself t here e = (0, omega (arith, e.1), inl ((t, here, e.0), refl))
 

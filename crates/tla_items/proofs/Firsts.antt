@@ -1,4 +1,4 @@
--- The first item of each name behind one item more.
+-- The first item of each name after one item more.
 use Rattle.std.proofs.Common.{◌≡◌, refl, ap, sym, ◌∙◌, Bool, true, false, List, [], ◌∷◌, ◌++◌, map, Option, Some, None, if◌then◌else◌}
 use Rattle.std.specs.Prelude.{is_some, option_map}
 use Rattle.std.specs.Borrow.{Bor}
@@ -18,7 +18,7 @@ use Rattle.tla_names.proofs.Inserted.{same, named, same_name, lookup_after}
 abbrev if_named : Name → Name → Item → Option Item
 if_named x y i = if bytes_eq x y then Some i else None
 
--- the item for a name behind one item more
+-- the item for a name after one item more
 item_for_last : (is : List Item) (i : Item) (x : Name) → item_for (is ++ i ∷ []) x ≡ or_else (item_for is x) (if_named x (replaced_name i).word i)
 item_for_last [] i x = refl
 item_for_last (j ∷ is) i x = at (bytes_eq x (replaced_name j).word) refl (item_for_last is i x)

@@ -59,7 +59,7 @@ module _ {X : Type 0} (read : ℕ → Mode → ℕ → Bytes → X)
       let more : at + 1 + length w ≡ at + suc (length w) = omega arith in
       step opening Line Line at b (w ++ rest) refl stay ∙ line_run w s.1 opening (at + 1) rest ∙ ap (λ n. read opening Line n rest) more
 
-  -- Outside comments: `begin` at either mark, and `end` behind a comment.
+  -- Outside comments: `begin` at either mark, and `end` after a comment.
   module _ (outside : ℕ → Bytes → X)
       (begin_line : (at : ℕ) (rest : Bytes) → outside at (92 ∷ 42 ∷ rest) ≡ read at Line (at + 1) (42 ∷ rest))
       (begin_block : (at : ℕ) (rest : Bytes) → outside at (40 ∷ 42 ∷ rest) ≡ read at (Second 1) (at + 1) (42 ∷ rest))

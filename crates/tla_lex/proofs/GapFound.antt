@@ -89,7 +89,7 @@ went mode opening at (b ∷ rest) = by (λ to. went to (if is_outside mode then 
         ([], b ∷ rest, refl, omega arith, subst (λ m. Leads m [] (b ∷ rest)) (sym none) (nothing (b ∷ rest)), no_gap b (first rest) rest (subst (λ m. turn m b (first rest) ≡ None) none f))
     by later (Some to) f = went_step mode to opening at b rest (skip to (if is_outside mode then at else opening) (at + 1) rest) f (later to)
 
--- ---- where the loop ends up behind a gap
+-- ---- where the loop ends up after a gap
 skip_step : (opening : ℕ) (mode to : Mode) (at b : ℕ) (rest : Bytes) → is_outside mode ≡ false → turn mode b (first rest) ≡ Some to → skip mode opening at (b ∷ rest) ≡ skip to opening (at + 1) rest
 unfolding skip
 skip_step opening mode to at b rest inside h =

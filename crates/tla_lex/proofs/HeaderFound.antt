@@ -26,7 +26,7 @@ is_most a b h = grind (arith, nat_tests)
 is_below : (a b : ℕ) → a < b → nat_lt a b ≡ true
 is_below a b h = grind (arith, nat_tests)
 
--- what stands behind the dashes of a header
+-- what stands after the dashes of a header
 record Named (text : Bytes) (n : ℕ) : Type 0 where
   spaces : Bytes
   behind : Bytes

@@ -55,7 +55,7 @@ dashes_plain = record { no_32 = refl; no_9 = refl; no_10 = refl; no_12 = refl; n
 letters_plain : IsPlain is_letter
 letters_plain = record { no_32 = refl; no_9 = refl; no_10 = refl; no_12 = refl; no_13 = refl; no_92 = refl; no_40 = refl; no_34 = refl; no_47 = refl }
 
--- a byte that stands behind the first of a symbol, conjunction and disjunction aside
+-- a byte that stands after the first of a symbol, conjunction and disjunction aside
 abbrev is_tame : ℕ → Bool
 is_tame b = not (is_blank b) && not (is_backslash b) && not (b == 40) && not (is_quote b) && not (b == 47)
 
@@ -85,7 +85,7 @@ neither true false = refl
 neither false true = refl
 neither false false = refl
 
--- a first byte behind which a plain one stands
+-- a first byte after which a plain one stands
 plain_next : (p : ℕ → Bool) → IsPlain p → (b next : ℕ) → is_quote b ≡ false → IsTrue (p next) → region_of_code b next ≡ code
 plain_next p plain b next q h = stays b next q
     (subst (λ x. ((b == 47 && x) || (is_backslash b && next == 47)) ≡ false) (sym (apart p next 92 h plain.no_92))
@@ -97,7 +97,7 @@ first_of_taken p (suc n) [] l all = absurd (omega arith)
 first_of_taken p zero (b ∷ rest) l all = absurd (omega arith)
 first_of_taken p (suc n) (b ∷ rest) l all = (both (p b) (list_all p (take n rest)) all).0
 
--- a byte, and plain ones behind it
+-- a byte, and plain ones after it
 plain_tail : (p : ℕ → Bool) → IsPlain p → (n b : ℕ) (rest : Bytes) → IsBegun (b ∷ rest) → region_of_code b (first rest) ≡ code → IsTrue (list_all p (take n rest)) → region_behind code (suc n) (b ∷ rest) ≡ code
 plain_tail p plain n b rest begun stay all = subst (λ r. region_behind r n rest ≡ code) (sym (first_goes b rest begun ∙ stay)) (plain_run p plain n rest all)
 

@@ -46,7 +46,7 @@ none_listed text n w kind (x ∷ es) h (inl l) e =
     omega (arith, short, same)
 none_listed text n w kind (x ∷ es) h (inr l) e = none_listed text n w kind es h.1 l e
 
--- the whole run of letters behind the first byte
+-- the whole run of letters after the first byte
 letters_whole : (m : ℕ) (text : Bytes) → 0 < m → m ≤ length text → IsTrue (list_all is_letter (drop 1 (take m text))) → is_letter (first (drop m text)) ≡ false → letters_len text ≡ m
 letters_whole zero text l within all stop = absurd (omega arith)
 letters_whole (suc m) [] l within all stop = absurd (omega arith)

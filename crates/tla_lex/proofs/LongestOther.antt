@@ -12,7 +12,7 @@ use Rattle.tla_lex.proofs.QuotedFound.{StringFound, string_found, string_is}
 use Rattle.tla_lex.proofs.Runs.{clash, run_covers, first_passes, first_taken}
 use Rattle.tla_lex.proofs.Shapes.{Marked, quote, dashes, letters, other, symbol_no_quote, symbol_short, operator_backslash, dash_no_quote, backslash_no_quote, backslash_no_dash, quote_no_dash}
 
--- a string ends behind where it began
+-- a string ends after where it began
 end_above : (escaped : Bool) (at n : ℕ) (bs : Bytes) → end_from escaped at bs ≡ Some n → at < n
 unfolding end_from
 end_above escaped at n [] h = absurd (let z : ⊥ = cc in z)
@@ -23,7 +23,7 @@ end_above escaped at n (b ∷ rest) h = by (λ g. end_above (is_backslash b && n
     by later false true g = let same : at + 1 ≡ n = cc in omega (arith, same)
     by later false false g = let more : at + 1 < n = later g in omega (arith, more)
 
--- it ends there too where the text is cut behind it
+-- it ends there too where the text is cut after it
 end_cut : (escaped : Bool) (at n j : ℕ) (bs : Bytes) → end_from escaped at bs ≡ Some n → n ≤ at + j → end_from escaped at (take j bs) ≡ Some n
 unfolding end_from
 end_cut escaped at n zero bs h l = let more : at < n = end_above escaped at n bs h in absurd (omega (arith, more))

@@ -115,7 +115,7 @@ body_none text from h = ap (λ o. take (end_or o (length text)) text) h ∙ take
 pub body_len : (text : Bytes) (to : ℕ) → to ≤ length text → length (take to text) ≡ to
 body_len text to h = let l = length-take to text in omega (arith, l)
 
--- the place behind the body
+-- the place after the body
 pub place_behind : (text : Bytes) (to : ℕ) → to ≤ length text → place_at (take to text) (length (take to text)) ≡ place_at text to
 unfolding place_at
 place_behind text to h = ap (λ xs. advance_all first_place xs) (take_all (length (take to text)) (take to text) (omega arith))

@@ -44,7 +44,7 @@ string_found text kind n h = by (end_from false 1 (drop 1 text)) refl h
         let same : k ≡ n = none_found k (unknown_escape false 1 (drop 1 (take k text))) g in
         (e ∙ ap Some same, subst (λ i. closed i (unknown_escape false 1 (drop 1 (take i text))) ≡ Found kind n) same g)
 
--- where a string ends, behind a backslash or not
+-- where a string ends, after a backslash or not
 abbrev EndsAt : Bool → ℕ → Bytes → ℕ → Type 0
 EndsAt false at bs n = (w rest : Bytes) × (bs ≡ w ++ (34 ∷ rest)) × (n ≡ at + length w + 1) × IsQuotable is_inline w
 EndsAt true at bs n = (b : ℕ) × (w : Bytes) × (rest : Bytes) × (bs ≡ b ∷ (w ++ (34 ∷ rest))) × (n ≡ at + 1 + length w + 1) × IsTrue (is_inline b) × IsQuotable is_inline w

@@ -39,7 +39,7 @@ module _ (p : ℕ → Bool) where
     | inr e ↦ subst (λ c. IsTrue (list_all p (take (cond c (1 + prefix_len p rest) 0) (b ∷ rest)))) (sym e) refl
   ]
 
-  -- the byte behind the run doesn't pass, nor does the end of the text
+  -- the byte after the run doesn't pass, nor does the end of the text
   pub run_stops : p 0 ≡ false → (text : Bytes) → p (first (drop (prefix_len p text) text)) ≡ false
   run_stops end [] = end
   run_stops end (b ∷ rest) = elim (cases_Bool (p b)) [

@@ -31,7 +31,7 @@ digit_is_word b h = subst (λ c. IsTrue (c || is_letter b || eqb b 95)) (sym h) 
 short : (n k : ℕ) → IsTrue (nat_le n k) → n ≤ k
 short n k h = grind (arith, nat_tests)
 
--- symbols begin with no word and no quote, and are at most four bytes long, behind a backslash at most two
+-- symbols begin with no word and no quote, and are at most four bytes long, after a backslash at most two
 pub symbol_no_word : (w : Bytes) (kind : Kind) → IsListed w kind symbols → is_word (first w) ≡ false
 symbol_no_word w kind h = negates _ (listed_meets (λ v. not (is_word (first v))) symbols refl w kind h)
 

@@ -39,7 +39,7 @@ pub signatures_last : (ks : List Signature) (k : Signature) → map signature_of
 signatures_last [] k = refl
 signatures_last (j ∷ ks) k = ap (λ σ. signature_of j ∷ σ) (signatures_last ks k)
 
--- how many arguments a name takes behind one name more
+-- how many arguments a name takes after one name more
 pub arity_after : (ks : List Signature) (k : Signature) (x : Name) → arity_in (ks ++ k ∷ []) x ≡ (if bytes_eq x k.name.now then Some k.arity else arity_in ks x)
 arity_after ks k x = ap (λ σ. arity σ x) (signatures_last ks k) ∙ arity_last (map signature_of ks) (signature_of k) x
 

@@ -125,7 +125,7 @@ module _ (text : List ℕ) (ts : List Token) where
       blanks_more text ts fuel (fuel - 1) count from (omega (arith, l)) p
       ∙ blanks_complete m (count + 1) (fuel - 1) (from + 2) to x.2 c (omega (arith, l)) ∙ rw e refl
 
-  -- a token that a list's next constant, or a unit, stands behind
+  -- a token that a list's next constant, or a unit, stands after
   abbrev Ended : ℕ → Type 0
   Ended at = kind_at k.LeftParen (seen ts 0 at) ≡ false
 

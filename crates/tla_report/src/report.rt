@@ -69,7 +69,8 @@ fn put_answer<W: Write>(answered: &Answered, out: &mut W) -> Result<u64, ShortWr
 
 fn put_first_line<W: Write>(answered: &Answered, out: &mut W) -> Result<u64, ShortWrite>
     ensures { Puts (W.contents out.old) (W.contents out.new) 0
-        (first_line answered.now.variables answered.now.invariants answered.now.constraints answered.now.limit answered.now.answer) result }
+        (first_line answered.now.variables answered.now.invariants answered.now.constraints
+        answered.now.limit answered.now.answer) result }
 {
     match &answered.answer {
         Answer::NoError { .. } => put_line(&[Piece::Text("No error.")], out, 0),
@@ -113,7 +114,8 @@ fn put_fault<W: Write>(
     requires named { IsNamedPart (length answered.now.invariants) (length answered.now.constraints)
         part }
     ensures { Puts (W.contents out.old) (W.contents out.new) 0
-        (fault_line answered.now.variables answered.now.invariants answered.now.constraints fault.now part) result }
+        (fault_line answered.now.variables answered.now.invariants answered.now.constraints
+        fault.now part) result }
 {
     let pieces = [Piece::Text("Fault "), Piece::Text(fault.code.name())];
     let written = put_pieces(&pieces, out, 0)?;

@@ -34,7 +34,7 @@ one_on m xs x = append_assoc m (x ∷ []) xs
 same_behind : (q : Tree) (m xs ys : List Tree) → is_member q xs ≡ is_member q ys → is_member q (m ++ xs) ≡ is_member q (m ++ ys)
 same_behind q m xs ys e = list_any-append (tree_eq q) m xs ∙ ap (λ b. is_member q m || b) e ∙ sym (list_any-append (tree_eq q) m ys)
 
--- the same list with one more, behind the left or behind the right
+-- the same list with one more, after the left or after the right
 pub rises_on : (m xs : List Tree) (x : Tree) (new left : List Tree) → left ≡ x ∷ xs → new ≡ m ++ x ∷ [] → IsStrictlySortedBy tree_cmp (m ++ left) → IsStrictlySortedBy tree_cmp (new ++ xs)
 rises_on m xs x new left l n h = subst (IsStrictlySortedBy tree_cmp) (ap (λ us. m ++ us) l ∙ sym (ap (λ us. us ++ xs) n ∙ one_on m xs x)) h
 

@@ -23,7 +23,7 @@ arguments-append : (xs ys : List Pair) → arguments (xs ++ ys) ≡ arguments xs
 arguments-append [] ys = refl
 arguments-append (x ∷ xs) ys = ap (λ ts. x.0 ∷ ts) (arguments-append xs ys)
 
--- what is looked up behind some pairs
+-- what is looked up after some pairs
 same_behind : (q : Tree) (m us vs : List Pair) → value_at q us ≡ value_at q vs → value_at q (m ++ us) ≡ value_at q (m ++ vs)
 same_behind q [] us vs e = e
 same_behind q (p ∷ m) us vs e = ap (cond (tree_eq q p.0) (Some p.1)) (same_behind q m us vs e)
@@ -37,7 +37,7 @@ apart q a b h i j =
     let itself : tree_cmp q q ≡ Equal = tied_itself tree_cmp-total q in
     cc
 
--- a pair whose argument is below those of some others may stand before them or behind
+-- a pair whose argument is below those of some others may come before them or after
 moved : (q : Tree) (y : Pair) (left ys : List Pair) → AllByRecursion (λ t. tree_cmp y.0 t ≡ Less) (arguments left) → value_at q (y ∷ (left ++ ys)) ≡ value_at q (left ++ (y ∷ ys))
 moved q y [] ys h = refl
 moved q y (x ∷ left) ys h =

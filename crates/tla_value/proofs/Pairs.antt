@@ -74,7 +74,7 @@ entry_put d vs i v =
     ∙ ap (λ ts. zip (domain_trees (length vs) d) ts) (map-set tree_of vs i v)
     ∙ zip-set (domain_trees (length vs) d) (map tree_of vs) i (tree_of v)
 
--- the same of a domain and values that are told otherwise
+-- the same of a domain and values that are given in another way
 pub entry_same : (d e : Domain) (vs ws : List Value) (i : ℕ) (v : Value) → e ≡ d → ws ≡ list_set vs i v → entry_pairs e ws ≡ with_value_at (entry_pairs d vs) i (tree_of v)
 entry_same d e vs ws i v g h = (λ j. entry_pairs (g j) (h j)) ∙ entry_put d vs i v
 

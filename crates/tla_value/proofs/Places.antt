@@ -47,7 +47,7 @@ except_absent (p ∷ ps) a v h =
     let no = or-none (tree_eq a p.0) (is_member a (arguments ps)) h in
     λ j. (p.0, cond (sym no.0 j) v p.1) ∷ except_absent ps a v no.1 j
 
--- no argument behind is the same
+-- no later argument is the same
 above : (ps : List (Tree × Tree)) (a : Tree) → AllByRecursion (λ t. tree_cmp a t ≡ Less) (arguments ps) → is_member a (arguments ps) ≡ false
 above [] a h = refl
 above (p ∷ ps) a h = rw (ap is_eq h.0) (above ps a h.1)

@@ -14,7 +14,7 @@ use Rattle.tla_value.specs.StateOrder.{state_cmp, state_cmp-total, exact-state}
 use Rattle.tla_value.specs.declared.value.Value.{Value}
 use Rattle.tla_value.proofs.TreeTests.{bool-iff, eq-true, eq-same}
 
--- a test of two values, told of what they hold
+-- a test of two values, by what they hold
 pub told_sets : (r : Bool) (ss ts : List Tree) → ((r ≡ true) ↔ (ss ≡ ts)) → r ≡ tree_eq (set (trees ss)) (set (trees ts))
 told_sets r ss ts h =
     bool-iff r (tree_eq (set (trees ss)) (set (trees ts)))
@@ -43,7 +43,7 @@ told_funs r ps qs h =
 pub apart : {A : Type 0} (f : A → ℕ) (x y : A) (m n : ℕ) → m ≡ f x → n ≡ f y → (m ≡ n → ⊥) → (nat_eq m n ≡ true) ↔ (x ≡ y)
 apart f x y m n p q e = (λ t. absurd (e (eqb-true m n t)), λ same. absurd (e (p ∙ ap f same ∙ sym q)))
 
--- a test of two, told of what they are equal to
+-- a test of two, by what they are equal to
 pub told_of : {A : Type 0} (r : Bool) (x y u v : A) → u ≡ x → v ≡ y → ((r ≡ true) ↔ (u ≡ v)) → (r ≡ true) ↔ (x ≡ y)
 told_of r x y u v p q h = (λ e. sym p ∙ h.0 e ∙ q, λ same. h.1 (p ∙ same ∙ sym q))
 

@@ -23,7 +23,8 @@ fn reach(items: &[Value], from: usize, value: &Value) -> (bool, usize)
     ensures within { result.1 ≤ length items.now }
     ensures found { result.0 ≡ is_member (tree_of value.now) (drop from (map tree_of items.now)) }
     ensures kept { (q : Tree) → tree_cmp (tree_of value.now) q ≡ Less
-        → is_member q (drop result.1 (map tree_of items.now)) ≡ is_member q (drop from (map tree_of items.now)) }
+        → is_member q (drop result.1 (map tree_of items.now))
+        ≡ is_member q (drop from (map tree_of items.now)) }
 {
     let mut at = from;
     while at < items.len() {

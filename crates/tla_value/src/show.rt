@@ -212,7 +212,8 @@ fn put_listed<W: Write>(
 #[cycle(show)]
 fn put_sequence<W: Write>(values: &[Value], out: &mut W, written: u64) -> Result<u64, ShortWrite>
     ensures { Puts (W.contents out.old) (W.contents out.new) written
-        (listed (codes "<<") (codes ", ") (codes ">>") (member_texts (trees (map tree_of values.now)))) result }
+        (listed (codes "<<") (codes ", ") (codes ">>")
+        (member_texts (trees (map tree_of values.now)))) result }
 {
     let written = put(out, written, b"<<")?;
     let written = put_items(values, out, written)?;
@@ -228,7 +229,8 @@ fn put_record<W: Write>(
 ) -> Result<u64, ShortWrite>
     requires { length names.now ≡ length values.now }
     ensures { Puts (W.contents out.old) (W.contents out.new) written
-        (listed (codes "[") (codes ", ") (codes "]") (field_texts (pairs_of (map pair_of (zip names.now values.now))))) result }
+        (listed (codes "[") (codes ", ") (codes "]")
+        (field_texts (pairs_of (map pair_of (zip names.now values.now))))) result }
 {
     let mut written = put(out, written, b"[")?;
     for i in 0..names.len() {
@@ -246,7 +248,8 @@ fn put_field<W: Write>(
     written: u64,
 ) -> Result<u64, ShortWrite>
     ensures { Puts (W.contents out.old) (W.contents out.new) written
-        (separator_before index (codes ", ") ++ (field_name (tree_of name.now) ++ (codes " |-> " ++ text_of (tree_of value.now)))) result }
+        (separator_before index (codes ", ") ++
+        (field_name (tree_of name.now) ++ (codes " |-> " ++ text_of (tree_of value.now)))) result }
 {
     let written = put_between(index, b", ", out, written)?;
     let written = put_name(name, out, written)?;
@@ -274,7 +277,8 @@ fn put_pairs<W: Write>(
 ) -> Result<u64, ShortWrite>
     requires { length arguments.now ≡ length values.now }
     ensures { Puts (W.contents out.old) (W.contents out.new) written
-        (listed (codes "(") (codes " @@ ") (codes ")") (pair_texts (pairs_of (map pair_of (zip arguments.now values.now))))) result }
+        (listed (codes "(") (codes " @@ ") (codes ")")
+        (pair_texts (pairs_of (map pair_of (zip arguments.now values.now))))) result }
 {
     let mut written = put(out, written, b"(")?;
     for i in 0..arguments.len() {
@@ -293,7 +297,9 @@ fn put_numbered<W: Write>(
 ) -> Result<u64, ShortWrite>
     requires { FitNumbers (length values.now) first }
     ensures { Puts (W.contents out.old) (W.contents out.new) written
-        (listed (codes "(") (codes " @@ ") (codes ")") (pair_texts (pairs_of (map pair_of (zip (numbers_from (length values.now) first) values.now))))) result }
+        (listed (codes "(") (codes " @@ ") (codes ")")
+        (pair_texts (pairs_of (map pair_of
+        (zip (numbers_from (length values.now) first) values.now))))) result }
 {
     let mut written = put(out, written, b"(")?;
     for i in 0..values.len() {
@@ -312,7 +318,8 @@ fn put_numbered_pair<W: Write>(
     written: u64,
 ) -> Result<u64, ShortWrite>
     ensures { Puts (W.contents out.old) (W.contents out.new) written
-        (separator_before index (codes " @@ ") ++ (text_of (int argument) ++ (codes " :> " ++ text_of (tree_of value.now)))) result }
+        (separator_before index (codes " @@ ") ++
+        (text_of (int argument) ++ (codes " :> " ++ text_of (tree_of value.now)))) result }
 {
     put_pair(&Value::Int(argument), value, index, out, written)
 }
@@ -326,7 +333,8 @@ fn put_pair<W: Write>(
     written: u64,
 ) -> Result<u64, ShortWrite>
     ensures { Puts (W.contents out.old) (W.contents out.new) written
-        (separator_before index (codes " @@ ") ++ (text_of (tree_of argument.now) ++ (codes " :> " ++ text_of (tree_of value.now)))) result }
+        (separator_before index (codes " @@ ") ++
+        (text_of (tree_of argument.now) ++ (codes " :> " ++ text_of (tree_of value.now)))) result }
 {
     let written = put_between(index, b" @@ ", out, written)?;
     let written = put_value(argument, out, written)?;
