@@ -10,8 +10,8 @@ use tla_parse::parse_module;
 use tla_quick::Expression;
 use tla_value::{State, Value};
 
-/// Each invariant is TRUE where x is 2. Without a definition that is evaluated once, the last takes longer than a test
-/// may: it has a set of 1,000 members inside a million choices.
+/// Each invariant is TRUE where x is 2. Without a definition that is evaluated once, each of the last two takes longer
+/// than a test may: it has a set of 1,000 members inside a million choices.
 static MODULE: &str = "---- MODULE M ----
 EXTENDS Integers
 VARIABLE x
@@ -21,12 +21,13 @@ Inside == \\A i \\in 1..3 : LET s == {i + j : j \\in 1..3} IN i + x \\in s /\\ i
 Unused == LET s == 1 \\div 0 IN x = 2
 Shadowed == \\A i \\in 1..2 : \\E j \\in 3..4 : LET f == [k \\in 1..2 |-> k * i] IN f[2] = 2 * i /\\ j > i
 Often == \\A i, j, k \\in 1..100 : i * j * k \\notin {n * n + 2000000 : n \\in 1..1000}
+Arms == \\A i, j, k \\in 1..100 : CASE i * j * k \\in {n * n + 2000000 : n \\in 1..1000} -> FALSE [] OTHER -> x = 2
 ====
 ";
 
 static CONFIG: &str = "INIT Init
 NEXT Next
-INVARIANTS Inside Unused Shadowed Often
+INVARIANTS Inside Unused Shadowed Often Arms
 ";
 
 fn model(alloc: Global) -> Option<Model> {
@@ -65,7 +66,7 @@ fn are_true(alloc: Global) -> bool {
             return false;
         }
     }
-    model.invariants().len() == 4
+    model.invariants().len() == 5
 }
 
 #[test]

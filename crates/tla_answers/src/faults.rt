@@ -98,13 +98,13 @@ fn code_title(code: FaultCode) -> &'static str {
         FaultCode::NoField => "no such field",
         FaultCode::NoChoice => "CHOOSE finds nothing",
         FaultCode::NoArm => "no arm of CASE is TRUE",
-        FaultCode::Endless => "a set that can't be enumerated",
+        FaultCode::NotEnumerable => "a set that can't be enumerated",
         FaultCode::TooMany => "a set or function of more than 1,000,000 parts",
         FaultCode::TooDeep => "a value nested more than 64 deep",
         FaultCode::EmptySequence => "Head or Tail of the empty sequence",
         FaultCode::NotSet => "a next value is used before it is set",
         FaultCode::AssertFalse => "Assert is FALSE",
-        FaultCode::Lacking => "a variable is left without a value",
+        FaultCode::Unassigned => "a variable is left without a value",
         FaultCode::Memory => "out of memory",
     }
 }

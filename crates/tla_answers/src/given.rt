@@ -46,7 +46,7 @@ pub(crate) fn formula_alone<'a>(
 
 fn fault_text(code: FaultCode) -> &'static str {
     match code {
-        FaultCode::Lacking => ", which sets no variable",
+        FaultCode::Unassigned => ", which sets no variable",
         _ => ", which is no truth value",
     }
 }

@@ -37,13 +37,13 @@ pub(crate) fn explain_unset(
     put_named(output, "variable", names, variable);
     output.put(&[
         " is left without a value (",
-        FaultCode::Lacking.name(),
+        FaultCode::Unassigned.name(),
         "), in ",
     ]);
     put_part_name(output, context, answered, part);
     end_at(output, context.sources, place);
     if found.is_none() {
-        output.put_rule(FaultCode::Lacking.name());
+        output.put_rule(FaultCode::Unassigned.name());
     }
     let lack = Lack {
         action,

@@ -103,7 +103,7 @@ fn explain_culprit(
         FaultCode::WrongKind => hint_kind(output, context, &scene),
         FaultCode::NotSet => hint_next(output, context, &scene),
         FaultCode::NoField => hint_field(output, &scene),
-        FaultCode::Endless => hint_finite(output, &scene),
+        FaultCode::NotEnumerable => hint_finite(output, &scene),
         FaultCode::TooDeep => hint_flat(output, &scene),
         _ => {}
     }
@@ -184,7 +184,7 @@ fn put_wanted(output: &mut Output, value: &Value, wanted: Wanted) {
 
 /// The element that doesn't fit its pattern, and how many names that has.
 fn misfit<'c>(scene: &Scene<'_, 'c>) -> Option<(&'c Value, usize)> {
-    let Core::Opened(_, openings, _) = scene.node else {
+    let Core::Destructure(_, openings, _) = scene.node else {
         return None;
     };
     let [opening] = openings.as_slice() else {

@@ -4,18 +4,18 @@ use Rattle.std.specs.List.{All}
 use Rattle.std.proofs.lemmas.List.{take_all}
 use Rattle.std.proofs.lemmas.List.Elements.{All-head, All-tail, All-more}
 use Rattle.tla_core.specs.declared.fault.Place.{Place}
-use Rattle.tla_core.specs.Expr.{Expr, Exprs, Fields, except, more_exprs, more_fields, more_updates}
+use Rattle.tla_core.specs.Expr.{Expr, Exprs, Fields, except, no_exprs, more_exprs, more_fields, more_updates}
 use Rattle.tla_code.specs.declared.code.ListForm.{ListForm}
-use Rattle.tla_code.specs.declared.code.ListForm.TheVariants.{Enumerated, Tuple, Conjunction, Disjunction, Product}
+use Rattle.tla_code.specs.declared.code.ListForm.TheVariants.{Enumerated, Tuple, Conjunction, Disjunction, Product, Cases}
 use Rattle.tla_code.specs.declared.code.FieldForm.{FieldForm}
 use Rattle.tla_code.specs.declared.code.FieldForm.TheVariants.{Record, Records}
 use Rattle.tla_code.specs.declared.code.MapForm.{MapForm}
 use Rattle.tla_code.specs.declared.code.MapForm.TheVariants.{Image, Function}
 use Rattle.tla_code.specs.declared.code.Code.{Code}
 use Rattle.tla_code.specs.declared.code.Code.TheViews as views
-use Rattle.tla_code.specs.Forms.{list_expr, field_expr, map_expr}
+use Rattle.tla_code.specs.Forms.{list_expr, field_expr, map_expr, arms_in}
 use Rattle.tla_code.specs.CodeExpr.{Scope, expr_in}
-use Rattle.tla_code.specs.NoVariables.{HasNoVariables, HaveNoVariables, FieldsHaveNone, UpdatesHaveNone, IsClosed, FieldIsClosed, UpdateIsClosed}
+use Rattle.tla_code.specs.NoVariables.{HasNoVariables, HaveNoVariables, ArmsHaveNone, FieldsHaveNone, UpdatesHaveNone, IsClosed, FieldIsClosed, UpdateIsClosed}
 use Rattle.tla_code.specs.Private.Listed.{exprs_of_codes, fields_of_codes, updates_of_codes}
 use Rattle.tla_code.proofs.Listed.{list_in, fields_of_in, map_in, except_of_in}
 
@@ -27,12 +27,18 @@ pub each_holds : {X : Type 0} (P : X → Type 0) (xs : List X) (i : ℕ) → len
 each_holds P xs i l h = subst (λ ys. All P ys) (take_all i xs l) h
 
 -- ---- forms of expressions without variables
+arms_steady : (es : Exprs) → HaveNoVariables es → ArmsHaveNone (arms_in es)
+arms_steady no_exprs h = tt
+arms_steady (more_exprs e no_exprs) h = h.0
+arms_steady (more_exprs c (more_exprs e rest)) h = (h.0, h.1.0, arms_steady rest h.1.1)
+
 list_steady : (f : ListForm) (p : Place) (es : Exprs) → HaveNoVariables es → HasNoVariables (list_expr f p es)
 list_steady Enumerated p es h = h
 list_steady Tuple p es h = h
 list_steady Conjunction p es h = h
 list_steady Disjunction p es h = h
 list_steady Product p es h = h
+list_steady Cases p es h = arms_steady es h
 
 field_steady : (f : FieldForm) (p : Place) (fs : Fields) → FieldsHaveNone fs → HasNoVariables (field_expr f p fs)
 field_steady Record p fs h = h

@@ -1,15 +1,15 @@
 -- What nodes with a list of parts stand for, from the list.
-use Rattle.std.proofs.Common.{rules, ◌≡◌, ℕ, ◌+◌, ◌<◌, List, [], ◌∷◌, ◌++◌, length, take, get_or, Result, Ok, Err, IfOk, refl, ap, sym, subst, ◌∙◌, Vec, Box, Bor, Global}
+use Rattle.std.proofs.Common.{rules, Some, None, ◌≡◌, ℕ, ◌+◌, ◌<◌, List, [], ◌∷◌, ◌++◌, length, take, get_or, Result, Ok, Err, IfOk, refl, ap, sym, subst, ◌∙◌, Vec, Box, Bor, Global}
 use Rattle.std.specs.List.{AllZip}
 use Rattle.std.proofs.lemmas.List.{take_more}
 use Rattle.std.proofs.lemmas.Slice.Zip.{all_zipped_more}
 use Rattle.tla_core.specs.declared.fault.Place.{Place}
-use Rattle.tla_core.specs.Expr.{Expr, more_exprs, more_fields, more_updates, enumerated, tuple, record_of, conjunction, disjunction, image, function, except, records, product}
-use Rattle.tla_core.specs.ExprOf.{expr_of, exprs_of, fields_of, updates_of}
-use Rattle.tla_core.specs.declared.expression.Core.{Core, Row_of-Core, end_of-Core, more_of-Core, items-the_row-Core, Row_of-Core-Record-1-2, end_of-Core-Record-1-2, more_of-Core-Record-1-2, items-the_row-Core-Record-1-2, Row_of-Core-Except-2-3, end_of-Core-Except-2-3, more_of-Core-Except-2-3, items-the_row-Core-Except-2-3, items_shown-the_row-Core-0}
+use Rattle.tla_core.specs.Expr.{Expr, Arms, more_exprs, more_fields, more_updates, no_arms, other, more_arms, cases, enumerated, tuple, record_of, conjunction, disjunction, image, function, except, records, product}
+use Rattle.tla_core.specs.ExprOf.{expr_of, exprs_of, fields_of, arms_of, updates_of}
+use Rattle.tla_core.specs.declared.expression.Core.{Core, Row_of-Core, end_of-Core, more_of-Core, items-the_row-Core, Row_of-Core-Record-1-2, end_of-Core-Record-1-2, more_of-Core-Record-1-2, items-the_row-Core-Record-1-2, Row_of-Core-Cases-1-2, end_of-Core-Cases-1-2, more_of-Core-Cases-1-2, items-the_row-Core-Cases-1-2, Row_of-Core-Except-2-3, end_of-Core-Except-2-3, more_of-Core-Except-2-3, items-the_row-Core-Except-2-3, items_shown-the_row-Core-0}
 use Rattle.tla_core.specs.declared.expression.Core.TheViews as views
 use Rattle.tla_core.specs.declared.expression.Core.TheViews.{the_lemmas}
-use Rattle.tla_code.specs.Forms.{list_expr, field_expr, map_expr}
+use Rattle.tla_code.specs.Forms.{list_expr, field_expr, map_expr, arms_in}
 use Rattle.tla_code.specs.declared.code.ListForm.{ListForm}
 use Rattle.tla_code.specs.declared.code.FieldForm.{FieldForm}
 use Rattle.tla_code.specs.declared.code.MapForm.{MapForm}
@@ -17,7 +17,7 @@ use Rattle.tla_code.specs.declared.code.Code.{Code, Row_of-Code, end_of-Code, mo
 use Rattle.tla_code.specs.declared.code.Code.TheViews as code_views
 use Rattle.tla_code.specs.declared.code.Code.TheViews.{the_lemmas as code_lemmas}
 use Rattle.tla_code.specs.CodeExpr.{Scope, expr_in, exprs_in, fields_in, updates_in}
-use Rattle.tla_code.specs.Private.Listed.{exprs_of_codes, fields_of_codes, updates_of_codes, exprs_of_cores, fields_of_list, updates_of_list, StandsFor, FieldStandsFor, UpdateStandsFor}
+use Rattle.tla_code.specs.Private.Listed.{exprs_of_codes, fields_of_codes, updates_of_codes, exprs_of_cores, fields_of_list, parts_of_arms, arms_of_list, updates_of_list, StandsFor, FieldStandsFor, UpdateStandsFor}
 use mathlib.Core.Former.{Count}
 
 -- a code that stands for an expression that is a core's
@@ -58,6 +58,10 @@ row_core_fields : (n : Count) (row : Row_of-Core-Record-1-2 n) → fields_of row
 row_core_fields n end_of-Core-Record-1-2 = refl
 row_core_fields n (more_of-Core-Record-1-2 name e rest) = ap (more_fields name (expr_of e)) (row_core_fields _ rest)
 
+row_core_arms : (n : Count) (row : Row_of-Core-Cases-1-2 n) (last : Arms) → arms_of row last ≡ arms_of_list (items-the_row-Core-Cases-1-2 n row) last
+row_core_arms n end_of-Core-Cases-1-2 last = refl
+row_core_arms n (more_of-Core-Cases-1-2 c e rest) last = ap (more_arms (expr_of c) (expr_of e)) (row_core_arms _ rest last)
+
 row_core_updates : (n : Count) (row : Row_of-Core-Except-2-3 n) → updates_of row ≡ updates_of_list (items-the_row-Core-Except-2-3 n row)
 row_core_updates n end_of-Core-Except-2-3 = refl
 row_core_updates n (more_of-Core-Except-2-3 shape keys e rest) =
@@ -93,6 +97,26 @@ function_in at sets body = search (rules, the_lemmas, row_cores)
 
 pub except_in : (at : Place) (base : Box Core Global) (updates : Vec (Vec Core Global × Core) Global) → expr_of (views.Except at base updates) ≡ except at (expr_of base.value) (updates_of_list updates.items)
 except_in at base updates = search (rules, the_lemmas, row_core_updates)
+
+pub cases_in : (at : Place) (arms : Vec (Core × Core) Global) → expr_of (views.Cases at arms None) ≡ cases at (arms_of_list arms.items no_arms)
+cases_in at arms = search (rules, the_lemmas, row_core_arms)
+
+pub cases_or_in : (at : Place) (arms : Vec (Core × Core) Global) (last : Box Core Global) → expr_of (views.Cases at arms (Some last)) ≡ cases at (arms_of_list arms.items (other (expr_of last.value)))
+cases_or_in at arms last = search (rules, the_lemmas, row_core_arms)
+
+-- ---- arms
+-- the arms of conditions and values in turn, and what is left of them
+pub arms_read : (arms : List (Core × Core)) (rest : List Core) → arms_in (exprs_of_cores (parts_of_arms arms ++ rest)) ≡ arms_of_list arms (arms_in (exprs_of_cores rest))
+arms_read [] rest = refl
+arms_read (a ∷ arms) rest = ap (more_arms (expr_of a.0) (expr_of a.1)) (arms_read arms rest)
+
+-- one arm more
+pub arms_more : (arms : List (Core × Core)) (i : ℕ) (a : Core × Core) → i < length arms → a ≡ get_or arms i a → parts_of_arms (take (i + 1) arms) ≡ (parts_of_arms (take i arms) ++ a.0 ∷ []) ++ a.1 ∷ []
+arms_more arms i a l is = ap parts_of_arms (take_more arms i a l ∙ ap (λ z. take i arms ++ z ∷ []) (sym is)) ∙ at_end (take i arms) a
+  where
+    at_end : (xs : List (Core × Core)) (x : Core × Core) → parts_of_arms (xs ++ x ∷ []) ≡ (parts_of_arms xs ++ x.0 ∷ []) ++ x.1 ∷ []
+    at_end [] x = refl
+    at_end (y ∷ ys) x = ap (λ us. y.0 ∷ y.1 ∷ us) (at_end ys x)
 
 -- ---- rows of codes
 row_codes : (scope : Scope) (n : Count) (row : Row_of-Code n) → exprs_in scope row ≡ exprs_of_codes scope (items-the_row-Code n row)

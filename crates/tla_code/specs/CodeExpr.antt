@@ -7,7 +7,7 @@ use Rattle.tla_core.specs.ExprOf.{expr_of}
 use Rattle.tla_code.specs.Raise.{raise}
 use Rattle.tla_code.specs.Forms.{one_expr, two_expr, three_expr, list_expr, field_expr, binder_expr, map_expr}
 use Rattle.tla_code.specs.declared.code.Code.{Code, Row_of-Code, end_of-Code, more_of-Code, Row_of-Code-Fields-2-2, end_of-Code-Fields-2-2, more_of-Code-Fields-2-2, Row_of-Code-Except-2-3, end_of-Code-Except-2-3, more_of-Code-Except-2-3}
-use Rattle.tla_code.specs.declared.code.Code.TheVariants.{Plain, Bound, Use, Let', One', Two', Three', List', Fields', Binder', Map', Except', Opened'}
+use Rattle.tla_code.specs.declared.code.Code.TheVariants.{Plain, Bound, Use, Let', One', Two', Three', List', Fields', Binder', Map', Except', Destructure'}
 
 -- the definitions around an expression, the outermost first: how many names are bound outside each, and its expression
 abbrev pub Scope : Type 0
@@ -32,7 +32,7 @@ abbrev mutual
   expr_in scope (Binder' at form _ a _ e) = binder_expr form at (expr_in scope a) (expr_in scope e)
   expr_in scope (Map' at form _ sets _ e) = map_expr form at (exprs_in scope sets) (expr_in scope e)
   expr_in scope (Except' at _ f _ updates) = except at (expr_in scope f) (updates_in scope updates)
-  expr_in scope (Opened' at openings _ e) = opened at openings.items (expr_in scope e)
+  expr_in scope (Destructure' at openings _ e) = opened at openings.items (expr_in scope e)
 
   pub exprs_in : {m : _} → Scope → Row_of-Code m → Exprs
   exprs_in scope end_of-Code = no_exprs

@@ -1,16 +1,16 @@
 -- The expression that each form makes of its operands. (Book, chapter 16.)
 use Rattle.tla_core.specs.declared.fault.Place.{Place}
-use Rattle.tla_core.specs.Expr.{Expr, Exprs, Fields, unary, binary, equal, sub_seq, enumerated, tuple, record_of, conjunction, disjunction, implies, conditional, for_all, for_some, choose, image, function, member, not_member, subset, sequences, power, functions, records, product, cup, cap, minus, filtered, tried}
+use Rattle.tla_core.specs.Expr.{Expr, Exprs, Fields, Arms, no_exprs, more_exprs, no_arms, other, more_arms, unary, binary, equal, sub_seq, enumerated, tuple, record_of, conjunction, disjunction, implies, conditional, cases, for_all, for_some, choose, image, function, member, not_member, subset, sequences, power, functions, records, product, cup, cap, minus, filtered, tried}
 use Rattle.tla_core.specs.Expr as expr
 use Rattle.tla_core.specs.ExprOf.{unary_of, binary_of}
 use Rattle.tla_code.specs.declared.code.OneForm.{OneForm}
-use Rattle.tla_code.specs.declared.code.OneForm.TheVariants.{Operator as of_one, Field, Sequences, Power, Tried}
+use Rattle.tla_code.specs.declared.code.OneForm.TheVariants.{Operator as of_one, Field, Sequences, Power, CheckPattern}
 use Rattle.tla_code.specs.declared.code.TwoForm.{TwoForm}
 use Rattle.tla_code.specs.declared.code.TwoForm.TheVariants.{Operator as of_two, Apply, Equal, Implies, Member, NotMember, Subset, Functions, Cup, Cap, Minus}
 use Rattle.tla_code.specs.declared.code.ThreeForm.{ThreeForm}
 use Rattle.tla_code.specs.declared.code.ThreeForm.TheVariants.{If, SubSeq}
 use Rattle.tla_code.specs.declared.code.ListForm.{ListForm}
-use Rattle.tla_code.specs.declared.code.ListForm.TheVariants.{Enumerated, Tuple, Conjunction, Disjunction, Product}
+use Rattle.tla_code.specs.declared.code.ListForm.TheVariants.{Enumerated, Tuple, Conjunction, Disjunction, Product, Cases}
 use Rattle.tla_code.specs.declared.code.FieldForm.{FieldForm}
 use Rattle.tla_code.specs.declared.code.FieldForm.TheVariants.{Record, Records}
 use Rattle.tla_code.specs.declared.code.BinderForm.{BinderForm}
@@ -23,7 +23,7 @@ one_expr (of_one op) p a = unary p (unary_of op) a
 one_expr (Field name) p a = unary p (expr.Field name.now) a
 one_expr Sequences p a = sequences p a
 one_expr Power p a = power p a
-one_expr (Tried count) p a = tried p count a
+one_expr (CheckPattern count) p a = tried p count a
 
 abbrev pub two_expr : TwoForm → Place → Expr → Expr → Expr
 two_expr (of_two op) p a c = binary p (binary_of op) a c
@@ -42,12 +42,19 @@ abbrev pub three_expr : ThreeForm → Place → Expr → Expr → Expr → Expr
 three_expr If p a c d = conditional p a c d
 three_expr SubSeq p a c d = sub_seq p a c d
 
+-- the arms of a CASE: conditions and values in turn, and last that of OTHER, if there is one more
+abbrev pub arms_in : Exprs → Arms
+arms_in no_exprs = no_arms
+arms_in (more_exprs e no_exprs) = other e
+arms_in (more_exprs c (more_exprs e rest)) = more_arms c e (arms_in rest)
+
 abbrev pub list_expr : ListForm → Place → Exprs → Expr
 list_expr Enumerated p es = enumerated p es
 list_expr Tuple p es = tuple p es
 list_expr Conjunction p es = conjunction p es
 list_expr Disjunction p es = disjunction p es
 list_expr Product p es = product p es
+list_expr Cases p es = cases p (arms_in es)
 
 abbrev pub field_expr : FieldForm → Place → Fields → Expr
 field_expr Record p fs = record_of p fs

@@ -1,11 +1,11 @@
 //! The code of an expression in which nothing is shared yet.
 ghost use Rattle.std.specs.Prelude.{◌≡◌, IfOk};
 ghost use Rattle.std.specs.List.{AllZip};
-ghost use Rattle.tla_core.specs.Expr.{except, opened};
+ghost use Rattle.tla_core.specs.Expr.{cases, except, opened};
 ghost use Rattle.tla_core.specs.ExprOf.{expr_of};
 ghost use Rattle.tla_code.specs.Forms.{one_expr, two_expr, three_expr, list_expr, field_expr, binder_expr, map_expr};
 ghost use Rattle.tla_code.specs.CodeExpr.{Scope, expr_in};
-ghost use Rattle.tla_code.specs.Private.Listed.{StandsFor, FieldStandsFor, UpdateStandsFor, exprs_of_cores, fields_of_list, updates_of_list};
+ghost use Rattle.tla_code.specs.Private.Listed.{StandsFor, FieldStandsFor, UpdateStandsFor, exprs_of_cores, fields_of_list, parts_of_arms, arms_of_list, arm_of_other, updates_of_list};
 
 use crate::code::{BinderForm, Code, FieldForm, ListForm, MapForm, OneForm, ThreeForm, TwoForm};
 use std::alloc::{AllocError, Global};
@@ -29,7 +29,7 @@ fn arranged<'m>(alloc: Global, core: &'m Core) -> Result<Code<'m>, AllocError>
         Core::Field(place, name, a) => one(alloc, *place, OneForm::Field(name), a),
         Core::Sequences(place, a) => one(alloc, *place, OneForm::Sequences, a),
         Core::Power(place, a) => one(alloc, *place, OneForm::Power, a),
-        Core::Tried(place, count, a) => one(alloc, *place, OneForm::Tried(*count), a),
+        Core::CheckPattern(place, count, a) => one(alloc, *place, OneForm::CheckPattern(*count), a),
         Core::Binary(place, operator, a, b) => {
             two(alloc, *place, TwoForm::Operator(*operator), a, b)
         }
@@ -47,7 +47,7 @@ fn arranged<'m>(alloc: Global, core: &'m Core) -> Result<Code<'m>, AllocError>
     }
 }
 
-/// Other forms. CASE and Assert stay as they are.
+/// Other forms. An Assert stays as it is.
 #[cycle(arrange)]
 fn arranged_other<'m>(alloc: Global, core: &'m Core) -> Result<Code<'m>, AllocError>
     ensures { IfOk result (λ c. StandsFor core.now c) }
@@ -60,6 +60,10 @@ fn arranged_other<'m>(alloc: Global, core: &'m Core) -> Result<Code<'m>, AllocEr
         Core::Conjunction(place, parts) => list(alloc, *place, ListForm::Conjunction, parts),
         Core::Disjunction(place, parts) => list(alloc, *place, ListForm::Disjunction, parts),
         Core::Product(place, parts) => list(alloc, *place, ListForm::Product, parts),
+        Core::Cases(place, arms, other) => match other {
+            None => cases(alloc, *place, arms, None),
+            Some(body) => cases(alloc, *place, arms, Some(body)),
+        },
         Core::Record(place, fields) => named(alloc, *place, FieldForm::Record, fields),
         Core::Records(place, fields) => named(alloc, *place, FieldForm::Records, fields),
         Core::ForAll(place, set, body) => binder(alloc, *place, BinderForm::ForAll, set, body),
@@ -69,7 +73,7 @@ fn arranged_other<'m>(alloc: Global, core: &'m Core) -> Result<Code<'m>, AllocEr
         Core::Image(place, sets, body) => mapped(alloc, *place, MapForm::Image, sets, body),
         Core::Function(place, sets, body) => mapped(alloc, *place, MapForm::Function, sets, body),
         Core::Except(place, base, updates) => updated(alloc, *place, updates, base),
-        Core::Opened(place, openings, body) => with_items(alloc, *place, openings, body),
+        Core::Destructure(place, openings, body) => with_items(alloc, *place, openings, body),
         Core::Bound(place, index) => Ok(Code::Bound(*place, *index)),
         _ => Ok(Code::Plain(core)),
     }
@@ -145,6 +149,28 @@ fn list<'m>(
 {
     let parts = arranged_all(alloc, parts)?;
     Ok(Code::List(place, form, parts))
+}
+
+/// A CASE.
+#[cycle(arrange)]
+fn cases<'m>(
+    alloc: Global,
+    place: Place,
+    arms: &'m [(Core, Core)],
+    other: Option<&'m Core>,
+) -> Result<Code<'m>, AllocError>
+    ensures { IfOk result (λ c.
+        (scope : Scope)
+        → expr_in scope c ≡ cases place (arms_of_list arms.now (arm_of_other other.entry))) }
+{
+    let mut parts = arranged_arms(alloc, arms)?;
+    match other {
+        Some(body) => {
+            parts.push(arranged(alloc, body)?)?;
+            Ok(Code::List(place, ListForm::Cases, parts))
+        }
+        None => Ok(Code::List(place, ListForm::Cases, parts)),
+    }
 }
 
 #[cycle(arrange)]
@@ -223,7 +249,7 @@ fn with_items<'m>(
 {
     let body = operand(alloc, body)?;
     let openings = openings.to_vec(alloc)?;
-    Ok(Code::Opened(place, openings, body))
+    Ok(Code::Destructure(place, openings, body))
 }
 
 /// The codes of some parts.
@@ -234,6 +260,19 @@ fn arranged_all<'m>(alloc: Global, parts: &'m [Core]) -> Result<Vec<Code<'m>>, A
     let mut codes = Vec::new(alloc);
     for part in parts {
         codes.push(arranged(alloc, part)?)?;
+    }
+    Ok(codes)
+}
+
+/// The codes of the conditions and values of arms, in turn.
+#[cycle(arrange)]
+fn arranged_arms<'m>(alloc: Global, arms: &'m [(Core, Core)]) -> Result<Vec<Code<'m>>, AllocError>
+    ensures { IfOk result (λ cs. AllZip StandsFor (parts_of_arms arms.now) cs.items) }
+{
+    let mut codes = Vec::new(alloc);
+    for arm in arms {
+        codes.push(arranged(alloc, &arm.0)?)?;
+        codes.push(arranged(alloc, &arm.1)?)?;
     }
     Ok(codes)
 }

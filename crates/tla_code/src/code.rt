@@ -14,7 +14,7 @@ pub enum OneForm<'m> {
     /// `SUBSET S`
     Power,
     /// A set whose elements must be sequences of this many items.
-    Tried(usize),
+    CheckPattern(usize),
 }
 
 /// A form with two operands.
@@ -61,6 +61,8 @@ pub enum ListForm {
     Disjunction,
     /// `S \X T ..`
     Product,
+    /// CASE: the condition and the value of each arm in turn, and last the value of OTHER, if it has one.
+    Cases,
 }
 
 /// A form with named operands.
@@ -113,5 +115,5 @@ pub enum Code<'m> {
     /// The function, and the updates, each the keys of its path and the new value.
     Except(Place, Box<Code<'m>>, Vec<(Vec<Code<'m>>, Code<'m>)>),
     /// Elements that are opened, and the body, in which their items are the next bound names.
-    Opened(Place, Vec<Opening>, Box<Code<'m>>),
+    Destructure(Place, Vec<Opening>, Box<Code<'m>>),
 }

@@ -21,7 +21,7 @@ pub fn is_steady(code: &Code<'_>) -> bool
         Code::Two(_, _, a, b) => is_steady(a) && is_steady(b),
         Code::Three(_, _, a, b, c) => is_steady(a) && is_steady(b) && is_steady(c),
         Code::Binder(_, _, set, body) => is_steady(set) && is_steady(body),
-        Code::Opened(_, _, body) => is_steady(body),
+        Code::Destructure(_, _, body) => is_steady(body),
         _ => has_steady_parts(code),
     }
 }

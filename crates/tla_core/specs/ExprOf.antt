@@ -16,7 +16,7 @@ use Rattle.tla_core.specs.declared.expression.Binary.TheVariants.{Iff, Unequal, 
 use Rattle.tla_core.specs.declared.expression.Kind.{Kind}
 use Rattle.tla_core.specs.declared.expression.Kind.TheVariants.{Naturals, Integers, Strings}
 use Rattle.tla_core.specs.declared.expression.Core.{Core, Row_of-Core, end_of-Core, more_of-Core, Row_of-Core-Record-1-2, end_of-Core-Record-1-2, more_of-Core-Record-1-2, Row_of-Core-Cases-1-2, end_of-Core-Cases-1-2, more_of-Core-Cases-1-2, Row_of-Core-Except-2-3, end_of-Core-Except-2-3, more_of-Core-Except-2-3, Held-Core-Cases-2, None', Some'}
-use Rattle.tla_core.specs.declared.expression.Core.TheVariants.{Constant, Bound, Now, Next, Unary', Binary', Apply', Equal', Field', SubSeq', Enumerated', Tuple', Record', Conjunction', Disjunction', Implies', If', Cases', Assert', ForAll', ForSome', Choose', Image', Function', Member', NotMember', Subset', KindSet, Booleans, Sequences', Power', Functions', Records', Product', Cup', Cap', Minus', Filter', Except', Opened', Tried', Literal}
+use Rattle.tla_core.specs.declared.expression.Core.TheVariants.{Constant, Bound, Now, Next, Unary', Binary', Apply', Equal', Field', SubSeq', Enumerated', Tuple', Record', Conjunction', Disjunction', Implies', If', Cases', Assert', ForAll', ForSome', Choose', Image', Function', Member', NotMember', Subset', KindSet, Booleans, Sequences', Power', Functions', Records', Product', Cup', Cap', Minus', Filter', Except', Destructure', CheckPattern', Literal}
 
 -- the operators
 abbrev pub unary_of : Unary → expr.Unary
@@ -95,8 +95,8 @@ abbrev mutual
   expr_of (Cap' at _ a _ c) = cap at (expr_of a) (expr_of c)
   expr_of (Minus' at _ a _ c) = minus at (expr_of a) (expr_of c)
   expr_of (Filter' at _ a _ e) = filtered at (expr_of a) (expr_of e)
-  expr_of (Opened' at openings _ e) = opened at openings.items (expr_of e)
-  expr_of (Tried' at count _ a) = tried at count (expr_of a)
+  expr_of (Destructure' at openings _ e) = opened at openings.items (expr_of e)
+  expr_of (CheckPattern' at count _ a) = tried at count (expr_of a)
   expr_of (Literal l) = literal_of l
 
   pub exprs_of : {m : _} → Row_of-Core m → Exprs

@@ -3,7 +3,7 @@ use Rattle.std.specs.Prelude.{ℕ, List, Result, Ok, Err, Some, None, codes}
 pub use Rattle.tla_core.specs.declared.fault.Place.{Place}
 pub use Rattle.tla_core.specs.declared.fault.Fault.{Fault}
 pub use Rattle.tla_core.specs.declared.fault.FaultCode.{FaultCode}
-pub use Rattle.tla_core.specs.declared.fault.FaultCode.TheVariants.{WrongKind, Overflow, SmallDivisor, NegativeExponent, OutsideDomain, NoField, NoChoice, NoArm, Endless, TooMany, TooDeep, EmptySequence, NotSet, AssertFalse, Lacking, Memory}
+pub use Rattle.tla_core.specs.declared.fault.FaultCode.TheVariants.{WrongKind, Overflow, SmallDivisor, NegativeExponent, OutsideDomain, NoField, NoChoice, NoArm, NotEnumerable, TooMany, TooDeep, EmptySequence, NotSet, AssertFalse, Unassigned, Memory}
 
 -- what an evaluation gives: a value or its first fault
 abbrev pub Outcome : Type 0 → Type 0
@@ -33,11 +33,11 @@ code_text OutsideDomain = codes "E5"
 code_text NoField = codes "E6"
 code_text NoChoice = codes "E7"
 code_text NoArm = codes "E8"
-code_text Endless = codes "E9"
+code_text NotEnumerable = codes "E9"
 code_text TooMany = codes "E10"
 code_text TooDeep = codes "E11"
 code_text EmptySequence = codes "E12"
 code_text NotSet = codes "E13"
 code_text AssertFalse = codes "E14"
-code_text Lacking = codes "E15"
+code_text Unassigned = codes "E15"
 code_text Memory = codes "E16"

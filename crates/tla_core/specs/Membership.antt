@@ -1,7 +1,7 @@
 -- Membership, and the sets that are known by the kind of their members. (Book, chapters 16 and 18; what is left unevaluated is this project's own choice.)
 use Rattle.std.specs.Prelude.{pos, int_le, Bool, true, false, not, ◌||◌, [], ◌∷◌, Option, Some, None, Ok}
 use Rattle.tla_value.specs.Tree.{Tree, truth, int, text, set, trees}
-use Rattle.tla_core.specs.Fault.{Place, Endless, Outcome, ◌>>=◌, fault}
+use Rattle.tla_core.specs.Fault.{Place, NotEnumerable, Outcome, ◌>>=◌, fault}
 use Rattle.tla_core.specs.Expr.{Kind, Naturals, Integers, Strings}
 use Rattle.tla_core.specs.Kinds.{items}
 use Rattle.tla_core.specs.Lists.{all_hold}
@@ -36,7 +36,7 @@ abbrev pub means-kind_set : Place → Kind → Meaning
 means-kind_set p k = record {
   place = p;
   primed = false;
-  value = λ b s t. fault Endless p;
+  value = λ b s t. fault NotEnumerable p;
   has = λ v b s t. Ok (is_of_kind k v);
 }
 
@@ -62,6 +62,6 @@ abbrev pub means-sequences : Place → Meaning → Meaning
 means-sequences p a = record {
   place = p;
   primed = a.primed;
-  value = λ b s t. fault Endless p;
+  value = λ b s t. fault NotEnumerable p;
   has = λ v b s t. if_some (items v) (all_hold (λ x. a.has x b s t));
 }

@@ -149,9 +149,9 @@ pub enum Core {
     /// `{x \in S : p}`: the set, and the body.
     Filter(Place, Box<Core>, Box<Core>),
     /// Elements that are opened, and the body, in which their items are the next bound names.
-    Opened(Place, Vec<Opening>, Box<Core>),
+    Destructure(Place, Vec<Opening>, Box<Core>),
     /// A set whose elements must be sequences of this many items.
-    Tried(Place, usize, Box<Core>),
+    CheckPattern(Place, usize, Box<Core>),
     /// An expression that is made of constants alone, with its value.
     Literal(Literal),
 }
@@ -211,8 +211,8 @@ impl Core {
             Core::Cap(place, _, _) => place,
             Core::Minus(place, _, _) => place,
             Core::Filter(place, _, _) => place,
-            Core::Opened(place, _, _) => place,
-            Core::Tried(place, _, _) => place,
+            Core::Destructure(place, _, _) => place,
+            Core::CheckPattern(place, _, _) => place,
             Core::Literal(literal) => literal.lent_place(),
         }
     }

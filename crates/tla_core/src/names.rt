@@ -134,11 +134,11 @@ fn fits_within(core: &Core, names: Option<usize>, variables: usize, now: bool) -
         Core::Records(_, fields) => fields_fit(fields, names, variables, now),
         Core::Product(_, parts) => all_fit(parts, names, variables, now),
         Core::Disjunction(_, parts) => all_fit(parts, names, variables, now),
-        Core::Opened(_, openings, body) => {
+        Core::Destructure(_, openings, body) => {
             are_bound(openings, names)
                 && fits_within(body, with_items(openings, names), variables, now)
         }
-        Core::Tried(_, _, set) => fits_within(set, names, variables, now),
+        Core::CheckPattern(_, _, set) => fits_within(set, names, variables, now),
         Core::Literal(_) => true,
     }
 }

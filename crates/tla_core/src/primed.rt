@@ -71,8 +71,8 @@ fn has_next(core: &Core) -> bool
         Core::Records(_, fields) => fields_have_next(fields),
         Core::Product(_, parts) => some_has_next(parts),
         Core::Disjunction(_, parts) => some_has_next(parts),
-        Core::Opened(_, _, body) => has_next(body),
-        Core::Tried(_, _, set) => has_next(set),
+        Core::Destructure(_, _, body) => has_next(body),
+        Core::CheckPattern(_, _, set) => has_next(set),
         Core::Literal(_) => false,
     }
 }

@@ -2,7 +2,7 @@
 use Rattle.std.proofs.Common.{◌≡◌, ℕ, pos, negsuc, true, false, [], ◌∷◌, refl, None, Ok}
 use Rattle.tla_value.specs.Tree.{Tree, truth, int, text, set, fun, trees, pairs}
 use Rattle.tla_core.specs.declared.fault.Place.{Place}
-use Rattle.tla_core.specs.declared.fault.FaultCode.TheVariants.{WrongKind, Overflow, OutsideDomain, NoChoice, NoArm, Endless, NotSet, SmallDivisor, EmptySequence, NoField}
+use Rattle.tla_core.specs.declared.fault.FaultCode.TheVariants.{WrongKind, Overflow, OutsideDomain, NoChoice, NoArm, NotEnumerable, NotSet, SmallDivisor, EmptySequence, NoField}
 use Rattle.tla_core.specs.Fault.{Outcome, fault}
 use Rattle.tla_core.specs.Expr.{Not, Negate, Union, Field, Head, Cardinality, Unequal, Add, Subtract, Divide, Modulo, Power, GreaterThan, Range, Apply, Naturals, Integers, Expr, constant, bound, next, unary, binary, equal, sub_seq, enumerated, tuple, record_of, conjunction, disjunction, conditional, cases, assert, for_all, for_some, choose, image, function, except, member, subset, kind_set, sequences, power, functions, records, product, cup, filtered, opened, tried, no_exprs, more_exprs, no_fields, more_fields, no_arms, more_arms, no_updates, more_updates}
 use Rattle.tla_value.specs.Choices.{sequence}
@@ -83,7 +83,7 @@ subset-naturals : run (subset p (enumerated p (more_exprs (n 1) no_exprs)) (kind
 subset-naturals = refl
 
 -- Nat \subseteq Int
-subset-endless : run (subset p (kind_set p Naturals) (kind_set p Integers)) ≡ fault Endless p
+subset-endless : run (subset p (kind_set p Naturals) (kind_set p Integers)) ≡ fault NotEnumerable p
 subset-endless = refl
 
 -- 1 \in {v \in Nat : v = 1}
@@ -91,7 +91,7 @@ member-filtered : run (member p (n 1) (filtered p (kind_set p Naturals) (equal p
 member-filtered = refl
 
 -- {v \in Nat : v = 1}
-filtered-endless : run (filtered p (kind_set p Naturals) (equal p (bound p 0) (n 1))) ≡ fault Endless p
+filtered-endless : run (filtered p (kind_set p Naturals) (equal p (bound p 0) (n 1))) ≡ fault NotEnumerable p
 filtered-endless = refl
 
 -- [[a |-> 0] EXCEPT !.a = 1, !.a = @ + 1].a
@@ -211,7 +211,7 @@ subset-empty : run (subset p (enumerated p no_exprs) (n 5)) ≡ Ok (truth true)
 subset-empty = refl
 
 -- {2} \cup Nat
-cup-endless : run (cup p (only 2) (kind_set (at 5) Naturals)) ≡ fault Endless (at 5)
+cup-endless : run (cup p (only 2) (kind_set (at 5) Naturals)) ≡ fault NotEnumerable (at 5)
 cup-endless = refl
 
 -- {1 : x \in 5, y \in 1 \div 0}: the sets are evaluated first
@@ -219,7 +219,7 @@ image-sets : run (image p (more_exprs (n 5) (more_exprs one_by_zero no_exprs)) (
 image-sets = refl
 
 -- {Seq(Nat)}: the fault is that of Seq
-sequences-endless : run (enumerated p (more_exprs (sequences (at 4) (kind_set (at 5) Naturals)) no_exprs)) ≡ fault Endless (at 4)
+sequences-endless : run (enumerated p (more_exprs (sequences (at 4) (kind_set (at 5) Naturals)) no_exprs)) ≡ fault NotEnumerable (at 4)
 sequences-endless = refl
 
 -- 1 \in [1 \div 0 -> Nat]: the set is not evaluated
@@ -294,7 +294,7 @@ pattern-image = refl
 pattern-image_longer : run (image p (more_exprs (tried p 2 (alone three)) (more_exprs one_by_zero no_exprs)) (under_two_names (n 1))) ≡ fault WrongKind p
 pattern-image_longer = refl
 
--- {1 : <<a, b>> \in 5, y \in 1 \div 0}: that 5 is no set is told after all sets
+-- {1 : <<a, b>> \in 5, y \in 1 \div 0}: the fault that 5 is no set comes after those of all sets
 pattern-image_sets : run (image p (more_exprs (tried p 2 (n 5)) (more_exprs one_by_zero no_exprs)) (under_two_names (n 1))) ≡ fault SmallDivisor (at 7)
 pattern-image_sets = refl
 

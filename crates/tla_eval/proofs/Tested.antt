@@ -131,7 +131,7 @@ module _ (test : Tree → Outcome Bool) (xs : List Tree) (i : ℕ) where
   pub least_end : (p : Place) → length xs ≤ i → first_passing p test (drop i xs) ≡ fault NoChoice p
   least_end p h = ap (first_passing p test) (past h)
 
-  -- those that are TRUE, behind those that are kept
+  -- those that are TRUE, after those that are kept
   pub kept_more : (old new : List Tree) (b : Bool) → tested test (slice_get xs i) ≡ Ok (Some b) → new ≡ cond b (old ++ option_to_list (slice_get xs i)) old
       → (passing test (drop i xs) >>= λ ys. Ok (old ++ ys)) ≡ (passing test (drop (i + 1) xs) >>= λ ys. Ok (new ++ ys))
   kept_more old new b h e =

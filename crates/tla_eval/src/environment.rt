@@ -10,7 +10,7 @@ use crate::partial::Partial;
 use std::alloc::Global;
 use tla_core::{FaultCode, Place};
 use tla_operators::evaluated::Evaluated;
-use tla_operators::trouble::{Trouble, fault_at};
+use tla_operators::fault_ref::{FaultRef, fault_at};
 use tla_value::{State, Value};
 
 /// The values of the bound names: those of the caller, and then those of each form that binds, one or several at once.
@@ -89,7 +89,7 @@ pub(crate) fn next_value<'p, 'a>(
     place: &'p Place,
     next: &'a Partial,
     variable: usize,
-) -> Result<Evaluated<'a>, Trouble<'p>>
+) -> Result<Evaluated<'a>, FaultRef<'p>>
     ensures { Evaluates result (if_set place.now (slice_get next.now variable)) }
 {
     if variable < next.variables() {

@@ -10,8 +10,8 @@ ghost use Rattle.tla_eval.specs.Private.Parts.{nothing_of};
 use crate::environment::{Frame, bound_value};
 use std::alloc::Global;
 use tla_core::{Fault, FaultCode, Opening, Place};
+use tla_operators::fault_ref::{FaultRef, fault_at};
 use tla_operators::sequences::{add_items, sequence_items};
-use tla_operators::trouble::{Trouble, fault_at};
 use tla_value::Value;
 
 /// The items of an element that is a sequence of `count` items. Any other element is a fault of the form at the place.
@@ -19,7 +19,7 @@ fn fitting<'p, 'a>(
     place: &'p Place,
     count: usize,
     element: &'a Value,
-) -> Result<&'a [Value], Trouble<'p>>
+) -> Result<&'a [Value], FaultRef<'p>>
     ensures { GivesBy (λ vs. map tree_of vs.now) result
         (fitting place.now count (tree_of element.now)) }
 {
@@ -41,7 +41,7 @@ pub(crate) fn open_items<'p, 'a>(
     place: &'p Place,
     openings: &[Opening],
     frame: &'a Frame<'a>,
-) -> Result<Vec<Value>, Trouble<'p>>
+) -> Result<Vec<Value>, FaultRef<'p>>
     ensures { GivesBy (λ v. map tree_of v.items) result
         (opened_items place.now openings.now (bound_of frame.entry.now)) }
 {
@@ -70,7 +70,7 @@ pub fn opened(
 }
 
 /// Checks each of these elements against a pattern.
-fn try_all<'p>(place: &'p Place, count: usize, elements: &[Value]) -> Result<(), Trouble<'p>>
+fn try_all<'p>(place: &'p Place, count: usize, elements: &[Value]) -> Result<(), FaultRef<'p>>
     ensures { GivesBy (λ u. u) result
         (nothing_of (each (fitting place.now count) (map tree_of elements.now))) }
 {
@@ -81,7 +81,7 @@ fn try_all<'p>(place: &'p Place, count: usize, elements: &[Value]) -> Result<(),
 }
 
 /// Checks each element of a value that is a set against a pattern.
-pub(crate) fn try_set<'p>(place: &'p Place, count: usize, value: &Value) -> Result<(), Trouble<'p>>
+pub(crate) fn try_set<'p>(place: &'p Place, count: usize, value: &Value) -> Result<(), FaultRef<'p>>
     ensures { GivesBy (λ u. tree_of value.now) result
         (tried_set place.now count (tree_of value.now)) }
 {

@@ -1,4 +1,4 @@
--- Entries that are given back behind a scope.
+-- Entries that are given back after a scope.
 use Rattle.std.proofs.Common.{◌≡◌, ◌≤◌, ℕ, zero, suc, ◌+◌, List, [], ◌∷◌, ◌++◌, length, take, drop, refl, ap, sym, ◌∙◌, arith, subst}
 use Rattle.std.proofs.lemmas.List.{length-take-le, take-append-drop}
 use Rattle.tla_expand.specs.declared.arena.Entry.{Entry}

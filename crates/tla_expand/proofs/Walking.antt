@@ -351,7 +351,7 @@ module _ (whole : Option Expr) (es : List Entry) (left : List Visit) (gone : Lis
       }
 
   module _ (o : Option Expr) (w : IsWalkTo whole es left gone met o) where
-    -- an entry is to be noted behind what is looked at
+    -- an entry is to be noted after what is looked at
     pub put_end : (g : Gone) → g.entry < length es → ((m : ℕ → Bool) → IsMet m o → IsGone m es g) → IsWalkTo whole es (left ++ End g ∷ []) gone met o
     put_end g b f =
         let last : List Visit = End g ∷ [] in

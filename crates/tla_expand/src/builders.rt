@@ -278,7 +278,7 @@ pub(crate) fn opened_core(
 fn opened(place: Place, openings: Vec<Opening>, body: Box<Core>) -> Core
     ensures { expr_of result ≡ expr.opened place openings.items (expr_of body.value) }
 {
-    Core::Opened(place, openings, body)
+    Core::Destructure(place, openings, body)
 }
 
 /// A set whose elements must be sequences of `count` items. The only error is that memory ran out.
@@ -292,7 +292,7 @@ pub(crate) fn tried_core(
     ensures err { IfErr result (λ e. e ≡ Failure.Memory) }
 {
     let set = boxed(alloc, set)?;
-    Ok(Core::Tried(place, count, set))
+    Ok(Core::CheckPattern(place, count, set))
 }
 
 /// A product of a first operand and others. The only error is that memory ran out.

@@ -19,7 +19,7 @@ ghost use Rattle.tla_expand.specs.Listed.{listed};
 
 use crate::builders::{self, place_of};
 use crate::entries::Entries;
-use crate::expand::{NODES_BELOW, PATH_BELOW, Setting, expand};
+use crate::expand::{ExpandContext, NODES_BELOW, PATH_BELOW, expand};
 use crate::expanded::Many;
 use crate::failure::Failure;
 use crate::primes::Primes;
@@ -35,7 +35,7 @@ fn each_apart<'a>(
     trees: &[&'a Expr],
     scope: usize,
     primes: Primes,
-    sought: Option<Primes>,
+    reported: Option<Primes>,
 ) -> Result<Many, Failure>
     requires linked { AreLinked (listed entries.old) }
     requires scope { scope ≤ length (listed entries.old) }
@@ -45,13 +45,13 @@ fn each_apart<'a>(
     let mut parts = Vec::new(alloc);
     let mut left = NODES_BELOW;
     for i in 0..trees.len() {
-        let at = Setting {
+        let at = ExpandContext {
             scope,
             primes,
             bound: 0,
             room: PATH_BELOW,
             left,
-            sought,
+            reported,
         };
         let part = expand(alloc, entries, trees[i], at)?;
         left = part.left;
@@ -68,7 +68,7 @@ pub(crate) fn conjunction<'a>(
     trees: &[&'a Expr],
     scope: usize,
     primes: Primes,
-    sought: Option<Primes>,
+    reported: Option<Primes>,
 ) -> Result<Core, Failure>
     requires linked { AreLinked (listed entries.old) }
     requires scope { scope ≤ length (listed entries.old) }
@@ -101,6 +101,6 @@ pub(crate) fn conjunction<'a>(
         → IsWithinLimits e
         → ⊥) }
 {
-    let many = each_apart(alloc, entries, trees, scope, primes, sought)?;
+    let many = each_apart(alloc, entries, trees, scope, primes, reported)?;
     Ok(builders::conjunction(place_of(place), many.parts))
 }

@@ -38,7 +38,7 @@ use crate::nodes::{
 use crate::parts::boxed;
 use crate::primes::Primes;
 use crate::uses::find_head;
-use binding::{bound_one, bound_several, gather_node};
+use binding::{Under, bound_one, bound_several, gather_node};
 use levels::{node_behind, unchanged_node};
 use lists::{arms_of, each, key, named_parts};
 use std::alloc::Global;
@@ -56,7 +56,7 @@ pub(crate) const NODES_BELOW: usize = MAX_NODES - 1;
 
 /// The context of an expression, and how large its expansion may be.
 #[derive(Clone, Copy)]
-pub(crate) struct Setting {
+pub(crate) struct ExpandContext {
     /// The scope of its names.
     pub(crate) scope: usize,
     /// The primes on it.
@@ -69,19 +69,19 @@ pub(crate) struct Setting {
     pub(crate) left: usize,
     /// Some if operands are also examined without more primes, to report the first refusal: the primes on the whole
     /// expression.
-    pub(crate) sought: Option<Primes>,
+    pub(crate) reported: Option<Primes>,
 }
 
-impl Setting {
-    /// The setting of the parts of a node, which itself is one node, on each path, too.
+impl ExpandContext {
+    /// The context of a node's operands: one node less, in all and on each path.
     #[tactic(auto, using(crate::proofs::Sizes::some_node, crate::proofs::Sizes::some_depth))]
-    fn inside(self) -> Result<Setting, Failure>
+    fn inside(self) -> Result<ExpandContext, Failure>
         ensures scope { IfOk result (λ s. s.scope ≡ self.scope) }
         ensures primes { IfOk result (λ s. s.primes ≡ self.primes) }
         ensures bound { IfOk result (λ s. s.bound ≡ self.bound) }
         ensures room { IfOk result (λ s. s.room + 1 ≡ self.room) }
         ensures left { IfOk result (λ s. s.left + 1 ≡ self.left) }
-        ensures sought { IfOk result (λ s. s.sought ≡ self.sought) }
+        ensures reported { IfOk result (λ s. s.reported ≡ self.reported) }
         ensures err { IfErr result (λ f. f ≡ Failure.TooLarge) }
         // There is no node at all within such limits.
         ensures none { IfErr result (λ f. (o : Option expr.Expr) → Fails self.room self.left f o) }
@@ -89,7 +89,7 @@ impl Setting {
         if self.room == 0 || self.left == 0 {
             return Err(Failure::TooLarge);
         }
-        Ok(Setting {
+        Ok(ExpandContext {
             room: self.room - 1,
             left: self.left - 1,
             ..self
@@ -137,7 +137,7 @@ pub(crate) fn expand<'a>(
     alloc: Global,
     entries: &mut Entries<'_, 'a>,
     tree: &'a Expr,
-    at: Setting,
+    at: ExpandContext,
 ) -> Result<Expanded, Failure>
     requires linked { AreLinked (listed entries.old) }
     requires scope { at.scope ≤ length (listed entries.old) }
@@ -149,7 +149,7 @@ pub(crate) fn expand<'a>(
     let inside = at.inside()?;
     let mark = entries.len();
     let found = find_head(entries, tree, at.scope, at.primes)?;
-    let inside = Setting {
+    let inside = ExpandContext {
         scope: found.scope,
         primes: found.primes,
         ..inside
@@ -159,13 +159,13 @@ pub(crate) fn expand<'a>(
     Ok(made)
 }
 
-/// The node of a form. The limits of the setting are those of its parts.
+/// The node of a form. The limits in the context are those of its operands.
 #[cycle(expand)]
 pub(crate) fn node_of<'a>(
     alloc: Global,
     entries: &mut Entries<'_, 'a>,
     form: Form<'a>,
-    at: Setting,
+    at: ExpandContext,
 ) -> Result<Expanded, Failure>
     requires linked { AreLinked (listed entries.old) }
     requires scope { at.scope ≤ length (listed entries.old) }
@@ -180,7 +180,14 @@ pub(crate) fn node_of<'a>(
         Form::Variable(place, index) => variable_of(place, index, at.primes, at.left),
         Form::One(place, node, part) => one_node(alloc, entries, place, node, part, at),
         Form::Two(place, node, a, b) => two_node(alloc, entries, place, node, a, b, at),
-        Form::Three(place, node, a, b, c) => three_node(alloc, entries, place, node, a, b, c, at),
+        Form::Three(place, node, first, second, third) => {
+            let operands = Operands {
+                first,
+                second,
+                third,
+            };
+            three_node(alloc, entries, place, node, operands, at)
+        }
         Form::Many(place, node, items) => {
             many_node(alloc, entries, place, node, items.as_slice(), at)
         }
@@ -213,7 +220,13 @@ pub(crate) fn node_of<'a>(
             gather_node(alloc, entries, place, node, groups.as_slice(), body, at)
         }
         Form::Binds(place, node, pattern, set, body) => {
-            bound_one(alloc, entries, place, node, pattern, set, body, at)
+            let under = Under {
+                place,
+                node,
+                home: at.scope,
+                body,
+            };
+            bound_one(alloc, entries, under, pattern, set, at)
         }
     }
 }
@@ -227,7 +240,7 @@ fn use_node<'a>(
     place: Place,
     builtin: Builtin,
     arguments: &'a [Expr],
-    at: Setting,
+    at: ExpandContext,
 ) -> Result<Expanded, Failure>
     requires linked { AreLinked (listed entries.old) }
     requires scope { at.scope ≤ length (listed entries.old) }
@@ -257,7 +270,12 @@ fn use_node<'a>(
         },
         Builtin::Three(node) => match arguments {
             [first, second, third] => {
-                three_node(alloc, entries, place, node, first, second, third, at)
+                let operands = Operands {
+                    first,
+                    second,
+                    third,
+                };
+                three_node(alloc, entries, place, node, operands, at)
             }
             _ => Err(Failure::NoExpansion(place)),
         },
@@ -273,7 +291,7 @@ fn one_node<'a>(
     place: Place,
     node: UnaryNode<'a>,
     part: &'a Expr,
-    at: Setting,
+    at: ExpandContext,
 ) -> Result<Expanded, Failure>
     requires linked { AreLinked (listed entries.old) }
     requires scope { at.scope ≤ length (listed entries.old) }
@@ -301,7 +319,7 @@ fn two_node<'a>(
     node: BinaryNode,
     first: &'a Expr,
     second: &'a Expr,
-    at: Setting,
+    at: ExpandContext,
 ) -> Result<Expanded, Failure>
     requires linked { AreLinked (listed entries.old) }
     requires scope { at.scope ≤ length (listed entries.old) }
@@ -320,6 +338,14 @@ fn two_node<'a>(
     })
 }
 
+/// The operands of a node of three parts.
+#[derive(Clone, Copy)]
+struct Operands<'a> {
+    first: &'a Expr,
+    second: &'a Expr,
+    third: &'a Expr,
+}
+
 /// A node of three parts.
 #[cycle(expand)]
 #[inline(never)]
@@ -328,10 +354,8 @@ fn three_node<'a>(
     entries: &mut Entries<'_, 'a>,
     place: Place,
     node: TernaryNode,
-    first: &'a Expr,
-    second: &'a Expr,
-    third: &'a Expr,
-    at: Setting,
+    operands: Operands<'a>,
+    at: ExpandContext,
 ) -> Result<Expanded, Failure>
     requires linked { AreLinked (listed entries.old) }
     requires scope { at.scope ≤ length (listed entries.old) }
@@ -341,14 +365,22 @@ fn three_node<'a>(
         (made (λ t. nodes.three node place t.0.0 t.0.1 t.1)
         (both
         (both
-        (part_in at.primes (scope_at (listed entries.old) at.scope) at.bound first.now)
-        (part_in at.primes (scope_at (listed entries.old) at.scope) at.bound second.now))
-        (part_in at.primes (scope_at (listed entries.old) at.scope) at.bound third.now))) }
+        (part_in at.primes (scope_at (listed entries.old) at.scope) at.bound
+        operands.entry.first.now)
+        (part_in at.primes (scope_at (listed entries.old) at.scope) at.bound
+        operands.entry.second.now))
+        (part_in at.primes (scope_at (listed entries.old) at.scope) at.bound
+        operands.entry.third.now))) }
 {
+    let Operands {
+        first,
+        second,
+        third,
+    } = operands;
     let two = two_parts(alloc, entries, first, second, at.primes, at)?;
     let left = two.left;
     let second = boxed(alloc, two.second)?;
-    let third = expand(alloc, entries, third, Setting { left, ..at })?;
+    let third = expand(alloc, entries, third, ExpandContext { left, ..at })?;
     let core = three_core(alloc, place, node, two.first, second, third.core)?;
     Ok(Expanded {
         core,
@@ -365,7 +397,7 @@ fn many_node<'a>(
     place: Place,
     node: ListNode,
     items: &'a [Expr],
-    at: Setting,
+    at: ExpandContext,
 ) -> Result<Expanded, Failure>
     requires linked { AreLinked (listed entries.old) }
     requires scope { at.scope ≤ length (listed entries.old) }
@@ -393,7 +425,7 @@ fn index_node<'a>(
     place: Place,
     function: &'a Expr,
     items: &'a [Expr],
-    at: Setting,
+    at: ExpandContext,
 ) -> Result<Expanded, Failure>
     requires linked { AreLinked (listed entries.old) }
     requires scope { at.scope ≤ length (listed entries.old) }
@@ -408,7 +440,7 @@ fn index_node<'a>(
     let function = expand(alloc, entries, function, at)?;
     let left = function.left;
     let function = boxed(alloc, function.core)?;
-    let key = key(alloc, entries, place, items, Setting { left, ..at })?;
+    let key = key(alloc, entries, place, items, ExpandContext { left, ..at })?;
     let core = two_core(alloc, place, BinaryNode::Apply, function, key.core)?;
     Ok(Expanded {
         core,
@@ -424,7 +456,7 @@ fn cases_node<'a>(
     entries: &mut Entries<'_, 'a>,
     place: Place,
     arms: &'a [Arm],
-    at: Setting,
+    at: ExpandContext,
 ) -> Result<Expanded, Failure>
     requires linked { AreLinked (listed entries.old) }
     requires scope { at.scope ≤ length (listed entries.old) }
@@ -451,7 +483,7 @@ fn cases_or_node<'a>(
     place: Place,
     arms: &'a [Arm],
     last: &'a Expr,
-    at: Setting,
+    at: ExpandContext,
 ) -> Result<Expanded, Failure>
     requires linked { AreLinked (listed entries.old) }
     requires scope { at.scope ≤ length (listed entries.old) }
@@ -466,7 +498,7 @@ fn cases_or_node<'a>(
 {
     let made = arms_of(alloc, entries, arms, at)?;
     let left = made.left;
-    let last = expand(alloc, entries, last, Setting { left, ..at })?;
+    let last = expand(alloc, entries, last, ExpandContext { left, ..at })?;
     let core = cases_or_core(alloc, place, made.arms, last.core)?;
     Ok(Expanded {
         core,
@@ -483,7 +515,7 @@ fn product_node<'a>(
     place: Place,
     first: &'a Expr,
     others: &'a [Expr],
-    at: Setting,
+    at: ExpandContext,
 ) -> Result<Expanded, Failure>
     requires linked { AreLinked (listed entries.old) }
     requires scope { at.scope ≤ length (listed entries.old) }
@@ -498,7 +530,7 @@ fn product_node<'a>(
     let first = expand(alloc, entries, first, at)?;
     let left = first.left;
     let first = boxed(alloc, first.core)?;
-    let others = each(alloc, entries, others, Setting { left, ..at })?;
+    let others = each(alloc, entries, others, ExpandContext { left, ..at })?;
     let core = product_core(place, first, others.parts)?;
     Ok(Expanded {
         core,
@@ -515,7 +547,7 @@ fn fields_node<'a>(
     place: Place,
     node: Fielded,
     fields: &'a [Field],
-    at: Setting,
+    at: ExpandContext,
 ) -> Result<Expanded, Failure>
     requires linked { AreLinked (listed entries.old) }
     requires scope { at.scope ≤ length (listed entries.old) }
@@ -542,7 +574,7 @@ fn two_parts<'a>(
     first: &'a Expr,
     second: &'a Expr,
     primes: Primes,
-    at: Setting,
+    at: ExpandContext,
 ) -> Result<Pair, Failure>
     requires linked { AreLinked (listed entries.old) }
     requires scope { at.scope ≤ length (listed entries.old) }
@@ -552,10 +584,10 @@ fn two_parts<'a>(
         (both (part_in primes (scope_at (listed entries.old) at.scope) at.bound first.now)
         (part_in at.primes (scope_at (listed entries.old) at.scope) at.bound second.now)) }
 {
-    let first = expand(alloc, entries, first, Setting { primes, ..at })?;
+    let first = expand(alloc, entries, first, ExpandContext { primes, ..at })?;
     let left = first.left;
     let first = boxed(alloc, first.core)?;
-    let second = expand(alloc, entries, second, Setting { left, ..at })?;
+    let second = expand(alloc, entries, second, ExpandContext { left, ..at })?;
     Ok(Pair {
         first,
         second: second.core,
@@ -570,7 +602,7 @@ pub(crate) fn expansion<'a>(
     tree: &'a Expr,
     scope: usize,
     primes: Primes,
-    sought: Option<Primes>,
+    reported: Option<Primes>,
 ) -> Result<Core, Failure>
     requires linked { AreLinked (listed entries.old) }
     requires scope { scope ≤ length (listed entries.old) }
@@ -594,13 +626,13 @@ pub(crate) fn expansion<'a>(
         → IsWithinLimits e
         → ⊥) }
 {
-    let at = Setting {
+    let at = ExpandContext {
         scope,
         primes,
         bound: 0,
         room: MAX_PATH,
         left: MAX_NODES,
-        sought,
+        reported,
     };
     let made = expand(alloc, entries, tree, at)?;
     Ok(made.core)

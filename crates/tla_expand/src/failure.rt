@@ -7,10 +7,10 @@ use tla_core::Place;
 /// Why an expression has no expansion within the limits.
 #[derive(Clone, Copy, Debug)]
 pub enum Failure {
-    /// It has none at all: an unknown name, another number of arguments, a prime on a variable's next value, a temporal
-    /// operator, or a form that has none yet; and where that is.
+    /// It has none at all, because of what is at this place: an unknown name, another number of arguments, a prime on a
+    /// variable's next value, a temporal operator, or an unsupported form.
     NoExpansion(Place),
-    /// There is none with this few nodes, or this few on a path; or a number in it is above 64 bits.
+    /// It would have too many nodes, in all or on a path, or a number above 64 bits.
     TooLarge,
     Memory,
 }

@@ -69,7 +69,7 @@ pub(crate) enum Turn<'a> {
 }
 
 /// How many LETs and names of LETs may be entered at once.
-const DEPTH: usize = 1000;
+const MAX_DEPTH: usize = 1000;
 
 /// These primes, and `more` of them.
 pub(crate) fn with_more(primes: Primes, more: Primes) -> Primes
@@ -149,7 +149,7 @@ fn argument(round: &Known<'_>, index: usize) -> Summary
 }
 
 /// What is known of a name, unless it is one from outside.
-fn sought(known: &Known<'_>, name: &[u8]) -> Option<Summary>
+fn summary_of(known: &Known<'_>, name: &[u8]) -> Option<Summary>
     ensures { IsFound name.now known.now result }
 {
     let mut at = known;
@@ -186,12 +186,17 @@ fn entered(entries: &Entries<'_, '_>, scope: usize, name: &[u8]) -> Option<(usiz
 }
 
 /// What is known of a name, wherever it is from.
-fn name_means(entries: &Entries<'_, '_>, scope: usize, known: &Known<'_>, name: &[u8]) -> Summary
+fn summary_of_name(
+    entries: &Entries<'_, '_>,
+    scope: usize,
+    known: &Known<'_>,
+    name: &[u8],
+) -> Summary
     requires linked { AreLinked (listed entries.now) }
     requires within { scope ≤ length (listed entries.now) }
     ensures { IsGiven (scope_at (listed entries.now) scope) known.now name.now result }
 {
-    match sought(known, name) {
+    match summary_of(known, name) {
         Some(summary) => summary,
         None => match entered(entries, scope, name) {
             Some((count, given)) => Summary::Gives(count, given),
@@ -225,7 +230,7 @@ fn used<'a>(
     ensures { IsUse (view part.entry.tree.now) name.now arguments.now
         → IsTurn (scope_at (listed entries.now) scope) part.entry result }
 {
-    match name_means(entries, scope, part.known, name.word.as_bytes()) {
+    match summary_of_name(entries, scope, part.known, name.word.as_bytes()) {
         Summary::Gives(count, given) => match given_argument(arguments, count, given) {
             Some(tree) => {
                 let more = under(part, given);
@@ -435,7 +440,7 @@ pub(crate) fn gives(
     if parameters.len() == 0 {
         return None;
     }
-    match given_by(entries, scope, &Known::Outside, parameters, body, DEPTH) {
+    match given_by(entries, scope, &Known::Outside, parameters, body, MAX_DEPTH) {
         Some(reached) => {
             if reached.layer > 0 {
                 return None;

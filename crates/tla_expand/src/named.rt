@@ -13,7 +13,7 @@ ghost use Rattle.tla_expand.specs.Listed.{listed};
 
 use crate::builders::place_of;
 use crate::entries::Entries;
-use crate::expand::{NODES_BELOW, PATH_BELOW, Setting, expand, node_of};
+use crate::expand::{ExpandContext, NODES_BELOW, PATH_BELOW, expand, node_of};
 use crate::failure::Failure;
 use crate::primes::Primes;
 use crate::uses::{Reduction, use_of};
@@ -30,7 +30,7 @@ pub(crate) fn named_expansion<'a>(
     name: &Written,
     scope: usize,
     primes: Primes,
-    sought: Option<Primes>,
+    reported: Option<Primes>,
 ) -> Result<Core, Failure>
     requires linked { AreLinked (listed entries.old) }
     requires scope { scope ≤ length (listed entries.old) }
@@ -58,25 +58,25 @@ pub(crate) fn named_expansion<'a>(
     let word = name.word.as_bytes();
     match use_of(entries, at, word, &[], scope, primes)? {
         Reduction::Goes(tree, scope, primes) => {
-            let inside = Setting {
+            let inside = ExpandContext {
                 scope,
                 primes,
                 bound: 0,
                 room: MAX_PATH,
                 left: MAX_NODES,
-                sought,
+                reported,
             };
             let made = expand(alloc, entries, tree, inside)?;
             Ok(made.core)
         }
         Reduction::Ends(head) => {
-            let inside = Setting {
+            let inside = ExpandContext {
                 scope: head.scope,
                 primes: head.primes,
                 bound: 0,
                 room: PATH_BELOW,
                 left: NODES_BELOW,
-                sought,
+                reported,
             };
             let made = node_of(alloc, entries, head.form, inside)?;
             Ok(made.core)

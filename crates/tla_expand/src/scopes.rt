@@ -214,7 +214,7 @@ impl<'a> Scopes<'a> {
         alloc: Global,
         tree: &'a Expr,
         primes: Primes,
-        sought: Option<Primes>,
+        reported: Option<Primes>,
     ) -> Result<Core, Failure>
         ensures found { IfOk result (λ c.
             with_primes primes (expand (view tree.now) (scope_of self.now) 0)
@@ -232,7 +232,7 @@ impl<'a> Scopes<'a> {
             → ⊥) }
     {
         let mut entries = self.entries.lent(alloc);
-        expansion(alloc, &mut entries, tree, self.current, primes, sought)
+        expansion(alloc, &mut entries, tree, self.current, primes, reported)
     }
 
     /// The expansion of an expression under these names, with at most 200,000 nodes, and at most 300 on a path; or the
@@ -276,7 +276,7 @@ impl<'a> Scopes<'a> {
         alloc: Global,
         name: &Written,
         primes: Primes,
-        sought: Option<Primes>,
+        reported: Option<Primes>,
     ) -> Result<Core, Failure>
         ensures found { IfOk result (λ c.
             with_primes primes (expand (Name name.now) (scope_of self.now) 0)
@@ -294,7 +294,7 @@ impl<'a> Scopes<'a> {
             → ⊥) }
     {
         let mut entries = self.entries.lent(alloc);
-        named_expansion(alloc, &mut entries, name, self.current, primes, sought)
+        named_expansion(alloc, &mut entries, name, self.current, primes, reported)
     }
 
     /// The expansion of a name without arguments, within the same limits; or the first refusal.
@@ -337,7 +337,7 @@ impl<'a> Scopes<'a> {
         place: tla_lex::Place,
         trees: &[&'a Expr],
         primes: Primes,
-        sought: Option<Primes>,
+        reported: Option<Primes>,
     ) -> Result<Core, Failure>
         ensures found { IfOk result (λ c.
             with_primes primes
@@ -376,7 +376,7 @@ impl<'a> Scopes<'a> {
             trees,
             self.current,
             primes,
-            sought,
+            reported,
         )
     }
 

@@ -353,8 +353,7 @@ fn larger(first: usize, second: usize) -> usize
     if first < second { second } else { first }
 }
 
-/// Removes the entries that a call added, if it leads to one of its arguments: all entries after both this scope and
-/// the first `kept`.
+/// Drops the entries of a call that returns one of its arguments: all after this scope, and after the first `kept`.
 fn give_back<'a>(entries: &mut Entries<'_, 'a>, kept: usize, scope: usize)
     requires linked { AreLinked (listed entries.old) }
     requires kept { kept ≤ length (listed entries.old) }
@@ -372,7 +371,7 @@ fn give_back<'a>(entries: &mut Entries<'_, 'a>, kept: usize, scope: usize)
 }
 
 /// The place of the last prime, counting those on an argument that a use returns.
-fn last_given(
+fn last_argument_prime(
     entries: &Entries<'_, '_>,
     scope: usize,
     name: &[u8],
@@ -406,7 +405,7 @@ fn last_prime(
         Expr::Call(name, _) => match primes {
             Primes::Never => before,
             Primes::Once | Primes::Twice => {
-                last_given(entries, scope, name.word.as_bytes(), before)
+                last_argument_prime(entries, scope, name.word.as_bytes(), before)
             }
         },
         _ => before,

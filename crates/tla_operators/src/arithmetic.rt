@@ -7,13 +7,13 @@ ghost use Rattle.tla_core.specs.Kinds.{number};
 ghost use Rattle.tla_core.specs.Operators.{quotient, remainder, power_of};
 ghost use Rattle.tla_operators.specs.Gives.{Gives};
 
-use crate::trouble::{Trouble, fault_at};
+use crate::fault_ref::{FaultRef, fault_at};
 use tla_core::{FaultCode, Place};
 use tla_value::Value;
 
 /// The number that an operation gave, where it lies within 64 bits.
 #[tactic(auto, using(crate::proofs::Numbers::number_in_range, crate::proofs::Numbers::number_outside))]
-pub(crate) fn number(place: &Place, checked: Option<i64>) -> Result<Value, Trouble<'_>>
+pub(crate) fn number(place: &Place, checked: Option<i64>) -> Result<Value, FaultRef<'_>>
     ensures { (z : ℤ) → SomeIff checked (FitsSigned w64 z) z → Gives result (number place.now z) }
 {
     match checked {
@@ -22,32 +22,32 @@ pub(crate) fn number(place: &Place, checked: Option<i64>) -> Result<Value, Troub
     }
 }
 
-pub(crate) fn add(place: &Place, left: i64, right: i64) -> Result<Value, Trouble<'_>>
+pub(crate) fn add(place: &Place, left: i64, right: i64) -> Result<Value, FaultRef<'_>>
     ensures { Gives result (number place.now (left +ℤ right)) }
 {
     number(place, left.checked_add(right))
 }
 
-pub(crate) fn subtract(place: &Place, left: i64, right: i64) -> Result<Value, Trouble<'_>>
+pub(crate) fn subtract(place: &Place, left: i64, right: i64) -> Result<Value, FaultRef<'_>>
     ensures { Gives result (number place.now (left -ℤ right)) }
 {
     number(place, left.checked_sub(right))
 }
 
-pub(crate) fn multiply(place: &Place, left: i64, right: i64) -> Result<Value, Trouble<'_>>
+pub(crate) fn multiply(place: &Place, left: i64, right: i64) -> Result<Value, FaultRef<'_>>
     ensures { Gives result (number place.now (left *ℤ right)) }
 {
     number(place, left.checked_mul(right))
 }
 
-pub(crate) fn negate(place: &Place, operand: i64) -> Result<Value, Trouble<'_>>
+pub(crate) fn negate(place: &Place, operand: i64) -> Result<Value, FaultRef<'_>>
     ensures { Gives result (number place.now (neg_ℤ operand)) }
 {
     number(place, operand.checked_neg())
 }
 
 /// `\div`: rounded down, for a divisor above 0.
-pub(crate) fn divide(place: &Place, left: i64, right: i64) -> Result<Value, Trouble<'_>>
+pub(crate) fn divide(place: &Place, left: i64, right: i64) -> Result<Value, FaultRef<'_>>
     ensures { Gives result (quotient place.now left right) }
 {
     if right > 0 {
@@ -58,7 +58,7 @@ pub(crate) fn divide(place: &Place, left: i64, right: i64) -> Result<Value, Trou
 }
 
 /// `%`: not negative, for a divisor above 0.
-pub(crate) fn modulo(place: &Place, left: i64, right: i64) -> Result<Value, Trouble<'_>>
+pub(crate) fn modulo(place: &Place, left: i64, right: i64) -> Result<Value, FaultRef<'_>>
     ensures { Gives result (remainder place.now left right) }
 {
     if right > 0 {
@@ -68,7 +68,7 @@ pub(crate) fn modulo(place: &Place, left: i64, right: i64) -> Result<Value, Trou
     }
 }
 
-pub(crate) fn power(place: &Place, base: i64, exponent: i64) -> Result<Value, Trouble<'_>>
+pub(crate) fn power(place: &Place, base: i64, exponent: i64) -> Result<Value, FaultRef<'_>>
     ensures { Gives result (power_of place.now base exponent) }
 {
     if exponent < 0 {
@@ -77,7 +77,7 @@ pub(crate) fn power(place: &Place, base: i64, exponent: i64) -> Result<Value, Tr
     natural_power(place, base, exponent.unsigned_abs())
 }
 
-fn natural_power(place: &Place, base: i64, exponent: u64) -> Result<Value, Trouble<'_>>
+fn natural_power(place: &Place, base: i64, exponent: u64) -> Result<Value, FaultRef<'_>>
     ensures { Gives result (number place.now (int_pow base exponent)) }
 {
     match u32::try_from(exponent) {
@@ -87,7 +87,7 @@ fn natural_power(place: &Place, base: i64, exponent: u64) -> Result<Value, Troub
 }
 
 /// A power whose exponent is so large that only the powers of -1, 0 and 1 are within 64 bits.
-fn high_power(place: &Place, base: i64, exponent: u64) -> Result<Value, Trouble<'_>>
+fn high_power(place: &Place, base: i64, exponent: u64) -> Result<Value, FaultRef<'_>>
     requires { 64 ≤ exponent }
     ensures { Gives result (number place.now (int_pow base exponent)) }
 {

@@ -5,8 +5,8 @@ ghost use Rattle.tla_value.specs.TreeOf.{tree_of};
 ghost use Rattle.tla_operators.specs.Gives.{Gives};
 ghost use Rattle.tla_operators.specs.Evaluated.{tree_of_evaluated};
 
+use crate::fault_ref::FaultRef;
 use crate::rules::copied;
-use crate::trouble::Trouble;
 use std::alloc::Global;
 use tla_value::Value;
 
@@ -36,7 +36,7 @@ impl<'a> Evaluated<'a> {
     }
 
     /// The value, copied where it was borrowed.
-    pub fn into_value<'p>(self, alloc: Global) -> Result<Value, Trouble<'p>>
+    pub fn into_value<'p>(self, alloc: Global) -> Result<Value, FaultRef<'p>>
         ensures { Gives result (Ok (tree_of_evaluated self.entry)) }
     {
         match self {

@@ -11,16 +11,16 @@ ghost use Rattle.tla_operators.specs.Evaluated.{Evaluates, tree_of_evaluated};
 ghost use Rattle.tla_operators.specs.Gives.{Gives, GivesBy, GivesBorrowed};
 
 use crate::evaluated::Evaluated;
+use crate::fault_ref::{FaultRef, fault_at, memory};
 use crate::rules::{copied, copied_text};
 use crate::sets::refused;
-use crate::trouble::{Trouble, fault_at, memory};
 use std::alloc::Global;
 use tla_core::{FaultCode, Place};
 use tla_value::{FunValue, Text, Value, ValueError};
 
 /// The function that a call made, or the fault for the limit that it would pass.
 #[tactic(auto, using(crate::proofs::Made::fun_made, crate::proofs::Made::fun_refused))]
-pub fn made_fun(place: &Place, made: Result<FunValue, ValueError>) -> Result<Value, Trouble<'_>>
+pub fn made_fun(place: &Place, made: Result<FunValue, ValueError>) -> Result<Value, FaultRef<'_>>
     ensures { (ps : List (Tree × Tree))
         → MakesFun ps made
         → Gives result (rising_fun place.now ps) }
@@ -36,7 +36,7 @@ pub fn into_function<'p>(
     alloc: Global,
     place: &'p Place,
     value: Evaluated<'_>,
-) -> Result<FunValue, Trouble<'p>>
+) -> Result<FunValue, FaultRef<'p>>
     ensures { GivesBy (λ f. f) result (as_fun place.now (tree_of_evaluated value.entry)) }
 {
     match value {
@@ -51,7 +51,7 @@ fn copied_function<'p>(
     alloc: Global,
     place: &'p Place,
     value: &Value,
-) -> Result<FunValue, Trouble<'p>>
+) -> Result<FunValue, FaultRef<'p>>
     ensures { GivesBy (λ f. f) result (as_fun place.now (tree_of value.now)) }
 {
     match value {
@@ -65,7 +65,7 @@ fn copied_function<'p>(
 
 /// A value that is a function, by value.
 #[tactic(auto, using(crate::proofs::Known::as_fun_known))]
-fn owned_function(place: &Place, value: Value) -> Result<FunValue, Trouble<'_>>
+fn owned_function(place: &Place, value: Value) -> Result<FunValue, FaultRef<'_>>
     ensures { GivesBy (λ f. f) result (as_fun place.now (tree_of value)) }
 {
     match value {
@@ -91,7 +91,7 @@ pub fn apply<'p, 'a>(
     place: &'p Place,
     function: Evaluated<'a>,
     argument: &Value,
-) -> Result<Evaluated<'a>, Trouble<'p>>
+) -> Result<Evaluated<'a>, FaultRef<'p>>
     ensures { Evaluates result
         (binary_rule Apply place.now (tree_of_evaluated function.entry) (tree_of argument.now)) }
 {
@@ -112,7 +112,7 @@ fn value_at<'p, 'a>(
     place: &'p Place,
     function: &'a Value,
     argument: &Value,
-) -> Result<&'a Value, Trouble<'p>>
+) -> Result<&'a Value, FaultRef<'p>>
     ensures { GivesBorrowed result
         (binary_rule Apply place.now (tree_of function.now) (tree_of argument.now)) }
 {
@@ -131,7 +131,7 @@ pub fn field<'p, 'a>(
     place: &'p Place,
     name: &Text,
     base: Evaluated<'a>,
-) -> Result<Evaluated<'a>, Trouble<'p>>
+) -> Result<Evaluated<'a>, FaultRef<'p>>
     ensures { Evaluates result
         (unary_rule (Field name.now) place.now (tree_of_evaluated base.entry)) }
 {
@@ -151,7 +151,7 @@ fn field_at<'p, 'a>(
     place: &'p Place,
     name: &Text,
     base: &'a Value,
-) -> Result<&'a Value, Trouble<'p>>
+) -> Result<&'a Value, FaultRef<'p>>
     ensures { GivesBorrowed result (unary_rule (Field name.now) place.now (tree_of base.now)) }
 {
     match base {
@@ -171,7 +171,7 @@ fn found_field<'p, 'a>(
     alloc: Global,
     name: &Text,
     fun: &'a FunValue,
-) -> Result<Option<&'a Value>, Trouble<'p>>
+) -> Result<Option<&'a Value>, FaultRef<'p>>
     ensures ok { IfOk result (λ v.
         option_map (λ t. tree_of t.now) v ≡ value_at (text name.now) fun.now) }
     ensures err { IfErr result (λ f. f ≡ out_of_memory) }
@@ -189,7 +189,7 @@ pub(crate) fn domain<'p>(
     alloc: Global,
     place: &'p Place,
     function: &Value,
-) -> Result<Value, Trouble<'p>>
+) -> Result<Value, FaultRef<'p>>
     ensures { Gives result (unary_rule Domain place.now (tree_of function.now)) }
 {
     match function {
@@ -207,7 +207,7 @@ pub(crate) fn single<'p>(
     place: &'p Place,
     argument: &Value,
     value: &Value,
-) -> Result<Value, Trouble<'p>>
+) -> Result<Value, FaultRef<'p>>
     ensures { Gives result
         (binary_rule Single place.now (tree_of argument.now) (tree_of value.now)) }
 {
@@ -224,7 +224,7 @@ pub(crate) fn override_with<'p>(
     place: &'p Place,
     left: &Value,
     right: &Value,
-) -> Result<Value, Trouble<'p>>
+) -> Result<Value, FaultRef<'p>>
     ensures { Gives result (binary_rule Override place.now (tree_of left.now) (tree_of right.now)) }
 {
     match (left, right) {

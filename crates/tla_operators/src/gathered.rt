@@ -7,9 +7,9 @@ ghost use Rattle.tla_core.specs.Fault.{Outcome, out_of_memory};
 ghost use Rattle.tla_operators.specs.Gives.{Gives};
 ghost use Rattle.tla_operators.specs.Gathered.{most_held, IsHeld, IsGathered, Adds, Gathers, set_rule};
 
+use crate::fault_ref::FaultRef;
 use crate::rules::copied;
 use crate::sets::made_set;
-use crate::trouble::Trouble;
 use std::alloc::Global;
 use tla_core::Place;
 use tla_value::{MAX_ELEMENTS, SetValue, Value};
@@ -39,7 +39,7 @@ impl Gathered {
     }
 
     /// Adds a value.
-    pub fn add<'p>(&mut self, value: Value) -> Result<(), Trouble<'p>>
+    pub fn add<'p>(&mut self, value: Value) -> Result<(), FaultRef<'p>>
         ensures ok { OnOk result (Adds (tree_of value ∷ []) self.old self.new) }
         ensures err { IfErr result (λ f. f ≡ out_of_memory) }
     {
@@ -57,7 +57,7 @@ impl Gathered {
         &mut self,
         alloc: Global,
         values: &[Value],
-    ) -> Result<(), Trouble<'p>>
+    ) -> Result<(), FaultRef<'p>>
         ensures ok { OnOk result (Adds (map tree_of values.now) self.old self.new) }
         ensures err { IfErr result (λ f. f ≡ out_of_memory) }
     {
@@ -86,7 +86,7 @@ impl Gathered {
     }
 
     /// The set of the values.
-    pub fn into_set(self, alloc: Global, place: &Place) -> Result<Value, Trouble<'_>>
+    pub fn into_set(self, alloc: Global, place: &Place) -> Result<Value, FaultRef<'_>>
         ensures { (o : Outcome (List Tree))
             → Gathers (Ok self) o
             → Gives result (set_rule place.now o) }

@@ -3,10 +3,10 @@
 
 mod arithmetic;
 pub mod evaluated;
+pub mod fault_ref;
 pub mod functions;
 pub mod gathered;
 pub mod operators;
 pub mod rules;
 pub mod sequences;
 pub mod sets;
-pub mod trouble;

@@ -11,11 +11,11 @@ ghost use Rattle.tla_operators.specs.Gives.{Gives, GivesBy, two_ints};
 
 use crate::arithmetic::{add, divide, modulo, multiply, negate, power, subtract};
 use crate::evaluated::Evaluated;
+use crate::fault_ref::{FaultRef, fault_at};
 use crate::functions::{domain, override_with, single};
 use crate::rules::{as_truth, copied};
 use crate::sequences::{append, concat, first_item, head, length, tail};
 use crate::sets::{range, union_all};
-use crate::trouble::{Trouble, fault_at};
 use std::alloc::Global;
 use tla_core::{Binary, FaultCode, Kind, Place, Unary};
 use tla_value::{SetValue, Value};
@@ -26,7 +26,7 @@ pub fn unary<'p, 'a>(
     place: &'p Place,
     operator: Unary,
     operand: Evaluated<'a>,
-) -> Result<Evaluated<'a>, Trouble<'p>>
+) -> Result<Evaluated<'a>, FaultRef<'p>>
     ensures { Evaluates result
         (unary_rule (unary_of operator) place.now (tree_of_evaluated operand.entry)) }
 {
@@ -42,7 +42,7 @@ fn made_by_unary<'p>(
     place: &'p Place,
     operator: Unary,
     operand: &Value,
-) -> Result<Value, Trouble<'p>>
+) -> Result<Value, FaultRef<'p>>
     ensures { Gives result (unary_rule (unary_of operator) place.now (tree_of operand.now)) }
 {
     match operator {
@@ -59,7 +59,7 @@ fn made_by_unary<'p>(
 }
 
 /// The number that a value is.
-fn as_int<'p>(place: &'p Place, operand: &Value) -> Result<i64, Trouble<'p>>
+fn as_int<'p>(place: &'p Place, operand: &Value) -> Result<i64, FaultRef<'p>>
     ensures { GivesBy (λ (z : ℤ). z) result (as_int place.now (tree_of operand.now)) }
 {
     match operand {
@@ -68,7 +68,7 @@ fn as_int<'p>(place: &'p Place, operand: &Value) -> Result<i64, Trouble<'p>>
     }
 }
 
-fn is_finite<'p>(place: &'p Place, operand: &Value) -> Result<Value, Trouble<'p>>
+fn is_finite<'p>(place: &'p Place, operand: &Value) -> Result<Value, FaultRef<'p>>
     ensures { Gives result (unary_rule IsFinite place.now (tree_of operand.now)) }
 {
     match operand {
@@ -78,7 +78,7 @@ fn is_finite<'p>(place: &'p Place, operand: &Value) -> Result<Value, Trouble<'p>
 }
 
 #[tactic(auto, using(crate::proofs::Known::as_set_known))]
-fn cardinality<'p>(place: &'p Place, operand: &Value) -> Result<Value, Trouble<'p>>
+fn cardinality<'p>(place: &'p Place, operand: &Value) -> Result<Value, FaultRef<'p>>
     ensures { Gives result (unary_rule Cardinality place.now (tree_of operand.now)) }
 {
     match operand {
@@ -101,7 +101,7 @@ pub fn binary<'p>(
     operator: Binary,
     left: &Value,
     right: &Value,
-) -> Result<Value, Trouble<'p>>
+) -> Result<Value, FaultRef<'p>>
     ensures { Gives result
         (binary_rule (binary_of operator) place.now (tree_of left.now) (tree_of right.now)) }
 {
@@ -164,7 +164,7 @@ pub fn two_ints<'p>(
     place: &'p Place,
     left: &Value,
     right: &Value,
-) -> Result<(i64, i64), Trouble<'p>>
+) -> Result<(i64, i64), FaultRef<'p>>
     ensures { GivesBy (λ (n : ℤ × ℤ). n) result
         (two_ints place.now (tree_of left.now) (tree_of right.now)) }
 {
@@ -174,7 +174,7 @@ pub fn two_ints<'p>(
     }
 }
 
-fn iff<'p>(place: &'p Place, left: &Value, right: &Value) -> Result<Value, Trouble<'p>>
+fn iff<'p>(place: &'p Place, left: &Value, right: &Value) -> Result<Value, FaultRef<'p>>
     ensures { Gives result (binary_rule Iff place.now (tree_of left.now) (tree_of right.now)) }
 {
     match (left, right) {

@@ -12,10 +12,10 @@ ghost use Rattle.tla_operators.specs.Evaluated.{Evaluates, tree_of_evaluated};
 ghost use Rattle.tla_operators.specs.Gives.{Gives, GivesBy, GivesBorrowed};
 
 use crate::evaluated::Evaluated;
+use crate::fault_ref::{FaultRef, fault_at};
 use crate::functions::made_fun;
 use crate::operators::two_ints;
 use crate::rules::copied;
-use crate::trouble::{Trouble, fault_at};
 use std::alloc::Global;
 use tla_core::{FaultCode, Place};
 use tla_value::{FunValue, Value};
@@ -25,7 +25,7 @@ use tla_value::{FunValue, Value};
 pub(crate) fn items_of<'p, 'a>(
     place: &'p Place,
     sequence: &'a Value,
-) -> Result<&'a [Value], Trouble<'p>>
+) -> Result<&'a [Value], FaultRef<'p>>
     ensures value { GivesBy (λ vs. map tree_of vs.now) result
         (as_sequence place.now (tree_of sequence.now)) }
     ensures few { IfOk result (λ vs. length vs.now ≤ MAX_ELEMENTS) }
@@ -59,7 +59,7 @@ pub fn add_items<'p>(
     alloc: Global,
     items: &mut Vec<Value>,
     values: &[Value],
-) -> Result<(), Trouble<'p>>
+) -> Result<(), FaultRef<'p>>
     ensures ok { OnOk result
         (map tree_of items.new.items ≡ map tree_of items.old.items ++ map tree_of values.now) }
     ensures err { IfErr result (λ f. f ≡ out_of_memory) }
@@ -71,7 +71,7 @@ pub fn add_items<'p>(
 }
 
 /// The sequence of some values.
-pub fn sequence_of(alloc: Global, place: &Place, values: Vec<Value>) -> Result<Value, Trouble<'_>>
+pub fn sequence_of(alloc: Global, place: &Place, values: Vec<Value>) -> Result<Value, FaultRef<'_>>
     ensures { Gives result (make_sequence place.now (map tree_of values.items)) }
 {
     made_fun(place, FunValue::sequence(alloc, values))
@@ -84,7 +84,7 @@ fn part<'p>(
     items: &[Value],
     from: usize,
     to: usize,
-) -> Result<Value, Trouble<'p>>
+) -> Result<Value, FaultRef<'p>>
     requires within { to ≤ length items.now }
     requires order { from ≤ to }
     requires few { length items.now ≤ MAX_ELEMENTS }
@@ -97,7 +97,7 @@ fn part<'p>(
 }
 
 /// `Len`.
-pub(crate) fn length<'p>(place: &'p Place, sequence: &Value) -> Result<Value, Trouble<'p>>
+pub(crate) fn length<'p>(place: &'p Place, sequence: &Value) -> Result<Value, FaultRef<'p>>
     ensures { Gives result (unary_rule Len place.now (tree_of sequence.now)) }
 {
     let items = items_of(place, sequence)?;
@@ -109,7 +109,7 @@ pub(crate) fn head<'p, 'a>(
     alloc: Global,
     place: &'p Place,
     sequence: Evaluated<'a>,
-) -> Result<Evaluated<'a>, Trouble<'p>>
+) -> Result<Evaluated<'a>, FaultRef<'p>>
     ensures { Evaluates result (unary_rule Head place.now (tree_of_evaluated sequence.entry)) }
 {
     match sequence {
@@ -125,7 +125,7 @@ pub(crate) fn head<'p, 'a>(
 pub(crate) fn first_item<'p, 'a>(
     place: &'p Place,
     sequence: &'a Value,
-) -> Result<&'a Value, Trouble<'p>>
+) -> Result<&'a Value, FaultRef<'p>>
     ensures { GivesBorrowed result (unary_rule Head place.now (tree_of sequence.now)) }
 {
     let items = items_of(place, sequence)?;
@@ -140,7 +140,7 @@ pub(crate) fn tail<'p>(
     alloc: Global,
     place: &'p Place,
     sequence: &Value,
-) -> Result<Value, Trouble<'p>>
+) -> Result<Value, FaultRef<'p>>
     ensures { Gives result (unary_rule Tail place.now (tree_of sequence.now)) }
 {
     let items = items_of(place, sequence)?;
@@ -156,7 +156,7 @@ pub(crate) fn concat<'p>(
     place: &'p Place,
     left: &Value,
     right: &Value,
-) -> Result<Value, Trouble<'p>>
+) -> Result<Value, FaultRef<'p>>
     ensures { Gives result (binary_rule Concat place.now (tree_of left.now) (tree_of right.now)) }
 {
     let left = items_of(place, left)?;
@@ -173,7 +173,7 @@ pub(crate) fn append<'p>(
     place: &'p Place,
     sequence: &Value,
     item: &Value,
-) -> Result<Value, Trouble<'p>>
+) -> Result<Value, FaultRef<'p>>
     ensures { Gives result
         (binary_rule Append place.now (tree_of sequence.now) (tree_of item.now)) }
 {
@@ -191,7 +191,7 @@ pub fn sub_seq<'p>(
     sequence: &Value,
     low: &Value,
     high: &Value,
-) -> Result<Value, Trouble<'p>>
+) -> Result<Value, FaultRef<'p>>
     ensures { Gives result
         (sub_seq_rule place.now (tree_of sequence.now) (tree_of low.now) (tree_of high.now)) }
 {
@@ -207,7 +207,7 @@ fn items_between<'p>(
     items: &[Value],
     low: i64,
     high: i64,
-) -> Result<Value, Trouble<'p>>
+) -> Result<Value, FaultRef<'p>>
     requires few { length items.now ≤ MAX_ELEMENTS }
     requires shallow { deepest (trees (map tree_of items.now)) < MAX_NESTING }
     ensures { Gives result (part_of place.now (map tree_of items.now) low high) }

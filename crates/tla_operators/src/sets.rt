@@ -17,15 +17,15 @@ ghost use Rattle.tla_operators.specs.Evaluated.{Evaluates, tree_of_evaluated};
 ghost use Rattle.tla_operators.specs.Gathered.{Gathers};
 
 use crate::evaluated::Evaluated;
+use crate::fault_ref::{FaultRef, fault_at, memory};
 use crate::gathered::Gathered;
-use crate::trouble::{Trouble, fault_at, memory};
 use std::alloc::Global;
 use tla_core::{FaultCode, Place};
 use tla_value::{Arguments, FunValue, SetValue, Value, ValueError};
 
 /// The members of a value that is a set.
 #[tactic(auto, using(crate::proofs::Known::as_set_known))]
-pub fn members<'p, 'a>(place: &'p Place, set: &'a Value) -> Result<&'a [Value], Trouble<'p>>
+pub fn members<'p, 'a>(place: &'p Place, set: &'a Value) -> Result<&'a [Value], FaultRef<'p>>
     ensures { GivesBy (λ s. map tree_of s.now) result (as_set place.now (tree_of set.now)) }
 {
     match set {
@@ -36,7 +36,7 @@ pub fn members<'p, 'a>(place: &'p Place, set: &'a Value) -> Result<&'a [Value], 
 
 /// Whether a set has a value as a member.
 #[tactic(auto, using(crate::proofs::Known::as_set_known))]
-pub fn contains<'p>(place: &'p Place, set: &Value, value: &Value) -> Result<bool, Trouble<'p>>
+pub fn contains<'p>(place: &'p Place, set: &Value, value: &Value) -> Result<bool, FaultRef<'p>>
     ensures { GivesTruth result (contains_rule place.now (tree_of set.now) (tree_of value.now)) }
 {
     match set {
@@ -46,7 +46,7 @@ pub fn contains<'p>(place: &'p Place, set: &Value, value: &Value) -> Result<bool
 }
 
 /// The fault of a value that would pass a limit.
-pub fn refused(place: &Place, error: ValueError) -> Trouble<'_>
+pub fn refused(place: &Place, error: ValueError) -> FaultRef<'_>
     ensures { IsRefusal error place.now result }
 {
     match error {
@@ -58,7 +58,7 @@ pub fn refused(place: &Place, error: ValueError) -> Trouble<'_>
 
 /// The set that a call made, or the fault for the limit that it would pass.
 #[tactic(auto, using(crate::proofs::Made::set_made, crate::proofs::Made::set_refused))]
-pub fn made_set(place: &Place, made: Result<SetValue, ValueError>) -> Result<Value, Trouble<'_>>
+pub fn made_set(place: &Place, made: Result<SetValue, ValueError>) -> Result<Value, FaultRef<'_>>
     ensures { (ts : List Tree) → MakesSet ts made → Gives result (rising_set place.now ts) }
 {
     match made {
@@ -73,7 +73,7 @@ pub fn union_of<'p>(
     place: &'p Place,
     left: &Value,
     right: &Value,
-) -> Result<Value, Trouble<'p>>
+) -> Result<Value, FaultRef<'p>>
     ensures { Gives result
         (on_sets place.now (λ xs ys. xs ++ ys) (tree_of left.now) (tree_of right.now)) }
 {
@@ -89,7 +89,7 @@ pub fn intersection_of<'p>(
     place: &'p Place,
     left: &Value,
     right: &Value,
-) -> Result<Value, Trouble<'p>>
+) -> Result<Value, FaultRef<'p>>
     ensures { Gives result
         (on_sets place.now (λ xs ys. filter (λ v. is_member v ys) xs) (tree_of left.now)
         (tree_of right.now)) }
@@ -109,7 +109,7 @@ pub fn difference_of<'p>(
     place: &'p Place,
     left: &Value,
     right: &Value,
-) -> Result<Value, Trouble<'p>>
+) -> Result<Value, FaultRef<'p>>
     ensures { Gives result
         (on_sets place.now (λ xs ys. filter (λ v. not (is_member v ys)) xs) (tree_of left.now)
         (tree_of right.now)) }
@@ -124,7 +124,7 @@ pub fn difference_of<'p>(
 }
 
 /// All subsets of a set.
-pub fn subsets_of<'p>(alloc: Global, place: &'p Place, set: &Value) -> Result<Value, Trouble<'p>>
+pub fn subsets_of<'p>(alloc: Global, place: &'p Place, set: &Value) -> Result<Value, FaultRef<'p>>
     ensures { Gives result (subsets_rule place.now (tree_of set.now)) }
 {
     match set {
@@ -139,7 +139,7 @@ pub fn functions_between<'p>(
     place: &'p Place,
     domain: &Value,
     range: &Value,
-) -> Result<Value, Trouble<'p>>
+) -> Result<Value, FaultRef<'p>>
     ensures { Gives result
         (on_sets place.now functions_of (tree_of domain.now) (tree_of range.now)) }
 {
@@ -157,7 +157,7 @@ pub fn functions_between<'p>(
 pub fn made_functions(
     place: &Place,
     made: Result<SetValue, ValueError>,
-) -> Result<Value, Trouble<'_>>
+) -> Result<Value, FaultRef<'_>>
     ensures { (ts : List Tree)
         → MakesSetOfFunctions ts made
         → Gives result (sized_set place.now (size_of_functions ts) ts) }
@@ -173,7 +173,7 @@ pub fn tuples_with<'p>(
     alloc: Global,
     place: &'p Place,
     values: &[Evaluated<'_>],
-) -> Result<Value, Trouble<'p>>
+) -> Result<Value, FaultRef<'p>>
     ensures { Gives result (tuples_rule place.now (map tree_of_evaluated values.now)) }
 {
     let sets = as_sets(alloc, place, values)?;
@@ -186,7 +186,7 @@ pub fn copied_set<'p>(
     alloc: Global,
     place: &'p Place,
     value: &Value,
-) -> Result<SetValue, Trouble<'p>>
+) -> Result<SetValue, FaultRef<'p>>
     ensures { GivesBy (λ s. s) result (as_set place.now (tree_of value.now)) }
 {
     match value {
@@ -203,7 +203,7 @@ pub fn as_sets<'p>(
     alloc: Global,
     place: &'p Place,
     values: &[Evaluated<'_>],
-) -> Result<Vec<SetValue>, Trouble<'p>>
+) -> Result<Vec<SetValue>, FaultRef<'p>>
     ensures { GivesBy (λ v. v.items) result
         (each (as_set place.now) (map tree_of_evaluated values.now)) }
 {
@@ -226,7 +226,12 @@ pub fn if_set<'a>(value: &'a Value) -> Option<&'a [Value]>
 }
 
 /// The numbers from `low` to `high`.
-pub(crate) fn range(alloc: Global, place: &Place, low: i64, high: i64) -> Result<Value, Trouble<'_>>
+pub(crate) fn range(
+    alloc: Global,
+    place: &Place,
+    low: i64,
+    high: i64,
+) -> Result<Value, FaultRef<'_>>
     ensures { Gives result (rising_set place.now (range_of low high)) }
 {
     made_set(place, SetValue::range(alloc, low, high))
@@ -237,7 +242,7 @@ pub(crate) fn union_all<'p>(
     alloc: Global,
     place: &'p Place,
     sets: &Value,
-) -> Result<Value, Trouble<'p>>
+) -> Result<Value, FaultRef<'p>>
     ensures { Gives result (unary_rule Union place.now (tree_of sets.now)) }
 {
     let sets = members(place, sets)?;
@@ -245,7 +250,7 @@ pub(crate) fn union_all<'p>(
 }
 
 /// The different members of some sets.
-fn joined<'p>(alloc: Global, place: &'p Place, sets: &[Value]) -> Result<Gathered, Trouble<'p>>
+fn joined<'p>(alloc: Global, place: &'p Place, sets: &[Value]) -> Result<Gathered, FaultRef<'p>>
     ensures { Gathers result (joined_sets place.now (map tree_of sets.now)) }
 {
     let mut gathered = Gathered::new(alloc);
@@ -256,14 +261,14 @@ fn joined<'p>(alloc: Global, place: &'p Place, sets: &[Value]) -> Result<Gathere
 }
 
 /// `BOOLEAN`.
-pub fn booleans<'p, 'a>(alloc: Global, place: &'p Place) -> Result<Evaluated<'a>, Trouble<'p>>
+pub fn booleans<'p, 'a>(alloc: Global, place: &'p Place) -> Result<Evaluated<'a>, FaultRef<'p>>
     ensures { Evaluates result (Ok (set (trees (truth false ∷ truth true ∷ [])))) }
 {
     Ok(Evaluated::Owned(truth_values(alloc, place)?))
 }
 
 /// The set of FALSE and TRUE.
-fn truth_values(alloc: Global, place: &Place) -> Result<Value, Trouble<'_>>
+fn truth_values(alloc: Global, place: &Place) -> Result<Value, FaultRef<'_>>
     ensures { Gives result (Ok (set (trees (truth false ∷ truth true ∷ [])))) }
 {
     let values = Vec::from_array(alloc, [Value::Truth(false), Value::Truth(true)])?;

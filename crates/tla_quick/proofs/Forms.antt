@@ -1,16 +1,18 @@
 -- What a form gives where what its parts give is known.
-use Rattle.std.proofs.Common.{◌≡◌, ℕ, suc, ◌+◌, ◌<◌, ◌≤◌, Bool, true, false, cond, List, [], ◌∷◌, length, map, drop, drop-cons, add-one, get_or, Result, Ok, Err, refl, ap, sym, subst, ◌∙◌}
+use Rattle.std.proofs.Common.{◌≡◌, ℕ, suc, ◌+◌, ◌*◌, ◌<◌, ◌≤◌, arith, Bool, true, false, cond, List, [], ◌∷◌, length, map, drop, drop-cons, add-one, get_or, Result, Ok, Err, refl, ap, sym, subst, ◌∙◌}
 use Rattle.std.proofs.lemmas.List.{drop_all, length-map}
 use Rattle.tla_value.specs.Tree.{Tree, truth}
 use Rattle.tla_value.specs.TreeOf.{tree_of}
 use Rattle.tla_value.specs.declared.value.Value.{Value}
 use Rattle.tla_core.specs.declared.fault.Place.{Place}
 use Rattle.tla_core.specs.Fault.{Outcome, ◌>>=◌}
+use Rattle.tla_core.specs.Expr.{cases}
 use Rattle.tla_core.specs.Kinds.{as_truth}
 use Rattle.tla_core.specs.Lists.{all_hold, some_hold}
 use Rattle.tla_core.specs.Meaning.{Meaning, Bound, Present, Next, asks, as_tree}
 use Rattle.tla_core.specs.Value.{means, mean_all, val}
 use Rattle.tla_code.specs.CodeExpr.{Scope, expr_in}
+use Rattle.tla_code.specs.Forms.{arms_in}
 use Rattle.tla_code.specs.Private.Listed.{exprs_of_codes}
 use Rattle.tla_code.specs.declared.code.Code.{Code}
 use Rattle.tla_quick.specs.declared.stop.Stop.{Stop}
@@ -78,3 +80,34 @@ module _ (scope : Scope) (b : Bound) (s : Present) (t : Next) (p : Place) (codes
 
   pub some_parts_end : length codes ≤ i → some_hold ask (from i) ≡ Ok false
   some_parts_end h = ap (λ (cs : List Code). some_hold ask (mean_all (exprs_of_codes scope cs))) (drop_all i codes h)
+
+-- ---- the arms of a CASE, from one of them on
+two_here : (codes : List Code) (i : ℕ) (x y : Code) → x ≡ get_or codes i x → suc i < length codes → drop i codes ≡ x ∷ get_or codes (suc i) y ∷ drop (suc (suc i)) codes
+two_here codes i x y is l =
+    drop-cons codes i x (omega arith)
+    ∙ (λ j. sym is j ∷ drop-cons codes (suc i) y l j)
+
+module _ (scope : Scope) (b : Bound) (s : Present) (t : Next) (p : Place) where
+  abbrev case_of : List Code → Outcome Tree
+  case_of codes = val (cases p (arms_in (exprs_of_codes scope codes))) b s t
+
+  arm_here : (x y : Code) (rest : List Code) (holds : Bool) → val (expr_in scope x) b s t ≡ Ok (truth holds) → case_of (x ∷ y ∷ rest) ≡ cond holds (val (expr_in scope y) b s t) (case_of rest)
+  arm_here x y rest holds e = ap (λ (o : Outcome Tree). (o >>= as_truth p) >>= λ h. cond h (val (expr_in scope y) b s t) (case_of rest)) e
+
+  pub arm_passed : (codes : List Code) (i : ℕ) (x : Code) → x ≡ get_or codes (2 * i) x → 2 * i + 1 < length codes → val (expr_in scope x) b s t ≡ Ok (truth false) → case_of (drop (2 * i) codes) ≡ case_of (drop (2 * (i + 1)) codes)
+  arm_passed codes i x is l e =
+      let n : suc (suc (2 * i)) ≡ 2 * (i + 1) = omega arith in
+      ap case_of (two_here codes (2 * i) x x is (omega arith))
+      ∙ arm_here x (get_or codes (suc (2 * i)) x) (drop (suc (suc (2 * i))) codes) false e
+      ∙ ap (λ k. case_of (drop k codes)) n
+
+  pub arm_taken : (codes : List Code) (i : ℕ) (x y : Code) → x ≡ get_or codes (2 * i) x → y ≡ get_or codes (2 * i + 1) y → 2 * i + 1 < length codes → val (expr_in scope x) b s t ≡ Ok (truth true) → case_of (drop (2 * i) codes) ≡ val (expr_in scope y) b s t
+  arm_taken codes i x y is same l e =
+      let n : 2 * i + 1 ≡ suc (2 * i) = omega arith in
+      ap case_of (two_here codes (2 * i) x y is (omega arith))
+      ∙ arm_here x (get_or codes (suc (2 * i)) y) (drop (suc (suc (2 * i))) codes) true e
+      ∙ ap (λ z. val (expr_in scope z) b s t) (sym (same ∙ ap (λ k. get_or codes k y) n))
+
+  pub arm_other : (codes : List Code) (i : ℕ) (x : Code) → x ≡ get_or codes i x → suc i ≡ length codes → case_of (drop i codes) ≡ val (expr_in scope x) b s t
+  arm_other codes i x is l =
+      ap case_of (drop-cons codes i x (omega arith) ∙ (λ j. sym is j ∷ drop_all (suc i) codes (omega arith) j))

@@ -23,13 +23,13 @@ use tla_sharing::{constant_in, shared, with_constant};
 use tla_value::Value;
 
 /// The greatest number of closed parts that are kept for an expression.
-const MOST_CONSTANTS: usize = 16;
+const MAX_CONSTANTS: usize = 16;
 
 /// A set or a function with more parts isn't kept.
-const MOST_PARTS: usize = 100_000;
+const MAX_PARTS: usize = 100_000;
 
 /// An expression under `names` bound names, prepared.
-pub(crate) fn arranged<'m>(
+pub(crate) fn prepare_core<'m>(
     alloc: Global,
     core: &'m Core,
     names: usize,
@@ -37,18 +37,18 @@ pub(crate) fn arranged<'m>(
     ensures { IfOk result (λ p. prepared_expr p ≡ expr_of core.now) }
 {
     let code = code_of(alloc, core)?;
-    Ok(prepared(alloc, code, names))
+    Ok(prepare_code(alloc, code, names))
 }
 
 /// A code under `names` bound names, with closed parts and definitions if some are found.
-pub(crate) fn prepared<'m>(alloc: Global, code: Code<'m>, names: usize) -> Prepared<'m>
+pub(crate) fn prepare_code<'m>(alloc: Global, code: Code<'m>, names: usize) -> Prepared<'m>
     ensures { prepared_expr result ≡ code_expr code.entry }
 {
     let kept = with_constants(alloc, code, names);
     with_definitions(alloc, kept, names)
 }
 
-/// Whether the whole of a code gets a definition.
+/// Whether sharing puts a definition around the whole code.
 pub(crate) fn is_shared(alloc: Global, code: &Code<'_>, names: usize) -> bool {
     matches!(shared(alloc, code, names, &[]), Some(Code::Let(_, _, _, _)))
 }
@@ -60,8 +60,8 @@ fn with_constants<'m>(alloc: Global, code: Code<'m>, names: usize) -> Prepared<'
 {
     let mut constants: Vec<Constant<'m>> = Vec::new(alloc);
     let mut rest = code;
-    for _ in 0..MOST_CONSTANTS {
-        match keep_one(alloc, &mut constants, &rest, names) {
+    for _ in 0..MAX_CONSTANTS {
+        match extract_constant(alloc, &mut constants, &rest, names) {
             Some(next) => rest = next,
             None => {
                 return Prepared {
@@ -78,7 +78,7 @@ fn with_constants<'m>(alloc: Global, code: Code<'m>, names: usize) -> Prepared<'
 }
 
 /// The code with uses of one closed part more, which is kept.
-fn keep_one<'m>(
+fn extract_constant<'m>(
     alloc: Global,
     constants: &mut Vec<Constant<'m>>,
     code: &Code<'m>,
@@ -113,8 +113,8 @@ fn next_constant<'m>(alloc: Global, code: &Code<'m>, names: usize) -> Option<Con
 /// Whether a value is too large to be kept for each expression that has it.
 fn is_large(value: &Value) -> bool {
     match value {
-        Value::Set(set) => set.len() > MOST_PARTS,
-        Value::Fun(function) => function.len() > MOST_PARTS,
+        Value::Set(set) => set.len() > MAX_PARTS,
+        Value::Fun(function) => function.len() > MAX_PARTS,
         _ => false,
     }
 }
@@ -161,7 +161,7 @@ fn outside_of(alloc: Global, constants: &[Constant<'_>]) -> Option<Vec<usize>>
 fn with_definitions<'m>(alloc: Global, kept: Prepared<'m>, names: usize) -> Prepared<'m>
     ensures { prepared_expr result ≡ prepared_expr kept.entry }
 {
-    match defined(alloc, &kept, names) {
+    match shared_code(alloc, &kept, names) {
         Some(code) => Prepared {
             constants: kept.constants,
             code,
@@ -171,7 +171,7 @@ fn with_definitions<'m>(alloc: Global, kept: Prepared<'m>, names: usize) -> Prep
 }
 
 /// The shared code of an expression, if sharing finds something.
-fn defined<'m>(alloc: Global, kept: &Prepared<'m>, names: usize) -> Option<Code<'m>>
+fn shared_code<'m>(alloc: Global, kept: &Prepared<'m>, names: usize) -> Option<Code<'m>>
     ensures { IfSome result (λ c.
         expr_in (scope_with kept.now.constants.items) c ≡ prepared_expr kept.now) }
 {

@@ -106,7 +106,7 @@ fn domain_of_several(alloc: Global, place: &Place, sets: &[Evaluated<'_>]) -> Re
 {
     match domain_of(alloc, place, sets)? {
         Domain::Tuples(tuples) => Ok(tuples),
-        Domain::Refused(_) => Err(Stop::Unknown),
+        Domain::Refused(_) => Err(Stop::GaveUp),
     }
 }
 

@@ -100,8 +100,8 @@ fn value_of_other<'m: 'a, 'a>(
             alloc, place, *form, sets, body, env,
         )?)),
         Code::Except(place, base, updates) => value_of_except(alloc, place, updates, base, env),
-        Code::Opened(_, openings, body) => opened(alloc, openings, body, env),
-        _ => Err(Stop::Unknown),
+        Code::Destructure(_, openings, body) => opened(alloc, openings, body, env),
+        _ => Err(Stop::GaveUp),
     }
 }
 
@@ -131,11 +131,11 @@ pub(crate) fn truth<'m: 'a, 'a>(
         Code::Binder(place, form, set, body) => truth_of_binder(
             alloc, place, *form, set, body, env,
         ),
-        _ => Err(Stop::Unknown),
+        _ => Err(Stop::GaveUp),
     }
 }
 
-/// Whether a value is a member of a code.
+/// Whether a value is in the set that a code denotes.
 #[cycle(evaluate)]
 pub(crate) fn has<'m: 'a, 'a>(
     alloc: Global,
@@ -146,7 +146,7 @@ pub(crate) fn has<'m: 'a, 'a>(
     ensures { Answers (λ b. b) result
         (has_in env.entry (tree_of member.now) (code_in env.entry code.now)) }
 {
-    if !is_asked(code) {
+    if !has_membership_test(code) {
         return has_known(value(alloc, code, env)?.value(), member);
     }
     match code {
@@ -160,7 +160,7 @@ pub(crate) fn has<'m: 'a, 'a>(
         Code::List(place, form, parts) => has_in_list(alloc, place, *form, parts, member, env),
         Code::Fields(_, form, fields) => has_in_fields(alloc, *form, fields, member, env),
         Code::Binder(_, form, set, body) => has_in_binder(alloc, *form, set, body, member, env),
-        _ => Err(Stop::Unknown),
+        _ => Err(Stop::GaveUp),
     }
 }
 
@@ -212,7 +212,7 @@ fn elements_of_two<'m: 'a, 'a>(
 }
 
 /// Whether a form with two operands gives a truth value.
-pub(crate) fn compares(form: TwoForm) -> bool {
+pub(crate) fn gives_truth(form: TwoForm) -> bool {
     match form {
         TwoForm::Equal
         | TwoForm::Implies
@@ -236,7 +236,7 @@ pub(crate) fn compares(form: TwoForm) -> bool {
 fn is_logical(code: &Code<'_>) -> bool {
     match code {
         Code::One(_, form, _) => is_not(*form),
-        Code::Two(_, form, _, _) => compares(*form),
+        Code::Two(_, form, _, _) => gives_truth(*form),
         Code::Three(_, form, _, _, _) => matches!(form, ThreeForm::If),
         Code::List(_, form, _) => matches!(form, ListForm::Conjunction | ListForm::Disjunction),
         Code::Binder(_, form, _, _) => matches!(form, BinderForm::ForAll | BinderForm::ForSome),
@@ -254,11 +254,11 @@ fn is_not(form: OneForm<'_>) -> bool {
 }
 
 /// Whether membership in this form is decided without its value.
-fn is_asked(code: &Code<'_>) -> bool {
+fn has_membership_test(code: &Code<'_>) -> bool {
     match code {
         Code::Plain(_) => true,
         Code::One(_, form, _) => matches!(form, OneForm::Power | OneForm::Sequences),
-        Code::Two(_, form, _, _) => is_asked_of_two(*form),
+        Code::Two(_, form, _, _) => has_membership_test_of_two(*form),
         Code::Three(_, form, _, _, _) => matches!(form, ThreeForm::If),
         Code::List(_, form, _) => matches!(form, ListForm::Enumerated | ListForm::Product),
         Code::Fields(_, form, _) => matches!(form, FieldForm::Records),
@@ -269,7 +269,7 @@ fn is_asked(code: &Code<'_>) -> bool {
 }
 
 /// Whether membership in this form with two operands is decided without its value.
-fn is_asked_of_two(form: TwoForm) -> bool {
+fn has_membership_test_of_two(form: TwoForm) -> bool {
     match form {
         TwoForm::Functions | TwoForm::Cup | TwoForm::Cap | TwoForm::Minus => true,
         TwoForm::Operator(operator) => matches!(operator, Binary::Range),

@@ -3,7 +3,7 @@ ghost use Rattle.tla_core.specs.ExprOf.{expr_of};
 ghost use Rattle.tla_quick.specs.Private.Kept.{prepared_expr};
 ghost use Rattle.tla_quick.specs.SameMeaning.{HasSameValue, HasSameMembers, HasSameValue-prop, HasSameMembers-prop};
 
-use crate::constants::arranged;
+use crate::constants::prepare_core;
 use crate::environment::Environment;
 use crate::evaluation::{elements, has, truth, value};
 use crate::frame::Frame;
@@ -49,7 +49,7 @@ impl<'m> Expression<'m> {
     pub fn new(alloc: Global, core: &'m Core, names: usize) -> Result<Expression<'m>, AllocError>
         ensures { IfOk result (λ e. e ≡ core.now) }
     {
-        let prepared = Box::new(alloc, arranged(alloc, core, names)?)?;
+        let prepared = Box::new(alloc, prepare_core(alloc, core, names)?)?;
         Ok(Expression { core, prepared })
     }
 

@@ -10,7 +10,7 @@ ghost use Rattle.tla_quick.specs.SameMeaning.{HasSameValue, HasSameValue-prop};
 ghost use Rattle.tla_quick.specs.Private.Kept.{prepared_expr};
 ghost use Rattle.tla_quick.specs.Private.Grouped.{group_expr, IsAnswer};
 
-use crate::constants::{is_shared, prepared};
+use crate::constants::{is_shared, prepare_code};
 use crate::environment::Environment;
 use crate::evaluation::value;
 use crate::frame::Frame;
@@ -63,7 +63,7 @@ impl<'m> Group<'m> {
         if !is_shared(alloc, &code, names) {
             return Ok(None);
         }
-        let prepared = Box::new(alloc, prepared(alloc, code, names))?;
+        let prepared = Box::new(alloc, prepare_code(alloc, code, names))?;
         Ok(Some(Group {
             place,
             conditions,
@@ -157,7 +157,7 @@ fn codes_of<'m>(alloc: Global, cores: &[&'m Core]) -> Result<Vec<Code<'m>>, Allo
     Ok(codes)
 }
 
-/// What the value of a group's code says: a set that a condition is FALSE, a sequence the values.
+/// Decodes the value of a group's code: a set means that a condition is FALSE; a sequence has the values.
 fn answer_of(alloc: Global, value: &Value) -> Option<Option<Vec<Value>>>
     ensures { IfSome result (λ r.
         IsAnswer (tree_of value.now) (option_map (λ v. map tree_of v.items) r)) }

@@ -37,7 +37,7 @@ pub(crate) fn bound_value<'m: 'a, 'a>(
 {
     match bound_name(env.frame, index) {
         Some(value) => Ok(value),
-        None => Err(Stop::Unknown),
+        None => Err(Stop::GaveUp),
     }
 }
 
@@ -49,9 +49,9 @@ fn now_value<'a>(now: Option<&'a State>, variable: usize) -> Result<&'a Value, S
     match now {
         Some(state) => match state.values().get(variable) {
             Some(value) => Ok(value),
-            None => Err(Stop::Unknown),
+            None => Err(Stop::GaveUp),
         },
-        None => Err(Stop::Unknown),
+        None => Err(Stop::GaveUp),
     }
 }
 
@@ -62,10 +62,10 @@ fn next_value<'a>(next: &'a Partial, variable: usize) -> Result<&'a Value, Stop>
     if variable < next.variables() {
         match next.get(variable) {
             Some(value) => Ok(value),
-            None => Err(Stop::Unknown),
+            None => Err(Stop::GaveUp),
         }
     } else {
-        Err(Stop::Unknown)
+        Err(Stop::GaveUp)
     }
 }
 
@@ -82,7 +82,7 @@ pub(crate) fn used_value<'m: 'a, 'a>(
 {
     match definition(env.frame, number) {
         Some(found) => known_value(found, number, by, env.names),
-        None => Err(Stop::Unknown),
+        None => Err(Stop::GaveUp),
     }
 }
 
@@ -97,7 +97,7 @@ fn known_value<'a>(
     ensures names { OnOk result (found.entry.names + by ≡ names) }
 {
     if count_more(found.names, by)? != names {
-        return Err(Stop::Unknown);
+        return Err(Stop::GaveUp);
     }
     match found.value {
         Some(value) => Ok(value),
@@ -126,7 +126,7 @@ fn bound_values<'m: 'a, 'a>(alloc: Global, frame: &'a Frame<'m, 'a>) -> Result<V
 }
 
 /// The value of an expression, by its definition.
-fn exact_value<'m: 'a, 'a>(
+fn eval_value<'m: 'a, 'a>(
     alloc: Global,
     core: &'a Core,
     env: Environment<'m, 'a>,
@@ -136,12 +136,12 @@ fn exact_value<'m: 'a, 'a>(
     let mut bound = bound_values(alloc, env.frame)?;
     match eval(alloc, core, &mut bound, env.now, env.next) {
         Ok(value) => Ok(value),
-        Err(_) => Err(Stop::Unknown),
+        Err(_) => Err(Stop::GaveUp),
     }
 }
 
 /// Whether a value is a member of an expression, by its definition.
-fn exact_has<'m: 'a, 'a>(
+fn eval_has<'m: 'a, 'a>(
     alloc: Global,
     core: &'a Core,
     value: &'a Value,
@@ -152,7 +152,7 @@ fn exact_has<'m: 'a, 'a>(
     let mut bound = bound_values(alloc, env.frame)?;
     match member(alloc, value, core, &mut bound, env.now, env.next) {
         Ok(holds) => Ok(holds),
-        Err(_) => Err(Stop::Unknown),
+        Err(_) => Err(Stop::GaveUp),
     }
 }
 
@@ -170,7 +170,7 @@ pub(crate) fn plain_value<'m: 'a, 'a>(
         Core::Next(_, variable) => Ok(Evaluated::Borrowed(next_value(env.next, *variable)?)),
         Core::Literal(literal) => Ok(Evaluated::Borrowed(literal.value())),
         Core::Booleans(place) => Ok(booleans(alloc, place)?),
-        _ => Ok(Evaluated::Owned(exact_value(alloc, core, env)?)),
+        _ => Ok(Evaluated::Owned(eval_value(alloc, core, env)?)),
     }
 }
 
@@ -199,12 +199,12 @@ pub(crate) fn plain_has<'m: 'a, 'a>(
     match core {
         Core::KindSet(_, kind) => Ok(kind_has(*kind, value)),
         Core::Booleans(_) => Ok(is_truth(value)),
-        Core::Cases(_, _, _) | Core::Assert(_, _, _) => exact_has(alloc, core, value, env),
+        Core::Cases(_, _, _) | Core::Assert(_, _, _) => eval_has(alloc, core, value, env),
         _ => has_known(plain_value(alloc, core, env)?.value(), value),
     }
 }
 
-/// Copies of the items of the elements that bound names have, one after the other.
+/// Copies the items of the bound elements that a pattern opens, in order.
 pub(crate) fn open_items<'m: 'a, 'a>(
     alloc: Global,
     openings: &'a [Opening],

@@ -1,4 +1,4 @@
-//! What forms make of values that are known.
+//! Applies forms to the values of their operands.
 ghost use Rattle.std.specs.Prelude.{◌≡◌, ◌<◌, ◌+◌, ◌++◌, Ok, IfOk, IfSome, OnOk, List, length, cond, map, slice_get};
 ghost use Rattle.std.specs.Option.{option_to_list};
 ghost use Rattle.tla_value.specs.Tree.{Tree, truth, fun, pairs};
@@ -54,7 +54,7 @@ pub(crate) fn known_truth(value: &Value) -> Result<bool, Stop>
 {
     match value {
         Value::Truth(holds) => Ok(*holds),
-        _ => Err(Stop::Unknown),
+        _ => Err(Stop::GaveUp),
     }
 }
 
@@ -64,7 +64,7 @@ pub(crate) fn count_more(count: usize, more: usize) -> Result<usize, Stop>
 {
     match count.checked_add(more) {
         Some(sum) => Ok(sum),
-        None => Err(Stop::Unknown),
+        None => Err(Stop::GaveUp),
     }
 }
 
@@ -78,7 +78,7 @@ pub(crate) fn has_known(set: &Value, value: &Value) -> Result<bool, Stop>
     let _depth = value.nesting();
     match set {
         Value::Set(set) => Ok(set.contains(value)),
-        _ => Err(Stop::Unknown),
+        _ => Err(Stop::GaveUp),
     }
 }
 
@@ -97,11 +97,11 @@ pub(crate) fn made_of_one<'m, 'a>(
         OneForm::Operator(operator) => Ok(unary(alloc, place, operator, operand)?),
         OneForm::Field(name) => Ok(field(alloc, place, name, operand)?),
         OneForm::Power => Ok(Evaluated::Owned(subsets_of(alloc, place, operand.value())?)),
-        OneForm::Tried(count) => {
+        OneForm::CheckPattern(count) => {
             try_set(count, operand.value())?;
             Ok(operand)
         }
-        OneForm::Sequences => Err(Stop::Unknown),
+        OneForm::Sequences => Err(Stop::GaveUp),
     }
 }
 
@@ -179,7 +179,7 @@ fn made_of_values(
         TwoForm::Cup => Ok(union_of(alloc, place, left, right)?),
         TwoForm::Cap => Ok(intersection_of(alloc, place, left, right)?),
         TwoForm::Minus => Ok(difference_of(alloc, place, left, right)?),
-        _ => Err(Stop::Unknown),
+        _ => Err(Stop::GaveUp),
     }
 }
 
@@ -198,7 +198,7 @@ pub(crate) fn compared(
     match form {
         TwoForm::Equal => Ok(left == right),
         TwoForm::Operator(operator) => compared_by(place, operator, left, right),
-        _ => Err(Stop::Unknown),
+        _ => Err(Stop::GaveUp),
     }
 }
 
@@ -226,7 +226,7 @@ fn compared_by(place: &Place, operator: Binary, left: &Value, right: &Value) -> 
             let (left, right) = two_ints(place, left, right)?;
             Ok(left >= right)
         }
-        _ => Err(Stop::Unknown),
+        _ => Err(Stop::GaveUp),
     }
 }
 
@@ -237,7 +237,7 @@ fn same_truth(left: &Value, right: &Value) -> Result<bool, Stop>
 {
     match (left, right) {
         (Value::Truth(left), Value::Truth(right)) => Ok(*left == *right),
-        (_, _) => Err(Stop::Unknown),
+        (_, _) => Err(Stop::GaveUp),
     }
 }
 
@@ -259,7 +259,7 @@ pub(crate) fn operator_has(
     Ok(two_have(alloc, place, operator, left, right, value)?)
 }
 
-/// The elements of what an operator at another place gives. A range is not made.
+/// The elements of the set that an operator at another place gives. A range isn't made for this.
 pub(crate) fn operator_elements<'a>(
     alloc: Global,
     place: &Place,
@@ -317,7 +317,7 @@ pub(crate) fn made_of_list(
     match form {
         ListForm::Enumerated => Ok(made_set(place, SetValue::from_values(alloc, values))?),
         ListForm::Tuple => Ok(sequence_of(alloc, place, values)?),
-        _ => Err(Stop::Unknown),
+        _ => Err(Stop::GaveUp),
     }
 }
 
@@ -398,7 +398,7 @@ pub(crate) fn known_members(set: &Value) -> Result<&[Value], Stop>
 {
     match set {
         Value::Set(set) => Ok(set.items()),
-        _ => Err(Stop::Unknown),
+        _ => Err(Stop::GaveUp),
     }
 }
 

@@ -20,14 +20,14 @@ pub(crate) fn fitting<'a>(count: usize, element: &'a Value) -> Result<&'a [Value
             if items.len() == count {
                 Ok(items)
             } else {
-                Err(Stop::Unknown)
+                Err(Stop::GaveUp)
             }
         }
-        None => Err(Stop::Unknown),
+        None => Err(Stop::GaveUp),
     }
 }
 
-/// Tries each of these elements.
+/// Checks that each of these elements is a sequence of `count` items.
 fn try_all(count: usize, elements: &[Value]) -> Result<(), Stop>
     ensures { (p : Place)
         → Answers (λ u. u) result

@@ -1,12 +1,12 @@
 //! Why an evaluation gives up.
 
 use std::alloc::{AllocError, AllocFailed};
-use tla_operators::trouble::Trouble;
+use tla_operators::fault_ref::FaultRef;
 
-/// Why there is no answer. `Needed(n)`: definition n must be evaluated first. `Unknown`: give up.
+/// Why there is no answer. `Needed(n)`: definition n must be evaluated first.
 #[derive(Clone, Copy)]
 pub(crate) enum Stop {
-    Unknown,
+    GaveUp,
     Needed(usize),
 }
 
@@ -14,7 +14,7 @@ impl From<AllocError> for Stop {
     ghost from_gives = { λ _ _. Unit {0} };
 
     fn from(_error: AllocError) -> Stop {
-        Stop::Unknown
+        Stop::GaveUp
     }
 }
 
@@ -22,15 +22,15 @@ impl<T: Drop> From<AllocFailed<T>> for Stop {
     ghost from_gives = { λ _ _. Unit {0} };
 
     fn from(_error: AllocFailed<T>) -> Stop {
-        Stop::Unknown
+        Stop::GaveUp
     }
 }
 
-impl<'p> From<Trouble<'p>> for Stop {
+impl<'p> From<FaultRef<'p>> for Stop {
     ghost from_gives = { λ _ _. Unit {0} };
 
-    fn from(_error: Trouble<'p>) -> Stop {
-        Stop::Unknown
+    fn from(_error: FaultRef<'p>) -> Stop {
+        Stop::GaveUp
     }
 }
 
@@ -44,6 +44,6 @@ pub(crate) fn needs(stop: Stop, definition: usize) -> Result<(), Stop> {
                 Err(stop)
             }
         }
-        Stop::Unknown => Err(stop),
+        Stop::GaveUp => Err(stop),
     }
 }

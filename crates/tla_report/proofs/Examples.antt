@@ -3,7 +3,7 @@ use Rattle.std.specs.Prelude.{◌≡◌, ℕ, [], ◌∷◌, pos, codes, Some, N
 use Rattle.std.specs.Fmt.{digits}
 use Rattle.std.proofs.Common.{lit<}
 use Rattle.tla_value.specs.Tree.{int}
-use Rattle.tla_core.specs.declared.fault.FaultCode.TheVariants.{Overflow, SmallDivisor, Lacking, TooMany}
+use Rattle.tla_core.specs.declared.fault.FaultCode.TheVariants.{Overflow, SmallDivisor, Unassigned, TooMany}
 use Rattle.tla_verdict.specs.declared.answer.Answer.{Answer}
 use Rattle.tla_verdict.specs.declared.answer.Answer.TheVariants.{NoError, InvariantFalse, Deadlock, Faulted, AssumptionFalse, Limit}
 use Rattle.tla_verdict.specs.declared.finding.Part.TheVariants.{Assumption, NextAction, Constraint}
@@ -48,7 +48,7 @@ fault_of_an_assumption : report (about_x (Faulted record { code = TooMany; place
 unfolding digits
 fault_of_an_assumption = refl
 
-fault_of_a_variable : report (about_x (Faulted record { code = Lacking; place = None; variable = Some 0 } NextAction ((int (pos 0) ∷ []) ∷ []) record { levels = 1; states = 1 }) 16777216 (lit< tt, tt, (refl, tt)))
+fault_of_a_variable : report (about_x (Faulted record { code = Unassigned; place = None; variable = Some 0 } NextAction ((int (pos 0) ∷ []) ∷ []) record { levels = 1; states = 1 }) 16777216 (lit< tt, tt, (refl, tt)))
     ≡ codes "Fault E15 for variable x in the next-state action.\nState 1:\n/\\ x = 0\nLevels 1, states 1.\n"
 unfolding digits
 fault_of_a_variable = refl

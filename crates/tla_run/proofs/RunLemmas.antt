@@ -93,7 +93,7 @@ says_alone quiet err line says = record {
   openly = λ _. says_no_more err (line ++ []) (says.0, subst (λ t. Gets err (take says.0 t)) (sym (append-nil line)) says.1);
 }
 
--- what was put, without anything behind a line
+-- what was put, without anything after a line
 pub gets_alone : (old new : Option (List ℕ)) (line : List ℕ) (r : Result ℕ ShortWrite) → Puts old new 0 (line ++ []) r
     → GetsUpTo (record { old = old; new = new }) line
 gets_alone old new line r h = (h.taken, subst (λ t. Appends old new (take h.taken t)) (append-nil line) h.added)

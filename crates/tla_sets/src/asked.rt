@@ -18,10 +18,10 @@ use crate::elements::fits_range;
 use std::alloc::Global;
 use tla_core::{Binary, Place};
 use tla_operators::evaluated::Evaluated;
+use tla_operators::fault_ref::FaultRef;
 use tla_operators::operators::{binary, two_ints};
 use tla_operators::rules::copied;
 use tla_operators::sets::{contains, made_set};
-use tla_operators::trouble::Trouble;
 use tla_value::{MAX_ELEMENTS, MAX_NESTING, SetValue, Value};
 
 /// Whether what an operator gives has a value as a member. A range is not made.
@@ -32,7 +32,7 @@ pub fn two_have<'p>(
     left: &Value,
     right: &Value,
     value: &Value,
-) -> Result<bool, Trouble<'p>>
+) -> Result<bool, FaultRef<'p>>
     ensures { GivesTruth result
         (has_rule place.now (tree_of value.now)
         (binary_rule (binary_of operator) place.now (tree_of left.now) (tree_of right.now))) }
@@ -49,7 +49,7 @@ fn range_has<'p>(
     left: &Value,
     right: &Value,
     value: &Value,
-) -> Result<bool, Trouble<'p>>
+) -> Result<bool, FaultRef<'p>>
     ensures { GivesTruth result
         (has_rule place.now (tree_of value.now)
         (binary_rule Range place.now (tree_of left.now) (tree_of right.now))) }
@@ -65,7 +65,7 @@ fn range_between_has<'p>(
     low: i64,
     high: i64,
     value: &Value,
-) -> Result<bool, Trouble<'p>>
+) -> Result<bool, FaultRef<'p>>
     ensures { GivesTruth result
         (has_rule place.now (tree_of value.now) (rising_set place.now (range_of low high))) }
 {
@@ -103,7 +103,7 @@ pub fn set_has<'p>(
     place: &'p Place,
     values: &[Evaluated<'_>],
     value: &Value,
-) -> Result<bool, Trouble<'p>>
+) -> Result<bool, FaultRef<'p>>
     ensures { GivesTruth result
         (stands_rule place.now (map tree_of_evaluated values.now) (tree_of value.now)) }
 {
@@ -169,14 +169,14 @@ fn set_of_copies<'p>(
     alloc: Global,
     place: &'p Place,
     values: &[Evaluated<'_>],
-) -> Result<Value, Trouble<'p>>
+) -> Result<Value, FaultRef<'p>>
     ensures { Gives result (make_set place.now (map tree_of_evaluated values.now)) }
 {
     made_set(place, SetValue::from_values(alloc, copies(alloc, values)?))
 }
 
 /// Copies of some values.
-fn copies<'p>(alloc: Global, values: &[Evaluated<'_>]) -> Result<Vec<Value>, Trouble<'p>>
+fn copies<'p>(alloc: Global, values: &[Evaluated<'_>]) -> Result<Vec<Value>, FaultRef<'p>>
     ensures ok { IfOk result (λ v. map tree_of v.items ≡ map tree_of_evaluated values.now) }
     ensures err { IfErr result (λ f. f ≡ out_of_memory) }
 {

@@ -15,17 +15,17 @@ ghost use Rattle.tla_operators.specs.Gives.{Gives, GivesBy};
 use std::alloc::Global;
 use tla_core::Place;
 use tla_operators::evaluated::Evaluated;
+use tla_operators::fault_ref::FaultRef;
 use tla_operators::functions::made_fun;
 use tla_operators::rules::copied;
 use tla_operators::sets::{as_sets, copied_set, members, refused};
-use tla_operators::trouble::Trouble;
 use tla_value::{FunValue, SetValue, Value};
 
 /// The tuples that a function is defined on, or the fault of each function on them.
 #[derive(Drop)]
 pub enum Domain<'p> {
     Tuples(SetValue),
-    Refused(Trouble<'p>),
+    Refused(FaultRef<'p>),
 }
 
 /// The members of some values that are sets.
@@ -33,7 +33,7 @@ pub fn lists_of<'p, 'a>(
     alloc: Global,
     place: &'p Place,
     sets: &'a [Evaluated<'a>],
-) -> Result<Vec<&'a [Value]>, Trouble<'p>>
+) -> Result<Vec<&'a [Value]>, FaultRef<'p>>
     ensures { GivesBy (λ v. map (λ l. map tree_of l.now) v.items) result
         (each (as_set place.now) (map tree_of_evaluated sets.now)) }
 {
@@ -64,7 +64,7 @@ pub fn choice_at<'p>(
     alloc: Global,
     lists: &[&[Value]],
     number: usize,
-) -> Result<Option<Vec<Value>>, Trouble<'p>>
+) -> Result<Option<Vec<Value>>, FaultRef<'p>>
     ensures ok { IfOk result (λ o.
         option_map (λ v. map tree_of v.items) o
         ≡ slice_get (choices (map (λ l. map tree_of l.now) lists.now)) number) }
@@ -102,7 +102,7 @@ pub fn function_with<'p>(
     place: &'p Place,
     domain: &SetValue,
     values: Vec<Value>,
-) -> Result<Value, Trouble<'p>>
+) -> Result<Value, FaultRef<'p>>
     requires { length domain.now ≡ length values.items }
     ensures { Gives result (make_fun place.now (zip domain.now (map tree_of values.items))) }
 {
@@ -116,7 +116,7 @@ pub fn function_on<'p>(
     place: &'p Place,
     sets: &[Evaluated<'_>],
     values: Vec<Value>,
-) -> Result<Value, Trouble<'p>>
+) -> Result<Value, FaultRef<'p>>
     requires one { length sets.now ≡ 1 }
     requires paired { AreForChoices place.now (map tree_of_evaluated sets.now)
         (map tree_of values.items) }
@@ -132,7 +132,7 @@ pub fn domain_of<'p>(
     alloc: Global,
     place: &'p Place,
     sets: &[Evaluated<'_>],
-) -> Result<Domain<'p>, Trouble<'p>>
+) -> Result<Domain<'p>, FaultRef<'p>>
     requires { length sets.now ≡ 1 → ⊥ }
     ensures { FindsDomain place.now (map tree_of_evaluated sets.now) result }
 {

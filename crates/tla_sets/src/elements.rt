@@ -19,10 +19,10 @@ use crate::span::Span;
 use std::alloc::Global;
 use tla_core::{Binary, FaultCode, Place};
 use tla_operators::evaluated::Evaluated;
+use tla_operators::fault_ref::{FaultRef, fault_at, memory};
 use tla_operators::operators::{binary, two_ints};
 use tla_operators::rules::copied;
 use tla_operators::sets::members;
-use tla_operators::trouble::{Trouble, fault_at, memory};
 use tla_value::{MAX_ELEMENTS, SetValue, Value};
 
 /// The elements of a set, rising: borrowed members, those of a set that was made, or the numbers from one to another.
@@ -34,7 +34,10 @@ pub enum Elements<'a> {
 }
 
 /// The members of a value that is a set.
-pub fn members_of<'p, 'a>(place: &'p Place, set: Evaluated<'a>) -> Result<Elements<'a>, Trouble<'p>>
+pub fn members_of<'p, 'a>(
+    place: &'p Place,
+    set: Evaluated<'a>,
+) -> Result<Elements<'a>, FaultRef<'p>>
     ensures { GivesElements result (as_set place.now (tree_of_evaluated set.entry)) }
 {
     match set {
@@ -45,7 +48,7 @@ pub fn members_of<'p, 'a>(place: &'p Place, set: Evaluated<'a>) -> Result<Elemen
 
 /// The members of a value that is a set, by value.
 #[tactic(auto, using(tla_operators::proofs::Known::as_set_known))]
-fn owned_members<'p, 'a>(place: &'p Place, set: Value) -> Result<Elements<'a>, Trouble<'p>>
+fn owned_members<'p, 'a>(place: &'p Place, set: Value) -> Result<Elements<'a>, FaultRef<'p>>
     ensures { GivesElements result (as_set place.now (tree_of set)) }
 {
     match set {
@@ -62,7 +65,7 @@ pub fn elements_of_two<'p, 'a>(
     operator: Binary,
     left: &Value,
     right: &Value,
-) -> Result<Elements<'a>, Trouble<'p>>
+) -> Result<Elements<'a>, FaultRef<'p>>
     ensures { GivesElements result
         (elements_rule place.now
         (binary_rule (binary_of operator) at.now (tree_of left.now) (tree_of right.now))) }
@@ -79,7 +82,7 @@ fn numbers<'p, 'a>(
     at: &'p Place,
     left: &Value,
     right: &Value,
-) -> Result<Elements<'a>, Trouble<'p>>
+) -> Result<Elements<'a>, FaultRef<'p>>
     ensures { GivesElements result
         (elements_rule place.now
         (binary_rule Range at.now (tree_of left.now) (tree_of right.now))) }
@@ -95,7 +98,7 @@ fn numbers_between<'p, 'a>(
     at: &'p Place,
     low: i64,
     high: i64,
-) -> Result<Elements<'a>, Trouble<'p>>
+) -> Result<Elements<'a>, FaultRef<'p>>
     ensures { GivesElements result
         (elements_rule place.now (rising_set at.now (range_of low high))) }
 {
@@ -104,7 +107,7 @@ fn numbers_between<'p, 'a>(
 }
 
 /// Whether the set of the numbers from `low` to `high` is within the limits.
-pub(crate) fn fits_range(place: &Place, low: i64, high: i64) -> Result<(), Trouble<'_>>
+pub(crate) fn fits_range(place: &Place, low: i64, high: i64) -> Result<(), FaultRef<'_>>
     ensures gives { GivesBy (λ _. set (trees (range_of low high))) result
         (rising_set place.now (range_of low high)) }
     ensures few { IfOk result (λ _. length (range_of low high) ≤ MAX_ELEMENTS) }
@@ -164,7 +167,7 @@ pub fn chosen_at<'p, 'e>(
     alloc: Global,
     elements: &'e Elements<'e>,
     number: usize,
-) -> Result<Value, Trouble<'p>>
+) -> Result<Value, FaultRef<'p>>
     requires { number < length (elements_of elements.now) }
     ensures { (p : Place)
         → Gives result (or_fault NoChoice p (slice_get (elements_of elements.now) number)) }
@@ -179,7 +182,7 @@ pub fn keep_at<'p, 'e>(
     elements: &'e Elements<'e>,
     number: usize,
     keep: bool,
-) -> Result<(), Trouble<'p>>
+) -> Result<(), FaultRef<'p>>
     requires { number < length (elements_of elements.now) }
     ensures ok { OnOk result
         (map tree_of kept.new.items
@@ -196,7 +199,7 @@ pub fn keep_at<'p, 'e>(
 }
 
 /// The elements, as values of their own.
-pub fn into_values<'p>(alloc: Global, elements: Elements<'_>) -> Result<Vec<Value>, Trouble<'p>>
+pub fn into_values<'p>(alloc: Global, elements: Elements<'_>) -> Result<Vec<Value>, FaultRef<'p>>
     ensures { GivesBy (λ v. map tree_of v.items) result (Ok (elements_of elements.entry)) }
 {
     match elements {
@@ -210,7 +213,7 @@ pub fn into_values<'p>(alloc: Global, elements: Elements<'_>) -> Result<Vec<Valu
 }
 
 /// Copies of some values.
-fn copies_of<'p>(alloc: Global, values: &[Value]) -> Result<Vec<Value>, Trouble<'p>>
+fn copies_of<'p>(alloc: Global, values: &[Value]) -> Result<Vec<Value>, FaultRef<'p>>
     ensures ok { IfOk result (λ v. v.items ≡ values.now) }
     ensures err { IfErr result (λ f. f ≡ out_of_memory) }
 {
@@ -222,7 +225,7 @@ fn copies_of<'p>(alloc: Global, values: &[Value]) -> Result<Vec<Value>, Trouble<
 }
 
 /// Numbers that follow one another, as values.
-fn listed<'p>(alloc: Global, span: Span) -> Result<Vec<Value>, Trouble<'p>>
+fn listed<'p>(alloc: Global, span: Span) -> Result<Vec<Value>, FaultRef<'p>>
     ensures ok { IfOk result (λ v. map tree_of v.items ≡ range_of span.low span.high) }
     ensures err { IfErr result (λ f. f ≡ out_of_memory) }
 {

@@ -15,9 +15,9 @@ ghost use Rattle.tla_sets.specs.Fields.{named_sets, records_rule};
 use std::alloc::Global;
 use tla_core::{Core, FaultCode, Place};
 use tla_operators::evaluated::Evaluated;
+use tla_operators::fault_ref::{FaultRef, fault_at};
 use tla_operators::rules::copied_text;
 use tla_operators::sets::{copied_set, made_functions};
-use tla_operators::trouble::{Trouble, fault_at};
 use tla_value::{Arguments, FunValue, SetValue, Text, Value};
 
 /// The records with each field in the value beside it.
@@ -26,7 +26,7 @@ pub fn records_with<'p>(
     place: &'p Place,
     fields: &[(Text, Core)],
     values: &[Evaluated<'_>],
-) -> Result<Value, Trouble<'p>>
+) -> Result<Value, FaultRef<'p>>
     requires { length fields.now ≡ length values.now }
     ensures { Gives result
         (records_rule place.now (fields_of_cores fields.now) (map tree_of_evaluated values.now)) }
@@ -45,7 +45,7 @@ fn named_sets<'p>(
     place: &'p Place,
     fields: &[(Text, Core)],
     values: &[Evaluated<'_>],
-) -> Result<Vec<(Text, SetValue)>, Trouble<'p>>
+) -> Result<Vec<(Text, SetValue)>, FaultRef<'p>>
     requires { length fields.now ≡ length values.now }
     ensures { GivesBy (λ v. v.items) result
         (named_sets place.now (fields_of_cores fields.now) (map tree_of_evaluated values.now)) }

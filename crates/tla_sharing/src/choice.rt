@@ -1,14 +1,14 @@
 //! Which part of an expression becomes a definition. The choice affects only time.
 
 use crate::copies::is_copy;
-use crate::declined::Declined;
+use crate::gave_up::GaveUp;
 use crate::lowered::{Gap, lowered};
-use crate::measures::{items_of, makes_much, size};
-use crate::reading::{
-    Position, Reading, is_candidate, of_arm, of_field, of_first, of_operand, of_part, of_second,
-    of_set, positioned, read_for, under,
-};
+use crate::measures::{builds_or_visits_set, items_of, size};
 use crate::shift::Shift;
+use crate::usage::{
+    Position, Usage, arm_usage, field_usage, first_usage, is_candidate, operand_usage, part_usage,
+    position_at, second_usage, set_usage, under, with_usage,
+};
 use std::alloc::Global;
 use tla_code::{Code, is_steady};
 use tla_value::Text;
@@ -32,7 +32,7 @@ pub(crate) enum Wanted {
     Closed(usize),
 }
 
-/// A part that is looked for, as it is outside the forms around it.
+/// Finds a part to define. Its bound names are renumbered as if it were outside the forms around it.
 #[cycle(choose)]
 pub(crate) fn chosen<'m>(
     alloc: Global,
@@ -41,8 +41,8 @@ pub(crate) fn chosen<'m>(
     search: Search<'_, 'm>,
 ) -> Option<Code<'m>> {
     if is_wanted(code, spot, search) {
-        if let Some(definition) = proposed(alloc, code, spot, search) {
-            if is_worth(&definition, spot, search) {
+        if let Some(definition) = try_hoist(alloc, code, spot, search) {
+            if is_worth_defining(&definition, spot, search) {
                 return Some(definition);
             }
         }
@@ -50,7 +50,7 @@ pub(crate) fn chosen<'m>(
     chosen_inside(alloc, code, spot, search)
 }
 
-/// The same, searched for in the operands.
+/// The same, among the operands.
 #[cycle(choose)]
 fn chosen_inside<'m>(
     alloc: Global,
@@ -60,29 +60,29 @@ fn chosen_inside<'m>(
 ) -> Option<Code<'m>> {
     match code {
         Code::One(_, form, a) => {
-            let reading = of_operand(*form, spot.reading);
-            chosen(alloc, a, read_for(spot, reading), search)
+            let usage = operand_usage(*form, spot.usage);
+            chosen(alloc, a, with_usage(spot, usage), search)
         }
         Code::Two(_, form, a, b) => {
-            let first = read_for(spot, of_first(*form, spot.reading));
-            let second = read_for(spot, of_second(*form, spot.reading));
+            let first = with_usage(spot, first_usage(*form, spot.usage));
+            let second = with_usage(spot, second_usage(*form, spot.usage));
             chosen_of_two(alloc, a, b, first, second, search)
         }
         Code::Three(_, form, a, b, c) => {
-            if let Some(found) = chosen(alloc, a, read_for(spot, Reading::Value), search) {
+            if let Some(found) = chosen(alloc, a, with_usage(spot, Usage::Value), search) {
                 return Some(found);
             }
-            let arm = read_for(spot, of_arm(*form, spot.reading));
+            let arm = with_usage(spot, arm_usage(*form, spot.usage));
             chosen_of_two(alloc, b, c, arm, arm, search)
         }
         Code::Binder(_, form, set, body) => {
-            let reading = of_set(*form, spot.reading);
-            if let Some(found) = chosen(alloc, set, read_for(spot, reading), search) {
+            let usage = set_usage(*form, spot.usage);
+            if let Some(found) = chosen(alloc, set, with_usage(spot, usage), search) {
                 return Some(found);
             }
             chosen_under(alloc, body, spot, 1, search)
         }
-        Code::Opened(_, openings, body) => {
+        Code::Destructure(_, openings, body) => {
             chosen_under(alloc, body, spot, items_of(openings)?, search)
         }
         _ => chosen_in_lists(alloc, code, spot, search),
@@ -99,22 +99,22 @@ fn chosen_in_lists<'m>(
 ) -> Option<Code<'m>> {
     match code {
         Code::List(_, form, parts) => {
-            let reading = of_part(*form, spot.reading);
-            chosen_of_all(alloc, parts, read_for(spot, reading), search)
+            let usage = part_usage(*form, spot.usage);
+            chosen_of_all(alloc, parts, with_usage(spot, usage), search)
         }
         Code::Fields(_, form, fields) => {
-            let reading = of_field(*form, spot.reading);
-            chosen_of_fields(alloc, fields, read_for(spot, reading), search)
+            let usage = field_usage(*form, spot.usage);
+            chosen_of_fields(alloc, fields, with_usage(spot, usage), search)
         }
         Code::Map(_, _, sets, body) => {
-            let set = read_for(spot, Reading::Value);
+            let set = with_usage(spot, Usage::Value);
             if let Some(found) = chosen_of_all(alloc, sets, set, search) {
                 return Some(found);
             }
             chosen_under(alloc, body, spot, sets.len(), search)
         }
         Code::Except(_, base, updates) => {
-            let value = read_for(spot, Reading::Value);
+            let value = with_usage(spot, Usage::Value);
             if let Some(found) = chosen(alloc, base, value, search) {
                 return Some(found);
             }
@@ -124,21 +124,22 @@ fn chosen_in_lists<'m>(
     }
 }
 
-/// Whether a part may be one that is looked for.
+/// Whether a part may be one to define.
 fn is_wanted(code: &Code<'_>, spot: Position, search: Search<'_, '_>) -> bool {
     let is_far = match search.wanted {
         Wanted::Copies => true,
         Wanted::CopiesNearby => spot.by > 0,
-        Wanted::Closed(least) => makes_much(code) && size(code, least.saturating_add(1)) > least,
+        Wanted::Closed(least) => builds_or_visits_set(code)
+            && size(code, least.saturating_add(1)) > least,
     };
-    is_far && is_candidate(code, spot.reading)
+    is_far && is_candidate(code, spot.usage)
 }
 
-/// Whether the expression that a part is a copy of is one that is looked for.
-fn is_worth<'m>(definition: &Code<'m>, spot: Position, search: Search<'_, 'm>) -> bool {
+/// Whether a part, once renumbered, is to be defined.
+fn is_worth_defining<'m>(definition: &Code<'m>, spot: Position, search: Search<'_, 'm>) -> bool {
     match search.wanted {
         Wanted::Copies | Wanted::CopiesNearby => {
-            let whole = positioned(0, Reading::Value);
+            let whole = position_at(0, Usage::Value);
             spot.by > 0 || copies_in(search.whole, whole, definition, search) > 1
         }
         Wanted::Closed(_) => is_steady(definition),
@@ -153,8 +154,8 @@ fn wants_copies(wanted: Wanted) -> bool {
     }
 }
 
-/// The expression that a part is a copy of.
-fn proposed<'m>(
+/// A part, renumbered as if it were outside the forms around it.
+fn try_hoist<'m>(
     alloc: Global,
     code: &Code<'m>,
     spot: Position,
@@ -166,7 +167,7 @@ fn proposed<'m>(
     };
     match lowered(alloc, code, gap) {
         Ok(definition) => Some(definition),
-        Err(Declined) => None,
+        Err(GaveUp) => None,
     }
 }
 
@@ -180,10 +181,10 @@ fn chosen_under<'m>(
     search: Search<'_, 'm>,
 ) -> Option<Code<'m>> {
     let by = spot.by.checked_add(more)?;
-    chosen(alloc, body, positioned(by, Reading::Value), search)
+    chosen(alloc, body, position_at(by, Usage::Value), search)
 }
 
-/// Of two operands that are copies of one expression, this one.
+/// If both operands are copies of one expression, that expression. Else a part of one of them.
 #[cycle(choose)]
 fn chosen_of_two<'m>(
     alloc: Global,
@@ -199,11 +200,11 @@ fn chosen_of_two<'m>(
         outside: search.outside,
     };
     if wants_copies(search.wanted)
-        && is_candidate(a, first.reading)
-        && is_candidate(b, second.reading)
+        && is_candidate(a, first.usage)
+        && is_candidate(b, second.usage)
         && is_copy(a, b, same)
     {
-        if let Some(found) = proposed(alloc, a, first, search) {
+        if let Some(found) = try_hoist(alloc, a, first, search) {
             return Some(found);
         }
     }
@@ -275,11 +276,7 @@ fn copies_in<'m>(
         outside: search.outside,
     };
     if is_copy(definition, code, shift) {
-        return if is_candidate(code, spot.reading) {
-            1
-        } else {
-            0
-        };
+        return if is_candidate(code, spot.usage) { 1 } else { 0 };
     }
     copies_inside(code, spot, definition, search)
 }
@@ -294,28 +291,28 @@ fn copies_inside<'m>(
 ) -> usize {
     match code {
         Code::One(_, form, a) => {
-            let reading = of_operand(*form, spot.reading);
-            copies_in(a, read_for(spot, reading), definition, search)
+            let usage = operand_usage(*form, spot.usage);
+            copies_in(a, with_usage(spot, usage), definition, search)
         }
         Code::Two(_, form, a, b) => {
-            let first = read_for(spot, of_first(*form, spot.reading));
-            let second = read_for(spot, of_second(*form, spot.reading));
+            let first = with_usage(spot, first_usage(*form, spot.usage));
+            let second = with_usage(spot, second_usage(*form, spot.usage));
             let copies = copies_in(a, first, definition, search);
             copies.saturating_add(copies_in(b, second, definition, search))
         }
         Code::Three(_, form, a, b, c) => {
-            let arm = read_for(spot, of_arm(*form, spot.reading));
-            let first = copies_in(a, read_for(spot, Reading::Value), definition, search);
+            let arm = with_usage(spot, arm_usage(*form, spot.usage));
+            let first = copies_in(a, with_usage(spot, Usage::Value), definition, search);
             let second = copies_in(b, arm, definition, search);
             let third = copies_in(c, arm, definition, search);
             first.saturating_add(second).saturating_add(third)
         }
         Code::Binder(_, form, set, body) => {
-            let reading = of_set(*form, spot.reading);
-            let first = copies_in(set, read_for(spot, reading), definition, search);
+            let usage = set_usage(*form, spot.usage);
+            let first = copies_in(set, with_usage(spot, usage), definition, search);
             first.saturating_add(copies_in(body, under(spot, 1), definition, search))
         }
-        Code::Opened(_, openings, body) => match items_of(openings) {
+        Code::Destructure(_, openings, body) => match items_of(openings) {
             Some(more) => copies_in(body, under(spot, more), definition, search),
             None => 0,
         },
@@ -333,21 +330,21 @@ fn copies_in_lists<'m>(
 ) -> usize {
     match code {
         Code::List(_, form, parts) => {
-            let reading = of_part(*form, spot.reading);
-            copies_in_all(parts, read_for(spot, reading), definition, search)
+            let usage = part_usage(*form, spot.usage);
+            copies_in_all(parts, with_usage(spot, usage), definition, search)
         }
         Code::Fields(_, form, fields) => {
-            let reading = of_field(*form, spot.reading);
-            copies_in_fields(fields, read_for(spot, reading), definition, search)
+            let usage = field_usage(*form, spot.usage);
+            copies_in_fields(fields, with_usage(spot, usage), definition, search)
         }
         Code::Map(_, _, sets, body) => {
-            let set = read_for(spot, Reading::Value);
+            let set = with_usage(spot, Usage::Value);
             let first = copies_in_all(sets, set, definition, search);
             let inside = under(spot, sets.len());
             first.saturating_add(copies_in(body, inside, definition, search))
         }
         Code::Except(_, base, updates) => {
-            let value = read_for(spot, Reading::Value);
+            let value = with_usage(spot, Usage::Value);
             let first = copies_in(base, value, definition, search);
             first.saturating_add(copies_in_updates(updates, value, definition, search))
         }

@@ -5,31 +5,31 @@ ghost use Rattle.tla_code.specs.NoVariables.{IsClosed};
 ghost use Rattle.tla_sharing.specs.Outside.{HasNames};
 
 use crate::choice::{Search, Wanted, chosen};
-use crate::declined::Declined;
+use crate::gave_up::GaveUp;
 use crate::measures::{size, uses};
-use crate::reading::{Reading, positioned};
 use crate::replaced::{Target, replaced};
+use crate::usage::{Usage, position_at};
 use std::alloc::Global;
 use tla_code::{Code, is_steady};
 
 /// The greatest number of attempts to find a larger closed part.
-const MOST_SEARCHES: usize = 64;
+const MAX_SEARCHES: usize = 64;
 
 /// The largest closed part of an expression under `names` bound names that makes or visits a set or a function. It is
 /// returned as it would be under no names.
 pub fn constant_in<'m>(alloc: Global, code: &Code<'m>, names: usize) -> Option<Code<'m>>
     ensures { IfSome result (λ c. IsClosed c) }
 {
-    let found = largest_in(alloc, code, names)?;
+    let found = largest_closed_part(alloc, code, names)?;
     if is_steady(&found) { Some(found) } else { None }
 }
 
 /// The largest part that may be one.
-fn largest_in<'m>(alloc: Global, code: &Code<'m>, names: usize) -> Option<Code<'m>> {
+fn largest_closed_part<'m>(alloc: Global, code: &Code<'m>, names: usize) -> Option<Code<'m>> {
     let mut largest: Option<Code<'m>> = None;
     let mut least = 0usize;
-    for _ in 0..MOST_SEARCHES {
-        match larger_in(alloc, code, names, least) {
+    for _ in 0..MAX_SEARCHES {
+        match larger_closed_part(alloc, code, names, least) {
             Some(found) => {
                 least = size(&found, usize::MAX);
                 largest = Some(found);
@@ -41,14 +41,19 @@ fn largest_in<'m>(alloc: Global, code: &Code<'m>, names: usize) -> Option<Code<'
 }
 
 /// A closed part of more than `least` nodes, or None.
-fn larger_in<'m>(alloc: Global, code: &Code<'m>, names: usize, least: usize) -> Option<Code<'m>> {
+fn larger_closed_part<'m>(
+    alloc: Global,
+    code: &Code<'m>,
+    names: usize,
+    least: usize,
+) -> Option<Code<'m>> {
     let search = Search {
         whole: code,
         names: 0,
         outside: &[],
         wanted: Wanted::Closed(least),
     };
-    chosen(alloc, code, positioned(names, Reading::Value), search)
+    chosen(alloc, code, position_at(names, Usage::Value), search)
 }
 
 /// An expression under `names` bound names, in which all copies of a definition under no names are replaced by uses.
@@ -73,7 +78,7 @@ pub fn with_constant<'m>(
     };
     match replaced(alloc, code, names, target) {
         Ok(code) => if_used(code, outside.len()),
-        Err(Declined) => None,
+        Err(GaveUp) => None,
     }
 }
 

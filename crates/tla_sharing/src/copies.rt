@@ -67,7 +67,7 @@ fn has_listed_copies(original: &Code<'_>, copy: &Code<'_>, shift: Shift<'_>) -> 
         (Code::Except(p, a, xs), Code::Except(q, b, ys)) => {
             p == q && is_copy(a, b, shift) && are_updates(xs, ys, shift)
         }
-        (Code::Opened(p, xs, a), Code::Opened(q, ys, b)) => {
+        (Code::Destructure(p, xs, a), Code::Destructure(q, ys, b)) => {
             p == q && are_openings(xs, shift.from, shift.by, ys) && is_copy(a, b, shift)
         }
         (_, _) => false,

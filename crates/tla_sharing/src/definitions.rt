@@ -6,41 +6,41 @@ ghost use Rattle.tla_sharing.specs.Outside.{HasNames};
 ghost use Rattle.tla_sharing.specs.Private.Copies.{Agrees, FieldAgrees, UpdateAgrees};
 
 use crate::choice::{Search, Wanted, chosen};
-use crate::declined::Declined;
+use crate::gave_up::GaveUp;
 use crate::measures::{is_small, items_of, needs, uses};
-use crate::reading::{Reading, positioned};
 use crate::replaced::{Target, replaced};
+use crate::usage::{Usage, position_at};
 use std::alloc::Global;
 use tla_code::Code;
 use tla_value::Text;
 
 /// The greatest number of definitions inside one another.
-const MOST_AROUND: usize = 64;
+const MAX_NESTING: usize = 64;
 
 /// A bound on recursion that no expression within the depth limit reaches.
-const MOST_CALLS: usize = 100_000;
+const MAX_CALLS: usize = 100_000;
 
 /// The position of the pass: the number of bound names, the number of names bound outside each definition in scope, and
 /// how many nested calls are left.
 #[derive(Clone, Copy)]
-struct Spot<'o> {
+struct SharingContext<'o> {
     names: usize,
     outside: &'o [usize],
     calls: usize,
 }
 
 /// The same context under more names, one call deeper.
-fn under<'o>(spot: Spot<'o>, more: usize) -> Result<Spot<'o>, Declined>
+fn under<'o>(spot: SharingContext<'o>, more: usize) -> Result<SharingContext<'o>, GaveUp>
     ensures { IfOk result (λ s.
         (s.outside.now ≡ spot.entry.outside.now) × (s.calls + 1 ≡ spot.entry.calls)) }
 {
     let Some(names) = spot.names.checked_add(more) else {
-        return Err(Declined);
+        return Err(GaveUp);
     };
     if spot.calls == 0 {
-        return Err(Declined);
+        return Err(GaveUp);
     }
-    Ok(Spot {
+    Ok(SharingContext {
         names,
         outside: spot.outside,
         calls: spot.calls - 1,
@@ -48,7 +48,7 @@ fn under<'o>(spot: Spot<'o>, more: usize) -> Result<Spot<'o>, Declined>
 }
 
 /// The list `outside`, with one number of names appended.
-fn one_more(alloc: Global, outside: &[usize], names: usize) -> Result<Vec<usize>, Declined>
+fn one_more(alloc: Global, outside: &[usize], names: usize) -> Result<Vec<usize>, GaveUp>
     ensures { IfOk result (λ v. v.items ≡ outside.now ++ names ∷ []) }
 {
     let mut longer = outside.to_vec(alloc)?;
@@ -68,20 +68,20 @@ pub fn shared<'m>(
     ensures { IfSome result (λ c.
         (scope : Scope) → HasNames scope outside.now → expr_in scope c ≡ expr_in scope code.now) }
 {
-    let spot = Spot {
+    let spot = SharingContext {
         names,
         outside,
-        calls: MOST_CALLS,
+        calls: MAX_CALLS,
     };
     match shared_body(alloc, code, spot) {
         Ok(code) => Some(code),
-        Err(Declined) => None,
+        Err(GaveUp) => None,
     }
 }
 
 /// The part of an expression that is worth a definition around it.
-fn definition_of<'m>(alloc: Global, code: &Code<'m>, spot: Spot<'_>) -> Option<Code<'m>> {
-    if spot.outside.len() >= MOST_AROUND {
+fn definition_of<'m>(alloc: Global, code: &Code<'m>, spot: SharingContext<'_>) -> Option<Code<'m>> {
+    if spot.outside.len() >= MAX_NESTING {
         return None;
     }
     let search = Search {
@@ -94,12 +94,16 @@ fn definition_of<'m>(alloc: Global, code: &Code<'m>, spot: Spot<'_>) -> Option<C
             Wanted::CopiesNearby
         },
     };
-    chosen(alloc, code, positioned(0, Reading::Value), search)
+    chosen(alloc, code, position_at(0, Usage::Value), search)
 }
 
 /// A body, with definitions around it.
 #[cycle(share)]
-fn shared_body<'m>(alloc: Global, code: &Code<'m>, spot: Spot<'_>) -> Result<Code<'m>, Declined>
+fn shared_body<'m>(
+    alloc: Global,
+    code: &Code<'m>,
+    spot: SharingContext<'_>,
+) -> Result<Code<'m>, GaveUp>
     ensures { IfOk result (λ c. Agrees spot.entry.outside.now code.now c) }
 {
     let next = under(spot, 0)?;
@@ -115,8 +119,8 @@ fn defined<'m>(
     alloc: Global,
     code: &Code<'m>,
     definition: &Code<'m>,
-    spot: Spot<'_>,
-) -> Result<Code<'m>, Declined>
+    spot: SharingContext<'_>,
+) -> Result<Code<'m>, GaveUp>
     ensures { IfOk result (λ c. Agrees spot.entry.outside.now code.now c) }
 {
     let next = under(spot, 0)?;
@@ -140,14 +144,14 @@ fn defined<'m>(
 fn boxed_inside<'m>(
     alloc: Global,
     body: &Code<'m>,
-    spot: Spot<'_>,
-) -> Result<Box<Code<'m>>, Declined>
+    spot: SharingContext<'_>,
+) -> Result<Box<Code<'m>>, GaveUp>
     ensures { IfOk result (λ c.
         Agrees (spot.entry.outside.now ++ spot.entry.names ∷ []) body.now c.value) }
 {
     let next = under(spot, 0)?;
     let outside = one_more(alloc, spot.outside, spot.names)?;
-    let inner = Spot {
+    let inner = SharingContext {
         names: spot.names,
         outside: outside.as_slice(),
         calls: next.calls,
@@ -158,7 +162,11 @@ fn boxed_inside<'m>(
 
 /// An expression whose parts get definitions.
 #[cycle(share)]
-fn shared_parts<'m>(alloc: Global, code: &Code<'m>, spot: Spot<'_>) -> Result<Code<'m>, Declined>
+fn shared_parts<'m>(
+    alloc: Global,
+    code: &Code<'m>,
+    spot: SharingContext<'_>,
+) -> Result<Code<'m>, GaveUp>
     ensures { IfOk result (λ c. Agrees spot.entry.outside.now code.now c) }
 {
     let next = under(spot, 0)?;
@@ -192,7 +200,11 @@ fn shared_parts<'m>(alloc: Global, code: &Code<'m>, spot: Spot<'_>) -> Result<Co
 
 /// Forms with a list of parts.
 #[cycle(share)]
-fn shared_lists<'m>(alloc: Global, code: &Code<'m>, spot: Spot<'_>) -> Result<Code<'m>, Declined>
+fn shared_lists<'m>(
+    alloc: Global,
+    code: &Code<'m>,
+    spot: SharingContext<'_>,
+) -> Result<Code<'m>, GaveUp>
     ensures { IfOk result (λ c. Agrees spot.entry.outside.now code.now c) }
 {
     let next = under(spot, 0)?;
@@ -215,21 +227,25 @@ fn shared_lists<'m>(alloc: Global, code: &Code<'m>, spot: Spot<'_>) -> Result<Co
             let updates = updates_shared(alloc, updates, next)?;
             Ok(Code::Except(*place, base, updates))
         }
-        Code::Opened(place, openings, body) => {
+        Code::Destructure(place, openings, body) => {
             let Some(more) = items_of(openings) else {
-                return Err(Declined);
+                return Err(GaveUp);
             };
             let body = boxed_body(alloc, body, more, next)?;
             let openings = openings.to_vec(alloc)?;
-            Ok(Code::Opened(*place, openings, body))
+            Ok(Code::Destructure(*place, openings, body))
         }
-        _ => Err(Declined),
+        _ => Err(GaveUp),
     }
 }
 
 /// An operand, in a box.
 #[cycle(share)]
-fn boxed<'m>(alloc: Global, code: &Code<'m>, spot: Spot<'_>) -> Result<Box<Code<'m>>, Declined>
+fn boxed<'m>(
+    alloc: Global,
+    code: &Code<'m>,
+    spot: SharingContext<'_>,
+) -> Result<Box<Code<'m>>, GaveUp>
     ensures { IfOk result (λ c. Agrees spot.entry.outside.now code.now c.value) }
 {
     let next = under(spot, 0)?;
@@ -243,8 +259,8 @@ fn boxed_body<'m>(
     alloc: Global,
     code: &Code<'m>,
     more: usize,
-    spot: Spot<'_>,
-) -> Result<Box<Code<'m>>, Declined>
+    spot: SharingContext<'_>,
+) -> Result<Box<Code<'m>>, GaveUp>
     ensures { IfOk result (λ c. Agrees spot.entry.outside.now code.now c.value) }
 {
     let inner = under(spot, more)?;
@@ -256,8 +272,8 @@ fn boxed_body<'m>(
 fn each_shared<'m>(
     alloc: Global,
     codes: &[Code<'m>],
-    spot: Spot<'_>,
-) -> Result<Vec<Code<'m>>, Declined>
+    spot: SharingContext<'_>,
+) -> Result<Vec<Code<'m>>, GaveUp>
     ensures { IfOk result (λ cs. AllZip (Agrees spot.entry.outside.now) codes.now cs.items) }
 {
     let next = under(spot, 0)?;
@@ -272,8 +288,8 @@ fn each_shared<'m>(
 fn fields_shared<'m>(
     alloc: Global,
     fields: &[(&'m Text, Code<'m>)],
-    spot: Spot<'_>,
-) -> Result<Vec<(&'m Text, Code<'m>)>, Declined>
+    spot: SharingContext<'_>,
+) -> Result<Vec<(&'m Text, Code<'m>)>, GaveUp>
     ensures { IfOk result (λ cs. AllZip (FieldAgrees spot.entry.outside.now) fields.now cs.items) }
 {
     let next = under(spot, 0)?;
@@ -289,8 +305,8 @@ fn fields_shared<'m>(
 fn updates_shared<'m>(
     alloc: Global,
     updates: &[(Vec<Code<'m>>, Code<'m>)],
-    spot: Spot<'_>,
-) -> Result<Vec<(Vec<Code<'m>>, Code<'m>)>, Declined>
+    spot: SharingContext<'_>,
+) -> Result<Vec<(Vec<Code<'m>>, Code<'m>)>, GaveUp>
     ensures { IfOk result (λ cs.
         AllZip (UpdateAgrees spot.entry.outside.now) updates.now cs.items) }
 {

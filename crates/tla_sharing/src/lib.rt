@@ -4,13 +4,13 @@
 mod choice;
 mod constants;
 mod copies;
-mod declined;
 mod definitions;
+mod gave_up;
 mod lowered;
 mod measures;
-mod reading;
 mod replaced;
 mod shift;
+mod usage;
 
 pub use constants::{constant_in, with_constant};
 pub use definitions::shared;

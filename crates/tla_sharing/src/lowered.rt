@@ -1,6 +1,6 @@
-//! The expression that a part is a copy of, under fewer names. What is found here is only proposed: `is_copy` decides.
+//! Renumbers a part as if it were outside the binders around it. The result is only proposed: `is_copy` checks it.
 
-use crate::declined::Declined;
+use crate::gave_up::GaveUp;
 use std::alloc::Global;
 use tla_code::Code;
 use tla_core::{Core, Opening};
@@ -14,7 +14,7 @@ pub(crate) struct Gap {
 }
 
 /// The number of a name once the gap is closed. A name of the gap has none.
-fn lowered_name(index: usize, gap: Gap) -> Result<usize, Declined> {
+fn lowered_name(index: usize, gap: Gap) -> Result<usize, GaveUp> {
     if index < gap.from {
         return Ok(index);
     }
@@ -23,10 +23,10 @@ fn lowered_name(index: usize, gap: Gap) -> Result<usize, Declined> {
             if lower >= gap.from {
                 Ok(lower)
             } else {
-                Err(Declined)
+                Err(GaveUp)
             }
         }
-        None => Err(Declined),
+        None => Err(GaveUp),
     }
 }
 
@@ -45,19 +45,19 @@ fn is_known(core: &Core) -> bool {
 
 /// The expression that a part is a copy of, if the part uses no name of the gap.
 #[cycle(lower)]
-pub(crate) fn lowered<'m>(alloc: Global, code: &Code<'m>, gap: Gap) -> Result<Code<'m>, Declined> {
+pub(crate) fn lowered<'m>(alloc: Global, code: &Code<'m>, gap: Gap) -> Result<Code<'m>, GaveUp> {
     match code {
         Code::Plain(core) => {
             if is_known(core) {
                 Ok(Code::Plain(core))
             } else {
-                Err(Declined)
+                Err(GaveUp)
             }
         }
         Code::Bound(place, index) => Ok(Code::Bound(*place, lowered_name(*index, gap)?)),
         Code::Use(place, number, since) => match since.checked_sub(gap.by) {
             Some(since) => Ok(Code::Use(*place, *number, since)),
-            None => Err(Declined),
+            None => Err(GaveUp),
         },
         Code::One(place, form, a) => {
             let a = lowered_box(alloc, a, gap)?;
@@ -85,7 +85,7 @@ pub(crate) fn lowered<'m>(alloc: Global, code: &Code<'m>, gap: Gap) -> Result<Co
 
 /// Forms with a list of parts.
 #[cycle(lower)]
-fn lowered_list<'m>(alloc: Global, code: &Code<'m>, gap: Gap) -> Result<Code<'m>, Declined> {
+fn lowered_list<'m>(alloc: Global, code: &Code<'m>, gap: Gap) -> Result<Code<'m>, GaveUp> {
     match code {
         Code::List(place, form, parts) => {
             let parts = each_lowered(alloc, parts, gap)?;
@@ -105,27 +105,23 @@ fn lowered_list<'m>(alloc: Global, code: &Code<'m>, gap: Gap) -> Result<Code<'m>
             let updates = updates_lowered(alloc, updates, gap)?;
             Ok(Code::Except(*place, base, updates))
         }
-        Code::Opened(place, openings, body) => {
+        Code::Destructure(place, openings, body) => {
             let openings = openings_lowered(alloc, openings, gap)?;
             let body = lowered_box(alloc, body, gap)?;
-            Ok(Code::Opened(*place, openings, body))
+            Ok(Code::Destructure(*place, openings, body))
         }
-        _ => Err(Declined),
+        _ => Err(GaveUp),
     }
 }
 
 #[cycle(lower)]
-fn lowered_box<'m>(alloc: Global, code: &Code<'m>, gap: Gap) -> Result<Box<Code<'m>>, Declined> {
+fn lowered_box<'m>(alloc: Global, code: &Code<'m>, gap: Gap) -> Result<Box<Code<'m>>, GaveUp> {
     let code = lowered(alloc, code, gap)?;
     Ok(Box::new(alloc, code)?)
 }
 
 #[cycle(lower)]
-fn each_lowered<'m>(
-    alloc: Global,
-    codes: &[Code<'m>],
-    gap: Gap,
-) -> Result<Vec<Code<'m>>, Declined> {
+fn each_lowered<'m>(alloc: Global, codes: &[Code<'m>], gap: Gap) -> Result<Vec<Code<'m>>, GaveUp> {
     let mut made = Vec::new(alloc);
     for code in codes {
         made.push(lowered(alloc, code, gap)?)?;
@@ -138,7 +134,7 @@ fn fields_lowered<'m>(
     alloc: Global,
     fields: &[(&'m Text, Code<'m>)],
     gap: Gap,
-) -> Result<Vec<(&'m Text, Code<'m>)>, Declined> {
+) -> Result<Vec<(&'m Text, Code<'m>)>, GaveUp> {
     let mut made = Vec::new(alloc);
     for field in fields {
         let code = lowered(alloc, &field.1, gap)?;
@@ -152,7 +148,7 @@ fn updates_lowered<'m>(
     alloc: Global,
     updates: &[(Vec<Code<'m>>, Code<'m>)],
     gap: Gap,
-) -> Result<Vec<(Vec<Code<'m>>, Code<'m>)>, Declined> {
+) -> Result<Vec<(Vec<Code<'m>>, Code<'m>)>, GaveUp> {
     let mut made = Vec::new(alloc);
     for update in updates {
         let keys = each_lowered(alloc, update.0.as_slice(), gap)?;
@@ -162,11 +158,7 @@ fn updates_lowered<'m>(
     Ok(made)
 }
 
-fn openings_lowered(
-    alloc: Global,
-    openings: &[Opening],
-    gap: Gap,
-) -> Result<Vec<Opening>, Declined> {
+fn openings_lowered(alloc: Global, openings: &[Opening], gap: Gap) -> Result<Vec<Opening>, GaveUp> {
     let mut made = Vec::new(alloc);
     for opening in openings {
         let name = lowered_name(opening.name, gap)?;

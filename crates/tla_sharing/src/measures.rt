@@ -5,9 +5,9 @@ use tla_core::{Binary, Opening, Unary};
 use tla_value::Text;
 
 /// From this size on an expression is worth a definition.
-const LEAST_SIZE: usize = 8;
+const MIN_SHARED_SIZE: usize = 8;
 
-/// How many names patterns bind.
+/// How many names some patterns bind.
 pub(crate) fn items_of(openings: &[Opening]) -> Option<usize> {
     let mut count = 0usize;
     for opening in openings {
@@ -17,25 +17,25 @@ pub(crate) fn items_of(openings: &[Opening]) -> Option<usize> {
 }
 
 /// From this size of an expression on, copies aren't looked for in all of it.
-const LEAST_LARGE: usize = 4_000;
+const MIN_LARGE_SIZE: usize = 4_000;
 
-/// The same if parts are inside one another this many times.
-const LEAST_DEEP: usize = 100;
+/// The same from this depth on.
+const MIN_LARGE_DEPTH: usize = 100;
 
 /// Whether copies are looked for in all of an expression. Each part is compared with each other one, and two parts may
 /// first differ at their innermost parts.
 pub(crate) fn is_small(code: &Code<'_>) -> bool {
-    let near = size(code, LEAST_DEEP);
-    near < LEAST_LARGE && near == size(code, LEAST_LARGE)
+    let near = size(code, MIN_LARGE_DEPTH);
+    near < MIN_LARGE_SIZE && near == size(code, MIN_LARGE_SIZE)
 }
 
 /// Whether an expression is worth a definition: it makes a set or a function, or is large.
-pub(crate) fn is_dear(code: &Code<'_>) -> bool {
-    makes_much(code) || size(code, LEAST_SIZE) >= LEAST_SIZE
+pub(crate) fn is_expensive(code: &Code<'_>) -> bool {
+    builds_or_visits_set(code) || size(code, MIN_SHARED_SIZE) >= MIN_SHARED_SIZE
 }
 
 /// Whether a form makes a set or a function, or visits one.
-pub(crate) fn makes_much(code: &Code<'_>) -> bool {
+pub(crate) fn builds_or_visits_set(code: &Code<'_>) -> bool {
     match code {
         Code::Binder(_, _, _, _) | Code::Map(_, _, _, _) => true,
         Code::One(_, OneForm::Power, _) => true,
@@ -57,23 +57,32 @@ pub(crate) fn size(code: &Code<'_>, most: usize) -> usize {
     let left = most - 1;
     let inside = match code {
         Code::One(_, _, a) => size(a, left),
-        Code::Two(_, _, a, b) | Code::Binder(_, _, a, b) => sum(size(a, left), size(b, left)),
-        Code::Three(_, _, a, b, c) => sum(sum(size(a, left), size(b, left)), size(c, left)),
+        Code::Two(_, _, a, b) | Code::Binder(_, _, a, b) => saturating_sum(
+            size(a, left),
+            size(b, left),
+        ),
+        Code::Three(_, _, a, b, c) => saturating_sum(
+            saturating_sum(size(a, left), size(b, left)),
+            size(c, left),
+        ),
         Code::List(_, _, parts) => size_of_all(parts, left),
         Code::Fields(_, _, fields) => size_of_fields(fields, left),
-        Code::Map(_, _, parts, body) => sum(size_of_all(parts, left), size(body, left)),
-        Code::Except(_, base, updates) => sum(size(base, left), size_of_updates(updates, left)),
-        Code::Opened(_, _, body) => size(body, left),
+        Code::Map(_, _, parts, body) => saturating_sum(size_of_all(parts, left), size(body, left)),
+        Code::Except(_, base, updates) => saturating_sum(
+            size(base, left),
+            size_of_updates(updates, left),
+        ),
+        Code::Destructure(_, _, body) => size(body, left),
         _ => 0,
     };
-    sum(inside, 1)
+    saturating_sum(inside, 1)
 }
 
 #[cycle(count)]
 fn size_of_all(codes: &[Code<'_>], most: usize) -> usize {
     let mut total = 0usize;
     for code in codes {
-        total = sum(total, size(code, most));
+        total = saturating_sum(total, size(code, most));
     }
     total
 }
@@ -82,7 +91,7 @@ fn size_of_all(codes: &[Code<'_>], most: usize) -> usize {
 fn size_of_fields(fields: &[(&Text, Code<'_>)], most: usize) -> usize {
     let mut total = 0usize;
     for field in fields {
-        total = sum(total, size(&field.1, most));
+        total = saturating_sum(total, size(&field.1, most));
     }
     total
 }
@@ -92,12 +101,12 @@ fn size_of_updates(updates: &[(Vec<Code<'_>>, Code<'_>)], most: usize) -> usize 
     let mut total = 0usize;
     for update in updates {
         let keys = size_of_all(update.0.as_slice(), most);
-        total = sum(total, sum(keys, size(&update.1, most)));
+        total = saturating_sum(total, saturating_sum(keys, size(&update.1, most)));
     }
     total
 }
 
-fn sum(one: usize, other: usize) -> usize {
+fn saturating_sum(one: usize, other: usize) -> usize {
     one.saturating_add(other)
 }
 
@@ -120,7 +129,7 @@ pub(crate) fn needs(code: &Code<'_>, number: usize) -> bool {
         Code::Binder(_, _, set, _) => needs(set, number),
         Code::Map(_, _, sets, _) => some_needs(sets, number),
         Code::Except(_, base, _) => needs(base, number),
-        Code::Opened(_, _, body) => needs(body, number),
+        Code::Destructure(_, _, body) => needs(body, number),
         _ => false,
     }
 }
@@ -133,11 +142,11 @@ fn needs_second(form: TwoForm) -> bool {
     }
 }
 
-/// Logic evaluates its first part; a list evaluates each.
+/// Logic and CASE evaluate their first part; a list evaluates each.
 #[cycle(need)]
 fn needs_part(form: ListForm, parts: &[Code<'_>], number: usize) -> bool {
     match form {
-        ListForm::Conjunction | ListForm::Disjunction => match parts.first() {
+        ListForm::Conjunction | ListForm::Disjunction | ListForm::Cases => match parts.first() {
             Some(part) => needs(part, number),
             None => false,
         },
@@ -179,7 +188,7 @@ pub(crate) fn uses(code: &Code<'_>, number: usize) -> bool {
         Code::Fields(_, _, fields) => some_field_uses(fields, number),
         Code::Map(_, _, sets, body) => some_uses(sets, number) || uses(body, number),
         Code::Except(_, base, updates) => uses(base, number) || some_update_uses(updates, number),
-        Code::Opened(_, _, body) => uses(body, number),
+        Code::Destructure(_, _, body) => uses(body, number),
         _ => false,
     }
 }

@@ -4,7 +4,7 @@ ghost use Rattle.std.specs.List.{AllZip};
 ghost use Rattle.tla_sharing.specs.Private.Copies.{Replaces, FieldReplaces, UpdateReplaces};
 
 use crate::copies::is_copy;
-use crate::declined::Declined;
+use crate::gave_up::GaveUp;
 use crate::measures::items_of;
 use crate::shift::Shift;
 use std::alloc::Global;
@@ -32,7 +32,7 @@ fn place_of(code: &Code<'_>) -> Option<Place> {
         | Code::Binder(place, _, _, _)
         | Code::Map(place, _, _, _)
         | Code::Except(place, _, _)
-        | Code::Opened(place, _, _) => Some(*place),
+        | Code::Destructure(place, _, _) => Some(*place),
         _ => None,
     }
 }
@@ -45,7 +45,7 @@ pub(crate) fn replaced<'t, 'm>(
     code: &Code<'m>,
     by: usize,
     target: Target<'t, 'm>,
-) -> Result<Code<'m>, Declined>
+) -> Result<Code<'m>, GaveUp>
     ensures { IfOk result (λ c. Replaces target.entry code.now c) }
 {
     let shift = Shift {
@@ -55,7 +55,7 @@ pub(crate) fn replaced<'t, 'm>(
     };
     if is_copy(target.definition, code, shift) {
         let Some(place) = place_of(code) else {
-            return Err(Declined);
+            return Err(GaveUp);
         };
         return Ok(Code::Use(place, target.outside.len(), by));
     }
@@ -69,7 +69,7 @@ fn replaced_within<'t, 'm>(
     code: &Code<'m>,
     by: usize,
     target: Target<'t, 'm>,
-) -> Result<Code<'m>, Declined>
+) -> Result<Code<'m>, GaveUp>
     ensures { IfOk result (λ c. Replaces target.entry code.now c) }
 {
     match code {
@@ -79,7 +79,7 @@ fn replaced_within<'t, 'm>(
             if *number < target.outside.len() {
                 Ok(Code::Use(*place, *number, *since))
             } else {
-                Err(Declined)
+                Err(GaveUp)
             }
         }
         Code::One(place, form, a) => {
@@ -113,7 +113,7 @@ fn replaced_in_lists<'t, 'm>(
     code: &Code<'m>,
     by: usize,
     target: Target<'t, 'm>,
-) -> Result<Code<'m>, Declined>
+) -> Result<Code<'m>, GaveUp>
     ensures { IfOk result (λ c. Replaces target.entry code.now c) }
 {
     match code {
@@ -135,15 +135,15 @@ fn replaced_in_lists<'t, 'm>(
             let updates = updates_replaced(alloc, updates, by, target)?;
             Ok(Code::Except(*place, base, updates))
         }
-        Code::Opened(place, openings, body) => {
+        Code::Destructure(place, openings, body) => {
             let Some(more) = items_of(openings) else {
-                return Err(Declined);
+                return Err(GaveUp);
             };
             let body = boxed_under(alloc, body, by, more, target)?;
             let openings = openings.to_vec(alloc)?;
-            Ok(Code::Opened(*place, openings, body))
+            Ok(Code::Destructure(*place, openings, body))
         }
-        _ => Err(Declined),
+        _ => Err(GaveUp),
     }
 }
 
@@ -154,7 +154,7 @@ fn boxed<'t, 'm>(
     code: &Code<'m>,
     by: usize,
     target: Target<'t, 'm>,
-) -> Result<Box<Code<'m>>, Declined>
+) -> Result<Box<Code<'m>>, GaveUp>
     ensures { IfOk result (λ c. Replaces target.entry code.now c.value) }
 {
     let code = replaced(alloc, code, by, target)?;
@@ -169,11 +169,11 @@ fn boxed_under<'t, 'm>(
     by: usize,
     more: usize,
     target: Target<'t, 'm>,
-) -> Result<Box<Code<'m>>, Declined>
+) -> Result<Box<Code<'m>>, GaveUp>
     ensures { IfOk result (λ c. Replaces target.entry code.now c.value) }
 {
     let Some(by) = by.checked_add(more) else {
-        return Err(Declined);
+        return Err(GaveUp);
     };
     boxed(alloc, code, by, target)
 }
@@ -184,7 +184,7 @@ fn each_replaced<'t, 'm>(
     codes: &[Code<'m>],
     by: usize,
     target: Target<'t, 'm>,
-) -> Result<Vec<Code<'m>>, Declined>
+) -> Result<Vec<Code<'m>>, GaveUp>
     ensures { IfOk result (λ cs. AllZip (Replaces target.entry) codes.now cs.items) }
 {
     let mut made = Vec::new(alloc);
@@ -200,7 +200,7 @@ fn fields_replaced<'t, 'm>(
     fields: &[(&'m Text, Code<'m>)],
     by: usize,
     target: Target<'t, 'm>,
-) -> Result<Vec<(&'m Text, Code<'m>)>, Declined>
+) -> Result<Vec<(&'m Text, Code<'m>)>, GaveUp>
     ensures { IfOk result (λ cs. AllZip (FieldReplaces target.entry) fields.now cs.items) }
 {
     let mut made = Vec::new(alloc);
@@ -217,7 +217,7 @@ fn updates_replaced<'t, 'm>(
     updates: &[(Vec<Code<'m>>, Code<'m>)],
     by: usize,
     target: Target<'t, 'm>,
-) -> Result<Vec<(Vec<Code<'m>>, Code<'m>)>, Declined>
+) -> Result<Vec<(Vec<Code<'m>>, Code<'m>)>, GaveUp>
     ensures { IfOk result (λ cs. AllZip (UpdateReplaces target.entry) updates.now cs.items) }
 {
     let mut made = Vec::new(alloc);
@@ -236,11 +236,11 @@ fn value_replaced<'t, 'm>(
     code: &Code<'m>,
     by: usize,
     target: Target<'t, 'm>,
-) -> Result<Code<'m>, Declined>
+) -> Result<Code<'m>, GaveUp>
     ensures { IfOk result (λ c. Replaces target.entry code.now c) }
 {
     let Some(by) = by.checked_add(1) else {
-        return Err(Declined);
+        return Err(GaveUp);
     };
     replaced(alloc, code, by, target)
 }

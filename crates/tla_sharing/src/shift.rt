@@ -80,7 +80,7 @@ pub(crate) fn is_same_form(one: &OneForm<'_>, other: &OneForm<'_>) -> bool
         (OneForm::Field(name), OneForm::Field(named)) => name.as_str() == named.as_str(),
         (OneForm::Sequences, OneForm::Sequences) => true,
         (OneForm::Power, OneForm::Power) => true,
-        (OneForm::Tried(count), OneForm::Tried(number)) => count == number,
+        (OneForm::CheckPattern(count), OneForm::CheckPattern(number)) => count == number,
         (_, _) => false,
     }
 }

@@ -37,7 +37,7 @@ fn gather(
 ) -> Result<(), AllocError> {
     match core {
         Core::Disjunction(_, disjuncts) => gather_all(disjuncts, within, starts, parts),
-        Core::ForSome(_, _, body) | Core::Opened(_, _, body) => {
+        Core::ForSome(_, _, body) | Core::Destructure(_, _, body) => {
             gather(body, within, starts, parts)
         }
         Core::Conjunction(place, conjuncts) => match leading_conjunct(*place, conjuncts, starts) {

@@ -58,7 +58,9 @@ fn find_blocked<'a>(
     match part {
         Core::Disjunction(_, parts) => find_in_disjuncts(parts, walk, blocks),
         Core::ForSome(_, set, body) => find_by_element(body, set, part, walk, blocks),
-        Core::Opened(place, openings, body) => find_by_items(body, openings, *place, walk, blocks),
+        Core::Destructure(place, openings, body) => find_by_items(
+            body, openings, *place, walk, blocks,
+        ),
         _ => add_blocked(part, walk, blocks),
     }
 }
@@ -163,7 +165,7 @@ fn find_stop<'a>(
     blocked: &mut Blocked<'a>,
 ) -> Result<(), Fault> {
     match part {
-        Core::Opened(place, openings, body) => {
+        Core::Destructure(place, openings, body) => {
             stop_by_items(body, openings, *place, from, walk, blocked)
         }
         Core::Conjunction(_, parts) => stop_in_turn(parts, from, walk, blocked),

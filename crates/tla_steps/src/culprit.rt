@@ -159,7 +159,7 @@ fn hunt_in_body<'a>(
             };
             hunt_in_updates(updates, &old, next, hunt)
         }
-        Core::Opened(place, openings, body) => {
+        Core::Destructure(place, openings, body) => {
             let count = hunt.walk.len();
             if !hunt.walk.open(*place, openings)? {
                 return Ok(false);
@@ -184,7 +184,7 @@ fn hunt_in_operands<'a>(
         | Core::Field(_, _, part)
         | Core::Sequences(_, part)
         | Core::Power(_, part)
-        | Core::Tried(_, _, part)
+        | Core::CheckPattern(_, _, part)
         | Core::Assert(_, part, _) => hunt_if_faulty(part, next, hunt),
         Core::Binary(_, _, left, right)
         | Core::Apply(_, left, right)
@@ -499,7 +499,7 @@ fn two_operands(core: &Core) -> (Option<&Core>, Option<&Core>) {
         | Core::Field(_, _, part)
         | Core::Sequences(_, part)
         | Core::Power(_, part)
-        | Core::Tried(_, _, part)
+        | Core::CheckPattern(_, _, part)
         | Core::If(_, part, _, _)
         | Core::Except(_, part, _)
         | Core::ForAll(_, part, _)

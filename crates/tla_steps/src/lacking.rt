@@ -28,7 +28,7 @@ fn gather(part: &Core, variable: usize, places: &mut Vec<Place>) -> Result<(), A
     }
     match part {
         Core::Disjunction(_, parts) => gather_all(parts, variable, places),
-        Core::ForSome(_, _, body) | Core::Opened(_, _, body) => gather(body, variable, places),
+        Core::ForSome(_, _, body) | Core::Destructure(_, _, body) => gather(body, variable, places),
         Core::Conjunction(place, parts) => match setting(parts, variable) {
             Some(index) => gather_at(parts, index, variable, places),
             None => add(*place, places),
@@ -98,7 +98,7 @@ fn sets_always(part: &Core, variable: usize) -> bool {
         Core::Equal(_, left, _) | Core::Member(_, left, _) => is_next(left, variable),
         Core::Conjunction(_, parts) => some_sets(parts, variable),
         Core::Disjunction(_, parts) => all_set(parts, variable),
-        Core::ForAll(_, _, body) | Core::ForSome(_, _, body) | Core::Opened(_, _, body) => {
+        Core::ForAll(_, _, body) | Core::ForSome(_, _, body) | Core::Destructure(_, _, body) => {
             sets_always(body, variable)
         }
         Core::If(_, _, yes, no) => sets_always(yes, variable) && sets_always(no, variable),
@@ -146,7 +146,7 @@ pub fn may_set(part: &Core, variable: usize) -> bool {
     match part {
         Core::Equal(_, left, _) | Core::Member(_, left, _) => is_next(left, variable),
         Core::Conjunction(_, parts) | Core::Disjunction(_, parts) => one_may_set(parts, variable),
-        Core::ForAll(_, _, body) | Core::ForSome(_, _, body) | Core::Opened(_, _, body) => {
+        Core::ForAll(_, _, body) | Core::ForSome(_, _, body) | Core::Destructure(_, _, body) => {
             may_set(body, variable)
         }
         Core::If(_, _, yes, no) => may_set(yes, variable) || may_set(no, variable),
@@ -231,7 +231,7 @@ fn find_lack<'a>(
     match part {
         Core::Disjunction(_, parts) => find_in_disjuncts(parts, from, walk, lack),
         Core::ForSome(place, set, body) => find_by_element(body, set, *place, from, walk, lack),
-        Core::Opened(place, openings, body) => {
+        Core::Destructure(place, openings, body) => {
             find_by_items(body, openings, *place, from, walk, lack)
         }
         _ => find_in_part(part, from, walk, lack),

@@ -38,7 +38,7 @@ pub fn add_missed<'a>(
 pub fn has_update(part: &Core) -> bool {
     match part {
         Core::Conjunction(_, parts) | Core::Disjunction(_, parts) => one_has_update(parts),
-        Core::ForAll(_, _, body) | Core::ForSome(_, _, body) | Core::Opened(_, _, body) => {
+        Core::ForAll(_, _, body) | Core::ForSome(_, _, body) | Core::Destructure(_, _, body) => {
             has_update(body)
         }
         Core::If(_, _, yes, no) => has_update(yes) || has_update(no),
@@ -87,7 +87,7 @@ fn find_missed<'a>(
         Core::ForAll(place, set, body) | Core::ForSome(place, set, body) => {
             find_by_element(body, set, *place, next, walk, found)
         }
-        Core::Opened(place, openings, body) => {
+        Core::Destructure(place, openings, body) => {
             find_by_items(body, openings, *place, next, walk, found)
         }
         Core::If(_, condition, yes, no) => match walk.truth(condition, next)? {

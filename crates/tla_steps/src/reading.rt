@@ -43,7 +43,7 @@ fn hunt_in_reading<'a>(
 /// Whether a part is evaluated, and isn't read part by part.
 fn is_evaluated(part: &Core, from: &Partial) -> bool {
     match part {
-        Core::Opened(_, _, _) => false,
+        Core::Destructure(_, _, _) => false,
         Core::Conjunction(_, _)
         | Core::Disjunction(_, _)
         | Core::ForAll(_, _, _)
@@ -88,7 +88,7 @@ fn hunt_in_steps<'a>(
         Core::Cases(_, arms, Some(last)) => {
             Ok(hunt_in_arms(arms, from, hunt)? || hunt_if_faulty(last, from, hunt)?)
         }
-        Core::Opened(place, openings, body) => {
+        Core::Destructure(place, openings, body) => {
             let count = hunt.walk.len();
             if !hunt.walk.open(*place, openings)? {
                 return Ok(false);

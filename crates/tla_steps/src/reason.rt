@@ -105,7 +105,7 @@ fn find_in_parts<'a>(
             find_by_element(body, set, *place, true, next, walk, found)
         }
         Core::ForSome(_, set, body) => find_by_each(body, set, part, next, walk, found),
-        Core::Opened(place, openings, body) => {
+        Core::Destructure(place, openings, body) => {
             find_by_items(body, openings, *place, holds, next, walk, found)
         }
         _ => find_in_branch(part, holds, next, walk, found),

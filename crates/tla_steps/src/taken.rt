@@ -85,7 +85,7 @@ fn find_taken(
     match part {
         Core::Disjunction(_, parts) => find_in_disjuncts(parts, step, walk, found),
         Core::ForSome(place, set, body) => find_by_element(body, set, *place, step, walk, found),
-        Core::Opened(place, openings, body) => {
+        Core::Destructure(place, openings, body) => {
             find_by_items(body, openings, *place, step, walk, found)
         }
         Core::Conjunction(place, conjuncts) => {

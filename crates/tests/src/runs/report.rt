@@ -53,7 +53,7 @@ fn about_x(alloc: Global, answer: Answer) -> Result<Checked, AllocError>
 // A variable that isn't set where an invariant asks for it.
 fn lacking(alloc: Global) -> Result<Checked, AllocError> {
     let fault = Fault {
-        code: FaultCode::Lacking,
+        code: FaultCode::Unassigned,
         place: None,
         variable: Some(0),
     };

@@ -1,8 +1,8 @@
 -- When a code has the expression of a core, and the expressions of lists of both.
-use Rattle.std.specs.Prelude.{◌≡◌, ℕ, List, [], ◌∷◌}
+use Rattle.std.specs.Prelude.{◌≡◌, ℕ, List, [], ◌∷◌, Option, Some, None}
 use Rattle.std.specs.List.{AllZip}
 use Rattle.std.proofs.Common.{Vec, Bor, Global}
-use Rattle.tla_core.specs.Expr.{Exprs, Fields, Updates, no_exprs, more_exprs, no_fields, more_fields, no_updates, more_updates}
+use Rattle.tla_core.specs.Expr.{Exprs, Fields, Arms, Updates, no_exprs, more_exprs, no_fields, more_fields, no_arms, other, more_arms, no_updates, more_updates}
 use Rattle.tla_core.specs.ExprOf.{expr_of}
 use Rattle.tla_core.specs.declared.expression.Core.{Core}
 use Rattle.tla_code.specs.CodeExpr.{Scope, expr_in}
@@ -27,6 +27,19 @@ exprs_of_cores (c ∷ cs) = more_exprs (expr_of c) (exprs_of_cores cs)
 abbrev pub fields_of_list : List (List ℕ × Core) → Fields
 fields_of_list [] = no_fields
 fields_of_list (f ∷ fs) = more_fields f.0 (expr_of f.1) (fields_of_list fs)
+
+-- the conditions and values of arms in turn, and the arms of a CASE before its last
+abbrev pub parts_of_arms : List (Core × Core) → List Core
+parts_of_arms [] = []
+parts_of_arms (a ∷ arms) = a.0 ∷ a.1 ∷ parts_of_arms arms
+
+abbrev pub arms_of_list : List (Core × Core) → Arms → Arms
+arms_of_list [] last = last
+arms_of_list (a ∷ arms) last = more_arms (expr_of a.0) (expr_of a.1) (arms_of_list arms last)
+
+abbrev pub arm_of_other : Option (Bor Core) → Arms
+arm_of_other None = no_arms
+arm_of_other (Some core) = other (expr_of core.now)
 
 abbrev pub updates_of_list : List (Vec Core Global × Core) → Updates
 updates_of_list [] = no_updates

@@ -19,8 +19,8 @@ use crate::evaluation::{ask, evaluate};
 use std::alloc::Global;
 use tla_core::{Core, FaultCode, Place};
 use tla_operators::evaluated::Evaluated;
+use tla_operators::fault_ref::{FaultRef, fault_at};
 use tla_operators::sets::made_set;
-use tla_operators::trouble::{Trouble, fault_at};
 use tla_sets::elements::{
     Elements, chosen_at, count_of, element_at, elements_of_two, keep_at, members_of,
 };
@@ -34,7 +34,7 @@ pub(super) fn for_all<'c: 'a, 'a>(
     set: &'c Core,
     body: &'c Core,
     env: Environment<'a>,
-) -> Result<Evaluated<'a>, Trouble<'c>>
+) -> Result<Evaluated<'a>, FaultRef<'c>>
     ensures { Evaluates result
         ((means-for_all place.now (means (expr_of set.now)) (means (expr_of body.now))).value
         (bound_in env.entry) (present_in env.entry) (next_in env.entry)) }
@@ -51,7 +51,7 @@ pub(super) fn for_some<'c: 'a, 'a>(
     set: &'c Core,
     body: &'c Core,
     env: Environment<'a>,
-) -> Result<Evaluated<'a>, Trouble<'c>>
+) -> Result<Evaluated<'a>, FaultRef<'c>>
     ensures { Evaluates result
         ((means-for_some place.now (means (expr_of set.now)) (means (expr_of body.now))).value
         (bound_in env.entry) (present_in env.entry) (next_in env.entry)) }
@@ -68,7 +68,7 @@ pub(super) fn choose<'c: 'a, 'a>(
     set: &'c Core,
     body: &'c Core,
     env: Environment<'a>,
-) -> Result<Evaluated<'a>, Trouble<'c>>
+) -> Result<Evaluated<'a>, FaultRef<'c>>
     ensures { Evaluates result
         ((means-choose place.now (means (expr_of set.now)) (means (expr_of body.now))).value
         (bound_in env.entry) (present_in env.entry) (next_in env.entry)) }
@@ -84,7 +84,7 @@ pub(super) fn elements_in<'c: 'a, 'a>(
     place: &'c Place,
     set: &'c Core,
     env: Environment<'a>,
-) -> Result<Elements<'a>, Trouble<'c>>
+) -> Result<Elements<'a>, FaultRef<'c>>
     ensures { GivesElements result
         (elements place.now (means (expr_of set.now)) (bound_in env.entry) (present_in env.entry)
         (next_in env.entry)) }
@@ -108,7 +108,7 @@ fn holds_at<'e, 'c: 'a, 'a>(
     elements: &'e Elements<'e>,
     number: usize,
     env: Environment<'a>,
-) -> Result<bool, Trouble<'c>>
+) -> Result<bool, FaultRef<'c>>
     requires { number < length (elements_of elements.now) }
     ensures { GivesBy (λ (b : Bool). Some b) result
         (tested (λ v.
@@ -128,7 +128,7 @@ fn each_holds<'e, 'c: 'a, 'a>(
     body: &'c Core,
     elements: &'e Elements<'e>,
     env: Environment<'a>,
-) -> Result<bool, Trouble<'c>>
+) -> Result<bool, FaultRef<'c>>
     ensures { GivesTruth result
         (all_hold (λ v.
         asks place.now (means (expr_of body.now)) (bound_in env.entry ++ v ∷ [])
@@ -151,7 +151,7 @@ fn some_holds<'e, 'c: 'a, 'a>(
     body: &'c Core,
     elements: &'e Elements<'e>,
     env: Environment<'a>,
-) -> Result<bool, Trouble<'c>>
+) -> Result<bool, FaultRef<'c>>
     ensures { GivesTruth result
         (some_hold (λ v.
         asks place.now (means (expr_of body.now)) (bound_in env.entry ++ v ∷ [])
@@ -174,7 +174,7 @@ fn first_passing<'e, 'c: 'a, 'a>(
     body: &'c Core,
     elements: &'e Elements<'e>,
     env: Environment<'a>,
-) -> Result<Value, Trouble<'c>>
+) -> Result<Value, FaultRef<'c>>
     ensures { Gives result
         (first_passing place.now (λ v.
         asks place.now (means (expr_of body.now)) (bound_in env.entry ++ v ∷ [])
@@ -197,7 +197,7 @@ pub(super) fn ask_with<'c: 'a, 'a>(
     body: &'c Core,
     value: &'a Value,
     env: Environment<'a>,
-) -> Result<bool, Trouble<'c>>
+) -> Result<bool, FaultRef<'c>>
     ensures { GivesTruth result
         (asks place.now (means (expr_of body.now)) (bound_in env.entry ++ tree_of value.now ∷ [])
         (present_in env.entry) (next_in env.entry)) }
@@ -218,7 +218,7 @@ pub(super) fn value_with<'c: 'a, 'a>(
     body: &'c Core,
     value: &'a Value,
     env: Environment<'a>,
-) -> Result<Value, Trouble<'c>>
+) -> Result<Value, FaultRef<'c>>
     ensures { Gives result
         ((means (expr_of body.now)).value (bound_in env.entry ++ tree_of value.now ∷ [])
         (present_in env.entry) (next_in env.entry)) }
@@ -240,7 +240,7 @@ pub(super) fn filter<'c: 'a, 'a>(
     set: &'c Core,
     body: &'c Core,
     env: Environment<'a>,
-) -> Result<Evaluated<'a>, Trouble<'c>>
+) -> Result<Evaluated<'a>, FaultRef<'c>>
     ensures { Evaluates result
         ((means-filtered place.now (means (expr_of set.now)) (means (expr_of body.now))).value
         (bound_in env.entry) (present_in env.entry) (next_in env.entry)) }
@@ -258,7 +258,7 @@ fn passing<'e, 'c: 'a, 'a>(
     body: &'c Core,
     elements: &'e Elements<'e>,
     env: Environment<'a>,
-) -> Result<Vec<Value>, Trouble<'c>>
+) -> Result<Vec<Value>, FaultRef<'c>>
     ensures { GivesBy (λ v. map tree_of v.items) result
         (passing (λ v.
         asks place.now (means (expr_of body.now)) (bound_in env.entry ++ v ∷ [])

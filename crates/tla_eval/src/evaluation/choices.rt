@@ -20,8 +20,8 @@ use crate::evaluation::patterns::body_value;
 use std::alloc::Global;
 use tla_core::{Core, Place};
 use tla_operators::evaluated::Evaluated;
+use tla_operators::fault_ref::{FaultRef, memory};
 use tla_operators::gathered::Gathered;
-use tla_operators::trouble::{Trouble, memory};
 use tla_sets::domain::{
     Domain, choice_at, domain_of, function_on, function_with, lists_of, member_of,
 };
@@ -35,7 +35,7 @@ pub(super) fn image<'c: 'a, 'a>(
     sets: &'c [Core],
     body: &'c Core,
     env: Environment<'a>,
-) -> Result<Evaluated<'a>, Trouble<'c>>
+) -> Result<Evaluated<'a>, FaultRef<'c>>
     ensures { Evaluates result
         (image_rule place.now (parts_of_cores sets.now) (means (expr_of body.now))
         (bound_in env.entry) (present_in env.entry) (next_in env.entry)) }
@@ -54,7 +54,7 @@ pub(super) fn function<'c: 'a, 'a>(
     sets: &'c [Core],
     body: &'c Core,
     env: Environment<'a>,
-) -> Result<Evaluated<'a>, Trouble<'c>>
+) -> Result<Evaluated<'a>, FaultRef<'c>>
     ensures { Evaluates result
         (chosen_function_rule place.now (parts_of_cores sets.now) (means (expr_of body.now))
         (bound_in env.entry) (present_in env.entry) (next_in env.entry)) }
@@ -76,7 +76,7 @@ fn function_on_members<'s, 'c: 'a, 'a>(
     sets: &'s [Evaluated<'s>],
     body: &'c Core,
     env: Environment<'a>,
-) -> Result<Value, Trouble<'c>>
+) -> Result<Value, FaultRef<'c>>
     requires { length sets.now ≡ 1 }
     ensures { Gives result
         (function_for_rule place.now (means (expr_of body.now)) (bound_in env.entry)
@@ -96,7 +96,7 @@ fn function_on_tuples<'s, 'c: 'a, 'a>(
     sets: &'s [Evaluated<'s>],
     body: &'c Core,
     env: Environment<'a>,
-) -> Result<Value, Trouble<'c>>
+) -> Result<Value, FaultRef<'c>>
     requires { length sets.now ≡ 1 → ⊥ }
     ensures { Gives result
         (function_for_rule place.now (means (expr_of body.now)) (bound_in env.entry)
@@ -122,7 +122,7 @@ pub(super) fn evaluated_each<'c: 'a, 'a>(
     alloc: Global,
     cores: &'c [Core],
     env: Environment<'a>,
-) -> Result<Vec<Evaluated<'a>>, Trouble<'c>>
+) -> Result<Vec<Evaluated<'a>>, FaultRef<'c>>
     ensures { GivesBy (λ v. map tree_of_evaluated v.items) result
         (each (λ (m : Meaning).
         m.value (bound_in env.entry) (present_in env.entry) (next_in env.entry))
@@ -150,7 +150,7 @@ fn chosen<'l, 'c: 'a, 'a>(
     body: &'c Core,
     lists: &'l [&'l [Value]],
     env: Environment<'a>,
-) -> Result<Vec<Value>, Trouble<'c>>
+) -> Result<Vec<Value>, FaultRef<'c>>
     ensures { GivesBy (λ v. map tree_of v.items) result
         (values_for (means (expr_of body.now)) (bound_in env.entry) (present_in env.entry)
         (next_in env.entry) (map (λ l. map tree_of l.now) lists.now)) }
@@ -172,7 +172,7 @@ fn chosen_once<'l, 'c: 'a, 'a>(
     body: &'c Core,
     lists: &'l [&'l [Value]],
     env: Environment<'a>,
-) -> Result<Gathered, Trouble<'c>>
+) -> Result<Gathered, FaultRef<'c>>
     ensures { Gathers result
         (values_for (means (expr_of body.now)) (bound_in env.entry) (present_in env.entry)
         (next_in env.entry) (map (λ l. map tree_of l.now) lists.now)) }
@@ -194,7 +194,7 @@ fn pass_over<'l, 'c: 'a, 'a>(
     body: &'c Core,
     lists: &'l [&'l [Value]],
     env: Environment<'a>,
-) -> Result<(), Trouble<'c>>
+) -> Result<(), FaultRef<'c>>
     ensures { GivesBy (λ u. u) result
         (nothing_of
         (values_for (means (expr_of body.now)) (bound_in env.entry) (present_in env.entry)
@@ -217,7 +217,7 @@ fn value_for<'l, 'c: 'a, 'a>(
     lists: &'l [&'l [Value]],
     number: usize,
     env: Environment<'a>,
-) -> Result<Option<Value>, Trouble<'c>>
+) -> Result<Option<Value>, FaultRef<'c>>
     ensures { GivesBy (λ o. option_map tree_of o) result
         (value_at (means (expr_of body.now)) (bound_in env.entry) (present_in env.entry)
         (next_in env.entry)
@@ -238,7 +238,7 @@ fn value_for_member<'l, 'c: 'a, 'a>(
     list: &'l [Value],
     number: usize,
     env: Environment<'a>,
-) -> Result<Option<Value>, Trouble<'c>>
+) -> Result<Option<Value>, FaultRef<'c>>
     ensures { GivesBy (λ o. option_map tree_of o) result
         (value_at (means (expr_of body.now)) (bound_in env.entry) (present_in env.entry)
         (next_in env.entry) (slice_get (choices (map tree_of list.now ∷ [])) number)) }
@@ -257,7 +257,7 @@ fn value_for_choice<'l, 'c: 'a, 'a>(
     lists: &'l [&'l [Value]],
     number: usize,
     env: Environment<'a>,
-) -> Result<Option<Value>, Trouble<'c>>
+) -> Result<Option<Value>, FaultRef<'c>>
     ensures { GivesBy (λ o. option_map tree_of o) result
         (value_at (means (expr_of body.now)) (bound_in env.entry) (present_in env.entry)
         (next_in env.entry)
@@ -276,7 +276,7 @@ pub(super) fn value_with_all<'c: 'a, 'a>(
     body: &'c Core,
     choice: &'a [Value],
     env: Environment<'a>,
-) -> Result<Value, Trouble<'c>>
+) -> Result<Value, FaultRef<'c>>
     ensures { Gives result
         ((means (expr_of body.now)).value (bound_in env.entry ++ map tree_of choice.now)
         (present_in env.entry) (next_in env.entry)) }

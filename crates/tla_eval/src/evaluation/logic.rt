@@ -13,7 +13,7 @@ use crate::evaluation::{ask, evaluate, has};
 use std::alloc::Global;
 use tla_core::{Core, FaultCode, Place};
 use tla_operators::evaluated::Evaluated;
-use tla_operators::trouble::{Trouble, fault_at};
+use tla_operators::fault_ref::{FaultRef, fault_at};
 use tla_value::Value;
 
 /// Whether all parts are TRUE, up to the first that is not.
@@ -23,7 +23,7 @@ pub(super) fn conjunction<'c: 'a, 'a>(
     place: &'c Place,
     parts: &'c [Core],
     env: Environment<'a>,
-) -> Result<Evaluated<'a>, Trouble<'c>>
+) -> Result<Evaluated<'a>, FaultRef<'c>>
     ensures { Evaluates result
         ((means-conjunction place.now (parts_of_cores parts.now)).value (bound_in env.entry)
         (present_in env.entry) (next_in env.entry)) }
@@ -43,7 +43,7 @@ pub(super) fn disjunction<'c: 'a, 'a>(
     place: &'c Place,
     parts: &'c [Core],
     env: Environment<'a>,
-) -> Result<Evaluated<'a>, Trouble<'c>>
+) -> Result<Evaluated<'a>, FaultRef<'c>>
     ensures { Evaluates result
         ((means-disjunction place.now (parts_of_cores parts.now)).value (bound_in env.entry)
         (present_in env.entry) (next_in env.entry)) }
@@ -64,7 +64,7 @@ pub(super) fn implies<'c: 'a, 'a>(
     left: &'c Core,
     right: &'c Core,
     env: Environment<'a>,
-) -> Result<Evaluated<'a>, Trouble<'c>>
+) -> Result<Evaluated<'a>, FaultRef<'c>>
     ensures { Evaluates result
         ((means-implies place.now (means (expr_of left.now)) (means (expr_of right.now))).value
         (bound_in env.entry) (present_in env.entry) (next_in env.entry)) }
@@ -83,7 +83,7 @@ pub(super) fn assert<'c: 'a, 'a>(
     place: &'c Place,
     condition: &'c Core,
     env: Environment<'a>,
-) -> Result<Evaluated<'a>, Trouble<'c>>
+) -> Result<Evaluated<'a>, FaultRef<'c>>
     ensures { Evaluates result
         ((means-assert place.now (means (expr_of condition.now))
         (means (expr_of condition.now))).value
@@ -104,7 +104,7 @@ pub(super) fn cases<'c: 'a, 'a>(
     arms: &'c [(Core, Core)],
     other: Option<&'c Core>,
     env: Environment<'a>,
-) -> Result<Evaluated<'a>, Trouble<'c>>
+) -> Result<Evaluated<'a>, FaultRef<'c>>
     ensures { Evaluates result
         ((means-cases place.now (arms_of_cores arms.now)
         (option_map (λ c. means (expr_of c.now)) other.entry)).value
@@ -130,7 +130,7 @@ pub(super) fn cases_have<'c: 'a, 'a>(
     other: Option<&'c Core>,
     value: &'a Value,
     env: Environment<'a>,
-) -> Result<bool, Trouble<'c>>
+) -> Result<bool, FaultRef<'c>>
     ensures { GivesTruth result
         ((means-cases place.now (arms_of_cores arms.now)
         (option_map (λ c. means (expr_of c.now)) other.entry)).has

@@ -18,8 +18,8 @@ use crate::evaluation::{evaluate, has};
 use std::alloc::Global;
 use tla_core::{Binary, Core, Place};
 use tla_operators::evaluated::Evaluated;
+use tla_operators::fault_ref::FaultRef;
 use tla_operators::sets::{difference_of, intersection_of, members, union_of};
-use tla_operators::trouble::Trouble;
 use tla_sets::asked::{set_has, two_have};
 use tla_value::Value;
 
@@ -30,7 +30,7 @@ pub(super) fn is_member<'c: 'a, 'a>(
     element: &'c Core,
     set: &'c Core,
     env: Environment<'a>,
-) -> Result<Evaluated<'a>, Trouble<'c>>
+) -> Result<Evaluated<'a>, FaultRef<'c>>
     ensures { Evaluates result
         ((means-member (means (expr_of set.now)).place (means (expr_of element.now))
         (means (expr_of set.now))).value
@@ -47,7 +47,7 @@ pub(super) fn is_no_member<'c: 'a, 'a>(
     element: &'c Core,
     set: &'c Core,
     env: Environment<'a>,
-) -> Result<Evaluated<'a>, Trouble<'c>>
+) -> Result<Evaluated<'a>, FaultRef<'c>>
     ensures { Evaluates result
         ((means-not_member (means (expr_of set.now)).place (means (expr_of element.now))
         (means (expr_of set.now))).value
@@ -65,7 +65,7 @@ pub(super) fn is_subset<'c: 'a, 'a>(
     left: &'c Core,
     right: &'c Core,
     env: Environment<'a>,
-) -> Result<Evaluated<'a>, Trouble<'c>>
+) -> Result<Evaluated<'a>, FaultRef<'c>>
     ensures { Evaluates result
         ((means-subset place.now (means (expr_of left.now)) (means (expr_of right.now))).value
         (bound_in env.entry) (present_in env.entry) (next_in env.entry)) }
@@ -82,7 +82,7 @@ pub(super) fn has_all<'c: 'a, 'a>(
     core: &'c Core,
     values: &'a [Value],
     env: Environment<'a>,
-) -> Result<bool, Trouble<'c>>
+) -> Result<bool, FaultRef<'c>>
     ensures { GivesTruth result
         (all_hold (λ v.
         mem v (expr_of core.now) (bound_in env.entry) (present_in env.entry)
@@ -106,7 +106,7 @@ pub(super) fn two_hold<'c: 'a, 'a>(
     right: &'c Core,
     value: &'a Value,
     env: Environment<'a>,
-) -> Result<bool, Trouble<'c>>
+) -> Result<bool, FaultRef<'c>>
     ensures { GivesTruth result
         ((means-binary place.now (binary_of operator) (means (expr_of left.now))
         (means (expr_of right.now))).has
@@ -125,7 +125,7 @@ pub(super) fn is_one_of<'c: 'a, 'a>(
     parts: &'c [Core],
     value: &'a Value,
     env: Environment<'a>,
-) -> Result<bool, Trouble<'c>>
+) -> Result<bool, FaultRef<'c>>
     ensures { GivesTruth result
         (one_of_rule place.now (parts_of_cores parts.now) (tree_of value.now) (bound_in env.entry)
         (present_in env.entry) (next_in env.entry)) }
@@ -142,7 +142,7 @@ pub(super) fn cup<'c: 'a, 'a>(
     left: &'c Core,
     right: &'c Core,
     env: Environment<'a>,
-) -> Result<Evaluated<'a>, Trouble<'c>>
+) -> Result<Evaluated<'a>, FaultRef<'c>>
     ensures { Evaluates result
         ((means-cup place.now (means (expr_of left.now)) (means (expr_of right.now))).value
         (bound_in env.entry) (present_in env.entry) (next_in env.entry)) }
@@ -160,7 +160,7 @@ pub(super) fn cap<'c: 'a, 'a>(
     left: &'c Core,
     right: &'c Core,
     env: Environment<'a>,
-) -> Result<Evaluated<'a>, Trouble<'c>>
+) -> Result<Evaluated<'a>, FaultRef<'c>>
     ensures { Evaluates result
         ((means-cap place.now (means (expr_of left.now)) (means (expr_of right.now))).value
         (bound_in env.entry) (present_in env.entry) (next_in env.entry)) }
@@ -178,7 +178,7 @@ pub(super) fn minus<'c: 'a, 'a>(
     left: &'c Core,
     right: &'c Core,
     env: Environment<'a>,
-) -> Result<Evaluated<'a>, Trouble<'c>>
+) -> Result<Evaluated<'a>, FaultRef<'c>>
     ensures { Evaluates result
         ((means-minus place.now (means (expr_of left.now)) (means (expr_of right.now))).value
         (bound_in env.entry) (present_in env.entry) (next_in env.entry)) }

@@ -16,12 +16,12 @@ use crate::evaluation::evaluate;
 use std::alloc::Global;
 use tla_core::{Binary, Core, Place, Unary};
 use tla_operators::evaluated::Evaluated;
+use tla_operators::fault_ref::FaultRef;
 use tla_operators::functions::{apply, field, made_fun};
 use tla_operators::operators::{binary, unary};
 use tla_operators::rules::copied_text;
 use tla_operators::sequences::{sequence_of, sub_seq};
 use tla_operators::sets::made_set;
-use tla_operators::trouble::Trouble;
 use tla_value::{FunValue, SetValue, Text, Value};
 
 /// An operator on one value.
@@ -32,7 +32,7 @@ pub(super) fn on_one<'c: 'a, 'a>(
     operator: Unary,
     operand: &'c Core,
     env: Environment<'a>,
-) -> Result<Evaluated<'a>, Trouble<'c>>
+) -> Result<Evaluated<'a>, FaultRef<'c>>
     ensures { Evaluates result
         ((means-unary place.now (unary_of operator) (means (expr_of operand.now))).value
         (bound_in env.entry) (present_in env.entry) (next_in env.entry)) }
@@ -50,7 +50,7 @@ pub(super) fn on_two<'c: 'a, 'a>(
     left: &'c Core,
     right: &'c Core,
     env: Environment<'a>,
-) -> Result<Evaluated<'a>, Trouble<'c>>
+) -> Result<Evaluated<'a>, FaultRef<'c>>
     ensures { Evaluates result
         ((means-binary place.now (binary_of operator) (means (expr_of left.now))
         (means (expr_of right.now))).value
@@ -69,7 +69,7 @@ pub(super) fn applied<'c: 'a, 'a>(
     function: &'c Core,
     argument: &'c Core,
     env: Environment<'a>,
-) -> Result<Evaluated<'a>, Trouble<'c>>
+) -> Result<Evaluated<'a>, FaultRef<'c>>
     ensures { Evaluates result
         ((means-binary place.now Apply (means (expr_of function.now))
         (means (expr_of argument.now))).value
@@ -87,7 +87,7 @@ pub(super) fn equal<'c: 'a, 'a>(
     left: &'c Core,
     right: &'c Core,
     env: Environment<'a>,
-) -> Result<Evaluated<'a>, Trouble<'c>>
+) -> Result<Evaluated<'a>, FaultRef<'c>>
     ensures { Evaluates result
         ((means-equal (means (expr_of left.now)).place (means (expr_of left.now))
         (means (expr_of right.now))).value
@@ -106,7 +106,7 @@ pub(super) fn field_of<'c: 'a, 'a>(
     name: &'c Text,
     base: &'c Core,
     env: Environment<'a>,
-) -> Result<Evaluated<'a>, Trouble<'c>>
+) -> Result<Evaluated<'a>, FaultRef<'c>>
     ensures { Evaluates result
         ((means-unary place.now (Field name.now) (means (expr_of base.now))).value
         (bound_in env.entry) (present_in env.entry) (next_in env.entry)) }
@@ -124,7 +124,7 @@ pub(super) fn part_of<'c: 'a, 'a>(
     low: &'c Core,
     high: &'c Core,
     env: Environment<'a>,
-) -> Result<Evaluated<'a>, Trouble<'c>>
+) -> Result<Evaluated<'a>, FaultRef<'c>>
     ensures { Evaluates result
         ((means-sub_seq place.now (means (expr_of sequence.now)) (means (expr_of low.now))
         (means (expr_of high.now))).value
@@ -142,7 +142,7 @@ fn values_of<'c: 'a, 'a>(
     alloc: Global,
     cores: &'c [Core],
     env: Environment<'a>,
-) -> Result<Vec<Value>, Trouble<'c>>
+) -> Result<Vec<Value>, FaultRef<'c>>
     ensures { GivesBy (λ v. map tree_of v.items) result
         (each (λ (m : Meaning).
         m.value (bound_in env.entry) (present_in env.entry) (next_in env.entry))
@@ -161,7 +161,7 @@ fn named_values<'c: 'a, 'a>(
     alloc: Global,
     fields: &'c [(Text, Core)],
     env: Environment<'a>,
-) -> Result<Vec<(Value, Value)>, Trouble<'c>>
+) -> Result<Vec<(Value, Value)>, FaultRef<'c>>
     ensures { GivesBy (λ v. map pair_of v.items) result
         (each (λ (f : List ℕ × Meaning).
         named_value f (bound_in env.entry) (present_in env.entry) (next_in env.entry))
@@ -182,7 +182,7 @@ pub(super) fn enumerated<'c: 'a, 'a>(
     place: &'c Place,
     parts: &'c [Core],
     env: Environment<'a>,
-) -> Result<Evaluated<'a>, Trouble<'c>>
+) -> Result<Evaluated<'a>, FaultRef<'c>>
     ensures { Evaluates result
         ((means-enumerated place.now (parts_of_cores parts.now)).value (bound_in env.entry)
         (present_in env.entry) (next_in env.entry)) }
@@ -198,7 +198,7 @@ pub(super) fn tuple<'c: 'a, 'a>(
     place: &'c Place,
     parts: &'c [Core],
     env: Environment<'a>,
-) -> Result<Evaluated<'a>, Trouble<'c>>
+) -> Result<Evaluated<'a>, FaultRef<'c>>
     ensures { Evaluates result
         ((means-tuple place.now (parts_of_cores parts.now)).value (bound_in env.entry)
         (present_in env.entry) (next_in env.entry)) }
@@ -214,7 +214,7 @@ pub(super) fn record_of<'c: 'a, 'a>(
     place: &'c Place,
     fields: &'c [(Text, Core)],
     env: Environment<'a>,
-) -> Result<Evaluated<'a>, Trouble<'c>>
+) -> Result<Evaluated<'a>, FaultRef<'c>>
     ensures { Evaluates result
         (record_rule place.now (fields_of_cores fields.now) (bound_in env.entry)
         (present_in env.entry) (next_in env.entry)) }

@@ -12,7 +12,7 @@ use crate::patterns::{open_items, try_set};
 use std::alloc::Global;
 use tla_core::{Core, Opening, Place};
 use tla_operators::evaluated::Evaluated;
-use tla_operators::trouble::Trouble;
+use tla_operators::fault_ref::FaultRef;
 
 /// The value of a body. If it opens elements, that is done here, because `evaluate` takes much stack and should be
 /// called only once for a form that binds names.
@@ -21,12 +21,12 @@ pub(super) fn body_value<'c: 'a, 'a>(
     alloc: Global,
     body: &'c Core,
     env: Environment<'a>,
-) -> Result<Evaluated<'a>, Trouble<'c>>
+) -> Result<Evaluated<'a>, FaultRef<'c>>
     ensures { Evaluates result
         (val (expr_of body.now) (bound_in env.entry) (present_in env.entry) (next_in env.entry)) }
 {
     match body {
-        Core::Opened(place, openings, part) => opened(alloc, place, openings, part, env),
+        Core::Destructure(place, openings, part) => opened(alloc, place, openings, part, env),
         _ => evaluate(alloc, body, env),
     }
 }
@@ -39,7 +39,7 @@ pub(super) fn opened<'c: 'a, 'a>(
     openings: &'c [Opening],
     body: &'c Core,
     env: Environment<'a>,
-) -> Result<Evaluated<'a>, Trouble<'c>>
+) -> Result<Evaluated<'a>, FaultRef<'c>>
     ensures { Evaluates result
         ((means-opened place.now openings.now (means (expr_of body.now))).value
         (bound_in env.entry) (present_in env.entry) (next_in env.entry)) }
@@ -56,7 +56,7 @@ pub(super) fn tried<'c: 'a, 'a>(
     count: usize,
     set: &'c Core,
     env: Environment<'a>,
-) -> Result<Evaluated<'a>, Trouble<'c>>
+) -> Result<Evaluated<'a>, FaultRef<'c>>
     ensures { Evaluates result
         ((means-tried place.now count (means (expr_of set.now))).value (bound_in env.entry)
         (present_in env.entry) (next_in env.entry)) }

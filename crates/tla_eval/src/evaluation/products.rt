@@ -17,10 +17,10 @@ use crate::evaluation::{evaluate, has};
 use std::alloc::Global;
 use tla_core::{Core, Place};
 use tla_operators::evaluated::Evaluated;
+use tla_operators::fault_ref::FaultRef;
 use tla_operators::functions::if_function;
 use tla_operators::sequences::sequence_items;
 use tla_operators::sets::tuples_with;
-use tla_operators::trouble::Trouble;
 use tla_sets::fields::{field_in, has_just, records_with};
 use tla_value::{FunValue, Text, Value};
 
@@ -31,7 +31,7 @@ pub(super) fn records<'c: 'a, 'a>(
     place: &'c Place,
     fields: &'c [(Text, Core)],
     env: Environment<'a>,
-) -> Result<Evaluated<'a>, Trouble<'c>>
+) -> Result<Evaluated<'a>, FaultRef<'c>>
     ensures { Evaluates result
         (record_set_rule place.now (fields_of_cores fields.now) (bound_in env.entry)
         (present_in env.entry) (next_in env.entry)) }
@@ -46,7 +46,7 @@ fn field_sets<'c: 'a, 'a>(
     alloc: Global,
     fields: &'c [(Text, Core)],
     env: Environment<'a>,
-) -> Result<Vec<Evaluated<'a>>, Trouble<'c>>
+) -> Result<Vec<Evaluated<'a>>, FaultRef<'c>>
     ensures { GivesBy (λ v. map tree_of_evaluated v.items) result
         (each (λ (m : Meaning).
         m.value (bound_in env.entry) (present_in env.entry) (next_in env.entry))
@@ -66,7 +66,7 @@ pub(super) fn product<'c: 'a, 'a>(
     place: &'c Place,
     parts: &'c [Core],
     env: Environment<'a>,
-) -> Result<Evaluated<'a>, Trouble<'c>>
+) -> Result<Evaluated<'a>, FaultRef<'c>>
     ensures { Evaluates result
         (product_rule place.now (parts_of_cores parts.now) (bound_in env.entry)
         (present_in env.entry) (next_in env.entry)) }
@@ -82,7 +82,7 @@ pub(super) fn is_record_of<'c: 'a, 'a>(
     fields: &'c [(Text, Core)],
     value: &'a Value,
     env: Environment<'a>,
-) -> Result<bool, Trouble<'c>>
+) -> Result<bool, FaultRef<'c>>
     ensures { (p : Place)
         → GivesTruth result
         ((means-records p (fields_of_cores fields.now)).has (tree_of value.now)
@@ -107,7 +107,7 @@ fn fields_have<'c: 'a, 'a>(
     fields: &'c [(Text, Core)],
     function: &'a FunValue,
     env: Environment<'a>,
-) -> Result<bool, Trouble<'c>>
+) -> Result<bool, FaultRef<'c>>
     ensures { GivesTruth result
         (all_hold
         (field_has function.now (bound_in env.entry) (present_in env.entry)
@@ -133,7 +133,7 @@ pub(super) fn is_tuple_of<'c: 'a, 'a>(
     parts: &'c [Core],
     value: &'a Value,
     env: Environment<'a>,
-) -> Result<bool, Trouble<'c>>
+) -> Result<bool, FaultRef<'c>>
     ensures { (p : Place)
         → GivesTruth result
         ((means-product p (parts_of_cores parts.now)).has (tree_of value.now)
@@ -158,7 +158,7 @@ fn parts_have<'c: 'a, 'a>(
     parts: &'c [Core],
     items: &'a [Value],
     env: Environment<'a>,
-) -> Result<bool, Trouble<'c>>
+) -> Result<bool, FaultRef<'c>>
     requires { length items.now ≡ length parts.now }
     ensures { GivesTruth result
         (parts_have (parts_of_cores parts.now) (map tree_of items.now) (bound_in env.entry)

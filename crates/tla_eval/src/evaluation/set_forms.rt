@@ -17,10 +17,10 @@ use crate::evaluation::{evaluate, has};
 use std::alloc::Global;
 use tla_core::{Core, Place};
 use tla_operators::evaluated::Evaluated;
+use tla_operators::fault_ref::FaultRef;
 use tla_operators::functions::if_function;
 use tla_operators::sequences::sequence_items;
 use tla_operators::sets::{functions_between, has_domain, if_set, members, subsets_of};
-use tla_operators::trouble::Trouble;
 use tla_value::Value;
 
 /// All subsets of a set.
@@ -30,7 +30,7 @@ pub(super) fn power<'c: 'a, 'a>(
     place: &'c Place,
     set: &'c Core,
     env: Environment<'a>,
-) -> Result<Evaluated<'a>, Trouble<'c>>
+) -> Result<Evaluated<'a>, FaultRef<'c>>
     ensures { Evaluates result
         ((means-power place.now (means (expr_of set.now))).value (bound_in env.entry)
         (present_in env.entry) (next_in env.entry)) }
@@ -47,7 +47,7 @@ pub(super) fn functions<'c: 'a, 'a>(
     domain: &'c Core,
     range: &'c Core,
     env: Environment<'a>,
-) -> Result<Evaluated<'a>, Trouble<'c>>
+) -> Result<Evaluated<'a>, FaultRef<'c>>
     ensures { Evaluates result
         ((means-functions place.now (means (expr_of domain.now)) (means (expr_of range.now))).value
         (bound_in env.entry) (present_in env.entry) (next_in env.entry)) }
@@ -64,7 +64,7 @@ pub(super) fn is_set_within<'c: 'a, 'a>(
     core: &'c Core,
     value: &'a Value,
     env: Environment<'a>,
-) -> Result<bool, Trouble<'c>>
+) -> Result<bool, FaultRef<'c>>
     ensures { GivesTruth result
         ((means-power (means (expr_of core.now)).place (means (expr_of core.now))).has
         (tree_of value.now) (bound_in env.entry) (present_in env.entry) (next_in env.entry)) }
@@ -82,7 +82,7 @@ pub(super) fn is_sequence_of<'c: 'a, 'a>(
     core: &'c Core,
     value: &'a Value,
     env: Environment<'a>,
-) -> Result<bool, Trouble<'c>>
+) -> Result<bool, FaultRef<'c>>
     ensures { GivesTruth result
         ((means-sequences (means (expr_of core.now)).place (means (expr_of core.now))).has
         (tree_of value.now) (bound_in env.entry) (present_in env.entry) (next_in env.entry)) }
@@ -102,7 +102,7 @@ pub(super) fn is_function_into<'c: 'a, 'a>(
     range: &'c Core,
     value: &'a Value,
     env: Environment<'a>,
-) -> Result<bool, Trouble<'c>>
+) -> Result<bool, FaultRef<'c>>
     ensures { GivesTruth result
         ((means-functions place.now (means (expr_of domain.now)) (means (expr_of range.now))).has
         (tree_of value.now) (bound_in env.entry) (present_in env.entry) (next_in env.entry)) }

@@ -13,8 +13,8 @@ use crate::evaluation::evaluate;
 use std::alloc::Global;
 use tla_core::{Core, Place};
 use tla_operators::evaluated::Evaluated;
+use tla_operators::fault_ref::FaultRef;
 use tla_operators::functions::{into_function, made_fun};
-use tla_operators::trouble::Trouble;
 use tla_value::Value;
 
 /// A function with other values: each update on the result of the one before.
@@ -25,7 +25,7 @@ pub(super) fn except<'c: 'a, 'a>(
     updates: &'c [(Vec<Core>, Core)],
     base: &'c Core,
     env: Environment<'a>,
-) -> Result<Evaluated<'a>, Trouble<'c>>
+) -> Result<Evaluated<'a>, FaultRef<'c>>
     ensures { Evaluates result
         ((means-except place.now (means (expr_of base.now)) (updates_of_cores updates.now)).value
         (bound_in env.entry) (present_in env.entry) (next_in env.entry)) }
@@ -42,7 +42,7 @@ fn updated_by_all<'c: 'a, 'a>(
     updates: &'c [(Vec<Core>, Core)],
     base: Evaluated<'a>,
     env: Environment<'a>,
-) -> Result<Evaluated<'a>, Trouble<'c>>
+) -> Result<Evaluated<'a>, FaultRef<'c>>
     ensures { Evaluates result
         (update_all place.now (updates_of_cores updates.now) (bound_in env.entry)
         (present_in env.entry) (next_in env.entry) (tree_of_evaluated base.entry)) }
@@ -64,7 +64,7 @@ fn updated<'c: 'a, 'a>(
     body: &'c Core,
     value: Evaluated<'a>,
     env: Environment<'a>,
-) -> Result<Value, Trouble<'c>>
+) -> Result<Value, FaultRef<'c>>
     ensures { Gives result
         (update place.now (parts_of_cores keys.now) (means (expr_of body.now))
         (bound_in env.entry) (present_in env.entry) (next_in env.entry)
@@ -86,7 +86,7 @@ fn updated_at<'c: 'a, 'a>(
     body: &'c Core,
     value: Evaluated<'a>,
     env: Environment<'a>,
-) -> Result<Value, Trouble<'c>>
+) -> Result<Value, FaultRef<'c>>
     ensures { Gives result
         (update place.now (means (expr_of key.now) ∷ parts_of_cores rest.now)
         (means (expr_of body.now)) (bound_in env.entry) (present_in env.entry)

@@ -19,7 +19,7 @@ use crate::arena::{Entry, What, enter};
 use crate::binders::{Bind, Names, bind_list, bind_one};
 use crate::builders::{binding_core, gather_core, opened_core, tried_core};
 use crate::entries::Entries;
-use crate::expand::{Setting, expand};
+use crate::expand::{ExpandContext, expand};
 use crate::expanded::{Expanded, Many};
 use crate::failure::Failure;
 use crate::nodes::{Binding, Gather};
@@ -30,11 +30,11 @@ use tla_tree::{Binder, Expr, Pattern, Written, push};
 
 /// A form of a body under names: its node, the scope of the names' sets, and the body.
 #[derive(Clone, Copy)]
-struct Under<'a> {
-    place: Place,
-    node: Binding,
-    home: usize,
-    body: &'a Expr,
+pub(super) struct Under<'a> {
+    pub place: Place,
+    pub node: Binding,
+    pub home: usize,
+    pub body: &'a Expr,
 }
 
 /// A body under the names of a binder list.
@@ -47,7 +47,7 @@ pub(super) fn bound_several<'a>(
     node: Binding,
     groups: &'a [Binder],
     body: &'a Expr,
-    at: Setting,
+    at: ExpandContext,
 ) -> Result<Expanded, Failure>
     requires linked { AreLinked (listed entries.old) }
     requires scope { at.scope ≤ length (listed entries.old) }
@@ -79,39 +79,32 @@ pub(super) fn bound_several<'a>(
 pub(super) fn bound_one<'a>(
     alloc: Global,
     entries: &mut Entries<'_, 'a>,
-    place: Place,
-    node: Binding,
+    under: Under<'a>,
     pattern: &'a Pattern,
     set: &'a Expr,
-    body: &'a Expr,
-    at: Setting,
+    at: ExpandContext,
 ) -> Result<Expanded, Failure>
     requires linked { AreLinked (listed entries.old) }
+    requires home { under.home ≤ length (listed entries.old) }
     requires scope { at.scope ≤ length (listed entries.old) }
     requires small { at.bound + at.left < most_named }
     ensures kept { OnOk result (listed entries.new ≡ listed entries.old) }
     ensures same { Gives (at.room + 1) (at.left + 1) result
         (with_primes at.primes
-        (bounds.nested node place
+        (bounds.nested under.entry.node under.entry.place
         (bind_entry (pattern_view pattern.now)
-        (expansion.expand (view set.now) (scope_at (listed entries.old) at.scope)) [])
-        (expansion.expand (view body.now)) (scope_at (listed entries.old) at.scope)
+        (expansion.expand (view set.now) (scope_at (listed entries.old) under.entry.home)) [])
+        (expansion.expand (view under.entry.body.now)) (scope_at (listed entries.old) at.scope)
         at.bound)) }
 {
     let binds = bind_one(alloc, pattern, set)?;
     let [first, rest @ ..] = binds.as_slice() else {
-        return Err(Failure::NoExpansion(place));
-    };
-    let under = Under {
-        place,
-        node,
-        home: at.scope,
-        body,
+        return Err(Failure::NoExpansion(under.place));
     };
     nested(alloc, entries, under, *first, rest, at)
 }
 
-/// One node for each name, one in another. The limits of the setting are those of its parts.
+/// One node for each name, one in another. The limits in the context are those of the first one's operands.
 #[cycle(expand)]
 fn nested<'a>(
     alloc: Global,
@@ -119,7 +112,7 @@ fn nested<'a>(
     under: Under<'a>,
     first: Bind<'a>,
     rest: &[Bind<'a>],
-    at: Setting,
+    at: ExpandContext,
 ) -> Result<Expanded, Failure>
     requires linked { AreLinked (listed entries.old) }
     requires home { under.home ≤ length (listed entries.old) }
@@ -133,12 +126,12 @@ fn nested<'a>(
         (expansion.expand (view under.entry.body.now))
         (scope_at (listed entries.old) at.scope) at.bound)) }
 {
-    let home = Setting {
+    let home = ExpandContext {
         scope: under.home,
         ..at
     };
     let set = expand(alloc, entries, first.set, home)?;
-    let inside = Setting {
+    let inside = ExpandContext {
         left: set.left,
         ..at
     };
@@ -159,7 +152,7 @@ fn under_element<'a>(
     under: Under<'a>,
     names: Names<'a>,
     rest: &[Bind<'a>],
-    at: Setting,
+    at: ExpandContext,
 ) -> Result<Expanded, Failure>
     requires linked { AreLinked (listed entries.old) }
     requires home { under.home ≤ length (listed entries.old) }
@@ -190,7 +183,7 @@ fn under_name<'a>(
     under: Under<'a>,
     name: &'a Written,
     rest: &[Bind<'a>],
-    at: Setting,
+    at: ExpandContext,
 ) -> Result<Expanded, Failure>
     requires linked { AreLinked (listed entries.old) }
     requires home { under.home ≤ length (listed entries.old) }
@@ -214,7 +207,7 @@ fn under_name<'a>(
         rest: at.scope,
     };
     let scope = enter(entries, entry)?;
-    let inside = Setting {
+    let inside = ExpandContext {
         scope,
         bound: at.bound + 1,
         ..at
@@ -232,7 +225,7 @@ fn under_tuple<'a>(
     under: Under<'a>,
     names: &'a [Written],
     rest: &[Bind<'a>],
-    at: Setting,
+    at: ExpandContext,
 ) -> Result<Expanded, Failure>
     requires linked { AreLinked (listed entries.old) }
     requires home { under.home ≤ length (listed entries.old) }
@@ -256,7 +249,7 @@ fn under_tuple<'a>(
     let openings = opening_of(alloc, names, at.bound)?;
     let mark = entries.len();
     let scope = name_each(entries, names, at.bound + 1, at.scope)?;
-    let inside = Setting {
+    let inside = ExpandContext {
         scope,
         bound: at.bound + 1 + count,
         left: at.left - count,
@@ -278,7 +271,7 @@ fn within<'a>(
     entries: &mut Entries<'_, 'a>,
     under: Under<'a>,
     binds: &[Bind<'a>],
-    at: Setting,
+    at: ExpandContext,
 ) -> Result<Expanded, Failure>
     requires linked { AreLinked (listed entries.old) }
     requires home { under.home ≤ length (listed entries.old) }
@@ -311,7 +304,7 @@ pub(super) fn gather_node<'a>(
     node: Gather,
     groups: &'a [Binder],
     body: &'a Expr,
-    at: Setting,
+    at: ExpandContext,
 ) -> Result<Expanded, Failure>
     requires linked { AreLinked (listed entries.old) }
     requires scope { at.scope ≤ length (listed entries.old) }
@@ -332,7 +325,7 @@ pub(super) fn gather_node<'a>(
     let items = count_items(opened, sets.left)?;
     let mark = entries.len();
     let scope = name_all(entries, binds, at.bound, at.scope)?;
-    let inside = Setting {
+    let inside = ExpandContext {
         scope,
         bound: at.bound + binds.len() + items,
         left: sets.left - items,
@@ -355,7 +348,7 @@ fn set_for<'a>(
     entries: &mut Entries<'_, 'a>,
     place: Place,
     bind: Bind<'a>,
-    at: Setting,
+    at: ExpandContext,
 ) -> Result<Expanded, Failure>
     requires linked { AreLinked (listed entries.old) }
     requires scope { at.scope ≤ length (listed entries.old) }
@@ -384,7 +377,7 @@ fn sets_of<'a>(
     entries: &mut Entries<'_, 'a>,
     place: Place,
     binds: &[Bind<'a>],
-    at: Setting,
+    at: ExpandContext,
 ) -> Result<Many, Failure>
     requires linked { AreLinked (listed entries.old) }
     requires scope { at.scope ≤ length (listed entries.old) }
@@ -397,7 +390,13 @@ fn sets_of<'a>(
     let mut parts = Vec::new(alloc);
     let mut left = at.left;
     for i in 0..binds.len() {
-        let part = set_for(alloc, entries, place, binds[i], Setting { left, ..at })?;
+        let part = set_for(
+            alloc,
+            entries,
+            place,
+            binds[i],
+            ExpandContext { left, ..at },
+        )?;
         left = part.left;
         push(&mut parts, part.core)?;
     }

@@ -13,8 +13,8 @@ ghost use Rattle.tla_expand.specs.Listed.{listed};
 
 use crate::entries::Entries;
 use crate::expand::lists::each;
-use crate::expand::unchanged::{changed, kept, settled, tuple_items};
-use crate::expand::{Setting, expand, node_of, two_parts};
+use crate::expand::unchanged::{changed, kept, tuple_items, unchanged_primes};
+use crate::expand::{ExpandContext, expand, node_of, two_parts};
 use crate::expanded::{Expanded, Pair};
 use crate::failure::Failure;
 use crate::nodes::Form;
@@ -24,17 +24,17 @@ use std::alloc::Global;
 use tla_core::Place;
 use tla_tree::Expr;
 
-/// Whether operands under these primes are also examined without more.
-fn is_sought(sought: Option<Primes>, primes: Primes) -> bool {
-    match sought {
+/// Whether an operand is first expanded under these primes alone, so that its first refusal is found.
+fn is_reported(reported: Option<Primes>, primes: Primes) -> bool {
+    match reported {
         Some(level) => level == primes,
         None => false,
     }
 }
 
 /// Where a refusal of UNCHANGED of a form is reported: in an action at the form, in a state at its own place.
-pub(super) fn told_at(sought: Option<Primes>, form: Form<'_>, place: Place) -> Place {
-    match sought {
+pub(super) fn refusal_place(reported: Option<Primes>, form: Form<'_>, place: Place) -> Place {
+    match reported {
         Some(Primes::Never) => form.place(),
         _ => place,
     }
@@ -51,13 +51,13 @@ fn primed_at(head: Head<'_>, outer: Primes) -> Place {
     }
 }
 
-/// Examines a form without more primes.
+/// Finds the first refusal of a form under the outer primes alone.
 #[cycle(expand)]
 fn look_at_form<'a>(
     alloc: Global,
     entries: &mut Entries<'_, 'a>,
     form: Form<'a>,
-    at: Setting,
+    at: ExpandContext,
 ) -> Result<(), Failure>
     requires linked { AreLinked (listed entries.old) }
     requires scope { at.scope ≤ length (listed entries.old) }
@@ -73,13 +73,13 @@ fn look_at_form<'a>(
     Ok(())
 }
 
-/// Examines expressions of one scope without more primes.
+/// The same for expressions of one scope.
 #[cycle(expand)]
 fn look_at_each<'a>(
     alloc: Global,
     entries: &mut Entries<'_, 'a>,
     trees: &'a [Expr],
-    at: Setting,
+    at: ExpandContext,
 ) -> Result<(), Failure>
     requires linked { AreLinked (listed entries.old) }
     requires scope { at.scope ≤ length (listed entries.old) }
@@ -105,7 +105,7 @@ fn look_at_tuple<'a>(
     head: Head<'a>,
     items: &'a Vec<Expr>,
     outer: Primes,
-    at: Setting,
+    at: ExpandContext,
 ) -> Result<(), Failure>
     requires linked { AreLinked (listed entries.old) }
     requires scope { at.scope ≤ length (listed entries.old) }
@@ -121,7 +121,7 @@ fn look_at_tuple<'a>(
     if !are_fewer(outer, at.primes) {
         return look_at_each(alloc, entries, trees, at);
     }
-    let before = Setting {
+    let before = ExpandContext {
         primes: outer,
         ..at
     };
@@ -133,13 +133,13 @@ fn look_at_tuple<'a>(
     }
 }
 
-/// Examines an expression without more primes, if operands are examined so.
+/// The same for an expression, if operands are first expanded so.
 #[cycle(expand)]
 fn look_at<'a>(
     alloc: Global,
     entries: &mut Entries<'_, 'a>,
     tree: &'a Expr,
-    at: Setting,
+    at: ExpandContext,
 ) -> Result<(), Failure>
     requires linked { AreLinked (listed entries.old) }
     requires scope { at.scope ≤ length (listed entries.old) }
@@ -149,7 +149,7 @@ fn look_at<'a>(
         Fails at.room at.left f
         (part_in at.primes (scope_at (listed entries.old) at.scope) at.bound tree.now)) }
 {
-    if !is_sought(at.sought, at.primes) {
+    if !is_reported(at.reported, at.primes) {
         return Ok(());
     }
     let made = expand(alloc, entries, tree, at)?;
@@ -157,14 +157,14 @@ fn look_at<'a>(
     Ok(())
 }
 
-/// Examines the operand of UNCHANGED without more primes, if operands are examined so. A tuple is no node of the
+/// The same for the operand of UNCHANGED, if operands are first expanded so. A tuple is no node of the
 /// expansion of UNCHANGED, so only its parts are examined.
 #[cycle(expand)]
 fn look_at_operand<'a>(
     alloc: Global,
     entries: &mut Entries<'_, 'a>,
     tree: &'a Expr,
-    at: Setting,
+    at: ExpandContext,
 ) -> Result<(), Failure>
     requires linked { AreLinked (listed entries.old) }
     requires scope { at.scope ≤ length (listed entries.old) }
@@ -176,14 +176,14 @@ fn look_at_operand<'a>(
         (kept_part (settled_primes at.primes) p (scope_at (listed entries.old) at.scope)
         at.bound tree.now)) }
 {
-    if !is_sought(at.sought, at.primes) {
+    if !is_reported(at.reported, at.primes) {
         return Ok(());
     }
     let mark = entries.len();
     let found = find_head(entries, tree, at.scope, at.primes)?;
     match tuple_items(found.form) {
         Some(items) => {
-            let inside = Setting {
+            let inside = ExpandContext {
                 scope: found.scope,
                 primes: found.primes,
                 ..at
@@ -206,7 +206,7 @@ pub(super) fn node_behind<'a>(
     entries: &mut Entries<'_, 'a>,
     head: Head<'a>,
     outer: Primes,
-    at: Setting,
+    at: ExpandContext,
 ) -> Result<Expanded, Failure>
     requires linked { AreLinked (listed entries.old) }
     requires scope { at.scope ≤ length (listed entries.old) }
@@ -216,13 +216,13 @@ pub(super) fn node_behind<'a>(
         (with_primes at.primes
         (form_in head.entry.form (scope_at (listed entries.old) at.scope) at.bound)) }
 {
-    if !is_sought(at.sought, outer) {
+    if !is_reported(at.reported, outer) {
         return node_of(alloc, entries, head.form, at);
     }
     if !are_fewer(outer, at.primes) {
         return node_of(alloc, entries, head.form, at);
     }
-    let before = Setting {
+    let before = ExpandContext {
         primes: outer,
         ..at
     };
@@ -233,7 +233,7 @@ pub(super) fn node_behind<'a>(
     }
 }
 
-/// UNCHANGED of an expression. The limits of the setting are those of its parts.
+/// UNCHANGED of an expression. The limits in the context are those of its operands.
 #[cycle(expand)]
 #[inline(never)]
 pub(super) fn unchanged_node<'a>(
@@ -241,7 +241,7 @@ pub(super) fn unchanged_node<'a>(
     entries: &mut Entries<'_, 'a>,
     place: Place,
     tree: &'a Expr,
-    at: Setting,
+    at: ExpandContext,
 ) -> Result<Expanded, Failure>
     requires linked { AreLinked (listed entries.old) }
     requires scope { at.scope ≤ length (listed entries.old) }
@@ -252,19 +252,19 @@ pub(super) fn unchanged_node<'a>(
         at.bound tree.now) }
 {
     look_at_operand(alloc, entries, tree, at)?;
-    let primes = settled(at.primes);
-    kept(alloc, entries, place, tree, Setting { primes, ..at })
+    let primes = unchanged_primes(at.primes);
+    kept(alloc, entries, place, tree, ExpandContext { primes, ..at })
 }
 
-/// An expression twice: with these primes, and with those of the setting. A refusal is reported at this place.
+/// An expression twice: with these primes, and with those of the context. A refusal is reported at this place.
 #[cycle(expand)]
 pub(super) fn kept_parts<'a>(
     alloc: Global,
     entries: &mut Entries<'_, 'a>,
     tree: &'a Expr,
     primes: Primes,
-    told: Place,
-    at: Setting,
+    report_at: Place,
+    at: ExpandContext,
 ) -> Result<Pair, Failure>
     requires linked { AreLinked (listed entries.old) }
     requires scope { at.scope ≤ length (listed entries.old) }
@@ -275,7 +275,7 @@ pub(super) fn kept_parts<'a>(
         (part_in at.primes (scope_at (listed entries.old) at.scope) at.bound tree.now)) }
 {
     match two_parts(alloc, entries, tree, tree, primes, at) {
-        Err(Failure::NoExpansion(_)) => Err(Failure::NoExpansion(told)),
+        Err(Failure::NoExpansion(_)) => Err(Failure::NoExpansion(report_at)),
         made => made,
     }
 }
@@ -287,7 +287,7 @@ pub(super) fn kept_subscript<'a>(
     entries: &mut Entries<'_, 'a>,
     place: Place,
     tree: &'a Expr,
-    at: Setting,
+    at: ExpandContext,
 ) -> Result<Expanded, Failure>
     requires linked { AreLinked (listed entries.old) }
     requires scope { at.scope ≤ length (listed entries.old) }
@@ -306,7 +306,7 @@ fn changed_at<'a>(
     entries: &mut Entries<'_, 'a>,
     tree: &'a Expr,
     place: Place,
-    at: Setting,
+    at: ExpandContext,
 ) -> Result<Place, Failure>
     requires linked { AreLinked (listed entries.old) }
     requires scope { at.scope ≤ length (listed entries.old) }
@@ -318,7 +318,7 @@ fn changed_at<'a>(
     let mark = entries.len();
     let found = find_head(entries, tree, at.scope, at.primes)?;
     entries.truncate(mark);
-    Ok(told_at(at.sought, found.form, place))
+    Ok(refusal_place(at.reported, found.form, place))
 }
 
 /// `v' # v` for the subscript of an action.
@@ -328,7 +328,7 @@ pub(super) fn changed_subscript<'a>(
     entries: &mut Entries<'_, 'a>,
     place: Place,
     tree: &'a Expr,
-    at: Setting,
+    at: ExpandContext,
 ) -> Result<Expanded, Failure>
     requires linked { AreLinked (listed entries.old) }
     requires scope { at.scope ≤ length (listed entries.old) }
@@ -338,9 +338,9 @@ pub(super) fn changed_subscript<'a>(
         (changed_in at.primes place (scope_at (listed entries.old) at.scope) at.bound tree.now) }
 {
     look_at(alloc, entries, tree, at)?;
-    let told = changed_at(entries, tree, place, at)?;
+    let report_at = changed_at(entries, tree, place, at)?;
     match changed(alloc, entries, place, tree, at) {
-        Err(Failure::NoExpansion(_)) => Err(Failure::NoExpansion(told)),
+        Err(Failure::NoExpansion(_)) => Err(Failure::NoExpansion(report_at)),
         made => made,
     }
 }

@@ -10,7 +10,7 @@ ghost use Rattle.tla_expand.specs.Listed.{listed};
 
 use crate::builders::{place_of, text_of, tuple};
 use crate::entries::Entries;
-use crate::expand::{Setting, expand, two_parts};
+use crate::expand::{ExpandContext, expand, two_parts};
 use crate::expanded::{Arms, Expanded, Fields, Many};
 use crate::failure::Failure;
 use std::alloc::Global;
@@ -24,7 +24,7 @@ pub(super) fn each<'a>(
     alloc: Global,
     entries: &mut Entries<'_, 'a>,
     trees: &'a [Expr],
-    at: Setting,
+    at: ExpandContext,
 ) -> Result<Many, Failure>
     requires linked { AreLinked (listed entries.old) }
     requires scope { at.scope ≤ length (listed entries.old) }
@@ -37,7 +37,7 @@ pub(super) fn each<'a>(
     let mut parts = Vec::new(alloc);
     let mut left = at.left;
     for i in 0..trees.len() {
-        let part = expand(alloc, entries, &trees[i], Setting { left, ..at })?;
+        let part = expand(alloc, entries, &trees[i], ExpandContext { left, ..at })?;
         left = part.left;
         push(&mut parts, part.core)?;
     }
@@ -51,7 +51,7 @@ pub(super) fn key<'a>(
     entries: &mut Entries<'_, 'a>,
     place: Place,
     items: &'a [Expr],
-    at: Setting,
+    at: ExpandContext,
 ) -> Result<Expanded, Failure>
     requires linked { AreLinked (listed entries.old) }
     requires scope { at.scope ≤ length (listed entries.old) }
@@ -77,7 +77,7 @@ fn tuple_of<'a>(
     entries: &mut Entries<'_, 'a>,
     place: Place,
     items: &'a [Expr],
-    at: Setting,
+    at: ExpandContext,
 ) -> Result<Expanded, Failure>
     requires linked { AreLinked (listed entries.old) }
     requires scope { at.scope ≤ length (listed entries.old) }
@@ -103,7 +103,7 @@ pub(super) fn arms_of<'a>(
     alloc: Global,
     entries: &mut Entries<'_, 'a>,
     arms: &'a [Arm],
-    at: Setting,
+    at: ExpandContext,
 ) -> Result<Arms, Failure>
     requires linked { AreLinked (listed entries.old) }
     requires scope { at.scope ≤ length (listed entries.old) }
@@ -116,7 +116,7 @@ pub(super) fn arms_of<'a>(
     let mut left = at.left;
     for i in 0..arms.len() {
         let arm = &arms[i];
-        let inside = Setting { left, ..at };
+        let inside = ExpandContext { left, ..at };
         let two = two_parts(alloc, entries, &arm.guard, &arm.value, at.primes, inside)?;
         left = two.left;
         push(&mut made, (Box::into_inner(two.first), two.second))?;
@@ -130,7 +130,7 @@ pub(super) fn named_parts<'a>(
     alloc: Global,
     entries: &mut Entries<'_, 'a>,
     fields: &'a [Field],
-    at: Setting,
+    at: ExpandContext,
 ) -> Result<Fields, Failure>
     requires linked { AreLinked (listed entries.old) }
     requires scope { at.scope ≤ length (listed entries.old) }
@@ -145,7 +145,7 @@ pub(super) fn named_parts<'a>(
     for i in 0..fields.len() {
         let field = &fields[i];
         let name = text_of(alloc, &field.name.word)?;
-        let part = expand(alloc, entries, &field.value, Setting { left, ..at })?;
+        let part = expand(alloc, entries, &field.value, ExpandContext { left, ..at })?;
         left = part.left;
         push(&mut made, (name, part.core))?;
     }

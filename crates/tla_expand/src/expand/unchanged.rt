@@ -11,8 +11,8 @@ ghost use Rattle.tla_expand.specs.Listed.{listed};
 
 use crate::builders::{kept_core, two_core};
 use crate::entries::Entries;
-use crate::expand::levels::{changed_subscript, kept_parts, kept_subscript, told_at};
-use crate::expand::{Setting, expand, two_parts};
+use crate::expand::levels::{changed_subscript, kept_parts, kept_subscript, refusal_place};
+use crate::expand::{ExpandContext, expand, two_parts};
 use crate::expanded::{Expanded, Many};
 use crate::failure::Failure;
 use crate::nodes::{BinaryNode, Form, ListNode};
@@ -24,7 +24,7 @@ use tla_core::{Binary, Place};
 use tla_tree::{Expr, push};
 
 /// The primes with which UNCHANGED is read under these primes.
-pub(super) fn settled(primes: Primes) -> Primes
+pub(super) fn unchanged_primes(primes: Primes) -> Primes
     ensures { result ≡ settled_primes primes }
 {
     match primes {
@@ -43,14 +43,14 @@ pub(super) fn tuple_items<'a>(form: Form<'a>) -> Option<&'a Vec<Expr>>
     }
 }
 
-/// UNCHANGED of an expression under these primes. The limits of the setting are those of its parts.
+/// UNCHANGED of an expression under these primes. The limits in the context are those of its operands.
 #[cycle(expand)]
 pub(super) fn kept<'a>(
     alloc: Global,
     entries: &mut Entries<'_, 'a>,
     place: Place,
     tree: &'a Expr,
-    at: Setting,
+    at: ExpandContext,
 ) -> Result<Expanded, Failure>
     requires linked { AreLinked (listed entries.old) }
     requires scope { at.scope ≤ length (listed entries.old) }
@@ -63,7 +63,7 @@ pub(super) fn kept<'a>(
     let found = find_head(entries, tree, at.scope, at.primes)?;
     match tuple_items(found.form) {
         Some(items) => {
-            let inside = Setting {
+            let inside = ExpandContext {
                 scope: found.scope,
                 primes: found.primes,
                 ..at
@@ -78,8 +78,8 @@ pub(super) fn kept<'a>(
         None => {
             entries.truncate(mark);
             let more = one_more(at.primes);
-            let told = told_at(at.sought, found.form, place);
-            let two = kept_parts(alloc, entries, tree, more, told, at)?;
+            let report_at = refusal_place(at.reported, found.form, place);
+            let two = kept_parts(alloc, entries, tree, more, report_at, at)?;
             let core = two_core(alloc, place, BinaryNode::Equal, two.first, two.second)?;
             Ok(Expanded {
                 core,
@@ -96,7 +96,7 @@ fn kept_each<'a>(
     entries: &mut Entries<'_, 'a>,
     place: Place,
     trees: &'a [Expr],
-    at: Setting,
+    at: ExpandContext,
 ) -> Result<Many, Failure>
     requires linked { AreLinked (listed entries.old) }
     requires scope { at.scope ≤ length (listed entries.old) }
@@ -109,7 +109,13 @@ fn kept_each<'a>(
     let mut parts = Vec::new(alloc);
     let mut left = at.left;
     for i in 0..trees.len() {
-        let part = kept_one(alloc, entries, place, &trees[i], Setting { left, ..at })?;
+        let part = kept_one(
+            alloc,
+            entries,
+            place,
+            &trees[i],
+            ExpandContext { left, ..at },
+        )?;
         left = part.left;
         push(&mut parts, part.core)?;
     }
@@ -123,7 +129,7 @@ pub(super) fn kept_one<'a>(
     entries: &mut Entries<'_, 'a>,
     place: Place,
     tree: &'a Expr,
-    at: Setting,
+    at: ExpandContext,
 ) -> Result<Expanded, Failure>
     requires linked { AreLinked (listed entries.old) }
     requires scope { at.scope ≤ length (listed entries.old) }
@@ -143,7 +149,7 @@ pub(super) fn changed<'a>(
     entries: &mut Entries<'_, 'a>,
     place: Place,
     tree: &'a Expr,
-    at: Setting,
+    at: ExpandContext,
 ) -> Result<Expanded, Failure>
     requires linked { AreLinked (listed entries.old) }
     requires scope { at.scope ≤ length (listed entries.old) }
@@ -178,7 +184,7 @@ pub(super) fn square_node<'a>(
     action: &'a Expr,
     place_v: Place,
     v: &'a Expr,
-    at: Setting,
+    at: ExpandContext,
 ) -> Result<Expanded, Failure>
     requires linked { AreLinked (listed entries.old) }
     requires scope { at.scope ≤ length (listed entries.old) }
@@ -193,7 +199,7 @@ pub(super) fn square_node<'a>(
     let action = expand(alloc, entries, action, at)?;
     let left = action.left;
     let action = boxed(alloc, action.core)?;
-    let kept = kept_subscript(alloc, entries, place_v, v, Setting { left, ..at })?;
+    let kept = kept_subscript(alloc, entries, place_v, v, ExpandContext { left, ..at })?;
     let core = two_core(alloc, place, BinaryNode::Or, action, kept.core)?;
     Ok(Expanded {
         core,
@@ -211,7 +217,7 @@ pub(super) fn angle_node<'a>(
     action: &'a Expr,
     place_v: Place,
     v: &'a Expr,
-    at: Setting,
+    at: ExpandContext,
 ) -> Result<Expanded, Failure>
     requires linked { AreLinked (listed entries.old) }
     requires scope { at.scope ≤ length (listed entries.old) }
@@ -226,7 +232,7 @@ pub(super) fn angle_node<'a>(
     let action = expand(alloc, entries, action, at)?;
     let left = action.left;
     let action = boxed(alloc, action.core)?;
-    let changed = changed_subscript(alloc, entries, place_v, v, Setting { left, ..at })?;
+    let changed = changed_subscript(alloc, entries, place_v, v, ExpandContext { left, ..at })?;
     let core = two_core(alloc, place, BinaryNode::And, action, changed.core)?;
     Ok(Expanded {
         core,

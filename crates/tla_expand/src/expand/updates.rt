@@ -14,7 +14,7 @@ use crate::arena::{Entry, What, enter};
 use crate::builders::{except, place_of};
 use crate::entries::Entries;
 use crate::expand::lists::key;
-use crate::expand::{Setting, expand, leaf_of};
+use crate::expand::{ExpandContext, expand, leaf_of};
 use crate::expanded::{Change, Changes, Expanded, Many};
 use crate::failure::Failure;
 use crate::nodes::Leaf;
@@ -32,7 +32,7 @@ pub(super) fn except_node<'a>(
     place: Place,
     function: &'a Expr,
     updates: &'a [Update],
-    at: Setting,
+    at: ExpandContext,
 ) -> Result<Expanded, Failure>
     requires linked { AreLinked (listed entries.old) }
     requires scope { at.scope ≤ length (listed entries.old) }
@@ -48,7 +48,7 @@ pub(super) fn except_node<'a>(
     let function = expand(alloc, entries, function, at)?;
     let left = function.left;
     let function = boxed(alloc, function.core)?;
-    let made = changes(alloc, entries, place, updates, Setting { left, ..at })?;
+    let made = changes(alloc, entries, place, updates, ExpandContext { left, ..at })?;
     Ok(Expanded {
         core: except(place, function, made.updates),
         left: made.left,
@@ -62,7 +62,7 @@ fn changes<'a>(
     entries: &mut Entries<'_, 'a>,
     place: Place,
     updates: &'a [Update],
-    at: Setting,
+    at: ExpandContext,
 ) -> Result<Changes, Failure>
     requires linked { AreLinked (listed entries.old) }
     requires scope { at.scope ≤ length (listed entries.old) }
@@ -75,7 +75,13 @@ fn changes<'a>(
     let mut made = Vec::new(alloc);
     let mut left = at.left;
     for i in 0..updates.len() {
-        let change = change(alloc, entries, place, &updates[i], Setting { left, ..at })?;
+        let change = change(
+            alloc,
+            entries,
+            place,
+            &updates[i],
+            ExpandContext { left, ..at },
+        )?;
         left = change.left;
         push(&mut made, (change.path, change.value))?;
     }
@@ -92,7 +98,7 @@ fn change<'a>(
     entries: &mut Entries<'_, 'a>,
     place: Place,
     update: &'a Update,
-    at: Setting,
+    at: ExpandContext,
 ) -> Result<Change, Failure>
     requires linked { AreLinked (listed entries.old) }
     requires scope { at.scope ≤ length (listed entries.old) }
@@ -103,7 +109,7 @@ fn change<'a>(
 {
     let path = path_of(alloc, entries, place, update.path.as_slice(), at)?;
     let left = path.left;
-    let value = new_value(alloc, entries, &update.value, Setting { left, ..at })?;
+    let value = new_value(alloc, entries, &update.value, ExpandContext { left, ..at })?;
     Ok(Change {
         path: path.parts,
         value: value.core,
@@ -117,7 +123,7 @@ fn new_value<'a>(
     alloc: Global,
     entries: &mut Entries<'_, 'a>,
     value: &'a Expr,
-    at: Setting,
+    at: ExpandContext,
 ) -> Result<Expanded, Failure>
     requires linked { AreLinked (listed entries.old) }
     requires scope { at.scope ≤ length (listed entries.old) }
@@ -133,7 +139,7 @@ fn new_value<'a>(
         rest: at.scope,
     };
     let scope = enter(entries, entry)?;
-    let inside = Setting {
+    let inside = ExpandContext {
         scope,
         bound: at.bound + 1,
         ..at
@@ -150,7 +156,7 @@ fn path_of<'a>(
     entries: &mut Entries<'_, 'a>,
     place: Place,
     keys: &'a [Key],
-    at: Setting,
+    at: ExpandContext,
 ) -> Result<Many, Failure>
     requires linked { AreLinked (listed entries.old) }
     requires scope { at.scope ≤ length (listed entries.old) }
@@ -162,7 +168,13 @@ fn path_of<'a>(
     let mut parts = Vec::new(alloc);
     let mut left = at.left;
     for i in 0..keys.len() {
-        let part = step_of(alloc, entries, place, &keys[i], Setting { left, ..at })?;
+        let part = step_of(
+            alloc,
+            entries,
+            place,
+            &keys[i],
+            ExpandContext { left, ..at },
+        )?;
         left = part.left;
         push(&mut parts, part.core)?;
     }
@@ -176,7 +188,7 @@ fn step_of<'a>(
     entries: &mut Entries<'_, 'a>,
     place: Place,
     step: &'a Key,
-    at: Setting,
+    at: ExpandContext,
 ) -> Result<Expanded, Failure>
     requires linked { AreLinked (listed entries.old) }
     requires scope { at.scope ≤ length (listed entries.old) }
@@ -192,7 +204,7 @@ fn step_of<'a>(
 }
 
 /// The name of a field, as a text.
-fn field_key(alloc: Global, name: &Written, at: Setting) -> Result<Expanded, Failure>
+fn field_key(alloc: Global, name: &Written, at: ExpandContext) -> Result<Expanded, Failure>
     ensures { Gives at.room at.left result
         (Some (expr.constant (places.place_of name.now.place) (value.text name.now.word))) }
 {

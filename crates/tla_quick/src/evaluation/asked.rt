@@ -48,7 +48,7 @@ pub(super) fn has_of_one<'m: 'a, 'a>(
             Some(items) => has_all(alloc, operand, items, env),
             None => Ok(false),
         },
-        _ => Err(Stop::Unknown),
+        _ => Err(Stop::GaveUp),
     }
 }
 
@@ -95,7 +95,7 @@ pub(super) fn has_of_two<'m: 'a, 'a>(
                 Ok(false)
             }
         }
-        _ => Err(Stop::Unknown),
+        _ => Err(Stop::GaveUp),
     }
 }
 
@@ -124,7 +124,7 @@ pub(super) fn has_of_three<'m: 'a, 'a>(
                 has(alloc, third, member, env)
             }
         }
-        ThreeForm::SubSeq => Err(Stop::Unknown),
+        ThreeForm::SubSeq => Err(Stop::GaveUp),
     }
 }
 
@@ -148,7 +148,7 @@ pub(super) fn has_in_list<'m: 'a, 'a>(
             one_of_known(alloc, place, values.as_slice(), member)
         }
         ListForm::Product => is_tuple_of(alloc, parts, member, env),
-        _ => Err(Stop::Unknown),
+        _ => Err(Stop::GaveUp),
     }
 }
 
@@ -175,7 +175,7 @@ pub(super) fn has_in_binder<'m: 'a, 'a>(
                 Ok(false)
             }
         }
-        _ => Err(Stop::Unknown),
+        _ => Err(Stop::GaveUp),
     }
 }
 

@@ -43,7 +43,7 @@ pub(super) fn truth_of_binder<'m: 'a, 'a>(
     match form {
         BinderForm::ForAll => Ok(each_holds(alloc, place, body, &found, env)?),
         BinderForm::ForSome => Ok(some_holds(alloc, place, body, &found, env)?),
-        _ => Err(Stop::Unknown),
+        _ => Err(Stop::GaveUp),
     }
 }
 
@@ -121,7 +121,7 @@ pub(super) fn value_with<'m: 'a, 'a>(
     owned(alloc, value(alloc, body, inner)?)
 }
 
-/// Whether a body is TRUE of element `number`; None if there are fewer elements.
+/// Whether the body is TRUE with element `number` as its bound name.
 #[cycle(evaluate)]
 fn holds_at<'e, 'm: 'a, 'a>(
     alloc: Global,
@@ -208,7 +208,7 @@ fn first_passing<'e, 'm: 'a, 'a>(
             return chosen(alloc, elements, number);
         }
     }
-    Err(Stop::Unknown)
+    Err(Stop::GaveUp)
 }
 
 /// Copies of those of these elements of which a body is TRUE.

@@ -108,7 +108,7 @@ fn function_for<'s, 'm: 'a, 'a>(
     made_function_with(alloc, place, &domain, values)
 }
 
-/// The values of a body for all choices from some lists, the first list slowest.
+/// The values of a body for each choice of one element from each list; the last list varies fastest.
 #[cycle(evaluate)]
 fn chosen<'l, 'm: 'a, 'a>(
     alloc: Global,
@@ -127,7 +127,7 @@ fn chosen<'l, 'm: 'a, 'a>(
             None => return Ok(values),
         }
     }
-    Err(Stop::Unknown)
+    Err(Stop::GaveUp)
 }
 
 /// The different values of a body for all choices from some lists.
@@ -151,7 +151,7 @@ fn chosen_once<'l, 'm: 'a, 'a>(
             None => return Ok(values),
         }
     }
-    Err(Stop::Unknown)
+    Err(Stop::GaveUp)
 }
 
 /// The value of a body for choice `number`; None if there are fewer choices.

@@ -34,7 +34,7 @@ pub(super) fn value_of_let<'m: 'a, 'a>(
         body.now)) }
 {
     if names != env.names {
-        return Err(Stop::Unknown);
+        return Err(Stop::GaveUp);
     }
     if !is_used {
         let unknown = nothing_known();
@@ -91,7 +91,7 @@ pub(super) fn truth_of_let<'m: 'a, 'a>(
         body.now)) }
 {
     if names != env.names {
-        return Err(Stop::Unknown);
+        return Err(Stop::GaveUp);
     }
     if !is_used {
         let unknown = nothing_known();
@@ -149,7 +149,7 @@ pub(super) fn has_of_let<'m: 'a, 'a>(
         body.now)) }
 {
     if names != env.names {
-        return Err(Stop::Unknown);
+        return Err(Stop::GaveUp);
     }
     if !is_used {
         let unknown = nothing_known();

@@ -46,7 +46,7 @@ pub(super) fn value_of_fields<'m: 'a, 'a>(
             let pairs = named_values(alloc, fields, env)?;
             Ok(Evaluated::Owned(made_record(alloc, place, pairs)?))
         }
-        FieldForm::Records => Err(Stop::Unknown),
+        FieldForm::Records => Err(Stop::GaveUp),
     }
 }
 
@@ -86,7 +86,7 @@ pub(super) fn has_in_fields<'m: 'a, 'a>(
 {
     match form {
         FieldForm::Records => is_record_of(alloc, fields, member, env),
-        FieldForm::Record => Err(Stop::Unknown),
+        FieldForm::Record => Err(Stop::GaveUp),
     }
 }
 

@@ -13,8 +13,8 @@ use tla_code::{Code, OneForm, TwoForm};
 use tla_core::Place;
 use tla_value::Value;
 
-/// The value of a name, a variable, a constant or a definition with a known value, or what a held function or record has
-/// at a held argument or field. It isn't copied. `None` says nothing.
+/// Borrows the value of a bound name, a variable, a constant or a definition whose value is known, or of `f[e]` or `r.a`
+/// for such values. `None`: it has to be evaluated instead.
 #[cycle(held)]
 pub(crate) fn held<'m: 'a, 'a>(
     alloc: Global,

@@ -1,10 +1,12 @@
 //! Forms with a list of operands.
 ghost use Rattle.std.specs.Prelude.{map};
 ghost use Rattle.tla_value.specs.TreeOf.{tree_of};
+ghost use Rattle.tla_core.specs.declared.fault.Place.{Place as AnyPlace};
+ghost use Rattle.tla_core.specs.Expr.{cases};
 ghost use Rattle.tla_core.specs.Lists.{each};
 ghost use Rattle.tla_core.specs.Meaning.{Meaning};
 ghost use Rattle.tla_core.specs.Value.{mean_all};
-ghost use Rattle.tla_code.specs.Forms.{list_expr};
+ghost use Rattle.tla_code.specs.Forms.{list_expr, arms_in};
 ghost use Rattle.tla_code.specs.Private.Listed.{exprs_of_codes};
 ghost use Rattle.tla_operators.specs.Evaluated.{tree_of_evaluated};
 ghost use Rattle.tla_quick.specs.Private.Answers.{Answers};
@@ -12,7 +14,7 @@ ghost use Rattle.tla_quick.specs.Private.Environment.{bound_in, present_in, next
 
 use crate::environment::Environment;
 use crate::evaluation::logic::truth_of_list;
-use crate::evaluation::value;
+use crate::evaluation::{truth, value};
 use crate::made::{made_of_list, made_product, owned};
 use crate::stop::Stop;
 use std::alloc::Global;
@@ -47,6 +49,34 @@ pub(super) fn value_of_list<'m: 'a, 'a>(
             let sets = evaluated_each(alloc, parts, env)?;
             Ok(Evaluated::Owned(made_product(alloc, place, sets.as_slice())?))
         }
+        ListForm::Cases => value_of_cases(alloc, parts, env),
+    }
+}
+
+/// The value of a CASE: of the first arm whose condition is TRUE, or else of OTHER.
+#[cycle(evaluate)]
+fn value_of_cases<'m: 'a, 'a>(
+    alloc: Global,
+    parts: &'a [Code<'m>],
+    env: Environment<'m, 'a>,
+) -> Result<Evaluated<'a>, Stop>
+    ensures { (p : AnyPlace)
+        → Answers tree_of_evaluated result
+        (value_in env.entry (cases p (arms_in (exprs_of_codes (scope_in env.entry) parts.now)))) }
+{
+    let arms = parts.len() / 2;
+    for arm in 0..arms {
+        let condition = &parts[2 * arm];
+        if truth(alloc, condition, env)? {
+            let part = &parts[2 * arm + 1];
+            return value(alloc, part, env);
+        }
+    }
+    if 2 * arms < parts.len() {
+        let last = &parts[2 * arms];
+        value(alloc, last, env)
+    } else {
+        Err(Stop::GaveUp)
     }
 }
 

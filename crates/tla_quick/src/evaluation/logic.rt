@@ -35,9 +35,9 @@ pub(super) fn truth_of_one<'m: 'a, 'a>(
     match form {
         OneForm::Operator(operator) => match operator {
             Unary::Not => Ok(!truth(alloc, operand, env)?),
-            _ => Err(Stop::Unknown),
+            _ => Err(Stop::GaveUp),
         },
-        _ => Err(Stop::Unknown),
+        _ => Err(Stop::GaveUp),
     }
 }
 
@@ -148,7 +148,7 @@ pub(super) fn truth_of_three<'m: 'a, 'a>(
                 truth(alloc, third, env)
             }
         }
-        ThreeForm::SubSeq => Err(Stop::Unknown),
+        ThreeForm::SubSeq => Err(Stop::GaveUp),
     }
 }
 
@@ -168,7 +168,7 @@ pub(super) fn truth_of_list<'m: 'a, 'a>(
     match form {
         ListForm::Conjunction => all_are_true(alloc, parts, env),
         ListForm::Disjunction => some_is_true(alloc, parts, env),
-        _ => Err(Stop::Unknown),
+        _ => Err(Stop::GaveUp),
     }
 }
 

@@ -6,7 +6,7 @@ ghost use Rattle.tla_quick.specs.Private.Environment.{code_in, value_in};
 
 use crate::environment::Environment;
 use crate::evaluation::logic::truth_of_two;
-use crate::evaluation::{compares, truth, value};
+use crate::evaluation::{gives_truth, truth, value};
 use crate::made::{made_of_one, made_of_three, made_of_two};
 use crate::stop::Stop;
 use std::alloc::Global;
@@ -45,7 +45,7 @@ pub(super) fn value_of_two<'m: 'a, 'a>(
         (value_in env.entry
         (two_expr form place.now (code_in env.entry left.now) (code_in env.entry right.now))) }
 {
-    if compares(form) {
+    if gives_truth(form) {
         return Ok(Evaluated::truth(truth_of_two(alloc, place, form, left, right, env)?));
     }
     let left = value(alloc, left, env)?;

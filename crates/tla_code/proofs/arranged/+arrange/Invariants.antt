@@ -1,11 +1,14 @@
-use Rattle.std.proofs.Common.{◌+◌, ◌*◌, max, take}
+use Rattle.std.proofs.Common.{ℕ, ◌+◌, ◌*◌, max, take, Option, Some, None, Bor}
 use Rattle.std.specs.List.{AllZip}
-use Rattle.tla_core.specs.declared.expression.Core.{size-Core}
-use Rattle.tla_code.specs.Private.Listed.{StandsFor, FieldStandsFor, UpdateStandsFor}
+use Rattle.tla_core.specs.declared.expression.Core.{Core, size-Core}
+use Rattle.tla_code.specs.Private.Listed.{parts_of_arms, StandsFor, FieldStandsFor, UpdateStandsFor}
 use Rattle.tla_code.proofs.arranged.+arrange.Given as goal
 
 abbrev pub invariant-arranged_all-loop-part : goal.invariant-arranged_all-loop-part
 invariant-arranged_all-loop-part l = AllZip StandsFor (take l.part-index l.parts) l.codes.items
+
+abbrev pub invariant-arranged_arms-loop-arm : goal.invariant-arranged_arms-loop-arm
+invariant-arranged_arms-loop-arm l = AllZip StandsFor (parts_of_arms (take l.arm-index l.arms)) l.codes.items
 
 abbrev pub invariant-arranged_fields-loop-field : goal.invariant-arranged_fields-loop-field
 invariant-arranged_fields-loop-field l = AllZip FieldStandsFor (take l.field-index l.fields) l.codes.items
@@ -14,6 +17,10 @@ abbrev pub invariant-arranged_updates-loop-update : goal.invariant-arranged_upda
 invariant-arranged_updates-loop-update l = AllZip UpdateStandsFor (take l.update-index l.updates) l.codes.items
 
 -- ---- how deep what is left is, and then which function comes before which
+abbrev size_of_other : Option (Bor Core) → ℕ
+size_of_other None = 0
+size_of_other (Some core) = size-Core core.now
+
 abbrev pub decreases-arranged : goal.decreases-arranged
 decreases-arranged l = 8 * size-Core l.core.now + 1
 
@@ -41,6 +48,9 @@ decreases-with_items l = 8 * goal.size-with_items l + 4
 abbrev pub decreases-arranged_all : goal.decreases-arranged_all
 decreases-arranged_all l = 8 * goal.size-arranged_all l + 3
 
+abbrev pub decreases-arranged_arms : goal.decreases-arranged_arms
+decreases-arranged_arms l = 8 * goal.size-arranged_arms l + 3
+
 abbrev pub decreases-arranged_fields : goal.decreases-arranged_fields
 decreases-arranged_fields l = 8 * goal.size-arranged_fields l + 3
 
@@ -49,6 +59,9 @@ decreases-arranged_updates l = 8 * goal.size-arranged_updates l + 4
 
 abbrev pub decreases-list : goal.decreases-list
 decreases-list l = 8 * goal.size-list l + 4
+
+abbrev pub decreases-cases : goal.decreases-cases
+decreases-cases l = 8 * max (goal.size-cases l) (size_of_other l.other) + 5
 
 abbrev pub decreases-named : goal.decreases-named
 decreases-named l = 8 * goal.size-named l + 4

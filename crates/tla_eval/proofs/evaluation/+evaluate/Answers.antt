@@ -224,12 +224,12 @@ evaluate_other-returns-in-Function t c =
     ∙ ap (λ (k : Core). chosen_function_rule n.place (parts_of_cores c.deref-in-Function.result.now) (means (expr_of k)) b s q) (sym c.deref-in-Function-2.ensures) in
     subst (λ (o : Outcome Tree). Evaluates c.function.result o) (sym e) c.function.ensures
 
-pub evaluate_other-returns-in-Opened : goal.evaluate_other-returns-in-Opened
-evaluate_other-returns-in-Opened t c =
-    let n = c.in-Opened in
+pub evaluate_other-returns-in-Destructure : goal.evaluate_other-returns-in-Destructure
+evaluate_other-returns-in-Destructure t c =
+    let n = c.in-Destructure in
     let e = ap (λ (k : Core). means (expr_of k)) n.is
-    ∙ ap (λ os. means-opened n.place os (means (expr_of n.body.value))) (sym c.deref-in-Opened.ensures.value)
-    ∙ ap (λ (k : Core). means-opened n.place c.deref-in-Opened.result.now (means (expr_of k))) (sym c.deref-in-Opened-2.ensures) in
+    ∙ ap (λ os. means-opened n.place os (means (expr_of n.body.value))) (sym c.deref-in-Destructure.ensures.value)
+    ∙ ap (λ (k : Core). means-opened n.place c.deref-in-Destructure.result.now (means (expr_of k))) (sym c.deref-in-Destructure-2.ensures) in
     subst (λ (m : Meaning). Evaluates c.opened.result (m.value (bound_in c.args.env) (present_in c.args.env) (next_in c.args.env))) (sym e) c.opened.ensures
 
 pub evaluate_other-returns-in-Except : goal.evaluate_other-returns-in-Except

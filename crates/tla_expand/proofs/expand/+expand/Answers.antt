@@ -48,7 +48,7 @@ node_of-returns-in-One-clause-same t c =
 pub node_of-returns-in-Three-clause-same : goal.node_of-returns-in-Three-clause-same
 node_of-returns-in-Three-clause-same t c =
     let m = c.in-Three in
-    rw (three_form c.args.form (scope_at (listed c.args.entries.now) c.args.at.scope) c.args.at.bound c.args.at.primes m.place m.node m.a m.b m.c m.is) (rw (c.deref-in-Three.ensures, c.deref-in-Three-2.ensures, c.deref-in-Three-3.ensures) at c.three_node.ensures.same)
+    rw (three_form c.args.form (scope_at (listed c.args.entries.now) c.args.at.scope) c.args.at.bound c.args.at.primes m.place m.node m.first m.second m.third m.is) (rw (c.deref-in-Three.ensures, c.deref-in-Three-2.ensures, c.deref-in-Three-3.ensures) at c.three_node.ensures.same)
 
 pub node_of-returns-in-Two-clause-same : goal.node_of-returns-in-Two-clause-same
 node_of-returns-in-Two-clause-same t c =
@@ -82,8 +82,8 @@ pub three_node-returns-in_err-two-clause-same : goal.three_node-returns-in_err-t
 three_node-returns-in_err-two-clause-same t c =
     let r = err_from_is_err_and c.from_residual.result c.from_residual.ensures.1 in
     let σ = scope_at (listed c.args.entries.now) c.args.at.scope in
-    let ab = both (part_in c.args.at.primes σ c.args.at.bound c.args.first.now) (part_in c.args.at.primes σ c.args.at.bound c.args.second.now) in
-    let last = part_in c.args.at.primes σ c.args.at.bound c.args.third.now in
+    let ab = both (part_in c.args.at.primes σ c.args.at.bound c.args.operands.first.now) (part_in c.args.at.primes σ c.args.at.bound c.args.operands.second.now) in
+    let last = part_in c.args.at.primes σ c.args.at.bound c.args.operands.third.now in
     rw (r.1, r.2) (node_fails (sum_of (sum_of nodes nodes) nodes) (larger_of (larger_of depth depth) depth) (λ (x : Triple). three c.args.node c.args.place x.0.0 x.0.1 x.1) c.in_err-two.field-0.0
     (both ab last) c.args.at.room c.args.at.left (three_larger c.args.node c.args.place)
     (first_fails (sum_of nodes nodes) (larger_of depth depth) nodes depth c.in_err-two.field-0.0 ab last c.args.at.room c.args.at.left c.in_err-two.ensures.same))
@@ -92,8 +92,8 @@ pub three_node-returns-in_err-third-clause-same : goal.three_node-returns-in_err
 three_node-returns-in_err-third-clause-same t c =
     let r = err_from_is_err_and c.from_residual-in_err-third.result c.from_residual-in_err-third.ensures.1 in
     let σ = scope_at (listed c.args.entries.now) c.args.at.scope in
-    let ab = both (part_in c.args.at.primes σ c.args.at.bound c.args.first.now) (part_in c.args.at.primes σ c.args.at.bound c.args.second.now) in
-    let last = part_in c.args.at.primes σ c.args.at.bound c.args.third.now in
+    let ab = both (part_in c.args.at.primes σ c.args.at.bound c.args.operands.first.now) (part_in c.args.at.primes σ c.args.at.bound c.args.operands.second.now) in
+    let last = part_in c.args.at.primes σ c.args.at.bound c.args.operands.third.now in
     let g = c.in_ok-two.ensures.same in
     let f = rw c.in_ok-two.ensures.kept at c.in_err-third.ensures.same in
     rw (r.1, r.2) (node_fails (sum_of (sum_of nodes nodes) nodes) (larger_of (larger_of depth depth) depth) (λ (x : Triple). three c.args.node c.args.place x.0.0 x.0.1 x.1) c.in_err-third.field-0.0

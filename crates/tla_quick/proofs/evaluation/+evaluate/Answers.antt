@@ -1,4 +1,4 @@
-use Rattle.std.proofs.Common.{◌≡◌, ◌≤◌, rules, arith, Vec, Global, map, zip, length, option_map, Option, Bor, List, ◌++◌, ◌∷◌, [], Bool, Some, None, Result, Ok, Err, ap, sym, ◌∙◌, refl, subst}
+use Rattle.std.proofs.Common.{◌≡◌, ◌≤◌, ◌*◌, ◌/◌, rules, arith, Vec, Global, map, zip, drop, length, option_map, Option, Bor, List, ◌++◌, ◌∷◌, [], Bool, Some, None, Result, Ok, Err, ap, sym, ◌∙◌, refl, subst}
 use Rattle.std.specs.Prelude.{slice_get}
 use Rattle.std.proofs.lemmas.List.{map-append, length-map}
 use Rattle.tla_value.specs.Tree.{Tree, truth}
@@ -7,13 +7,13 @@ use Rattle.tla_value.specs.Choices.{choices}
 use Rattle.tla_value.specs.declared.value.Value.{Value}
 use Rattle.tla_core.specs.declared.fault.Place.{Place}
 use Rattle.tla_core.specs.Fault.{Outcome, ◌>>=◌}
-use Rattle.tla_core.specs.Expr.{Expr, except}
+use Rattle.tla_core.specs.Expr.{Expr, cases, except}
 use Rattle.tla_core.specs.Kinds.{as_set, as_truth, items, make_fun}
 use Rattle.tla_core.specs.Lists.{each}
 use Rattle.tla_core.specs.Meaning.{Bound, Present, Next, asks, as_tree, elements}
 use Rattle.tla_core.specs.Value.{val, means, mean_all, mean_fields}
 use Rattle.tla_code.specs.CodeExpr.{expr_in}
-use Rattle.tla_code.specs.Forms.{two_expr, list_expr, field_expr, map_expr}
+use Rattle.tla_code.specs.Forms.{two_expr, list_expr, field_expr, map_expr, arms_in}
 use Rattle.tla_code.specs.Private.Listed.{exprs_of_codes, fields_of_codes, updates_of_codes}
 use Rattle.tla_code.specs.declared.code.Code.{Code}
 use Rattle.tla_code.specs.declared.code.ListForm.{ListForm}
@@ -34,7 +34,7 @@ use Rattle.tla_quick.specs.Private.Answers.{Answers}
 use Rattle.tla_quick.specs.Private.Environment.{bound_in, present_in, next_in, scope_in, code_in, value_in, has_in}
 use Rattle.tla_eval.proofs.Asked.{function_into}
 use Rattle.tla_eval.proofs.RecordSets.{tuple_long, tuple_other}
-use Rattle.tla_quick.proofs.Forms.{same_answer, parts_more, parts_stop, parts_end, some_parts_more, some_parts_stop, some_parts_end, same_number, number_same}
+use Rattle.tla_quick.proofs.Forms.{same_answer, parts_more, parts_stop, parts_end, some_parts_more, some_parts_stop, some_parts_end, arm_passed, arm_taken, arm_other, same_number, number_same}
 use Rattle.tla_quick.proofs.evaluation.+evaluate.Goals as goal
 
 -- ---- forms with lists
@@ -278,6 +278,35 @@ pub logic::truth_of_list-returns-in-Disjunction : goal.logic::truth_of_list-retu
 logic::truth_of_list-returns-in-Disjunction t c p =
     let env = c.args.env in
     same_answer truth c.some_is_true.result _ _ (ap (λ (f : ListForm). value_in env (list_expr f p (exprs_of_codes (scope_in env) c.args.parts.now))) c.in-Disjunction.is) (c.some_is_true.ensures p)
+
+-- ---- the arms of a CASE
+pub lists::value_of_list-returns-in-Cases : goal.lists::value_of_list-returns-in-Cases
+lists::value_of_list-returns-in-Cases t c =
+    let env = c.args.env in
+    same_answer tree_of_evaluated c.value_of_cases.result _ _ (ap (λ (f : ListForm). value_in env (list_expr f c.args.place.now (exprs_of_codes (scope_in env) c.args.parts.now))) c.in-Cases.is) (c.value_of_cases.ensures c.args.place.now)
+
+pub lists::value_of_cases-loop-arm-preserved : goal.lists::value_of_cases-loop-arm-preserved
+lists::value_of_cases-loop-arm-preserved t c p =
+    let env = c.args.env in
+    c.loop-arm.invariant p
+    ∙ arm_passed (scope_in env) (bound_in env) (present_in env) (next_in env) p c.args.parts.now c.loop-arm.arm c.index-parts-arm.result c.index-parts-arm.is (omega (arith, c.loop-arm-test.true)) (c.in_ok-truth.ensures ∙ ap (λ h. Ok (truth h)) c.if-branch.false)
+
+pub lists::value_of_cases-returns-then-branch : goal.lists::value_of_cases-returns-then-branch
+lists::value_of_cases-returns-then-branch t c p =
+    let env = c.args.env in
+    let e = c.loop-arm.invariant p
+    ∙ arm_taken (scope_in env) (bound_in env) (present_in env) (next_in env) p c.args.parts.now c.loop-arm.arm c.index-parts-arm.result c.index-parts-arm-then-branch.result c.index-parts-arm.is c.index-parts-arm-then-branch.is (omega (arith, c.loop-arm-test.true)) (c.in_ok-truth.ensures ∙ ap (λ h. Ok (truth h)) c.if-branch.true) in
+    same_answer tree_of_evaluated c.value.result _ _ e c.value.ensures
+
+pub lists::value_of_cases-returns-then-arms-parts : goal.lists::value_of_cases-returns-then-arms-parts
+lists::value_of_cases-returns-then-arms-parts t c p =
+    let env = c.args.env in
+    let codes = c.args.parts.now in
+    let n : 2 * c.loop-arm.arm ≡ 2 * (length codes / 2) = omega (arith, c.loop-arm-test.false, c.loop-arm.auto.arm-end) in
+    let e = c.loop-arm.invariant p
+    ∙ ap (λ k. val (cases p (arms_in (exprs_of_codes (scope_in env) (drop k codes)))) (bound_in env) (present_in env) (next_in env)) n
+    ∙ arm_other (scope_in env) (bound_in env) (present_in env) (next_in env) p codes (2 * (length codes / 2)) c.index-parts-arms.result c.index-parts-arms.is (omega (arith, c.if-arms-parts.true)) in
+    same_answer tree_of_evaluated c.value-then-arms-parts.result _ _ e c.value-then-arms-parts.ensures
 
 -- ---- sets that are asked or gone over
 pub asked::has_in_list-returns-in-Product : goal.asked::has_in_list-returns-in-Product

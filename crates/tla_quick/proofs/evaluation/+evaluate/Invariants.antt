@@ -9,8 +9,10 @@ use Rattle.tla_core.specs.Lists.{each, all_hold, some_hold, first_passing, passi
 use Rattle.tla_core.specs.Meaning.{Meaning, asks}
 use Rattle.tla_core.specs.Functions.{update_all}
 use Rattle.tla_core.specs.SetForms.{field_has, parts_have}
-use Rattle.tla_core.specs.Value.{means, mean_all, mean_fields, mean_updates}
+use Rattle.tla_core.specs.Expr.{cases}
+use Rattle.tla_core.specs.Value.{means, mean_all, mean_fields, mean_updates, val}
 use Rattle.tla_code.specs.declared.code.Code.{size-Code}
+use Rattle.tla_code.specs.Forms.{arms_in}
 use Rattle.tla_code.specs.Private.Listed.{exprs_of_codes, fields_of_codes, updates_of_codes}
 use Rattle.tla_operators.specs.Evaluated.{tree_of_evaluated}
 use Rattle.tla_operators.specs.Gathered.{then_more, IsGathered}
@@ -82,6 +84,9 @@ decreases-lists::value_of_list l = 2 ^ 66 * goal.size-lists::value_of_list l + 1
 
 abbrev pub decreases-lists::values_of : goal.decreases-lists::values_of
 decreases-lists::values_of l = 2 ^ 66 * goal.size-lists::values_of l + 5
+
+abbrev pub decreases-lists::value_of_cases : goal.decreases-lists::value_of_cases
+decreases-lists::value_of_cases l = 2 ^ 66 * goal.size-lists::value_of_cases l + 5
 
 abbrev pub decreases-lists::evaluated_each : goal.decreases-lists::evaluated_each
 decreases-lists::evaluated_each l = 2 ^ 66 * goal.size-lists::evaluated_each l + 5
@@ -220,6 +225,11 @@ abbrev pub invariant-lists::values_of-loop-code : goal.invariant-lists::values_o
 invariant-lists::values_of-loop-code l =
     each (λ (m : Meaning). m.value (bound_in l.env) (present_in l.env) (next_in l.env)) (mean_all (exprs_of_codes (scope_in l.env) l.codes))
     ≡ (each (λ (m : Meaning). m.value (bound_in l.env) (present_in l.env) (next_in l.env)) (mean_all (exprs_of_codes (scope_in l.env) (drop l.code-index l.codes))) >>= λ ys. Ok (map tree_of l.values.items ++ ys))
+
+abbrev pub invariant-lists::value_of_cases-loop-arm : goal.invariant-lists::value_of_cases-loop-arm
+invariant-lists::value_of_cases-loop-arm l = (p : Place) →
+    val (cases p (arms_in (exprs_of_codes (scope_in l.env) l.parts))) (bound_in l.env) (present_in l.env) (next_in l.env)
+    ≡ val (cases p (arms_in (exprs_of_codes (scope_in l.env) (drop (2 * l.arm) l.parts)))) (bound_in l.env) (present_in l.env) (next_in l.env)
 
 abbrev pub invariant-lists::evaluated_each-loop-code : goal.invariant-lists::evaluated_each-loop-code
 invariant-lists::evaluated_each-loop-code l =

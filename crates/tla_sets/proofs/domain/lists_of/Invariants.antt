@@ -7,7 +7,7 @@ use Rattle.tla_core.specs.Kinds.{as_set}
 use Rattle.tla_core.specs.Lists.{each}
 use Rattle.tla_sets.proofs.domain.lists_of.Given as goal
 
--- what is left, behind what is there
+-- what is left, after what is there
 abbrev pub invariant-loop-set : goal.invariant-loop-set
 invariant-loop-set l =
     each (as_set l.place) (map tree_of_evaluated l.sets)

@@ -1,7 +1,7 @@
 use Rattle.std.proofs.Common.{rules}
 use Rattle.tla_expand.specs.Private.Parameters.{IsAbsent}
 use Rattle.tla_expand.proofs.GivenWalk.{sought_here, sought_parameters, found_outside, found_parameter}
-use Rattle.tla_expand.proofs.gives.sought.Goals as goal
+use Rattle.tla_expand.proofs.gives.summary_of.Goals as goal
 
 pub loop-at-init : goal.loop-at-init
 loop-at-init c = record { same = sought_here c.args.name.now c.args.known.now }

@@ -8,12 +8,12 @@ use tla_core::{Fault, FaultCode, Place};
 
 /// A fault whose place is borrowed from the expression, so that it takes less room on its way to the caller.
 #[derive(Drop)]
-pub struct Trouble<'p> {
+pub struct FaultRef<'p> {
     code: FaultCode,
     place: Option<&'p Place>,
 }
 
-impl<'p> Model for Trouble<'p> {
+impl<'p> Model for FaultRef<'p> {
     ghost use Rattle.std.specs.Prelude.{None, option_map};
     ghost use Rattle.tla_core.specs.declared.fault.Fault.{Fault};
 
@@ -23,52 +23,52 @@ impl<'p> Model for Trouble<'p> {
 }
 
 /// A fault of the node at a place.
-pub fn fault_at(code: FaultCode, place: &Place) -> Trouble<'_>
+pub fn fault_at(code: FaultCode, place: &Place) -> FaultRef<'_>
     ensures { result ≡ record { code = code; place = Some place.now; variable = None } }
 {
-    Trouble {
+    FaultRef {
         code,
         place: Some(place),
     }
 }
 
 /// The fault that means that memory ran out.
-pub fn memory<'p>() -> Trouble<'p>
+pub fn memory<'p>() -> FaultRef<'p>
     ensures { result ≡ out_of_memory }
 {
-    Trouble {
+    FaultRef {
         code: FaultCode::Memory,
         place: None,
     }
 }
 
-impl<'p> From<AllocError> for Trouble<'p> {
+impl<'p> From<AllocError> for FaultRef<'p> {
     ghost use Rattle.tla_core.specs.Fault.{out_of_memory};
 
     ghost from_gives = { λ _ f. f ≡ out_of_memory };
 
-    fn from(_error: AllocError) -> Trouble<'p> {
+    fn from(_error: AllocError) -> FaultRef<'p> {
         memory()
     }
 }
 
-impl<'p, T: Drop> From<AllocFailed<T>> for Trouble<'p> {
+impl<'p, T: Drop> From<AllocFailed<T>> for FaultRef<'p> {
     ghost use Rattle.tla_core.specs.Fault.{out_of_memory};
 
     ghost from_gives = { λ _ f. f ≡ out_of_memory };
 
-    fn from(_error: AllocFailed<T>) -> Trouble<'p> {
+    fn from(_error: AllocFailed<T>) -> FaultRef<'p> {
         memory()
     }
 }
 
-impl<'p> From<Trouble<'p>> for Fault {
+impl<'p> From<FaultRef<'p>> for Fault {
     ghost from_gives = { λ t f. f ≡ t };
 
-    fn from(trouble: Trouble<'p>) -> Fault {
+    fn from(fault: FaultRef<'p>) -> Fault {
         Fault {
-            code: trouble.code,
-            place: trouble.place.copied(),
+            code: fault.code,
+            place: fault.place.copied(),
             variable: None,
         }
     }
