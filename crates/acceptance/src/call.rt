@@ -1,4 +1,4 @@
-//! The calls.
+//! The calls of library functions.
 ghost use Rattle.std.specs.Prelude.{◌≡◌, length, IfOk};
 
 use crate::hashing::Zero;
@@ -19,7 +19,7 @@ use tla_parse::parse_module;
 use tla_search::{NoGate, Options, search, search_by};
 use tla_value::{SetValue, State, Value};
 
-/// Which call is made.
+/// A call of a library function.
 #[derive(Clone, Copy)]
 pub enum Call {
     Insert,
@@ -33,11 +33,11 @@ pub enum Call {
 /// A call on the model of a module.
 #[derive(Clone, Copy)]
 pub enum OnModel {
-    /// None: whether there is a model is asked.
+    /// No call: tests only whether there is a model.
     Build,
-    /// Of the places of its action.
+    /// The places of its action.
     Places,
-    /// Whether the formula fits if this many names are bound.
+    /// Whether the formula fits with this many bound names.
     FitsNames(usize),
     /// Whether its action fits, with present values or without.
     FitsValues(bool),
@@ -47,11 +47,11 @@ pub enum OnModel {
     Successors,
     /// The number of workers, and the most states.
     Search(u64, u64),
-    /// By three workers, of states that all have the hash 0.
+    /// By three workers, with states that all have the hash 0.
     SearchOfOneHash,
 }
 
-/// What a call answers.
+/// The result of a call.
 #[derive(Drop)]
 pub enum Answer {
     Truth(bool),
@@ -61,11 +61,11 @@ pub enum Answer {
     Configuration,
     Model,
     Found(tla_search::Answer),
-    /// None, since no call was made.
+    /// No result, since there was no call.
     Nothing,
 }
 
-/// A call that was made: what it could change, before and after, and its answer.
+/// A finished call: the values that it could change, before and after, and its result.
 #[derive(Drop)]
 pub struct Made {
     pub lent: Vec<Value>,
@@ -97,7 +97,7 @@ fn inserted(two: TwoNumbers, value: Value) -> Result<Made, Refusal> {
     })
 }
 
-/// All sets of twenty numbers, which are too many.
+/// The subsets of a set of twenty numbers, which are too many.
 fn power(alloc: Global) -> Result<Made, Refusal> {
     let numbers = SetValue::range(alloc, 1, 20)?;
     let answer = numbers.power(alloc);
@@ -110,7 +110,7 @@ fn configured(alloc: Global) -> Made {
     unlent(alloc, answer.map(|_| Answer::Configuration))
 }
 
-/// A module whose tokens are cut short.
+/// A module whose list of tokens is cut short.
 static CUT: &[u8] = b"---- MODULE M ----
 EXTENDS Integers
 VARIABLE x
@@ -119,7 +119,7 @@ Next == /\\ x ' = ( x + 1 ) % 3
         /\\ \\A y \\in S : IF y THEN x ELSE ~ y
 ====";
 
-/// Whether each beginning of these tokens, shorter than all of them, is refused.
+/// Whether each proper prefix of these tokens is refused.
 fn are_refused(alloc: Global, tokens: &[Token]) -> bool {
     for (length, _) in tokens.iter().enumerate() {
         if parse_module(alloc, CUT, &tokens[..length]).is_ok() {
@@ -129,8 +129,8 @@ fn are_refused(alloc: Global, tokens: &[Token]) -> bool {
     true
 }
 
-/// Whether a module's tokens are refused where they are cut short. No text has them: one without a closing line is refused
-/// by its tokens.
+/// Whether a module's tokens are refused if they are cut short. No text has such tokens: the lexer refuses one without
+/// a closing line.
 fn parsed_cut(alloc: Global) -> Result<Made, Refusal> {
     let tokens = tokens(alloc, CUT)?;
     let answer = match parse_module(alloc, CUT, &tokens) {
@@ -146,7 +146,8 @@ fn fitted(alloc: Global, core: &Core, names: usize, variables: usize, now: bool)
     unlent(alloc, Ok::<Answer, Refusal>(Answer::Truth(fits)))
 }
 
-/// The place of a node, and those of its parts if it is a list of truths. No fault can be there, so no report has them.
+/// The place of a node, and those of its parts if it is a conjunction or a disjunction. No fault can be there, so no
+/// report has them.
 fn places_of(alloc: Global, core: &Core) -> Result<Vec<Place>, AllocError> {
     let mut places = Vec::new(alloc);
     places.push(core.place())?;
@@ -163,7 +164,7 @@ fn placed(alloc: Global, model: &Model) -> Made {
     unlent(alloc, places_of(alloc, model.next()).map(Answer::Places))
 }
 
-/// No next value, and twice the values of the bound names, of which b is 7.
+/// No next value, and two copies of the values of the bound names: b is 7.
 #[derive(Drop)]
 struct Given {
     nothing: Partial,
@@ -191,14 +192,14 @@ fn lent(given: Given, answer: Result<Answer, Refusal>) -> Made {
     }
 }
 
-/// The value of the formula where b is 7.
+/// The value of the formula for b = 7.
 fn evaluated(alloc: Global, model: &Model) -> Result<Made, Refusal> {
     let mut given = sevens(alloc)?;
     let answer = eval(alloc, formula(model), &mut given.left, None, &given.nothing);
     Ok(lent(given, answer.map(Answer::Value).map_err(Refusal::from)))
 }
 
-/// Whether 8 is a member of the formula where b is 7.
+/// Whether 8 is a member of the formula for b = 7.
 fn tested(alloc: Global, model: &Model) -> Result<Made, Refusal> {
     let mut given = sevens(alloc)?;
     let eight = Value::Int(8);
@@ -218,7 +219,7 @@ fn begun(alloc: Global, model: &Model) -> Made {
     unlent(alloc, initials(alloc, model).map(Answer::States))
 }
 
-/// The state of one variable in which it is 0.
+/// The state in which the one variable is 0.
 fn zero(alloc: Global) -> Result<State, AllocError>
     ensures { IfOk result (λ s. length s ≡ 1) }
 {
@@ -237,7 +238,7 @@ fn followed(alloc: Global, model: &Model) -> Result<Made, Refusal> {
     Ok(unlent(alloc, answer.map(Answer::States)))
 }
 
-/// The answer of a search in pieces of one state.
+/// The answer of a search with pieces of one state.
 fn searched<R: Threads + Wait + Sync>(
     rt: &R,
     alloc: Global,
@@ -252,7 +253,7 @@ fn searched<R: Threads + Wait + Sync>(
     unlent(alloc, answer.map(Answer::Found))
 }
 
-/// The answer of a search of states that have one hash, in pieces of one state.
+/// The same, with the hash 0 for all states.
 fn searched_by_one_hash<R: Threads + Wait + Sync>(rt: &R, alloc: Global, model: &Model) -> Made {
     let Some(options) = Options::new(3, 1, 100) else {
         return unlent(alloc, Ok::<Answer, Refusal>(Answer::Nothing));
@@ -263,7 +264,6 @@ fn searched_by_one_hash<R: Threads + Wait + Sync>(rt: &R, alloc: Global, model: 
     unlent(alloc, answer.map(Answer::Found))
 }
 
-/// Makes a call on a model.
 fn make_on<R: AllocGlobal + Threads + Wait + Sync>(
     rt: &R,
     model: &Model,
@@ -284,8 +284,8 @@ fn make_on<R: AllocGlobal + Threads + Wait + Sync>(
     }
 }
 
-/// Makes a call on the model of a module. The model is dropped by `drop`, which is proved once: if it were dropped in
-/// place, this proof would go through its formulas.
+/// Makes a call on the model of a module. The model is dropped by a call of `drop`, which is proved once; an implicit
+/// drop would be part of this proof.
 fn make_on_model<R: AllocGlobal + Threads + Wait + Sync>(
     rt: &R,
     formula: Pieces,
@@ -309,7 +309,7 @@ fn make_on_model<R: AllocGlobal + Threads + Wait + Sync>(
     }
 }
 
-/// Makes a call. An error is one of its inputs.
+/// Makes a call. An error is one of building its inputs.
 pub fn make<R: AllocGlobal + Threads + Wait + Sync>(
     rt: &R,
     subject: Subject,

@@ -1,15 +1,15 @@
 //! The list of a group's cases.
 
-use crate::told::Form;
+use crate::outputs::Form;
 use std::alloc::{AllocError, Global};
 use std::io;
 
-/// What a case compares.
+/// The expected output of a case.
 #[derive(Clone, Copy)]
 pub enum Wanted {
     /// The report, and this status.
     Status(u8),
-    /// The report, by each line of `options`: a status, and words of the command line.
+    /// The report, for each line of `options`: a status, and words of the command line.
     Options,
     /// For each n, the report of the module's first n bytes with line n of `report`.
     Prefixes,
@@ -17,10 +17,10 @@ pub enum Wanted {
     Lines,
     /// The report of each module and configuration in `texts`.
     Texts,
-    /// What is written in this form beside the report, in `told`.
-    Told(Form),
-    /// The explanation of each module and configuration in `texts`, in `told`.
-    ToldTexts,
+    /// What is written in this form beside the report: `expected`.
+    Output(Form),
+    /// The explanation of each module and configuration in `texts`: `expected`.
+    Explanations,
 }
 
 /// A line of the list.
@@ -39,9 +39,9 @@ impl Wanted {
             "prefixes" => Some(Wanted::Prefixes),
             "lines" => Some(Wanted::Lines),
             "texts" => Some(Wanted::Texts),
-            "told-texts" => Some(Wanted::ToldTexts),
+            "explanations" => Some(Wanted::Explanations),
             _ => match Form::read(word) {
-                Some(form) => Some(Wanted::Told(form)),
+                Some(form) => Some(Wanted::Output(form)),
                 None => Some(Wanted::Status(word.parse().ok()?)),
             },
         }
@@ -56,7 +56,7 @@ pub struct Row<'a> {
 }
 
 impl<'a> Row<'a> {
-    /// The status and the words of a line, or none where the line has no status.
+    /// The status and the words of a line, or none if the line has no status.
     pub fn read(alloc: Global, line: &'a str) -> Result<Option<Row<'a>>, AllocError> {
         let mut words = line.split_whitespace();
         let Some(Wanted::Status(status)) = words.next().and_then(Wanted::read) else {
@@ -71,7 +71,7 @@ impl<'a> Row<'a> {
 }
 
 impl<'a> Case<'a> {
-    /// The case of a line in this group's list, or none where the line has no name or no status.
+    /// The case of a line in this group's list, or none if the line has no name or no status.
     pub fn read(alloc: Global, group: &str, line: &'a str) -> io::Result<Option<Case<'a>>> {
         let mut words = line.split_whitespace();
         let Some(name) = words.next() else {

@@ -1,16 +1,13 @@
-//! The cases of the data folder: each is run, and those are named whose report, explanation or
-//! status isn't the one that is wanted.
+//! Runs the cases of the data folder, and names those whose report, explanation or status isn't the expected one.
 //!
-//! Each case is checked with its own options. Where levels are searched, it is checked again by 1,
-//! 2, 7 and 64 workers in pieces of 1, 3 and 65,536 states: each of the one with each of the other.
-//! Where a case has many texts or many options, each is checked again by one of these twelve pairs,
-//! in turn. All reports of a text have to be the same bytes.
+//! Each case is checked with its own options. If levels are searched, it is checked again with each combination of 1,
+//! 2, 7 and 64 workers and pieces of 1, 3 and 65,536 states. If a case has many texts or many options, each is checked
+//! again with one of these twelve combinations, in turn. All reports of a text must be the same bytes.
 //!
-//! The file `active` names the groups, a line each, and `GROUP/active` has a line for each case of
-//! the group: the name of its folder, what is compared, and words of the command line. What is
-//! compared is one of these:
+//! The file `active` names the groups, a line each, and `GROUP/active` has a line for each case of the group: the name
+//! of its folder, what is compared, and words of the command line. What is compared is one of these:
 //!
-//! - a status: the folder has `module.tla`, `model.cfg` and the `report` that is wanted, with this
+//! - a status: the folder has `module.tla`, `model.cfg` and the expected `report`, with this
 //!   exit status;
 //! - `options`: the same three files, and `options`, whose lines have a status and words of the
 //!   command line each;
@@ -20,19 +17,19 @@
 //!   `report` has the reports of all, one after the other;
 //! - `texts`: the folder has `texts` and `report`; `texts` has modules, each followed by its
 //!   configuration, with a form feed between each two texts, and `report` has the reports of all;
-//! - `told`: the folder has `module.tla`, `model.cfg` and `told`, the explanation that is wanted;
+//! - `explanation`: the folder has `module.tla`, `model.cfg` and `expected`, the explanation;
 //!   `whole` and `counted` are the same with values shown whole and with the steps of each part of
 //!   Next, and `graph` and `document` compare the graph of the states and the document of the run,
 //!   `counted-document` one with these steps; `swapped` checks the two files in the wrong order;
-//! - `told-texts`: the folder has `texts` and `told`, which has the explanation of each module and
-//!   configuration, with a form feed between each two.
+//! - `explanations`: the folder has `texts` and `expected`, which has the explanation of each module
+//!   and configuration, with a form feed between each two.
 
 use crate::case::{Case, Wanted};
 use crate::outcome::{
     CaseFiles, is_as_wanted, lines_are_as_wanted, options_are_as_wanted, options_of,
     prefixes_are_as_wanted, texts_are_as_wanted,
 };
-use crate::told::{Form, is_told_as_wanted, texts_are_told_as_wanted};
+use crate::outputs::{Form, explains_as_expected, writes_as_expected};
 use std::io::Write;
 use std::rt::Files;
 use std::sync::Wait;
@@ -61,8 +58,8 @@ fn files_of<R: AllocGlobal + Files>(rt: &R, folder: &str) -> io::Result<CaseFile
     })
 }
 
-/// Whether what is written in a form beside the report is what the file `told` of the case has.
-fn explains<R: AllocGlobal + Files + Threads + Wait + Sync>(
+/// Whether a check writes what the file `expected` of the case has.
+fn writes<R: AllocGlobal + Files + Threads + Wait + Sync>(
     rt: &R,
     case: &Case<'_>,
     form: Form,
@@ -70,26 +67,34 @@ fn explains<R: AllocGlobal + Files + Threads + Wait + Sync>(
     let folder = case.folder.as_str();
     let module = bytes_of(rt, folder, "module.tla")?;
     let configuration = bytes_of(rt, folder, "model.cfg")?;
-    let wanted = bytes_of(rt, folder, "told")?;
+    let expected = bytes_of(rt, folder, "expected")?;
     let Some(options) = options_of(rt.alloc(), case.options.as_slice())? else {
         return Ok(false);
     };
     let alloc = rt.alloc();
-    is_told_as_wanted(rt, alloc, &module, &configuration, &options, form, &wanted)
+    writes_as_expected(
+        rt,
+        alloc,
+        &module,
+        &configuration,
+        &options,
+        form,
+        &expected,
+    )
 }
 
-/// Whether the explanations of the texts of the case are what its file `told` has.
+/// Whether the explanations of the texts of the case are those in its file `expected`.
 fn explains_each<R: AllocGlobal + Files + Threads + Wait + Sync>(
     rt: &R,
     case: &Case<'_>,
 ) -> io::Result<bool> {
     let folder = case.folder.as_str();
     let texts = bytes_of(rt, folder, "texts")?;
-    let wanted = bytes_of(rt, folder, "told")?;
+    let expected = bytes_of(rt, folder, "expected")?;
     let Some(options) = options_of(rt.alloc(), case.options.as_slice())? else {
         return Ok(false);
     };
-    texts_are_told_as_wanted(rt, rt.alloc(), &texts, &options, &wanted)
+    explains_as_expected(rt, rt.alloc(), &texts, &options, &expected)
 }
 
 fn passes<R: AllocGlobal + Files + Threads + Wait + Sync>(
@@ -126,13 +131,12 @@ fn passes<R: AllocGlobal + Files + Threads + Wait + Sync>(
             let report = bytes_of(rt, folder, "report")?;
             texts_are_as_wanted(rt, rt.alloc(), texts.as_slice(), report.as_slice())
         }
-        Wanted::Told(form) => explains(rt, case, form),
-        Wanted::ToldTexts => explains_each(rt, case),
+        Wanted::Output(form) => writes(rt, case, form),
+        Wanted::Explanations => explains_each(rt, case),
     }
 }
 
-/// Runs the cases of a group, names those that differ, and answers whether there are cases and all
-/// of them agree.
+/// Runs the cases of a group, names those that differ, and returns whether there are cases and all of them agree.
 fn run_group<R: AllocGlobal + Files + Threads + Wait + Sync, W: Write>(
     rt: &R,
     group: &str,

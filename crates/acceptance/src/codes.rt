@@ -6,7 +6,7 @@ use std::rt::Files;
 use std::{fs, io};
 use tla_explain::{CodeText, code_tables, text_of};
 
-/// Whether a line of the document says what the program says of a code.
+/// Whether a line of the document is the program's text of a code.
 fn is_in(alloc: Global, page: &str, text: &CodeText) -> Result<bool, AllocError> {
     let mut line = String::new(alloc);
     line.push_str("- **")?;
@@ -30,8 +30,8 @@ fn is_found(text: &CodeText) -> bool {
     }
 }
 
-/// Names the codes of a table of which the document says something else, or that aren't found, and
-/// answers whether there are none.
+/// Names the codes of a table whose text differs in the document, or that aren't found, and returns whether there are
+/// none.
 fn compare_table<R: AllocGlobal, W: Write>(
     rt: &R,
     page: &str,
@@ -52,7 +52,7 @@ fn compare_table<R: AllocGlobal, W: Write>(
     Ok(agree)
 }
 
-/// Names the codes of which the document says something else.
+/// Names the codes whose text differs in the document.
 pub fn compare_codes<R: AllocGlobal + Files, W: Write>(rt: &R, out: &mut W) -> io::Result<()> {
     let page = fs::read_to_string(rt, "CODES.md")?;
     let mut agree = true;

@@ -1,4 +1,4 @@
-//! What calls are made on.
+//! The inputs of calls.
 
 use crate::refusal::Refusal;
 use crate::subject::Pieces;
@@ -10,7 +10,7 @@ use tla_model::Model;
 use tla_parse::parse_module;
 use tla_value::{SetValue, Value};
 
-/// How deep sets are nested, at most.
+/// The deepest nesting of sets.
 const NESTING: u64 = 64;
 
 /// These numbers, in a list without room for more.
@@ -56,7 +56,7 @@ fn push_pieces(text: &mut String, pieces: Pieces) -> Result<(), AllocError> {
     Ok(())
 }
 
-/// A module of six states on three levels, of which the last two have no step. It assumes the formula of 7.
+/// A module with six states on three levels; the last two states have no successor. It assumes the formula for b = 7.
 fn module(alloc: Global, formula: Pieces) -> Result<String, AllocError> {
     let mut text = String::new(alloc);
     text.push_str("---- MODULE M ----\nEXTENDS Integers\nVARIABLE x\nASSUME \\A b \\in {7} : ")?;
@@ -88,7 +88,7 @@ pub fn model_of_action(alloc: Global, definitions: Pieces) -> Result<Model, Refu
     model_of(alloc, text.as_str(), b"INIT Init\nNEXT A\n")
 }
 
-/// The formula that a model assumes of each number of a set; of another model its initial predicate.
+/// The body of the `\A` that a model assumes; for another model its initial predicate.
 pub fn formula(model: &Model) -> &Core {
     match model.assumptions().first() {
         Some(Core::ForAll(_, _, body)) => body,

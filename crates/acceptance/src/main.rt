@@ -1,10 +1,9 @@
-//! Runs the acceptance cases and single calls of the libraries, and prints the outcome.
+//! Runs the acceptance cases and single calls of the libraries, and prints the results.
 //!
-//! Each word of the command line is one thing to do, in turn: `cases` runs the cases of the data
-//! folder and names those that differ; `codes` names each code for which the document CODES.md and
-//! the program differ; each other word names a call, whose answer is printed with what it borrowed,
-//! before and after. If memory runs out in a call or for its inputs, or a worker can't be started,
-//! the status is 22, as that of a check.
+//! Each word of the command line is a task: `cases` runs the cases of the data folder and names those that differ;
+//! `codes` names each code whose text differs between the document CODES.md and the program; any other word names a
+//! call, whose result is printed with what it borrowed, before and after. If memory runs out in a call or for its
+//! inputs, or a worker can't be started, the status is 22, as for a check.
 #![tactic(auto)]
 
 mod call;
@@ -14,14 +13,15 @@ mod codes;
 mod hashing;
 mod inputs;
 mod outcome;
+mod outputs;
+mod printing;
 mod refusal;
 mod subject;
-mod telling;
-mod told;
 
 use call::{Made, make};
 use cases::run_cases;
 use codes::compare_codes;
+use printing::print_result;
 use refusal::Refusal;
 use std::io::Write;
 use std::process::ExitCode;
@@ -30,11 +30,10 @@ use std::sync::Wait;
 use std::thread::Threads;
 use std::{env, io};
 use subject::subject_of;
-use telling::tell;
 
 const NO_ANSWER: u8 = 22;
 
-/// The status that a call ends with.
+/// The exit status of a call.
 fn status_of(made: &Result<Made, Refusal>) -> u8 {
     let refusal = match made {
         Ok(made) => made.answer.as_ref().err(),
@@ -46,7 +45,7 @@ fn status_of(made: &Result<Made, Refusal>) -> u8 {
     }
 }
 
-/// Makes the call of this name, prints it, and answers the status that it ends with.
+/// Makes the call of this name, prints it, and returns its exit status.
 fn make_named<R: AllocGlobal + Threads + Wait + Sync, W: Write>(
     rt: &R,
     name: &str,
@@ -56,14 +55,14 @@ fn make_named<R: AllocGlobal + Threads + Wait + Sync, W: Write>(
         return Ok(0);
     };
     let made = make(rt, subject);
-    let told = tell(out, &made);
+    let printed = print_result(out, &made);
     let status = status_of(&made);
     drop(made);
-    told?;
+    printed?;
     Ok(status)
 }
 
-/// Does what the words of the command line say, and answers the status.
+/// Does the tasks of the command line, and returns the status.
 fn run_words<R: AllocGlobal + Env + Files + Threads + Wait + Sync, W: Write>(
     rt: &R,
     out: &mut W,

@@ -1,4 +1,4 @@
-//! What a check answers.
+//! The report and the status of checks, compared with the expected ones.
 
 use crate::case::Row;
 use std::alloc::Global;
@@ -15,7 +15,7 @@ pub struct CaseFiles {
     pub report: Vec<u8>,
 }
 
-/// The status of a line that is refused; nothing is reported then.
+/// The status of a line that is refused, which has no report.
 const REFUSED_LINE: u8 = 21;
 
 /// The status of a text that is refused.
@@ -26,32 +26,31 @@ const WORKERS: [u64; 4] = [1, 2, 7, 64];
 
 const CUTS: [u64; 3] = [1, 3, 65_536];
 
-/// By which workers and pieces a text is checked again.
+/// The numbers of workers and of states in a piece with which a text is checked again.
 #[derive(Clone, Copy)]
 enum Again {
     /// Each number of workers with each number of states.
     ByEach,
-    /// The next in turn of each, where this is the number of the text among many. After twelve
-    /// texts each pair had its turn.
+    /// The pair in turn for the text with this number. Twelve texts use all pairs.
     InTurn(usize),
 }
 
-/// What a check ends with.
+/// The status and the report of a check.
 #[derive(Drop)]
 struct Ending {
     status: u8,
     report: Vec<u8>,
 }
 
-/// The last line of a report where no level was searched.
+/// The last line of a report if no level was searched.
 const NO_LEVEL: &[u8] = b"Levels 0, states 0.\n";
 
-/// Whether levels were searched, so that workers had a part in this.
+/// Whether levels were searched, and so workers were used.
 fn is_searched(ending: &Ending) -> bool {
     ending.status != REFUSED_TEXT && !ending.report.as_slice().ends_with(NO_LEVEL)
 }
 
-/// What a check of these texts ends with, or none where the report isn't written.
+/// The status and the report of a check of these texts, or none if the report isn't written.
 fn ending_of<R: Threads + Wait + Sync>(
     rt: &R,
     alloc: Global,
@@ -70,7 +69,7 @@ fn ending_of<R: Threads + Wait + Sync>(
     }
 }
 
-/// Whether the check of these texts by these workers ends like this.
+/// Whether a check of these texts with these options has the expected ending.
 fn ends_alike<R: Threads + Wait + Sync>(
     rt: &R,
     alloc: Global,
@@ -87,8 +86,7 @@ fn ends_alike<R: Threads + Wait + Sync>(
     }
 }
 
-/// Whether the check of these texts by each number of workers with each number of states ends like
-/// this.
+/// The same for each number of workers with each number of states.
 fn ends_alike_by_each<R: Threads + Wait + Sync>(
     rt: &R,
     alloc: Global,
@@ -107,7 +105,7 @@ fn ends_alike_by_each<R: Threads + Wait + Sync>(
     true
 }
 
-/// Whether the check of these texts, again, ends like this.
+/// Whether further checks of these texts have the expected ending.
 fn ends_alike_again<R: Threads + Wait + Sync>(
     rt: &R,
     alloc: Global,
@@ -126,7 +124,7 @@ fn ends_alike_again<R: Threads + Wait + Sync>(
     }
 }
 
-/// The options that the words of the command line after the two files name, or None if the line is refused.
+/// The options in the words of the command line after the two files, or None if the line is refused.
 pub fn options_of(alloc: Global, words: &[&str]) -> io::Result<Option<Options>> {
     let mut all = vec![in alloc; "tlacheck", "MODULE", "CONFIG"]?;
     all.extend_from_slice(words)?;
@@ -136,8 +134,8 @@ pub fn options_of(alloc: Global, words: &[&str]) -> io::Result<Option<Options>> 
     Ok(Some(line.options))
 }
 
-/// The status of a check of these texts and what it reports, or none where the report isn't
-/// written, or where a check again ends otherwise. `options` are words of the command line.
+/// The status and the report of a check of these texts, or none if the report isn't written or a further check ends
+/// differently. `options` are words of the command line.
 fn reported<R: Threads + Wait + Sync>(
     rt: &R,
     alloc: Global,
@@ -176,8 +174,8 @@ pub fn is_as_wanted<R: Threads + Wait + Sync>(
     }
 }
 
-/// Whether the check of the case by the options of each of these lines, in turn, ends with the
-/// status of the line and writes the report of the case.
+/// Whether the check of the case with the options of each of these lines ends with the status of the line and writes
+/// the report of the case.
 pub fn options_are_as_wanted<R: Threads + Wait + Sync>(
     rt: &R,
     alloc: Global,
@@ -198,7 +196,7 @@ pub fn options_are_as_wanted<R: Threads + Wait + Sync>(
     Ok(!lines.is_empty())
 }
 
-/// Whether each line of the report is that of the module cut short after as many bytes as lines come before it.
+/// Whether line n of the report, from 0, is the report of the module's first n bytes.
 pub fn prefixes_are_as_wanted<R: Threads + Wait + Sync>(
     rt: &R,
     alloc: Global,
@@ -218,10 +216,10 @@ pub fn prefixes_are_as_wanted<R: Threads + Wait + Sync>(
     Ok(!files.report.is_empty())
 }
 
-/// What ends a module.
+/// The closing line of a module.
 const CLOSING: &[u8] = b"====\n";
 
-/// Whether the reports of the module with each of these lines as its last, one after the other, are that of the case.
+/// Whether the reports of the module with each of these lines as its last, concatenated, are the report of the case.
 pub fn lines_are_as_wanted<R: Threads + Wait + Sync>(
     rt: &R,
     alloc: Global,
@@ -246,11 +244,11 @@ pub fn lines_are_as_wanted<R: Threads + Wait + Sync>(
     Ok(wanted.is_empty())
 }
 
-/// What separates two texts of a file `texts`.
+/// The separator of the texts of a file `texts`.
 const BETWEEN: u8 = b'\x0c';
 
-/// Whether the reports of each module of these texts with the configuration after it, one after the other, are this
-/// one. A module without a configuration is none.
+/// Whether the reports of each module of these texts with the configuration after it, concatenated, are this one. False
+/// for a module without a configuration.
 pub fn texts_are_as_wanted<R: Threads + Wait + Sync>(
     rt: &R,
     alloc: Global,

@@ -1,4 +1,4 @@
-//! Why a call has no answer.
+//! Why a call has no result.
 
 use std::alloc::{AllocError, AllocFailed};
 use tla_core::{Fault, FaultCode};
@@ -20,7 +20,7 @@ pub enum Refusal {
 }
 
 impl Refusal {
-    /// Whether it says nothing of the inputs: memory ran out, or a worker could not be started.
+    /// Whether it says nothing about the inputs: memory ran out, or a worker could not be started.
     pub fn says_nothing(&self) -> bool {
         match self {
             Refusal::Value(error) => *error == ValueError::Memory,

@@ -1,11 +1,11 @@
-//! The calls by their names, and what each is made on.
+//! The calls by their names, and their inputs.
 
 use crate::call::{Call, OnModel};
 
 /// Pieces of a text, each with how often it is repeated there.
 pub type Pieces = &'static [(&'static str, u64)];
 
-/// A call, and the formula that the module assumes of b, which is 7, or the definitions of its action.
+/// A call, and the formula that the module assumes for b = 7, or the definitions of its action.
 #[derive(Clone, Copy)]
 pub struct Subject {
     pub call: Call,

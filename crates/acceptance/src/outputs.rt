@@ -1,4 +1,4 @@
-//! What a check writes beside its report.
+//! The output of a check besides its report.
 
 use std::alloc::Global;
 use std::io;
@@ -7,7 +7,7 @@ use std::thread::Threads;
 use tla_check::{Checked, NoGate, Options, check};
 use tla_explain::{FileNames, Style, explain, write_document, write_graph};
 
-/// What is written beside a report.
+/// A form of output besides the report.
 #[derive(Clone, Copy)]
 pub enum Form {
     Explanation,
@@ -15,7 +15,7 @@ pub enum Form {
     Whole,
     /// An explanation with the steps of each part of Next.
     Counted,
-    /// The explanation where the two files are named in the wrong order.
+    /// The explanation if the two files are named in the wrong order.
     Swapped,
     Graph,
     Document,
@@ -27,7 +27,7 @@ impl Form {
     /// The form of this name.
     pub fn read(word: &str) -> Option<Form> {
         match word {
-            "told" => Some(Form::Explanation),
+            "explanation" => Some(Form::Explanation),
             "whole" => Some(Form::Whole),
             "counted" => Some(Form::Counted),
             "swapped" => Some(Form::Swapped),
@@ -39,46 +39,46 @@ impl Form {
     }
 }
 
-/// Whether what is written of the check of these texts is this.
-pub fn is_told_as_wanted<R: Threads + Wait + Sync>(
+/// Whether a check of these texts writes what is expected in this form.
+pub fn writes_as_expected<R: Threads + Wait + Sync>(
     rt: &R,
     alloc: Global,
     module: &[u8],
     configuration: &[u8],
     options: &Options,
     form: Form,
-    wanted: &[u8],
+    expected: &[u8],
 ) -> io::Result<bool> {
     match form {
-        Form::Swapped => is_told(rt, alloc, configuration, module, options, form, wanted),
-        _ => is_told(rt, alloc, module, configuration, options, form, wanted),
+        Form::Swapped => is_written(rt, alloc, configuration, module, options, form, expected),
+        _ => is_written(rt, alloc, module, configuration, options, form, expected),
     }
 }
 
 /// The same of two texts in the order in which they are checked.
-fn is_told<R: Threads + Wait + Sync>(
+fn is_written<R: Threads + Wait + Sync>(
     rt: &R,
     alloc: Global,
     module: &[u8],
     configuration: &[u8],
     options: &Options,
     form: Form,
-    wanted: &[u8],
+    expected: &[u8],
 ) -> io::Result<bool> {
     let checked = check(rt, alloc, module, configuration, options, &NoGate);
-    let mut told = Vec::new(alloc);
-    write_form(&mut told, module, configuration, &checked, form)?;
-    Ok(told.as_slice() == wanted)
+    let mut written = Vec::new(alloc);
+    write_form(&mut written, module, configuration, &checked, form)?;
+    Ok(written.as_slice() == expected)
 }
 
 fn write_form<'a>(
-    told: &mut Vec<u8>,
+    out: &mut Vec<u8>,
     module: &'a [u8],
     configuration: &'a [u8],
     checked: &'a Checked,
     form: Form,
 ) -> io::Result<()> {
-    let alloc = *told.allocator();
+    let alloc = *out.allocator();
     let names = names_of(form);
     let style = Style {
         full: matches!(form, Form::Whole),
@@ -86,20 +86,12 @@ fn write_form<'a>(
     };
     match form {
         Form::Explanation | Form::Whole | Form::Counted | Form::Swapped => {
-            explain(alloc, told, &names, module, configuration, checked, style)
+            explain(alloc, out, &names, module, configuration, checked, style)
         }
-        Form::Graph => write_graph(alloc, told, module, configuration, checked),
+        Form::Graph => write_graph(alloc, out, module, configuration, checked),
         Form::Document | Form::CountedDocument => {
             let coverage = matches!(form, Form::CountedDocument);
-            write_document(
-                alloc,
-                told,
-                &names,
-                module,
-                configuration,
-                checked,
-                coverage,
-            )
+            write_document(alloc, out, &names, module, configuration, checked, coverage)
         }
     }
 }
@@ -118,19 +110,20 @@ fn names_of(form: Form) -> FileNames<'static> {
     }
 }
 
-/// What is between two texts, and between two explanations.
+/// The separator of texts and of explanations.
 const BETWEEN: u8 = b'\x0c';
 
-/// Whether the explanations of each module of these texts, with the configuration after it, are in turn what `wanted` has. A
-/// module without a configuration is none.
-pub fn texts_are_told_as_wanted<R: Threads + Wait + Sync>(
+/// Whether the explanations of each module of these texts, with the configuration after it, are in turn those of
+/// `expected`.
+/// The last module needs a configuration, too.
+pub fn explains_as_expected<R: Threads + Wait + Sync>(
     rt: &R,
     alloc: Global,
     texts: &[u8],
     options: &Options,
-    wanted: &[u8],
+    expected: &[u8],
 ) -> io::Result<bool> {
-    let mut parts = wanted.split(|b| *b == BETWEEN);
+    let mut parts = expected.split(|b| *b == BETWEEN);
     let mut module: Option<&[u8]> = None;
     for text in texts.split(|b| *b == BETWEEN) {
         let Some(first) = module else {
@@ -141,7 +134,7 @@ pub fn texts_are_told_as_wanted<R: Threads + Wait + Sync>(
             return Ok(false);
         };
         let form = Form::Explanation;
-        if !is_told_as_wanted(rt, alloc, first, text, options, form, part)? {
+        if !writes_as_expected(rt, alloc, first, text, options, form, part)? {
             return Ok(false);
         }
         module = None;

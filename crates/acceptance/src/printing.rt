@@ -1,4 +1,4 @@
-//! What is printed of a call.
+//! Prints a call.
 
 use crate::call::{Answer, Made};
 use crate::refusal::Refusal;
@@ -38,7 +38,7 @@ fn put_places<W: Write>(out: &mut W, places: &[Place]) -> io::Result<()> {
 }
 
 /// A line of values, or none where there are none.
-fn tell_values<W: Write>(out: &mut W, name: &str, values: &[Value]) -> io::Result<()> {
+fn print_values<W: Write>(out: &mut W, name: &str, values: &[Value]) -> io::Result<()> {
     if values.is_empty() {
         return Ok(());
     }
@@ -74,7 +74,7 @@ fn put_answer<W: Write>(out: &mut W, answer: &Answer) -> io::Result<()> {
     }
 }
 
-/// Why something is refused, in the words of its code, and its place, if it has one.
+/// The code of a refusal, and its place, if it has one.
 fn put_refusal<W: Write>(out: &mut W, refusal: &Refusal) -> io::Result<()> {
     match refusal {
         Refusal::Value(error) => write!(out, " {error}"),
@@ -114,28 +114,28 @@ fn put_place<W: Write>(out: &mut W, place: Option<Place>) -> io::Result<()> {
 }
 
 /// Writes what a call was given, what it answered, and what it left.
-fn tell_answer<W: Write>(out: &mut W, made: &Made) -> io::Result<()> {
-    tell_values(out, "lent", &made.lent)?;
+fn print_answer<W: Write>(out: &mut W, made: &Made) -> io::Result<()> {
+    print_values(out, "lent", &made.lent)?;
     out.write_all(b"  answer")?;
     match &made.answer {
         Ok(answer) => put_answer(out, answer)?,
         Err(refusal) => put_refusal(out, refusal)?,
     }
     out.write_all(b"\n")?;
-    tell_values(out, "left", &made.left)
+    print_values(out, "left", &made.left)
 }
 
-/// Tells that a call had no inputs.
-fn tell_no_inputs<W: Write>(out: &mut W, refusal: &Refusal) -> io::Result<()> {
+/// Prints that a call had no inputs.
+fn print_no_inputs<W: Write>(out: &mut W, refusal: &Refusal) -> io::Result<()> {
     out.write_all(b"  no inputs")?;
     put_refusal(out, refusal)?;
     out.write_all(b"\n")
 }
 
-/// Tells a call that was made, or that it had no inputs.
-pub fn tell<W: Write>(out: &mut W, made: &Result<Made, Refusal>) -> io::Result<()> {
+/// Prints a call that was made, or that it had no inputs.
+pub fn print_result<W: Write>(out: &mut W, made: &Result<Made, Refusal>) -> io::Result<()> {
     match made {
-        Ok(made) => tell_answer(out, made),
-        Err(refusal) => tell_no_inputs(out, refusal),
+        Ok(made) => print_answer(out, made),
+        Err(refusal) => print_no_inputs(out, refusal),
     }
 }
